@@ -1,0 +1,4 @@
+pub mod Reads
+pub mod Same
+pub mod SameLaws
+pub mod Shown
