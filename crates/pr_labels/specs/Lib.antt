@@ -1,0 +1,4 @@
+pub mod Names
+pub mod LabelSet
+pub mod Order
+pub mod SeriesText

@@ -1,0 +1,28 @@
+-- Names: of labels, and of metrics.
+use Rattle.std.specs.Prelude.{ℕ, Bool, false, ◌&&◌, ◌||◌, ◌==◌, nat_le, List, [], ◌∷◌}
+use Rattle.std.specs.List.{list_all}
+use Rattle.std.specs.Char.{is_ascii_digit}
+
+-- a letter, or an underscore
+abbrev pub is_letter : ℕ → Bool
+is_letter b = (nat_le 97 b && nat_le b 122) || (nat_le 65 b && nat_le b 90) || b == 95
+
+abbrev pub is_label_byte : ℕ → Bool
+is_label_byte b = is_letter b || is_ascii_digit b
+
+-- the name of a label: letters, underscores and digits, of which the first is no digit
+abbrev pub is_label_name : List ℕ → Bool
+is_label_name [] = false
+is_label_name (b ∷ bs) = is_letter b && list_all is_label_byte bs
+
+-- the name of a metric may have colons too
+abbrev pub is_metric_letter : ℕ → Bool
+is_metric_letter b = is_letter b || b == 58
+
+abbrev pub is_metric_byte : ℕ → Bool
+is_metric_byte b = is_metric_letter b || is_ascii_digit b
+
+-- a classic name of a metric
+abbrev pub is_metric_name : List ℕ → Bool
+is_metric_name [] = false
+is_metric_name (b ∷ bs) = is_metric_letter b && list_all is_metric_byte bs

@@ -1,0 +1,41 @@
+-- The printed text of a label set.
+use Rattle.std.specs.Prelude.{ℕ, not, cond, ◌==◌, List, [], ◌∷◌, ◌++◌, codes, filter, flat_map, Option, Some, None}
+use Rattle.pr_labels.specs.declared.pair.Pair.{Pair}
+use Rattle.pr_labels.specs.Names.{is_metric_name}
+use Rattle.pr_labels.specs.LabelSet.{metric_label, has_name, value_of}
+
+-- a backslash, a quote and a line feed have a backslash before them
+abbrev pub escaped_byte : ℕ → List ℕ
+escaped_byte b = cond (b == 92) (codes "\\\\") (cond (b == 34) (codes "\\\"") (cond (b == 10) (codes "\\n") (b ∷ [])))
+
+abbrev pub pair_text : Pair → List ℕ
+pair_text p = p.name ++ codes "=\"" ++ flat_map escaped_byte p.value ++ codes "\""
+
+-- a pair that is not the first has a comma before it
+abbrev pub following_text : Pair → List ℕ
+following_text p = codes "," ++ pair_text p
+
+abbrev pub pairs_text : List Pair → List ℕ
+pairs_text [] = []
+pairs_text (p ∷ ps) = pair_text p ++ flat_map following_text ps
+
+-- the pairs in braces, with commas between
+abbrev pub list_text : List Pair → List ℕ
+list_text pairs = codes "{" ++ pairs_text pairs ++ codes "}"
+
+-- the pairs in braces, where there are any
+abbrev pub rest_text : List Pair → List ℕ
+rest_text [] = []
+rest_text (p ∷ ps) = list_text (p ∷ ps)
+
+-- the pairs but that of the metric's name
+abbrev pub unnamed : List Pair → List Pair
+unnamed labels = filter (λ p. not (has_name metric_label p)) labels
+
+-- the metric's name stands first where it is a classic name, and else among the pairs
+abbrev pub text_by_name : Option (List ℕ) → List Pair → List ℕ
+text_by_name None labels = list_text labels
+text_by_name (Some name) labels = cond (is_metric_name name) (name ++ rest_text (unnamed labels)) (list_text labels)
+
+unfoldable pub series_text : List Pair → List ℕ
+series_text labels = text_by_name (value_of labels metric_label) labels
