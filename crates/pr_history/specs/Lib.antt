@@ -1,0 +1,4 @@
+pub mod Admission
+pub mod Lookback
+pub mod Series
+pub mod Examples

@@ -1,0 +1,47 @@
+-- The series that a selector chooses, and what they show.
+use Rattle.std.specs.Prelude.{ℕ, ℤ, Bool, List, [], ◌∷◌, filter, map, fold, Option, Some, None, unwrap_or}
+use Rattle.std.specs.List.{filter_map, list_all}
+use Rattle.std.specs.Option.{option_map}
+use Rattle.std.specs.Str.{bytes_eq}
+use Rattle.std.specs.declared.cmp.Ordering.{Ordering}
+use Rattle.std.specs.declared.cmp.Ordering.TheVariants.{Less, Equal, Greater}
+use Rattle.pr_num.specs.declared.value.Num.{Num}
+use Rattle.pr_labels.specs.declared.pair.Pair.{Pair}
+use Rattle.pr_labels.specs.declared.item.Item.{Item}
+use Rattle.pr_labels.specs.LabelSet.{value_of}
+use Rattle.pr_labels.specs.Order.{labels_cmp}
+use Rattle.pr_history.specs.declared.entry.Entry.{Entry}
+use Rattle.pr_history.specs.Lookback.{value_at}
+
+-- the value of a name, empty where the set has not the name
+abbrev pub text_at : List Pair → List ℕ → List ℕ
+text_at labels name = unwrap_or (value_of labels name) []
+
+-- whether a label set has each of the values that are asked for; an absent label is the empty text
+abbrev pub meets : List Pair → List Pair → Bool
+meets equal labels = list_all (λ q. bytes_eq (text_at labels q.name) q.value) equal
+
+-- one label set put into those in label order, unless it is among them
+abbrev pub placed : Ordering → List Pair → List Pair → List (List Pair) → List (List Pair) → List (List Pair)
+placed Less labels first rest more = labels ∷ first ∷ rest
+placed Equal labels first rest more = first ∷ rest
+placed Greater labels first rest more = first ∷ more
+
+abbrev pub with_labels : List (List Pair) → List Pair → List (List Pair)
+with_labels [] labels = labels ∷ []
+with_labels (first ∷ rest) labels = placed (labels_cmp labels first) labels first rest (with_labels rest labels)
+
+-- the label sets of the history that pass a test, in label order, each once
+abbrev pub chosen : (List Pair → Bool) → List Entry → List (List Pair)
+chosen test history = fold with_labels [] (filter test (map (λ e. e.labels) history))
+
+-- a label set with its value at a moment
+abbrev pub item_of : List Pair → Num → Item Num
+item_of labels value = record { labels = labels; value = value }
+
+abbrev pub items_of : List Entry → ℤ → List (List Pair) → List (Item Num)
+items_of history x sets = filter_map (λ labels. option_map (item_of labels) (value_at history x labels)) sets
+
+-- the chosen series that have a value at a moment
+abbrev pub selected : List Entry → List Pair → ℤ → List (Item Num)
+selected history equal x = items_of history x (chosen (meets equal) history)

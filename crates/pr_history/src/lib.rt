@@ -1,0 +1,15 @@
+//! The history of all samples as one list in order of arrival, and the questions to it. Each definition is
+//! a filter of that list; nothing is kept from one question to the next.
+#![tactic(auto)]
+
+mod append;
+mod entry;
+mod examples;
+mod laws;
+
+pub use append::Append;
+pub use entry::Entry;
+pub use examples::{
+    a_marker_hides, an_equal_point_is_the_same, an_older_point_is_out_of_order, lookback_is_five_minutes,
+};
+pub use laws::{put_keeps_lawful};
