@@ -1,10 +1,12 @@
 //! Small types that contracts see as plain values, and words on lists of bytes that several crates share.
 #![tactic(auto)]
 
+mod fields;
 mod items;
 mod steps;
 mod text;
 
+pub use fields::{is_blank, split_first, split_last, without_leading, without_trailing};
 pub use items::Items;
 pub use steps::Steps;
 pub use text::Text;
