@@ -51,7 +51,7 @@ fn blanks_len(text: &[u8]) -> usize
     first_byte(text).unwrap_or(text.len())
 }
 
-#[tactic(auto, using(crate::proofs::Places::place_or_end, crate::proofs::Places::within))]
+#[tactic(auto, using(crate::proofs::Places::place_or_front, crate::proofs::Places::within_back))]
 fn last_field_len(text: &[u8]) -> usize
     ensures value { result ≡ position_or_len is_blank (reverse text.now) }
     ensures within { result ≤ length text.now }
@@ -59,7 +59,7 @@ fn last_field_len(text: &[u8]) -> usize
     last_blank(text).unwrap_or(text.len())
 }
 
-#[tactic(auto, using(crate::proofs::Places::place_or_end, crate::proofs::Places::within))]
+#[tactic(auto, using(crate::proofs::Places::place_or_front, crate::proofs::Places::within_back))]
 fn last_blanks_len(text: &[u8]) -> usize
     ensures value { result ≡ position_or_len is_field_byte (reverse text.now) }
     ensures within { result ≤ length text.now }
