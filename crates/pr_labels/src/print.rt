@@ -1,46 +1,12 @@
 // The printed text of a label set.
 ghost use Rattle.std.specs.Prelude.{◌≡◌, ◌++◌, OnOk, OnErr, IfOk, map, flat_map};
-ghost use Rattle.std.specs.List.{list_all};
-ghost use Rattle.pr_labels.specs.Names.{is_letter, is_metric_letter, is_metric_byte, is_metric_name};
 ghost use Rattle.pr_labels.specs.LabelSet.{has_name, metric_label};
 ghost use Rattle.pr_labels.specs.SeriesText.{escaped_byte, pair_text, following_text, pairs_text, list_text, rest_text, unnamed, series_text};
 
 use crate::labels::Labels;
+use crate::names::is_metric_name;
 use crate::pair::Pair;
 use std::alloc::{AllocError, Global};
-
-fn is_letter(b: u8) -> bool
-    ensures { result ≡ is_letter b }
-{
-    (b >= b'a' && b <= b'z') || (b >= b'A' && b <= b'Z') || b == b'_'
-}
-
-fn is_metric_letter(b: u8) -> bool
-    ensures { result ≡ is_metric_letter b }
-{
-    is_letter(b) || b == b':'
-}
-
-fn is_metric_byte(b: u8) -> bool
-    ensures { result ≡ is_metric_byte b }
-{
-    is_metric_letter(b) || b.is_ascii_digit()
-}
-
-fn are_metric_bytes(bytes: &[u8]) -> bool
-    ensures { result ≡ list_all is_metric_byte bytes.now }
-{
-    bytes.iter().all(|b| is_metric_byte(*b))
-}
-
-fn is_metric_name(name: &[u8]) -> bool
-    ensures { result ≡ is_metric_name name.now }
-{
-    match name {
-        [] => false,
-        [first, rest @ ..] => is_metric_letter(*first) && are_metric_bytes(rest),
-    }
-}
 
 fn push_escaped_byte(text: &mut Vec<u8>, b: u8) -> Result<(), AllocError>
     ensures { OnOk result (text.new.items ≡ text.old.items ++ escaped_byte b) }

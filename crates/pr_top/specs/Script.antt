@@ -1,0 +1,79 @@
+-- The lines of a script, and the events that they spell.
+use Rattle.std.specs.Prelude.{ℕ, ◌^◌, Bool, true, false, not, ◌&&◌, ◌||◌, cond, ◌==◌, nat_lt, nat_le, List, [], ◌∷◌, length, codes, map, Option, Some, None, option_and_then, Result, Ok, Err}
+use Rattle.std.specs.List.{list_all, list_any}
+use Rattle.std.specs.Str.{bytes_eq, is_utf8, str_eq_ignore_ascii_case}
+use Rattle.std.specs.Str.Parse.{digits_value}
+use Rattle.std.specs.Char.{is_ascii_digit}
+use Rattle.pr_num.specs.declared.value.Num.{Num}
+use Rattle.pr_num.specs.declared.value.Point.{Point}
+use Rattle.pr_num.specs.declared.value.Point.TheVariants.{Value, Stale}
+use Rattle.pr_num.specs.declared.text.NumFault.{NumFault}
+use Rattle.pr_num.specs.Reads.{reads}
+use Rattle.pr_labels.specs.declared.pair.Pair.{Pair}
+use Rattle.pr_labels.specs.LabelSet.{named}
+use Rattle.pr_labels.specs.Names.{is_metric_name}
+use Rattle.pr_words.specs.Fields.{without_trailing, first_field, after_field, last_field, before_last_field}
+use Rattle.pr_world.specs.declared.event.Event.{Event}
+use Rattle.pr_world.specs.declared.event.Event.TheVariants.{Add, Query}
+use Rattle.pr_top.specs.Keywords.{is_keyword}
+
+-- a line that begins so is a comment
+abbrev pub is_comment : List ℕ → Bool
+is_comment [] = false
+is_comment (b ∷ bytes) = b == 35
+
+-- Nothing is asked by a line of blanks alone, and by a comment that is a text.
+abbrev pub is_passed_over : List ℕ → Bool
+is_passed_over line = length (without_trailing line) == 0 || (is_comment line && is_utf8 line)
+
+-- decimal digits, of which the first is no zero unless it is the only one
+abbrev pub begins_with_zero : List ℕ → Bool
+begins_with_zero [] = false
+begins_with_zero (b ∷ bytes) = b == 48
+
+abbrev pub is_decimal : List ℕ → Bool
+is_decimal text = nat_lt 0 (length text) && list_all is_ascii_digit text && (length text == 1 || not (begins_with_zero text))
+
+-- a time in milliseconds: a decimal below 2^42
+abbrev pub time_of : List ℕ → Option ℕ
+time_of text = cond (is_decimal text && nat_lt (digits_value 10 text) (2 ^ 42)) (Some (digits_value 10 text)) None
+
+-- a point: the word for a marker, or the text of a number
+abbrev pub point_read : Result Num NumFault → Option Point
+point_read (Ok v) = Some (Value v)
+point_read (Err fault) = None
+
+abbrev pub point_of : List ℕ → Option Point
+point_of text = cond (bytes_eq text (codes "stale")) (Some Stale) (point_read (reads text))
+
+-- a series: the name of a metric that is no word of the query language
+abbrev pub series_of : List ℕ → Option (List Pair)
+series_of text = cond (is_metric_name text && not (is_keyword text)) (Some (named text)) None
+
+-- an event, where each part of it can be read
+abbrev pub add_of : Option ℕ → Option (List Pair) → Option Point → Option Event
+add_of None labels point = None
+add_of (Some time) None point = None
+add_of (Some time) (Some labels) None = None
+add_of (Some time) (Some labels) (Some point) = Some (Add time labels point)
+
+abbrev pub query_of : Option ℕ → Option (List Pair) → Option Event
+query_of None equal = None
+query_of (Some time) None = None
+query_of (Some time) (Some equal) = Some (Query time equal)
+
+-- a time, a series, and a point, which is the last field
+abbrev pub add_in : List ℕ → Option Event
+add_in text = add_of (time_of (first_field text)) (series_of (before_last_field (after_field text))) (point_of (last_field (after_field text)))
+
+-- a time, and a series
+abbrev pub query_in : List ℕ → Option Event
+query_in text = query_of (time_of (first_field text)) (series_of (after_field text))
+
+-- the event that a word and what stands after it spell
+abbrev pub event_by : List ℕ → List ℕ → Option Event
+event_by word text = cond (bytes_eq word (codes "add")) (add_in text) (cond (bytes_eq word (codes "query")) (query_in text) None)
+
+-- the event that a line spells; the blanks at its end say nothing
+abbrev pub event_of : List ℕ → Option Event
+event_of line = event_by (first_field (without_trailing line)) (after_field (without_trailing line))

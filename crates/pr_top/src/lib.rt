@@ -1,0 +1,4 @@
+//! The program as one call.
+#![tactic(auto)]
+
+mod keywords;
