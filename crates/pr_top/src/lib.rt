@@ -1,6 +1,7 @@
 //! The program as one call.
 #![tactic(auto)]
 
+mod engine;
 mod history;
 mod keywords;
 mod script;

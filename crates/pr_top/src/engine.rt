@@ -1,0 +1,117 @@
+// The engine: what it stands for, and one event of it.
+ghost use Rattle.std.specs.Prelude.{◌≡◌, [], IfOk, OnOk, OnErr};
+ghost use Rattle.pr_history.specs.Admission.{admit, put_by};
+ghost use Rattle.pr_world.specs.World.{World, start};
+ghost use Rattle.pr_world.specs.Step.{time_of, report_of, added, entry_of, accepted, next};
+
+use super::history::{admit, selected};
+use pr_history::{Append, Entry};
+use pr_labels::Labels;
+use pr_num::Point;
+use pr_words::Items;
+use pr_world::{Event, Report};
+use std::alloc::{AllocError, Global};
+use std::marker::Model;
+
+/// The engine. Contracts see the world that it stands for.
+#[derive(Drop)]
+pub(crate) struct Engine {
+    history: Vec<Entry>,
+    last: Option<u64>,
+}
+
+impl Model for Engine {
+    ghost use Rattle.pr_world.specs.World.{World};
+
+    ghost Value = { World };
+
+    ghost view = { λ e. record { history = e.history.items; last = e.last } };
+}
+
+fn time_of(event: &Event) -> u64
+    ensures { result ≡ time_of event.now }
+{
+    match event {
+        Event::Add { time, .. } => *time,
+        Event::Query { time, .. } => *time,
+    }
+}
+
+fn report_of(answer: Append) -> Report
+    ensures { result ≡ report_of answer }
+{
+    match answer {
+        Append::Added => Report::Added,
+        Append::Same => Report::Same,
+        Append::OutOfOrder { last } => Report::OutOfOrder { last },
+        Append::Conflict { kept } => Report::Conflict { kept },
+    }
+}
+
+// Puts a sample into the history.
+fn put(history: &mut Vec<Entry>, labels: Labels, time: u64, point: Point) -> Result<Append, AllocError>
+    ensures ok { IfOk result (λ answer. history.new.items ≡ put_by answer history.old.items (entry_of time labels point)) }
+    ensures answer { IfOk result (λ answer. answer ≡ admit history.old.items labels time point) }
+    ensures err { OnErr result (history.new.items ≡ history.old.items) }
+{
+    let answer = admit(history, &labels, time, &point);
+    if matches!(&answer, Append::Added) {
+        history.push(Entry {
+            labels,
+            time,
+            point,
+        })?;
+    }
+    Ok(answer)
+}
+
+impl Engine {
+    /// Nothing has happened yet.
+    pub(crate) fn start(alloc: Global) -> Engine
+        ensures { result ≡ start [] }
+    {
+        Engine {
+            history: Vec::new(alloc),
+            last: None,
+        }
+    }
+
+    // Takes an event that is not before the last one.
+    fn accept(&mut self, alloc: Global, event: Event) -> Result<Report, AllocError>
+        ensures report { IfOk result (λ report. report ≡ (accepted self.old event).report) }
+        ensures world { OnOk result (self.new ≡ (accepted self.old event).world) }
+        ensures err { OnErr result (self.new ≡ self.old) }
+    {
+        match event {
+            Event::Add {
+                time,
+                labels,
+                point,
+            } => {
+                let answer = put(&mut self.history, labels, time, point)?;
+                self.last = Some(time);
+                Ok(report_of(answer))
+            }
+            Event::Query { time, equal } => {
+                let items = selected(alloc, &self.history, equal.pairs(), time)?;
+                self.last = Some(time);
+                Ok(Report::Vector {
+                    items: Items::new(items),
+                })
+            }
+        }
+    }
+
+    /// Takes an event, and answers it. Without memory nothing has changed.
+    pub(crate) fn apply(&mut self, alloc: Global, event: Event) -> Result<Report, AllocError>
+        ensures report { IfOk result (λ report. report ≡ (next self.old event).report) }
+        ensures world { OnOk result (self.new ≡ (next self.old event).world) }
+        ensures err { OnErr result (self.new ≡ self.old) }
+    {
+        let given = time_of(&event);
+        match self.last {
+            Some(last) if given < last => Ok(Report::Backwards { last, given }),
+            _ => self.accept(alloc, event),
+        }
+    }
+}
