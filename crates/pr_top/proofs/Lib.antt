@@ -1,2 +1,2 @@
-pub mod Texts
+pub mod Utf8
 pub mod Digits

@@ -24,7 +24,7 @@ fn is_comment(line: &[u8]) -> bool
     }
 }
 
-#[tactic(auto, using(crate::proofs::Texts::not_text, crate::proofs::Texts::is_text))]
+#[tactic(auto, using(crate::proofs::Utf8::not_text, crate::proofs::Utf8::is_text))]
 fn is_text(line: &[u8]) -> bool
     ensures { result ≡ is_utf8 line.now }
 {
