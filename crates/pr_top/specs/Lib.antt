@@ -1,3 +1,7 @@
 pub mod Keywords
 pub mod Script
 pub mod Printed
+pub mod Told
+pub mod Front
+pub mod Stops
+pub mod Status

@@ -1,0 +1,53 @@
+-- What the program ends with.
+use Rattle.std.specs.Prelude.{◌≡◌, ℕ, Bool, true, false, List, [], ◌∷◌, codes}
+use Rattle.std.specs.Str.{bytes_eq}
+use Rattle.pr_top.specs.declared.status.Status.{Status}
+use Rattle.pr_top.specs.declared.status.Status.TheVariants.{Done, Problem, Usage, Lint, ReadFault, WriteFault, StoreFault, Memory, TooLong}
+
+abbrev pub number_of : Status → ℕ
+number_of Done = 0
+number_of Problem = 1
+number_of Usage = 2
+number_of Lint = 3
+number_of ReadFault = 4
+number_of WriteFault = 5
+number_of StoreFault = 6
+number_of Memory = 7
+number_of TooLong = 8
+
+-- whether the words are those of a run
+abbrev pub is_run : List (List ℕ) → Bool
+is_run (word ∷ []) = bytes_eq word (codes "run")
+is_run words = false
+
+abbrev pub IsRun : List (List ℕ) → Type 0
+IsRun words = is_run words ≡ true
+
+-- how a run ends that was not cut short, by whether it refused a line
+abbrev pub verdict : Bool → Status
+verdict true = Problem
+verdict false = Done
+
+-- the status says that nothing outside was refused
+abbrev pub IsWhole : Status → Type 0
+IsWhole Done = Unit {0}
+IsWhole Problem = Unit {0}
+IsWhole Usage = Unit {0}
+IsWhole Lint = Unit {0}
+IsWhole ReadFault = ⊥
+IsWhole WriteFault = ⊥
+IsWhole StoreFault = ⊥
+IsWhole Memory = ⊥
+IsWhole TooLong = Unit {0}
+
+-- how the program may end so far: no exposition is checked, and no store is opened
+abbrev pub IsStatusSoFar : Status → Type 0
+IsStatusSoFar Done = Unit {0}
+IsStatusSoFar Problem = Unit {0}
+IsStatusSoFar Usage = Unit {0}
+IsStatusSoFar Lint = ⊥
+IsStatusSoFar ReadFault = Unit {0}
+IsStatusSoFar WriteFault = Unit {0}
+IsStatusSoFar StoreFault = ⊥
+IsStatusSoFar Memory = Unit {0}
+IsStatusSoFar TooLong = Unit {0}

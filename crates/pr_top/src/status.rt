@@ -1,0 +1,78 @@
+// How the program ends.
+ghost use Rattle.std.specs.Prelude.{◌≡◌};
+ghost use Rattle.pr_top.specs.Status.{number_of};
+ghost use Rattle.pr_top.specs.Stops.{stop_of_sink};
+ghost use Rattle.pr_top.specs.declared.status.Stop.TheVariants.{Memory};
+
+use pr_outside::SinkError;
+use std::alloc::AllocError;
+
+/// How the program ends.
+#[derive(Clone, Copy, Debug, PartialEq, Eq)]
+pub enum Status {
+    /// All was read and written, and nothing of the others holds.
+    Done,
+    /// A line of the script was refused.
+    Problem,
+    /// The words are none of the forms.
+    Usage,
+    /// A valid exposition has a lint list that is not empty.
+    Lint,
+    /// The input, or a file, could not be read.
+    ReadFault,
+    /// The output could not be written.
+    WriteFault,
+    /// The store refused, or held a bad row.
+    StoreFault,
+    /// Memory ran out.
+    Memory,
+    /// The input has 2^32 bytes or more.
+    TooLong,
+}
+
+impl Status {
+    /// The number that the process ends with.
+    pub fn number(self) -> u8
+        ensures { result ≡ number_of self }
+    {
+        match self {
+            Status::Done => 0,
+            Status::Problem => 1,
+            Status::Usage => 2,
+            Status::Lint => 3,
+            Status::ReadFault => 4,
+            Status::WriteFault => 5,
+            Status::StoreFault => 6,
+            Status::Memory => 7,
+            Status::TooLong => 8,
+        }
+    }
+}
+
+/// Why a run was cut short.
+#[derive(Clone, Copy, Debug, PartialEq, Eq)]
+pub(crate) enum Stop {
+    Read,
+    Write,
+    Memory,
+    TooLong,
+}
+
+impl From<AllocError> for Stop {
+    ghost from_gives = { λ _ e. e ≡ Memory };
+
+    fn from(_: AllocError) -> Stop {
+        Stop::Memory
+    }
+}
+
+impl From<SinkError> for Stop {
+    ghost from_gives = { λ e s. s ≡ stop_of_sink e };
+
+    fn from(e: SinkError) -> Stop {
+        match e {
+            SinkError::Failed => Stop::Write,
+            SinkError::Memory => Stop::Memory,
+        }
+    }
+}
