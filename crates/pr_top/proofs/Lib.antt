@@ -1,3 +1,9 @@
 pub mod Utf8
 pub mod Digits
 pub mod Streams
+pub mod Feeds
+pub mod Turns
+pub mod Fronts
+pub mod Stands
+pub mod Results
+pub mod Pieces

@@ -3,5 +3,6 @@ pub mod Script
 pub mod Printed
 pub mod Told
 pub mod Front
+pub mod Standing
 pub mod Stops
 pub mod Status

@@ -5,6 +5,7 @@ mod engine;
 mod history;
 mod keywords;
 mod output;
+mod run;
 mod script;
 mod session;
 mod status;
