@@ -1,5 +1,5 @@
 -- Where a run stands, byte by byte.
-use Rattle.std.proofs.Common.{◌≡◌, ℕ, ◌+◌, Bool, true, List, [], ◌∷◌, ◌++◌, refl, sym, ap, ◌∙◌, subst, append_assoc, append-nil, length, take, take_all, arith}
+use Rattle.std.proofs.Common.{◌≡◌, ℕ, ◌+◌, Bool, true, false, true≢false, ◌==◌, suc, List, [], ◌∷◌, ◌++◌, refl, sym, ap, ◌∙◌, subst, append_assoc, append-nil, length, take, take_all, arith}
 use Rattle.std.specs.declared.option.Option.{Option}
 use Rattle.std.specs.List.{list_all}
 use Rattle.std.specs.Io.KnownBytes.{Appends}
@@ -12,6 +12,9 @@ use Rattle.pr_top.proofs.Feeds.{lines_of-feed, lines_of-last, last_line, unended
 use Rattle.pr_top.proofs.Fronts.{front_at, front_in}
 use Rattle.pr_top.proofs.Streams.{appends_on}
 use Rattle.pr_top.proofs.Turns.{progress_more, told_more}
+
+no_length : (n : ℕ) → true ≡ (suc n == 0) → ⊥
+no_length n e = grind arith
 
 -- nothing was read yet
 pub stands_start : (from now : Option (List ℕ)) → Appends from now (opened_text 0) → Stands from now [] (begun []) []
@@ -124,3 +127,23 @@ line_cut from mid now seen part pending line p n e unended q s =
 
 pub part_cut : (from now : Option (List ℕ)) (seen part pending : List ℕ) (p : Progress) → Stands from now seen p pending → IsCut from now ((seen ++ part) ++ 10 ∷ [])
 part_cut from now seen part pending p s = cut_more from now (seen ++ part) (10 ∷ []) (cut_more from now seen part (cut_here from now seen pending p s))
+
+-- the input ended, with a pending line or without one
+pub told_empty : (from now : Option (List ℕ)) (seen pending : List ℕ) (p : Progress) → true ≡ (length pending == 0) → Stands from now seen p pending → HasTold from now seen p
+told_empty from now seen [] p e s = told_ended from now seen p s
+told_empty from now seen (b ∷ bytes) p e s = absurd (no_length (length bytes) e)
+
+pub told_pending : (from mid now : Option (List ℕ)) (seen pending : List ℕ) (p : Progress) → false ≡ (length pending == 0)
+    → Stands from mid seen p pending → Appends mid now (answer p pending) → HasTold from now seen (after p pending)
+told_pending from mid now seen [] p e s q = absurd (true≢false (sym e))
+told_pending from mid now seen (b ∷ bytes) p e s q = told_last from mid now seen bytes b p s q
+
+pub front_pending : (from mid now : Option (List ℕ)) (seen pending : List ℕ) (p : Progress) (n : ℕ) → false ≡ (length pending == 0)
+    → Stands from mid seen p pending → Appends mid now (take n (answer p pending)) → IsFront from now (lines_of seen)
+front_pending from mid now seen [] p n e s q = absurd (true≢false (sym e))
+front_pending from mid now seen (b ∷ bytes) p n e s q = front_last from mid now seen bytes b p n s q
+
+-- what was written so far is a front of what is told of the bytes seen, and of all that they begin
+pub front_seen : (from now : Option (List ℕ)) (seen pending : List ℕ) (p : Progress) → Stands from now seen p pending → IsFront from now (lines_of seen)
+front_seen from now seen pending p s =
+    subst (λ (l : List ℕ). IsFront from now (lines_of l)) (append-nil seen) ((cut_here from now seen pending p s).front [])

@@ -1,8 +1,8 @@
 -- Where a run stands that has seen a part of its input.
-use Rattle.std.specs.Prelude.{◌≡◌, ℕ, Bool, true, not, ◌==◌, List, [], ◌++◌}
+use Rattle.std.specs.Prelude.{◌≡◌, ℕ, Bool, true, not, ◌==◌, List, [], ◌++◌, length}
 use Rattle.std.specs.declared.option.Option.{Option}
 use Rattle.std.specs.List.{list_all}
-use Rattle.std.specs.Io.KnownBytes.{Appends}
+use Rattle.std.specs.Io.KnownBytes.{Appends, Consumes}
 use Rattle.pr_words.specs.Lines.{lines_of}
 use Rattle.pr_top.specs.Told.{Progress, begun, progress_after, told_lines, told, refuses}
 use Rattle.pr_top.specs.Front.{IsFront}
@@ -27,3 +27,10 @@ pub record IsCut (from now : Option (List ℕ)) (seen : List ℕ) : Type 0 where
 pub record HasTold (from now : Option (List ℕ)) (seen : List ℕ) (progress : Progress) : Type 0 where
   pub text : Appends from now (told [] seen)
   pub refused : progress.refused ≡ refuses [] seen
+
+-- What was read so far, and where the run stands with it, wherever it began to write.
+pub record HasSeen (left_old left_now taken_old taken_now : Option (List ℕ)) (first progress : Progress) (count : ℕ) (pending : List ℕ) : Type 0 where
+  pub seen : List ℕ
+  pub length_is : length seen ≡ count
+  pub consumed : Consumes left_old left_now seen
+  pub stands : (from : Option (List ℕ)) → Stands from taken_old [] first [] → Stands from taken_now seen progress pending

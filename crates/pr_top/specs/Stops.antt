@@ -19,3 +19,26 @@ StopsWriting before now (Err Read) = ⊥
 StopsWriting before now (Err Write) = Rose before now
 StopsWriting before now (Err Memory) = now ≡ before
 StopsWriting before now (Err TooLong) = ⊥
+
+-- A run is stopped by a read that was refused, which raises the source's count alone; by a write that was
+-- refused, which raises the sink's count alone; by want of memory; or by an input that is too long.
+abbrev pub StopsRunning : ℕ → ℕ → ℕ → ℕ → Result (Unit {0}) Stop → Type 0
+StopsRunning read_before read_now write_before write_now (Ok done) = (read_now ≡ read_before) × (write_now ≡ write_before)
+StopsRunning read_before read_now write_before write_now (Err Read) = Rose read_before read_now × (write_now ≡ write_before)
+StopsRunning read_before read_now write_before write_now (Err Write) = (read_now ≡ read_before) × Rose write_before write_now
+StopsRunning read_before read_now write_before write_now (Err Memory) = (read_now ≡ read_before) × (write_now ≡ write_before)
+StopsRunning read_before read_now write_before write_now (Err TooLong) = (read_now ≡ read_before) × (write_now ≡ write_before)
+
+-- A run that met the end of its input took fewer than 2^32 bytes, and one whose input is too long took as many.
+abbrev pub IsShort : Option (List ℕ) → Type 0
+IsShort left = IfSome left (λ bytes. length bytes < 2 ^ 32)
+
+abbrev pub IsLong : Option (List ℕ) → Type 0
+IsLong left = IfSome left (λ bytes. 2 ^ 32 ≤ length bytes)
+
+abbrev pub KnowsLength : Option (List ℕ) → Result (Unit {0}) Stop → Type 0
+KnowsLength left (Ok done) = IsShort left
+KnowsLength left (Err Read) = Unit {0}
+KnowsLength left (Err Write) = Unit {0}
+KnowsLength left (Err Memory) = Unit {0}
+KnowsLength left (Err TooLong) = IsLong left

@@ -99,3 +99,18 @@ fn take_piece<O: Sink>(
     pending.extend_from_slice(&piece[at..])?;
     Ok(())
 }
+
+// Answers what follows the last line feed, where there is anything.
+fn answer_rest<O: Sink>(alloc: Global, session: &mut Session, pending: &[u8], out: &mut O) -> Result<(), Stop>
+    requires { session.old.lines + 1 < 2 ^ 64 }
+    ensures told { OnOk result ((from : Option (List ℕ)) (seen : List ℕ)
+        → Stands from (O.taken out.old) seen session.old pending.now → HasTold from (O.taken out.new) seen session.new) }
+    ensures front { (from : Option (List ℕ)) (seen : List ℕ)
+        → Stands from (O.taken out.old) seen session.old pending.now → IsFront from (O.taken out.new) (lines_of seen) }
+    ensures cause { StopsWriting (O.faults out.old) (O.faults out.new) result }
+{
+    if pending.is_empty() {
+        return Ok(());
+    }
+    answer_line(alloc, session, pending, out)
+}
