@@ -7,3 +7,4 @@ pub mod Fronts
 pub mod Stands
 pub mod Results
 pub mod Pieces
+pub mod Reading

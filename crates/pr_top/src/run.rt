@@ -7,15 +7,15 @@ ghost use Rattle.pr_outside.specs.Causes.{Rose};
 ghost use Rattle.pr_words.specs.Lines.{lines_of};
 ghost use Rattle.pr_top.specs.Front.{IsFront};
 ghost use Rattle.pr_top.specs.Printed.{opened_text};
-ghost use Rattle.pr_top.specs.Standing.{is_no_feed, Stands, IsCut, HasTold};
-ghost use Rattle.pr_top.specs.Stops.{StopsWriting};
+ghost use Rattle.pr_top.specs.Standing.{is_no_feed, Stands, IsCut, HasTold, HasSeen};
+ghost use Rattle.pr_top.specs.Stops.{StopsWriting, StopsRunning, KnowsLength};
 ghost use Rattle.pr_top.specs.Told.{told, refuses, answer, after};
 
 use super::output::send;
 use super::session::Session;
 use super::status::Stop;
 use super::texts::push_report;
-use pr_outside::{Failed, Sink, Source};
+use pr_outside::{Sink, Source};
 use pr_world::Report;
 use std::alloc::Global;
 
@@ -113,4 +113,37 @@ fn answer_rest<O: Sink>(alloc: Global, session: &mut Session, pending: &[u8], ou
         return Ok(());
     }
     answer_line(alloc, session, pending, out)
+}
+
+// The input has fewer bytes.
+const INPUT_LIMIT: u64 = 0x1_0000_0000;
+
+// Answers the lines of the input, each as soon as it has come.
+fn answer_input<I: Source, O: Sink>(
+    alloc: Global,
+    input: &mut I,
+    session: &mut Session,
+    out: &mut O,
+) -> Result<(), Stop>
+    requires { session.old.lines ≡ 0 }
+    ensures told { OnOk result (IfSome (I.left input.old) (λ bytes. (from : Option (List ℕ))
+        → Stands from (O.taken out.old) [] session.old [] → HasTold from (O.taken out.new) bytes session.new)) }
+    ensures front { IfSome (I.left input.old) (λ bytes. (from : Option (List ℕ))
+        → Stands from (O.taken out.old) [] session.old [] → IsFront from (O.taken out.new) (lines_of bytes)) }
+    ensures end { OnOk result (IsAtEnd (I.left input.new)) }
+    ensures long { KnowsLength (I.left input.old) result }
+    ensures cause { StopsRunning (I.faults input.old) (I.faults input.new) (O.faults out.old) (O.faults out.new) result }
+{
+    let mut pending = Vec::new(alloc);
+    let mut buffer = [0u8; 4096];
+    let mut count: u64 = 0;
+    'reading: while count < INPUT_LIMIT {
+        let read = input.read(&mut buffer)?;
+        if read == 0 {
+            return answer_rest(alloc, session, &pending, out);
+        }
+        take_piece(alloc, session, &mut pending, &buffer[..read], out)?;
+        count += read as u64;
+    }
+    Err(Stop::TooLong)
 }

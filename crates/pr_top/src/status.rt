@@ -2,9 +2,9 @@
 ghost use Rattle.std.specs.Prelude.{◌≡◌};
 ghost use Rattle.pr_top.specs.Status.{number_of};
 ghost use Rattle.pr_top.specs.Stops.{stop_of_sink};
-ghost use Rattle.pr_top.specs.declared.status.Stop.TheVariants.{Memory};
+ghost use Rattle.pr_top.specs.declared.status.Stop.TheVariants.{Memory, Read};
 
-use pr_outside::SinkError;
+use pr_outside::{Failed, SinkError};
 use std::alloc::AllocError;
 
 /// How the program ends.
@@ -74,5 +74,13 @@ impl From<SinkError> for Stop {
             SinkError::Failed => Stop::Write,
             SinkError::Memory => Stop::Memory,
         }
+    }
+}
+
+impl From<Failed> for Stop {
+    ghost from_gives = { λ _ e. e ≡ Read };
+
+    fn from(_: Failed) -> Stop {
+        Stop::Read
     }
 }
