@@ -12,8 +12,7 @@ pub fn lookback_is_five_minutes()
     ensures seen { selected one m (pos 299999) ≡ item_of m (number 1) ∷ [] }
     ensures gone { selected one m (pos 300000) ≡ [] }
     ensures before { value_at marked (negsuc 0) m ≡ None }
-{
-}
+{}
 
 /// At the last time of a series an equal point is the same, and another one is a conflict with it.
 pub fn an_equal_point_is_the_same()
@@ -23,16 +22,14 @@ pub fn an_equal_point_is_the_same()
     ensures marker { admit one m 0 Stale ≡ Conflict (whole 1) }
     ensures later { put one (entry_at 60000 Stale) ≡ marked }
     ensures kept { put one (entry_at 0 (whole 2)) ≡ one }
-{
-}
+{}
 
 /// Below the last time of its series a point is out of order, be it equal to one that is there.
 pub fn an_older_point_is_out_of_order()
     ensures older { admit marked m 59999 (whole 1) ≡ OutOfOrder 60000 }
     ensures equal { admit marked m 0 (whole 1) ≡ OutOfOrder 60000 }
     ensures other_series { admit marked [] 0 (whole 1) ≡ Added }
-{
-}
+{}
 
 /// A marker hides the value before it, and is no value of a range.
 pub fn a_marker_hides()
@@ -40,5 +37,4 @@ pub fn a_marker_hides()
     ensures before { value_at marked (pos 59999) m ≡ Some (number 1) }
     ensures range { values_within marked m (negsuc 0) (pos 60000) ≡ number 1 ∷ [] }
     ensures open_below { values_within marked m (pos 0) (pos 60000) ≡ [] }
-{
-}
+{}

@@ -10,6 +10,7 @@ mod laws;
 pub use append::Append;
 pub use entry::Entry;
 pub use examples::{
-    a_marker_hides, an_equal_point_is_the_same, an_older_point_is_out_of_order, lookback_is_five_minutes,
+    a_marker_hides, an_equal_point_is_the_same, an_older_point_is_out_of_order,
+    lookback_is_five_minutes,
 };
-pub use laws::{put_keeps_lawful};
+pub use laws::put_keeps_lawful;

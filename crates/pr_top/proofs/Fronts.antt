@@ -49,14 +49,14 @@ pub front_at : (from now : Option (List ℕ)) (done rest : List (List ℕ)) → 
 front_at from now done rest p =
     let all : List ℕ = told_lines [] done in
     let e : all ≡ take (length all) (told_lines [] (take (length done) (done ++ rest))) =
-      sym (take_all (length all) all (omega arith)) ∙ ap (λ (ys : List (List ℕ)). take (length all) (told_lines [] ys)) (sym (front_of done rest)) in
+    sym (take_all (length all) all (omega arith)) ∙ ap (λ (ys : List (List ℕ)). take (length all) (told_lines [] ys)) (sym (front_of done rest)) in
     record {
       answered = length done;
       count = length all;
       within = omega (arith, length-append done rest);
       front = subst (Appends from now) e p;
       whole = λ k h. let le : k ≤ length done = omega arith in
-        subst (λ (ys : List (List ℕ)). length (told_lines [] ys) ≤ length all) (sym (front_below k done rest le)) (told_shorter k done);
+          subst (λ (ys : List (List ℕ)). length (told_lines [] ys) ≤ length all) (sym (front_below k done rest le)) (told_shorter k done);
     }
 
 -- one more line was answered in part
@@ -68,14 +68,14 @@ front_in from mid now done rest line n p q =
     let new : List ℕ = answer (progress_after (begun []) done) line in
     let here : take (length done + 1) (done ++ line ∷ rest) ≡ done ++ line ∷ [] = take-append-add done (line ∷ rest) 1 in
     let e : old ++ take n new ≡ take (length old + n) (told_lines [] (take (length done + 1) (done ++ line ∷ rest))) =
-      sym (take-append-add old new n) ∙ ap (take (length old + n)) (sym (told_more done line))
-      ∙ ap (λ (ys : List (List ℕ)). take (length old + n) (told_lines [] ys)) (sym here) in
+    sym (take-append-add old new n) ∙ ap (take (length old + n)) (sym (told_more done line))
+    ∙ ap (λ (ys : List (List ℕ)). take (length old + n) (told_lines [] ys)) (sym here) in
     record {
       answered = length done + 1;
       count = length old + n;
       within = omega (arith, length-append done (line ∷ rest));
       front = subst (Appends from now) e (appends_on from mid now old (take n new) p q);
       whole = λ k h. let le : k ≤ length done = omega arith in
-        let short : length (told_lines [] (take k done)) ≤ length old + n = omega (arith, told_shorter k done) in
-        subst (λ (ys : List (List ℕ)). length (told_lines [] ys) ≤ length old + n) (sym (front_below k done (line ∷ rest) le)) short;
+          let short : length (told_lines [] (take k done)) ≤ length old + n = omega (arith, told_shorter k done) in
+          subst (λ (ys : List (List ℕ)). length (told_lines [] ys) ≤ length old + n) (sym (front_below k done (line ∷ rest) le)) short;
     }

@@ -8,3 +8,4 @@ pub mod Stands
 pub mod Results
 pub mod Pieces
 pub mod Reading
+pub mod RunWords

@@ -33,16 +33,16 @@ next_line seen piece at end h =
     let rest : rest_of piece at ≡ drop at piece = take_rest piece at in
     let feed : drop end (drop at piece) ≡ 10 ∷ drop (end + 1) (drop at piece) = subst (λ (r : List ℕ). drop end r ≡ 10 ∷ drop (end + 1) r) rest h in
     let line : take (at + (end + 1)) piece ≡ take at piece ++ (part_of piece at end ++ 10 ∷ []) =
-      take-add at (end + 1) piece
-      ∙ ap (λ (l : List ℕ). take at piece ++ l) (take-add end 1 (drop at piece) ∙ ap (λ (l : List ℕ). take end (drop at piece) ++ l) (first_of 10 _ _ feed))
-      ∙ ap (λ (l : List ℕ). take at piece ++ (l ++ 10 ∷ [])) (sym (same_part piece at end)) in
+    take-add at (end + 1) piece
+    ∙ ap (λ (l : List ℕ). take at piece ++ l) (take-add end 1 (drop at piece) ∙ ap (λ (l : List ℕ). take end (drop at piece) ++ l) (first_of 10 _ _ feed))
+    ∙ ap (λ (l : List ℕ). take at piece ++ (l ++ 10 ∷ [])) (sym (same_part piece at end)) in
     append_assoc (seen ++ take at piece) (part_of piece at end) (10 ∷ []) ∙ append_assoc seen (take at piece) (part_of piece at end ++ 10 ∷ []) ∙ ap (λ (l : List ℕ). seen ++ l) (sym line)
 
 -- a front of what is told of a part is one of what is told of the piece
 pub cut_piece : (from now : Option (List ℕ)) (seen piece : List ℕ) (n : ℕ) → IsCut from now (seen ++ take n piece) → IsCut from now (seen ++ piece)
 cut_piece from now seen piece n c =
     subst (IsCut from now) (append_assoc seen (take n piece) (drop n piece) ∙ ap (λ (l : List ℕ). seen ++ l) (take-append-drop n piece))
-      (cut_more from now (seen ++ take n piece) (drop n piece) c)
+    (cut_more from now (seen ++ take n piece) (drop n piece) c)
 
 -- all of a piece
 pub whole_piece : (seen piece : List ℕ) (at : ℕ) → (seen ++ take at piece) ++ rest_of piece at ≡ seen ++ piece

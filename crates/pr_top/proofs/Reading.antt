@@ -38,7 +38,7 @@ pub seen_front : (left_old left_now taken_old taken_now : Option (List ℕ)) (fi
     → IfSome left_old (λ bytes. (from : Option (List ℕ)) → Stands from taken_old [] first [] → IsFront from taken_now (lines_of bytes))
 seen_front left_old left_now taken_old taken_now first p count pending h =
     from_seen (λ bytes. (from : Option (List ℕ)) → Stands from taken_old [] first [] → IsFront from taken_now (lines_of bytes)) left_old left_now h.seen h.consumed
-      (λ more from s. (cut_here from taken_now h.seen pending p (h.stands from s)).front more)
+    (λ more from s. (cut_here from taken_now h.seen pending p (h.stands from s)).front more)
 
 -- and so it is where a piece was taken in part
 pub piece_front : (left_old left_now left_next taken_old taken_now taken_next : Option (List ℕ)) (first p : Progress) (count : ℕ) (pending piece : List ℕ)
@@ -47,8 +47,8 @@ pub piece_front : (left_old left_now left_next taken_old taken_now taken_next : 
     → IfSome left_old (λ bytes. (from : Option (List ℕ)) → Stands from taken_old [] first [] → IsFront from taken_next (lines_of bytes))
 piece_front left_old left_now left_next taken_old taken_now taken_next first p count pending piece h c f =
     from_seen (λ bytes. (from : Option (List ℕ)) → Stands from taken_old [] first [] → IsFront from taken_next (lines_of bytes)) left_old left_next (h.seen ++ piece)
-      (consumes_on left_old left_now left_next h.seen piece h.consumed c)
-      (λ more from s. (f from h.seen (h.stands from s)).front more)
+    (consumes_on left_old left_now left_next h.seen piece h.consumed c)
+    (λ more from s. (f from h.seen (h.stands from s)).front more)
 
 -- at its end the input is what was seen
 from_all : (P : List ℕ → Type 0) (left : Option (List ℕ)) (seen : List ℕ) → IfSome left (λ bytes. seen ≡ bytes) → P seen → IfSome left P
@@ -66,7 +66,7 @@ pub end_told : (left_old left_now left_next taken_old taken_now taken_next : Opt
     → IfSome left_old (λ bytes. (from : Option (List ℕ)) → Stands from taken_old [] first [] → HasTold from taken_next bytes q)
 end_told left_old left_now left_next taken_old taken_now taken_next first p q count pending h c e f =
     from_all (λ bytes. (from : Option (List ℕ)) → Stands from taken_old [] first [] → HasTold from taken_next bytes q) left_old h.seen
-      (all_seen left_old left_now left_next h.seen h.consumed c e) (λ from s. f from h.seen (h.stands from s))
+    (all_seen left_old left_now left_next h.seen h.consumed c e) (λ from s. f from h.seen (h.stands from s))
 
 pub end_front : (left_old left_now left_next taken_old taken_now taken_next : Option (List ℕ)) (first p : Progress) (count : ℕ) (pending : List ℕ)
     → HasSeen left_old left_now taken_old taken_now first p count pending → Consumes left_now left_next [] → IsAtEnd left_next
@@ -74,7 +74,7 @@ pub end_front : (left_old left_now left_next taken_old taken_now taken_next : Op
     → IfSome left_old (λ bytes. (from : Option (List ℕ)) → Stands from taken_old [] first [] → IsFront from taken_next (lines_of bytes))
 end_front left_old left_now left_next taken_old taken_now taken_next first p count pending h c e f =
     from_all (λ bytes. (from : Option (List ℕ)) → Stands from taken_old [] first [] → IsFront from taken_next (lines_of bytes)) left_old h.seen
-      (all_seen left_old left_now left_next h.seen h.consumed c e) (λ from s. f from h.seen (h.stands from s))
+    (all_seen left_old left_now left_next h.seen h.consumed c e) (λ from s. f from h.seen (h.stands from s))
 
 pub end_short : (left_old left_now left_next taken_old taken_now : Option (List ℕ)) (first p : Progress) (count : ℕ) (pending : List ℕ)
     → HasSeen left_old left_now taken_old taken_now first p count pending → Consumes left_now left_next [] → IsAtEnd left_next → count < 2 ^ 32

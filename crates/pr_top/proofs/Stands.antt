@@ -32,7 +32,7 @@ pub stands_more : (from now : Option (List ℕ)) (seen part pending : List ℕ) 
 stands_more from now seen part pending p s unended = record {
   done = s.done;
   split = λ more. ap lines_of (append_assoc seen part more) ∙ s.split (part ++ more)
-    ∙ ap (λ (l : List ℕ). s.done ++ lines_of l) (sym (append_assoc pending part more));
+      ∙ ap (λ (l : List ℕ). s.done ++ lines_of l) (sym (append_assoc pending part more));
   unended = unended-append pending part s.unended unended;
   here = s.here;
   told = s.told;
@@ -57,27 +57,30 @@ stands_line from mid now seen line p s q = record {
   unended = refl;
   here = ap (λ (v : Progress). after v line) s.here ∙ sym (progress_more (begun []) s.done line);
   told = subst (Appends from now) (sym (told_more s.done line))
-    (appends_on from mid now _ _ s.told (at_progress mid now s.done line p (λ l. l) s.here q));
+      (appends_on from mid now _ _ s.told (at_progress mid now s.done line p (λ l. l) s.here q));
 }
 
 -- what was written so far is a front
 pub cut_here : (from now : Option (List ℕ)) (seen pending : List ℕ) (p : Progress) → Stands from now seen p pending → IsCut from now seen
 cut_here from now seen pending p s = record {
-  front = λ more. subst (IsFront from now) (sym (s.split more)) (front_at from now s.done (lines_of (pending ++ more)) s.told) }
+  front = λ more. subst (IsFront from now) (sym (s.split more)) (front_at from now s.done (lines_of (pending ++ more)) s.told);
+}
 
 -- and so it is where the line ended, and was answered in part
 pub cut_line : (from mid now : Option (List ℕ)) (seen line : List ℕ) (p : Progress) (n : ℕ)
     → Stands from mid seen p line → Appends mid now (take n (answer p line)) → IsCut from now (seen ++ 10 ∷ [])
 cut_line from mid now seen line p n s q = record {
   front = λ more.
-    let e : lines_of ((seen ++ 10 ∷ []) ++ more) ≡ s.done ++ line ∷ lines_of more =
+      let e : lines_of ((seen ++ 10 ∷ []) ++ more) ≡ s.done ++ line ∷ lines_of more =
       ap lines_of (append_assoc seen (10 ∷ []) more) ∙ s.split (10 ∷ more) ∙ ap (λ (l : List (List ℕ)). s.done ++ l) (lines_of-feed line more s.unended) in
-    subst (IsFront from now) (sym e) (front_in from mid now s.done (lines_of more) line n s.told (at_progress mid now s.done line p (take n) s.here q)) }
+      subst (IsFront from now) (sym e) (front_in from mid now s.done (lines_of more) line n s.told (at_progress mid now s.done line p (take n) s.here q));
+}
 
 -- a front of what is told stays one, whatever comes
 pub cut_more : (from now : Option (List ℕ)) (seen part : List ℕ) → IsCut from now seen → IsCut from now (seen ++ part)
 cut_more from now seen part c = record {
-  front = λ more. subst (λ (l : List ℕ). IsFront from now (lines_of l)) (sym (append_assoc seen part more)) (c.front (part ++ more)) }
+  front = λ more. subst (λ (l : List ℕ). IsFront from now (lines_of l)) (sym (append_assoc seen part more)) (c.front (part ++ more));
+}
 
 -- the lines of all that was seen
 all_lines : (from now : Option (List ℕ)) (seen pending : List ℕ) (p : Progress) → (s : Stands from now seen p pending) → lines_of seen ≡ s.done ++ last_line pending
@@ -101,16 +104,16 @@ pub told_last : (from mid now : Option (List ℕ)) (seen bytes : List ℕ) (b : 
     → Stands from mid seen p (b ∷ bytes) → Appends mid now (answer p (b ∷ bytes)) → HasTold from now seen (after p (b ∷ bytes))
 told_last from mid now seen bytes b p s q =
     told_all from now seen (s.done ++ (b ∷ bytes) ∷ []) (after p (b ∷ bytes)) (all_lines from mid seen (b ∷ bytes) p s)
-      (ap (λ (v : Progress). after v (b ∷ bytes)) s.here ∙ sym (progress_more (begun []) s.done (b ∷ bytes)))
-      (subst (Appends from now) (sym (told_more s.done (b ∷ bytes)))
-        (appends_on from mid now _ _ s.told (at_progress mid now s.done (b ∷ bytes) p (λ l. l) s.here q)))
+    (ap (λ (v : Progress). after v (b ∷ bytes)) s.here ∙ sym (progress_more (begun []) s.done (b ∷ bytes)))
+    (subst (Appends from now) (sym (told_more s.done (b ∷ bytes)))
+    (appends_on from mid now _ _ s.told (at_progress mid now s.done (b ∷ bytes) p (λ l. l) s.here q)))
 
 -- and its last line was answered in part
 pub front_last : (from mid now : Option (List ℕ)) (seen bytes : List ℕ) (b : ℕ) (p : Progress) (n : ℕ)
     → Stands from mid seen p (b ∷ bytes) → Appends mid now (take n (answer p (b ∷ bytes))) → IsFront from now (lines_of seen)
 front_last from mid now seen bytes b p n s q =
     subst (IsFront from now) (sym (all_lines from mid seen (b ∷ bytes) p s))
-      (front_in from mid now s.done [] (b ∷ bytes) n s.told (at_progress mid now s.done (b ∷ bytes) p (take n) s.here q))
+    (front_in from mid now s.done [] (b ∷ bytes) n s.told (at_progress mid now s.done (b ∷ bytes) p (take n) s.here q))
 
 -- the last part of a line came, and its line feed
 pub line_ended : (from mid now : Option (List ℕ)) (seen part pending line : List ℕ) (p : Progress) → line ≡ pending ++ part → list_all is_no_feed part ≡ true

@@ -51,3 +51,39 @@ IsStatusSoFar WriteFault = Unit {0}
 IsStatusSoFar StoreFault = ⊥
 IsStatusSoFar Memory = Unit {0}
 IsStatusSoFar TooLong = Unit {0}
+
+-- a run was not cut short
+abbrev pub IsEnded : Status → Type 0
+IsEnded Done = Unit {0}
+IsEnded Problem = Unit {0}
+IsEnded Usage = ⊥
+IsEnded Lint = ⊥
+IsEnded ReadFault = ⊥
+IsEnded WriteFault = ⊥
+IsEnded StoreFault = ⊥
+IsEnded Memory = ⊥
+IsEnded TooLong = ⊥
+
+-- how a run may end
+abbrev pub IsRunStatus : Status → Type 0
+IsRunStatus Done = Unit {0}
+IsRunStatus Problem = Unit {0}
+IsRunStatus Usage = ⊥
+IsRunStatus Lint = ⊥
+IsRunStatus ReadFault = Unit {0}
+IsRunStatus WriteFault = Unit {0}
+IsRunStatus StoreFault = ⊥
+IsRunStatus Memory = Unit {0}
+IsRunStatus TooLong = Unit {0}
+
+-- how it may end where the words are refused
+abbrev pub IsUsageStatus : Status → Type 0
+IsUsageStatus Done = ⊥
+IsUsageStatus Problem = ⊥
+IsUsageStatus Usage = Unit {0}
+IsUsageStatus Lint = ⊥
+IsUsageStatus ReadFault = ⊥
+IsUsageStatus WriteFault = Unit {0}
+IsUsageStatus StoreFault = ⊥
+IsUsageStatus Memory = Unit {0}
+IsUsageStatus TooLong = ⊥

@@ -13,7 +13,7 @@ stop_of_sink sink.Memory = Memory
 
 -- While a line is answered, a run is stopped by the sink or by want of memory alone. Only a refused write
 -- raises the sink's count.
-abbrev pub StopsWriting : ℕ → ℕ → Result (Unit {0}) Stop → Type 0
+abbrev pub StopsWriting : {T : Type 0} → ℕ → ℕ → Result T Stop → Type 0
 StopsWriting before now (Ok done) = now ≡ before
 StopsWriting before now (Err Read) = ⊥
 StopsWriting before now (Err Write) = Rose before now
@@ -22,7 +22,7 @@ StopsWriting before now (Err TooLong) = ⊥
 
 -- A run is stopped by a read that was refused, which raises the source's count alone; by a write that was
 -- refused, which raises the sink's count alone; by want of memory; or by an input that is too long.
-abbrev pub StopsRunning : ℕ → ℕ → ℕ → ℕ → Result (Unit {0}) Stop → Type 0
+abbrev pub StopsRunning : {T : Type 0} → ℕ → ℕ → ℕ → ℕ → Result T Stop → Type 0
 StopsRunning read_before read_now write_before write_now (Ok done) = (read_now ≡ read_before) × (write_now ≡ write_before)
 StopsRunning read_before read_now write_before write_now (Err Read) = Rose read_before read_now × (write_now ≡ write_before)
 StopsRunning read_before read_now write_before write_now (Err Write) = (read_now ≡ read_before) × Rose write_before write_now
@@ -36,7 +36,7 @@ IsShort left = IfSome left (λ bytes. length bytes < 2 ^ 32)
 abbrev pub IsLong : Option (List ℕ) → Type 0
 IsLong left = IfSome left (λ bytes. 2 ^ 32 ≤ length bytes)
 
-abbrev pub KnowsLength : Option (List ℕ) → Result (Unit {0}) Stop → Type 0
+abbrev pub KnowsLength : {T : Type 0} → Option (List ℕ) → Result T Stop → Type 0
 KnowsLength left (Ok done) = IsShort left
 KnowsLength left (Err Read) = Unit {0}
 KnowsLength left (Err Write) = Unit {0}

@@ -40,7 +40,8 @@ after_event p None = record { world = p.world; lines = p.lines + 1; refused = tr
 after_event p (Some e) = record {
   world = (next p.world e).world;
   lines = p.lines + 1;
-  refused = p.refused || is_refusal (next p.world e).report }
+  refused = p.refused || is_refusal (next p.world e).report;
+}
 
 -- one line: what is answered to it, and how far the run has come after it
 abbrev pub answer : Progress → List ℕ → List ℕ

@@ -49,7 +49,12 @@ fn report_of(answer: Append) -> Report
 }
 
 // Puts a sample into the history.
-fn put(history: &mut Vec<Entry>, labels: Labels, time: u64, point: Point) -> Result<Append, AllocError>
+fn put(
+    history: &mut Vec<Entry>,
+    labels: Labels,
+    time: u64,
+    point: Point,
+) -> Result<Append, AllocError>
     ensures ok { IfOk result (λ answer. history.new.items ≡ put_by answer history.old.items (entry_of time labels point)) }
     ensures answer { IfOk result (λ answer. answer ≡ admit history.old.items labels time point) }
     ensures err { OnErr result (history.new.items ≡ history.old.items) }

@@ -10,5 +10,7 @@ mod script;
 mod session;
 mod status;
 mod texts;
+mod top;
 
 pub use status::Status;
+pub use top::promtool;

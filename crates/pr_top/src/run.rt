@@ -35,7 +35,12 @@ fn line_end(bytes: &[u8]) -> Option<usize>
 
 // Answers one line.
 #[tactic(auto, using(crate::proofs::Streams::appends_none))]
-fn answer_line<O: Sink>(alloc: Global, session: &mut Session, line: &[u8], out: &mut O) -> Result<(), Stop>
+fn answer_line<O: Sink>(
+    alloc: Global,
+    session: &mut Session,
+    line: &[u8],
+    out: &mut O,
+) -> Result<(), Stop>
     requires { session.old.lines + 1 < 2 ^ 64 }
     ensures text { OnOk result (Appends (O.taken out.old) (O.taken out.new) (answer session.old line.now)) }
     ensures after { OnOk result (session.new ≡ after session.old line.now) }
@@ -101,7 +106,12 @@ fn take_piece<O: Sink>(
 }
 
 // Answers what follows the last line feed, where there is anything.
-fn answer_rest<O: Sink>(alloc: Global, session: &mut Session, pending: &[u8], out: &mut O) -> Result<(), Stop>
+fn answer_rest<O: Sink>(
+    alloc: Global,
+    session: &mut Session,
+    pending: &[u8],
+    out: &mut O,
+) -> Result<(), Stop>
     requires { session.old.lines + 1 < 2 ^ 64 }
     ensures told { OnOk result ((from : Option (List ℕ)) (seen : List ℕ)
         → Stands from (O.taken out.old) seen session.old pending.now → HasTold from (O.taken out.new) seen session.new) }
@@ -146,4 +156,26 @@ fn answer_input<I: Source, O: Sink>(
         count += read as u64;
     }
     Err(Stop::TooLong)
+}
+
+/// Runs the script of the input, and says whether a line was refused.
+pub(crate) fn run<I: Source, O: Sink>(
+    alloc: Global,
+    input: &mut I,
+    out: &mut O,
+) -> Result<bool, Stop>
+    ensures told { IfOk result (λ refused. IfSome (I.left input.old) (λ bytes.
+        Appends (O.taken out.old) (O.taken out.new) (told [] bytes) × (refused ≡ refuses [] bytes))) }
+    // However it ends, what was written is a front of the whole.
+    ensures front { IfSome (I.left input.old) (λ bytes. IsFront (O.taken out.old) (O.taken out.new) (lines_of bytes)) }
+    ensures end { OnOk result (IsAtEnd (I.left input.new)) }
+    ensures long { KnowsLength (I.left input.old) result }
+    ensures cause { StopsRunning (I.faults input.old) (I.faults input.new) (O.faults out.old) (O.faults out.new) result }
+{
+    let mut session = Session::start(alloc);
+    let mut text = Vec::new(alloc);
+    push_report(alloc, &mut text, &Report::Opened { rows: 0 })?;
+    send(out, &text)?;
+    answer_input(alloc, input, &mut session, out)?;
+    Ok(session.has_refused())
 }

@@ -51,7 +51,12 @@ impl Session {
     }
 
     // Takes the event that a line spells, if it spells one.
-    fn take_event(&mut self, alloc: Global, text: &mut Vec<u8>, event: Option<Event>) -> Result<(), AllocError>
+    fn take_event(
+        &mut self,
+        alloc: Global,
+        text: &mut Vec<u8>,
+        event: Option<Event>,
+    ) -> Result<(), AllocError>
         requires { self.old.lines + 1 < 2 ^ 64 }
         ensures text { OnOk result (text.new.items ≡ text.old.items ++ answer_to self.old event) }
         ensures after { OnOk result (self.new ≡ after_event self.old event) }
@@ -71,7 +76,12 @@ impl Session {
     }
 
     /// Takes a line without its line feed, and appends the answer to it.
-    pub(crate) fn take_line(&mut self, alloc: Global, text: &mut Vec<u8>, line: &[u8]) -> Result<(), AllocError>
+    pub(crate) fn take_line(
+        &mut self,
+        alloc: Global,
+        text: &mut Vec<u8>,
+        line: &[u8],
+    ) -> Result<(), AllocError>
         requires { self.old.lines + 1 < 2 ^ 64 }
         ensures text { OnOk result (text.new.items ≡ text.old.items ++ answer self.old line.now) }
         ensures after { OnOk result (self.new ≡ after self.old line.now) }

@@ -119,7 +119,11 @@ fn push_backwards(text: &mut Vec<u8>, last: u64, given: u64) -> Result<(), Alloc
 }
 
 /// Appends the lines of a report.
-pub(crate) fn push_report(alloc: Global, text: &mut Vec<u8>, report: &Report) -> Result<(), AllocError>
+pub(crate) fn push_report(
+    alloc: Global,
+    text: &mut Vec<u8>,
+    report: &Report,
+) -> Result<(), AllocError>
     ensures { OnOk result (text.new.items ≡ text.old.items ++ shown_report report.now) }
 {
     match report {

@@ -45,7 +45,8 @@ abbrev pub added : Append → World → Entry → Step
 added answer w e = record {
   world = record { history = put_by answer w.history e; last = Some e.time };
   report = report_of answer;
-  rows = rows_by answer e }
+  rows = rows_by answer e;
+}
 
 -- an event that is accepted becomes the last one
 abbrev pub accepted : World → Event → Step
@@ -53,7 +54,8 @@ accepted w (Add time labels point) = added (admit w.history labels time point) w
 accepted w (Query time equal) = record {
   world = record { history = w.history; last = Some time };
   report = report.Vector (selected w.history equal (pos time));
-  rows = [] }
+  rows = [];
+}
 
 -- a refused event changes nothing
 abbrev pub refused : World → ℕ → ℕ → Step

@@ -11,5 +11,8 @@ pub enum Event {
         point: Point,
     },
     /// The series that have all these labels are asked for.
-    Query { time: u64, equal: Labels },
+    Query {
+        time: u64,
+        equal: Labels,
+    },
 }

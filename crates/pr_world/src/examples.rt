@@ -13,13 +13,11 @@ pub fn a_later_event_moves_the_time()
     ensures kept { rows_of (start []) (Add 0 m (whole 1) ∷ Add 0 m (whole 1) ∷ []) ≡ entry_at 0 (whole 1) ∷ [] }
     ensures asked { (next (start one) (Query 299999 m)).report ≡ Vector (item_of m (number 1) ∷ []) }
     ensures moved { (next (start one) (Query 299999 m)).world ≡ record { history = one; last = Some 299999 } }
-{
-}
+{}
 
 /// An event before the last one is refused, and the last one stays the last.
 pub fn an_event_before_the_last_is_refused()
     ensures refused { (next (record { history = one; last = Some 5000 }) (Query 4000 m)).report ≡ Backwards 5000 4000 }
     ensures unchanged { (next (record { history = one; last = Some 5000 }) (Add 4000 [] (whole 1))).world ≡ record { history = one; last = Some 5000 } }
     ensures equal { (next (record { history = one; last = Some 5000 }) (Query 5000 m)).report ≡ Vector (item_of m (number 1) ∷ []) }
-{
-}
+{}

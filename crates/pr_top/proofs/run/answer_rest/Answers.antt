@@ -19,8 +19,8 @@ returns-clause-told g c =
     let taken = g.O.Sink.taken in
     let now = taken c.answer_line.new.out in
     on_both _ _ _ c.answer_line.result c.answer_line.ensures.text c.answer_line.ensures.after
-      (λ text is from seen s. subst (λ (p : Progress). HasTold from now seen p) (sym is)
-        (told_pending from (taken c.args.out.now) now seen c.args.pending.now c.args.session.now c.if-is_empty.ensures s text))
+    (λ text is from seen s. subst (λ (p : Progress). HasTold from now seen p) (sym is)
+    (told_pending from (taken c.args.out.now) now seen c.args.pending.now c.args.session.now c.if-is_empty.ensures s text))
 
 pub returns-clause-front : goal.returns-clause-front
 returns-clause-front g c =

@@ -13,9 +13,9 @@ returns-in_err-end_line-clause-cut g c =
     let at = c.lines.at in
     let end = c.in-Some.end in
     on_err _ c.from_residual.result
-      (λ from seen s. cut_piece from (taken c.end_line.new.out) seen piece (at + (end + 1))
-        (subst (IsCut from (taken c.end_line.new.out)) (next_line seen piece at end c.in-Some.ensures.some.2)
-          (c.in_err-end_line.ensures.cut from (seen ++ take at piece) (c.lines.invariant.stands from seen s))))
+    (λ from seen s. cut_piece from (taken c.end_line.new.out) seen piece (at + (end + 1))
+    (subst (IsCut from (taken c.end_line.new.out)) (next_line seen piece at end c.in-Some.ensures.some.2)
+    (c.in_err-end_line.ensures.cut from (seen ++ take at piece) (c.lines.invariant.stands from seen s))))
 
 pub lines-preserved : goal.lines-preserved
 lines-preserved g c =
@@ -29,7 +29,7 @@ lines-preserved g c =
     record {
       within = omega (arith, c.in-Some.ensures.some.0, here.within, simp rest at c.in-Some.ensures.some.0, length-drop at piece);
       stands = λ from seen s.
-        subst (λ (l : List ℕ). Stands from (taken c.end_line.new.out) l c.end_line.new.session c.end_line.new.pending.items)
+          subst (λ (l : List ℕ). Stands from (taken c.end_line.new.out) l c.end_line.new.session c.end_line.new.pending.items)
           (next_line seen piece at end c.in-Some.ensures.some.2) (next.stands from (seen ++ take at piece) (here.stands from seen s));
       lines = omega (arith, next.lines, here.lines);
       calm = next.cause ∙ here.calm;
@@ -40,5 +40,5 @@ returns-in_err-extend_from_slice-clause-cut g c =
     let taken = g.O.Sink.taken in
     let piece = c.args.piece.now in
     on_err _ c.from_residual-in_err-extend_from_slice.result
-      (λ from seen s. cut_piece from (taken c.lines.out) seen piece c.lines.at
-        (cut_here from (taken c.lines.out) (seen ++ take c.lines.at piece) c.lines.pending.items c.lines.session (c.lines.invariant.stands from seen s)))
+    (λ from seen s. cut_piece from (taken c.lines.out) seen piece c.lines.at
+    (cut_here from (taken c.lines.out) (seen ++ take c.lines.at piece) c.lines.pending.items c.lines.session (c.lines.invariant.stands from seen s)))
