@@ -1,0 +1,27 @@
+//! The program: it makes the real objects, hands the words to `pr_top::promtool`, and ends with its status.
+#![tactic(auto)]
+
+mod words;
+
+use crate::words::words_of;
+use pr_outside::{StdSink, StdSource, SureFiles, SureKeeper};
+use pr_top::{Status, promtool};
+use std::alloc::Global;
+use std::process::ExitCode;
+
+fn run(alloc: Global, rt: &HostRuntime, words: &[String]) -> Status {
+    let mut input = StdSource::new(rt.stdin());
+    let mut out = StdSink::new(rt.stdout());
+    let mut files = SureFiles::new(Vec::new(alloc));
+    let mut keeper = SureKeeper::new(Vec::new(alloc));
+    promtool(alloc, words, &mut input, &mut files, &mut keeper, &mut out)
+}
+
+fn main(rt: HostRuntime) -> ExitCode {
+    let alloc = rt.alloc();
+    let status = match words_of(alloc, &rt) {
+        Ok(words) => run(alloc, &rt, &words),
+        Err(_) => Status::Memory,
+    };
+    ExitCode::from(status.number())
+}
