@@ -1,3 +1,5 @@
 pub mod Causes
 pub mod Contents
+pub mod HeldFiles
 pub mod Kept
+pub mod Schedule

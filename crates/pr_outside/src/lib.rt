@@ -5,7 +5,9 @@
 mod files;
 mod keeping;
 mod streams;
+mod sure;
 
-pub use files::{Files, FilesError, Found, HeldFile};
+pub use files::{FILE_LIMIT, Files, FilesError, Found, HeldFile};
 pub use keeping::{KeepError, Keeper, Row};
 pub use streams::{Failed, Sink, SinkError, Source};
+pub use sure::{SureFiles, SureKeeper, SureSink, SureSource};
