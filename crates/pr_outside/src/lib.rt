@@ -2,11 +2,13 @@
 //! memory, and the real streams.
 #![tactic(auto)]
 
+mod adapters;
 mod files;
 mod keeping;
 mod streams;
 mod sure;
 
+pub use adapters::{StdSink, StdSource};
 pub use files::{FILE_LIMIT, Files, FilesError, Found, HeldFile};
 pub use keeping::{KeepError, Keeper, Row};
 pub use streams::{Failed, Sink, SinkError, Source};
