@@ -8,7 +8,7 @@ ghost use Rattle.pr_outside.specs.HeldFiles.{content_of, files_of};
 ghost use Rattle.pr_outside.specs.Kept.{KeepsRows, MayForget, AppendsRows};
 ghost use Rattle.pr_outside.specs.Schedule.{after_call, fails_next, schedule_of};
 
-use super::schedule::Faults;
+use super::schedule::Schedule;
 use super::{
     Failed, Files, FilesError, Found, HeldFile, KeepError, Keeper, Row, Sink, SinkError, Source,
     SureFiles, SureKeeper, SureSink, SureSource,
@@ -16,12 +16,15 @@ use super::{
 use std::alloc::Global;
 use std::marker::Model;
 
+#[cfg(test)]
+mod tests;
+
 /// A source of bytes in memory, some of whose reads fail. Contracts see the bytes that are left, and the
 /// schedule: the numbers of the calls that are to fail, and the counts of calls and of faults.
 #[derive(Debug, Drop)]
 pub struct MemSource {
     inner: SureSource,
-    faults: Faults,
+    schedule: Schedule,
 }
 
 impl Model for MemSource {
@@ -29,7 +32,7 @@ impl Model for MemSource {
 
     ghost Value = { FailingSource };
 
-    ghost view = { λ m. record { left = m.inner; schedule = m.faults } };
+    ghost view = { λ m. record { left = m.inner; schedule = m.schedule } };
 }
 
 impl MemSource {
@@ -39,7 +42,7 @@ impl MemSource {
     {
         MemSource {
             inner: SureSource::new(content),
-            faults: Faults::new(fails),
+            schedule: Schedule::new(fails),
         }
     }
 }
@@ -61,7 +64,7 @@ impl Source for MemSource {
         ensures rest { IfOk result (λ n. self.new.left ≡ drop n self.old.left) }
         ensures err { OnErr result (buf.new ≡ buf.old) }
     {
-        if self.faults.next_fails() {
+        if self.schedule.next_fails() {
             return Err(Failed);
         }
         self.inner.read(buf)
@@ -73,7 +76,7 @@ impl Source for MemSource {
 #[derive(Debug, Drop)]
 pub struct MemSink {
     inner: SureSink,
-    faults: Faults,
+    schedule: Schedule,
 }
 
 impl Model for MemSink {
@@ -81,7 +84,7 @@ impl Model for MemSink {
 
     ghost Value = { FailingSink };
 
-    ghost view = { λ m. record { taken = m.inner; schedule = m.faults } };
+    ghost view = { λ m. record { taken = m.inner; schedule = m.schedule } };
 }
 
 impl MemSink {
@@ -91,7 +94,7 @@ impl MemSink {
     {
         MemSink {
             inner: SureSink::new(alloc),
-            faults: Faults::new(fails),
+            schedule: Schedule::new(fails),
         }
     }
 
@@ -118,7 +121,7 @@ impl Sink for MemSink {
         ensures schedule { self.new.schedule ≡ after_call self.old.schedule }
         ensures whole { IfOk result (λ n. n ≡ length bytes.now) }
     {
-        if self.faults.next_fails() {
+        if self.schedule.next_fails() {
             return Err(SinkError::Failed);
         }
         self.inner.write(bytes)
@@ -130,7 +133,7 @@ impl Sink for MemSink {
 #[derive(Debug, Drop)]
 pub struct MemFiles {
     inner: SureFiles,
-    faults: Faults,
+    schedule: Schedule,
 }
 
 impl Model for MemFiles {
@@ -138,7 +141,7 @@ impl Model for MemFiles {
 
     ghost Value = { FailingFiles };
 
-    ghost view = { λ m. record { files = m.inner; schedule = m.faults } };
+    ghost view = { λ m. record { files = m.inner; schedule = m.schedule } };
 }
 
 impl MemFiles {
@@ -148,7 +151,7 @@ impl MemFiles {
     {
         MemFiles {
             inner: SureFiles::new(content),
-            faults: Faults::new(fails),
+            schedule: Schedule::new(fails),
         }
     }
 }
@@ -167,7 +170,7 @@ impl Files for MemFiles {
         ensures failed { (result ≡ Err FilesError.Failed) ↔ IsTrue (fails_next self.old.schedule) }
         ensures schedule { self.new.schedule ≡ after_call self.old.schedule }
     {
-        if self.faults.next_fails() {
+        if self.schedule.next_fails() {
             return Err(FilesError::Failed);
         }
         self.inner.load(name)
@@ -179,7 +182,7 @@ impl Files for MemFiles {
 #[derive(Debug, Drop)]
 pub struct MemKeeper {
     inner: SureKeeper,
-    faults: Faults,
+    schedule: Schedule,
 }
 
 impl Model for MemKeeper {
@@ -187,7 +190,7 @@ impl Model for MemKeeper {
 
     ghost Value = { FailingKeeper };
 
-    ghost view = { λ m. record { rows = m.inner; schedule = m.faults } };
+    ghost view = { λ m. record { rows = m.inner; schedule = m.schedule } };
 }
 
 impl MemKeeper {
@@ -197,7 +200,7 @@ impl MemKeeper {
     {
         MemKeeper {
             inner: SureKeeper::new(rows),
-            faults: Faults::new(fails),
+            schedule: Schedule::new(fails),
         }
     }
 
@@ -244,7 +247,7 @@ impl Keeper for MemKeeper {
         ensures failed { (result ≡ Err KeepError.Failed) ↔ IsTrue (fails_next self.old.schedule) }
         ensures schedule { self.new.schedule ≡ after_call self.old.schedule }
     {
-        if self.faults.next_fails() {
+        if self.schedule.next_fails() {
             return Err(KeepError::Failed);
         }
         self.inner.commit(added)

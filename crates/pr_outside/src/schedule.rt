@@ -7,25 +7,25 @@ use std::marker::Model;
 // The numbers of the calls that are to fail, counted from 1, and the counts of calls and of faults, which
 // both end at 2^64 - 1: no later call has a number, so none fails.
 #[derive(Debug, Drop)]
-pub(crate) struct Faults {
+pub(crate) struct Schedule {
     fails: Vec<u64>,
     calls: u64,
     faults: u64,
 }
 
-impl Model for Faults {
+impl Model for Schedule {
     ghost use Rattle.pr_outside.specs.Schedule.{Schedule};
 
     ghost Value = { Schedule };
 
-    ghost view = { λ f. record { fails = f.fails.items; calls = f.calls; faults = f.faults } };
+    ghost view = { λ s. record { fails = s.fails.items; calls = s.calls; faults = s.faults } };
 }
 
-impl Faults {
-    pub(crate) fn new(fails: Vec<u64>) -> Faults
+impl Schedule {
+    pub(crate) fn new(fails: Vec<u64>) -> Schedule
         ensures { result ≡ schedule_of fails.items }
     {
-        Faults {
+        Schedule {
             fails,
             calls: 0,
             faults: 0,
