@@ -4,11 +4,26 @@ ghost use Rattle.std.specs.declared.option.Option.{Option};
 ghost use Rattle.pr_outside.specs.Causes.{HasFilesCause};
 ghost use Rattle.pr_outside.specs.Contents.{IsFound, IsWithinLimit};
 
+use std::alloc::AllocError;
+
+/// The greatest length of a file: 64 MiB (own choice).
+pub const FILE_LIMIT: usize = 64 << 20;
+
 /// Why a file was not loaded.
 #[derive(Clone, Copy, Debug, PartialEq, Eq)]
 pub enum FilesError {
     Failed,
     Memory,
+}
+
+impl From<AllocError> for FilesError {
+    ghost use Rattle.pr_outside.specs.declared.files.FilesError.TheVariants.{Memory};
+
+    ghost from_gives = { λ _ e. e ≡ Memory };
+
+    fn from(_error: AllocError) -> FilesError {
+        FilesError::Memory
+    }
 }
 
 /// What stands under a name.

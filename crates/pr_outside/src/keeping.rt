@@ -5,12 +5,23 @@ ghost use Rattle.pr_outside.specs.Causes.{HasKeepCause};
 ghost use Rattle.pr_outside.specs.Kept.{KeepsRows, MayForget, AppendsRows};
 
 use pr_words::Text;
+use std::alloc::AllocError;
 
 /// Why the keeper did not do what was asked.
 #[derive(Clone, Copy, Debug, PartialEq, Eq)]
 pub enum KeepError {
     Failed,
     Memory,
+}
+
+impl From<AllocError> for KeepError {
+    ghost use Rattle.pr_outside.specs.declared.keeping.KeepError.TheVariants.{Memory};
+
+    ghost from_gives = { λ _ e. e ≡ Memory };
+
+    fn from(_error: AllocError) -> KeepError {
+        KeepError::Memory
+    }
 }
 
 /// A kept row: the text of a series, a time in milliseconds, and the text of a point.

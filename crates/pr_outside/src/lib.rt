@@ -2,10 +2,17 @@
 //! memory, and the real streams.
 #![tactic(auto)]
 
+mod adapters;
 mod files;
 mod keeping;
+mod memory;
+mod schedule;
 mod streams;
+mod sure;
 
-pub use files::{Files, FilesError, Found, HeldFile};
+pub use adapters::{StdSink, StdSource};
+pub use files::{FILE_LIMIT, Files, FilesError, Found, HeldFile};
 pub use keeping::{KeepError, Keeper, Row};
+pub use memory::{MemFiles, MemKeeper, MemSink, MemSource};
 pub use streams::{Failed, Sink, SinkError, Source};
+pub use sure::{SureFiles, SureKeeper, SureSink, SureSource};

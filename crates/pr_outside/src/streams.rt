@@ -5,6 +5,8 @@ ghost use Rattle.std.specs.Io.{ReadsAtMost, WritesAtMost};
 ghost use Rattle.std.specs.Io.KnownBytes.{ReadConsumes, WriteAppends};
 ghost use Rattle.pr_outside.specs.Causes.{HasReadCause, HasWriteCause};
 
+use std::alloc::AllocError;
+
 /// A call of the outside was refused.
 #[derive(Clone, Copy, Debug, PartialEq, Eq)]
 pub struct Failed;
@@ -14,6 +16,16 @@ pub struct Failed;
 pub enum SinkError {
     Failed,
     Memory,
+}
+
+impl From<AllocError> for SinkError {
+    ghost use Rattle.pr_outside.specs.declared.streams.SinkError.TheVariants.{Memory};
+
+    ghost from_gives = { λ _ e. e ≡ Memory };
+
+    fn from(_error: AllocError) -> SinkError {
+        SinkError::Memory
+    }
 }
 
 /// Where bytes come from.

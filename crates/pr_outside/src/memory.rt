@@ -1,0 +1,269 @@
+// Forms in memory that fail where they are told to.
+ghost use Rattle.std.specs.Prelude.{◌≡◌, ◌≢◌, ◌↔◌, ℕ, ◌+◌, ◌<◌, ◌≤◌, List, [], ◌++◌, length, min, take, drop, Some, IsTrue, IsOk, IsErr, IfOk, IfSome, OnOk, OnErr, slice_get};
+ghost use Rattle.std.specs.Io.{ReadsAtMost, WritesAtMost};
+ghost use Rattle.std.specs.Io.KnownBytes.{ReadConsumes, WriteAppends};
+ghost use Rattle.pr_outside.specs.Causes.{HasReadCause, HasWriteCause, HasFilesCause, HasKeepCause};
+ghost use Rattle.pr_outside.specs.Contents.{IsFound, IsWithinLimit};
+ghost use Rattle.pr_outside.specs.HeldFiles.{content_of, files_of};
+ghost use Rattle.pr_outside.specs.Kept.{KeepsRows, MayForget, AppendsRows};
+ghost use Rattle.pr_outside.specs.Schedule.{after_call, fails_next, schedule_of};
+
+use super::schedule::Schedule;
+use super::{
+    Failed, Files, FilesError, Found, HeldFile, KeepError, Keeper, Row, Sink, SinkError, Source,
+    SureFiles, SureKeeper, SureSink, SureSource,
+};
+use std::alloc::Global;
+use std::marker::Model;
+
+#[cfg(test)]
+mod tests;
+
+/// A source of bytes in memory, some of whose reads fail. Contracts see the bytes that are left, and the
+/// schedule: the numbers of the calls that are to fail, and the counts of calls and of faults.
+#[derive(Debug, Drop)]
+pub struct MemSource {
+    inner: SureSource,
+    schedule: Schedule,
+}
+
+impl Model for MemSource {
+    ghost use Rattle.pr_outside.specs.Failing.{FailingSource};
+
+    ghost Value = { FailingSource };
+
+    ghost view = { λ m. record { left = m.inner; schedule = m.schedule } };
+}
+
+impl MemSource {
+    /// A source of these bytes, whose calls of `read` with these numbers, counted from 1, fail.
+    pub fn new(content: Vec<u8>, fails: Vec<u64>) -> MemSource
+        ensures { result ≡ record { left = content.items; schedule = schedule_of fails.items } }
+    {
+        MemSource {
+            inner: SureSource::new(content),
+            schedule: Schedule::new(fails),
+        }
+    }
+}
+
+impl Source for MemSource {
+    ghost left = { λ m. Some m.left };
+
+    ghost faults = { λ m. m.schedule.faults };
+
+    /// Gives as many bytes as are left and fit, unless this call is to fail.
+    fn read(&mut self, buf: &mut [u8]) -> Result<usize, Failed>
+        ensures bound { ReadsAtMost result buf.new }
+        ensures bytes { ReadConsumes (Some self.old.left) (Some self.new.left) result buf.new }
+        ensures cause { HasReadCause self.old.schedule.faults self.new.schedule.faults result }
+        ensures failed { IsErr result ↔ IsTrue (fails_next self.old.schedule) }
+        ensures schedule { self.new.schedule ≡ after_call self.old.schedule }
+        ensures count { IfOk result (λ n. n ≡ min (length self.old.left) (length buf.old)) }
+        ensures copied { IfOk result (λ n. buf.new ≡ take n self.old.left ++ drop n buf.old) }
+        ensures rest { IfOk result (λ n. self.new.left ≡ drop n self.old.left) }
+        ensures err { OnErr result (buf.new ≡ buf.old) }
+    {
+        if self.schedule.next_fails() {
+            return Err(Failed);
+        }
+        self.inner.read(buf)
+    }
+}
+
+/// A sink of bytes in memory, some of whose writes fail. Contracts see the bytes that it took, and the
+/// schedule, as with `MemSource`.
+#[derive(Debug, Drop)]
+pub struct MemSink {
+    inner: SureSink,
+    schedule: Schedule,
+}
+
+impl Model for MemSink {
+    ghost use Rattle.pr_outside.specs.Failing.{FailingSink};
+
+    ghost Value = { FailingSink };
+
+    ghost view = { λ m. record { taken = m.inner; schedule = m.schedule } };
+}
+
+impl MemSink {
+    /// An empty sink, whose calls of `write` with these numbers, counted from 1, fail.
+    pub fn new(alloc: Global, fails: Vec<u64>) -> MemSink
+        ensures { result ≡ record { taken = []; schedule = schedule_of fails.items } }
+    {
+        MemSink {
+            inner: SureSink::new(alloc),
+            schedule: Schedule::new(fails),
+        }
+    }
+
+    /// The bytes that it took.
+    pub fn bytes(&self) -> &[u8]
+        ensures { result.now ≡ self.now.taken }
+    {
+        self.inner.bytes()
+    }
+}
+
+impl Sink for MemSink {
+    ghost taken = { λ m. Some m.taken };
+
+    ghost faults = { λ m. m.schedule.faults };
+
+    /// Takes the whole piece, unless this call is to fail or memory runs out.
+    fn write(&mut self, bytes: &[u8]) -> Result<usize, SinkError>
+        ensures bound { WritesAtMost result bytes.now }
+        ensures some { IfOk result (λ n. 0 < length bytes.now → 0 < n) }
+        ensures bytes { WriteAppends (Some self.old.taken) (Some self.new.taken) result bytes.now }
+        ensures cause { HasWriteCause self.old.schedule.faults self.new.schedule.faults result }
+        ensures failed { (result ≡ Err SinkError.Failed) ↔ IsTrue (fails_next self.old.schedule) }
+        ensures schedule { self.new.schedule ≡ after_call self.old.schedule }
+        ensures whole { IfOk result (λ n. n ≡ length bytes.now) }
+    {
+        if self.schedule.next_fails() {
+            return Err(SinkError::Failed);
+        }
+        self.inner.write(bytes)
+    }
+}
+
+/// Files in memory, some of whose loads fail. Of two of one name the first counts. Contracts see the names
+/// and the bytes of the files, and the schedule, as with `MemSource`.
+#[derive(Debug, Drop)]
+pub struct MemFiles {
+    inner: SureFiles,
+    schedule: Schedule,
+}
+
+impl Model for MemFiles {
+    ghost use Rattle.pr_outside.specs.Failing.{FailingFiles};
+
+    ghost Value = { FailingFiles };
+
+    ghost view = { λ m. record { files = m.inner; schedule = m.schedule } };
+}
+
+impl MemFiles {
+    /// These files, whose calls of `load` with these numbers, counted from 1, fail.
+    pub fn new(content: Vec<HeldFile>, fails: Vec<u64>) -> MemFiles
+        ensures { result ≡ record { files = files_of content.items; schedule = schedule_of fails.items } }
+    {
+        MemFiles {
+            inner: SureFiles::new(content),
+            schedule: Schedule::new(fails),
+        }
+    }
+}
+
+impl Files for MemFiles {
+    ghost content = { λ m name. Some (content_of m.files name) };
+
+    ghost faults = { λ m. m.schedule.faults };
+
+    /// Copies the file of this name, unless this call is to fail or memory runs out.
+    fn load(&mut self, name: &str) -> Result<Found, FilesError>
+        ensures found { IfOk result (IsFound (Some (content_of self.old.files name.now))) }
+        ensures limit { IfOk result IsWithinLimit }
+        ensures unchanged { self.new.files ≡ self.old.files }
+        ensures cause { HasFilesCause self.old.schedule.faults self.new.schedule.faults result }
+        ensures failed { (result ≡ Err FilesError.Failed) ↔ IsTrue (fails_next self.old.schedule) }
+        ensures schedule { self.new.schedule ≡ after_call self.old.schedule }
+    {
+        if self.schedule.next_fails() {
+            return Err(FilesError::Failed);
+        }
+        self.inner.load(name)
+    }
+}
+
+/// Rows in memory, some of whose commits fail. Contracts see the rows in order, and the schedule, as with
+/// `MemSource`.
+#[derive(Debug, Drop)]
+pub struct MemKeeper {
+    inner: SureKeeper,
+    schedule: Schedule,
+}
+
+impl Model for MemKeeper {
+    ghost use Rattle.pr_outside.specs.Failing.{FailingKeeper};
+
+    ghost Value = { FailingKeeper };
+
+    ghost view = { λ m. record { rows = m.inner; schedule = m.schedule } };
+}
+
+impl MemKeeper {
+    /// These rows, whose calls of `commit` with these numbers, counted from 1, fail.
+    pub fn new(rows: Vec<Row>, fails: Vec<u64>) -> MemKeeper
+        ensures { result ≡ record { rows = rows.items; schedule = schedule_of fails.items } }
+    {
+        MemKeeper {
+            inner: SureKeeper::new(rows),
+            schedule: Schedule::new(fails),
+        }
+    }
+
+    /// The rows in order.
+    pub fn kept(&self) -> &[Row]
+        ensures { result.now ≡ self.now.rows }
+    {
+        self.inner.kept()
+    }
+}
+
+impl Keeper for MemKeeper {
+    ghost rows = { λ m. Some m.rows };
+
+    ghost count = { λ m. length m.rows };
+
+    ghost faults = { λ m. m.schedule.faults };
+
+    /// Ignores the path, and keeps its rows.
+    fn start(&mut self, path: &str) -> Result<(), KeepError>
+        ensures ok { OnOk result (KeepsRows (Some self.old.rows) (Some self.new.rows)) }
+        ensures err { OnErr result (MayForget (Some self.old.rows) (Some self.new.rows)) }
+        ensures cause { HasKeepCause self.old.schedule.faults self.new.schedule.faults result }
+        ensures sure { IsOk result }
+        ensures unchanged { self.new ≡ self.old }
+    {
+        self.inner.start(path)
+    }
+
+    fn size(&self) -> u64
+        ensures count { result ≡ length self.now.rows }
+        ensures rows { IfSome (Some self.now.rows) (λ rows. result ≡ length rows) }
+    {
+        self.inner.size()
+    }
+
+    /// Appends copies of all the rows, or none where this call is to fail or memory runs out.
+    fn commit(&mut self, added: &[Row]) -> Result<(), KeepError>
+        ensures ok { OnOk result (AppendsRows (Some self.old.rows) (Some self.new.rows) added.now) }
+        ensures ok_count { OnOk result (length self.new.rows ≡ length self.old.rows + length added.now) }
+        ensures err { OnErr result (MayForget (Some self.old.rows) (Some self.new.rows)) }
+        ensures err_count { OnErr result (length self.new.rows ≡ length self.old.rows) }
+        ensures cause { HasKeepCause self.old.schedule.faults self.new.schedule.faults result }
+        ensures failed { (result ≡ Err KeepError.Failed) ↔ IsTrue (fails_next self.old.schedule) }
+        ensures schedule { self.new.schedule ≡ after_call self.old.schedule }
+    {
+        if self.schedule.next_fails() {
+            return Err(KeepError::Failed);
+        }
+        self.inner.commit(added)
+    }
+
+    /// Copies the row of this index, unless memory runs out.
+    fn load(&mut self, index: u64) -> Result<Row, KeepError>
+        requires { index < length self.old.rows }
+        ensures row { IfOk result (λ row. IfSome (Some self.old.rows) (λ rows. slice_get rows index ≡ Some row)) }
+        ensures ok { OnOk result (KeepsRows (Some self.old.rows) (Some self.new.rows)) }
+        ensures err { OnErr result (MayForget (Some self.old.rows) (Some self.new.rows)) }
+        ensures count { length self.new.rows ≡ length self.old.rows }
+        ensures cause { HasKeepCause self.old.schedule.faults self.new.schedule.faults result }
+        ensures unchanged { self.new ≡ self.old }
+        ensures sure { result ≢ Err KeepError.Failed }
+    {
+        self.inner.load(index)
+    }
+}
