@@ -4,22 +4,18 @@ use std::env::FillError;
 use std::rt::Env;
 use std::str;
 
-// A word is at most this many bytes, far above what a system passes.
-const WORD_LIMIT: usize = 1 << 30;
-
 // The word of this index, or nothing past the last. One that is not UTF-8 is the empty word, which no form
-// has.
+// has, and so is one of 2^30 bytes or more, far above what a system passes.
 fn word_at<R: Env>(alloc: Global, rt: &R, index: usize) -> Result<Option<String>, AllocError> {
-    let mut size = 256;
-    while size < WORD_LIMIT {
-        let mut bytes = Vec::from_elem(alloc, 0u8, size)?;
+    for power in 8..31u32 {
+        let mut bytes = Vec::from_elem(alloc, 0u8, 1usize << power)?;
         match rt.arg(index, bytes.as_mut_slice()) {
             Ok(count) => {
                 let text = str::from_utf8(&bytes[..count]).unwrap_or("");
                 return Ok(Some(String::from_str(alloc, text)?));
             }
             Err(FillError::NotPresent) => return Ok(None),
-            Err(FillError::TooLong) => size *= 2,
+            Err(FillError::TooLong) => {}
         }
     }
     Ok(Some(String::new(alloc)))
