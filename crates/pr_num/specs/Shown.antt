@@ -1,0 +1,25 @@
+-- The one text that is printed for a value.
+use Rattle.std.specs.Prelude.{ℕ, zero, suc, ◌+◌, ◌/◌, ◌%◌, ◌^◌, ◌==◌, List, [], ◌∷◌, ◌++◌, codes, ℤ, pos, negsuc, if◌then◌else◌, decimal}
+use Rattle.pr_num.specs.declared.value.Num.{Num}
+use Rattle.pr_num.specs.declared.value.Num.TheVariants.{Finite, NaN, PosInf, NegInf}
+
+-- the digits of u / 10^n after a point, without zeros at the end
+unfoldable pub fraction_text : ℕ → ℕ → List ℕ
+fraction_text zero u = []
+fraction_text (suc n) u = if u == 0 then [] else (48 + u / 10 ^ n) ∷ fraction_text n (u % 10 ^ n)
+
+abbrev pub point_text : ℕ → List ℕ
+point_text u = if u == 0 then [] else 46 ∷ fraction_text 9 u
+
+abbrev pub size_text : ℕ → List ℕ
+size_text n = decimal (n / 10 ^ 9) ++ point_text (n % 10 ^ 9)
+
+abbrev pub units_text : ℤ → List ℕ
+units_text (pos n) = size_text n
+units_text (negsuc n) = 45 ∷ size_text (suc n)
+
+abbrev pub shown : Num → List ℕ
+shown (Finite z) = units_text z
+shown NaN = codes "NaN"
+shown PosInf = codes "+Inf"
+shown NegInf = codes "-Inf"

@@ -1,0 +1,74 @@
+// The text of a value.
+ghost use Rattle.std.specs.Prelude.{◌≡◌, ℕ, ◌+◌, ◌*◌, ◌/◌, ◌%◌, ◌^◌, ◌<◌, ◌≤◌, ◌++◌, ◌∷◌, [], length, take, decimal};
+ghost use Rattle.pr_num.specs.Shown.{fraction_text, point_text, size_text, shown};
+
+use crate::value::Num;
+use itoa::Buffer;
+
+fn put_byte(out: &mut [u8; 40], at: usize, byte: u8) -> usize
+    requires { at < 40 }
+    ensures at { result ≡ at + 1 }
+    ensures text { take result out.new ≡ take at out.old ++ byte ∷ [] }
+{
+    out[at] = byte;
+    at + 1
+}
+
+fn put(out: &mut [u8; 40], at: usize, bytes: &[u8]) -> usize
+    requires { at + length bytes.now ≤ 40 }
+    ensures at { result ≡ at + length bytes.now }
+    ensures text { take result out.new ≡ take at out.old ++ bytes.now }
+{
+    out[at..at + bytes.len()].copy_from_slice(bytes);
+    at + bytes.len()
+}
+
+fn put_fraction(out: &mut [u8; 40], start: usize, units: u32) -> usize
+    requires room { start + 9 ≤ 40 }
+    requires small { units < 10 ^ 9 }
+    ensures at { result ≤ start + 9 }
+    ensures text { take result out.new ≡ take start out.old ++ fraction_text 9 units }
+{
+    let mut at = start;
+    let mut left = units;
+    let mut places: u32 = 9;
+    while left != 0 {
+        places -= 1;
+        let place = 10u32.pow(places);
+        at = put_byte(out, at, b'0' + (left / place) as u8);
+        left %= place;
+    }
+    at
+}
+
+fn put_size(out: &mut [u8; 40], start: usize, size: u128) -> usize
+    requires room { start ≤ 1 }
+    requires small { size < 10 ^ 29 }
+    ensures at { result ≤ 40 }
+    ensures text { take result out.new ≡ take start out.old ++ size_text size }
+{
+    let mut buffer = Buffer::new();
+    let at = put(out, start, buffer.format(size / 1_000_000_000).as_bytes());
+    let fraction = (size % 1_000_000_000) as u32;
+    if fraction == 0 {
+        return at;
+    }
+    let after_point = put_byte(out, at, b'.');
+    put_fraction(out, after_point, fraction)
+}
+
+pub fn write(v: Num, out: &mut [u8; 40]) -> usize
+    ensures at { result ≤ 40 }
+    ensures text { take result out.new ≡ shown v }
+{
+    match v {
+        Num::Finite(value) => {
+            let units = value.units();
+            let start = if units < 0 { put_byte(out, 0, b'-') } else { 0 };
+            put_size(out, start, units.unsigned_abs())
+        }
+        Num::NaN => put(out, 0, b"NaN"),
+        Num::PosInf => put(out, 0, b"+Inf"),
+        Num::NegInf => put(out, 0, b"-Inf"),
+    }
+}

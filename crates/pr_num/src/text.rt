@@ -1,0 +1,174 @@
+// Number texts.
+ghost use Rattle.std.specs.Prelude.{◌≡◌, ℕ, ◌+◌, ◌*◌, ◌^◌, ◌<◌, ◌≤◌, ◌++◌, IfSome, IfNone, length, min, drop, take, true};
+ghost use Rattle.std.specs.List.{prefix_len, list_all};
+ghost use Rattle.std.specs.Char.{is_ascii_digit};
+ghost use Rattle.std.specs.Str.{str_eq_ignore_ascii_case};
+ghost use Rattle.std.specs.Str.Parse.{digits_value};
+ghost use Rattle.pr_num.specs.Half.{signed};
+ghost use Rattle.pr_num.specs.Reads.{is_numeral, scale_of, signed_scale, ending, text_size, sized, reads_number, reads_unsigned, reads, fraction_digits, after_fraction, front_digits, after_digits};
+
+use crate::sign::{infinity, with_sign};
+use crate::value::{Nano, Num};
+use crate::scale::size_of;
+
+#[derive(Clone, Copy, PartialEq, Eq, Debug, Drop)]
+pub enum NumFault {
+    NotNumber,
+    TooWide,
+}
+
+// Whether the bytes are this word, in any case.
+fn is_word(bytes: &[u8], word: &[u8]) -> bool
+    ensures { result ≡ str_eq_ignore_ascii_case bytes.now word.now }
+{
+    bytes.eq_ignore_ascii_case(word)
+}
+
+// How many digits the bytes begin with.
+fn front_len(bytes: &[u8]) -> usize
+    ensures value { result ≡ prefix_len is_ascii_digit bytes.now }
+    ensures within { result ≤ length bytes.now }
+    ensures digits { list_all is_ascii_digit (take result bytes.now) ≡ true }
+{
+    let mut at = 0;
+    while at < bytes.len() && bytes[at].is_ascii_digit() {
+        at += 1;
+    }
+    at
+}
+
+const WIDE: u128 = 100_000_000_000_000_000_000_000_000_000;
+
+fn sized(negative: bool, size: u128) -> Result<Num, NumFault>
+    ensures { result ≡ sized negative size }
+{
+    if size >= WIDE {
+        return Err(NumFault::TooWide);
+    }
+    match Nano::new(with_sign(negative, size)) {
+        Some(value) => Ok(Num::Finite(value)),
+        None => Err(NumFault::TooWide),
+    }
+}
+
+fn all_digits(bytes: &[u8]) -> bool
+    ensures { result ≡ list_all is_ascii_digit bytes.now }
+{
+    bytes.iter().all(|c| c.is_ascii_digit())
+}
+
+fn is_numeral(bytes: &[u8]) -> bool
+    ensures { result ≡ is_numeral bytes.now }
+{
+    !bytes.is_empty() && all_digits(bytes)
+}
+
+// The value of digits and an exponent.
+fn read_parts(
+    negative: bool,
+    whole: &[u8],
+    fraction: &[u8],
+    divides: bool,
+    exponent: &[u8],
+) -> Result<Num, NumFault>
+    requires whole { list_all is_ascii_digit whole.now ≡ true }
+    requires fraction { list_all is_ascii_digit fraction.now ≡ true }
+    requires exponent { list_all is_ascii_digit exponent.now ≡ true }
+    ensures { result ≡ reads_number negative whole.now fraction.now
+        (Some (record { divides = divides; digits = exponent.now })) }
+{
+    if whole.is_empty() && fraction.is_empty() {
+        return Err(NumFault::NotNumber);
+    }
+    match size_of(whole, fraction, divides, exponent) {
+        Some(size) => sized(negative, size),
+        None => Err(NumFault::TooWide),
+    }
+}
+
+fn read_scale(
+    negative: bool,
+    whole: &[u8],
+    fraction: &[u8],
+    divides: bool,
+    bytes: &[u8],
+) -> Result<Num, NumFault>
+    requires whole { list_all is_ascii_digit whole.now ≡ true }
+    requires fraction { list_all is_ascii_digit fraction.now ≡ true }
+    ensures { result ≡ reads_number negative whole.now fraction.now (scale_of divides bytes.now) }
+{
+    if is_numeral(bytes) {
+        read_parts(negative, whole, fraction, divides, bytes)
+    } else {
+        Err(NumFault::NotNumber)
+    }
+}
+
+fn read_signed_scale(
+    negative: bool,
+    whole: &[u8],
+    fraction: &[u8],
+    bytes: &[u8],
+) -> Result<Num, NumFault>
+    requires whole { list_all is_ascii_digit whole.now ≡ true }
+    requires fraction { list_all is_ascii_digit fraction.now ≡ true }
+    ensures { result ≡ reads_number negative whole.now fraction.now (signed_scale bytes.now) }
+{
+    match bytes {
+        [b'-', rest @ ..] => read_scale(negative, whole, fraction, true, rest),
+        [b'+', rest @ ..] => read_scale(negative, whole, fraction, false, rest),
+        _ => read_scale(negative, whole, fraction, false, bytes),
+    }
+}
+
+fn read_ending(negative: bool, whole: &[u8], fraction: &[u8], bytes: &[u8]) -> Result<Num, NumFault>
+    requires whole { list_all is_ascii_digit whole.now ≡ true }
+    requires fraction { list_all is_ascii_digit fraction.now ≡ true }
+    ensures { result ≡ reads_number negative whole.now fraction.now (ending bytes.now) }
+{
+    match bytes {
+        [] => read_parts(negative, whole, fraction, false, bytes),
+        [b'e' | b'E', rest @ ..] => read_signed_scale(negative, whole, fraction, rest),
+        _ => Err(NumFault::NotNumber),
+    }
+}
+
+fn read_fraction(negative: bool, whole: &[u8], bytes: &[u8]) -> Result<Num, NumFault>
+    requires whole { list_all is_ascii_digit whole.now ≡ true }
+    ensures { result ≡ reads_number negative whole.now (fraction_digits bytes.now) (ending (after_fraction bytes.now)) }
+{
+    match bytes {
+        [b'.', rest @ ..] => {
+            let len = front_len(rest);
+            read_ending(negative, whole, &rest[..len], &rest[len..])
+        }
+        _ => read_ending(negative, whole, &bytes[..0], bytes),
+    }
+}
+
+fn read_unsigned(negative: bool, bytes: &[u8]) -> Result<Num, NumFault>
+    ensures { result ≡ reads_unsigned negative bytes.now }
+{
+    if is_word(bytes, b"inf") || is_word(bytes, b"infinity") {
+        return Ok(infinity(negative));
+    }
+    let len = front_len(bytes);
+    read_fraction(negative, &bytes[..len], &bytes[len..])
+}
+
+pub fn read(text: &[u8]) -> Result<Num, NumFault>
+    ensures { result ≡ reads text.now }
+{
+    match text {
+        [] => Err(NumFault::NotNumber),
+        [b'-', rest @ ..] => read_unsigned(true, rest),
+        [b'+', rest @ ..] => read_unsigned(false, rest),
+        _ => {
+            if is_word(text, b"nan") {
+                Ok(Num::NaN)
+            } else {
+                read_unsigned(false, text)
+            }
+        }
+    }
+}
