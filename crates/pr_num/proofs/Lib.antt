@@ -7,3 +7,4 @@ pub mod Dropping
 pub mod Scaling
 pub mod Printing
 pub mod RoundTrip
+pub mod Parts

@@ -12,6 +12,7 @@ use Rattle.std.proofs.lemmas.Bool.{cases_eq, and_left as and_false}
 use Rattle.std.proofs.lemmas.List.{append-nil, take_at, drop_at}
 use Rattle.std.proofs.lemmas.Fmt.{decimal_is_IsNumeral_wide}
 use Rattle.std.proofs.lemmas.Str.Parse.{digit_from_value}
+use Rattle.pr_num.specs.Arithmetic.{IsFit}
 use Rattle.pr_num.specs.Half.{half_abs, signed}
 use Rattle.pr_num.specs.Reads.{reads, reads_unsigned, reads_number, front_digits, after_digits, fraction_digits, after_fraction, ending, text_size, Scale}
 use Rattle.pr_num.specs.Shown.{fraction_text, point_text, size_text, shown}
@@ -165,6 +166,7 @@ unsigned_read negative c W u n digits value small fits =
     rw (i, j, f, a) (parts_read negative (c ∷ W) u n (omega arith) value small fits)
 
 digit_start : (c : ℕ) (bs : List ℕ) → is_ascii_digit c ≡ true → reads (c ∷ bs) ≡ reads_unsigned false (c ∷ bs)
+unfolding reads
 digit_start c bs d =
     let a : nat_eq c 45 ≡ false = grind arith in
     let b : nat_eq c 43 ≡ false = grind arith in
@@ -194,15 +196,9 @@ size_read negative m fits =
     let w = decimal_is_IsNumeral_wide (m / 10 ^ 9) (omega arith) in
     list_read negative (decimal (m / 10 ^ 9)) m (all_from_digits _ w.0.1) w.0.0 w.1 fits
 
--- a value that a `Num` can hold
-abbrev pub IsFit : Num → Type 0
-IsFit (Finite z) = unsigned_abs z < 10 ^ 29
-IsFit NaN = Unit {0}
-IsFit PosInf = Unit {0}
-IsFit NegInf = Unit {0}
-
 -- the printed text of a value is read as that value
 pub reads-shown : (v : Num) → IsFit v → reads (shown v) ≡ Ok v
+unfolding reads shown
 reads-shown (Finite (pos m)) h =
     let w = decimal_is_IsNumeral_wide (m / 10 ^ 9) (omega arith) in
     list_start (decimal (m / 10 ^ 9)) (point_text (m % 10 ^ 9)) (all_from_digits _ w.0.1) w.0.0 ∙ size_read false m h

@@ -1,11 +1,12 @@
 -- Rounding of a signed fraction, from its sign and its magnitude.
-use Rattle.std.proofs.Common.{◌≤◌, ◌≡◌, ℕ, zero, suc, ◌*◌, ◌/◌, ◌^◌, ◌<◌, ℤ, pos, negsuc, neg_ℤ, ◌*ℤ◌, unsigned_abs, refl, arith, Bool, true, false, ap, ◌∙◌, lit<, nat_lt, Err}
-use Rattle.std.proofs.Math.Nat.{mul-le-mul_right}
+use Rattle.std.proofs.Common.{◌+◌, ◌%◌, inl, inr, ◌≤◌, ◌≡◌, ℕ, zero, suc, ◌*◌, ◌/◌, ◌^◌, ◌<◌, ℤ, pos, negsuc, neg_ℤ, ◌*ℤ◌, unsigned_abs, refl, arith, Bool, true, false, ap, ◌∙◌, lit<, nat_lt, Err}
 use Rattle.std.proofs.lemmas.Int.{unsigned_abs-mul}
 use Rattle.pr_num.specs.Arithmetic.{fitted, too_wide}
 use Rattle.pr_num.proofs.Rounding.{half_abs-ge}
-use Rattle.std.proofs.Math.Nat.{le-div_iff_mul-le}
-use Rattle.pr_num.specs.Half.{half, half_abs, signed, apart, below_zero}
+use Rattle.std.proofs.Math.Nat.{le-div_iff_mul-le, mul-le-mul_right, le_of_mul-le-mul_right}
+use Rattle.std.proofs.lemmas.Nat.{div-add-mod', mod_below}
+use Rattle.std.proofs.lemmas.Bool.{cases_lt}
+use Rattle.pr_num.specs.Half.{half, half_abs, round_by_rest, signed, apart, below_zero}
 
 pub half_abs-zero : (d : ℕ) → 0 < d → half_abs 0 d ≡ 0
 unfolding half_abs
@@ -70,3 +71,34 @@ muldiv_fits a b c h = ap fitted (half-scaled a b c h)
 
 pub muldiv_wide : (a : ℤ) (b c : ℕ) → 0 < c → 10 ^ 29 ≤ half_abs (unsigned_abs a * b) c → fitted (half (a *ℤ pos b) (pos c)) ≡ Err too_wide
 muldiv_wide a b c h wide = muldiv_fits a b c h ∙ signed_wide (below_zero a) (half_abs (unsigned_abs a * b) c) wide
+
+-- a product, from its sign and its magnitude
+pub product_signed : (a b : ℤ) → fitted (a *ℤ b) ≡ fitted (signed (apart a b) (unsigned_abs a * unsigned_abs b))
+product_signed (pos m) (pos n) = refl
+product_signed (pos m) (negsuc n) = refl
+product_signed (negsuc m) (pos n) = refl
+product_signed (negsuc m) (negsuc n) = refl
+
+round-up : (q r d : ℕ) → round_by_rest q r d ≤ q + 1
+round-up q r d = grind arith
+
+round-whole : (q d : ℕ) → 0 < d → round_by_rest q 0 d ≡ q
+round-whole q d h = grind arith
+
+-- a fraction that is at most a whole number is not rounded above it
+pub half_abs_below : (n d m : ℕ) → 0 < d → n ≤ m * d → half_abs n d ≤ m
+unfolding half_abs
+half_abs_below n d m h le =
+    let e = div-add-mod' n d in
+    let r : n % d < d = mod_below n d h in
+    let up = round-up (n / d) (n % d) d in
+    elim (cases_lt (n / d) m) [
+      | inl lt ↦ omega (arith, up)
+      | inr ge ↦
+          let q : n / d * d ≡ n / d * d = refl in
+          let p : m * d ≤ n / d * d = mul-le-mul_right d ge in
+          let z : n % d ≡ 0 = omega (arith, e, p) in
+          let w : round_by_rest (n / d) (n % d) d ≡ n / d = rw z (round-whole (n / d) d h) in
+          let k : n / d ≤ m = le_of_mul-le-mul_right (let a : n / d * d ≤ m * d = omega (arith, e) in a) h in
+          omega (arith, w, k)
+    ]

@@ -6,3 +6,6 @@ pub mod Order
 pub mod Kept
 pub mod Reads
 pub mod Shown
+pub mod Multiples
+pub mod Parts
+pub mod Total

@@ -76,7 +76,7 @@ reads_unsigned negative bs =
     else reads_number negative (front_digits bs) (fraction_digits (after_digits bs)) (ending (after_fraction (after_digits bs)))
 
 -- a text
-abbrev pub reads : List ℕ → Result Num NumFault
+unfoldable pub reads : List ℕ → Result Num NumFault
 reads [] = Err NotNumber
 reads (c ∷ bs) =
     if c == 45 then reads_unsigned true bs

@@ -18,7 +18,7 @@ abbrev pub units_text : ℤ → List ℕ
 units_text (pos n) = size_text n
 units_text (negsuc n) = 45 ∷ size_text (suc n)
 
-abbrev pub shown : Num → List ℕ
+unfoldable pub shown : Num → List ℕ
 shown (Finite z) = units_text z
 shown NaN = codes "NaN"
 shown PosInf = codes "+Inf"

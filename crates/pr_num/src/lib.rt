@@ -3,14 +3,18 @@
 
 mod arithmetic;
 mod kept;
+mod multiples;
 mod order;
 mod print;
 mod round;
 mod scale;
 mod sign;
 mod text;
+mod totals;
 mod value;
+mod wide;
 
 pub use print::write;
 pub use text::{NumFault, read};
+pub use totals::Total;
 pub use value::{Nano, Num, Point, TooWide};

@@ -57,8 +57,9 @@ fn put_size(out: &mut [u8; 40], start: usize, size: u128) -> usize
     put_fraction(out, after_point, fraction)
 }
 
+#[tactic(auto, unfolding(crate::specs::Shown::shown))]
 pub fn write(v: Num, out: &mut [u8; 40]) -> usize
-    ensures at { result ≤ 40 }
+    ensures bound { result ≤ 40 }
     ensures text { take result out.new ≡ shown v }
 {
     match v {

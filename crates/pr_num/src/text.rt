@@ -156,6 +156,7 @@ fn read_unsigned(negative: bool, bytes: &[u8]) -> Result<Num, NumFault>
     read_fraction(negative, &bytes[..len], &bytes[len..])
 }
 
+#[tactic(auto, unfolding(crate::specs::Reads::reads))]
 pub fn read(text: &[u8]) -> Result<Num, NumFault>
     ensures { result ≡ reads text.now }
 {
