@@ -9,3 +9,4 @@ pub mod Shown
 pub mod Multiples
 pub mod Parts
 pub mod Total
+pub mod Quantile

@@ -6,6 +6,7 @@ mod kept;
 mod multiples;
 mod order;
 mod print;
+mod ranks;
 mod round;
 mod scale;
 mod sign;
@@ -15,6 +16,7 @@ mod value;
 mod wide;
 
 pub use print::write;
+pub use ranks::quantile;
 pub use text::{NumFault, read};
 pub use totals::Total;
 pub use value::{Nano, Num, Point, TooWide};
