@@ -49,18 +49,18 @@ off_neg_neg n x d = let w : (m : ℕ) → unsigned_abs (pos (suc n) -ℤ pos m) 
 even-neg : (x : ℕ) → unsigned_abs (neg_ℤ (pos x)) ≡ x
 even-neg x = omega (arith, ints)
 
-pub half-is : (p q : ℤ) → 0 < unsigned_abs q → IsHalf p q (half p q)
+pub half_is : (p q : ℤ) → 0 < unsigned_abs q → IsHalf p q (half p q)
 unfolding half
-half-is (pos n) (pos d) h = near_close n d (half_abs n d) (half_abs-nearest n d h) _ refl
-half-is (pos n) (negsuc d) h = rw even-neg (near_close n (suc d) (half_abs n (suc d)) (half_abs-nearest n (suc d) h) _ (sym (off_pos_neg n (half_abs n (suc d)) d)))
-half-is (negsuc n) (pos d) h = rw even-neg (near_close (suc n) d (half_abs (suc n) d) (half_abs-nearest (suc n) d h) _ (sym (off_neg_pos n (half_abs (suc n) d) d)))
-half-is (negsuc n) (negsuc d) h = near_close (suc n) (suc d) (half_abs (suc n) (suc d)) (half_abs-nearest (suc n) (suc d) h) _ (sym (off_neg_neg n (half_abs (suc n) (suc d)) d))
+half_is (pos n) (pos d) h = near_close n d (half_abs n d) (half_abs-nearest n d h) _ refl
+half_is (pos n) (negsuc d) h = rw even-neg (near_close n (suc d) (half_abs n (suc d)) (half_abs-nearest n (suc d) h) _ (sym (off_pos_neg n (half_abs n (suc d)) d)))
+half_is (negsuc n) (pos d) h = rw even-neg (near_close (suc n) d (half_abs (suc n) d) (half_abs-nearest (suc n) d h) _ (sym (off_neg_pos n (half_abs (suc n) d) d)))
+half_is (negsuc n) (negsuc d) h = near_close (suc n) (suc d) (half_abs (suc n) (suc d)) (half_abs-nearest (suc n) (suc d) h) _ (sym (off_neg_neg n (half_abs (suc n) (suc d)) d))
 
 -- ---- there is no other
 triangle : (p a b : ℤ) → unsigned_abs (a -ℤ b) ≤ unsigned_abs (p -ℤ a) + unsigned_abs (p -ℤ b)
 triangle p a b = omega (arith, ints)
 
-apart_zero : (m n : ℤ) → unsigned_abs (m -ℤ n) ≡ 0 → m ≡ n
+pub apart_zero : (m n : ℤ) → unsigned_abs (m -ℤ n) ≡ 0 → m ≡ n
 apart_zero m n h = omega (arith, ints)
 
 apart_even : (m n : ℤ) → unsigned_abs (m -ℤ n) ≤ 1 → unsigned_abs m % 2 ≡ 0 → unsigned_abs n % 2 ≡ 0 → m ≡ n
@@ -69,7 +69,7 @@ apart_even m n h e f = omega (arith, ints)
 small : (k b c : ℕ) → 0 < c → k * c ≤ b * c → k ≤ b
 small k b c h le = le_of_mul-le-mul_right le h
 
-less : (k c : ℕ) → k * c < c → k ≡ 0
+pub less : (k c : ℕ) → k * c < c → k ≡ 0
 less zero c h = refl
 less (suc k) c h = absurd (omega arith)
 
@@ -109,11 +109,11 @@ factor m n q =
     let f : m *ℤ q ≡ (m -ℤ n) *ℤ q +ℤ n *ℤ q = ap (λ (x : ℤ). x *ℤ q) (sym e) ∙ add-mul (m -ℤ n) n q in
     omega (arith, ints, f)
 
-gap_product : (m n q : ℤ) → unsigned_abs (m *ℤ q -ℤ n *ℤ q) ≡ unsigned_abs (m -ℤ n) * unsigned_abs q
+pub gap_product : (m n q : ℤ) → unsigned_abs (m *ℤ q -ℤ n *ℤ q) ≡ unsigned_abs (m -ℤ n) * unsigned_abs q
 gap_product m n q = ap unsigned_abs (factor m n q) ∙ unsigned_abs-mul (m -ℤ n) q
 
-pub half-one : (p q m n : ℤ) → 0 < unsigned_abs q → IsHalf p q m → IsHalf p q n → m ≡ n
-half-one p q m n h a b =
+pub half_one : (p q m n : ℤ) → 0 < unsigned_abs q → IsHalf p q m → IsHalf p q n → m ≡ n
+half_one p q m n h a b =
     let t : unsigned_abs (m -ℤ n) * unsigned_abs q ≤ unsigned_abs (p -ℤ m *ℤ q) + unsigned_abs (p -ℤ n *ℤ q) = rw (← gap_product m n q) (triangle p (m *ℤ q) (n *ℤ q)) in
     elim a [
       | inl x ↦ strict p q m n h t (omega (arith, either (unsigned_abs (p -ℤ n *ℤ q)) (unsigned_abs q) (unsigned_abs n) b))
@@ -122,3 +122,6 @@ half-one p q m n h a b =
         | inr y ↦ apart_even m n (small (unsigned_abs (m -ℤ n)) 1 (unsigned_abs q) h (omega (arith, t, x.0, y.0))) x.1 y.1
       ]
     ]
+
+pub half_only : (p q n : ℤ) → 0 < unsigned_abs q → IsHalf p q n → n ≡ half p q
+half_only p q n h is = half_one p q n (half p q) h is (half_is p q h)

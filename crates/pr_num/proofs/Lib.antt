@@ -8,3 +8,5 @@ pub mod Scaling
 pub mod Printing
 pub mod RoundTrip
 pub mod Parts
+pub mod Algebra
+pub mod Floors

@@ -197,12 +197,12 @@ size_read negative m fits =
     list_read negative (decimal (m / 10 ^ 9)) m (all_from_digits _ w.0.1) w.0.0 w.1 fits
 
 -- the printed text of a value is read as that value
-pub reads-shown : (v : Num) → IsFit v → reads (shown v) ≡ Ok v
+pub reads_shown : (v : Num) → IsFit v → reads (shown v) ≡ Ok v
 unfolding reads shown
-reads-shown (Finite (pos m)) h =
+reads_shown (Finite (pos m)) h =
     let w = decimal_is_IsNumeral_wide (m / 10 ^ 9) (omega arith) in
     list_start (decimal (m / 10 ^ 9)) (point_text (m % 10 ^ 9)) (all_from_digits _ w.0.1) w.0.0 ∙ size_read false m h
-reads-shown (Finite (negsuc m)) h = size_read true (suc m) h
-reads-shown NaN h = refl
-reads-shown PosInf h = refl
-reads-shown NegInf h = refl
+reads_shown (Finite (negsuc m)) h = size_read true (suc m) h
+reads_shown NaN h = refl
+reads_shown PosInf h = refl
+reads_shown NegInf h = refl

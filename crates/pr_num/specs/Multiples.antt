@@ -1,5 +1,5 @@
 -- The multiples of a step next to a value: floor, ceil and rounding to a step.
-use Rattle.std.specs.Prelude.{◌+◌, ◌-◌, ◌/◌, ◌^◌, ◌==◌, ℤ, pos, neg_ℤ, ◌+ℤ◌, ◌*ℤ◌, unsigned_abs, if◌then◌else◌, Result, Ok}
+use Rattle.std.specs.Prelude.{suc, ◌+◌, ◌-◌, ◌/◌, ◌^◌, ◌==◌, ℤ, pos, negsuc, neg_ℤ, ◌≤ℤ◌, ◌<ℤ◌, ◌+ℤ◌, ◌*ℤ◌, unsigned_abs, if◌then◌else◌, Result, Ok}
 use Rattle.pr_num.specs.declared.value.Num.{Num}
 use Rattle.pr_num.specs.declared.value.Num.TheVariants.{Finite, NaN, PosInf, NegInf}
 use Rattle.pr_num.specs.declared.value.TooWide.{TooWide}
@@ -50,3 +50,8 @@ rounded_to PosInf NegInf = Ok NaN
 rounded_to NegInf NaN = Ok NaN
 rounded_to NegInf PosInf = Ok NaN
 rounded_to NegInf NegInf = Ok NaN
+
+-- n is the greatest whole number that is at most p / q
+abbrev pub IsFloor : ℤ → ℤ → ℤ → Type 0
+IsFloor p (pos d) n = ((n *ℤ pos d) ≤ℤ p) × (p <ℤ (n *ℤ pos d +ℤ pos d))
+IsFloor p (negsuc d) n = ((n *ℤ pos (suc d)) ≤ℤ neg_ℤ p) × (neg_ℤ p <ℤ (n *ℤ pos (suc d) +ℤ pos (suc d)))
