@@ -30,4 +30,3 @@ same_point (Value a) (Value b) = same_num a b
 same_point Stale Stale = true
 same_point (Value a) Stale = false
 same_point Stale (Value b) = false
-

@@ -11,6 +11,8 @@ mod ranks;
 mod round;
 mod scale;
 mod sign;
+#[cfg(test)]
+mod tests;
 mod text;
 mod totals;
 mod value;

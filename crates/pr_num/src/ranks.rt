@@ -47,7 +47,11 @@ fn ranked(fraction: u64, sorted: &[Num]) -> Num
     ensures { result ≡ ranked fraction sorted.now }
 {
     let place = place_of(fraction, sorted.len() - 1);
-    value_near(sorted, (place / 1_000_000_000) as usize, (place % 1_000_000_000) as u64)
+    value_near(
+        sorted,
+        (place / 1_000_000_000) as usize,
+        (place % 1_000_000_000) as u64,
+    )
 }
 
 /// How far a fraction of the way to the last place is, in billionths of a place.

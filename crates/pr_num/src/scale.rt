@@ -26,7 +26,6 @@ fn capped(digits: &[u8]) -> u128
     value
 }
 
-
 fn power_of_ten(by: u128) -> u128
     requires { by < 38 }
     ensures value { result ≡ 10 ^ by }

@@ -7,9 +7,9 @@ ghost use Rattle.std.specs.Str.Parse.{digits_value};
 ghost use Rattle.pr_num.specs.Half.{signed};
 ghost use Rattle.pr_num.specs.Reads.{is_numeral, scale_of, signed_scale, ending, text_size, sized, reads_number, reads_unsigned, reads, fraction_digits, after_fraction, front_digits, after_digits};
 
+use crate::scale::size_of;
 use crate::sign::{infinity, with_sign};
 use crate::value::{Nano, Num};
-use crate::scale::size_of;
 
 #[derive(Clone, Copy, PartialEq, Eq, Debug, Drop)]
 pub enum NumFault {

@@ -28,22 +28,22 @@ impl Model for Total {
     ghost Value = { Tally };
 
     ghost view = { λ t. record {
-        units = t.sum;
-        count = t.count;
-        nans = t.nans;
-        pos_infs = t.pos_infs;
-        neg_infs = t.neg_infs;
+      units = t.sum;
+      count = t.count;
+      nans = t.nans;
+      pos_infs = t.pos_infs;
+      neg_infs = t.neg_infs;
     } };
 
     ghost invariant = { λ t. (unsigned_abs t.sum ≤ t.count * (10 ^ 29 - 1))
         × (t.nans ≤ t.count) × (t.pos_infs ≤ t.count) × (t.neg_infs ≤ t.count) };
 
     ghost inverse = { λ t. record {
-        sum = t.units;
-        count = t.count;
-        nans = t.nans;
-        pos_infs = t.pos_infs;
-        neg_infs = t.neg_infs;
+      sum = t.units;
+      count = t.count;
+      nans = t.nans;
+      pos_infs = t.pos_infs;
+      neg_infs = t.neg_infs;
     } };
 }
 

@@ -10,6 +10,7 @@ use crate::value::{Nano, WIDE};
 use std::marker::Model;
 
 const STEP: u128 = 18_446_744_073_709_551_616;
+
 const SIGNED_STEP: i128 = 18_446_744_073_709_551_616;
 
 /// The whole number `high * 2^64 + low`. A contract sees the number.
@@ -31,8 +32,8 @@ impl Model for Wide {
     ghost invariant = { λ w. w.low < 2 ^ 64 };
 
     ghost inverse = { λ z. record {
-        high = int_div_euclid z (pos (2 ^ 64));
-        low = unsigned_abs (int_rem_euclid z (pos (2 ^ 64)));
+      high = int_div_euclid z (pos (2 ^ 64));
+      low = unsigned_abs (int_rem_euclid z (pos (2 ^ 64)));
     } };
 }
 
