@@ -15,6 +15,7 @@ use Rattle.pr_num.specs.Order.{compared, order_of}
 use Rattle.pr_num.specs.Total.{Tally, joined, no_values, one_value, total_of}
 
 pub sum_commutes : (a b : Num) → sum_of a b ≡ sum_of b a
+unfolding sum_of
 sum_commutes (Finite a) (Finite b) = ap fitted (+ℤ_comm a b)
 sum_commutes (Finite a) NaN = refl
 sum_commutes (Finite a) PosInf = refl
@@ -33,6 +34,7 @@ sum_commutes NegInf PosInf = refl
 sum_commutes NegInf NegInf = refl
 
 pub product_commutes : (a b : Num) → product_of a b ≡ product_of b a
+unfolding product_of
 product_commutes (Finite a) (Finite b) = ap (λ (z : ℤ). fitted (half z (pos (10 ^ 9)))) (*ℤ_comm a b)
 product_commutes (Finite a) NaN = refl
 product_commutes (Finite a) PosInf = refl
@@ -65,7 +67,7 @@ units NegInf = pos 0
 
 -- the order is that of the kinds, and then of the units
 order-by : (a b : Num) → order_of a b ≡ then_cmp (on kind nat_cmp) (on units int_cmp) a b
-unfolding kind units
+unfolding kind units order_of
 order-by (Finite a) (Finite b) = refl
 order-by (Finite a) NaN = refl
 order-by (Finite a) PosInf = refl
@@ -98,6 +100,7 @@ equal_itself : (a : ℤ) → int_cmp a a ≡ Equal
 equal_itself a = grind (arith, ints)
 
 pub order_tells_apart : (a b : Num) → (order_of a b ≡ Equal) ↔ (a ≡ b)
+unfolding order_of
 order_tells_apart (Finite a) (Finite b) = (λ e. ap (λ (z : ℤ). Finite z) ((signed_Decides a b).0 (ap is_eq e)), λ e. let same : a ≡ b = cc in ap (int_cmp a) (sym same) ∙ equal_itself a)
 order_tells_apart (Finite a) NaN = (λ e. cc, λ e. cc)
 order_tells_apart (Finite a) PosInf = (λ e. cc, λ e. cc)
@@ -116,12 +119,14 @@ order_tells_apart NegInf PosInf = (λ e. cc, λ e. cc)
 order_tells_apart NegInf NegInf = (λ e. refl, λ e. refl)
 
 pub nan_is_first : (b : Num) → order_of NaN b ≢ Greater
+unfolding order_of
 nan_is_first (Finite b) = λ e. cc
 nan_is_first NaN = λ e. cc
 nan_is_first PosInf = λ e. cc
 nan_is_first NegInf = λ e. cc
 
 pub order_agrees : (a b : Num) → IfSome (compared a b) (λ o. order_of a b ≡ o)
+unfolding compared order_of
 order_agrees (Finite a) (Finite b) = refl
 order_agrees (Finite a) NaN = tt
 order_agrees (Finite a) PosInf = refl

@@ -14,8 +14,8 @@ use Rattle.std.proofs.lemmas.Fmt.{decimal_is_IsNumeral_wide}
 use Rattle.std.proofs.lemmas.Str.Parse.{digit_from_value}
 use Rattle.pr_num.specs.Arithmetic.{IsFit}
 use Rattle.pr_num.specs.Half.{half_abs, signed}
-use Rattle.pr_num.specs.Reads.{reads, reads_unsigned, reads_number, front_digits, after_digits, fraction_digits, after_fraction, ending, text_size, Scale}
-use Rattle.pr_num.specs.Shown.{fraction_text, point_text, size_text, shown}
+use Rattle.pr_num.specs.Reads.{reads, reads_unsigned, reads_number, front_digits, after_digits, fraction_digits, after_fraction, ending, text_magnitude, Scale}
+use Rattle.pr_num.specs.Shown.{fraction_text, point_text, magnitude_text, shown}
 use Rattle.pr_num.specs.declared.value.Num.{Num}
 use Rattle.pr_num.specs.declared.value.Num.TheVariants.{Finite, NaN, PosInf, NegInf}
 use Rattle.pr_num.proofs.Dropping.{ten_pos}
@@ -125,7 +125,7 @@ not_word : (c w : ℕ) (bs ws : List ℕ) → is_ascii_digit c ≡ true → 97 �
 not_word c w bs ws h lower = and_false _ _ (not_letter c w h lower)
 
 -- ---- the printed text
-number_read : (negative : Bool) (W F : List ℕ) (s : Scale) (m : ℕ) → 0 < length W → text_size W F s ≡ m → m < 10 ^ 29 → reads_number negative W F (Some s) ≡ Ok (Finite (signed negative m))
+number_read : (negative : Bool) (W F : List ℕ) (s : Scale) (m : ℕ) → 0 < length W → text_magnitude W F s ≡ m → m < 10 ^ 29 → reads_number negative W F (Some s) ≡ Ok (Finite (signed negative m))
 number_read negative W F s m some size fits =
     let a : nat_lt 0 (length W + length F) ≡ true = grind arith in
     let b : nat_lt m (10 ^ 29) ≡ true = grind arith in
@@ -146,11 +146,11 @@ parts_read negative W u n some value small fits =
     let none : Scale = record { divides = false; digits = [] } in
     elim (cases_eq u 0) [
       | inl z ↦
-          let size : text_size W [] none ≡ n * 10 ^ 9 + 0 = whole_read n W value ∙ sym (add-zero (n * 10 ^ 9)) in
+          let size : text_magnitude W [] none ≡ n * 10 ^ 9 + 0 = whole_read n W value ∙ sym (add-zero (n * 10 ^ 9)) in
           rw z (number_read negative W [] none (n * 10 ^ 9 + 0) some size (omega arith))
       | inr s ↦
           let digits = fraction_digits_all 9 u small in
-          let size : text_size W (fraction_text 9 u) none ≡ n * 10 ^ 9 + u = simp add-zero (fraction_read n u W small value) in
+          let size : text_magnitude W (fraction_text 9 u) none ≡ n * 10 ^ 9 + u = simp add-zero (fraction_read n u W small value) in
           rw (point-some u s, front_whole (fraction_text 9 u) digits, after_whole (fraction_text 9 u) digits)
           (number_read negative W (fraction_text 9 u) none (n * 10 ^ 9 + u) some size fits)
     ]
@@ -191,7 +191,7 @@ list_start : (W rest : List ℕ) → list_all is_ascii_digit W ≡ true → 0 < 
 list_start [] rest digits some = absurd (omega arith)
 list_start (c ∷ W) rest digits some = digit_start c (W ++ rest) (and_first (is_ascii_digit c) (list_all is_ascii_digit W) digits)
 
-size_read : (negative : Bool) (m : ℕ) → m < 10 ^ 29 → reads_unsigned negative (size_text m) ≡ Ok (Finite (signed negative m))
+size_read : (negative : Bool) (m : ℕ) → m < 10 ^ 29 → reads_unsigned negative (magnitude_text m) ≡ Ok (Finite (signed negative m))
 size_read negative m fits =
     let w = decimal_is_IsNumeral_wide (m / 10 ^ 9) (omega arith) in
     list_read negative (decimal (m / 10 ^ 9)) m (all_from_digits _ w.0.1) w.0.0 w.1 fits

@@ -38,7 +38,7 @@ absolute PosInf = PosInf
 absolute NegInf = PosInf
 
 -- exact; opposite infinities have no sum
-abbrev pub sum_of : Num → Num → Result Num TooWide
+unfoldable pub sum_of : Num → Num → Result Num TooWide
 sum_of (Finite a) (Finite b) = fitted (a +ℤ b)
 sum_of NaN _ = Ok NaN
 sum_of (Finite a) NaN = Ok NaN
@@ -70,7 +70,7 @@ infinite_times true (negsuc n) = PosInf
 infinite_times false (negsuc n) = NegInf
 
 -- rounded half to even at the ninth place
-abbrev pub product_of : Num → Num → Result Num TooWide
+unfoldable pub product_of : Num → Num → Result Num TooWide
 product_of (Finite a) (Finite b) = fitted (half (a *ℤ b) (pos (10 ^ 9)))
 product_of NaN _ = Ok NaN
 product_of (Finite a) NaN = Ok NaN
@@ -95,7 +95,7 @@ abbrev pub finite_quotient : ℤ → ℤ → Result Num TooWide
 finite_quotient a b = if unsigned_abs b == 0 then Ok (over_zero a) else fitted (half (a *ℤ pos (10 ^ 9)) b)
 
 -- rounded half to even at the ninth place; zero has a positive sign
-abbrev pub quotient_of : Num → Num → Result Num TooWide
+unfoldable pub quotient_of : Num → Num → Result Num TooWide
 quotient_of (Finite a) (Finite b) = finite_quotient a b
 quotient_of NaN _ = Ok NaN
 quotient_of (Finite a) NaN = Ok NaN
@@ -113,7 +113,7 @@ quotient_of NegInf PosInf = Ok NaN
 quotient_of NegInf NegInf = Ok NaN
 
 -- what is left after whole divisors, with the sign of the left value
-abbrev pub remainder_of : Num → Num → Num
+unfoldable pub remainder_of : Num → Num → Num
 remainder_of (Finite a) (Finite b) = if unsigned_abs b == 0 then NaN else Finite (int_rem a b)
 remainder_of (Finite a) PosInf = Finite a
 remainder_of (Finite a) NegInf = Finite a
@@ -123,7 +123,7 @@ remainder_of PosInf _ = NaN
 remainder_of NegInf _ = NaN
 
 -- a * b / c, rounded once
-abbrev pub muldiv_of : Num → ℕ → ℕ → Result Num TooWide
+unfoldable pub muldiv_of : Num → ℕ → ℕ → Result Num TooWide
 muldiv_of (Finite a) b c = fitted (half (a *ℤ pos b) (pos c))
 muldiv_of NaN b c = Ok NaN
 muldiv_of PosInf b c = Ok PosInf

@@ -18,14 +18,14 @@ abbrev pub ceil_quotient : ℤ → ℤ → ℤ
 ceil_quotient p q = neg_ℤ (floor_quotient (neg_ℤ p) q)
 
 -- the greatest whole value that is at most this one
-abbrev pub floor_of : Num → Result Num TooWide
+unfoldable pub floor_of : Num → Result Num TooWide
 floor_of (Finite a) = fitted (floor_quotient a (pos (10 ^ 9)) *ℤ pos (10 ^ 9))
 floor_of NaN = Ok NaN
 floor_of PosInf = Ok PosInf
 floor_of NegInf = Ok NegInf
 
 -- the least whole value that is at least this one
-abbrev pub ceil_of : Num → Result Num TooWide
+unfoldable pub ceil_of : Num → Result Num TooWide
 ceil_of (Finite a) = fitted (ceil_quotient a (pos (10 ^ 9)) *ℤ pos (10 ^ 9))
 ceil_of NaN = Ok NaN
 ceil_of PosInf = Ok PosInf
@@ -36,7 +36,7 @@ abbrev pub nearest_steps : ℤ → ℤ → ℤ
 nearest_steps a s = floor_quotient (pos 2 *ℤ a +ℤ s) (pos 2 *ℤ s)
 
 -- that many steps
-abbrev pub rounded_to : Num → Num → Result Num TooWide
+unfoldable pub rounded_to : Num → Num → Result Num TooWide
 rounded_to (Finite a) (Finite s) = if unsigned_abs s == 0 then Ok NaN else fitted (nearest_steps a s *ℤ s)
 rounded_to PosInf (Finite s) = if unsigned_abs s == 0 then Ok NaN else Ok PosInf
 rounded_to NegInf (Finite s) = if unsigned_abs s == 0 then Ok NaN else Ok NegInf

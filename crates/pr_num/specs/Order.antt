@@ -7,7 +7,7 @@ use Rattle.pr_num.specs.declared.value.Num.{Num}
 use Rattle.pr_num.specs.declared.value.Num.TheVariants.{Finite, NaN, PosInf, NegInf}
 
 -- how two values stand as numbers; NaN stands to nothing
-abbrev pub compared : Num → Num → Option Ordering
+unfoldable pub compared : Num → Num → Option Ordering
 compared (Finite a) (Finite b) = Some (int_cmp a b)
 compared (Finite a) PosInf = Some Less
 compared (Finite a) NegInf = Some Greater
@@ -23,7 +23,7 @@ compared PosInf NaN = None
 compared NegInf NaN = None
 
 -- NaN first, then the infinity below, the finite values and the infinity above
-abbrev pub order_of : Num → Num → Ordering
+unfoldable pub order_of : Num → Num → Ordering
 order_of NaN NaN = Equal
 order_of NaN (Finite b) = Less
 order_of NaN PosInf = Less

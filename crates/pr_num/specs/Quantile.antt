@@ -43,7 +43,7 @@ ranked p values =
     value_near values (p * (length values - 1) / 10 ^ 9) (p * (length values - 1) % 10 ^ 9)
 
 -- the quantile of values in order: no number for no values, and an infinity outside of 0 to 1
-abbrev pub quantile_of : Num → List Num → Num
+unfoldable pub quantile_of : Num → List Num → Num
 quantile_of phi [] = NaN
 quantile_of NaN (v ∷ vs) = NaN
 quantile_of NegInf (v ∷ vs) = NegInf

@@ -56,18 +56,18 @@ up s = if s.divides then 0 else digits_value 10 s.digits
 abbrev pub down : Scale → ℕ
 down s = if s.divides then digits_value 10 s.digits else 0
 
-abbrev pub text_size : List ℕ → List ℕ → Scale → ℕ
-text_size whole fraction s =
+abbrev pub text_magnitude : List ℕ → List ℕ → Scale → ℕ
+text_magnitude whole fraction s =
     half_abs (digits_value 10 (whole ++ fraction) * 10 ^ (9 + up s)) (10 ^ (length fraction + down s))
 
 -- the value of this many units, if it is below 10^20
-abbrev pub sized : Bool → ℕ → Result Num NumFault
-sized negative size = if nat_lt size (10 ^ 29) then Ok (Finite (signed negative size)) else Err TooWide
+abbrev pub number_of : Bool → ℕ → Result Num NumFault
+number_of negative size = if nat_lt size (10 ^ 29) then Ok (Finite (signed negative size)) else Err TooWide
 
 abbrev pub reads_number : Bool → List ℕ → List ℕ → Option Scale → Result Num NumFault
 reads_number negative whole fraction None = Err NotNumber
 reads_number negative whole fraction (Some s) =
-    if nat_lt 0 (length whole + length fraction) then sized negative (text_size whole fraction s) else Err NotNumber
+    if nat_lt 0 (length whole + length fraction) then number_of negative (text_magnitude whole fraction s) else Err NotNumber
 
 -- a text after its sign
 abbrev pub reads_unsigned : Bool → List ℕ → Result Num NumFault

@@ -11,12 +11,12 @@ fraction_text (suc n) u = if u == 0 then [] else (48 + u / 10 ^ n) ∷ fraction_
 abbrev pub point_text : ℕ → List ℕ
 point_text u = if u == 0 then [] else 46 ∷ fraction_text 9 u
 
-abbrev pub size_text : ℕ → List ℕ
-size_text n = decimal (n / 10 ^ 9) ++ point_text (n % 10 ^ 9)
+abbrev pub magnitude_text : ℕ → List ℕ
+magnitude_text n = decimal (n / 10 ^ 9) ++ point_text (n % 10 ^ 9)
 
 abbrev pub units_text : ℤ → List ℕ
-units_text (pos n) = size_text n
-units_text (negsuc n) = 45 ∷ size_text (suc n)
+units_text (pos n) = magnitude_text n
+units_text (negsuc n) = 45 ∷ magnitude_text (suc n)
 
 unfoldable pub shown : Num → List ℕ
 shown (Finite z) = units_text z

@@ -46,6 +46,7 @@ impl Num {
     /// The exact sum. The infinities go as in floats, so that opposite ones give NaN.
     ///
     /// Answers `TooWide` exactly where the sum is 10^20 or more in magnitude.
+    #[tactic(auto, unfolding(crate::specs::Arithmetic::sum_of))]
     pub fn add(self, b: Num) -> Result<Num, TooWide>
         ensures { result ≡ sum_of self b }
     {
@@ -78,6 +79,7 @@ impl Num {
     /// The product, rounded half to even at the ninth place. Zero times an infinity is NaN.
     ///
     /// Answers `TooWide` exactly where the rounded product is 10^20 or more in magnitude.
+    #[tactic(auto, unfolding(crate::specs::Arithmetic::product_of))]
     pub fn mul(self, b: Num) -> Result<Num, TooWide>
         ensures { result ≡ product_of self b }
     {
@@ -105,6 +107,7 @@ impl Num {
     /// A value over zero is the infinity of its sign, 0/0 and an infinity over an infinity are NaN,
     /// and a finite value over an infinity is 0. Answers `TooWide` exactly where the rounded quotient
     /// is 10^20 or more in magnitude.
+    #[tactic(auto, unfolding(crate::specs::Arithmetic::quotient_of))]
     pub fn div(self, b: Num) -> Result<Num, TooWide>
         ensures { result ≡ quotient_of self b }
     {
@@ -129,6 +132,7 @@ impl Num {
     /// What is left of the value after whole divisors, exactly, with the value's own sign.
     ///
     /// A remainder by zero and that of an infinity are NaN; a finite value by an infinity stays.
+    #[tactic(auto, unfolding(crate::specs::Arithmetic::remainder_of))]
     pub fn rem(self, by: Num) -> Num
         ensures { result ≡ remainder_of self by }
     {
@@ -145,6 +149,7 @@ impl Num {
     /// `self * b / c`, rounded once, half to even at the ninth place. A special value stays.
     ///
     /// Answers `TooWide` exactly where the rounded result is 10^20 or more in magnitude.
+    #[tactic(auto, unfolding(crate::specs::Arithmetic::muldiv_of))]
     pub fn muldiv(self, b: u64, c: u64) -> Result<Num, TooWide>
         requires times { b < 2 ^ 63 }
         requires over { (0 < c) × (c < 2 ^ 63) }
@@ -196,6 +201,7 @@ fn finite_quotient(a: i128, b: i128) -> Result<Num, TooWide>
     of_magnitude(are_apart(a, b), half_of(scaled, b.unsigned_abs()))
 }
 
+#[tactic(auto, unfolding(crate::specs::Arithmetic::remainder_of))]
 fn finite_remainder(a: i128, b: i128) -> Num
     requires left { IsNano a }
     requires right { IsNano b }

@@ -13,6 +13,7 @@ impl Num {
     /// The greatest whole value that is at most this one. A special value stays.
     ///
     /// Answers `TooWide` exactly where that is 10^20 or more in magnitude.
+    #[tactic(auto, unfolding(crate::specs::Multiples::floor_of))]
     pub fn floor(self) -> Result<Num, TooWide>
         ensures { result ≡ floor_of self }
     {
@@ -25,6 +26,7 @@ impl Num {
     /// The least whole value that is at least this one. A special value stays.
     ///
     /// Answers `TooWide` exactly where that is 10^20 or more in magnitude.
+    #[tactic(auto, unfolding(crate::specs::Multiples::ceil_of))]
     pub fn ceil(self) -> Result<Num, TooWide>
         ensures { result ≡ ceil_of self }
     {
@@ -39,6 +41,7 @@ impl Num {
     ///
     /// Gives NaN where `to` is zero or special; else a special value stays. Answers `TooWide` exactly
     /// where that multiple is 10^20 or more in magnitude.
+    #[tactic(auto, unfolding(crate::specs::Multiples::rounded_to))]
     pub fn round_to(self, to: Num) -> Result<Num, TooWide>
         ensures { result ≡ rounded_to self to }
     {

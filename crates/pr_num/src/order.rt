@@ -7,6 +7,7 @@ use std::cmp::Ordering;
 
 impl Num {
     /// How two values stand as numbers, or nothing where one of them is NaN.
+    #[tactic(auto, unfolding(crate::specs::Order::compared))]
     pub fn compare(self, b: Num) -> Option<Ordering>
         ensures { result ≡ compared self b }
     {
@@ -33,6 +34,7 @@ impl Num {
 
     /// The total order of values: NaN first, then as numbers. It is the order in which lists of
     /// values are sorted (own choice).
+    #[tactic(auto, unfolding(crate::specs::Order::order_of))]
     pub fn order(self, b: Num) -> Ordering
         ensures { result ≡ order_of self b }
     {

@@ -1,6 +1,6 @@
 // The text of a value.
 ghost use Rattle.std.specs.Prelude.{◌≡◌, ℕ, ◌+◌, ◌*◌, ◌/◌, ◌%◌, ◌^◌, ◌<◌, ◌≤◌, ◌++◌, ◌∷◌, [], length, take, decimal};
-ghost use Rattle.pr_num.specs.Shown.{fraction_text, point_text, size_text, shown};
+ghost use Rattle.pr_num.specs.Shown.{fraction_text, point_text, magnitude_text, shown};
 
 use crate::value::Num;
 use itoa::Buffer;
@@ -41,11 +41,11 @@ fn put_fraction(out: &mut [u8; 40], start: usize, units: u32) -> usize
     at
 }
 
-fn put_size(out: &mut [u8; 40], start: usize, size: u128) -> usize
+fn put_magnitude(out: &mut [u8; 40], start: usize, size: u128) -> usize
     requires room { start ≤ 1 }
     requires small { size < 10 ^ 29 }
     ensures at { result ≤ 40 }
-    ensures text { take result out.new ≡ take start out.old ++ size_text size }
+    ensures text { take result out.new ≡ take start out.old ++ magnitude_text size }
 {
     let mut buffer = Buffer::new();
     let at = put(out, start, buffer.format(size / 1_000_000_000).as_bytes());
@@ -66,7 +66,7 @@ pub fn write(v: Num, out: &mut [u8; 40]) -> usize
         Num::Finite(value) => {
             let units = value.units();
             let start = if units < 0 { put_byte(out, 0, b'-') } else { 0 };
-            put_size(out, start, units.unsigned_abs())
+            put_magnitude(out, start, units.unsigned_abs())
         }
         Num::NaN => put(out, 0, b"NaN"),
         Num::PosInf => put(out, 0, b"+Inf"),

@@ -17,6 +17,7 @@ const ONE: u64 = 1_000_000_000;
 /// their values, rounded half to even at the ninth place. No values and a NaN `phi` give NaN, a `phi`
 /// below 0 gives -Inf and one above 1 gives +Inf (after the Prometheus documentation, "Aggregation
 /// operators"; exact at the ninth place is own choice).
+#[tactic(auto, unfolding(crate::specs::Quantile::quantile_of))]
 pub fn quantile(phi: Num, sorted: &[Num]) -> Num
     requires { IsSorted order_of sorted.now }
     ensures { result ≡ quantile_of phi sorted.now }

@@ -5,7 +5,7 @@ ghost use Rattle.std.specs.Char.{is_ascii_digit};
 ghost use Rattle.std.specs.Str.Parse.{digits_value};
 ghost use Rattle.pr_num.specs.Half.{half_abs};
 ghost use Rattle.pr_num.specs.Kept.{Keeps, SameShift};
-ghost use Rattle.pr_num.specs.Reads.{text_size};
+ghost use Rattle.pr_num.specs.Reads.{text_magnitude};
 
 use crate::kept::{Kept, keep, nothing};
 use crate::round::round_rest;
@@ -86,14 +86,14 @@ fn placed(k: Kept, up: u128, down: u128) -> Option<u128>
 }
 
 // The units of 10^-9 in a number of digits, unless they are 10^29 or more.
-pub(crate) fn size_of(whole: &[u8], fraction: &[u8], divides: bool, exponent: &[u8]) -> Option<u128>
+pub(crate) fn magnitude_of(whole: &[u8], fraction: &[u8], divides: bool, exponent: &[u8]) -> Option<u128>
     requires whole { list_all is_ascii_digit whole.now ≡ true }
     requires fraction { list_all is_ascii_digit fraction.now ≡ true }
     requires exponent { list_all is_ascii_digit exponent.now ≡ true }
     ensures some { IfSome result (λ n.
-        n ≡ text_size whole.now fraction.now (record { divides = divides; digits = exponent.now })) }
+        n ≡ text_magnitude whole.now fraction.now (record { divides = divides; digits = exponent.now })) }
     ensures none { IfNone result
-        (10 ^ 29 ≤ text_size whole.now fraction.now (record { divides = divides; digits = exponent.now })) }
+        (10 ^ 29 ≤ text_magnitude whole.now fraction.now (record { divides = divides; digits = exponent.now })) }
 {
     let kept = keep(keep(nothing(), whole), fraction);
     let power = capped(exponent);

@@ -5,9 +5,9 @@ ghost use Rattle.std.specs.Char.{is_ascii_digit};
 ghost use Rattle.std.specs.Str.{str_eq_ignore_ascii_case};
 ghost use Rattle.std.specs.Str.Parse.{digits_value};
 ghost use Rattle.pr_num.specs.Half.{signed};
-ghost use Rattle.pr_num.specs.Reads.{is_numeral, scale_of, signed_scale, ending, text_size, sized, reads_number, reads_unsigned, reads, fraction_digits, after_fraction, front_digits, after_digits};
+ghost use Rattle.pr_num.specs.Reads.{is_numeral, scale_of, signed_scale, ending, text_magnitude, number_of, reads_number, reads_unsigned, reads, fraction_digits, after_fraction, front_digits, after_digits};
 
-use crate::scale::size_of;
+use crate::scale::magnitude_of;
 use crate::sign::{infinity, with_sign};
 use crate::value::{Nano, Num};
 
@@ -39,8 +39,8 @@ fn front_len(bytes: &[u8]) -> usize
 
 const WIDE: u128 = 100_000_000_000_000_000_000_000_000_000;
 
-fn sized(negative: bool, size: u128) -> Result<Num, NumFault>
-    ensures { result ≡ sized negative size }
+fn number_of(negative: bool, size: u128) -> Result<Num, NumFault>
+    ensures { result ≡ number_of negative size }
 {
     if size >= WIDE {
         return Err(NumFault::TooWide);
@@ -80,8 +80,8 @@ fn read_parts(
     if whole.is_empty() && fraction.is_empty() {
         return Err(NumFault::NotNumber);
     }
-    match size_of(whole, fraction, divides, exponent) {
-        Some(size) => sized(negative, size),
+    match magnitude_of(whole, fraction, divides, exponent) {
+        Some(size) => number_of(negative, size),
         None => Err(NumFault::TooWide),
     }
 }
