@@ -1,4 +1,4 @@
--- The number texts, and what they mean.
+-- The number texts, and what they read as: a sign, digits with a point among them, and an exponent.
 use Rattle.std.specs.Prelude.{ℕ, ◌+◌, ◌*◌, ◌^◌, ◌==◌, ◌&&◌, ◌||◌, Bool, true, false, List, [], ◌∷◌, ◌++◌, length, take, drop, codes, Option, Some, None, nat_lt, if◌then◌else◌, Result, Ok, Err}
 use Rattle.std.specs.List.{prefix_len, list_all}
 use Rattle.std.specs.Char.{is_ascii_digit}
@@ -49,33 +49,42 @@ abbrev pub ending : List ℕ → Option Scale
 ending [] = Some (record { divides = false; digits = [] })
 ending (c ∷ bs) = if (c == 101) || (c == 69) then signed_scale bs else None
 
--- the units of 10^-9 in the number of these digits, rounded
+-- the powers of ten that an exponent multiplies with and divides by
 abbrev pub up : Scale → ℕ
 up s = if s.divides then 0 else digits_value 10 s.digits
 
 abbrev pub down : Scale → ℕ
 down s = if s.divides then digits_value 10 s.digits else 0
 
+-- the exact magnitude of a text in units of 10^-9, as a fraction
+abbrev pub numerator : List ℕ → List ℕ → Scale → ℕ
+numerator whole fraction s = digits_value 10 (whole ++ fraction) * 10 ^ (9 + up s)
+
+abbrev pub denominator : List ℕ → Scale → ℕ
+denominator fraction s = 10 ^ (length fraction + down s)
+
+-- the same rounded half to even
 abbrev pub text_magnitude : List ℕ → List ℕ → Scale → ℕ
-text_magnitude whole fraction s =
-    half_abs (digits_value 10 (whole ++ fraction) * 10 ^ (9 + up s)) (10 ^ (length fraction + down s))
+text_magnitude whole fraction s = half_abs (numerator whole fraction s) (denominator fraction s)
 
--- the value of this many units, if it is below 10^20
+-- the value of this sign and this many units, unless they are 10^29 or more
 abbrev pub number_of : Bool → ℕ → Result Num NumFault
-number_of negative size = if nat_lt size (10 ^ 29) then Ok (Finite (signed negative size)) else Err TooWide
+number_of negative magnitude =
+    if nat_lt magnitude (10 ^ 29) then Ok (Finite (signed negative magnitude)) else Err TooWide
 
+-- digits before and after a point, of which there is one at least, and an exponent
 abbrev pub reads_number : Bool → List ℕ → List ℕ → Option Scale → Result Num NumFault
 reads_number negative whole fraction None = Err NotNumber
 reads_number negative whole fraction (Some s) =
     if nat_lt 0 (length whole + length fraction) then number_of negative (text_magnitude whole fraction s) else Err NotNumber
 
--- a text after its sign
+-- a text after its sign: one of two words in any case, or digits
 abbrev pub reads_unsigned : Bool → List ℕ → Result Num NumFault
 reads_unsigned negative bs =
     if str_eq_ignore_ascii_case bs (codes "inf") || str_eq_ignore_ascii_case bs (codes "infinity") then Ok (infinity negative)
     else reads_number negative (front_digits bs) (fraction_digits (after_digits bs)) (ending (after_fraction (after_digits bs)))
 
--- a text
+-- a text: after a sign, or a word without one, or digits
 unfoldable pub reads : List ℕ → Result Num NumFault
 reads [] = Err NotNumber
 reads (c ∷ bs) =

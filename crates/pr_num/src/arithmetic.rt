@@ -208,10 +208,9 @@ fn finite_remainder(a: i128, b: i128) -> Num
     ensures { result ≡ remainder_of (Num.Finite a) (Num.Finite b) }
 {
     if b == 0 {
-        Num::NaN
-    } else {
-        Num::Finite(Nano::of(a % b))
+        return Num::NaN;
     }
+    Num::Finite(Nano::of(a % b))
 }
 
 #[tactic(auto, using(crate::proofs::Signs::muldiv_fits, crate::proofs::Signs::muldiv_wide))]

@@ -1,20 +1,26 @@
-// The first digits of a long number.
+//! The first digits of a number of any length.
 ghost use Rattle.std.specs.Prelude.{◌≡◌, ℕ, ◌+◌, ◌*◌, ◌^◌, ◌<◌, ◌≤◌, length, true};
 ghost use Rattle.std.specs.List.{list_all};
 ghost use Rattle.std.specs.Char.{is_ascii_digit};
 ghost use Rattle.std.specs.Str.Parse.{digits_value_after};
 ghost use Rattle.pr_num.specs.Kept.{Keeps};
 
+/// From here on 37 digits are kept.
 const FULL: u128 = 1_000_000_000_000_000_000_000_000_000_000_000_000;
 
+/// The first 37 digits of a number, leading zeros not counted, with what rounding needs to know of the
+/// others. A divisor that is a power of ten is even, so these can only break a tie.
 #[derive(Clone, Copy, Drop)]
 pub(crate) struct Kept {
+    /// The digits that are kept, as a number.
     pub front: u128,
+    /// How many digits were dropped after them.
     pub dropped: u128,
+    /// Whether a dropped digit is not 0.
     pub rest: bool,
 }
 
-// No digit yet.
+/// No digit yet.
 pub(crate) fn nothing() -> Kept
     ensures kept { Keeps result 0 }
     ensures none { result.dropped ≡ 0 }
@@ -26,6 +32,7 @@ pub(crate) fn nothing() -> Kept
     }
 }
 
+/// The digits and one more.
 fn push(k: Kept, digit: u8) -> Kept
     requires digit { digit < 10 }
     requires small { k.front < 10 ^ 37 }
@@ -49,7 +56,7 @@ fn push(k: Kept, digit: u8) -> Kept
     }
 }
 
-// The digits too.
+/// The digits and these after them.
 pub(crate) fn keep(k: Kept, digits: &[u8]) -> Kept
     requires digits { list_all is_ascii_digit digits.now ≡ true }
     requires small { k.front < 10 ^ 37 }

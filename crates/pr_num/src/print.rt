@@ -1,10 +1,11 @@
-// The text of a value.
+//! The one printed text of a value.
 ghost use Rattle.std.specs.Prelude.{◌≡◌, ℕ, ◌+◌, ◌*◌, ◌/◌, ◌%◌, ◌^◌, ◌<◌, ◌≤◌, ◌++◌, ◌∷◌, [], length, take, decimal};
 ghost use Rattle.pr_num.specs.Shown.{fraction_text, point_text, magnitude_text, shown};
 
 use crate::value::Num;
 use itoa::Buffer;
 
+/// Puts a byte at a place, and says where it ends.
 fn put_byte(out: &mut [u8; 40], at: usize, byte: u8) -> usize
     requires { at < 40 }
     ensures at { result ≡ at + 1 }
@@ -14,6 +15,7 @@ fn put_byte(out: &mut [u8; 40], at: usize, byte: u8) -> usize
     at + 1
 }
 
+/// Puts bytes at a place, and says where they end.
 fn put(out: &mut [u8; 40], at: usize, bytes: &[u8]) -> usize
     requires { at + length bytes.now ≤ 40 }
     ensures at { result ≡ at + length bytes.now }
@@ -23,6 +25,7 @@ fn put(out: &mut [u8; 40], at: usize, bytes: &[u8]) -> usize
     at + bytes.len()
 }
 
+/// Puts the digits of a fraction of this many units of 10^-9, up to the last one that is not 0.
 fn put_fraction(out: &mut [u8; 40], start: usize, units: u32) -> usize
     requires room { start + 9 ≤ 40 }
     requires small { units < 10 ^ 9 }
@@ -41,15 +44,20 @@ fn put_fraction(out: &mut [u8; 40], start: usize, units: u32) -> usize
     at
 }
 
-fn put_magnitude(out: &mut [u8; 40], start: usize, size: u128) -> usize
+/// Puts a number of units of 10^-9: its whole part, and a point with the fraction where that is not 0.
+fn put_magnitude(out: &mut [u8; 40], start: usize, magnitude: u128) -> usize
     requires room { start ≤ 1 }
-    requires small { size < 10 ^ 29 }
+    requires small { magnitude < 10 ^ 29 }
     ensures at { result ≤ 40 }
-    ensures text { take result out.new ≡ take start out.old ++ magnitude_text size }
+    ensures text { take result out.new ≡ take start out.old ++ magnitude_text magnitude }
 {
     let mut buffer = Buffer::new();
-    let at = put(out, start, buffer.format(size / 1_000_000_000).as_bytes());
-    let fraction = (size % 1_000_000_000) as u32;
+    let at = put(
+        out,
+        start,
+        buffer.format(magnitude / 1_000_000_000).as_bytes(),
+    );
+    let fraction = (magnitude % 1_000_000_000) as u32;
     if fraction == 0 {
         return at;
     }
@@ -57,6 +65,12 @@ fn put_magnitude(out: &mut [u8; 40], start: usize, size: u128) -> usize
     put_fraction(out, after_point, fraction)
 }
 
+/// Writes the printed text of a value to the front of the buffer, and says how many bytes it has. Nothing
+/// is said of the bytes after them.
+///
+/// The text is `-` where the value is negative, the whole part without leading zeros, and, where the
+/// fraction is not 0, a point and up to nine digits without trailing zeros. The others print as `NaN`,
+/// `+Inf` and `-Inf`, as Prometheus prints them.
 #[tactic(auto, unfolding(crate::specs::Shown::shown))]
 pub fn write(v: Num, out: &mut [u8; 40]) -> usize
     ensures bound { result ≤ 40 }

@@ -1,4 +1,4 @@
-// Numbers times powers of ten.
+//! Numbers of any length times and over powers of ten.
 ghost use Rattle.std.specs.Prelude.{◌≡◌, ℕ, ◌+◌, ◌*◌, ◌/◌, ◌%◌, ◌^◌, ◌<◌, ◌≤◌, ◌++◌, IfSome, IfNone, nat_lt, length, min, true};
 ghost use Rattle.std.specs.List.{list_all};
 ghost use Rattle.std.specs.Char.{is_ascii_digit};
@@ -9,12 +9,12 @@ ghost use Rattle.pr_num.specs.Reads.{text_magnitude};
 
 use crate::kept::{Kept, keep, nothing};
 use crate::round::round_rest;
+use crate::value::WIDE;
 
-const WIDE: u128 = 100_000_000_000_000_000_000_000_000_000;
-
+/// An exponent from here on is as good as any greater one: lengths of texts are below 2^64.
 const CAP: u128 = 1_000_000_000_000_000_000_000_000_000_000;
 
-// The number of the digits, and at most CAP.
+/// The number of the digits, and at most `CAP`.
 fn capped(digits: &[u8]) -> u128
     requires { list_all is_ascii_digit digits.now ≡ true }
     ensures { result ≡ min (digits_value 10 digits.now) (10 ^ 30) }
@@ -35,7 +35,7 @@ fn power_of_ten(by: u128) -> u128
     10u128.pow(by as u32)
 }
 
-// `front` times a power of ten, unless that is 10^29 or more.
+/// `front` times a power of ten, unless that is 10^29 or more.
 fn grown(front: u128, by: u128) -> Option<u128>
     requires { 0 < front }
     ensures some { IfSome result (λ n. (n ≡ front * 10 ^ by) × (front < 10 ^ 29) × (by < 30)) }
@@ -47,7 +47,7 @@ fn grown(front: u128, by: u128) -> Option<u128>
     front.checked_mul(power_of_ten(by))
 }
 
-// A number over a power of ten, rounded, from its first digits.
+/// A number over a power of ten, rounded half to even, from its first digits.
 fn shrunk(k: Kept, by: u128) -> u128
     requires small { k.front < 10 ^ 37 }
     requires by { 0 < by }
@@ -66,8 +66,8 @@ fn shrunk(k: Kept, by: u128) -> u128
     }
 }
 
-// A number times 10^up over 10^down, rounded, from its first digits, unless it is 10^29 or more. `up`
-// counts the dropped digits too.
+/// A number times 10^up over 10^down, rounded half to even, from its first digits, unless that is 10^29
+/// or more. `up` counts the dropped digits too.
 fn placed(k: Kept, up: u128, down: u128) -> Option<u128>
     requires { k.front < 10 ^ 37 }
     ensures some { (n p s : ℕ) → Keeps k n → SameShift up down (p + k.dropped) s →
@@ -85,8 +85,14 @@ fn placed(k: Kept, up: u128, down: u128) -> Option<u128>
     }
 }
 
-// The units of 10^-9 in a number of digits, unless they are 10^29 or more.
-pub(crate) fn magnitude_of(whole: &[u8], fraction: &[u8], divides: bool, exponent: &[u8]) -> Option<u128>
+/// The units of 10^-9 in digits before and after a point with an exponent, rounded half to even, unless
+/// they are 10^29 or more.
+pub(crate) fn magnitude_of(
+    whole: &[u8],
+    fraction: &[u8],
+    divides: bool,
+    exponent: &[u8],
+) -> Option<u128>
     requires whole { list_all is_ascii_digit whole.now ≡ true }
     requires fraction { list_all is_ascii_digit fraction.now ≡ true }
     requires exponent { list_all is_ascii_digit exponent.now ≡ true }

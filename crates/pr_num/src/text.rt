@@ -1,4 +1,4 @@
-// Number texts.
+//! Number texts.
 ghost use Rattle.std.specs.Prelude.{◌≡◌, ℕ, ◌+◌, ◌*◌, ◌^◌, ◌<◌, ◌≤◌, ◌++◌, IfSome, IfNone, length, min, drop, take, true};
 ghost use Rattle.std.specs.List.{prefix_len, list_all};
 ghost use Rattle.std.specs.Char.{is_ascii_digit};
@@ -9,22 +9,25 @@ ghost use Rattle.pr_num.specs.Reads.{is_numeral, scale_of, signed_scale, ending,
 
 use crate::scale::magnitude_of;
 use crate::sign::{infinity, with_sign};
-use crate::value::{Nano, Num};
+use crate::value::{Nano, Num, WIDE};
 
-#[derive(Clone, Copy, PartialEq, Eq, Debug, Drop)]
+/// Why a text is read as no value.
+#[derive(Clone, Copy, Debug, Drop, PartialEq, Eq)]
 pub enum NumFault {
+    /// It has not the form of a number text.
     NotNumber,
+    /// Rounded to nine places, it is 10^20 or more in magnitude.
     TooWide,
 }
 
-// Whether the bytes are this word, in any case.
+/// Whether the bytes are this word, in any case.
 fn is_word(bytes: &[u8], word: &[u8]) -> bool
     ensures { result ≡ str_eq_ignore_ascii_case bytes.now word.now }
 {
     bytes.eq_ignore_ascii_case(word)
 }
 
-// How many digits the bytes begin with.
+/// How many digits the bytes begin with.
 fn front_len(bytes: &[u8]) -> usize
     ensures value { result ≡ prefix_len is_ascii_digit bytes.now }
     ensures within { result ≤ length bytes.now }
@@ -37,15 +40,14 @@ fn front_len(bytes: &[u8]) -> usize
     at
 }
 
-const WIDE: u128 = 100_000_000_000_000_000_000_000_000_000;
-
-fn number_of(negative: bool, size: u128) -> Result<Num, NumFault>
-    ensures { result ≡ number_of negative size }
+/// The value of this sign and this many units, where they are not too many.
+fn number_of(negative: bool, magnitude: u128) -> Result<Num, NumFault>
+    ensures { result ≡ number_of negative magnitude }
 {
-    if size >= WIDE {
+    if magnitude >= WIDE {
         return Err(NumFault::TooWide);
     }
-    match Nano::new(with_sign(negative, size)) {
+    match Nano::new(with_sign(negative, magnitude)) {
         Some(value) => Ok(Num::Finite(value)),
         None => Err(NumFault::TooWide),
     }
@@ -57,13 +59,14 @@ fn all_digits(bytes: &[u8]) -> bool
     bytes.iter().all(|c| c.is_ascii_digit())
 }
 
+/// Whether the bytes are one digit or more.
 fn is_numeral(bytes: &[u8]) -> bool
     ensures { result ≡ is_numeral bytes.now }
 {
     !bytes.is_empty() && all_digits(bytes)
 }
 
-// The value of digits and an exponent.
+/// The value of the digits before and after a point, with an exponent.
 fn read_parts(
     negative: bool,
     whole: &[u8],
@@ -81,11 +84,12 @@ fn read_parts(
         return Err(NumFault::NotNumber);
     }
     match magnitude_of(whole, fraction, divides, exponent) {
-        Some(size) => number_of(negative, size),
+        Some(magnitude) => number_of(negative, magnitude),
         None => Err(NumFault::TooWide),
     }
 }
 
+/// Reads the digits of an exponent.
 fn read_scale(
     negative: bool,
     whole: &[u8],
@@ -104,6 +108,7 @@ fn read_scale(
     }
 }
 
+/// Reads an exponent after its letter.
 fn read_signed_scale(
     negative: bool,
     whole: &[u8],
@@ -121,6 +126,7 @@ fn read_signed_scale(
     }
 }
 
+/// Reads what stands after the digits: nothing, or an exponent.
 fn read_ending(negative: bool, whole: &[u8], fraction: &[u8], bytes: &[u8]) -> Result<Num, NumFault>
     requires whole { list_all is_ascii_digit whole.now ≡ true }
     requires fraction { list_all is_ascii_digit fraction.now ≡ true }
@@ -133,6 +139,7 @@ fn read_ending(negative: bool, whole: &[u8], fraction: &[u8], bytes: &[u8]) -> R
     }
 }
 
+/// Reads what stands after the digits before a point.
 fn read_fraction(negative: bool, whole: &[u8], bytes: &[u8]) -> Result<Num, NumFault>
     requires whole { list_all is_ascii_digit whole.now ≡ true }
     ensures { result ≡ reads_number negative whole.now (fraction_digits bytes.now) (ending (after_fraction bytes.now)) }
@@ -146,6 +153,7 @@ fn read_fraction(negative: bool, whole: &[u8], bytes: &[u8]) -> Result<Num, NumF
     }
 }
 
+/// Reads a text after its sign.
 fn read_unsigned(negative: bool, bytes: &[u8]) -> Result<Num, NumFault>
     ensures { result ≡ reads_unsigned negative bytes.now }
 {
@@ -156,6 +164,13 @@ fn read_unsigned(negative: bool, bytes: &[u8]) -> Result<Num, NumFault>
     read_fraction(negative, &bytes[..len], &bytes[len..])
 }
 
+/// The value of a number text, rounded half to even at the ninth place.
+///
+/// A number text is an optional sign, digits with an optional point and digits, of which there is one
+/// digit at least, and optionally `e` or `E`, an optional sign and digits. Digits and exponents of any
+/// length are read exactly. The words `inf` and `infinity`, with an optional sign, and `nan`, without
+/// one, are read in any case (after the Prometheus documentation, "Querying basics"; nine places and
+/// the width are own choice).
 #[tactic(auto, unfolding(crate::specs::Reads::reads))]
 pub fn read(text: &[u8]) -> Result<Num, NumFault>
     ensures { result ≡ reads text.now }
