@@ -1,4 +1,12 @@
-pub mod Reads
+pub mod Units
 pub mod Same
-pub mod SameLaws
+pub mod Half
+pub mod Arithmetic
+pub mod Order
+pub mod Kept
+pub mod Reads
 pub mod Shown
+pub mod Multiples
+pub mod Parts
+pub mod Total
+pub mod Quantile

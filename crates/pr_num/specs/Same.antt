@@ -6,7 +6,7 @@ use Rattle.pr_num.specs.declared.value.Num.TheVariants.{Finite, NaN, PosInf, Neg
 use Rattle.pr_num.specs.declared.value.Point.{Point}
 use Rattle.pr_num.specs.declared.value.Point.TheVariants.{Value, Stale}
 
--- numbers are one by variant and value: NaN is NaN
+-- numbers and points are compared by variant and value
 abbrev pub same_num : Num → Num → Bool
 same_num (Finite a) (Finite b) = int_eq a b
 same_num NaN NaN = true
@@ -25,7 +25,6 @@ same_num NegInf (Finite b) = false
 same_num NegInf NaN = false
 same_num NegInf PosInf = false
 
--- a marker is one with a marker alone
 abbrev pub same_point : Point → Point → Bool
 same_point (Value a) (Value b) = same_num a b
 same_point Stale Stale = true

@@ -1,12 +1,29 @@
--- The one printed text of a number.
-use Rattle.std.specs.Prelude.{ℕ, ◌+◌, ◌/◌, ◌^◌, List, ◌++◌, codes, decimal, pos, negsuc}
+-- The one text that is printed for a value.
+use Rattle.std.specs.Prelude.{ℕ, zero, suc, ◌+◌, ◌/◌, ◌%◌, ◌^◌, ◌==◌, List, [], ◌∷◌, ◌++◌, codes, ℤ, pos, negsuc, if◌then◌else◌, decimal}
 use Rattle.pr_num.specs.declared.value.Num.{Num}
 use Rattle.pr_num.specs.declared.value.Num.TheVariants.{Finite, NaN, PosInf, NegInf}
 
--- the whole part, with a sign where it is below zero
+-- the digits of u / 10^n after a point, without zeros at the end
+unfoldable pub fraction_text : ℕ → ℕ → List ℕ
+fraction_text zero u = []
+fraction_text (suc n) u = if u == 0 then [] else (48 + u / 10 ^ n) ∷ fraction_text n (u % 10 ^ n)
+
+-- a fraction after its point, and nothing where it is 0
+abbrev pub point_text : ℕ → List ℕ
+point_text u = if u == 0 then [] else 46 ∷ fraction_text 9 u
+
+-- a number of units: the whole part without leading zeros, and the fraction
+abbrev pub magnitude_text : ℕ → List ℕ
+magnitude_text n = decimal (n / 10 ^ 9) ++ point_text (n % 10 ^ 9)
+
+-- `-` where it is negative
+abbrev pub units_text : ℤ → List ℕ
+units_text (pos n) = magnitude_text n
+units_text (negsuc n) = 45 ∷ magnitude_text (suc n)
+
+-- the printed text of a value
 unfoldable pub shown : Num → List ℕ
-shown (Finite (pos n)) = decimal (n / 10 ^ 9)
-shown (Finite (negsuc n)) = codes "-" ++ decimal ((n + 1) / 10 ^ 9)
+shown (Finite z) = units_text z
 shown NaN = codes "NaN"
 shown PosInf = codes "+Inf"
 shown NegInf = codes "-Inf"

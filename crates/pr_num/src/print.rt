@@ -1,50 +1,89 @@
-// Writing numbers.
-ghost use Rattle.std.specs.Prelude.{◌≡◌, ◌+◌, ◌≤◌, ◌++◌, length, take};
-ghost use Rattle.pr_num.specs.Shown.{shown};
+//! The one printed text of a value.
+ghost use Rattle.std.specs.Prelude.{◌≡◌, ℕ, ◌+◌, ◌*◌, ◌/◌, ◌%◌, ◌^◌, ◌<◌, ◌≤◌, ◌++◌, ◌∷◌, [], length, take, decimal};
+ghost use Rattle.pr_num.specs.Shown.{fraction_text, point_text, magnitude_text, shown};
 
-use crate::value::{Nano, Num};
+use crate::value::Num;
 use itoa::Buffer;
 
-// Copies a text into a buffer at a place, and says where it ends.
-fn put_at(out: &mut [u8], at: usize, text: &[u8]) -> usize
-    requires { at + length text.now ≤ length out.old }
-    ensures end { result ≡ at + length text.now }
-    ensures text { take result out.new ≡ take at out.old ++ text.now }
+/// Puts a byte at a place, and says where it ends.
+fn put_byte(out: &mut [u8; 40], at: usize, byte: u8) -> usize
+    requires { at < 40 }
+    ensures at { result ≡ at + 1 }
+    ensures text { take result out.new ≡ take at out.old ++ byte ∷ [] }
 {
-    let end = at + text.len();
-    out[at..end].copy_from_slice(text);
-    end
+    out[at] = byte;
+    at + 1
 }
 
-#[tactic(auto, unfolding(crate::specs::Shown::shown))]
-fn put_finite(n: Nano, out: &mut [u8; 40]) -> usize
-    ensures bound { result ≤ 40 }
-    ensures text { take result out.new ≡ shown (Num.Finite n) }
+/// Puts bytes at a place, and says where they end.
+fn put(out: &mut [u8; 40], at: usize, bytes: &[u8]) -> usize
+    requires { at + length bytes.now ≤ 40 }
+    ensures at { result ≡ at + length bytes.now }
+    ensures text { take result out.new ≡ take at out.old ++ bytes.now }
 {
-    let units = n.units();
-    let mut buffer = Buffer::new();
-    let digits = buffer
-        .format(units.unsigned_abs() / 1_000_000_000)
-        .as_bytes();
-    if units < 0 {
-        let at = put_at(out, 0, b"-");
-        put_at(out, at, digits)
-    } else {
-        put_at(out, 0, digits)
+    out[at..at + bytes.len()].copy_from_slice(bytes);
+    at + bytes.len()
+}
+
+/// Puts the digits of a fraction of this many units of 10^-9, up to the last one that is not 0.
+fn put_fraction(out: &mut [u8; 40], start: usize, units: u32) -> usize
+    requires room { start + 9 ≤ 40 }
+    requires small { units < 10 ^ 9 }
+    ensures at { result ≤ start + 9 }
+    ensures text { take result out.new ≡ take start out.old ++ fraction_text 9 units }
+{
+    let mut at = start;
+    let mut left = units;
+    let mut places: u32 = 9;
+    while left != 0 {
+        places -= 1;
+        let place = 10u32.pow(places);
+        at = put_byte(out, at, b'0' + (left / place) as u8);
+        left %= place;
     }
+    at
 }
 
-/// Writes the printed text of a number to the front of the buffer, and says how many bytes it has.
-/// Nothing is said of the rest of the buffer.
+/// Puts a number of units of 10^-9: its whole part, and a point with the fraction where that is not 0.
+fn put_magnitude(out: &mut [u8; 40], start: usize, magnitude: u128) -> usize
+    requires room { start ≤ 1 }
+    requires small { magnitude < 10 ^ 29 }
+    ensures at { result ≤ 40 }
+    ensures text { take result out.new ≡ take start out.old ++ magnitude_text magnitude }
+{
+    let mut buffer = Buffer::new();
+    let at = put(
+        out,
+        start,
+        buffer.format(magnitude / 1_000_000_000).as_bytes(),
+    );
+    let fraction = (magnitude % 1_000_000_000) as u32;
+    if fraction == 0 {
+        return at;
+    }
+    let after_point = put_byte(out, at, b'.');
+    put_fraction(out, after_point, fraction)
+}
+
+/// Writes the printed text of a value to the front of the buffer, and says how many bytes it has. Nothing
+/// is said of the bytes after them.
+///
+/// The text is `-` where the value is negative, the whole part without leading zeros, and, where the
+/// fraction is not 0, a point and up to nine digits without trailing zeros. The others print as `NaN`,
+/// `+Inf` and `-Inf`, as Prometheus prints them.
 #[tactic(auto, unfolding(crate::specs::Shown::shown))]
 pub fn write(v: Num, out: &mut [u8; 40]) -> usize
     ensures bound { result ≤ 40 }
     ensures text { take result out.new ≡ shown v }
 {
     match v {
-        Num::Finite(n) => put_finite(n, out),
-        Num::NaN => put_at(out, 0, b"NaN"),
-        Num::PosInf => put_at(out, 0, b"+Inf"),
-        Num::NegInf => put_at(out, 0, b"-Inf"),
+        Num::Finite(value) => {
+            let units = value.units();
+            let start = if units < 0 { put_byte(out, 0, b'-') } else { 0 };
+            put_magnitude(out, start, units.unsigned_abs())
+        }
+        Num::NaN => put(out, 0, b"NaN"),
+        Num::PosInf => put(out, 0, b"+Inf"),
+        Num::NegInf => put(out, 0, b"-Inf"),
     }
 }

@@ -1,56 +1,65 @@
-// Values and points.
-ghost use Rattle.std.specs.Prelude.{◌≡◌, ◌^◌, ◌<◌, unsigned_abs};
+//! The values: exact decimals with nine places, and the three that are not finite.
+ghost use Rattle.std.specs.Prelude.{◌≡◌};
 ghost use Rattle.std.specs.Option.{SomeIff};
+ghost use Rattle.pr_num.specs.Units.{IsNano};
 
 use std::marker::Model;
 
-const LIMIT: u128 = 100_000_000_000_000_000_000_000_000_000;
+/// The first magnitude, in units of 10^-9, that is too wide for a value.
+pub(crate) const WIDE: u128 = 100_000_000_000_000_000_000_000_000_000;
 
-/// A whole number of units of 10^-9, below 10^29 in magnitude. Contracts see the number of units.
-#[derive(Clone, Copy, Debug, PartialEq, Eq)]
+/// A finite value: a whole number of units of 10^-9, below 10^29 units in magnitude.
+///
+/// A contract sees the number of units. There is one zero, and its sign counts as positive.
+#[derive(Clone, Copy, Debug, Drop, PartialEq, Eq)]
 pub struct Nano {
-    count: i128,
+    units: i128,
 }
 
 impl Model for Nano {
-    ghost use Rattle.std.specs.Prelude.{◌^◌, ◌<◌, ℤ, unsigned_abs};
+    ghost use Rattle.std.specs.Prelude.{ℤ};
+    ghost use Rattle.pr_num.specs.Units.{IsNano};
 
     ghost Value = { ℤ };
 
-    ghost view = { λ n. n.count };
+    ghost view = { λ n. n.units };
 
-    ghost invariant = { λ n. unsigned_abs n.count < 10 ^ 29 };
+    ghost invariant = { λ n. IsNano n.units };
 
-    ghost inverse = { λ z. record { count = z } };
+    ghost inverse = { λ z. record { units = z } };
 }
 
 impl Nano {
-    /// The number of this many units, or nothing where that is too wide.
+    /// The value of this many units of 10^-9, or nothing where they are 10^29 or more in magnitude.
     pub fn new(units: i128) -> Option<Nano>
-        ensures { SomeIff result (unsigned_abs units < 10 ^ 29) units }
+        ensures { SomeIff result (IsNano units) units }
     {
-        if units.unsigned_abs() < LIMIT {
-            Some(Nano { count: units })
+        if units.unsigned_abs() < WIDE {
+            Some(Nano { units })
         } else {
             None
         }
     }
 
-    /// How many units of 10^-9 there are.
+    /// The value of this many units of 10^-9, which are known to be few enough.
+    pub(crate) fn of(units: i128) -> Nano
+        requires { IsNano units }
+        ensures { result ≡ units }
+    {
+        Nano { units }
+    }
+
+    /// How many units of 10^-9 the value has.
     pub fn units(self) -> i128
         ensures value { result ≡ self }
-        ensures small { unsigned_abs result < 10 ^ 29 }
+        ensures small { IsNano result }
     {
-        self.count
+        self.units
     }
 }
 
-/// The result of an operation has a magnitude of 10^20 or more.
-#[derive(Clone, Copy, Debug, PartialEq, Eq)]
-pub struct TooWide;
-
-/// A number: a finite one, or one of the three values that are not finite.
-#[derive(Clone, Copy, Debug)]
+/// A value: a finite decimal, or one of the three that are not finite.
+#[derive(Clone, Copy, Debug, Drop)]
 pub enum Num {
     Finite(Nano),
     NaN,
@@ -58,62 +67,67 @@ pub enum Num {
     NegInf,
 }
 
-/// What a sample holds: a number, or the marker that its series has gone stale.
-#[derive(Clone, Copy, Debug)]
+/// The answer of an operation whose exact result has a magnitude of 10^20 or more.
+#[derive(Clone, Copy, Debug, Drop, PartialEq, Eq)]
+pub struct TooWide;
+
+/// What a sample holds: a value, or the mark that its series has gone stale.
+#[derive(Clone, Copy, Debug, Drop)]
 pub enum Point {
     Value(Num),
     Stale,
 }
 
+/// By variant, so that NaN equals itself.
 impl PartialEq for Num {
+    ghost use Rattle.std.proofs.Common.{rules};
+    ghost use Rattle.std.specs.Cmp.Rules.{comparing};
     ghost use Rattle.pr_num.specs.Same.{same_num};
-    ghost use Rattle.pr_num.specs.SameLaws.{same_num_partial};
 
     ghost eq = { same_num };
 
-    ghost laws = { same_num_partial };
+    ghost laws = { Prim.search (comparing, rules) };
 
-    // By variant: NaN equals NaN.
     fn eq(&self, other: &Num) -> bool {
-        match self {
-            Num::Finite(x) => match other {
-                Num::Finite(y) => x.units() == y.units(),
-                _ => false,
-            },
-            Num::NaN => matches!(other, Num::NaN),
-            Num::PosInf => matches!(other, Num::PosInf),
-            Num::NegInf => matches!(other, Num::NegInf),
+        match (self, other) {
+            (Num::Finite(a), Num::Finite(b)) => a.units == b.units,
+            (Num::NaN, Num::NaN) => true,
+            (Num::PosInf, Num::PosInf) => true,
+            (Num::NegInf, Num::NegInf) => true,
+            _ => false,
         }
     }
 }
 
 impl Eq for Num {
-    ghost use Rattle.pr_num.specs.SameLaws.{same_num_equivalence};
+    ghost use Rattle.std.proofs.Common.{rules};
+    ghost use Rattle.std.specs.Cmp.Rules.{comparing};
 
-    ghost laws = { same_num_equivalence };
+    ghost laws = { Prim.search (comparing, rules) };
 }
 
+/// By variant, so that a stale mark equals itself.
 impl PartialEq for Point {
+    ghost use Rattle.std.proofs.Common.{rules};
+    ghost use Rattle.std.specs.Cmp.Rules.{comparing};
     ghost use Rattle.pr_num.specs.Same.{same_point};
-    ghost use Rattle.pr_num.specs.SameLaws.{same_point_partial};
 
     ghost eq = { same_point };
 
-    ghost laws = { same_point_partial };
+    ghost laws = { Prim.search (comparing, rules) };
 
     fn eq(&self, other: &Point) -> bool {
-        match self {
-            Point::Value(x) => match other {
-                Point::Value(y) => x == y,
-                Point::Stale => false,
-            },
-            Point::Stale => matches!(other, Point::Stale),
+        match (self, other) {
+            (Point::Value(a), Point::Value(b)) => a == b,
+            (Point::Stale, Point::Stale) => true,
+            _ => false,
         }
     }
 }
 
 impl Eq for Point {
-    ghost use Rattle.pr_num.specs.SameLaws.{same_point_equivalence};
+    ghost use Rattle.std.proofs.Common.{rules};
+    ghost use Rattle.std.specs.Cmp.Rules.{comparing};
 
-    ghost laws = { same_point_equivalence };
+    ghost laws = { Prim.search (comparing, rules) };
 }

@@ -15,7 +15,7 @@ use pr_outside::{Files, Keeper, Sink, SinkError, Source};
 use std::alloc::Global;
 
 const USAGE: &[u8] =
-    b"usage: promtool run [--store FILE] | test rules FILE... | check rules FILE... | check metrics | exercise N\n";
+    b"usage: promtool run [--store FILE] | test rules FILE... | check rules FILE... | check metrics | exercise N | backfill STORE START END STEP FILE...\n";
 
 #[tactic(auto, using(crate::proofs::RunWords::is_run_one, crate::proofs::RunWords::is_run_other))]
 fn is_run(words: &[String]) -> bool
