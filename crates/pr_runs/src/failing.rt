@@ -1,0 +1,54 @@
+// Runs whose reads or writes fail.
+use crate::runner::run_failing;
+use pr_top::Status;
+use std::test::Fail;
+
+const SCRIPT: &[u8] = b"add 0 m 1\nquery 299999 m\nquery 300000 m\nadd 1 m 2\nnonsense";
+
+const ANSWERS: &[u8] =
+    b"opened 0\nadded\nvector 1\nvalue m 1\nvector 0\nbackwards last 300000 given 1\nbad line 5\n";
+
+// A failed read ends the run: the first before any order, the second after the orders that came with the
+// first, but for the line that may go on.
+#[test]
+fn a_failed_read_ends_the_run(rt: HostRuntime) -> Result<(), Fail> {
+    let alloc = rt.alloc();
+    let (status, text) = run_failing(alloc, SCRIPT, &[1], &[])?;
+    assert_eq!(rt; status, Status::ReadFault);
+    assert_eq!(rt; text.as_slice(), b"opened 0\n".as_slice());
+    let (status, text) = run_failing(alloc, SCRIPT, &[2], &[])?;
+    assert_eq!(rt; status, Status::ReadFault);
+    assert_eq!(rt;
+        text.as_slice(),
+        b"opened 0\nadded\nvector 1\nvalue m 1\nvector 0\nbackwards last 300000 given 1\n".as_slice()
+    );
+    let (status, text) = run_failing(alloc, SCRIPT, &[3], &[])?;
+    assert_eq!(rt; status, Status::Problem);
+    assert_eq!(rt; text.as_slice(), ANSWERS);
+    Ok(())
+}
+
+// Each answer is one write. Where the write of a number fails, what was written are the answers before it.
+#[test]
+fn a_failed_write_ends_the_run(rt: HostRuntime) -> Result<(), Fail> {
+    let alloc = rt.alloc();
+    let fronts: [&[u8]; 6] = [
+        b"",
+        b"opened 0\n",
+        b"opened 0\nadded\n",
+        b"opened 0\nadded\nvector 1\nvalue m 1\n",
+        b"opened 0\nadded\nvector 1\nvalue m 1\nvector 0\n",
+        b"opened 0\nadded\nvector 1\nvalue m 1\nvector 0\nbackwards last 300000 given 1\n",
+    ];
+    let mut number = 0u64;
+    for front in fronts {
+        number = number.saturating_add(1);
+        let (status, text) = run_failing(alloc, SCRIPT, &[], &[number])?;
+        assert_eq!(rt; status, Status::WriteFault);
+        assert_eq!(rt; text.as_slice(), front);
+    }
+    let (status, text) = run_failing(alloc, SCRIPT, &[], &[7])?;
+    assert_eq!(rt; status, Status::Problem);
+    assert_eq!(rt; text.as_slice(), ANSWERS);
+    Ok(())
+}

@@ -1,0 +1,43 @@
+// Runs of the program over the forms in memory.
+use pr_outside::{MemSink, MemSource, SureFiles, SureKeeper, SureSink, SureSource};
+use pr_top::{Status, promtool};
+use std::alloc::{AllocError, Global};
+
+fn words_of(alloc: Global, words: &[&str]) -> Result<Vec<String>, AllocError> {
+    let mut owned = Vec::new(alloc);
+    for word in words {
+        owned.push(String::from_str(alloc, word)?)?;
+    }
+    Ok(owned)
+}
+
+/// The status of a run with these words over this input, and what it wrote.
+pub(crate) fn run(
+    alloc: Global,
+    words: &[&str],
+    script: &[u8],
+) -> Result<(Status, Vec<u8>), AllocError> {
+    let words = words_of(alloc, words)?;
+    let mut input = SureSource::new(script.to_vec(alloc)?);
+    let mut out = SureSink::new(alloc);
+    let mut files = SureFiles::new(Vec::new(alloc));
+    let mut keeper = SureKeeper::new(Vec::new(alloc));
+    let status = promtool(alloc, &words, &mut input, &mut files, &mut keeper, &mut out);
+    Ok((status, out.bytes().to_vec(alloc)?))
+}
+
+/// The same of the words `run`, where the reads and the writes of these numbers fail.
+pub(crate) fn run_failing(
+    alloc: Global,
+    script: &[u8],
+    reads: &[u64],
+    writes: &[u64],
+) -> Result<(Status, Vec<u8>), AllocError> {
+    let words = words_of(alloc, &["run"])?;
+    let mut input = MemSource::new(script.to_vec(alloc)?, reads.to_vec(alloc)?);
+    let mut out = MemSink::new(alloc, writes.to_vec(alloc)?);
+    let mut files = SureFiles::new(Vec::new(alloc));
+    let mut keeper = SureKeeper::new(Vec::new(alloc));
+    let status = promtool(alloc, &words, &mut input, &mut files, &mut keeper, &mut out);
+    Ok((status, out.bytes().to_vec(alloc)?))
+}
