@@ -1,8 +1,8 @@
 -- The name of a metric is ASCII, and so it is a text.
 use Rattle.std.proofs.Common.{◌≡◌, ℕ, ◌<◌, ◌&&◌, List, [], ◌∷◌, true, false, Bool, arith, All, sym}
 use Rattle.std.specs.Bool.{OnTrue}
-use Rattle.std.specs.List.{list_all, AllPass}
-use Rattle.std.specs.Str.{IsAscii, IsUtf8}
+use Rattle.std.specs.List.{list_all}
+use Rattle.std.specs.Str.{IsUtf8}
 use Rattle.std.proofs.lemmas.Str.{IsUtf8-from_ascii}
 use Rattle.std.proofs.lemmas.Str.Ascii.{IsAscii-from_all}
 use Rattle.std.proofs.lemmas.List.Sums.{AllPass-from_list_all}

@@ -1,5 +1,5 @@
 -- Lines, by their line feeds.
-use Rattle.std.proofs.Common.{◌≡◌, ℕ, Bool, true, false, not, cond, ◌&&◌, eqb, List, [], ◌∷◌, ◌++◌, refl, sym, ap, ◌∙◌}
+use Rattle.std.proofs.Common.{◌≡◌, ℕ, Bool, true, false, not, ◌&&◌, eqb, List, [], ◌∷◌, ◌++◌, refl}
 use Rattle.std.specs.List.{list_all, onto_first}
 use Rattle.pr_words.specs.Lines.{lines_of}
 use Rattle.pr_top.specs.Standing.{is_no_feed}

@@ -1,10 +1,9 @@
 -- How a run's writing may stop.
-use Rattle.std.proofs.Common.{◌≡◌, ℕ, ◌+◌, ◌<◌, ◌≤◌, List, [], ◌∷◌, ◌++◌, refl, sym, ap, ◌∙◌, subst, append_assoc, append-nil, length, length-append, zero, suc, take, take_all, arith, None, Some, IfSome}
+use Rattle.std.proofs.Common.{◌≡◌, ℕ, ◌+◌, ◌≤◌, List, [], ◌∷◌, ◌++◌, refl, sym, ap, ◌∙◌, subst, append-nil, length, length-append, zero, suc, take, take_all, arith}
 use Rattle.std.proofs.Math.Seq.{take-append-add}
 use Rattle.std.proofs.lemmas.List.{take-append-le}
 use Rattle.std.specs.declared.option.Option.{Option}
 use Rattle.std.specs.Io.KnownBytes.{Appends}
-use Rattle.pr_words.specs.Lines.{lines_of}
 use Rattle.pr_top.specs.Front.{IsFront}
 use Rattle.pr_top.specs.Printed.{opened_text}
 use Rattle.pr_top.specs.Told.{Progress, begun, answer, after, answers, progress_after, told_lines}

@@ -1,5 +1,5 @@
 -- Where a run stands, byte by byte.
-use Rattle.std.proofs.Common.{◌≡◌, ℕ, ◌+◌, Bool, true, false, true≢false, ◌==◌, suc, List, [], ◌∷◌, ◌++◌, refl, sym, ap, ◌∙◌, subst, append_assoc, append-nil, length, take, take_all, arith}
+use Rattle.std.proofs.Common.{◌≡◌, ℕ, true, false, true≢false, ◌==◌, suc, List, [], ◌∷◌, ◌++◌, refl, sym, ap, ◌∙◌, subst, append_assoc, append-nil, length, take, arith}
 use Rattle.std.specs.declared.option.Option.{Option}
 use Rattle.std.specs.List.{list_all}
 use Rattle.std.specs.Io.KnownBytes.{Appends}
@@ -7,7 +7,7 @@ use Rattle.pr_words.specs.Lines.{lines_of}
 use Rattle.pr_top.specs.Front.{IsFront}
 use Rattle.pr_top.specs.Printed.{opened_text}
 use Rattle.pr_top.specs.Standing.{is_no_feed, Stands, IsCut, HasTold}
-use Rattle.pr_top.specs.Told.{Progress, begun, answer, after, progress_after, told_lines, told, refuses}
+use Rattle.pr_top.specs.Told.{Progress, begun, answer, after, progress_after, told_lines}
 use Rattle.pr_top.proofs.Feeds.{lines_of-feed, lines_of-last, last_line, unended-append}
 use Rattle.pr_top.proofs.Fronts.{front_at, front_in}
 use Rattle.pr_top.proofs.Streams.{appends_on}

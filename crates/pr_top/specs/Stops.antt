@@ -1,5 +1,5 @@
 -- What stops a run, and when.
-use Rattle.std.specs.Prelude.{◌≡◌, ℕ, ◌^◌, ◌≤◌, ◌<◌, Bool, List, length, Result, Ok, Err, IfSome}
+use Rattle.std.specs.Prelude.{◌≡◌, ℕ, ◌^◌, ◌≤◌, ◌<◌, List, length, Result, Ok, Err, IfSome}
 use Rattle.std.specs.declared.option.Option.{Option}
 use Rattle.pr_outside.specs.Causes.{Rose}
 use Rattle.pr_outside.specs.declared.streams.SinkError.{SinkError}

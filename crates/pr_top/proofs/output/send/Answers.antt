@@ -1,4 +1,4 @@
-use Rattle.std.proofs.Common.{◌∙◌, length, length-drop, arith}
+use Rattle.std.proofs.Common.{◌∙◌, length-drop, arith}
 use Rattle.std.proofs.lemmas.List.{take_rest}
 use Rattle.pr_top.proofs.Streams.{appends_more}
 use Rattle.pr_top.proofs.output.send.Goals as goal

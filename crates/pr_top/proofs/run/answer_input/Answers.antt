@@ -1,8 +1,6 @@
-use Rattle.std.proofs.Common.{◌≡◌, ◌<◌, ◌≤◌, ◌∙◌, List, ℕ, [], length, take, subst, arith, Option, sym}
-use Rattle.std.specs.Io.KnownBytes.{Consumes, IsAtEnd}
-use Rattle.std.specs.Result.{OnOk}
-use Rattle.std.specs.Option.{IfSome}
-use Rattle.pr_top.specs.Standing.{Stands, HasTold}
+use Rattle.std.proofs.Common.{◌≡◌, ◌<◌, ◌∙◌, List, ℕ, [], length, take, subst, arith, sym}
+use Rattle.std.specs.Io.KnownBytes.{Consumes}
+use Rattle.pr_top.specs.Standing.{Stands}
 use Rattle.pr_top.proofs.Reading.{seen_more, seen_front, piece_front, end_told}
 use Rattle.pr_top.proofs.Results.{on_ok}
 use Rattle.pr_top.proofs.run.answer_input.Goals as goal

@@ -1,6 +1,5 @@
-use Rattle.std.proofs.Common.{◌≡◌, List, ℕ, Option, Result, subst, sym}
-use Rattle.std.proofs.lemmas.Result.{MatchResult-from_both, IfOk-weaker}
-use Rattle.pr_top.specs.Standing.{Stands, HasTold}
+use Rattle.std.proofs.Common.{subst, sym}
+use Rattle.pr_top.specs.Standing.{HasTold}
 use Rattle.pr_top.specs.Told.{Progress}
 use Rattle.pr_top.proofs.Stands.{told_empty, told_pending, front_pending, front_seen}
 use Rattle.pr_top.proofs.Results.{on_both}

@@ -1,5 +1,5 @@
-use Rattle.std.proofs.Common.{◌≡◌, ◌∙◌, ◌++◌, ◌∷◌, ◌+◌, [], List, ℕ, Option, subst, sym, ap}
-use Rattle.pr_top.specs.Standing.{Stands, IsCut}
+use Rattle.std.proofs.Common.{◌≡◌, ◌∙◌, ◌++◌, ◌∷◌, [], List, ℕ, subst, sym, ap}
+use Rattle.pr_top.specs.Standing.{Stands}
 use Rattle.pr_top.specs.Told.{Progress, after}
 use Rattle.pr_top.proofs.Stands.{line_ended, line_cut, part_cut}
 use Rattle.pr_top.proofs.Results.{on_err}

@@ -1,4 +1,4 @@
-use Rattle.std.proofs.Common.{◌≡◌, ◌++◌, ◌∙◌, ◌+◌, List, ℕ, take, subst, arith, length-drop, length}
+use Rattle.std.proofs.Common.{◌++◌, ◌∙◌, ◌+◌, List, ℕ, take, subst, arith, length-drop}
 use Rattle.std.proofs.lemmas.List.{take_rest}
 use Rattle.pr_top.specs.Standing.{Stands, IsCut}
 use Rattle.pr_top.proofs.Pieces.{next_line, cut_piece}
