@@ -12,7 +12,9 @@ pub const FILE_LIMIT: usize = 64 << 20;
 /// Why a file was not loaded.
 #[derive(Clone, Copy, Debug, PartialEq, Eq)]
 pub enum FilesError {
+    /// The outside refused, and the count of faults rose or stands at its end.
     Failed,
+    /// Memory ran out.
     Memory,
 }
 
@@ -40,7 +42,9 @@ pub enum Found {
 /// A file that is held in memory.
 #[derive(Debug, Drop)]
 pub struct HeldFile {
+    /// What it is loaded by.
     pub name: String,
+    /// What stands in it.
     pub bytes: Vec<u8>,
 }
 

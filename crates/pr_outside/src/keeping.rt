@@ -10,7 +10,9 @@ use std::alloc::AllocError;
 /// Why the keeper did not do what was asked.
 #[derive(Clone, Copy, Debug, PartialEq, Eq)]
 pub enum KeepError {
+    /// The outside refused, and the count of faults rose or stands at its end.
     Failed,
+    /// Memory ran out.
     Memory,
 }
 

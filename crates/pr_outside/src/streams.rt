@@ -14,7 +14,9 @@ pub struct Failed;
 /// Why a write was not made.
 #[derive(Clone, Copy, Debug, PartialEq, Eq)]
 pub enum SinkError {
+    /// The outside refused, and the count of faults rose or stands at its end.
     Failed,
+    /// Memory ran out.
     Memory,
 }
 

@@ -14,7 +14,7 @@ use super::{
 use std::alloc::{AllocError, Global};
 use std::marker::Model;
 
-/// A source of bytes in memory. Contracts see the bytes that are left.
+/// A source of bytes in memory that never fails. Contracts see the bytes that are left.
 #[derive(Debug, Drop)]
 pub struct SureSource {
     content: Vec<u8>,
@@ -32,6 +32,7 @@ impl Model for SureSource {
 }
 
 impl SureSource {
+    /// A source of these bytes.
     pub fn new(content: Vec<u8>) -> SureSource
         ensures { result ≡ content.items }
     {
@@ -71,7 +72,7 @@ impl Source for SureSource {
     }
 }
 
-/// A sink of bytes in memory. Contracts see the bytes that it took.
+/// A sink of bytes in memory that fails only for want of memory. Contracts see the bytes that it took.
 #[derive(Debug, Drop)]
 pub struct SureSink {
     taken: Vec<u8>,
@@ -86,6 +87,7 @@ impl Model for SureSink {
 }
 
 impl SureSink {
+    /// An empty sink.
     pub fn new(alloc: Global) -> SureSink
         ensures { result ≡ [] }
     {
@@ -121,7 +123,8 @@ impl Sink for SureSink {
     }
 }
 
-/// Files in memory: of two of one name the first counts. Contracts see their names and their bytes.
+/// Files in memory whose loads fail only for want of memory. Of two of one name the first counts. Contracts
+/// see the names and the bytes of the files.
 #[derive(Debug, Drop)]
 pub struct SureFiles {
     content: Vec<HeldFile>,
@@ -137,6 +140,7 @@ impl Model for SureFiles {
 }
 
 impl SureFiles {
+    /// These files.
     pub fn new(content: Vec<HeldFile>) -> SureFiles
         ensures { result ≡ files_of content.items }
     {
@@ -187,7 +191,7 @@ impl Files for SureFiles {
     }
 }
 
-/// Rows in memory. Contracts see them in order.
+/// Rows in memory whose calls fail only for want of memory. Contracts see the rows in order.
 #[derive(Debug, Drop)]
 pub struct SureKeeper {
     rows: Vec<Row>,
@@ -203,6 +207,7 @@ impl Model for SureKeeper {
 }
 
 impl SureKeeper {
+    /// These rows.
     pub fn new(rows: Vec<Row>) -> SureKeeper
         ensures { result ≡ rows.items }
     {
