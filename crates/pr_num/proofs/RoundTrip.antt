@@ -1,5 +1,5 @@
 -- A printed value is read again.
-use Rattle.std.proofs.Common.{◌≡◌, ℕ, zero, suc, ◌+◌, ◌*◌, ◌/◌, ◌%◌, ◌^◌, ◌<◌, ◌≤◌, List, [], ◌∷◌, ◌++◌, length, sym, ◌∙◌, ap, refl, subst, arith, nat_lt, nat_eq, true, false, Bool, inl, inr, Ok, pos, negsuc, add-zero, lit<, lit≤, codes, decimal, unsigned_abs, Some}
+use Rattle.std.proofs.Common.{◌≡◌, ℕ, zero, suc, ◌+◌, ◌*◌, ◌/◌, ◌%◌, ◌^◌, ◌<◌, ◌≤◌, List, [], ◌∷◌, ◌++◌, length, sym, ◌∙◌, ap, refl, subst, arith, nat_lt, nat_eq, true, false, Bool, inl, inr, Ok, pos, negsuc, add-zero, lit<, lit≤, codes, decimal, Some}
 use mathlib.Core.Bool.{◌&&◌}
 use Rattle.std.specs.List.{prefix_len, list_all}
 use Rattle.std.specs.Int.{IsInRange}

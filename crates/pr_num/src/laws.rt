@@ -1,6 +1,6 @@
 //! Laws of the definitions that contracts of this crate cite. A law is a function that does nothing,
 //! and its contract is the theorem.
-ghost use Rattle.std.specs.Prelude.{◌≡◌, ◌≢◌, ◌<◌, ◌++◌, ◌↔◌, ℤ, List, IfSome, unsigned_abs};
+ghost use Rattle.std.specs.Prelude.{◌≡◌, ◌≢◌, ◌<◌, ◌∷◌, ◌++◌, ◌↔◌, ℤ, List, [], IfSome, unsigned_abs};
 ghost use Rattle.std.specs.Cmp.{IsTotalOrder};
 ghost use Rattle.std.specs.declared.cmp.Ordering.{Ordering};
 ghost use Rattle.pr_num.specs.Arithmetic.{IsFit, product_of, sum_of};
@@ -9,7 +9,7 @@ ghost use Rattle.pr_num.specs.Multiples.{IsFloor, floor_quotient};
 ghost use Rattle.pr_num.specs.Order.{compared, order_of};
 ghost use Rattle.pr_num.specs.Reads.{reads};
 ghost use Rattle.pr_num.specs.Shown.{shown};
-ghost use Rattle.pr_num.specs.Total.{Tally, joined, no_values, total_of};
+ghost use Rattle.pr_num.specs.Total.{Tally, joined, no_values, one_value, total_of};
 ghost use Rattle.pr_num.specs.declared.value.Num.{Num};
 
 /// The printed text of every value reads as that value.
@@ -55,6 +55,7 @@ pub fn order_is_total()
 #[tactic(auto, using(crate::proofs::Algebra::joined_lists, crate::proofs::Algebra::joined_groups, crate::proofs::Algebra::nothing_joined_left, crate::proofs::Algebra::nothing_joined_right))]
 pub fn totals_join()
     ensures lists { (xs ys : List Num) → total_of (xs ++ ys) ≡ joined (total_of xs) (total_of ys) }
+    ensures one { (v : Num) → total_of (v ∷ []) ≡ one_value v }
     ensures groups { (a b c : Tally) → joined (joined a b) c ≡ joined a (joined b c) }
     ensures unit { (a : Tally) → (joined no_values a ≡ a) × (joined a no_values ≡ a) }
 {}

@@ -35,7 +35,7 @@ fn put_fraction(out: &mut [u8; 40], start: usize, units: u32) -> usize
     let mut at = start;
     let mut left = units;
     let mut places: u32 = 9;
-    while left != 0 {
+    'digits: while left != 0 {
         places -= 1;
         let place = 10u32.pow(places);
         at = put_byte(out, at, b'0' + (left / place) as u8);

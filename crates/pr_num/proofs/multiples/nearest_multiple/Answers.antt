@@ -1,4 +1,4 @@
-use Rattle.std.proofs.Common.{arith, rules, ◌≡◌, FitsSigned, ℕ, ℤ, ◌*ℤ◌, ◌+ℤ◌, pos, ◌<◌, ◌≤◌, ◌*◌, ◌+◌, unsigned_abs, ap, sym, ◌∙◌}
+use Rattle.std.proofs.Common.{arith, rules, ◌≡◌, FitsSigned, ℕ, ℤ, ◌*ℤ◌, ◌+ℤ◌, pos, ◌≤◌, ◌*◌, ◌+◌, unsigned_abs, ap, ◌∙◌}
 use Rattle.std.specs.Int.{w128}
 use Rattle.std.proofs.lemmas.Int.{to_z-of_z, ints}
 use Rattle.pr_num.specs.Arithmetic.{fitted}
