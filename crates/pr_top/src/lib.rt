@@ -2,6 +2,7 @@
 #![tactic(auto)]
 
 mod engine;
+mod examples;
 mod history;
 mod keywords;
 mod output;
@@ -12,5 +13,6 @@ mod status;
 mod texts;
 mod top;
 
+pub use examples::a_value_is_told_for_five_minutes;
 pub use status::Status;
 pub use top::promtool;
