@@ -1,0 +1,4 @@
+pub mod Form
+pub mod Table
+pub mod Run
+pub mod Reader
