@@ -320,7 +320,7 @@ module _ {T N V : Type 0} (G : N → Form T N V) (S : Table T N) (known : IsDeci
 
 module _ {T N V : Type 0} {G : N → Form T N V} {S : Table T N} where
   -- nothing is put before what is left
-  shrinks : {f : Form T N V} {ts : List T} {o : Outcome T V} → Runs G S f ts o → Within (left_of o) ts
+  pub shrinks : {f : Form T N V} {ts : List T} {o : Outcome T V} → Runs G S f ts o → Within (left_of o) ts
   shrinks (run_token e) = within_step
   shrinks (run_other e) = within_all
   shrinks run_end = within_all

@@ -8,3 +8,4 @@ pub mod Frames
 pub mod Parts
 pub mod Steps
 pub mod Ways
+pub mod Public

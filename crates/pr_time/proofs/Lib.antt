@@ -1,0 +1,4 @@
+pub mod SpanTable
+pub mod SpanUnits
+pub mod SpanReading
+pub mod SpanPublic
