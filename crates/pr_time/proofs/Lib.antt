@@ -2,3 +2,4 @@ pub mod SpanTable
 pub mod SpanUnits
 pub mod SpanReading
 pub mod SpanPublic
+pub mod SpanPrint

@@ -21,6 +21,7 @@ fn put_part(out: &mut [u8; 40], at: usize, number: u64, unit: &[u8]) -> usize
     requires room { at + 7 ≤ 40 }
     requires small { number < 10 ^ 5 }
     requires short { length unit.now ≤ 2 }
+    ensures from { at ≤ result }
     ensures at { result ≤ at + 7 }
     ensures text { take result out.new ≡ take at out.old ++ part_text number unit.now }
     ensures rest { drop result out.new ≡ drop result out.old }
