@@ -9,3 +9,4 @@ pub mod Parts
 pub mod Steps
 pub mod Ways
 pub mod Public
+pub mod Longer

@@ -3,3 +3,4 @@ pub mod SpanUnits
 pub mod SpanReading
 pub mod SpanPublic
 pub mod SpanPrint
+pub mod SpanRead

@@ -1,15 +1,14 @@
 //! Times and spans in whole milliseconds, and the texts of spans.
 #![tactic(auto)]
 
+pub mod laws;
 mod print;
 mod text;
 mod value;
 
+#[cfg(test)]
+mod tests;
+
 pub use print::write_span;
 pub use text::{SpanFault, read_span};
 pub use value::{Ms, Span};
-
-ghost use Rattle.pr_forms.specs.Table.{IsDecided};
-ghost use Rattle.pr_time.specs.SpanText.{production, table};
-
-pub fn decided() ensures { IsDecided production table } {}
