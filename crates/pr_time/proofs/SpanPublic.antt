@@ -15,7 +15,7 @@ use Rattle.pr_time.proofs.SpanTable.{known}
 
 -- the span, where it is not too long
 limited : (o : Option ℕ) (ms exact : ℕ) (r : Result ℕ SpanFault) → SomeIff o (ms ≤ 2 ^ 40) ms → r ≡ ok_or o SpanTooLong → ms ≡ kept exact →
-  MatchResult r (λ s. s ≡ exact) (λ e. (e ≡ SpanTooLong) × (2 ^ 40 < exact))
+    MatchResult r (λ s. s ≡ exact) (λ e. (e ≡ SpanTooLong) × (2 ^ 40 < exact))
 limited None ms exact r h e k = rw e (refl, above (cases_lt (2 ^ 40) ms))
   where
     above : (2 ^ 40 < ms) ⊎ (ms ≤ 2 ^ 40) → 2 ^ 40 < exact
@@ -32,18 +32,18 @@ span_same v exact s h k = sym h ∙ ap span (sym k)
 module _ (text rest : List ℕ) (ms : ℕ) (m : Measures (rule Text) (seen text) ms (seen rest)) where
   pub ok_span : (o : Option ℕ) (r : Result ℕ SpanFault) → length rest ≡ 0 → SomeIff o (ms ≤ 2 ^ 40) ms → r ≡ ok_or o SpanTooLong → IfOk r (ReadsSpan text)
   ok_span o r none h e = MatchResult-weaker r (limited o ms m.exact r h e m.is_kept)
-    (λ s k. subst (λ x. ReadsSpan text x) (sym k) (read_whole letter_of production table known Text text rest (span m.exact) m.gives none)) (λ x k. tt)
+      (λ s k. subst (λ x. ReadsSpan text x) (sym k) (read_whole letter_of production table known Text text rest (span m.exact) m.gives none)) (λ x k. tt)
 
   pub ok_only : (o : Option ℕ) (r : Result ℕ SpanFault) → SomeIff o (ms ≤ 2 ^ 40) ms → r ≡ ok_or o SpanTooLong →
-    (v : Value) → Reads production (rule Text) (seen text) v [] → MatchResult r (λ s. v ≡ span s) (IsTooLong v)
+      (v : Value) → Reads production (rule Text) (seen text) v [] → MatchResult r (λ s. v ≡ span s) (IsTooLong v)
   ok_only o r h e v d = let is = only_value letter_of production table known Text text rest (span m.exact) v m.gives d in
-    MatchResult-weaker r (limited o ms m.exact r h e m.is_kept) (λ s k. span_same v m.exact s is k) (λ x k. too_long v m.exact x is k)
+      MatchResult-weaker r (limited o ms m.exact r h e m.is_kept) (λ s k. span_same v m.exact s is k) (λ x k. too_long v m.exact x is k)
 
   pub ok_place : (o : Option ℕ) (r : Result ℕ SpanFault) → length rest ≡ 0 → SomeIff o (ms ≤ 2 ^ 40) ms → r ≡ ok_or o SpanTooLong →
-    MatchResult r (λ s. IsBadPlace text (length text)) (Refuses text)
+      MatchResult r (λ s. IsBadPlace text (length text)) (Refuses text)
   ok_place o r none h e = MatchResult-weaker r (limited o ms m.exact r h e m.is_kept)
-    (λ s k. end_place letter_of production table known Text text rest (span m.exact) m.gives none)
-    (λ x k. subst (λ y. Refuses text y) (sym k.0) (m.exact, read_whole letter_of production table known Text text rest (span m.exact) m.gives none, k.1))
+      (λ s k. end_place letter_of production table known Text text rest (span m.exact) m.gives none)
+      (λ x k. subst (λ y. Refuses text y) (sym k.0) (m.exact, read_whole letter_of production table known Text text rest (span m.exact) m.gives none, k.1))
 
   pub some_left : (v : Value) (b : Bool) (place : ℕ) → b ≡ (length rest == 0) → b ≡ false → Reads production (rule Text) (seen text) v [] → IsTooLong v (BadSpan place)
   some_left v b place e h d = absurd (not_whole letter_of production table known Text text rest (span m.exact) v b m.gives e h d)

@@ -34,8 +34,10 @@ more_digits n ds h before pos rest =
     let first = before (omega arith) (Digit (n % 10) ∷ rest) in
     let is : n / 10 * 10 + n % 10 ≡ n = omega arith in
     let last : seen (ds ++ (48 + n % 10) ∷ []) ++ rest ≡ seen ds ++ (Digit (n % 10) ∷ rest) = last_letter ds (48 + n % 10) rest ∙ ap (λ t. seen ds ++ (t ∷ rest)) letter in
-    rw last (subst (λ k. Reads production (fold shifted (token other_digit_at) digit) (seen ds ++ (Digit (n % 10) ∷ rest)) (count k) rest) is (fold_longer first.0 (is_token refl)),
-      subst (λ k. Reads production (fold shifted digit digit) (seen ds ++ (Digit (n % 10) ∷ rest)) (count k) rest) is (fold_longer first.1 (is_token refl)))
+    rw last (
+      subst (λ k. Reads production (fold shifted (token other_digit_at) digit) (seen ds ++ (Digit (n % 10) ∷ rest)) (count k) rest) is (fold_longer first.0 (is_token refl)),
+      subst (λ k. Reads production (fold shifted digit digit) (seen ds ++ (Digit (n % 10) ∷ rest)) (count k) rest) is (fold_longer first.1 (is_token refl)),
+    )
 
 pub digits_read : (n : ℕ) → n < 2 ^ 64 → DigitsRead n (decimal n)
 digits_read n h = decimal_by_steps DigitsRead one_digit more_digits n h
@@ -69,10 +71,10 @@ s_second : (ts : List Letter) (ms : ℕ) → AfterReads Second ts ms → FromRea
 s_second ts ms d = is_rule (is_left (is_pair (is_token refl) d))
 
 ms_minute : FromReads Minute (M ∷ S ∷ []) 1 0
-ms_minute = is_rule (is_left (is_pair (is_token refl) (is_rule (is_left (is_pair (is_token refl) (is_rule is_nothing))))))
+ms_minute = is_rule (is_left (is_pair (is_token refl) (is_rule (is_left (is_pair (is_token refl) (is_rule (is_right is_nothing)))))))
 
 ms_millisecond : FromReads Millisecond (M ∷ S ∷ []) 1 0
-ms_millisecond = is_rule (is_pair (is_token refl) (is_pair (is_token refl) (is_rule is_nothing)))
+ms_millisecond = is_rule (is_pair (is_token refl) (is_pair (is_token refl) (is_rule (is_right is_nothing))))
 
 ms_second : FromReads Second (M ∷ S ∷ []) 1 0
 ms_second = is_rule (is_right ms_millisecond)
@@ -88,7 +90,8 @@ TextReads ts ms = 0 < ms → Reads production (rule Text) ts (span ms) []
 first : Position Year TextReads
 first = record {
   base = λ h. absurd (omega arith);
-  step = λ n s v ts pos small d h. is_rule (is_right (is_pair (digits_read n small pos ts).0 d)) }
+  step = λ n s v ts pos small d h. is_rule (is_right (is_pair (digits_read n small pos ts).0 d));
+}
 
 after_day : Position Hour (AfterReads Day)
 after_day = record { base = is_rule (is_right is_nothing); step = λ n s v ts pos small d. is_rule (is_left (is_pair (digits_read n small pos ts).1 d)) }
@@ -126,7 +129,7 @@ part_none n u e = ap (λ k. part_text k u) e
 
 -- one part and what follows it: nothing where its number is 0
 joined : {least : TimeUnit} {R : List Letter → ℕ → Type 0} → Position least R → (n s v : ℕ) (u text : List ℕ) → n < 2 ^ 64 → FromReads least (seen (u ++ text)) s v → R (seen text) v →
-  R (seen (part_text n u ++ text)) (n * s + v)
+    R (seen (part_text n u ++ text)) (n * s + v)
 joined {R = R} p n s v u text small d r = elim (cases_lt 0 n) [ inl pos ↦ some pos | inr none ↦ zero_part (omega arith) ]
   where
     flat : seen (decimal n ++ u ++ text) ≡ seen (decimal n) ++ seen (u ++ text)
@@ -145,25 +148,25 @@ read_ms : {least : TimeUnit} {R : List Letter → ℕ → Type 0} → Position l
 read_ms {R = R} p d k small = subst (λ x. R (seen (ms_text k)) x) (omega arith) (subst (λ x. R (seen x) (k * 1 + 0)) (append-nil (ms_text k)) (joined p k 1 0 (codes "ms") [] small d p.base))
 
 read_s : {least : TimeUnit} {R : List Letter → ℕ → Type 0} → Position least R → FromReads least (M ∷ S ∷ []) 1 0 → ((ts : List Letter) (ms : ℕ) → AfterReads Second ts ms → FromReads least (S ∷ ts) 1000 ms) →
-  (n k : ℕ) → n < 2 ^ 64 → k < 2 ^ 64 → R (seen (s_text n k)) (n * 1000 + k)
+    (n k : ℕ) → n < 2 ^ 64 → k < 2 ^ 64 → R (seen (s_text n k)) (n * 1000 + k)
 read_s p ms s n k small_n small = joined p n 1000 k (codes "s") (ms_text k) small_n (s _ k (read_ms after_second ms_millisecond k small)) (read_ms p ms k small)
 
 read_m : {least : TimeUnit} {R : List Letter → ℕ → Type 0} → Position least R → FromReads least (M ∷ S ∷ []) 1 0 → ((ts : List Letter) (ms : ℕ) → AfterReads Second ts ms → FromReads least (S ∷ ts) 1000 ms) →
-  ((ts : List Letter) (ms : ℕ) → AfterReads Minute ts ms → FromReads least (M ∷ ts) 60000 ms) →
-  (m n k : ℕ) → m < 2 ^ 64 → n < 2 ^ 64 → k < 2 ^ 64 → R (seen (m_text m n k)) (m * 60000 + (n * 1000 + k))
+    ((ts : List Letter) (ms : ℕ) → AfterReads Minute ts ms → FromReads least (M ∷ ts) 60000 ms) →
+    (m n k : ℕ) → m < 2 ^ 64 → n < 2 ^ 64 → k < 2 ^ 64 → R (seen (m_text m n k)) (m * 60000 + (n * 1000 + k))
 read_m p ms s mi m n k small_m small_n small = joined p m 60000 (n * 1000 + k) (codes "m") (s_text n k) small_m (mi _ _ (read_s after_minute ms_second s_second n k small_n small)) (read_s p ms s n k small_n small)
 
 read_h : {least : TimeUnit} {R : List Letter → ℕ → Type 0} → Position least R → FromReads least (M ∷ S ∷ []) 1 0 → ((ts : List Letter) (ms : ℕ) → AfterReads Second ts ms → FromReads least (S ∷ ts) 1000 ms) →
-  ((ts : List Letter) (ms : ℕ) → AfterReads Minute ts ms → FromReads least (M ∷ ts) 60000 ms) → ((ts : List Letter) (ms : ℕ) → AfterReads Hour ts ms → FromReads least (H ∷ ts) 3600000 ms) →
-  (h m n k : ℕ) → h < 2 ^ 64 → m < 2 ^ 64 → n < 2 ^ 64 → k < 2 ^ 64 → R (seen (h_text h m n k)) (h * 3600000 + (m * 60000 + (n * 1000 + k)))
+    ((ts : List Letter) (ms : ℕ) → AfterReads Minute ts ms → FromReads least (M ∷ ts) 60000 ms) → ((ts : List Letter) (ms : ℕ) → AfterReads Hour ts ms → FromReads least (H ∷ ts) 3600000 ms) →
+    (h m n k : ℕ) → h < 2 ^ 64 → m < 2 ^ 64 → n < 2 ^ 64 → k < 2 ^ 64 → R (seen (h_text h m n k)) (h * 3600000 + (m * 60000 + (n * 1000 + k)))
 read_h p ms s mi hr h m n k small_h small_m small_n small = joined p h 3600000 (m * 60000 + (n * 1000 + k)) (codes "h") (m_text m n k) small_h
-  (hr _ _ (read_m after_hour ms_minute s_minute m_minute m n k small_m small_n small)) (read_m p ms s mi m n k small_m small_n small)
+    (hr _ _ (read_m after_hour ms_minute s_minute m_minute m n k small_m small_n small)) (read_m p ms s mi m n k small_m small_n small)
 
 read_d : (d h m n k : ℕ) → d < 2 ^ 64 → h < 2 ^ 64 → m < 2 ^ 64 → n < 2 ^ 64 → k < 2 ^ 64 →
-  TextReads (seen (part_text d (codes "d") ++ h_text h m n k)) (d * 86400000 + (h * 3600000 + (m * 60000 + (n * 1000 + k))))
+    TextReads (seen (part_text d (codes "d") ++ h_text h m n k)) (d * 86400000 + (h * 3600000 + (m * 60000 + (n * 1000 + k))))
 read_d d h m n k small_d small_h small_m small_n small = joined first d 86400000 (h * 3600000 + (m * 60000 + (n * 1000 + k))) (codes "d") (h_text h m n k) small_d
-  (d_year _ _ (read_h after_day (minute_hour ms_minute) (λ ts ms x. minute_hour (s_minute ts ms x)) (λ ts ms x. minute_hour (m_minute ts ms x)) h_hour h m n k small_h small_m small_n small))
-  (read_h first (hour_year (minute_hour ms_minute)) (λ ts ms x. hour_year (minute_hour (s_minute ts ms x))) (λ ts ms x. hour_year (minute_hour (m_minute ts ms x))) (λ ts ms x. hour_year (h_hour ts ms x)) h m n k small_h small_m small_n small)
+    (d_year _ _ (read_h after_day (minute_hour ms_minute) (λ ts ms x. minute_hour (s_minute ts ms x)) (λ ts ms x. minute_hour (m_minute ts ms x)) h_hour h m n k small_h small_m small_n small))
+    (read_h first (hour_year (minute_hour ms_minute)) (λ ts ms x. hour_year (minute_hour (s_minute ts ms x))) (λ ts ms x. hour_year (minute_hour (m_minute ts ms x))) (λ ts ms x. hour_year (h_hour ts ms x)) h m n k small_h small_m small_n small)
 
 -- the parts make the whole
 minutes_of : (ms : ℕ) → ms % 60000 / 1000 * 1000 + ms % 1000 ≡ ms % 60000
@@ -189,7 +192,7 @@ shown_reads ms limit = elim (cases_lt 0 ms) [ inl pos ↦ some pos | inr none �
 
     parts_read : 0 < ms → ReadsSpan (parts_text ms) ms
     parts_read pos = subst (λ n. ReadsSpan (parts_text ms) n) (whole_of ms)
-      (subst (λ text. ReadsSpan text (ms / 86400000 * 86400000 + (ms % 86400000 / 3600000 * 3600000 + (ms % 3600000 / 60000 * 60000 + (ms % 60000 / 1000 * 1000 + ms % 1000)))))
+        (subst (λ text. ReadsSpan text (ms / 86400000 * 86400000 + (ms % 86400000 / 3600000 * 3600000 + (ms % 3600000 / 60000 * 60000 + (ms % 60000 / 1000 * 1000 + ms % 1000)))))
         (sym (nested (part_text (ms / 86400000) (codes "d")) (part_text (ms % 86400000 / 3600000) (codes "h")) (part_text (ms % 3600000 / 60000) (codes "m")) (part_text (ms % 60000 / 1000) (codes "s")) (part_text (ms % 1000) (codes "ms"))))
         (read_d (ms / 86400000) (ms % 86400000 / 3600000) (ms % 3600000 / 60000) (ms % 60000 / 1000) (ms % 1000) (omega arith) (omega arith) (omega arith) (omega arith) (omega arith) (omega (arith, whole_of ms))))
 

@@ -13,7 +13,7 @@ use Rattle.pr_time.specs.declared.text.Letter.{Letter}
 use Rattle.pr_time.specs.declared.text.Letter.TheVariants.{Digit, Y, W, D, H, M, S, Other}
 use Rattle.pr_time.specs.declared.text.Unit.{Unit as TimeUnit}
 use Rattle.pr_time.specs.declared.text.Unit.TheVariants.{Year, Week, Day, Hour, Minute, Second, Millisecond}
-use Rattle.pr_time.specs.SpanText.{production, table, Rule, Text, AfterZero, After, From, AfterM, Value, count, scaled, span, mark, digit, digit_at, zero_at, other_digit_at, unit, unit_at, ms_of, shifted, times, followed, second_of, amount, smaller, seen}
+use Rattle.pr_time.specs.SpanText.{production, table, Rule, Text, AfterZero, After, From, AfterM, Value, count, scaled, span, mark, digit, digit_at, zero_at, other_digit_at, unit, unit_at, ms_of, shifted, times, followed, second_of, amount, smaller, below, NoUnit, seen}
 use Rattle.pr_time.specs.SpanReader.{Gives, Takes, Lacks, Digits, Counts, Measures, Enters, Going, kept, starts_amount}
 
 pub no_digit : (t : Letter) → ((n : ℕ) → t ≡ Digit n → ⊥) → digit_at t ≡ None
@@ -32,7 +32,7 @@ more_kept : (m number d next : ℕ) → number ≡ kept m → next ≡ min (numb
 more_kept m number d next e h = omega (arith, e, h)
 
 pub one_more : (f : Form Letter Rule Value) (ts rest after : List Letter) (number d next : ℕ) → Going f ts number rest → Takes digit rest (count d) after →
-  next ≡ min (number * 10 + d) (2 ^ 40 + 1) → Going f ts next after
+    next ≡ min (number * 10 + d) (2 ^ 40 + 1) → Going f ts next after
 one_more f ts rest after number d next g x e = record { exact = g.exact * 10 + d; leads = token_goes_on g.leads x; is_kept = more_kept g.exact number d next g.is_kept e }
 
 pub no_more : (f : Form Letter Rule Value) (ts rest : List Letter) (number : ℕ) → Going f ts number rest → Lacks digit rest → Counts f ts number rest
@@ -48,25 +48,27 @@ unit_above u = lit< tt
 -- the milliseconds of a part and those after it
 part_kept : (a b s number more ms : ℕ) → 0 < s → number ≡ kept a → more ≡ kept b → ms ≡ min (min (min (number * s) (2 ^ 64 - 1) + more) (2 ^ 64 - 1)) (2 ^ 40 + 1) → ms ≡ kept (a * s + b)
 part_kept a b s number more ms pos e h k = elim (cases_lt a (2 ^ 40 + 2)) [
-    inl small ↦ (let same : number ≡ a = omega (arith, e) in let is : number * s ≡ a * s = ap (λ x. x * s) same in omega (arith, h, k, is))
+  | inl small ↦ (let same : number ≡ a = omega (arith, e) in let is : number * s ≡ a * s = ap (λ x. x * s) same in omega (arith, h, k, is))
   | inr large ↦ (let top : number ≡ 2 ^ 40 + 1 = omega (arith, e) in
       let is : number * s ≡ (2 ^ 40 + 1) * s = ap (λ x. x * s) top in
       let one : (2 ^ 40 + 1) * 1 ≤ (2 ^ 40 + 1) * s = mul-le-mul_left (2 ^ 40 + 1) pos in
-      let two : (2 ^ 40 + 1) * s ≤ a * s = mul-le-mul_right s (omega arith) in omega (arith, h, k, is, one, two)) ]
+      let two : (2 ^ 40 + 1) * s ≤ a * s = mul-le-mul_right s (omega arith) in omega (arith, h, k, is, one, two))
+]
 
 pub amount_reads : (f : Form Letter Rule Value) (ts mid after rest : List Letter) (least u : TimeUnit) (number more ms : ℕ) → Counts f ts number mid → Enters least mid u after →
-  Measures (rule (After u)) after more rest → ms ≡ min (min (min (number * ms_of u) (2 ^ 64 - 1) + more) (2 ^ 64 - 1)) (2 ^ 40 + 1) → Measures (amount f least) ts ms rest
+    Measures (rule (After u)) after more rest → ms ≡ min (min (min (number * ms_of u) (2 ^ 64 - 1) + more) (2 ^ 64 - 1)) (2 ^ 40 + 1) → Measures (amount f (From least)) ts ms rest
 amount_reads f ts mid after rest least u number more ms x y z e = record {
   exact = x.exact * ms_of u + z.exact;
   gives = run_pair x.gives (y.reads z.exact rest z.gives);
-  is_kept = part_kept x.exact z.exact (ms_of u) number more ms (unit_above u) x.is_kept z.is_kept e }
+  is_kept = part_kept x.exact z.exact (ms_of u) number more ms (unit_above u) x.is_kept z.is_kept e;
+}
 
 pub amount_no_unit : (f : Form Letter Rule Value) (ts mid rest : List Letter) (least : TimeUnit) (number : ℕ) → Counts f ts number mid → Gives (rule (From least)) mid (bad rest) →
-  Gives (amount f least) ts (bad rest)
+    Gives (amount f (From least)) ts (bad rest)
 amount_no_unit f ts mid rest least number x h = run_second x.gives h
 
 pub amount_bad_part : (f : Form Letter Rule Value) (ts mid after rest : List Letter) (least u : TimeUnit) (number : ℕ) → Counts f ts number mid → Enters least mid u after →
-  Gives (rule (After u)) after (bad rest) → Gives (amount f least) ts (bad rest)
+    Gives (rule (After u)) after (bad rest) → Gives (amount f (From least)) ts (bad rest)
 amount_bad_part f ts mid after rest least u number x y h = run_second x.gives (y.fails rest h)
 
 pub exit : {X E : Type 0} (P : X → Type 0) (Q : E → Type 0) (r : Result X E) (e : E) → IsErrAnd r (λ y. y ≡ e) → Q e → MatchResult r P Q
@@ -74,35 +76,41 @@ exit P Q (Ok x) e h k = absurd h
 exit P Q (Err y) e h k = subst Q (sym h) k
 
 -- the parts after a unit
-pub last_part : (ts : List Letter) → Measures (rule (After Millisecond)) ts 0 ts
-last_part ts = record { exact = 0; gives = run_rule run_nothing; is_kept = refl }
+below_is : (u : TimeUnit) → (u ≡ Millisecond → ⊥) → below u ≡ From (smaller u)
+below_is Millisecond other = absurd (other refl)
+below_is Year other = refl
+below_is u other = refl
 
-after_is : (u : TimeUnit) → (u ≡ Millisecond → ⊥) → production (After u) ≡ either (amount (fold shifted digit digit) (smaller u)) (nothing (span 0))
-after_is Millisecond other = absurd (other refl)
-after_is Year other = refl
-after_is u other = refl
-
-starts_part : (u : TimeUnit) (ts : List Letter) (b : Bool) → is_next table digit ts ≡ b → is_next table (amount (fold shifted digit digit) u) ts ≡ b
-starts_part u ts b h = next_pair table times (fold shifted digit digit) (rule (From u)) ts b refl (next_fold table shifted digit digit ts b refl h)
+starts_part : (n : Rule) (ts : List Letter) (b : Bool) → is_next table digit ts ≡ b → is_next table (amount (fold shifted digit digit) n) ts ≡ b
+starts_part n ts b h = next_pair table times (fold shifted digit digit) (rule n) ts b refl (next_fold table shifted digit digit ts b refl h)
 
 pub first_digit : (ts rest : List Letter) (n : ℕ) → Takes digit ts (count n) rest → Digits (fold shifted digit digit) ts n rest
 first_digit ts rest n x = record { gives = λ o h. run_fold x.gives h }
 
-pub no_part : (u : TimeUnit) (ts : List Letter) → (u ≡ Millisecond → ⊥) → Lacks digit ts → Measures (rule (After u)) ts 0 ts
-no_part u ts other l = record { exact = 0; gives = run_rule (subst (λ x. Gives x ts (good (span 0) ts)) (sym (after_is u other)) (run_right (starts_part (smaller u) ts false l.next) run_nothing)); is_kept = refl }
+pub no_part : (u : TimeUnit) (ts : List Letter) → Lacks digit ts → Measures (rule (After u)) ts 0 ts
+no_part u ts l = record { exact = 0; gives = run_rule (run_right (starts_part (below u) ts false l.next) run_nothing); is_kept = refl }
 
 pub one_part : (u v : TimeUnit) (ts mid rest : List Letter) (n ms : ℕ) → (u ≡ Millisecond → ⊥) → v ≡ smaller u → Takes digit ts (count n) mid →
-  Measures (amount (fold shifted digit digit) v) ts ms rest → Measures (rule (After u)) ts ms rest
+    Measures (amount (fold shifted digit digit) (From v)) ts ms rest → Measures (rule (After u)) ts ms rest
 one_part u v ts mid rest n ms other e x m = record {
   exact = m.exact;
-  gives = run_rule (subst (λ x. Gives x ts (good (span m.exact) rest)) (sym (after_is u other)) (run_left (starts_part (smaller u) ts true x.next)
-    (subst (λ w. Gives (amount (fold shifted digit digit) w) ts (good (span m.exact) rest)) e m.gives)));
-  is_kept = m.is_kept }
+  gives = run_rule (run_left (starts_part (below u) ts true x.next)
+      (subst (λ w. Gives (amount (fold shifted digit digit) w) ts (good (span m.exact) rest)) (ap From e ∙ sym (below_is u other)) m.gives));
+  is_kept = m.is_kept;
+}
 
 pub bad_part : (u v : TimeUnit) (ts mid rest : List Letter) (n : ℕ) → (u ≡ Millisecond → ⊥) → v ≡ smaller u → Takes digit ts (count n) mid →
-  Gives (amount (fold shifted digit digit) v) ts (bad rest) → Gives (rule (After u)) ts (bad rest)
-bad_part u v ts mid rest n other e x m = run_rule (subst (λ x. Gives x ts (bad rest)) (sym (after_is u other)) (run_left (starts_part (smaller u) ts true x.next)
-    (subst (λ w. Gives (amount (fold shifted digit digit) w) ts (bad rest)) e m)))
+    Gives (amount (fold shifted digit digit) (From v)) ts (bad rest) → Gives (rule (After u)) ts (bad rest)
+bad_part u v ts mid rest n other e x m = run_rule (run_left (starts_part (below u) ts true x.next)
+    (subst (λ w. Gives (amount (fold shifted digit digit) w) ts (bad rest)) (ap From e ∙ sym (below_is u other)) m))
+
+no_unit : (ts : List Letter) → Gives (rule NoUnit) ts (bad ts)
+no_unit [] = run_rule run_end
+no_unit (t ∷ ts) = run_rule (run_other refl)
+
+-- a number after milliseconds
+pub past_part : (u : TimeUnit) (ts mid rest : List Letter) (n number : ℕ) → u ≡ Millisecond → Takes digit ts (count n) mid → Counts (fold shifted digit digit) ts number rest → Gives (rule (After u)) ts (bad rest)
+past_part u ts mid rest n number e x k = rw e (run_rule (run_left (starts_part NoUnit ts true x.next) (run_second k.gives (no_unit rest))))
 
 -- the front of a text: a zero, or another digit
 digit_is : (n : ℕ) (t : Letter) → digit_at t ≡ Some (count n) → t ≡ Digit n
@@ -132,7 +140,7 @@ other_front ts mid zero other x = absurd (other refl)
 other_front ts mid (suc n) other x = rw (taken_digit x.gives) (record { gives = λ o h. run_fold (run_token refl) h })
 
 pub other_text : (ts mid rest : List Letter) (n ms : ℕ) → (n ≡ 0 → ⊥) → Takes digit ts (count n) mid →
-  Measures (amount (fold shifted (token other_digit_at) digit) Year) ts ms rest → Measures (rule Text) ts ms rest
+    Measures (amount (fold shifted (token other_digit_at) digit) (From Year)) ts ms rest → Measures (rule Text) ts ms rest
 other_text ts mid rest zero ms other x m = absurd (other refl)
 other_text ts mid rest (suc n) ms other x m = record { exact = m.exact; gives = run_rule (run_right (no_zero (taken_digit x.gives)) m.gives); is_kept = m.is_kept }
   where
@@ -140,7 +148,7 @@ other_text ts mid rest (suc n) ms other x m = record { exact = m.exact; gives = 
     no_zero e = rw e refl
 
 pub other_text_bad : (ts mid rest : List Letter) (n : ℕ) → (n ≡ 0 → ⊥) → Takes digit ts (count n) mid →
-  Gives (amount (fold shifted (token other_digit_at) digit) Year) ts (bad rest) → Gives (rule Text) ts (bad rest)
+    Gives (amount (fold shifted (token other_digit_at) digit) (From Year)) ts (bad rest) → Gives (rule Text) ts (bad rest)
 other_text_bad ts mid rest zero other x m = absurd (other refl)
 other_text_bad ts mid rest (suc n) other x m = run_rule (run_right (no_zero (taken_digit x.gives)) m)
   where
@@ -162,15 +170,15 @@ no_text ts l = without l.gives
     without (run_other {t = t} {rest = rest} e) = run_rule (run_right (next_pair table second_of (token zero_at) (rule AfterZero) (t ∷ rest) false refl (ap is_some (no_zero_at t e))) (run_first (run_base (run_other (no_other_at t e)))))
     without run_end = run_rule (run_right refl (run_first (run_base run_end)))
 
-starts_zero : (ts : List Letter) → is_next table (amount (turns shifted (count 0) digit) Year) ts ≡ starts_amount ts
+starts_zero : (ts : List Letter) → is_next table (amount (turns shifted (count 0) digit) (From Year)) ts ≡ starts_amount ts
 starts_zero [] = refl
 starts_zero (Y ∷ ts) = refl
 starts_zero (t ∷ ts) = refl
 
-pub after_zero : (ts rest : List Letter) (ms : ℕ) → true ≡ starts_amount ts → Measures (amount (turns shifted (count 0) digit) Year) ts ms rest → Measures (rule AfterZero) ts ms rest
+pub after_zero : (ts rest : List Letter) (ms : ℕ) → true ≡ starts_amount ts → Measures (amount (turns shifted (count 0) digit) (From Year)) ts ms rest → Measures (rule AfterZero) ts ms rest
 after_zero ts rest ms e m = record { exact = m.exact; gives = run_rule (run_left (starts_zero ts ∙ sym e) m.gives); is_kept = m.is_kept }
 
-pub after_zero_bad : (ts rest : List Letter) → true ≡ starts_amount ts → Gives (amount (turns shifted (count 0) digit) Year) ts (bad rest) → Gives (rule AfterZero) ts (bad rest)
+pub after_zero_bad : (ts rest : List Letter) → true ≡ starts_amount ts → Gives (amount (turns shifted (count 0) digit) (From Year)) ts (bad rest) → Gives (rule AfterZero) ts (bad rest)
 after_zero_bad ts rest e m = run_rule (run_left (starts_zero ts ∙ sym e) m)
 
 pub zero_alone : (ts : List Letter) → false ≡ starts_amount ts → Measures (rule AfterZero) ts 0 ts

@@ -6,12 +6,13 @@ use Rattle.pr_time.specs.declared.text.Letter.{Letter}
 use Rattle.pr_time.specs.declared.text.Letter.TheVariants.{Digit, Y, W, D, H, M, S, Other}
 use Rattle.pr_time.specs.declared.text.Unit.{Unit as TimeUnit}
 use Rattle.pr_time.specs.declared.text.Unit.TheVariants.{Year, Week, Day, Hour, Minute, Second, Millisecond}
-use Rattle.pr_time.specs.SpanText.{production, table, Rule, Text, AfterZero, After, From, AfterM}
+use Rattle.pr_time.specs.SpanText.{production, table, Rule, Text, AfterZero, After, From, AfterM, NoUnit}
 
 starts_known : (n : Rule) (t : Letter) → starts_of table (production n) t ≡ table.starts n t
 starts_known Text (Digit zero) = refl
 starts_known AfterZero Y = refl
 starts_known AfterM Y = refl
+starts_known NoUnit Y = refl
 starts_known (After Year) Y = refl
 starts_known (After Week) Y = refl
 starts_known (After Day) Y = refl
@@ -37,6 +38,7 @@ more_known : (n : Rule) (t : Letter) → more_of table (production n) t ≡ tabl
 more_known Text (Digit zero) = refl
 more_known AfterZero Y = refl
 more_known AfterM Y = refl
+more_known NoUnit Y = refl
 more_known (After Year) Y = refl
 more_known (After Week) Y = refl
 more_known (After Day) Y = refl
@@ -57,6 +59,7 @@ parts_known : (n : Rule) (t : Letter) → parts_at table (production n) t ≡ tr
 parts_known Text (Digit zero) = refl
 parts_known AfterZero Y = refl
 parts_known AfterM Y = refl
+parts_known NoUnit Y = refl
 parts_known (After Year) Y = refl
 parts_known (After Week) Y = refl
 parts_known (After Day) Y = refl

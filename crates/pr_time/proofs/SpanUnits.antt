@@ -49,11 +49,12 @@ Chosen least ts o rest = MatchOption o (Gives (rule (From least)) ts (bad ts)) (
 
 -- the rule of a unit goes on to the one of smaller units
 lift : (u v : TimeUnit) (f : Form Letter Rule Value) (ts rest : List Letter) (o : Option TimeUnit) → production (From u) ≡ either f (rule (From v)) → is_next table f ts ≡ false →
-  Chosen v ts o rest → Chosen u ts o rest
+    Chosen v ts o rest → Chosen u ts o rest
 lift u v f ts rest None e n h = run_rule (subst (λ x. Gives x ts (bad ts)) (sym e) (run_right n h))
 lift u v f ts rest (Some x) e n h = record {
   reads = λ ms end k. run_rule (subst (λ z. Gives z ts (good (scaled (ms_of x) ms) end)) (sym e) (run_right n (h.reads ms end k)));
-  fails = λ end k. run_rule (subst (λ z. Gives z ts (bad end)) (sym e) (run_right n (h.fails end k))) }
+  fails = λ end k. run_rule (subst (λ z. Gives z ts (bad end)) (sym e) (run_right n (h.fails end k)));
+}
 
 from_millisecond : (t : Letter) (rest : List Letter) → (t ≡ M → ⊥) → Chosen Millisecond (t ∷ rest) (unit_left Millisecond t) rest
 from_millisecond M rest other = absurd (other refl)
@@ -106,7 +107,7 @@ unit_none least t ts rest e other h = rw e (subst (λ o. Chosen least (t ∷ res
 
 -- after an m, from minutes on
 pub many_m : (least : TimeUnit) (rest : List Letter) (o : Outcome Letter Value) → (least ≡ Second → ⊥) → (least ≡ Millisecond → ⊥) →
-  Gives (rule (From Minute)) (M ∷ rest) o → Gives (rule (From least)) (M ∷ rest) o
+    Gives (rule (From Minute)) (M ∷ rest) o → Gives (rule (From least)) (M ∷ rest) o
 many_m Second rest o a b h = absurd (a refl)
 many_m Millisecond rest o a b h = absurd (b refl)
 many_m Minute rest o a b h = h
@@ -119,11 +120,12 @@ many_m Year rest o a b h = run_rule (run_right refl (run_rule (run_right refl (r
 pub minutes : (least : TimeUnit) (rest : List Letter) → (least ≡ Second → ⊥) → (least ≡ Millisecond → ⊥) → Lacks (unit Millisecond) rest → Enters least (M ∷ rest) Minute rest
 minutes least rest a b l = record {
   reads = λ ms end h. many_m least rest _ a b (run_rule (run_left refl (run_pair (run_token refl) (run_rule (other_side l (run_pair run_nothing h))))));
-  fails = λ end h. many_m least rest _ a b (run_rule (run_left refl (run_second (run_token refl) (run_rule (other_side l (run_second run_nothing h)))))) }
+  fails = λ end h. many_m least rest _ a b (run_rule (run_left refl (run_second (run_token refl) (run_rule (other_side l (run_second run_nothing h))))));
+}
 
 -- milliseconds, in an m or alone
 small_m : (rest : List Letter) (o : Outcome Letter Value) → Gives (pair followed (unit Millisecond) (rule (After Millisecond))) rest o → (least : TimeUnit) →
-  Gives (rule (From Minute)) (M ∷ rest) o → Gives (rule (From Millisecond)) (M ∷ rest) o → Gives (rule (From least)) (M ∷ rest) o
+    Gives (rule (From Minute)) (M ∷ rest) o → Gives (rule (From Millisecond)) (M ∷ rest) o → Gives (rule (From least)) (M ∷ rest) o
 small_m rest o g Millisecond h k = k
 small_m rest o g Second h k = run_rule (run_right refl k)
 small_m rest o g Minute h k = many_m Minute rest o (λ e. cc) (λ e. cc) h
@@ -135,7 +137,8 @@ small_m rest o g Year h k = many_m Year rest o (λ e. cc) (λ e. cc) h
 pub milliseconds : (least : TimeUnit) (ts rest : List Letter) → Takes (unit Millisecond) ts (scaled 1 0) rest → Enters least (M ∷ ts) Millisecond rest
 milliseconds least ts rest x = record {
   reads = λ ms end h. small_m ts _ (run_pair x.gives h) least (run_rule (run_left refl (run_pair (run_token refl) (run_rule (take_side x h))))) (run_rule (run_pair (run_token refl) (run_pair x.gives h)));
-  fails = λ end h. small_m ts _ (run_second x.gives h) least (run_rule (run_left refl (run_second (run_token refl) (run_rule (take_side_bad x h))))) (run_rule (run_second (run_token refl) (run_second x.gives h))) }
+  fails = λ end h. small_m ts _ (run_second x.gives h) least (run_rule (run_left refl (run_second (run_token refl) (run_rule (take_side_bad x h))))) (run_rule (run_second (run_token refl) (run_second x.gives h)));
+}
 
 -- an m with no s after it, where only milliseconds are left
 pub no_s : (least : TimeUnit) (ts : List Letter) → Lacks (unit Millisecond) ts → Gives (rule (From Millisecond)) (M ∷ ts) (bad ts)

@@ -62,6 +62,8 @@ pub data Rule : Type 0 where
   From : TimeUnit → Rule
   -- what may follow an m: an s, or the parts after minutes
   AfterM : Rule
+  -- a unit where none is left, which nothing is
+  NoUnit : Rule
 
 abbrev pub digit_at : Letter → Option Value
 digit_at (Digit n) = Some (count n)
@@ -74,6 +76,9 @@ zero_at _ = None
 abbrev pub other_digit_at : Letter → Option Value
 other_digit_at (Digit (suc n)) = Some (count (suc n))
 other_digit_at _ = None
+
+abbrev pub none_at : Letter → Option Value
+none_at _ = None
 
 abbrev pub m_at : Letter → Option Value
 m_at M = Some mark
@@ -111,9 +116,9 @@ followed _ _ = mark
 abbrev pub second_of : Value → Value → Value
 second_of v w = w
 
--- a number, and then a unit, this one or a smaller one, with the parts after it
-abbrev pub amount : Form Letter Rule Value → TimeUnit → Form Letter Rule Value
-amount digits u = pair times digits (rule (From u))
+-- a number, and then its unit with the parts after it
+abbrev pub amount : Form Letter Rule Value → Rule → Form Letter Rule Value
+amount digits n = pair times digits (rule n)
 
 -- the next smaller unit, that is written apart from the others
 abbrev pub smaller : TimeUnit → TimeUnit
@@ -125,20 +130,25 @@ smaller Minute = Second
 smaller Second = Millisecond
 smaller Millisecond = Millisecond
 
+-- the units that may stand after one
+abbrev pub below : TimeUnit → Rule
+below Millisecond = NoUnit
+below u = From (smaller u)
+
 -- The productions:
 --   text       = "0" after-zero | digit-above-0 {digit} from(year)
 --   after-zero = {digit} from(year) |
---   after(u)   = digit {digit} from(smaller u) |                  none after milliseconds
+--   after(u)   = digit {digit} from(smaller u) |                  and digit {digit} no-unit | after milliseconds
 --   from(u)    = letter-of-u after(u) | from(smaller u)           for y, w, d, h
 --   from(m)    = "m" after-m | "s" after(s)
 --   after-m    = "s" after(ms) | after(m)
 --   from(s)    = "s" after(s) | from(ms)
 --   from(ms)   = "m" "s" after(ms)
 abbrev pub production : Rule → Form Letter Rule Value
-production Text = either (pair second_of (token zero_at) (rule AfterZero)) (amount (fold shifted (token other_digit_at) digit) Year)
-production AfterZero = either (amount (turns shifted (count 0) digit) Year) (nothing (span 0))
-production (After Millisecond) = nothing (span 0)
-production (After u) = either (amount (fold shifted digit digit) (smaller u)) (nothing (span 0))
+production Text = either (pair second_of (token zero_at) (rule AfterZero)) (amount (fold shifted (token other_digit_at) digit) (From Year))
+production AfterZero = either (amount (turns shifted (count 0) digit) (From Year)) (nothing (span 0))
+production (After u) = either (amount (fold shifted digit digit) (below u)) (nothing (span 0))
+production NoUnit = token none_at
 production (From Minute) = either (pair second_of (token m_at) (rule AfterM)) (pair followed (unit Second) (rule (After Second)))
 production (From Millisecond) = pair second_of (token m_at) (pair followed (unit Millisecond) (rule (After Millisecond)))
 production (From u) = either (pair followed (unit u) (rule (After u))) (rule (From (smaller u)))
@@ -167,9 +177,9 @@ starts_from u t = false
 abbrev pub starts_rule : Rule → Letter → Bool
 starts_rule Text t = is_digit t
 starts_rule AfterZero t = is_digit t || starts_from Year t
-starts_rule (After Millisecond) t = false
 starts_rule (After u) t = is_digit t
 starts_rule (From u) t = starts_from u t
+starts_rule NoUnit t = false
 starts_rule AfterM S = true
 starts_rule AfterM t = is_digit t
 
@@ -187,11 +197,12 @@ is_part t = is_digit t
 abbrev pub more_rule : Rule → Letter → Bool
 more_rule Text t = is_digit t || starts_from Year t
 more_rule AfterZero t = is_digit t || starts_from Year t
-more_rule (After Millisecond) t = false
+more_rule NoUnit t = false
+more_rule (After Millisecond) t = is_digit t
 more_rule (After Second) t = is_digit t
 more_rule (After Minute) t = is_digit t
 more_rule (After u) t = is_part t
-more_rule (From Millisecond) t = false
+more_rule (From Millisecond) t = is_digit t
 more_rule (From Second) t = is_digit t
 more_rule (From u) t = is_part t
 more_rule AfterM t = is_part t

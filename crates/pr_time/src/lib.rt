@@ -3,11 +3,10 @@
 
 pub mod laws;
 mod print;
-mod text;
-mod value;
-
 #[cfg(test)]
 mod tests;
+mod text;
+mod value;
 
 pub use print::write_span;
 pub use text::{SpanFault, read_span};

@@ -24,7 +24,12 @@ fn reads(rt: HostRuntime) {
     ] {
         assert_eq!(rt; told(text), Ok(want), "{text}");
     }
-    for text in ["1099511627777ms", "35y", "18446744073709551617y", "12725d20h"] {
+    for text in [
+        "1099511627777ms",
+        "35y",
+        "18446744073709551617y",
+        "12725d20h",
+    ] {
         assert_eq!(rt; told(text), Err(SpanFault::SpanTooLong), "{text}");
     }
     for (text, at) in [

@@ -6,8 +6,28 @@ ghost use Rattle.pr_time.specs.declared.text.Letter.{Letter};
 ghost use Rattle.pr_time.specs.declared.text.Letter.TheVariants.{M};
 ghost use Rattle.pr_time.specs.declared.text.Unit.TheVariants.{Millisecond};
 ghost use Rattle.pr_time.specs.SpanText.{
-    letter_of, seen, ms_of, smaller, digit, amount, count, Value, Rule, Text, After, From, AfterZero, ReadsSpan, IsBadPlace, Refuses,
-    IsTooLong, production, span, rank, unit, scaled,
+  letter_of,
+  seen,
+  ms_of,
+  smaller,
+  digit,
+  amount,
+  count,
+  Value,
+  Rule,
+  Text,
+  After,
+  From,
+  AfterZero,
+  ReadsSpan,
+  IsBadPlace,
+  Refuses,
+  IsTooLong,
+  production,
+  span,
+  rank,
+  unit,
+  scaled,
 };
 ghost use Rattle.pr_time.specs.SpanReader.{Gives, Takes, Lacks, IsFront, kept, Digits, Counts, Measures, Enters, starts_amount, named, unit_left};
 ghost use Rattle.pr_forms.specs.Form.{Reads};
@@ -147,10 +167,8 @@ fn digit_in(text: &[u8]) -> Option<(u64, &[u8])>
 
 /// What follows the s of milliseconds.
 fn after_s(text: &[u8]) -> Option<&[u8]>
-    ensures read {
-        MatchOption result (Lacks (unit Millisecond) (seen text.now))
-            (λ rest. Takes (unit Millisecond) (seen text.now) (scaled (ms_of Millisecond) 0) (seen rest.now))
-    }
+    ensures read { MatchOption result (Lacks (unit Millisecond) (seen text.now))
+        (λ rest. Takes (unit Millisecond) (seen text.now) (scaled (ms_of Millisecond) 0) (seen rest.now)) }
     ensures shorter { IfSome result (λ rest. length rest.now < length text.now) }
 {
     let Some((letter, rest)) = next_letter(text) else {
@@ -165,10 +183,8 @@ fn after_s(text: &[u8]) -> Option<&[u8]>
 /// The number that the digits at the front write after `first`, and what follows them.
 fn number_in(first: u64, text: &[u8]) -> (u64, &[u8])
     requires { first ≤ 2 ^ 40 + 1 }
-    ensures read {
-        (f : Form Letter Rule Value) (ts : List Letter) (n : ℕ) → first ≡ kept n → Digits f ts n (seen text.now) →
-        Counts f ts result.0 (seen result.1.now)
-    }
+    ensures read { (f : Form Letter Rule Value) (ts : List Letter) (n : ℕ) → first ≡ kept n → Digits f ts n (seen text.now) →
+        Counts f ts result.0 (seen result.1.now) }
     ensures small { result.0 ≤ 2 ^ 40 + 1 }
     ensures shorter { length result.1.now ≤ length text.now }
 {
@@ -193,10 +209,8 @@ fn unit_of(least: Unit, letter: Letter) -> Option<Unit>
 
 /// The unit after an m: milliseconds where an s follows, else minutes.
 fn minute_in(least: Unit, text: &[u8]) -> Result<(Unit, &[u8]), &[u8]>
-    ensures read {
-        MatchResult result (λ x. Enters least (M ∷ seen text.now) x.0 (seen x.1.now))
-            (λ rest. Gives (rule (From least)) (M ∷ seen text.now) (bad (seen rest.now)))
-    }
+    ensures read { MatchResult result (λ x. Enters least (M ∷ seen text.now) x.0 (seen x.1.now))
+        (λ rest. Gives (rule (From least)) (M ∷ seen text.now) (bad (seen rest.now))) }
     ensures shorter { IfOk result (λ x. length x.1.now ≤ length text.now) }
 {
     match after_s(text) {
@@ -210,10 +224,8 @@ fn minute_in(least: Unit, text: &[u8]) -> Result<(Unit, &[u8]), &[u8]>
 
 /// The unit at the front, `least` or a smaller one, and what follows it.
 fn unit_in(least: Unit, text: &[u8]) -> Result<(Unit, &[u8]), &[u8]>
-    ensures read {
-        MatchResult result (λ x. Enters least (seen text.now) x.0 (seen x.1.now))
-            (λ rest. Gives (rule (From least)) (seen text.now) (bad (seen rest.now)))
-    }
+    ensures read { MatchResult result (λ x. Enters least (seen text.now) x.0 (seen x.1.now))
+        (λ rest. Gives (rule (From least)) (seen text.now) (bad (seen rest.now))) }
     ensures shorter { IfOk result (λ x. length x.1.now < length text.now) }
 {
     let Some((letter, rest)) = next_letter(text) else {
@@ -233,31 +245,34 @@ fn unit_in(least: Unit, text: &[u8]) -> Result<(Unit, &[u8]), &[u8]>
 #[cycle(parts)]
 fn amount_in(least: Unit, first: u64, text: &[u8]) -> Result<(u64, &[u8]), &[u8]>
     requires { first ≤ 2 ^ 40 + 1 }
-    ensures read {
-        (f : Form Letter Rule Value) (ts : List Letter) (n : ℕ) → first ≡ kept n → Digits f ts n (seen text.now) →
-        MatchResult result (λ x. Measures (amount f least) ts x.0 (seen x.1.now)) (λ rest. Gives (amount f least) ts (bad (seen rest.now)))
-    }
+    ensures read { (f : Form Letter Rule Value) (ts : List Letter) (n : ℕ) → first ≡ kept n → Digits f ts n (seen text.now) →
+        MatchResult result (λ x. Measures (amount f (From least)) ts x.0 (seen x.1.now)) (λ rest. Gives (amount f (From least)) ts (bad (seen rest.now))) }
 {
     let (number, after_number) = number_in(first, text);
     let (unit, after_unit) = unit_in(least, after_number)?;
     let (more, rest) = parts_after(unit, after_unit)?;
-    Ok((number.saturating_mul(unit.ms()).saturating_add(more).min(MANY), rest))
+    Ok((
+        number
+            .saturating_mul(unit.ms())
+            .saturating_add(more)
+            .min(MANY),
+        rest,
+    ))
 }
 
 /// The parts after one with this unit, in milliseconds, and what follows them.
 #[cycle(parts)]
 fn parts_after(last: Unit, text: &[u8]) -> Result<(u64, &[u8]), &[u8]>
-    ensures read {
-        MatchResult result (λ x. Measures (rule (After last)) (seen text.now) x.0 (seen x.1.now))
-            (λ rest. Gives (rule (After last)) (seen text.now) (bad (seen rest.now)))
-    }
+    ensures read { MatchResult result (λ x. Measures (rule (After last)) (seen text.now) x.0 (seen x.1.now))
+        (λ rest. Gives (rule (After last)) (seen text.now) (bad (seen rest.now))) }
 {
+    let Some((first, rest)) = digit_in(text) else {
+        return Ok((0, text));
+    };
     match last {
-        Unit::Millisecond => Ok((0, text)),
-        _ => match digit_in(text) {
-            Some((first, rest)) => amount_in(last.smaller(), first, rest),
-            None => Ok((0, text)),
-        },
+        // No unit is left for the number.
+        Unit::Millisecond => Err(number_in(first, rest).1),
+        _ => amount_in(last.smaller(), first, rest),
     }
 }
 
@@ -273,10 +288,8 @@ fn goes_on(text: &[u8]) -> bool
 
 /// What a zero at the front writes with what follows it: nothing, or a number with its unit and the parts after it.
 fn zero_in(text: &[u8]) -> Result<(u64, &[u8]), &[u8]>
-    ensures read {
-        MatchResult result (λ x. Measures (rule AfterZero) (seen text.now) x.0 (seen x.1.now))
-            (λ rest. Gives (rule AfterZero) (seen text.now) (bad (seen rest.now)))
-    }
+    ensures read { MatchResult result (λ x. Measures (rule AfterZero) (seen text.now) x.0 (seen x.1.now))
+        (λ rest. Gives (rule AfterZero) (seen text.now) (bad (seen rest.now))) }
 {
     if goes_on(text) {
         amount_in(Unit::Year, 0, text)
@@ -287,10 +300,8 @@ fn zero_in(text: &[u8]) -> Result<(u64, &[u8]), &[u8]>
 
 /// The span text at the front, in milliseconds, and what follows it.
 fn span_in(text: &[u8]) -> Result<(u64, &[u8]), &[u8]>
-    ensures read {
-        MatchResult result (λ x. Measures (rule Text) (seen text.now) x.0 (seen x.1.now))
-            (λ rest. Gives (rule Text) (seen text.now) (bad (seen rest.now)))
-    }
+    ensures read { MatchResult result (λ x. Measures (rule Text) (seen text.now) x.0 (seen x.1.now))
+        (λ rest. Gives (rule Text) (seen text.now) (bad (seen rest.now))) }
 {
     match digit_in(text) {
         None => Err(text),
@@ -320,9 +331,13 @@ pub fn read_span(text: &[u8]) -> Result<Span, SpanFault>
             if rest.is_empty() {
                 Span::new(ms).ok_or(SpanFault::SpanTooLong)
             } else {
-                Err(SpanFault::BadSpan { at: place_of(text, rest) })
+                Err(SpanFault::BadSpan {
+                    at: place_of(text, rest),
+                })
             }
         }
-        Err(rest) => Err(SpanFault::BadSpan { at: place_of(text, rest) }),
+        Err(rest) => Err(SpanFault::BadSpan {
+            at: place_of(text, rest),
+        }),
     }
 }

@@ -68,7 +68,11 @@ impl Span {
     pub fn new(ms: u64) -> Option<Span>
         ensures { SomeIff result (ms ≤ 2 ^ 40) ms }
     {
-        if ms <= 1 << 40 { Some(Span { ms }) } else { None }
+        if ms <= 1 << 40 {
+            Some(Span { ms })
+        } else {
+            None
+        }
     }
 
     /// The milliseconds.

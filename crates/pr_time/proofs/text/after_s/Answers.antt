@@ -14,4 +14,5 @@ returns-in-S-clause-read c = token_takes production table (unit_at Millisecond) 
 pub returns-in_default-letter : goal.returns-in_default-letter
 returns-in_default-letter c = record {
   read = token_lacks production table (unit_at Millisecond) _ c.in-Some.letter _ c.in-Some.ensures.is (no_s_letter c.in-Some.letter c.in_default-letter.not-S);
-  shorter = tt }
+  shorter = tt;
+}

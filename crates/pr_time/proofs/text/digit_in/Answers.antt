@@ -14,4 +14,5 @@ pub returns-in_default-letter : goal.returns-in_default-letter
 returns-in_default-letter c = record {
   read = token_lacks production table digit_at _ c.in-Some.letter _ c.in-Some.ensures.is (no_digit c.in-Some.letter c.in_default-letter.not-Digit);
   small = tt;
-  shorter = tt }
+  shorter = tt;
+}

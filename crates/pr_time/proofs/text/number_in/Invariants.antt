@@ -9,7 +9,8 @@ abbrev pub invariant-loop-digit : goal.invariant-loop-digit
 invariant-loop-digit l = record {
   read : (f : Form Letter Rule Value) (ts : List Letter) (n : ℕ) → l.first ≡ kept n → Digits f ts n (seen l.text) → Going f ts l.number (seen l.rest);
   small : l.number ≤ 2 ^ 40 + 1;
-  shorter : length l.rest ≤ length l.text }
+  shorter : length l.rest ≤ length l.text;
+}
 
 abbrev pub decreases-loop-digit : goal.decreases-loop-digit
 decreases-loop-digit l = length l.rest
