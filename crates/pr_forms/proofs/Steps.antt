@@ -1,5 +1,5 @@
 -- Single tokens, and whether the next token starts a form.
-use Rattle.std.proofs.Common.{◌≡◌, ℕ, ◌+◌, ◌<◌, Option, Some, None, List, [], ◌∷◌, Bool, true, false, length, refl, ap, arith, ◌∙◌, sym, subst}
+use Rattle.std.proofs.Common.{◌≡◌, ℕ, ◌+◌, ◌<◌, Option, Some, None, List, [], ◌∷◌, Bool, true, false, map, length, refl, ap, arith, ◌∙◌, sym, subst}
 use Rattle.std.specs.Prelude.{is_some, ◌||◌, ◌&&◌}
 use Rattle.pr_forms.specs.Form.{Form, token, pair, either, fold}
 use Rattle.pr_forms.specs.Table.{Table, is_next, empty_of, starts_of}
@@ -15,6 +15,18 @@ module _ {T N V : Type 0} (G : N → Form T N V) (S : Table T N) (p : T → Opti
   pub end_lacks : (ts : List T) → length ts ≡ 0 → Lacks G S (token p) ts
   end_lacks [] e = record { gives = run_end; next = refl }
   end_lacks (t ∷ ts) e = absurd (omega arith)
+
+-- the same where the grammar sees the code's tokens by a function
+module _ {A T N V : Type 0} (see : A → T) (G : N → Form T N V) (S : Table T N) (p : T → Option V) where
+  pub seen_takes : (ts rest : List A) (t : A) (v : V) → ts ≡ t ∷ rest → p (see t) ≡ Some v → Takes G S (token p) (map see ts) v (map see rest)
+  seen_takes ts rest t v e h = token_takes G S p (map see ts) (see t) (map see rest) v (ap (map see) e) h
+
+  pub seen_lacks : (ts rest : List A) (t : A) → ts ≡ t ∷ rest → p (see t) ≡ None → Lacks G S (token p) (map see ts)
+  seen_lacks ts rest t e h = token_lacks G S p (map see ts) (see t) (map see rest) (ap (map see) e) h
+
+  pub seen_end_lacks : (ts : List A) → length ts ≡ 0 → Lacks G S (token p) (map see ts)
+  seen_end_lacks [] e = record { gives = run_end; next = refl }
+  seen_end_lacks (t ∷ ts) e = absurd (omega arith)
 
 or_false : (b : Bool) → b || false ≡ b
 or_false true = refl

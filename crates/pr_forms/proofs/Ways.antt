@@ -84,5 +84,13 @@ module _ {A T N V : Type 0} (seen : List A → List T) (G : N → Form T N V) (S
   exit P f g ts us (Ok x) e h step k = absurd h
   exit P f g ts us (Err y) e h step k = fails f g ts us y step (subst (FailsBy seen G S f ts) (sym h) k)
 
--- What closes the goals of a reader's functions, for `using(..)`.
-pub ruleset ways = (take_side, take_side_bad, other_side, one_side, no_side, take_pair, take_pair_bad, no_pair, loop_begins, loop_of_rule, loop_goes_on, loop_fails, loop_ends, token_goes_on, token_ends)
+module _ {T N V : Type 0} {G : N → Form T N V} {S : Table T N} where
+  -- the same with a value that is equal
+  pub value_is : {f : Form T N V} {ts rest : List T} (v w : V) → w ≡ v → Runs G S f ts (good v rest) → Runs G S f ts (good w rest)
+  value_is {f} {ts} {rest} v w e h = subst (λ x. Runs G S f ts (good x rest)) (sym e) h
+
+  pub leads_value : {c : V → V → V} {f g : Form T N V} {ts rest : List T} (v w : V) → w ≡ v → Leads G S f ts (turns c v g) rest → Leads G S f ts (turns c w g) rest
+  leads_value {c} {f} {g} {ts} {rest} v w e h = subst (λ x. Leads G S f ts (turns c x g) rest) (sym e) h
+
+-- What closes many goals of a reader's functions, for `using(..)`.
+pub ruleset ways = (take_side, take_side_bad, other_side, one_side, no_side, take_pair, take_pair_bad, no_pair, loop_begins, loop_of_rule, loop_goes_on, loop_fails, loop_ends, token_goes_on, token_ends, run_rule, run_pair, run_first, run_second, run_left, run_right, run_fold, run_base)
