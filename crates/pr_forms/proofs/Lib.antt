@@ -10,3 +10,4 @@ pub mod Steps
 pub mod Ways
 pub mod Public
 pub mod Longer
+pub mod Taking

@@ -2,3 +2,4 @@ pub mod Form
 pub mod Table
 pub mod Run
 pub mod Reader
+pub mod Take

@@ -5,4 +5,4 @@
 pub mod laws;
 mod reader;
 
-pub use reader::{Fault, place_of};
+pub use reader::{Fault, place_of, take};

@@ -1,5 +1,6 @@
 //! What the functions of a reader hand to each other.
-ghost use Rattle.std.specs.Prelude.{◌≡◌, ◌-◌, ◌≤◌, length};
+ghost use Rattle.std.specs.Prelude.{◌≡◌, ◌-◌, ◌≤◌, length, MatchOption};
+ghost use Rattle.pr_forms.specs.Take.{IsMissed, IsTaken};
 
 use std::alloc::{AllocError, AllocFailed};
 
@@ -37,4 +38,18 @@ pub fn place_of<T>(tokens: &[T], left: &[T]) -> usize
     ensures { result ≡ length tokens.now - length left.now }
 {
     tokens.len() - left.len()
+}
+
+/// The value of the next token, where it has one, and what follows that token: how a reader takes a token, or looks at it.
+pub fn take<T, V, F: Fn(&T) -> Option<V>>(tokens: &[T], value: F) -> Option<(V, &[T])>
+    requires { F.IsAlwaysCallable value }
+    ensures { MatchOption result (IsMissed (F.post value) tokens.now) (λ x. IsTaken (F.post value) x.0 tokens.now x.1.now) }
+{
+    let Some((first, rest)) = tokens.split_first() else {
+        return None;
+    };
+    match value(first) {
+        Some(found) => Some((found, rest)),
+        None => None,
+    }
 }

@@ -19,22 +19,6 @@ use Rattle.pr_forms_sample.specs.Tree.{Seen, number_token, name_token, sign_toke
 use Rattle.pr_forms_sample.specs.Grammar.{production, table, Rule, Primary, Tail, Value, part, at, word, called, opened_by, sign_at, sign, operation_at, number_at, word_at, HasTree}
 use Rattle.pr_forms_sample.specs.Reader.{Gives, Takes, Lacks, group, value_of}
 
-pub no_sign : (wanted : SignKind) (t : Token) → ((s : SignKind) → t.kind ≡ Sign s → ⊥) → sign_at wanted (seen_token t) ≡ None
-no_sign wanted t other = by_kind t.kind other
-  where
-    by_kind : (k : TokenKind) → ((s : SignKind) → k ≡ Sign s → ⊥) → sign_at wanted (seen_kind t.place k) ≡ None
-    by_kind (Number n) other = refl
-    by_kind (Name n) other = refl
-    by_kind (Sign s) other = absurd (other s refl)
-
-pub no_operation : (level : Level) (t : Token) → ((s : SignKind) → t.kind ≡ Sign s → ⊥) → operation_at level (seen_token t) ≡ None
-no_operation level t other = by_kind t.kind other
-  where
-    by_kind : (k : TokenKind) → ((s : SignKind) → k ≡ Sign s → ⊥) → operation_at level (seen_kind t.place k) ≡ None
-    by_kind (Number n) other = refl
-    by_kind (Name n) other = refl
-    by_kind (Sign s) other = absurd (other s refl)
-
 -- the first token as the grammar sees it
 front : (ts rest : List Token) (t : Token) (k : TokenKind) → ts ≡ t ∷ rest → t.kind ≡ k → seen ts ≡ seen_kind t.place k ∷ seen rest
 front ts rest t k e h = ap seen e ∙ ap (λ x. seen_kind t.place x ∷ seen rest) h
@@ -43,11 +27,11 @@ pub primary_number : (ts rest : List Token) (t : Token) (n : ℕ) → ts ≡ t �
 primary_number ts rest t n e h = rw (front ts rest t (Number n) e h) (run_rule (run_left refl (run_token refl)))
 
 pub primary_name : (ts rest : List Token) (after : List Seen) (t : Token) (s : String Global) (text : List ℕ) (v : Value) → ts ≡ t ∷ rest → t.kind ≡ Name s → text ≡ string_bytes s →
-  Gives (rule Tail) rest (good v after) → Gives (rule Primary) ts (good (called (word t.place text) v) after)
+    Gives (rule Tail) rest (good v after) → Gives (rule Primary) ts (good (called (word t.place text) v) after)
 primary_name ts rest after t s text v e h k g = rw (k, front ts rest t (Name s) e h) (run_rule (run_right refl (run_right refl (run_pair (run_token refl) g))))
 
 pub primary_name_bad : (ts rest : List Token) (after : List Seen) (t : Token) (s : String Global) → ts ≡ t ∷ rest → t.kind ≡ Name s →
-  Gives (rule Tail) rest (bad after) → Gives (rule Primary) ts (bad after)
+    Gives (rule Tail) rest (bad after) → Gives (rule Primary) ts (bad after)
 primary_name_bad ts rest after t s e h g = rw (front ts rest t (Name s) e h) (run_rule (run_right refl (run_right refl (run_second (run_token refl) g))))
 
 -- a sign is no number

@@ -4,7 +4,9 @@
 #![tactic(auto)]
 
 mod parser;
+#[cfg(test)]
+mod tests;
 mod tree;
 
-pub use parser::ParseError;
+pub use parser::{ParseError, parse};
 pub use tree::{Expr, ExprKind, Operator, Place, Sign, Token, TokenKind};

@@ -1,18 +1,19 @@
 //! The parser.
-ghost use Rattle.std.specs.Prelude.{◌≡◌, ◌<◌, ◌≤◌, length, IfOk, IfSome, MatchOption, MatchResult, string_bytes, [], List};
+ghost use Rattle.std.specs.Prelude.{◌≡◌, ◌<◌, ◌≤◌, length, IfOk, IfSome, MatchOption, MatchResult, [], List, option_map};
 ghost use Rattle.pr_forms.specs.Form.{rule, Reads};
 ghost use Rattle.pr_forms.specs.Run.{good};
 ghost use Rattle.pr_forms_sample.specs.declared.tree.Sign.TheVariants.{Minus, Open, Close, Comma};
 ghost use Rattle.pr_forms_sample.specs.declared.parser.Level.TheVariants.{Sum};
-ghost use Rattle.pr_forms_sample.specs.Tree.{number, seen, tree_of, trees_of};
+ghost use Rattle.pr_forms_sample.specs.Tree.{number, seen, seen_token, tree_of, trees_of};
 ghost use Rattle.pr_forms_sample.specs.Grammar.{
-    Value, part, at, word, operation, turn, arguments, closed, alone, through, joined, negated_by, opened_by, called, same_sign, operator_of, sign,
-    operator, tighter, Binary, Unary, Primary, Tail, Arguments, production, Derives, HasTree, IsBadPlace, Refuses, Misses,
+    Value, part, at, word, operation, turn, arguments, closed, alone, through, joined, negated_by, opened_by, called, same_sign,
+    operator_of, sign, sign_at, operator, operation_at, tighter, Binary, Unary, Primary, Tail, Arguments, production, Derives,
+    HasTree, IsBadPlace, Refuses, Misses,
 };
 ghost use Rattle.pr_forms_sample.specs.Reader.{Gives, FailsAt, Takes, Lacks, value_of, group, argument_starts};
 
 use crate::tree::{Expr, ExprKind, Operator, Place, Sign, Token, TokenKind};
-use pr_forms::{Fault, place_of};
+use pr_forms::{Fault, place_of, take};
 use std::alloc::{AllocError, Global};
 
 #[derive(Clone, Copy, PartialEq, Eq, Debug)]
@@ -78,16 +79,14 @@ fn operator_in(level: Level, tokens: &[Token]) -> Option<(Operator, &[Token])>
     ensures read { MatchOption result (Lacks (operator level) tokens.now) (λ x. Takes (operator level) tokens.now (operation x.0) x.1.now) }
     ensures shorter { IfSome result (λ x. length x.1.now < length tokens.now) }
 {
-    let Some((first, rest)) = tokens.split_first() else {
-        return None;
-    };
-    match &first.kind {
-        TokenKind::Sign { sign } => match operator_by(level, *sign) {
-            Some(operator) => Some((operator, rest)),
-            None => None,
-        },
-        _ => None,
-    }
+    take(tokens, |token: &Token| -> Option<Operator>
+        ensures { option_map operation result ≡ operation_at level (seen_token token.now) }
+    {
+        match &token.kind {
+            TokenKind::Sign { sign } => operator_by(level, *sign),
+            _ => None,
+        }
+    })
 }
 
 /// The place of the sign at the front, and what follows it.
@@ -95,19 +94,14 @@ fn after(wanted: Sign, tokens: &[Token]) -> Option<(Place, &[Token])>
     ensures read { MatchOption result (Lacks (sign wanted) tokens.now) (λ x. Takes (sign wanted) tokens.now (at x.0) x.1.now) }
     ensures shorter { IfSome result (λ x. length x.1.now < length tokens.now) }
 {
-    let Some((first, rest)) = tokens.split_first() else {
-        return None;
-    };
-    match &first.kind {
-        TokenKind::Sign { sign } => {
-            if is_sign(wanted, *sign) {
-                Some((first.place, rest))
-            } else {
-                None
-            }
+    take(tokens, |token: &Token| -> Option<Place>
+        ensures { option_map at result ≡ sign_at wanted (seen_token token.now) }
+    {
+        match &token.kind {
+            TokenKind::Sign { sign } if is_sign(wanted, *sign) => Some(token.place),
+            _ => None,
         }
-        _ => None,
-    }
+    })
 }
 
 /// Whether an argument can begin with the next token.
@@ -147,7 +141,13 @@ fn named(alloc: Global, place: Place, text: &str) -> Result<Part, AllocError>
     })
 }
 
-fn call_made(alloc: Global, place: Place, text: &str, list: Vec<Expr>, end: Place) -> Result<Part, AllocError>
+fn call_made(
+    alloc: Global,
+    place: Place,
+    text: &str,
+    list: Vec<Expr>,
+    end: Place,
+) -> Result<Part, AllocError>
     ensures { IfOk result (λ x. value_of x ≡ called (word place text.now) (closed end (trees_of list.items))) }
 {
     let place = place.through(end);
@@ -174,7 +174,12 @@ fn negation(alloc: Global, sign: Place, inner: Part) -> Result<Part, AllocError>
     })
 }
 
-fn operation_made(alloc: Global, left: Part, operator: Operator, right: Part) -> Result<Part, AllocError>
+fn operation_made(
+    alloc: Global,
+    left: Part,
+    operator: Operator,
+    right: Part,
+) -> Result<Part, AllocError>
     ensures { IfOk result (λ x. value_of x ≡ joined (value_of left) (turn operator right.place (tree_of right.expr))) }
 {
     let place = left.place.through(right.place);
@@ -191,11 +196,13 @@ fn operation_made(alloc: Global, left: Part, operator: Operator, right: Part) ->
 
 #[cycle(parser)]
 #[tactic(auto, using(pr_forms::proofs::Ways::ways))]
-fn binary_at(alloc: Global, level: Level, tokens: &[Token]) -> Result<(Part, &[Token]), Fault<'_, Token>>
-    ensures read {
-        MatchResult result (λ x. Gives (rule (Binary level)) tokens.now (good (value_of x.0) (seen x.1.now)))
-            (FailsAt (rule (Binary level)) tokens.now)
-    }
+fn binary_at(
+    alloc: Global,
+    level: Level,
+    tokens: &[Token],
+) -> Result<(Part, &[Token]), Fault<'_, Token>>
+    ensures read { MatchResult result (λ x. Gives (rule (Binary level)) tokens.now (good (value_of x.0) (seen x.1.now)))
+        (FailsAt (rule (Binary level)) tokens.now) }
     ensures shorter { IfOk result (λ x. length x.1.now < length tokens.now) }
 {
     let (mut left, mut rest) = tighter_at(alloc, level, tokens)?;
@@ -209,11 +216,13 @@ fn binary_at(alloc: Global, level: Level, tokens: &[Token]) -> Result<(Part, &[T
 
 #[cycle(parser)]
 #[tactic(auto, using(pr_forms::proofs::Ways::ways))]
-fn tighter_at(alloc: Global, level: Level, tokens: &[Token]) -> Result<(Part, &[Token]), Fault<'_, Token>>
-    ensures read {
-        MatchResult result (λ x. Gives (rule (tighter level)) tokens.now (good (value_of x.0) (seen x.1.now)))
-            (FailsAt (rule (tighter level)) tokens.now)
-    }
+fn tighter_at(
+    alloc: Global,
+    level: Level,
+    tokens: &[Token],
+) -> Result<(Part, &[Token]), Fault<'_, Token>>
+    ensures read { MatchResult result (λ x. Gives (rule (tighter level)) tokens.now (good (value_of x.0) (seen x.1.now)))
+        (FailsAt (rule (tighter level)) tokens.now) }
     ensures shorter { IfOk result (λ x. length x.1.now < length tokens.now) }
 {
     match level {
@@ -225,9 +234,7 @@ fn tighter_at(alloc: Global, level: Level, tokens: &[Token]) -> Result<(Part, &[
 #[cycle(parser)]
 #[tactic(auto, using(pr_forms::proofs::Ways::ways))]
 fn unary_at(alloc: Global, tokens: &[Token]) -> Result<(Part, &[Token]), Fault<'_, Token>>
-    ensures read {
-        MatchResult result (λ x. Gives (rule Unary) tokens.now (good (value_of x.0) (seen x.1.now))) (FailsAt (rule Unary) tokens.now)
-    }
+    ensures read { MatchResult result (λ x. Gives (rule Unary) tokens.now (good (value_of x.0) (seen x.1.now))) (FailsAt (rule Unary) tokens.now) }
     ensures shorter { IfOk result (λ x. length x.1.now < length tokens.now) }
 {
     match after(Sign::Minus, tokens) {
@@ -242,9 +249,7 @@ fn unary_at(alloc: Global, tokens: &[Token]) -> Result<(Part, &[Token]), Fault<'
 #[cycle(parser)]
 #[tactic(auto, using(pr_forms::proofs::Ways::ways))]
 fn primary_at(alloc: Global, tokens: &[Token]) -> Result<(Part, &[Token]), Fault<'_, Token>>
-    ensures read {
-        MatchResult result (λ x. Gives (rule Primary) tokens.now (good (value_of x.0) (seen x.1.now))) (FailsAt (rule Primary) tokens.now)
-    }
+    ensures read { MatchResult result (λ x. Gives (rule Primary) tokens.now (good (value_of x.0) (seen x.1.now))) (FailsAt (rule Primary) tokens.now) }
     ensures shorter { IfOk result (λ x. length x.1.now < length tokens.now) }
 {
     if let Some((opening, following)) = after(Sign::Open, tokens) {
@@ -263,18 +268,26 @@ fn primary_at(alloc: Global, tokens: &[Token]) -> Result<(Part, &[Token]), Fault
 /// What stands in parentheses, after the first of them.
 #[cycle(parser)]
 #[tactic(auto, using(pr_forms::proofs::Ways::ways))]
-fn group_at(alloc: Global, opening: Place, tokens: &[Token]) -> Result<(Part, &[Token]), Fault<'_, Token>>
-    ensures read {
-        MatchResult result (λ x. (v : Value) × Gives group tokens.now (good v (seen x.1.now)) × (value_of x.0 ≡ opened_by (at opening) v))
-            (FailsAt group tokens.now)
-    }
+fn group_at(
+    alloc: Global,
+    opening: Place,
+    tokens: &[Token],
+) -> Result<(Part, &[Token]), Fault<'_, Token>>
+    ensures read { MatchResult result (λ x. (v : Value) × Gives group tokens.now (good v (seen x.1.now)) × (value_of x.0 ≡ opened_by (at opening) v))
+        (FailsAt group tokens.now) }
     ensures shorter { IfOk result (λ x. length x.1.now < length tokens.now) }
 {
     let (inner, following) = binary_at(alloc, Level::Sum, tokens)?;
     match after(Sign::Close, following) {
         Some((close, rest)) => {
             let place = opening.through(close);
-            Ok((Part { expr: inner.expr, place }, rest))
+            Ok((
+                Part {
+                    expr: inner.expr,
+                    place,
+                },
+                rest,
+            ))
         }
         None => Err(Fault::Bad(following)),
     }
@@ -283,11 +296,14 @@ fn group_at(alloc: Global, opening: Place, tokens: &[Token]) -> Result<(Part, &[
 /// What a name is, by what follows it.
 #[cycle(parser)]
 #[tactic(auto, using(pr_forms::proofs::Ways::ways))]
-fn name_at<'a>(alloc: Global, place: Place, text: &str, tokens: &'a [Token]) -> Result<(Part, &'a [Token]), Fault<'a, Token>>
-    ensures read {
-        MatchResult result (λ x. (v : Value) × Gives (rule Tail) tokens.now (good v (seen x.1.now)) × (value_of x.0 ≡ called (word place text.now) v))
-            (FailsAt (rule Tail) tokens.now)
-    }
+fn name_at<'a>(
+    alloc: Global,
+    place: Place,
+    text: &str,
+    tokens: &'a [Token],
+) -> Result<(Part, &'a [Token]), Fault<'a, Token>>
+    ensures read { MatchResult result (λ x. (v : Value) × Gives (rule Tail) tokens.now (good v (seen x.1.now)) × (value_of x.0 ≡ called (word place text.now) v))
+        (FailsAt (rule Tail) tokens.now) }
     ensures shorter { IfOk result (λ x. length x.1.now ≤ length tokens.now) }
 {
     let Some((_opening, following)) = after(Sign::Open, tokens) else {
@@ -303,10 +319,8 @@ fn name_at<'a>(alloc: Global, place: Place, text: &str, tokens: &'a [Token]) -> 
 #[cycle(parser)]
 #[tactic(auto, using(pr_forms::proofs::Ways::ways))]
 fn arguments_at(alloc: Global, tokens: &[Token]) -> Result<(Vec<Expr>, &[Token]), Fault<'_, Token>>
-    ensures read {
-        MatchResult result (λ x. Gives (rule Arguments) tokens.now (good (arguments (trees_of x.0.items)) (seen x.1.now)))
-            (FailsAt (rule Arguments) tokens.now)
-    }
+    ensures read { MatchResult result (λ x. Gives (rule Arguments) tokens.now (good (arguments (trees_of x.0.items)) (seen x.1.now)))
+        (FailsAt (rule Arguments) tokens.now) }
     ensures shorter { IfOk result (λ x. length x.1.now ≤ length tokens.now) }
 {
     let mut list = Vec::new(alloc);
@@ -328,9 +342,7 @@ pub fn parse(alloc: Global, tokens: &[Token]) -> Result<Expr, ParseError>
     // A tree that is answered is derived.
     ensures tree { IfOk result (λ e. Derives (seen tokens.now) (tree_of e)) }
     // Where one is derived, it is answered, unless memory runs out.
-    ensures only {
-        (v : Value) → Reads production (rule (Binary Sum)) (seen tokens.now) v [] → MatchResult result (λ e. HasTree v (tree_of e)) Misses
-    }
+    ensures only { (v : Value) → Reads production (rule (Binary Sum)) (seen tokens.now) v [] → MatchResult result (λ e. HasTree v (tree_of e)) Misses }
     // Else the fault says the first token with which no text can go on.
     ensures place { MatchResult result (λ _. IsBadPlace (seen tokens.now) (length tokens.now)) (Refuses (seen tokens.now)) }
 {

@@ -51,9 +51,22 @@ pub struct Expr {
 #[cycle(tree)]
 #[derive(Drop, Debug)]
 pub enum ExprKind {
-    Number { value: u32 },
-    Name { text: String },
-    Negated { inner: Box<Expr> },
-    Binary { operator: Operator, left: Box<Expr>, right: Box<Expr> },
-    Call { name: String, arguments: Vec<Expr> },
+    Number {
+        value: u32,
+    },
+    Name {
+        text: String,
+    },
+    Negated {
+        inner: Box<Expr>,
+    },
+    Binary {
+        operator: Operator,
+        left: Box<Expr>,
+        right: Box<Expr>,
+    },
+    Call {
+        name: String,
+        arguments: Vec<Expr>,
+    },
 }

@@ -29,7 +29,8 @@ decreases-unary_at l = 8 * length l.tokens.now + 2
 abbrev pub invariant-arguments_at-loop-comma : goal.invariant-arguments_at-loop-comma
 invariant-arguments_at-loop-comma l = record {
   leads : Leads (rule Arguments) l.tokens (turns argument (arguments (trees_of l.list.items)) next_argument) l.rest;
-  shorter : length l.rest < length l.tokens }
+  shorter : length l.rest < length l.tokens;
+}
 
 abbrev pub decreases-arguments_at-loop-comma : goal.decreases-arguments_at-loop-comma
 decreases-arguments_at-loop-comma l = length l.rest
@@ -37,7 +38,8 @@ decreases-arguments_at-loop-comma l = length l.rest
 abbrev pub invariant-binary_at-loop-operator : goal.invariant-binary_at-loop-operator
 invariant-binary_at-loop-operator l = record {
   leads : Leads (rule (Binary l.level)) l.tokens (turns joined (value_of l.left) (operand l.level)) l.rest;
-  shorter : length l.rest < length l.tokens }
+  shorter : length l.rest < length l.tokens;
+}
 
 abbrev pub decreases-binary_at-loop-operator : goal.decreases-binary_at-loop-operator
 decreases-binary_at-loop-operator l = length l.rest
