@@ -25,7 +25,7 @@ module _ {A T N V X : Type 0} (see : A → T) (G : N → Form T N V) (S : Table 
 
   -- what `take` says, as the run of a token: its test gives of each token what the grammar does
   pub taking : {Y : Type 0} {P : Bor A → Option X → Type 0} (first : Y → X) (rest : Y → List A) (o : Option Y) (ts : List A) →
-    MatchOption o (IsMissed P ts) (λ y. IsTaken P (first y) ts (rest y)) → ((x : Bor A) (r : Option X) → P x r → option_map made r ≡ p (see x.now)) →
-    MatchOption o (Lacks G S (token p) (map see ts)) (λ y. Takes G S (token p) (map see ts) (made (first y)) (map see (rest y)))
+      MatchOption o (IsMissed P ts) (λ y. IsTaken P (first y) ts (rest y)) → ((x : Bor A) (r : Option X) → P x r → option_map made r ≡ p (see x.now)) →
+      MatchOption o (Lacks G S (token p) (map see ts)) (λ y. Takes G S (token p) (map see ts) (made (first y)) (map see (rest y)))
   taking first rest None ts h step = lacks step h
   taking first rest (Some y) ts h step = takes (first y) step h

@@ -6,9 +6,38 @@ ghost use Rattle.pr_forms_sample.specs.declared.tree.Sign.TheVariants.{Minus, Op
 ghost use Rattle.pr_forms_sample.specs.declared.parser.Level.TheVariants.{Sum};
 ghost use Rattle.pr_forms_sample.specs.Tree.{number, seen, seen_token, tree_of, trees_of};
 ghost use Rattle.pr_forms_sample.specs.Grammar.{
-    Value, part, at, word, operation, turn, arguments, closed, alone, through, joined, negated_by, opened_by, called, same_sign,
-    operator_of, sign, sign_at, operator, operation_at, tighter, Binary, Unary, Primary, Tail, Arguments, production, Derives,
-    HasTree, IsBadPlace, Refuses, Misses,
+  Value,
+  part,
+  at,
+  word,
+  operation,
+  turn,
+  arguments,
+  closed,
+  alone,
+  through,
+  joined,
+  negated_by,
+  opened_by,
+  called,
+  same_sign,
+  operator_of,
+  sign,
+  sign_at,
+  operator,
+  operation_at,
+  tighter,
+  Binary,
+  Unary,
+  Primary,
+  Tail,
+  Arguments,
+  production,
+  Derives,
+  HasTree,
+  IsBadPlace,
+  Refuses,
+  Misses,
 };
 ghost use Rattle.pr_forms_sample.specs.Reader.{Gives, FailsAt, Takes, Lacks, value_of, group, argument_starts};
 
@@ -79,14 +108,17 @@ fn operator_in(level: Level, tokens: &[Token]) -> Option<(Operator, &[Token])>
     ensures read { MatchOption result (Lacks (operator level) tokens.now) (λ x. Takes (operator level) tokens.now (operation x.0) x.1.now) }
     ensures shorter { IfSome result (λ x. length x.1.now < length tokens.now) }
 {
-    take(tokens, |token: &Token| -> Option<Operator>
-        ensures { option_map operation result ≡ operation_at level (seen_token token.now) }
-    {
-        match &token.kind {
-            TokenKind::Sign { sign } => operator_by(level, *sign),
-            _ => None,
-        }
-    })
+    take(
+        tokens,
+        |token: &Token| -> Option<Operator>
+            ensures { option_map operation result ≡ operation_at level (seen_token token.now) }
+        {
+            match &token.kind {
+                TokenKind::Sign { sign } => operator_by(level, *sign),
+                _ => None,
+            }
+        },
+    )
 }
 
 /// The place of the sign at the front, and what follows it.
@@ -94,14 +126,17 @@ fn after(wanted: Sign, tokens: &[Token]) -> Option<(Place, &[Token])>
     ensures read { MatchOption result (Lacks (sign wanted) tokens.now) (λ x. Takes (sign wanted) tokens.now (at x.0) x.1.now) }
     ensures shorter { IfSome result (λ x. length x.1.now < length tokens.now) }
 {
-    take(tokens, |token: &Token| -> Option<Place>
-        ensures { option_map at result ≡ sign_at wanted (seen_token token.now) }
-    {
-        match &token.kind {
-            TokenKind::Sign { sign } if is_sign(wanted, *sign) => Some(token.place),
-            _ => None,
-        }
-    })
+    take(
+        tokens,
+        |token: &Token| -> Option<Place>
+            ensures { option_map at result ≡ sign_at wanted (seen_token token.now) }
+        {
+            match &token.kind {
+                TokenKind::Sign { sign } if is_sign(wanted, *sign) => Some(token.place),
+                _ => None,
+            }
+        },
+    )
 }
 
 /// Whether an argument can begin with the next token.
@@ -347,12 +382,12 @@ pub fn parse(alloc: Global, tokens: &[Token]) -> Result<Expr, ParseError>
     ensures place { MatchResult result (λ _. IsBadPlace (seen tokens.now) (length tokens.now)) (Refuses (seen tokens.now)) }
 {
     match binary_at(alloc, Level::Sum, tokens) {
-        Ok((whole, rest)) => {
-            if rest.is_empty() {
+        Ok((whole, left)) => {
+            if left.is_empty() {
                 Ok(whole.expr)
             } else {
                 Err(ParseError::Bad {
-                    index: place_of(tokens, rest),
+                    index: place_of(tokens, left),
                 })
             }
         }

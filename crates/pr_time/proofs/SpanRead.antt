@@ -44,7 +44,7 @@ digits_read n h = decimal_by_steps DigitsRead one_digit more_digits n h
 
 -- the units, from a greatest one on
 abbrev FromReads : TimeUnit → List Letter → ℕ → ℕ → Type 0
-FromReads least ts s ms = Reads production (rule (From least)) ts (scaled s ms) []
+FromReads greatest ts s ms = Reads production (rule (From greatest)) ts (scaled s ms) []
 
 abbrev AfterReads : TimeUnit → List Letter → ℕ → Type 0
 AfterReads u ts ms = Reads production (rule (After u)) ts (span ms) []
@@ -80,9 +80,9 @@ ms_second : FromReads Second (M ∷ S ∷ []) 1 0
 ms_second = is_rule (is_right ms_millisecond)
 
 -- A place where parts may stand, or none: what is read from it, with the units from a greatest one on.
-record Position (least : TimeUnit) (R : List Letter → ℕ → Type 0) : Type 0 where
+record Position (greatest : TimeUnit) (R : List Letter → ℕ → Type 0) : Type 0 where
   base : R [] 0
-  step : (n s v : ℕ) (ts : List Letter) → 0 < n → n < 2 ^ 64 → FromReads least ts s v → R (seen (decimal n) ++ ts) (n * s + v)
+  step : (n s v : ℕ) (ts : List Letter) → 0 < n → n < 2 ^ 64 → FromReads greatest ts s v → R (seen (decimal n) ++ ts) (n * s + v)
 
 abbrev TextReads : List Letter → ℕ → Type 0
 TextReads ts ms = 0 < ms → Reads production (rule Text) ts (span ms) []
@@ -128,7 +128,7 @@ part_none : (n : ℕ) (u : List ℕ) → n ≡ 0 → part_text n u ≡ []
 part_none n u e = ap (λ k. part_text k u) e
 
 -- one part and what follows it: nothing where its number is 0
-joined : {least : TimeUnit} {R : List Letter → ℕ → Type 0} → Position least R → (n s v : ℕ) (u text : List ℕ) → n < 2 ^ 64 → FromReads least (seen (u ++ text)) s v → R (seen text) v →
+joined : {greatest : TimeUnit} {R : List Letter → ℕ → Type 0} → Position greatest R → (n s v : ℕ) (u text : List ℕ) → n < 2 ^ 64 → FromReads greatest (seen (u ++ text)) s v → R (seen text) v →
     R (seen (part_text n u ++ text)) (n * s + v)
 joined {R = R} p n s v u text small d r = elim (cases_lt 0 n) [ inl pos ↦ some pos | inr none ↦ zero_part (omega arith) ]
   where
@@ -144,20 +144,20 @@ joined {R = R} p n s v u text small d r = elim (cases_lt 0 n) [ inl pos ↦ some
     zero_part : n ≡ 0 → R (seen (part_text n u ++ text)) (n * s + v)
     zero_part e = subst (λ x. R (seen (part_text n u ++ text)) x) (value e) (subst (λ x. R (seen (x ++ text)) v) (sym (part_none n u e)) r)
 
-read_ms : {least : TimeUnit} {R : List Letter → ℕ → Type 0} → Position least R → FromReads least (M ∷ S ∷ []) 1 0 → (k : ℕ) → k < 2 ^ 64 → R (seen (ms_text k)) k
+read_ms : {greatest : TimeUnit} {R : List Letter → ℕ → Type 0} → Position greatest R → FromReads greatest (M ∷ S ∷ []) 1 0 → (k : ℕ) → k < 2 ^ 64 → R (seen (ms_text k)) k
 read_ms {R = R} p d k small = subst (λ x. R (seen (ms_text k)) x) (omega arith) (subst (λ x. R (seen x) (k * 1 + 0)) (append-nil (ms_text k)) (joined p k 1 0 (codes "ms") [] small d p.base))
 
-read_s : {least : TimeUnit} {R : List Letter → ℕ → Type 0} → Position least R → FromReads least (M ∷ S ∷ []) 1 0 → ((ts : List Letter) (ms : ℕ) → AfterReads Second ts ms → FromReads least (S ∷ ts) 1000 ms) →
+read_s : {greatest : TimeUnit} {R : List Letter → ℕ → Type 0} → Position greatest R → FromReads greatest (M ∷ S ∷ []) 1 0 → ((ts : List Letter) (ms : ℕ) → AfterReads Second ts ms → FromReads greatest (S ∷ ts) 1000 ms) →
     (n k : ℕ) → n < 2 ^ 64 → k < 2 ^ 64 → R (seen (s_text n k)) (n * 1000 + k)
 read_s p ms s n k small_n small = joined p n 1000 k (codes "s") (ms_text k) small_n (s _ k (read_ms after_second ms_millisecond k small)) (read_ms p ms k small)
 
-read_m : {least : TimeUnit} {R : List Letter → ℕ → Type 0} → Position least R → FromReads least (M ∷ S ∷ []) 1 0 → ((ts : List Letter) (ms : ℕ) → AfterReads Second ts ms → FromReads least (S ∷ ts) 1000 ms) →
-    ((ts : List Letter) (ms : ℕ) → AfterReads Minute ts ms → FromReads least (M ∷ ts) 60000 ms) →
+read_m : {greatest : TimeUnit} {R : List Letter → ℕ → Type 0} → Position greatest R → FromReads greatest (M ∷ S ∷ []) 1 0 → ((ts : List Letter) (ms : ℕ) → AfterReads Second ts ms → FromReads greatest (S ∷ ts) 1000 ms) →
+    ((ts : List Letter) (ms : ℕ) → AfterReads Minute ts ms → FromReads greatest (M ∷ ts) 60000 ms) →
     (m n k : ℕ) → m < 2 ^ 64 → n < 2 ^ 64 → k < 2 ^ 64 → R (seen (m_text m n k)) (m * 60000 + (n * 1000 + k))
 read_m p ms s mi m n k small_m small_n small = joined p m 60000 (n * 1000 + k) (codes "m") (s_text n k) small_m (mi _ _ (read_s after_minute ms_second s_second n k small_n small)) (read_s p ms s n k small_n small)
 
-read_h : {least : TimeUnit} {R : List Letter → ℕ → Type 0} → Position least R → FromReads least (M ∷ S ∷ []) 1 0 → ((ts : List Letter) (ms : ℕ) → AfterReads Second ts ms → FromReads least (S ∷ ts) 1000 ms) →
-    ((ts : List Letter) (ms : ℕ) → AfterReads Minute ts ms → FromReads least (M ∷ ts) 60000 ms) → ((ts : List Letter) (ms : ℕ) → AfterReads Hour ts ms → FromReads least (H ∷ ts) 3600000 ms) →
+read_h : {greatest : TimeUnit} {R : List Letter → ℕ → Type 0} → Position greatest R → FromReads greatest (M ∷ S ∷ []) 1 0 → ((ts : List Letter) (ms : ℕ) → AfterReads Second ts ms → FromReads greatest (S ∷ ts) 1000 ms) →
+    ((ts : List Letter) (ms : ℕ) → AfterReads Minute ts ms → FromReads greatest (M ∷ ts) 60000 ms) → ((ts : List Letter) (ms : ℕ) → AfterReads Hour ts ms → FromReads greatest (H ∷ ts) 3600000 ms) →
     (h m n k : ℕ) → h < 2 ^ 64 → m < 2 ^ 64 → n < 2 ^ 64 → k < 2 ^ 64 → R (seen (h_text h m n k)) (h * 3600000 + (m * 60000 + (n * 1000 + k)))
 read_h p ms s mi hr h m n k small_h small_m small_n small = joined p h 3600000 (m * 60000 + (n * 1000 + k)) (codes "h") (m_text m n k) small_h
     (hr _ _ (read_m after_hour ms_minute s_minute m_minute m n k small_m small_n small)) (read_m p ms s mi m n k small_m small_n small)

@@ -16,17 +16,6 @@ use Rattle.pr_time.specs.declared.text.Unit.TheVariants.{Year, Week, Day, Hour, 
 use Rattle.pr_time.specs.SpanText.{production, table, Rule, Text, AfterZero, After, From, AfterM, Value, count, scaled, span, mark, digit, digit_at, zero_at, other_digit_at, unit, unit_at, ms_of, shifted, times, followed, second_of, amount, smaller, below, NoUnit, seen}
 use Rattle.pr_time.specs.SpanReader.{Gives, Takes, Lacks, Digits, Counts, Measures, Enters, Going, kept, starts_amount}
 
-pub no_digit : (t : Letter) → ((n : ℕ) → t ≡ Digit n → ⊥) → digit_at t ≡ None
-no_digit (Digit n) other = absurd (other n refl)
-no_digit t other = refl
-
-pub no_s_letter : (t : Letter) → (t ≡ S → ⊥) → unit_at Millisecond t ≡ None
-no_s_letter S other = absurd (other refl)
-no_s_letter t other = refl
-
-pub none_seen : (ts : List Letter) → ts ≡ [] → length ts ≡ 0
-none_seen ts e = ap length e
-
 -- one more digit
 more_kept : (m number d next : ℕ) → number ≡ kept m → next ≡ min (number * 10 + d) (2 ^ 40 + 1) → next ≡ kept (m * 10 + d)
 more_kept m number d next e h = omega (arith, e, h)
@@ -55,21 +44,21 @@ part_kept a b s number more ms pos e h k = elim (cases_lt a (2 ^ 40 + 2)) [
       let two : (2 ^ 40 + 1) * s ≤ a * s = mul-le-mul_right s (omega arith) in omega (arith, h, k, is, one, two))
 ]
 
-pub amount_reads : (f : Form Letter Rule Value) (ts mid after rest : List Letter) (least u : TimeUnit) (number more ms : ℕ) → Counts f ts number mid → Enters least mid u after →
-    Measures (rule (After u)) after more rest → ms ≡ min (min (min (number * ms_of u) (2 ^ 64 - 1) + more) (2 ^ 64 - 1)) (2 ^ 40 + 1) → Measures (amount f (From least)) ts ms rest
-amount_reads f ts mid after rest least u number more ms x y z e = record {
+pub amount_reads : (f : Form Letter Rule Value) (ts mid after rest : List Letter) (greatest u : TimeUnit) (number more ms : ℕ) → Counts f ts number mid → Enters greatest mid u after →
+    Measures (rule (After u)) after more rest → ms ≡ min (min (min (number * ms_of u) (2 ^ 64 - 1) + more) (2 ^ 64 - 1)) (2 ^ 40 + 1) → Measures (amount f (From greatest)) ts ms rest
+amount_reads f ts mid after rest greatest u number more ms x y z e = record {
   exact = x.exact * ms_of u + z.exact;
   gives = run_pair x.gives (y.reads z.exact rest z.gives);
   is_kept = part_kept x.exact z.exact (ms_of u) number more ms (unit_above u) x.is_kept z.is_kept e;
 }
 
-pub amount_no_unit : (f : Form Letter Rule Value) (ts mid rest : List Letter) (least : TimeUnit) (number : ℕ) → Counts f ts number mid → Gives (rule (From least)) mid (bad rest) →
-    Gives (amount f (From least)) ts (bad rest)
-amount_no_unit f ts mid rest least number x h = run_second x.gives h
+pub amount_no_unit : (f : Form Letter Rule Value) (ts mid rest : List Letter) (greatest : TimeUnit) (number : ℕ) → Counts f ts number mid → Gives (rule (From greatest)) mid (bad rest) →
+    Gives (amount f (From greatest)) ts (bad rest)
+amount_no_unit f ts mid rest greatest number x h = run_second x.gives h
 
-pub amount_bad_part : (f : Form Letter Rule Value) (ts mid after rest : List Letter) (least u : TimeUnit) (number : ℕ) → Counts f ts number mid → Enters least mid u after →
-    Gives (rule (After u)) after (bad rest) → Gives (amount f (From least)) ts (bad rest)
-amount_bad_part f ts mid after rest least u number x y h = run_second x.gives (y.fails rest h)
+pub amount_bad_part : (f : Form Letter Rule Value) (ts mid after rest : List Letter) (greatest u : TimeUnit) (number : ℕ) → Counts f ts number mid → Enters greatest mid u after →
+    Gives (rule (After u)) after (bad rest) → Gives (amount f (From greatest)) ts (bad rest)
+amount_bad_part f ts mid after rest greatest u number x y h = run_second x.gives (y.fails rest h)
 
 pub exit : {X E : Type 0} (P : X → Type 0) (Q : E → Type 0) (r : Result X E) (e : E) → IsErrAnd r (λ y. y ≡ e) → Q e → MatchResult r P Q
 exit P Q (Ok x) e h k = absurd h

@@ -34,7 +34,7 @@ end_week = run_rule (run_right refl end_day)
 end_year : Gives (rule (From Year)) [] (bad [])
 end_year = run_rule (run_right refl end_week)
 
-pub from_end : (least : TimeUnit) → Gives (rule (From least)) [] (bad [])
+pub from_end : (greatest : TimeUnit) → Gives (rule (From greatest)) [] (bad [])
 from_end Year = end_year
 from_end Week = end_week
 from_end Day = end_day
@@ -45,7 +45,7 @@ from_end Millisecond = end_millisecond
 
 -- what the next letter gives: no unit, or one with the parts after it
 abbrev pub Chosen : TimeUnit → List Letter → Option TimeUnit → List Letter → Type 0
-Chosen least ts o rest = MatchOption o (Gives (rule (From least)) ts (bad ts)) (λ u. Enters least ts u rest)
+Chosen greatest ts o rest = MatchOption o (Gives (rule (From greatest)) ts (bad ts)) (λ u. Enters greatest ts u rest)
 
 -- the rule of a unit goes on to the one of smaller units
 lift : (u v : TimeUnit) (f : Form Letter Rule Value) (ts rest : List Letter) (o : Option TimeUnit) → production (From u) ≡ either f (rule (From v)) → is_next table f ts ≡ false →
@@ -90,7 +90,7 @@ from_year M rest other = absurd (other refl)
 from_year Y rest other = record { reads = λ ms end h. run_rule (run_left refl (run_pair (run_token refl) h)); fails = λ end h. run_rule (run_left refl (run_second (run_token refl) h)) }
 from_year t rest other = lift Year Week (pair followed (unit Year) (rule (After Year))) (t ∷ rest) rest (unit_left Week t) refl refl (from_week t rest other)
 
-pub units : (least : TimeUnit) (t : Letter) (rest : List Letter) → (t ≡ M → ⊥) → Chosen least (t ∷ rest) (unit_left least t) rest
+pub units : (greatest : TimeUnit) (t : Letter) (rest : List Letter) → (t ≡ M → ⊥) → Chosen greatest (t ∷ rest) (unit_left greatest t) rest
 units Year t rest other = from_year t rest other
 units Week t rest other = from_week t rest other
 units Day t rest other = from_day t rest other
@@ -99,15 +99,15 @@ units Minute t rest other = from_minute t rest other
 units Second t rest other = from_second t rest other
 units Millisecond t rest other = from_millisecond t rest other
 
-pub unit_some : (least u : TimeUnit) (t : Letter) (ts rest : List Letter) → ts ≡ t ∷ rest → (t ≡ M → ⊥) → unit_left least t ≡ Some u → Enters least ts u rest
-unit_some least u t ts rest e other h = rw e (subst (λ o. Chosen least (t ∷ rest) o rest) h (units least t rest other))
+pub unit_some : (greatest u : TimeUnit) (t : Letter) (ts rest : List Letter) → ts ≡ t ∷ rest → (t ≡ M → ⊥) → unit_left greatest t ≡ Some u → Enters greatest ts u rest
+unit_some greatest u t ts rest e other h = rw e (subst (λ o. Chosen greatest (t ∷ rest) o rest) h (units greatest t rest other))
 
-pub unit_none : (least : TimeUnit) (t : Letter) (ts rest : List Letter) → ts ≡ t ∷ rest → (t ≡ M → ⊥) → unit_left least t ≡ None → Gives (rule (From least)) ts (bad ts)
-unit_none least t ts rest e other h = rw e (subst (λ o. Chosen least (t ∷ rest) o rest) h (units least t rest other))
+pub unit_none : (greatest : TimeUnit) (t : Letter) (ts rest : List Letter) → ts ≡ t ∷ rest → (t ≡ M → ⊥) → unit_left greatest t ≡ None → Gives (rule (From greatest)) ts (bad ts)
+unit_none greatest t ts rest e other h = rw e (subst (λ o. Chosen greatest (t ∷ rest) o rest) h (units greatest t rest other))
 
 -- after an m, from minutes on
-pub many_m : (least : TimeUnit) (rest : List Letter) (o : Outcome Letter Value) → (least ≡ Second → ⊥) → (least ≡ Millisecond → ⊥) →
-    Gives (rule (From Minute)) (M ∷ rest) o → Gives (rule (From least)) (M ∷ rest) o
+pub many_m : (greatest : TimeUnit) (rest : List Letter) (o : Outcome Letter Value) → (greatest ≡ Second → ⊥) → (greatest ≡ Millisecond → ⊥) →
+    Gives (rule (From Minute)) (M ∷ rest) o → Gives (rule (From greatest)) (M ∷ rest) o
 many_m Second rest o a b h = absurd (a refl)
 many_m Millisecond rest o a b h = absurd (b refl)
 many_m Minute rest o a b h = h
@@ -117,15 +117,15 @@ many_m Week rest o a b h = run_rule (run_right refl (run_rule (run_right refl (r
 many_m Year rest o a b h = run_rule (run_right refl (run_rule (run_right refl (run_rule (run_right refl (run_rule (run_right refl h)))))))
 
 -- minutes
-pub minutes : (least : TimeUnit) (rest : List Letter) → (least ≡ Second → ⊥) → (least ≡ Millisecond → ⊥) → Lacks (unit Millisecond) rest → Enters least (M ∷ rest) Minute rest
-minutes least rest a b l = record {
-  reads = λ ms end h. many_m least rest _ a b (run_rule (run_left refl (run_pair (run_token refl) (run_rule (other_side l (run_pair run_nothing h))))));
-  fails = λ end h. many_m least rest _ a b (run_rule (run_left refl (run_second (run_token refl) (run_rule (other_side l (run_second run_nothing h))))));
+pub minutes : (greatest : TimeUnit) (rest : List Letter) → (greatest ≡ Second → ⊥) → (greatest ≡ Millisecond → ⊥) → Lacks (unit Millisecond) rest → Enters greatest (M ∷ rest) Minute rest
+minutes greatest rest a b l = record {
+  reads = λ ms end h. many_m greatest rest _ a b (run_rule (run_left refl (run_pair (run_token refl) (run_rule (other_side l (run_pair run_nothing h))))));
+  fails = λ end h. many_m greatest rest _ a b (run_rule (run_left refl (run_second (run_token refl) (run_rule (other_side l (run_second run_nothing h))))));
 }
 
 -- milliseconds, in an m or alone
-small_m : (rest : List Letter) (o : Outcome Letter Value) → Gives (pair followed (unit Millisecond) (rule (After Millisecond))) rest o → (least : TimeUnit) →
-    Gives (rule (From Minute)) (M ∷ rest) o → Gives (rule (From Millisecond)) (M ∷ rest) o → Gives (rule (From least)) (M ∷ rest) o
+small_m : (rest : List Letter) (o : Outcome Letter Value) → Gives (pair followed (unit Millisecond) (rule (After Millisecond))) rest o → (greatest : TimeUnit) →
+    Gives (rule (From Minute)) (M ∷ rest) o → Gives (rule (From Millisecond)) (M ∷ rest) o → Gives (rule (From greatest)) (M ∷ rest) o
 small_m rest o g Millisecond h k = k
 small_m rest o g Second h k = run_rule (run_right refl k)
 small_m rest o g Minute h k = many_m Minute rest o (λ e. cc) (λ e. cc) h
@@ -134,19 +134,19 @@ small_m rest o g Day h k = many_m Day rest o (λ e. cc) (λ e. cc) h
 small_m rest o g Week h k = many_m Week rest o (λ e. cc) (λ e. cc) h
 small_m rest o g Year h k = many_m Year rest o (λ e. cc) (λ e. cc) h
 
-pub milliseconds : (least : TimeUnit) (ts rest : List Letter) → Takes (unit Millisecond) ts (scaled 1 0) rest → Enters least (M ∷ ts) Millisecond rest
-milliseconds least ts rest x = record {
-  reads = λ ms end h. small_m ts _ (run_pair x.gives h) least (run_rule (run_left refl (run_pair (run_token refl) (run_rule (take_side x h))))) (run_rule (run_pair (run_token refl) (run_pair x.gives h)));
-  fails = λ end h. small_m ts _ (run_second x.gives h) least (run_rule (run_left refl (run_second (run_token refl) (run_rule (take_side_bad x h))))) (run_rule (run_second (run_token refl) (run_second x.gives h)));
+pub milliseconds : (greatest : TimeUnit) (ts rest : List Letter) → Takes (unit Millisecond) ts (scaled 1 0) rest → Enters greatest (M ∷ ts) Millisecond rest
+milliseconds greatest ts rest x = record {
+  reads = λ ms end h. small_m ts _ (run_pair x.gives h) greatest (run_rule (run_left refl (run_pair (run_token refl) (run_rule (take_side x h))))) (run_rule (run_pair (run_token refl) (run_pair x.gives h)));
+  fails = λ end h. small_m ts _ (run_second x.gives h) greatest (run_rule (run_left refl (run_second (run_token refl) (run_rule (take_side_bad x h))))) (run_rule (run_second (run_token refl) (run_second x.gives h)));
 }
 
 -- an m with no s after it, where only milliseconds are left
-pub no_s : (least : TimeUnit) (ts : List Letter) → Lacks (unit Millisecond) ts → Gives (rule (From Millisecond)) (M ∷ ts) (bad ts)
-no_s least ts l = run_rule (run_second (run_token refl) (run_first l.gives))
+pub no_s : (greatest : TimeUnit) (ts : List Letter) → Lacks (unit Millisecond) ts → Gives (rule (From Millisecond)) (M ∷ ts) (bad ts)
+no_s greatest ts l = run_rule (run_second (run_token refl) (run_first l.gives))
 
 pub no_s_second : (ts : List Letter) → Lacks (unit Millisecond) ts → Gives (rule (From Second)) (M ∷ ts) (bad ts)
 no_s_second ts l = run_rule (run_right refl (no_s Second ts l))
 
-pub no_minutes : (least : TimeUnit) (ts : List Letter) → (least ≡ Second) ⊎ (least ≡ Millisecond) → Lacks (unit Millisecond) ts → Gives (rule (From least)) (M ∷ ts) (bad ts)
-no_minutes least ts (inl e) l = rw e (no_s_second ts l)
-no_minutes least ts (inr e) l = rw e (no_s Millisecond ts l)
+pub no_minutes : (greatest : TimeUnit) (ts : List Letter) → (greatest ≡ Second) ⊎ (greatest ≡ Millisecond) → Lacks (unit Millisecond) ts → Gives (rule (From greatest)) (M ∷ ts) (bad ts)
+no_minutes greatest ts (inl e) l = rw e (no_s_second ts l)
+no_minutes greatest ts (inr e) l = rw e (no_s Millisecond ts l)

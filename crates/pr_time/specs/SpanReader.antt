@@ -47,9 +47,9 @@ pub record Measures (f : Form Letter Rule Value) (ts : List Letter) (ms : ℕ) (
   pub is_kept : ms ≡ kept exact
 
 -- After the unit there come the parts after it, and they decide.
-pub record Enters (least : TimeUnit) (ts : List Letter) (unit : TimeUnit) (rest : List Letter) : Type 0 where
-  pub reads : (ms : ℕ) (end : List Letter) → Gives (rule (After unit)) rest (good (span ms) end) → Gives (rule (From least)) ts (good (scaled (ms_of unit) ms) end)
-  pub fails : (end : List Letter) → Gives (rule (After unit)) rest (bad end) → Gives (rule (From least)) ts (bad end)
+pub record Enters (greatest : TimeUnit) (ts : List Letter) (unit : TimeUnit) (rest : List Letter) : Type 0 where
+  pub reads : (ms : ℕ) (end : List Letter) → Gives (rule (After unit)) rest (good (span ms) end) → Gives (rule (From greatest)) ts (good (scaled (ms_of unit) ms) end)
+  pub fails : (end : List Letter) → Gives (rule (After unit)) rest (bad end) → Gives (rule (From greatest)) ts (bad end)
 
 abbrev pub starts_amount : List Letter → Bool
 starts_amount ts = is_next {V = Value} table (rule AfterZero) ts
@@ -64,13 +64,13 @@ named M = Some Minute
 named S = Some Second
 named _ = None
 
--- the unit, where it is the least one or a smaller one
+-- the unit, where it is the greatest one or a smaller one
 abbrev pub kept_from : TimeUnit → Option TimeUnit → Option TimeUnit
-kept_from least None = None
-kept_from least (Some u) = if nat_le (rank least) (rank u) then Some u else None
+kept_from greatest None = None
+kept_from greatest (Some u) = if nat_le (rank greatest) (rank u) then Some u else None
 
 abbrev pub unit_left : TimeUnit → Letter → Option TimeUnit
-unit_left least t = kept_from least (named t)
+unit_left greatest t = kept_from greatest (named t)
 
 -- A form with a number so far, which more digits go on.
 pub record Going (f : Form Letter Rule Value) (ts : List Letter) (number : ℕ) (rest : List Letter) : Type 0 where

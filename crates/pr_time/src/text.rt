@@ -1,5 +1,5 @@
 //! The texts of spans.
-ghost use Rattle.std.specs.Prelude.{◌≡◌, ℕ, List, [], ◌∷◌, ◌<◌, ◌≤◌, ◌^◌, ◌+◌, min, length, IfOk, IfSome, MatchOption, MatchResult};
+ghost use Rattle.std.specs.Prelude.{◌≡◌, ℕ, List, [], ◌∷◌, ◌<◌, ◌≤◌, ◌^◌, ◌+◌, min, length, IfOk, IfSome, MatchOption, MatchResult, option_map};
 ghost use Rattle.pr_forms.specs.Form.{Form, rule};
 ghost use Rattle.pr_forms.specs.Run.{good, bad};
 ghost use Rattle.pr_time.specs.declared.text.Letter.{Letter};
@@ -10,30 +10,32 @@ ghost use Rattle.pr_time.specs.SpanText.{
   seen,
   ms_of,
   smaller,
+  rank,
   digit,
+  digit_at,
+  unit,
+  unit_at,
   amount,
   count,
+  scaled,
+  span,
   Value,
   Rule,
   Text,
   After,
   From,
   AfterZero,
+  production,
   ReadsSpan,
   IsBadPlace,
   Refuses,
   IsTooLong,
-  production,
-  span,
-  rank,
-  unit,
-  scaled,
 };
 ghost use Rattle.pr_time.specs.SpanReader.{Gives, Takes, Lacks, IsFront, kept, Digits, Counts, Measures, Enters, starts_amount, named, unit_left};
 ghost use Rattle.pr_forms.specs.Form.{Reads};
 
 use crate::value::Span;
-use pr_forms::place_of;
+use pr_forms::{place_of, take};
 
 /// A number that stands for each one above the greatest span.
 const MANY: u64 = (1 << 40) + 1;
@@ -151,33 +153,41 @@ fn next_letter(text: &[u8]) -> Option<(Letter, &[u8])>
 }
 
 /// The digit at the front, and what follows it.
-fn digit_in(text: &[u8]) -> Option<(u64, &[u8])>
+fn digit_in(text: &[u8]) -> Option<(u8, &[u8])>
     ensures read { MatchOption result (Lacks digit (seen text.now)) (λ x. Takes digit (seen text.now) (count x.0) (seen x.1.now)) }
     ensures small { IfSome result (λ x. x.0 < 256) }
     ensures shorter { IfSome result (λ x. length x.1.now < length text.now) }
 {
-    let Some((letter, rest)) = next_letter(text) else {
-        return None;
-    };
-    match letter {
-        Letter::Digit(digit) => Some((u64::from(digit), rest)),
-        _ => None,
-    }
+    take(
+        text,
+        |byte: &u8| -> Option<u8>
+            ensures { option_map count result ≡ digit_at (letter_of byte.now) }
+        {
+            match letter_of_byte(*byte) {
+                Letter::Digit(digit) => Some(digit),
+                _ => None,
+            }
+        },
+    )
 }
 
 /// What follows the s of milliseconds.
-fn after_s(text: &[u8]) -> Option<&[u8]>
+fn after_s(text: &[u8]) -> Option<((), &[u8])>
     ensures read { MatchOption result (Lacks (unit Millisecond) (seen text.now))
-        (λ rest. Takes (unit Millisecond) (seen text.now) (scaled (ms_of Millisecond) 0) (seen rest.now)) }
-    ensures shorter { IfSome result (λ rest. length rest.now < length text.now) }
+        (λ x. Takes (unit Millisecond) (seen text.now) (scaled (ms_of Millisecond) 0) (seen x.1.now)) }
+    ensures shorter { IfSome result (λ x. length x.1.now < length text.now) }
 {
-    let Some((letter, rest)) = next_letter(text) else {
-        return None;
-    };
-    match letter {
-        Letter::S => Some(rest),
-        _ => None,
-    }
+    take(
+        text,
+        |byte: &u8| -> Option<()>
+            ensures { option_map (λ _. scaled (ms_of Millisecond) 0) result ≡ unit_at Millisecond (letter_of byte.now) }
+        {
+            match letter_of_byte(*byte) {
+                Letter::S => Some(()),
+                _ => None,
+            }
+        },
+    )
 }
 
 /// The number that the digits at the front write after `first`, and what follows them.
@@ -191,65 +201,65 @@ fn number_in(first: u64, text: &[u8]) -> (u64, &[u8])
     let mut number = first;
     let mut rest = text;
     while let Some((digit, after)) = digit_in(rest) {
-        number = (number * 10 + digit).min(MANY);
+        number = (number * 10 + u64::from(digit)).min(MANY);
         rest = after;
     }
     (number, rest)
 }
 
-/// The unit that a letter writes, where it is `least` or a smaller one. An m stands for minutes here.
-fn unit_of(least: Unit, letter: Letter) -> Option<Unit>
-    ensures { result ≡ unit_left least letter }
+/// The unit that a letter writes, where it is `greatest` or a smaller one. An m stands for minutes here.
+fn unit_of(greatest: Unit, letter: Letter) -> Option<Unit>
+    ensures { result ≡ unit_left greatest letter }
 {
     match named_by(letter) {
-        Some(unit) if least.rank() <= unit.rank() => Some(unit),
+        Some(unit) if greatest.rank() <= unit.rank() => Some(unit),
         _ => None,
     }
 }
 
 /// The unit after an m: milliseconds where an s follows, else minutes.
-fn minute_in(least: Unit, text: &[u8]) -> Result<(Unit, &[u8]), &[u8]>
-    ensures read { MatchResult result (λ x. Enters least (M ∷ seen text.now) x.0 (seen x.1.now))
-        (λ rest. Gives (rule (From least)) (M ∷ seen text.now) (bad (seen rest.now))) }
+fn minute_in(greatest: Unit, text: &[u8]) -> Result<(Unit, &[u8]), &[u8]>
+    ensures read { MatchResult result (λ x. Enters greatest (M ∷ seen text.now) x.0 (seen x.1.now))
+        (λ rest. Gives (rule (From greatest)) (M ∷ seen text.now) (bad (seen rest.now))) }
     ensures shorter { IfOk result (λ x. length x.1.now ≤ length text.now) }
 {
     match after_s(text) {
-        Some(rest) => Ok((Unit::Millisecond, rest)),
-        None => match least {
+        Some((_s, rest)) => Ok((Unit::Millisecond, rest)),
+        None => match greatest {
             Unit::Second | Unit::Millisecond => Err(text),
             _ => Ok((Unit::Minute, text)),
         },
     }
 }
 
-/// The unit at the front, `least` or a smaller one, and what follows it.
-fn unit_in(least: Unit, text: &[u8]) -> Result<(Unit, &[u8]), &[u8]>
-    ensures read { MatchResult result (λ x. Enters least (seen text.now) x.0 (seen x.1.now))
-        (λ rest. Gives (rule (From least)) (seen text.now) (bad (seen rest.now))) }
+/// The unit at the front, `greatest` or a smaller one, and what follows it.
+fn unit_in(greatest: Unit, text: &[u8]) -> Result<(Unit, &[u8]), &[u8]>
+    ensures read { MatchResult result (λ x. Enters greatest (seen text.now) x.0 (seen x.1.now))
+        (λ rest. Gives (rule (From greatest)) (seen text.now) (bad (seen rest.now))) }
     ensures shorter { IfOk result (λ x. length x.1.now < length text.now) }
 {
     let Some((letter, rest)) = next_letter(text) else {
         return Err(text);
     };
     match letter {
-        Letter::M => minute_in(least, rest),
-        _ => match unit_of(least, letter) {
+        Letter::M => minute_in(greatest, rest),
+        _ => match unit_of(greatest, letter) {
             Some(unit) => Ok((unit, rest)),
             None => Err(text),
         },
     }
 }
 
-/// A number that begins with `first`, its unit, `least` or a smaller one, and the parts after it, in milliseconds, and
+/// A number that begins with `first`, its unit, `greatest` or a smaller one, and the parts after it, in milliseconds, and
 /// what follows them.
 #[cycle(parts)]
-fn amount_in(least: Unit, first: u64, text: &[u8]) -> Result<(u64, &[u8]), &[u8]>
+fn amount_in(greatest: Unit, first: u64, text: &[u8]) -> Result<(u64, &[u8]), &[u8]>
     requires { first ≤ 2 ^ 40 + 1 }
     ensures read { (f : Form Letter Rule Value) (ts : List Letter) (n : ℕ) → first ≡ kept n → Digits f ts n (seen text.now) →
-        MatchResult result (λ x. Measures (amount f (From least)) ts x.0 (seen x.1.now)) (λ rest. Gives (amount f (From least)) ts (bad (seen rest.now))) }
+        MatchResult result (λ x. Measures (amount f (From greatest)) ts x.0 (seen x.1.now)) (λ rest. Gives (amount f (From greatest)) ts (bad (seen rest.now))) }
 {
     let (number, after_number) = number_in(first, text);
-    let (unit, after_unit) = unit_in(least, after_number)?;
+    let (unit, after_unit) = unit_in(greatest, after_number)?;
     let (more, rest) = parts_after(unit, after_unit)?;
     Ok((
         number
@@ -271,8 +281,8 @@ fn parts_after(last: Unit, text: &[u8]) -> Result<(u64, &[u8]), &[u8]>
     };
     match last {
         // No unit is left for the number.
-        Unit::Millisecond => Err(number_in(first, rest).1),
-        _ => amount_in(last.smaller(), first, rest),
+        Unit::Millisecond => Err(number_in(u64::from(first), rest).1),
+        _ => amount_in(last.smaller(), u64::from(first), rest),
     }
 }
 
@@ -309,7 +319,7 @@ fn span_in(text: &[u8]) -> Result<(u64, &[u8]), &[u8]>
             if first == 0 {
                 zero_in(rest)
             } else {
-                amount_in(Unit::Year, first, rest)
+                amount_in(Unit::Year, u64::from(first), rest)
             }
         }
     }
@@ -327,12 +337,12 @@ pub fn read_span(text: &[u8]) -> Result<Span, SpanFault>
     ensures place { MatchResult result (λ _. IsBadPlace text.now (length text.now)) (Refuses text.now) }
 {
     match span_in(text) {
-        Ok((ms, rest)) => {
-            if rest.is_empty() {
+        Ok((ms, left)) => {
+            if left.is_empty() {
                 Span::new(ms).ok_or(SpanFault::SpanTooLong)
             } else {
                 Err(SpanFault::BadSpan {
-                    at: place_of(text, rest),
+                    at: place_of(text, left),
                 })
             }
         }

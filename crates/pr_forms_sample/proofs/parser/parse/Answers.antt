@@ -9,19 +9,19 @@ use Rattle.pr_forms_sample.proofs.Ways.{has_tree}
 use Rattle.pr_forms_sample.proofs.parser.parse.Goals as goal
 
 pub returns-then-is_empty-clause-tree : goal.returns-then-is_empty-clause-tree
-returns-then-is_empty-clause-tree c = (c.in-Ok.whole.place, read_whole seen_token production table known (Binary Sum) _ c.in-Ok.rest.now (value_of c.in-Ok.whole) c.in-Ok.ensures.read (search rules))
+returns-then-is_empty-clause-tree c = (c.in-Ok.whole.place, read_whole seen_token production table known (Binary Sum) _ c.in-Ok.left.now (value_of c.in-Ok.whole) c.in-Ok.ensures.read (search rules))
 
 pub returns-then-is_empty-clause-only : goal.returns-then-is_empty-clause-only
-returns-then-is_empty-clause-only c = λ v d. has_tree v c.in-Ok.whole (only_value seen_token production table known (Binary Sum) _ c.in-Ok.rest.now (value_of c.in-Ok.whole) v c.in-Ok.ensures.read d)
+returns-then-is_empty-clause-only c = λ v d. has_tree v c.in-Ok.whole (only_value seen_token production table known (Binary Sum) _ c.in-Ok.left.now (value_of c.in-Ok.whole) v c.in-Ok.ensures.read d)
 
 pub returns-then-is_empty-clause-place : goal.returns-then-is_empty-clause-place
-returns-then-is_empty-clause-place c = end_place seen_token production table known (Binary Sum) _ c.in-Ok.rest.now (value_of c.in-Ok.whole) c.in-Ok.ensures.read (search rules)
+returns-then-is_empty-clause-place c = end_place seen_token production table known (Binary Sum) _ c.in-Ok.left.now (value_of c.in-Ok.whole) c.in-Ok.ensures.read (search rules)
 
 pub returns-else-is_empty-clause-only : goal.returns-else-is_empty-clause-only
-returns-else-is_empty-clause-only c = λ v d. not_whole seen_token production table known (Binary Sum) _ c.in-Ok.rest.now (value_of c.in-Ok.whole) v c.is_empty.result c.in-Ok.ensures.read c.is_empty.ensures c.if-is_empty.false d
+returns-else-is_empty-clause-only c = λ v d. not_whole seen_token production table known (Binary Sum) _ c.in-Ok.left.now (value_of c.in-Ok.whole) v c.is_empty.result c.in-Ok.ensures.read c.is_empty.ensures c.if-is_empty.false d
 
 pub returns-else-is_empty-clause-place : goal.returns-else-is_empty-clause-place
-returns-else-is_empty-clause-place c = rw c.place_of.ensures (rest_place seen_token production table known (Binary Sum) _ c.in-Ok.rest.now (value_of c.in-Ok.whole) c.in-Ok.ensures.read)
+returns-else-is_empty-clause-place c = rw c.place_of.ensures (rest_place seen_token production table known (Binary Sum) _ c.in-Ok.left.now (value_of c.in-Ok.whole) c.in-Ok.ensures.read)
 
 pub place_of-requires-in-Err-Bad : goal.place_of-requires-in-Err-Bad
 place_of-requires-in-Err-Bad c = left_short seen_token production table known (Binary Sum) _ c.in-Err-Bad.rest.now _ (rw c.in-Err-Bad.field-0-is at c.in-Err-Bad.ensures.read) refl

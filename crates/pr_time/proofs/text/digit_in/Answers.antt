@@ -1,18 +1,6 @@
-use Rattle.std.proofs.Common.{Some, ap, sym, ◌∙◌}
-use Rattle.pr_forms.proofs.Steps.{token_takes, token_lacks, end_lacks}
-use Rattle.pr_time.specs.SpanText.{production, table, digit_at, count}
-use Rattle.pr_time.proofs.SpanReading.{none_seen, no_digit}
+use Rattle.pr_forms.proofs.Taking.{taking}
+use Rattle.pr_time.specs.SpanText.{production, table, letter_of, digit_at, count}
 use Rattle.pr_time.proofs.text.digit_in.Goals as goal
 
-pub returns-in_default-clause-read : goal.returns-in_default-clause-read
-returns-in_default-clause-read c = end_lacks production table digit_at _ (none_seen _ c.in_default.ensures)
-
-pub returns-in-Digit-clause-read : goal.returns-in-Digit-clause-read
-returns-in-Digit-clause-read c = token_takes production table digit_at _ c.in-Some.letter _ _ c.in-Some.ensures.is (ap digit_at c.in-Digit.is ∙ ap (λ n. Some (count n)) (sym c.from.ensures))
-
-pub returns-in_default-letter : goal.returns-in_default-letter
-returns-in_default-letter c = record {
-  read = token_lacks production table digit_at _ c.in-Some.letter _ c.in-Some.ensures.is (no_digit c.in-Some.letter c.in_default-letter.not-Digit);
-  small = tt;
-  shorter = tt;
-}
+pub returns-clause-read : goal.returns-clause-read
+returns-clause-read c = taking letter_of production table digit_at count (λ x. x.0) (λ x. x.1.now) c.take.result _ c.take.ensures (λ x r h. h)
