@@ -1,0 +1,13 @@
+pub mod Suffixes
+pub mod Sound
+pub mod Heads
+pub mod Decided
+pub mod Readings
+pub mod Places
+pub mod Frames
+pub mod Parts
+pub mod Steps
+pub mod Ways
+pub mod Public
+pub mod Longer
+pub mod Taking

@@ -1,0 +1,5 @@
+pub mod Form
+pub mod Table
+pub mod Run
+pub mod Reader
+pub mod Take

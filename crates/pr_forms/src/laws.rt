@@ -1,0 +1,72 @@
+//! The laws of grammars. Each stands as the contract of a function that does nothing, at any tokens `T`, rule
+//! names `N` and values `V`; callers' proofs cite the lemmas of `proofs/` that prove them.
+ghost use Rattle.std.specs.Prelude.{◌≡◌, ℕ, List, [], ◌++◌, ◌<◌, ◌≤◌, ◌-◌, length, take, drop};
+ghost use Rattle.pr_forms.specs.Form.{Form, rule, Reads, Begins, IsFirstBad};
+ghost use Rattle.pr_forms.specs.Table.{Table, IsDecided};
+ghost use Rattle.pr_forms.specs.Run.{Runs, Outcome, good, bad, left_of};
+
+/// Two readings of a text have the same value, where one token ahead decides the grammar.
+pub fn two_readings_agree<T, N, V>()
+    ensures { (G : N → Form T N V) (S : Table T N) (n : N) (ts : List T) (v w : V) → IsDecided G S →
+        Reads G (rule n) ts v [] → Reads G (rule n) ts w [] → v ≡ w }
+{}
+
+/// A run that succeeds is a reading.
+pub fn good_run_reads<T, N, V>()
+    ensures { (G : N → Form T N V) (S : Table T N) (f : Form T N V) (ts rest : List T) (v : V) →
+        Runs G S f ts (good v rest) → Reads G f ts v rest }
+{}
+
+/// A run that fails leaves a beginning before the place where it stopped.
+pub fn bad_run_begins<T, N, V>()
+    ensures { (G : N → Form T N V) (S : Table T N) (f : Form T N V) (ts rest : List T) →
+        Runs G S f ts (bad rest) → Begins G f ts rest }
+{}
+
+/// Where a text has a reading, each run gives that one, and leaves nothing.
+pub fn run_gives_the_reading<T, N, V>()
+    ensures { (G : N → Form T N V) (S : Table T N) (n : N) (ts : List T) (o : Outcome T V) (v : V) → IsDecided G S →
+        Runs G S (rule n) ts o → Reads G (rule n) ts v [] → o ≡ good v [] }
+{}
+
+/// No beginning goes past the place where a run stopped.
+pub fn no_beginning_passes_a_run<T, N, V>()
+    ensures { (G : N → Form T N V) (S : Table T N) (n : N) (ts rest : List T) (o : Outcome T V) → IsDecided G S →
+        Runs G S (rule n) ts o → Begins G (rule n) ts rest → length (left_of o) ≤ length rest }
+{}
+
+/// The place where a run stopped is the first bad one, whether it succeeded or failed.
+pub fn run_stops_at_the_first_bad_place<T, N, V>()
+    ensures { (G : N → Form T N V) (S : Table T N) (n : N) (ts : List T) (o : Outcome T V) → IsDecided G S →
+        Runs G S (rule n) ts o → IsFirstBad G (rule n) ts (length ts - length (left_of o)) }
+{}
+
+/// A text has at most one first bad place.
+pub fn first_bad_place_is_one<T, N, V>()
+    ensures { (G : N → Form T N V) (f : Form T N V) (ts : List T) (j k : ℕ) →
+        IsFirstBad G f ts j → IsFirstBad G f ts k → j ≡ k }
+{}
+
+/// A beginning cut short is a beginning.
+pub fn shorter_front_begins<T, N, V>()
+    ensures { (G : N → Form T N V) (f : Form T N V) (ts : List T) (j k : ℕ) → j ≤ k →
+        Begins G f ts (drop k ts) → Begins G f ts (drop j ts) }
+{}
+
+/// What follows a reading does not matter to it.
+pub fn reading_before_another_rest<T, N, V>()
+    ensures { (G : N → Form T N V) (f : Form T N V) (front r s : List T) (v : V) →
+        Reads G f (front ++ r) v r → Reads G f (front ++ s) v s }
+{}
+
+/// What follows a beginning does not matter to it.
+pub fn beginning_before_another_rest<T, N, V>()
+    ensures { (G : N → Form T N V) (f : Form T N V) (front r s : List T) →
+        Begins G f (front ++ r) r → Begins G f (front ++ s) s }
+{}
+
+/// A bad place within a front of the tokens is the first bad one of all: so a reader may look at a front alone.
+pub fn bad_place_of_a_front<T, N, V>()
+    ensures { (G : N → Form T N V) (f : Form T N V) (ts : List T) (m k : ℕ) → k < m → m ≤ length ts →
+        IsFirstBad G f (take m ts) k → IsFirstBad G f ts k }
+{}

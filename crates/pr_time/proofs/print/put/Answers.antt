@@ -1,0 +1,6 @@
+use Rattle.std.proofs.Common.{arith, ap, length}
+use Rattle.std.proofs.lemmas.Slice.{drop-put_mid}
+use Rattle.pr_time.proofs.print.put.Goals as goal
+
+pub returns-clause-rest : goal.returns-clause-rest
+returns-clause-rest c = drop-put_mid c.args.at _ c.args.out.now c.copy_from_slice.new.self _ (omega arith) (omega arith) (omega (arith, ap length c.copy_from_slice.ensures.after))

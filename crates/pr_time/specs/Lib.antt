@@ -1,0 +1,3 @@
+pub mod SpanText
+pub mod SpanReader
+pub mod SpanShown

@@ -1,0 +1,20 @@
+//! The laws of span texts, each as the contract of a function that does nothing.
+ghost use Rattle.std.specs.Prelude.{◌≡◌, ℕ, List, ◌≤◌, ◌^◌};
+ghost use Rattle.pr_forms.specs.Table.{IsDecided};
+ghost use Rattle.pr_time.specs.SpanText.{production, table, ReadsSpan};
+ghost use Rattle.pr_time.specs.SpanShown.{shown_span};
+
+/// One byte ahead decides the grammar of span texts: so a text is read in one way, and without going back.
+pub fn one_byte_decides()
+    ensures { IsDecided production table }
+{}
+
+/// A text reads as one span at most.
+pub fn text_reads_as_one_span()
+    ensures { (text : List ℕ) (m n : ℕ) → ReadsSpan text m → ReadsSpan text n → m ≡ n }
+{}
+
+/// A span that is printed reads as that span.
+pub fn shown_span_reads()
+    ensures { (ms : ℕ) → ms ≤ 2 ^ 40 → ReadsSpan (shown_span ms) ms }
+{}

@@ -1,0 +1,13 @@
+//! Times and spans in whole milliseconds, and the texts of spans.
+#![tactic(auto)]
+
+pub mod laws;
+mod print;
+#[cfg(test)]
+mod tests;
+mod text;
+mod value;
+
+pub use print::write_span;
+pub use text::{SpanFault, read_span};
+pub use value::{Ms, Span};
