@@ -1,4 +1,5 @@
 use pr_num::Point;
+use pr_time::Ms;
 
 /// What becomes of a point that is to be admitted.
 #[derive(Clone, Copy, Debug, PartialEq, Eq)]
@@ -7,8 +8,8 @@ pub enum Append {
     Added,
     /// The series has an equal point at this time, its last.
     Same,
-    /// The last time of the series, in milliseconds, is above.
-    OutOfOrder { last: u64 },
+    /// The last time of the series is above.
+    OutOfOrder { last: Ms },
     /// The series has another point at this time, its last.
     Conflict { kept: Point },
 }

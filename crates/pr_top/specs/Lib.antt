@@ -6,3 +6,4 @@ pub mod Front
 pub mod Standing
 pub mod Stops
 pub mod Status
+pub mod Usage

@@ -1,6 +1,7 @@
 -- What the program ends with.
 use Rattle.std.specs.Prelude.{◌≡◌, ℕ, Bool, true, false, List, [], ◌∷◌, codes}
 use Rattle.std.specs.Str.{bytes_eq}
+use Rattle.pr_outside.specs.Causes.{Rose}
 use Rattle.pr_top.specs.declared.status.Status.{Status}
 use Rattle.pr_top.specs.declared.status.Status.TheVariants.{Done, Problem, Usage, Lint, ReadFault, WriteFault, StoreFault, Memory, TooLong}
 
@@ -87,3 +88,16 @@ IsUsageStatus WriteFault = Unit {0}
 IsUsageStatus StoreFault = ⊥
 IsUsageStatus Memory = Unit {0}
 IsUsageStatus TooLong = ⊥
+
+-- The first call of the outside that was refused ends the run, with its status: no other count rose, and want of
+-- memory is no refused call.
+abbrev pub HasOneCause : ℕ → ℕ → ℕ → ℕ → Status → Type 0
+HasOneCause read_before read_now write_before write_now Done = (read_now ≡ read_before) × (write_now ≡ write_before)
+HasOneCause read_before read_now write_before write_now Problem = (read_now ≡ read_before) × (write_now ≡ write_before)
+HasOneCause read_before read_now write_before write_now Usage = (read_now ≡ read_before) × (write_now ≡ write_before)
+HasOneCause read_before read_now write_before write_now Lint = (read_now ≡ read_before) × (write_now ≡ write_before)
+HasOneCause read_before read_now write_before write_now ReadFault = Rose read_before read_now × (write_now ≡ write_before)
+HasOneCause read_before read_now write_before write_now WriteFault = (read_now ≡ read_before) × Rose write_before write_now
+HasOneCause read_before read_now write_before write_now StoreFault = (read_now ≡ read_before) × (write_now ≡ write_before)
+HasOneCause read_before read_now write_before write_now Memory = (read_now ≡ read_before) × (write_now ≡ write_before)
+HasOneCause read_before read_now write_before write_now TooLong = (read_now ≡ read_before) × (write_now ≡ write_before)

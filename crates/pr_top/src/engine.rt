@@ -8,6 +8,7 @@ use super::history::{admit, selected};
 use pr_history::{Append, Entry};
 use pr_labels::Labels;
 use pr_num::Point;
+use pr_time::Ms;
 use pr_words::Items;
 use pr_world::{Event, Report};
 use std::alloc::{AllocError, Global};
@@ -17,7 +18,7 @@ use std::marker::Model;
 #[derive(Drop)]
 pub(crate) struct Engine {
     history: Vec<Entry>,
-    last: Option<u64>,
+    last: Option<Ms>,
 }
 
 impl Model for Engine {
@@ -28,7 +29,7 @@ impl Model for Engine {
     ghost view = { λ e. record { history = e.history.items; last = e.last } };
 }
 
-fn time_of(event: &Event) -> u64
+fn time_of(event: &Event) -> Ms
     ensures { result ≡ time_of event.now }
 {
     match event {
@@ -52,7 +53,7 @@ fn report_of(answer: Append) -> Report
 fn put(
     history: &mut Vec<Entry>,
     labels: Labels,
-    time: u64,
+    time: Ms,
     point: Point,
 ) -> Result<Append, AllocError>
     ensures ok { IfOk result (λ answer. history.new.items ≡ put_by answer history.old.items (entry_of time labels point)) }
@@ -115,7 +116,7 @@ impl Engine {
     {
         let given = time_of(&event);
         match self.last {
-            Some(last) if given < last => Ok(Report::Backwards { last, given }),
+            Some(last) if given.get() < last.get() => Ok(Report::Backwards { last, given }),
             _ => self.accept(alloc, event),
         }
     }

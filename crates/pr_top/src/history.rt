@@ -8,15 +8,18 @@ ghost use Rattle.pr_history.specs.Series.{text_at, meets, with_labels, chosen, i
 use pr_history::{Append, Entry};
 use pr_labels::{Item, Labels, Pair};
 use pr_num::{Num, Point};
+use pr_time::Ms;
 use std::alloc::{AllocError, Global};
 use std::cmp::Ordering;
 
 // How long a value is seen, in milliseconds. (Prometheus: Querying, Basics, Staleness.)
 const LOOKBACK: u64 = 300_000;
 
-fn is_recent(x: u64, time: u64) -> bool
+fn is_recent(x: Ms, time: Ms) -> bool
     ensures { result ≡ is_recent (pos x) time }
 {
+    let x = x.get();
+    let time = time.get();
     time <= x && (x < LOOKBACK || x - LOOKBACK < time)
 }
 
@@ -34,7 +37,7 @@ fn last_of<'a>(history: &'a [Entry], labels: &Labels) -> Option<&'a Entry>
 }
 
 // The newest entry of a series in the five minutes up to x.
-fn recent_of<'a>(history: &'a [Entry], x: u64, labels: &Labels) -> Option<&'a Entry>
+fn recent_of<'a>(history: &'a [Entry], x: Ms, labels: &Labels) -> Option<&'a Entry>
     ensures { option_copied result ≡ last_entry (λ e. is_of labels.now e && is_recent (pos x) e.time) history.now }
 {
     history
@@ -44,15 +47,15 @@ fn recent_of<'a>(history: &'a [Entry], x: u64, labels: &Labels) -> Option<&'a En
 }
 
 /// What becomes of a point.
-pub(crate) fn admit(history: &[Entry], labels: &Labels, time: u64, point: &Point) -> Append
+pub(crate) fn admit(history: &[Entry], labels: &Labels, time: Ms, point: &Point) -> Append
     ensures { result ≡ admit history.now labels.now time point.now }
 {
     match last_of(history, labels) {
         None => Append::Added,
         Some(e) => {
-            if e.time < time {
+            if e.time.get() < time.get() {
                 Append::Added
-            } else if e.time == time {
+            } else if e.time.get() == time.get() {
                 if e.point == *point {
                     Append::Same
                 } else {
@@ -66,7 +69,7 @@ pub(crate) fn admit(history: &[Entry], labels: &Labels, time: u64, point: &Point
 }
 
 // The value of a series at a moment.
-fn value_at(history: &[Entry], x: u64, labels: &Labels) -> Option<Num>
+fn value_at(history: &[Entry], x: Ms, labels: &Labels) -> Option<Num>
     ensures { result ≡ value_at history.now (pos x) labels.now }
 {
     match recent_of(history, x, labels) {
@@ -141,7 +144,7 @@ pub(crate) fn selected(
     alloc: Global,
     history: &[Entry],
     equal: &[Pair],
-    x: u64,
+    x: Ms,
 ) -> Result<Vec<Item<Num>>, AllocError>
     ensures { IfOk result (λ v. v.items ≡ selected history.now equal.now (pos x)) }
 {

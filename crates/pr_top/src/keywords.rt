@@ -2,9 +2,8 @@
 ghost use Rattle.std.specs.Prelude.{◌≡◌, map};
 ghost use Rattle.pr_top.specs.Keywords.{same_word, is_among, is_keyword};
 
-/// Operators' words, names of aggregations, and numbers' words: a metric with such a name is selected by
-/// its label `__name__`. (Prometheus: Querying, Basics and Operators; that they are never bare names is an
-/// own choice.)
+/// Operators' words, names of aggregations, and numbers' words. (Prometheus: Querying, Operators. That they
+/// are never bare names of metrics, in any case, is an own choice.)
 pub(crate) const KEYWORDS: [&str; 23] = [
     "and",
     "or",
@@ -50,7 +49,7 @@ fn is_among(text: &str, words: &[&str]) -> bool
 }
 
 /// Whether a text is one of the words, in any case.
-#[tactic(auto, unfolding(crate::specs::Keywords::is_keyword))]
+#[tactic(auto, unfolding(crate::specs::Keywords::is_keyword, crate::specs::Keywords::keywords))]
 pub(crate) fn is_keyword(text: &str) -> bool
     ensures { result ≡ is_keyword text.now }
 {

@@ -10,6 +10,7 @@ ghost use Rattle.pr_top.specs.Script.{is_comment, is_passed_over, begins_with_ze
 use super::keywords::is_keyword;
 use pr_labels::{Labels, is_metric_name};
 use pr_num::Point;
+use pr_time::Ms;
 use pr_words::{split_first, split_last, without_trailing};
 use pr_world::Event;
 use std::alloc::{AllocError, Global};
@@ -74,14 +75,13 @@ fn capped(digits: &[u8]) -> u64
     value
 }
 
-fn time_of(text: &[u8]) -> Option<u64>
+fn time_of(text: &[u8]) -> Option<Ms>
     ensures { result ≡ time_of text.now }
 {
     if !is_decimal(text) {
         return None;
     }
-    let time = capped(text);
-    if time < TIME_LIMIT { Some(time) } else { None }
+    Ms::new(capped(text))
 }
 
 fn point_of(text: &[u8]) -> Option<Point>

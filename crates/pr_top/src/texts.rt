@@ -8,6 +8,7 @@ ghost use Rattle.pr_top.specs.Printed.{shown_point, opened_text, out_of_order_te
 use itoa::Buffer;
 use pr_labels::Item;
 use pr_num::{Num, Point};
+use pr_time::Ms;
 use pr_world::Report;
 use std::alloc::{AllocError, Global};
 
@@ -64,11 +65,11 @@ fn push_opened(text: &mut Vec<u8>, rows: u64) -> Result<(), AllocError>
     text.extend_from_slice(b"\n")
 }
 
-fn push_out_of_order(text: &mut Vec<u8>, last: u64) -> Result<(), AllocError>
+fn push_out_of_order(text: &mut Vec<u8>, last: Ms) -> Result<(), AllocError>
     ensures { OnOk result (text.new.items ≡ text.old.items ++ out_of_order_text last) }
 {
     push_dropped_out_of_order(text)?;
-    push_number(text, last)?;
+    push_number(text, last.get())?;
     text.extend_from_slice(b"\n")
 }
 
@@ -108,13 +109,13 @@ fn push_vector(alloc: Global, text: &mut Vec<u8>, items: &[Item<Num>]) -> Result
     push_items(alloc, text, items)
 }
 
-fn push_backwards(text: &mut Vec<u8>, last: u64, given: u64) -> Result<(), AllocError>
+fn push_backwards(text: &mut Vec<u8>, last: Ms, given: Ms) -> Result<(), AllocError>
     ensures { OnOk result (text.new.items ≡ text.old.items ++ backwards_text last given) }
 {
     push_backwards_last(text)?;
-    push_number(text, last)?;
+    push_number(text, last.get())?;
     text.extend_from_slice(b" given ")?;
-    push_number(text, given)?;
+    push_number(text, given.get())?;
     text.extend_from_slice(b"\n")
 }
 

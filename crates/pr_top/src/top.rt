@@ -4,9 +4,10 @@ ghost use Rattle.std.specs.Io.KnownBytes.{Appends, IsAtEnd};
 ghost use Rattle.pr_outside.specs.Causes.{Rose, IsCalm};
 ghost use Rattle.pr_words.specs.Lines.{lines_of};
 ghost use Rattle.pr_top.specs.Front.{IsFront};
-ghost use Rattle.pr_top.specs.Status.{is_run, IsRun, IsEnded, IsWhole, IsRunStatus, IsUsageStatus, IsStatusSoFar, verdict};
+ghost use Rattle.pr_top.specs.Status.{is_run, IsRun, IsEnded, IsWhole, IsRunStatus, IsUsageStatus, IsStatusSoFar, HasOneCause, verdict};
 ghost use Rattle.pr_top.specs.Stops.{IsLong};
 ghost use Rattle.pr_top.specs.Told.{told, refuses};
+ghost use Rattle.pr_top.specs.Usage.{usage_text};
 
 use super::output::send;
 use super::run::run;
@@ -14,8 +15,14 @@ use super::status::{Status, Stop};
 use pr_outside::{Files, Keeper, Sink, SinkError, Source};
 use std::alloc::Global;
 
-const USAGE: &[u8] =
-    b"usage: promtool run [--store FILE] | test rules FILE... | check rules FILE... | check metrics | exercise N | backfill STORE START END STEP FILE...\n";
+const USAGE: &[u8] = b"usage: promtool run [--store FILE] | test rules FILE... | check rules FILE... | check metrics | exercise N | backfill STORE START END STEP FILE...\n";
+
+#[tactic(auto, unfolding(crate::specs::Usage::usage_text))]
+fn usage() -> &'static [u8]
+    ensures { result.now ≡ usage_text }
+{
+    USAGE
+}
 
 #[tactic(auto, using(crate::proofs::RunWords::is_run_one, crate::proofs::RunWords::is_run_other))]
 fn is_run(words: &[String]) -> bool
@@ -38,6 +45,7 @@ fn run_script<I: Source, O: Sink>(alloc: Global, input: &mut I, out: &mut O) -> 
     ensures whole { IsWhole result → (I.faults input.new ≡ I.faults input.old) × (O.faults out.new ≡ O.faults out.old) }
     ensures read { result ≡ Status.ReadFault → Rose (I.faults input.old) (I.faults input.new) }
     ensures write { result ≡ Status.WriteFault → Rose (O.faults out.old) (O.faults out.new) }
+    ensures one { HasOneCause (I.faults input.old) (I.faults input.new) (O.faults out.old) (O.faults out.new) result }
     ensures long { result ≡ Status.TooLong → IsLong (I.left input.old) }
     ensures long_exactly { IfSome (I.left input.old) (λ bytes. 2 ^ 32 ≤ length bytes
         → IsCalm (I.faults input.old) (I.faults input.new) → IsCalm (O.faults out.old) (O.faults out.new)
@@ -56,13 +64,14 @@ fn run_script<I: Source, O: Sink>(alloc: Global, input: &mut I, out: &mut O) -> 
 
 // Refuses words that are none of the forms.
 fn refuse_words<O: Sink>(out: &mut O) -> Status
-    ensures text { result ≡ Status.Usage → Appends (O.taken out.old) (O.taken out.new) USAGE.now }
-    ensures front { (n : ℕ) × Appends (O.taken out.old) (O.taken out.new) (take n USAGE.now) }
+    ensures text { result ≡ Status.Usage → Appends (O.taken out.old) (O.taken out.new) usage_text }
+    ensures front { (n : ℕ) × Appends (O.taken out.old) (O.taken out.new) (take n usage_text) }
     ensures whole { IsWhole result → O.faults out.new ≡ O.faults out.old }
     ensures write { result ≡ Status.WriteFault → Rose (O.faults out.old) (O.faults out.new) }
+    ensures memory { result ≡ Status.Memory → O.faults out.new ≡ O.faults out.old }
     ensures some { IsUsageStatus result }
 {
-    match send(out, USAGE) {
+    match send(out, usage()) {
         Ok(()) => Status::Usage,
         Err(SinkError::Failed) => Status::WriteFault,
         Err(SinkError::Memory) => Status::Memory,
@@ -99,9 +108,9 @@ pub fn promtool<I: Source, F: Files, K: Keeper, O: Sink>(
     ensures usage { result ≡ Status.Usage → IsRun (map string_bytes words.now) → ⊥ }
     ensures usage_exactly { (IsRun (map string_bytes words.now) → ⊥) → IsCalm (O.faults out.old) (O.faults out.new)
         → result ≢ Status.Memory → result ≡ Status.Usage }
-    ensures usage_text { result ≡ Status.Usage → Appends (O.taken out.old) (O.taken out.new) USAGE.now }
+    ensures usage_text { result ≡ Status.Usage → Appends (O.taken out.old) (O.taken out.new) usage_text }
     ensures usage_front { (IsRun (map string_bytes words.now) → ⊥)
-        → (n : ℕ) × Appends (O.taken out.old) (O.taken out.new) (take n USAGE.now) }
+        → (n : ℕ) × Appends (O.taken out.old) (O.taken out.new) (take n usage_text) }
     ensures usage_input { (IsRun (map string_bytes words.now) → ⊥) → input.new ≡ input.old }
 
     // Each other answer has its cause.
@@ -109,6 +118,7 @@ pub fn promtool<I: Source, F: Files, K: Keeper, O: Sink>(
         × (F.faults files.new ≡ F.faults files.old) × (K.faults keeper.new ≡ K.faults keeper.old) }
     ensures read { result ≡ Status.ReadFault → Rose (I.faults input.old) (I.faults input.new) }
     ensures write { result ≡ Status.WriteFault → Rose (O.faults out.old) (O.faults out.new) }
+    ensures one { HasOneCause (I.faults input.old) (I.faults input.new) (O.faults out.old) (O.faults out.new) result }
     ensures long { result ≡ Status.TooLong → IsRun (map string_bytes words.now) × IsLong (I.left input.old) }
     ensures long_exactly { IsRun (map string_bytes words.now) → IfSome (I.left input.old) (λ bytes. 2 ^ 32 ≤ length bytes
         → IsCalm (I.faults input.old) (I.faults input.new) → IsCalm (O.faults out.old) (O.faults out.new)

@@ -1,8 +1,8 @@
 // Counting steps in proofs alone.
-ghost use Rattle.std.specs.Prelude.{◌≡◌, ◌+◌};
+ghost use Rattle.std.specs.Prelude.{◌≡◌, ◌+◌, ◌<◌};
 
 use std::marker::Model;
-use std::sync::ledger::{Book, Ledger, Share};
+use std::sync::ledger::{Blank, Book, Ledger, Share};
 
 /// How many steps were taken: contracts see the number. It takes no bytes, and only `tick` changes it, so
 /// a bound on it is a bound on how often the work was done that ticks.
@@ -23,6 +23,17 @@ impl<L: Ledger> Model for Steps<L> {
 }
 
 impl<L: Ledger> Steps<L> {
+    /// No steps yet. The ledger is the one that `L` stands for.
+    pub fn new(blank: Blank) -> Steps<L>
+        requires name { blank.name ≡ L.name }
+        requires parts { blank.parts ≡ L.parts }
+        requires some { 0 < L.parts }
+        ensures { result ≡ 0 }
+    {
+        let (book, share) = blank.open::<L>();
+        Steps { book, share }
+    }
+
     /// One more step.
     pub fn tick(&mut self)
         ensures { self.new ≡ self.old + 1 }

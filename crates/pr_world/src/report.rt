@@ -1,8 +1,9 @@
 use pr_labels::Item;
 use pr_num::{Num, Point};
+use pr_time::Ms;
 use pr_words::Items;
 
-/// What is answered. Times are in milliseconds.
+/// What is answered.
 #[derive(Debug, Drop)]
 pub enum Report {
     /// The run begins over this many kept rows.
@@ -12,11 +13,11 @@ pub enum Report {
     /// The series has an equal point at this time.
     Same,
     /// The last time of the series is above.
-    OutOfOrder { last: u64 },
+    OutOfOrder { last: Ms },
     /// The series has another point at this time.
     Conflict { kept: Point },
     /// The elements of a vector, in label order.
     Vector { items: Items<Item<Num>> },
     /// The event is before the last one, and was refused.
-    Backwards { last: u64, given: u64 },
+    Backwards { last: Ms, given: Ms },
 }
