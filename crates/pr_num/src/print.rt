@@ -42,6 +42,21 @@ fn put_fraction(out: &mut [u8; 40], start: usize, units: u64) -> usize
     at
 }
 
+/// Puts a whole number, by 64 bits where it has no more.
+fn put_whole(out: &mut [u8; 40], start: usize, whole: u128) -> usize
+    requires room { start ≤ 1 }
+    requires small { whole < 10 ^ 20 }
+    ensures at { result ≤ start + 20 }
+    ensures text { take result out.new ≡ take start out.old ++ decimal whole }
+{
+    let mut buffer = Buffer::new();
+    if whole <= u64::MAX as u128 {
+        put(out, start, buffer.format(whole as u64).as_bytes())
+    } else {
+        put(out, start, buffer.format(whole).as_bytes())
+    }
+}
+
 /// Puts a number of units of 10^-9: its whole part, and a point with the fraction where that is not 0.
 fn put_magnitude(out: &mut [u8; 40], start: usize, magnitude: u128) -> usize
     requires room { start ≤ 1 }
@@ -49,12 +64,7 @@ fn put_magnitude(out: &mut [u8; 40], start: usize, magnitude: u128) -> usize
     ensures at { result ≤ 40 }
     ensures text { take result out.new ≡ take start out.old ++ magnitude_text magnitude }
 {
-    let mut buffer = Buffer::new();
-    let at = put(
-        out,
-        start,
-        buffer.format(magnitude / 1_000_000_000).as_bytes(),
-    );
+    let at = put_whole(out, start, magnitude / 1_000_000_000);
     let fraction = (magnitude % 1_000_000_000) as u64;
     if fraction == 0 {
         return at;
