@@ -3,8 +3,9 @@ use Rattle.std.proofs.Common.{◌≡◌, ◌≢◌, ◌↔◌, ℕ, ℤ, pos, �
 use Rattle.std.proofs.Math.IntN.{*ℤ_comm, +ℤ_comm}
 use Rattle.std.proofs.lemmas.Int.{ints}
 use Rattle.std.proofs.lemmas.Cmp.{int_cmp_total, nat_cmp_total, then_total, on_total}
-use Rattle.std.specs.Cmp.{IsTotalOrder, signed_Decides}
-use Rattle.std.specs.Ordering.{int_cmp, nat_cmp, then_cmp, on, ordering_reverse, is_eq}
+use Rattle.std.proofs.lemmas.List.Sorted.{ranks_by}
+use Rattle.std.specs.Cmp.{IsStrictWeakOrder, IsTotalOrder, signed_Decides}
+use Rattle.std.specs.Ordering.{int_cmp, nat_cmp, then_cmp, on, ordering_reverse, is_eq, is_lt}
 use Rattle.std.specs.declared.cmp.Ordering.{Ordering}
 use Rattle.std.specs.declared.cmp.Ordering.TheVariants.{Equal, Greater}
 use Rattle.pr_num.specs.declared.value.Num.{Num}
@@ -98,6 +99,10 @@ order_is_total = total-along (then_cmp (on kind nat_cmp) (on units int_cmp)) ord
 
 equal_itself : (a : ℤ) → int_cmp a a ≡ Equal
 equal_itself a = grind (arith, ints)
+
+-- what a sort by `order` asks
+pub order_ranks : IsStrictWeakOrder (λ (a b : Num). is_lt (order_of a b))
+order_ranks = ranks_by order_is_total (λ v. v)
 
 pub order_tells_apart : (a b : Num) → (order_of a b ≡ Equal) ↔ (a ≡ b)
 unfolding order_of

@@ -21,7 +21,7 @@ use Rattle.pr_num.specs.declared.value.Num.TheVariants.{Finite, NaN, PosInf, Neg
 use Rattle.pr_num.proofs.Dropping.{ten_pos}
 use Rattle.pr_num.proofs.Digits.{after-append}
 use Rattle.pr_num.proofs.Scaling.{half_abs-whole}
-use Rattle.pr_num.proofs.Printing.{fraction-some}
+use Rattle.pr_num.proofs.Printing.{fraction-some, next_digit, step_whole}
 
 -- ---- values of digits
 after-value : (n : ℕ) (ds : List ℕ) → digits_value_after 10 n ds ≡ n * 10 ^ length ds + digits_value_after 10 0 ds
@@ -43,33 +43,34 @@ glyph : (d : ℕ) → d < 10 → is_ascii_digit (48 + d) ≡ true
 glyph d h = grind arith
 
 -- ---- the digits of a fraction
-fraction_digits_all : (n u : ℕ) → u < 10 ^ n → list_all is_ascii_digit (fraction_text n u) ≡ true
+fraction_digits_all : (n u : ℕ) → u < 10 ^ 9 → list_all is_ascii_digit (fraction_text n u) ≡ true
 unfolding fraction_text
 fraction_digits_all zero u h = refl
 fraction_digits_all (suc n) u h =
     elim (cases_eq u 0) [
       | inl z ↦ rw z refl
       | inr s ↦
-          let d : u / 10 ^ n < 10 = div_below u (10 ^ n) 10 (ten_pos n) (let e = pow-suc 10 n in omega (arith, e)) in
-          rw (fraction-some n u s, glyph (u / 10 ^ n) d) (fraction_digits_all n (u % 10 ^ n) (mod_below u (10 ^ n) (ten_pos n)))
+          rw (fraction-some n u s, glyph (u * 10 / 10 ^ 9) (next_digit u h)) (fraction_digits_all n (u * 10 % 10 ^ 9) (omega arith))
     ]
 
-value_step : (u d r T P V : ℕ) → d * T + r ≡ u → V * T ≡ r * P → (d * P + V) * (T * 10) ≡ u * (P * 10)
-value_step u d r T P V e h = let m : (d * T + r) * (P * 10) ≡ u * (P * 10) = ap (λ x. x * (P * 10)) e in omega (arith, m, h)
+value_step : (u d r P V : ℕ) → d * 10 ^ 9 + r ≡ u * 10 → V * 10 ^ 9 ≡ r * P → (d * P + V) * 10 ^ 9 ≡ u * (P * 10)
+value_step u d r P V e h = let m : (d * 10 ^ 9 + r) * P ≡ u * 10 * P = ap (λ x. x * P) e in omega (arith, m, h)
 
-fraction_value : (n u : ℕ) → u < 10 ^ n → digits_value 10 (fraction_text n u) * 10 ^ n ≡ u * 10 ^ length (fraction_text n u)
+-- a fraction that ends within n digits is what its digits say
+fraction_value : (n u : ℕ) → u < 10 ^ 9 → (u * 10 ^ n) % 10 ^ 9 ≡ 0 → digits_value 10 (fraction_text n u) * 10 ^ 9 ≡ u * 10 ^ length (fraction_text n u)
 unfolding fraction_text
-fraction_value zero u h = let z : u ≡ 0 = omega arith in rw z refl
-fraction_value (suc n) u h =
+fraction_value zero u h w = let z : u ≡ 0 = omega arith in rw z refl
+fraction_value (suc n) u h w =
     elim (cases_eq u 0) [
       | inl z ↦ rw z (omega arith)
       | inr s ↦
-          let d : u / 10 ^ n < 10 = div_below u (10 ^ n) 10 (ten_pos n) (let e = pow-suc 10 n in omega (arith, e)) in
-          let ih = fraction_value n (u % 10 ^ n) (mod_below u (10 ^ n) (ten_pos n)) in
-          let v : digits_value 10 ((48 + u / 10 ^ n) ∷ fraction_text n (u % 10 ^ n)) ≡ u / 10 ^ n * 10 ^ length (fraction_text n (u % 10 ^ n)) + digits_value 10 (fraction_text n (u % 10 ^ n))
-          = after-value (0 * 10 + digit_value (48 + u / 10 ^ n)) (fraction_text n (u % 10 ^ n)) ∙ ap (λ x. (0 * 10 + x) * 10 ^ length (fraction_text n (u % 10 ^ n)) + digits_value 10 (fraction_text n (u % 10 ^ n))) (digit_of (u / 10 ^ n) d) ∙ omega arith in
-          rw (fraction-some n u s, v, pow-suc 10 n, pow-suc 10 (length (fraction_text n (u % 10 ^ n))))
-          (value_step u (u / 10 ^ n) (u % 10 ^ n) (10 ^ n) (10 ^ length (fraction_text n (u % 10 ^ n))) (digits_value 10 (fraction_text n (u % 10 ^ n))) (div-add-mod' u (10 ^ n)) ih)
+          let d : u * 10 / 10 ^ 9 < 10 = next_digit u h in
+          let rest = fraction_text n (u * 10 % 10 ^ 9) in
+          let ih = fraction_value n (u * 10 % 10 ^ 9) (omega arith) (step_whole n u w) in
+          let v : digits_value 10 ((48 + u * 10 / 10 ^ 9) ∷ rest) ≡ u * 10 / 10 ^ 9 * 10 ^ length rest + digits_value 10 rest
+          = after-value (0 * 10 + digit_value (48 + u * 10 / 10 ^ 9)) rest ∙ ap (λ x. (0 * 10 + x) * 10 ^ length rest + digits_value 10 rest) (digit_of (u * 10 / 10 ^ 9) d) ∙ omega arith in
+          rw (fraction-some n u s, v, pow-suc 10 (length rest))
+          (value_step u (u * 10 / 10 ^ 9) (u * 10 % 10 ^ 9) (10 ^ length rest) (digits_value 10 rest) (div-add-mod' (u * 10) (10 ^ 9)) ih)
     ]
 
 -- ---- the front digits of a printed number
@@ -107,7 +108,7 @@ fraction_read n u W small w =
     let L = length (fraction_text 9 u) in
     let V = digits_value 10 (fraction_text 9 u) in
     let a : digits_value 10 (W ++ fraction_text 9 u) ≡ n * 10 ^ L + V = after-append 0 W (fraction_text 9 u) ∙ after-value (digits_value 10 W) (fraction_text 9 u) ∙ ap (λ x. x * 10 ^ L + V) w in
-    let f : V * 10 ^ 9 ≡ u * 10 ^ L = fraction_value 9 u small in
+    let f : V * 10 ^ 9 ≡ u * 10 ^ L = fraction_value 9 u small (omega arith) in
     let e : digits_value 10 (W ++ fraction_text 9 u) * 10 ^ 9 ≡ (n * 10 ^ 9 + u) * 10 ^ L = ap (λ x. x * 10 ^ 9) a ∙ omega (arith, f) in
     rw e (half_abs-whole (n * 10 ^ 9 + u) (10 ^ L) (ten_pos L))
 

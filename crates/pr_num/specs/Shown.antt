@@ -1,12 +1,13 @@
 -- The one text that is printed for a value.
-use Rattle.std.specs.Prelude.{ℕ, zero, suc, ◌+◌, ◌/◌, ◌%◌, ◌^◌, ◌==◌, List, [], ◌∷◌, ◌++◌, codes, ℤ, pos, negsuc, if◌then◌else◌, decimal}
+use Rattle.std.specs.Prelude.{ℕ, zero, suc, ◌+◌, ◌*◌, ◌/◌, ◌%◌, ◌^◌, ◌==◌, List, [], ◌∷◌, ◌++◌, codes, ℤ, pos, negsuc, if◌then◌else◌, decimal}
 use Rattle.pr_num.specs.declared.value.Num.{Num}
 use Rattle.pr_num.specs.declared.value.Num.TheVariants.{Finite, NaN, PosInf, NegInf}
 
--- the digits of u / 10^n after a point, without zeros at the end
+-- the next n digits of u units of 10^-9 after a point, without zeros at the end: each digit is the whole
+-- part of ten times what is left
 unfoldable pub fraction_text : ℕ → ℕ → List ℕ
 fraction_text zero u = []
-fraction_text (suc n) u = if u == 0 then [] else (48 + u / 10 ^ n) ∷ fraction_text n (u % 10 ^ n)
+fraction_text (suc n) u = if u == 0 then [] else (48 + u * 10 / 10 ^ 9) ∷ fraction_text n (u * 10 % 10 ^ 9)
 
 -- a fraction after its point, and nothing where it is 0
 abbrev pub point_text : ℕ → List ℕ

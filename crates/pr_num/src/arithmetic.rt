@@ -156,7 +156,7 @@ impl Num {
         ensures { result ≡ muldiv_of self b c }
     {
         match self {
-            Num::Finite(x) => finite_muldiv(x.units(), b, c),
+            Num::Finite(x) => muldiv_units(x.units(), b, c),
             other => Ok(other),
         }
     }
@@ -213,15 +213,18 @@ fn finite_remainder(a: i128, b: i128) -> Num
     Num::Finite(Nano::of(a % b))
 }
 
+/// `units * b / c` for a number of units that may be wider than a value, rounded once, half to even. The
+/// formulas over differences of values are made of it.
+///
+/// Answers `TooWide` exactly where the rounded result is 10^20 or more in magnitude.
 #[tactic(auto, using(crate::proofs::Signs::muldiv_fits, crate::proofs::Signs::muldiv_wide))]
-fn finite_muldiv(a: i128, b: u64, c: u64) -> Result<Num, TooWide>
-    requires value { IsNano a }
-    requires times { b < 2 ^ 63 }
-    requires over { (0 < c) × (c < 2 ^ 63) }
-    ensures { result ≡ fitted (half (a *ℤ pos b) (pos c)) }
+pub fn muldiv_units(units: i128, b: u64, c: u64) -> Result<Num, TooWide>
+    requires room { b * c < 2 ^ 127 }
+    requires over { 0 < c }
+    ensures { result ≡ fitted (half (units *ℤ pos b) (pos c)) }
 {
-    match half_scaled(a.unsigned_abs(), b, c) {
-        Some(magnitude) => of_magnitude(is_below_zero(a), magnitude),
+    match half_scaled(units.unsigned_abs(), b, c) {
+        Some(magnitude) => of_magnitude(is_below_zero(units), magnitude),
         None => Err(TooWide),
     }
 }

@@ -24,6 +24,7 @@ mod totals;
 mod value;
 mod wide;
 
+pub use arithmetic::muldiv_units;
 pub use laws::{
     floor_is_next_below, order_is_total, printed_texts_read_back, rounding_is_half_to_even,
     sums_and_products_commute, totals_join,

@@ -26,7 +26,7 @@ fn put(out: &mut [u8; 40], at: usize, bytes: &[u8]) -> usize
 }
 
 /// Puts the digits of a fraction of this many units of 10^-9, up to the last one that is not 0.
-fn put_fraction(out: &mut [u8; 40], start: usize, units: u32) -> usize
+fn put_fraction(out: &mut [u8; 40], start: usize, units: u64) -> usize
     requires room { start + 9 ≤ 40 }
     requires small { units < 10 ^ 9 }
     ensures at { result ≤ start + 9 }
@@ -34,14 +34,27 @@ fn put_fraction(out: &mut [u8; 40], start: usize, units: u32) -> usize
 {
     let mut at = start;
     let mut left = units;
-    let mut places: u32 = 9;
     'digits: while left != 0 {
-        places -= 1;
-        let place = 10u32.pow(places);
-        at = put_byte(out, at, b'0' + (left / place) as u8);
-        left %= place;
+        let shifted = left * 10;
+        at = put_byte(out, at, b'0' + (shifted / 1_000_000_000) as u8);
+        left = shifted % 1_000_000_000;
     }
     at
+}
+
+/// Puts a whole number, by 64 bits where it has no more.
+fn put_whole(out: &mut [u8; 40], start: usize, whole: u128) -> usize
+    requires room { start ≤ 1 }
+    requires small { whole < 10 ^ 20 }
+    ensures at { result ≤ start + 20 }
+    ensures text { take result out.new ≡ take start out.old ++ decimal whole }
+{
+    let mut buffer = Buffer::new();
+    if whole <= u64::MAX as u128 {
+        put(out, start, buffer.format(whole as u64).as_bytes())
+    } else {
+        put(out, start, buffer.format(whole).as_bytes())
+    }
 }
 
 /// Puts a number of units of 10^-9: its whole part, and a point with the fraction where that is not 0.
@@ -51,13 +64,8 @@ fn put_magnitude(out: &mut [u8; 40], start: usize, magnitude: u128) -> usize
     ensures at { result ≤ 40 }
     ensures text { take result out.new ≡ take start out.old ++ magnitude_text magnitude }
 {
-    let mut buffer = Buffer::new();
-    let at = put(
-        out,
-        start,
-        buffer.format(magnitude / 1_000_000_000).as_bytes(),
-    );
-    let fraction = (magnitude % 1_000_000_000) as u32;
+    let at = put_whole(out, start, magnitude / 1_000_000_000);
+    let fraction = (magnitude % 1_000_000_000) as u64;
     if fraction == 0 {
         return at;
     }

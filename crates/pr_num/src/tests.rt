@@ -2,7 +2,7 @@
 ghost use Rattle.std.specs.Prelude.{◌≡◌, IfOk, IsSorted, length};
 ghost use Rattle.pr_num.specs.Order.{order_of};
 
-use crate::{Nano, Num, NumFault, Point, TooWide, Total, quantile, read, write};
+use crate::{Nano, Num, NumFault, Point, TooWide, Total, muldiv_units, quantile, read, write};
 use std::alloc::{AllocError, Global};
 use std::cmp::Ordering;
 use std::test::Fail;
@@ -405,6 +405,9 @@ fn edges(rt: HostRuntime) -> Result<(), Fail> {
     assert!(rt; Point::Value(Num::PosInf) != Point::Stale);
     assert!(rt; Num::whole(1).compare(Num::NaN).is_none());
     assert!(rt; Num::whole(1).compare(Num::NegInf) == Some(Ordering::Greater));
+    let wide = 400_000_000_000_000_000_000_000_000_000;
+    assert!(rt; gives(muldiv_units(wide, 1, 5), "80000000000000000000"));
+    assert!(rt; gives(muldiv_units(wide, 1, 4), WIDE));
     let third = Nano::new(333_333_333).ok_or("a third")?;
     let one = Nano::new(1_000_000_000).ok_or("one")?;
     assert!(rt; one.muldiv_cmp(1, 3, third) == Ordering::Greater);
