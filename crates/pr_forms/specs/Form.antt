@@ -1,5 +1,5 @@
 -- Forms of texts over any kind of token: what they read, what is a beginning of them, and the first bad place.
-use Rattle.std.specs.Prelude.{◌≡◌, ◌≤◌, ◌<◌, ℕ, Option, Some, List, [], ◌∷◌, length, drop, Bool}
+use Rattle.std.specs.Prelude.{◌≡◌, ◌≤◌, ◌<◌, ℕ, Option, Some, List, ◌∷◌, length, drop, Bool}
 
 -- A form over tokens T, with rules named by N and values V. A grammar is a function from the names of its rules to forms.
 pub data Form (T N V : Type 0) : Type 0 where

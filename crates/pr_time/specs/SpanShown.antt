@@ -1,5 +1,5 @@
 -- The text of a span as it is printed.
-use Rattle.std.specs.Prelude.{ℕ, ◌/◌, ◌%◌, ◌==◌, List, [], ◌∷◌, ◌++◌, decimal, codes, if◌then◌else◌}
+use Rattle.std.specs.Prelude.{ℕ, ◌/◌, ◌%◌, ◌==◌, List, [], ◌++◌, decimal, codes, if◌then◌else◌}
 
 -- a number with its unit, or nothing where the number is 0
 abbrev pub part_text : ℕ → List ℕ → List ℕ

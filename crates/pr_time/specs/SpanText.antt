@@ -1,5 +1,5 @@
 -- The texts of spans: what they read, and where they are bad.
-use Rattle.std.specs.Prelude.{◌≡◌, ℕ, zero, suc, ◌+◌, ◌-◌, ◌*◌, ◌<◌, ◌^◌, ◌==◌, nat_le, ◌&&◌, ◌||◌, Bool, true, false, Option, Some, None, List, [], ◌∷◌, map, if◌then◌else◌}
+use Rattle.std.specs.Prelude.{ℕ, zero, suc, ◌+◌, ◌-◌, ◌*◌, ◌<◌, ◌^◌, ◌==◌, nat_le, ◌&&◌, ◌||◌, Bool, true, false, Option, Some, None, List, [], map, if◌then◌else◌}
 use Rattle.pr_forms.specs.Form.{Form, token, nothing, pair, either, turns, fold, rule, Reads, IsFirstBad}
 use Rattle.pr_forms.specs.Table.{Table}
 use Rattle.pr_time.specs.declared.text.Letter.{Letter}
