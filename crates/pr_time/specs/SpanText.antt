@@ -214,7 +214,7 @@ table = record { empty = empty_rule; starts = starts_rule; more = more_rule }
 abbrev pub ReadsSpan : List ℕ → ℕ → Type 0
 ReadsSpan text ms = Reads production (rule Text) (seen text) (span ms) []
 
--- The place is the first one at which no span text can go on.
+-- The place of the first bad byte: those before it begin some span text, and with it they begin none.
 abbrev pub IsBadPlace : List ℕ → ℕ → Type 0
 IsBadPlace text place = IsFirstBad production (rule Text) (seen text) place
 
