@@ -1,6 +1,6 @@
 -- What a form reads does not depend on what follows.
-use Rattle.std.proofs.Common.{◌≡◌, ℕ, List, [], ◌∷◌, ◌≤◌, length, arith, Option, Some, Bool, refl, ap, sym, ◌∙◌, subst}
-use Rattle.pr_forms.specs.Form.{Form, token, nothing, pair, either, turns, fold, rule, chosen, Reads, is_chosen, is_token, is_nothing, is_pair, is_left, is_right, is_stop, is_turn, is_fold, is_rule}
+use Rattle.std.proofs.Common.{◌≡◌, List, ◌∷◌, ◌≤◌, length, arith, Option, Some, Bool}
+use Rattle.pr_forms.specs.Form.{Form, chosen, Reads, is_chosen, is_token, is_nothing, is_pair, is_left, is_right, is_stop, is_turn, is_fold, is_rule}
 use Rattle.pr_forms.specs.Form.{Begins, in_chosen, at_start, at_whole, in_first, in_second, in_left, in_right, in_turn, after_turn, in_base, after_base, in_rule}
 
 -- The same tokens, with something else behind them.

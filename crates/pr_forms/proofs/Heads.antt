@@ -1,9 +1,9 @@
 -- What a reading and a beginning start with.
-use Rattle.std.proofs.Common.{◌≡◌, ℕ, List, [], ◌∷◌, Option, Bool, true, false, refl, ap, sym, ◌∙◌}
+use Rattle.std.proofs.Common.{◌≡◌, List, [], ◌∷◌, Bool, true, false, refl, ap, sym, ◌∙◌}
 use Rattle.std.specs.Prelude.{◌||◌, ◌&&◌, is_some}
-use Rattle.pr_forms.specs.Form.{Form, token, nothing, pair, either, turns, fold, rule, chosen, Reads, is_chosen, is_token, is_nothing, is_pair, is_left, is_right, is_stop, is_turn, is_fold, is_rule}
+use Rattle.pr_forms.specs.Form.{Form, pair, either, turns, fold, rule, Reads, is_chosen, is_token, is_nothing, is_pair, is_left, is_right, is_stop, is_turn, is_fold, is_rule}
 use Rattle.pr_forms.specs.Form.{Begins, in_chosen, at_start, at_whole, in_first, in_second, in_left, in_right, in_turn, after_turn, in_base, after_base, in_rule}
-use Rattle.pr_forms.specs.Table.{Table, empty_of, starts_of, more_of, is_next, is_more, IsDecided}
+use Rattle.pr_forms.specs.Table.{Table, empty_of, starts_of, is_next, is_more, IsDecided}
 
 pub or_left : (a b : Bool) → a ≡ true → a || b ≡ true
 or_left a b e = rw e refl

@@ -1,5 +1,5 @@
 -- A repetition with one more turn at its end: for what is written from its front on.
-use Rattle.std.proofs.Common.{◌≡◌, List, [], ◌∷◌}
+use Rattle.std.proofs.Common.{List}
 use Rattle.pr_forms.specs.Form.{Form, turns, fold, Reads, is_stop, is_turn, is_fold}
 
 module _ {T N V : Type 0} {G : N → Form T N V} where

@@ -1,5 +1,5 @@
 -- A first bad place of a part is one of the whole.
-use Rattle.std.proofs.Common.{◌≡◌, ℕ, zero, suc, ◌≤◌, ◌<◌, ◌+◌, ◌-◌, List, [], ◌∷◌, ◌++◌, length, take, drop, refl, ap, sym, ◌∙◌, subst, arith, inl, inr, length-take, length-drop}
+use Rattle.std.proofs.Common.{◌≡◌, ℕ, zero, suc, ◌≤◌, ◌<◌, ◌-◌, List, [], ◌∷◌, ◌++◌, length, take, drop, refl, ap, sym, ◌∙◌, subst, arith, inl, inr, length-take}
 use Rattle.std.specs.Prelude.{◌⊎◌}
 use Rattle.pr_forms.specs.Form.{Form, Reads, Begins, IsFirstBad}
 use Rattle.pr_forms.proofs.Suffixes.{cut, drop_suffix}

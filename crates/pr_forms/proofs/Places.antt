@@ -1,12 +1,12 @@
 -- What a run says of the whole text and of its first bad place.
-use Rattle.std.proofs.Common.{◌≡◌, ℕ, zero, suc, ◌≤◌, ◌<◌, ◌-◌, ◌+◌, List, [], ◌∷◌, length, drop, Bool, true, false, refl, ap, sym, ◌∙◌, subst, arith, length-drop, inl, inr}
+use Rattle.std.proofs.Common.{◌≡◌, ℕ, zero, suc, ◌≤◌, ◌-◌, List, [], ◌∷◌, length, drop, refl, subst, arith, length-drop, inl, inr}
 use Rattle.std.proofs.lemmas.Bool.{cases_lt}
 use Rattle.pr_forms.specs.Form.{Form, rule, Reads, Begins, at_whole, IsFirstBad}
-use Rattle.pr_forms.specs.Table.{Table, IsDecided, Decides}
+use Rattle.pr_forms.specs.Table.{Table, IsDecided}
 use Rattle.pr_forms.specs.Run.{Runs, Outcome, good, bad, left_of}
-use Rattle.pr_forms.proofs.Decided.{rule_decides, Agrees, same, goes_on, Within, agrees, within}
+use Rattle.pr_forms.proofs.Decided.{rule_decides, Agrees, same, goes_on, agrees, within}
 use Rattle.pr_forms.proofs.Sound.{meets, reads, begins}
-use Rattle.pr_forms.proofs.Suffixes.{Suffix, here, there, cut, drop_suffix, suffix_drop, suffix_length, begins_suffix, reads_suffix}
+use Rattle.pr_forms.proofs.Suffixes.{Suffix, here, cut, drop_suffix, suffix_drop, suffix_length, begins_suffix, reads_suffix}
 
 pub drop_drop : {T : Type 0} (j k : ℕ) (ts : List T) → j ≤ k → Suffix (drop k ts) (drop j ts)
 drop_drop zero k ts h = drop_suffix k ts

@@ -1,9 +1,9 @@
 -- What the clauses of a public reader want, from the run of its rule: the whole text is read, no other value is derived from it, and
 -- the place where the run stopped is the first bad one. `see` is what the grammar sees of one of the code's tokens.
-use Rattle.std.proofs.Common.{◌≡◌, ℕ, zero, suc, ◌≤◌, ◌<◌, ◌-◌, ◌+◌, List, [], ◌∷◌, length, map, Bool, true, false, refl, ap, sym, ◌∙◌, subst, arith}
+use Rattle.std.proofs.Common.{◌≡◌, ℕ, ◌≤◌, ◌-◌, List, [], ◌∷◌, length, map, Bool, true, false, refl, ap, sym, ◌∙◌, subst, arith}
 use Rattle.std.proofs.lemmas.List.{length-map}
 use Rattle.std.specs.Prelude.{◌==◌}
-use Rattle.pr_forms.specs.Form.{Form, rule, Reads, Begins, IsFirstBad}
+use Rattle.pr_forms.specs.Form.{Form, rule, Reads, IsFirstBad}
 use Rattle.pr_forms.specs.Table.{Table, IsDecided}
 use Rattle.pr_forms.specs.Run.{Runs, Outcome, good, bad, left_of}
 use Rattle.pr_forms.proofs.Sound.{meets, reads}

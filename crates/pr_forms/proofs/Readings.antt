@@ -1,9 +1,9 @@
 -- Two readings from one place are the same, or one of them could have gone on.
-use Rattle.std.proofs.Common.{◌≡◌, List, [], ◌∷◌, Option, Some, Bool, true, false, refl, subst}
-use Rattle.pr_forms.specs.Form.{Form, token, nothing, pair, either, turns, fold, rule, chosen, Reads, is_chosen, is_token, is_nothing, is_pair, is_left, is_right, is_stop, is_turn, is_fold, is_rule}
-use Rattle.pr_forms.specs.Table.{Table, is_more, Decides, IsDecided, Binds}
-use Rattle.pr_forms.specs.Run.{bad, good}
-use Rattle.pr_forms.proofs.Heads.{Next, More, Starts, empty, next}
+use Rattle.std.proofs.Common.{◌≡◌, List, [], ◌∷◌, Option, Some, Bool, refl, subst}
+use Rattle.pr_forms.specs.Form.{Form, token, pair, either, turns, fold, rule, chosen, Reads, is_chosen, is_token, is_nothing, is_pair, is_left, is_right, is_stop, is_turn, is_fold, is_rule}
+use Rattle.pr_forms.specs.Table.{Table, Decides, IsDecided, Binds}
+use Rattle.pr_forms.specs.Run.{bad}
+use Rattle.pr_forms.proofs.Heads.{More, Starts, empty, next}
 use Rattle.pr_forms.proofs.Decided.{Apart, Agrees, goes_on, rule_decides, decides_first, decides_second, decides_apart, decides_left, decides_right, decides_full_left, decides_turn, decides_again, decides_turn_apart, decides_full_turn, decides_base, decides_turns, decides_base_apart}
 use Rattle.pr_forms.proofs.Decided.{more_turn, more_sides, decides_sides, more_second, more_left, more_right, more_again, more_past, more_rule, more_chosen, past_pair, past_turn, past_fold, heads}
 

@@ -1,7 +1,7 @@
 -- A run is a reading, and up to its bad place a beginning.
-use Rattle.std.proofs.Common.{◌≡◌, ℕ, List, [], ◌∷◌, Option, Bool, true, false}
-use Rattle.pr_forms.specs.Form.{Form, token, nothing, pair, either, turns, fold, rule, chosen, Reads, is_chosen, is_token, is_nothing, is_pair, is_left, is_right, is_stop, is_turn, is_fold, is_rule}
-use Rattle.pr_forms.specs.Form.{Begins, in_chosen, at_start, at_whole, in_first, in_second, in_left, in_right, in_turn, after_turn, in_base, after_base, in_rule}
+use Rattle.std.proofs.Common.{List}
+use Rattle.pr_forms.specs.Form.{Form, either, turns, fold, rule, Reads, is_chosen, is_token, is_nothing, is_pair, is_left, is_right, is_stop, is_turn, is_fold, is_rule}
+use Rattle.pr_forms.specs.Form.{Begins, in_chosen, at_start, in_first, in_second, in_left, in_right, in_turn, after_turn, in_base, after_base, in_rule}
 use Rattle.pr_forms.specs.Table.{Table}
 use Rattle.pr_forms.specs.Run.{Runs, Outcome, good, bad, run_chosen, run_chosen_bad, run_unchosen, run_chosen_end, run_token, run_other, run_end, run_nothing, run_pair, run_first, run_second, run_left, run_right, run_stop, run_turn, run_in_turn, run_fold, run_base, run_rule}
 

@@ -1,9 +1,9 @@
 -- Single tokens, and whether the next token starts a form.
-use Rattle.std.proofs.Common.{◌≡◌, ℕ, ◌+◌, ◌<◌, Option, Some, None, List, [], ◌∷◌, Bool, true, false, map, length, refl, ap, arith, ◌∙◌, sym, subst}
-use Rattle.std.specs.Prelude.{is_some, ◌||◌, ◌&&◌}
+use Rattle.std.proofs.Common.{◌≡◌, Option, Some, None, List, [], ◌∷◌, Bool, true, false, map, length, refl, ap, arith, ◌∙◌}
+use Rattle.std.specs.Prelude.{is_some, ◌||◌}
 use Rattle.pr_forms.specs.Form.{Form, token, pair, either, fold}
 use Rattle.pr_forms.specs.Table.{Table, is_next, empty_of, starts_of}
-use Rattle.pr_forms.specs.Run.{Runs, Outcome, good, bad, run_token, run_other, run_end, Takes, Lacks}
+use Rattle.pr_forms.specs.Run.{run_token, run_other, run_end, Takes, Lacks}
 
 module _ {T N V : Type 0} (G : N → Form T N V) (S : Table T N) (p : T → Option V) where
   pub token_takes : (ts : List T) (t : T) (rest : List T) (v : V) → ts ≡ t ∷ rest → p t ≡ Some v → Takes G S (token p) ts v rest

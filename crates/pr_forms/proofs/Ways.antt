@@ -1,8 +1,8 @@
 -- The ways of a reader through sequences that begin with a single token, as its functions take them.
-use Rattle.std.proofs.Common.{◌≡◌, ℕ, ◌<◌, Option, List, [], ◌∷◌, Bool, true, false, length, refl, Result, Ok, Err, sym, subst}
+use Rattle.std.proofs.Common.{◌≡◌, Option, List, true, false, refl, Result, Ok, Err, sym, subst}
 use Rattle.std.specs.Result.{MatchResult, IsErrAnd}
 use Rattle.pr_forms.specs.Form.{Form, token, pair, either, turns, fold, rule}
-use Rattle.pr_forms.specs.Table.{Table, is_next, empty_of}
+use Rattle.pr_forms.specs.Table.{Table}
 use Rattle.pr_forms.specs.Run.{Runs, Outcome, good, bad, run_pair, run_first, run_second, run_left, run_right, run_turn, run_in_turn, run_stop, run_fold, run_base, run_rule, Takes, Lacks, Leads}
 use Rattle.pr_forms.specs.Reader.{FailsBy}
 use Rattle.pr_forms.specs.declared.reader.Fault.{Fault}

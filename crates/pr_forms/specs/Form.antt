@@ -1,5 +1,5 @@
 -- Forms of texts over any kind of token: what they read, what is a beginning of them, and the first bad place.
-use Rattle.std.specs.Prelude.{◌≡◌, ◌≤◌, ◌<◌, ℕ, Option, Some, List, [], ◌∷◌, length, drop, Bool}
+use Rattle.std.specs.Prelude.{◌≡◌, ◌≤◌, ◌<◌, ℕ, Option, Some, List, ◌∷◌, length, drop, Bool}
 
 -- A form over tokens T, with rules named by N and values V. A grammar is a function from the names of its rules to forms.
 pub data Form (T N V : Type 0) : Type 0 where
@@ -37,27 +37,27 @@ pub data Reads {T N V : Type 0} (G : N → Form T N V) : Form T N V → List T �
       q t ≡ Some n → length rest ≤ length ts → Reads G (G n) (t ∷ ts) v rest → Reads G (chosen q m) (t ∷ ts) v rest
   is_rule : {n : N} {ts rest : List T} {v : V} → Reads G (G n) ts v rest → Reads G (rule n) ts v rest
 
--- The tokens before `rest` are a beginning of the form. It is not asked whether they can be completed.
+-- The tokens before `rest` are a beginning of the form, whether or not any more tokens could make it whole.
 pub data Begins {T N V : Type 0} (G : N → Form T N V) : Form T N V → List T → List T → Type 0 where
-  -- no token is a beginning of any form, and so is all that is of the form whole
+  -- none at all, and all of a form that is read whole
   at_start : {f : Form T N V} {rest : List T} → Begins G f rest rest
   at_whole : {f : Form T N V} {ts rest : List T} {v : V} → Reads G f ts v rest → Begins G f ts rest
-  -- of a sequence: a beginning of its first part, or its first part whole and a beginning of the second
+  -- in a sequence: within the first part, or past it and within the second
   in_first : {c : V → V → V} {f g : Form T N V} {ts rest : List T} → Begins G f ts rest → Begins G (pair c f g) ts rest
   in_second : {c : V → V → V} {f g : Form T N V} {ts mid rest : List T} {v : V} →
       Reads G f ts v mid → Begins G g mid rest → Begins G (pair c f g) ts rest
-  -- of a choice: a beginning of one of its sides
+  -- in a choice: within either side
   in_left : {f g : Form T N V} {ts rest : List T} → Begins G f ts rest → Begins G (either f g) ts rest
   in_right : {f g : Form T N V} {ts rest : List T} → Begins G g ts rest → Begins G (either f g) ts rest
-  -- of a repetition: any number of whole turns, also none, and a beginning of one turn
+  -- in a repetition: within a turn, after as many whole ones as there may be
   in_turn : {c : V → V → V} {g : Form T N V} {ts rest : List T} {v : V} → Begins G g ts rest → Begins G (turns c v g) ts rest
   after_turn : {c : V → V → V} {g : Form T N V} {ts mid rest : List T} {v w : V} →
       Reads G g ts w mid → Begins G (turns c (c v w) g) mid rest → Begins G (turns c v g) ts rest
-  -- of a form with turns after it: as of a sequence
+  -- in a form with turns after it: as in a sequence
   in_base : {c : V → V → V} {f g : Form T N V} {ts rest : List T} → Begins G f ts rest → Begins G (fold c f g) ts rest
   after_base : {c : V → V → V} {f g : Form T N V} {ts mid rest : List T} {v : V} →
       Reads G f ts v mid → Begins G (turns c v g) mid rest → Begins G (fold c f g) ts rest
-  -- of a rule: a beginning of its form
+  -- in a rule: within its form
   in_chosen : {q : T → Option N} {m : T → Bool} {t : T} {n : N} {ts rest : List T} →
       q t ≡ Some n → Begins G (G n) (t ∷ ts) rest → Begins G (chosen q m) (t ∷ ts) rest
   in_rule : {n : N} {ts rest : List T} → Begins G (G n) ts rest → Begins G (rule n) ts rest

@@ -1,5 +1,5 @@
 -- What one token ahead decides: whether a form may be empty, what may start it, and what may go on after it.
-use Rattle.std.specs.Prelude.{◌≡◌, Option, Some, None, List, [], ◌∷◌, Bool, true, false, ◌||◌, ◌&&◌, is_some}
+use Rattle.std.specs.Prelude.{◌≡◌, Some, List, [], ◌∷◌, Bool, true, false, ◌||◌, ◌&&◌, is_some}
 use Rattle.pr_forms.specs.Form.{Form, token, nothing, pair, either, turns, fold, rule, chosen}
 
 -- What is said of each rule of a grammar: whether it may read nothing, what it can start with, and what can go on after a whole one.

@@ -1,10 +1,10 @@
 -- One token ahead decides the grammar.
-use Rattle.std.proofs.Common.{◌≡◌, Bool, true, false, refl}
+use Rattle.std.proofs.Common.{◌≡◌, true, refl}
 use Rattle.pr_forms.specs.Table.{empty_of, starts_of, more_of, parts_at, Decides, IsDecided}
 use Rattle.pr_forms.proofs.Decided.{plain_binds}
-use Rattle.pr_forms_sample.specs.declared.tree.Sign.TheVariants.{Plus, Minus, Star, Open, Close, Comma}
+use Rattle.pr_forms_sample.specs.declared.tree.Sign.TheVariants.{Comma}
 use Rattle.pr_forms_sample.specs.declared.parser.Level.TheVariants.{Sum, Product}
-use Rattle.pr_forms_sample.specs.Tree.{Seen, number_token, name_token, sign_token}
+use Rattle.pr_forms_sample.specs.Tree.{Seen, sign_token}
 use Rattle.pr_forms_sample.specs.Grammar.{production, table, Rule, Binary, Unary, Primary, Tail, Arguments}
 
 starts_known : (n : Rule) (t : Seen) → starts_of table (production n) t ≡ table.starts n t

@@ -1,12 +1,11 @@
 -- The ways of an operand, by its first token, and one more argument.
-use Rattle.std.proofs.Common.{◌≡◌, ℕ, List, [], ◌∷◌, ◌++◌, Option, Some, None, Bool, true, false, length, map, refl, ap, sym, ◌∙◌, subst, arith, String, Global}
+use Rattle.std.proofs.Common.{◌≡◌, ℕ, List, [], ◌∷◌, ◌++◌, Some, false, length, map, refl, ap, ◌∙◌, subst, arith, String, Global}
 use Rattle.std.specs.Prelude.{string_bytes}
-use Rattle.pr_forms.specs.Form.{token, pair, rule}
+use Rattle.pr_forms.specs.Form.{token, rule}
 use Rattle.pr_forms.specs.Table.{is_next}
-use Rattle.pr_forms.specs.Run.{Runs, Outcome, good, bad, run_rule, run_left, run_right, run_token, run_other, run_end, run_pair, run_first, run_second}
+use Rattle.pr_forms.specs.Run.{Runs, good, bad, run_rule, run_left, run_right, run_token, run_other, run_end, run_pair, run_first, run_second}
 use Rattle.pr_forms.proofs.Steps.{next_pair}
 use Rattle.pr_forms.proofs.Ways.{take_side, take_side_bad}
-use Rattle.pr_forms_sample.specs.declared.parser.Level.{Level}
 use Rattle.pr_forms_sample.specs.declared.parser.Part.{Part}
 use Rattle.pr_forms_sample.specs.declared.tree.Place.{Place}
 use Rattle.pr_forms_sample.specs.declared.tree.Token.{Token}
@@ -15,8 +14,8 @@ use Rattle.pr_forms_sample.specs.declared.tree.TokenKind.{TokenKind}
 use Rattle.pr_forms_sample.specs.declared.tree.TokenKind.TheVariants.{Number, Name, Sign}
 use Rattle.pr_forms_sample.specs.declared.tree.Sign.{Sign as SignKind}
 use Rattle.pr_forms_sample.specs.declared.tree.Sign.TheVariants.{Open}
-use Rattle.pr_forms_sample.specs.Tree.{Seen, number_token, name_token, sign_token, seen_kind, seen_token, seen, number, Tree, more, more_from, none, tree_of, trees_of}
-use Rattle.pr_forms_sample.specs.Grammar.{production, table, Rule, Primary, Tail, Value, part, at, word, called, opened_by, sign_at, sign, operation_at, number_at, word_at, HasTree}
+use Rattle.pr_forms_sample.specs.Tree.{Seen, number_token, name_token, sign_token, seen_kind, seen, number, Tree, more, more_from, none, tree_of, trees_of}
+use Rattle.pr_forms_sample.specs.Grammar.{production, table, Primary, Tail, Value, part, at, word, called, opened_by, sign_at, sign, number_at, HasTree}
 use Rattle.pr_forms_sample.specs.Reader.{Gives, Takes, Lacks, group, value_of}
 
 -- the first token as the grammar sees it

@@ -1,6 +1,6 @@
 -- The grammar of the language.
-use Rattle.std.specs.Prelude.{◌≡◌, ℕ, Option, Some, None, List, [], ◌∷◌, Bool, true, false, option_map, if◌then◌else◌}
-use Rattle.pr_forms.specs.Form.{Form, token, nothing, pair, either, turns, fold, rule, Reads, IsFirstBad}
+use Rattle.std.specs.Prelude.{◌≡◌, ℕ, Option, Some, None, List, [], Bool, true, false, option_map, if◌then◌else◌}
+use Rattle.pr_forms.specs.Form.{Form, token, nothing, pair, either, fold, rule, Reads, IsFirstBad}
 use Rattle.pr_forms.specs.Table.{Table}
 use Rattle.pr_forms_sample.specs.declared.tree.Place.{Place}
 use Rattle.pr_forms_sample.specs.declared.tree.Sign.{Sign as SignKind}

@@ -7,7 +7,6 @@ use Rattle.pr_forms_sample.specs.declared.tree.TokenKind.{TokenKind}
 use Rattle.pr_forms_sample.specs.declared.tree.TokenKind.TheVariants.{Number, Name, Sign}
 use Rattle.pr_forms_sample.specs.declared.tree.Token.{Token}
 use Rattle.pr_forms_sample.specs.declared.tree.Expr.{Expr}
-use Rattle.pr_forms_sample.specs.declared.tree.ExprKind.{ExprKind}
 use Rattle.pr_forms_sample.specs.declared.tree.ExprKind.TheFolds.{fold-Expr}
 use Rattle.pr_forms_sample.specs.declared.tree.ExprKind.TheOpen.{ExprKind-F, Expr-F, Number as open_Number, Name as open_Name, Negated as open_Negated, Binary as open_Binary, Call as open_Call}
 

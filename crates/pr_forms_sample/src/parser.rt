@@ -61,7 +61,8 @@ struct Part {
 /// Why tokens have no tree.
 #[derive(Clone, Copy, PartialEq, Eq, Debug)]
 pub enum ParseError {
-    /// The token with this index is the first with which no text can go on; the number of tokens, where they end too early.
+    /// The tokens before this index begin some text, and with the one there they begin none. The number of tokens, where
+    /// they end too early.
     Bad { index: usize },
     Memory,
 }
@@ -378,7 +379,7 @@ pub fn parse(alloc: Global, tokens: &[Token]) -> Result<Expr, ParseError>
     ensures tree { IfOk result (λ e. Derives (seen tokens.now) (tree_of e)) }
     // Where one is derived, it is answered, unless memory runs out.
     ensures only { (v : Value) → Reads production (rule (Binary Sum)) (seen tokens.now) v [] → MatchResult result (λ e. HasTree v (tree_of e)) Misses }
-    // Else the fault says the first token with which no text can go on.
+    // Else the fault says which token is the first bad one.
     ensures place { MatchResult result (λ _. IsBadPlace (seen tokens.now) (length tokens.now)) (Refuses (seen tokens.now)) }
 {
     match binary_at(alloc, Level::Sum, tokens) {

@@ -18,6 +18,7 @@ pub enum Sign {
     Comma,
 }
 
+/// What a token is: a number, a name with its text, or a sign.
 #[derive(Drop, Debug)]
 pub enum TokenKind {
     Number { value: u32 },
@@ -32,6 +33,7 @@ pub struct Token {
     pub kind: TokenKind,
 }
 
+/// The operators of two operands, each of which associates to the left.
 #[derive(Clone, Copy, PartialEq, Eq, Debug)]
 pub enum Operator {
     Add,
@@ -48,6 +50,7 @@ pub struct Expr {
     pub kind: ExprKind,
 }
 
+/// What an expression is. The arguments of a call stand in their order.
 #[cycle(tree)]
 #[derive(Drop, Debug)]
 pub enum ExprKind {

@@ -1,11 +1,11 @@
 -- What the reading of a span says of the whole text.
-use Rattle.std.proofs.Common.{◌≡◌, ℕ, ◌-◌, ◌<◌, ◌≤◌, ◌^◌, min, List, [], Option, Some, None, Result, Ok, Err, Bool, true, false, length, refl, ap, sym, ◌∙◌, subst, arith, inl, inr}
+use Rattle.std.proofs.Common.{◌≡◌, ℕ, ◌-◌, ◌<◌, ◌≤◌, ◌^◌, List, [], Option, Some, None, Result, Bool, false, length, refl, ap, sym, ◌∙◌, subst, arith, inl, inr}
 use Rattle.std.proofs.lemmas.Bool.{cases_lt}
 use Rattle.std.proofs.lemmas.Result.{MatchResult-weaker}
 use Rattle.std.specs.Prelude.{MatchResult, IfOk, SomeIff, ◌==◌, ◌⊎◌}
 use Rattle.std.specs.Option.{ok_or}
 use Rattle.pr_forms.specs.Form.{rule, Reads}
-use Rattle.pr_forms.specs.Run.{good, bad}
+use Rattle.pr_forms.specs.Run.{bad}
 use Rattle.pr_forms.proofs.Public.{read_whole, only_value, not_whole, no_reading, rest_place, bad_place, end_place, left_short}
 use Rattle.pr_time.specs.declared.text.SpanFault.{SpanFault}
 use Rattle.pr_time.specs.declared.text.SpanFault.TheVariants.{BadSpan, SpanTooLong}

@@ -1,17 +1,17 @@
 -- A span that is printed is read as that span.
-use Rattle.std.proofs.Common.{◌≡◌, ℕ, zero, suc, ◌+◌, ◌*◌, ◌-◌, ◌/◌, ◌%◌, ◌<◌, ◌≤◌, ◌^◌, List, [], ◌∷◌, ◌++◌, map, Option, Some, Bool, true, false, refl, ap, sym, ◌∙◌, subst, arith, inl, inr}
-use Rattle.std.specs.Prelude.{decimal, codes, ◌==◌, ◌⊎◌, if◌then◌else◌}
+use Rattle.std.proofs.Common.{◌≡◌, ℕ, zero, suc, ◌+◌, ◌*◌, ◌/◌, ◌%◌, ◌<◌, ◌≤◌, ◌^◌, List, [], ◌∷◌, ◌++◌, false, refl, ap, sym, ◌∙◌, subst, arith, inl, inr}
+use Rattle.std.specs.Prelude.{decimal, codes, ◌==◌, if◌then◌else◌}
 use Rattle.std.proofs.lemmas.List.{map-append, append_assoc, append-nil}
 use Rattle.std.proofs.lemmas.Bool.{cases_lt}
 use Rattle.std.proofs.lemmas.Bool.Decides.{nat_tests}
 use Rattle.std.proofs.lemmas.Fmt.{decimal_by_steps}
-use Rattle.pr_forms.specs.Form.{Form, token, nothing, pair, either, turns, fold, rule, Reads, is_token, is_nothing, is_pair, is_left, is_right, is_stop, is_turn, is_fold, is_rule}
+use Rattle.pr_forms.specs.Form.{token, fold, rule, Reads, is_token, is_nothing, is_pair, is_left, is_right, is_stop, is_fold, is_rule}
 use Rattle.pr_forms.proofs.Longer.{fold_longer}
 use Rattle.pr_time.specs.declared.text.Letter.{Letter}
-use Rattle.pr_time.specs.declared.text.Letter.TheVariants.{Digit, Y, W, D, H, M, S, Other}
+use Rattle.pr_time.specs.declared.text.Letter.TheVariants.{Digit, D, H, M, S}
 use Rattle.pr_time.specs.declared.text.Unit.{Unit as TimeUnit}
-use Rattle.pr_time.specs.declared.text.Unit.TheVariants.{Year, Week, Day, Hour, Minute, Second, Millisecond}
-use Rattle.pr_time.specs.SpanText.{production, Rule, Text, AfterZero, After, From, AfterM, Value, count, scaled, span, mark, digit, other_digit_at, unit, ms_of, shifted, times, followed, second_of, amount, smaller, letter_of, seen, ReadsSpan}
+use Rattle.pr_time.specs.declared.text.Unit.TheVariants.{Year, Day, Hour, Minute, Second, Millisecond}
+use Rattle.pr_time.specs.SpanText.{production, Text, After, From, Value, count, scaled, span, digit, other_digit_at, shifted, letter_of, seen, ReadsSpan}
 use Rattle.pr_time.specs.SpanShown.{part_text, parts_text, shown_span}
 
 digit_letter : (n : ℕ) → n < 10 → letter_of (48 + n) ≡ Digit n

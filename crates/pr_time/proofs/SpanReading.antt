@@ -1,19 +1,19 @@
 -- The ways of the functions that read a span text.
-use Rattle.std.proofs.Common.{◌≡◌, ℕ, zero, suc, ◌+◌, ◌*◌, ◌-◌, ◌<◌, ◌≤◌, ◌^◌, min, List, [], ◌∷◌, Option, Some, None, Bool, true, false, length, refl, ap, sym, ◌∙◌, subst, arith, Result, Ok, Err, inl, inr, lit<}
+use Rattle.std.proofs.Common.{◌≡◌, ℕ, zero, suc, ◌+◌, ◌*◌, ◌-◌, ◌<◌, ◌≤◌, ◌^◌, min, List, [], ◌∷◌, Some, None, Bool, true, false, refl, ap, sym, ◌∙◌, subst, arith, Result, Ok, Err, inl, inr, lit<}
 use Rattle.std.proofs.lemmas.Bool.{cases_lt}
 use Rattle.std.proofs.Math.Nat.{mul-le-mul_right, mul-le-mul_left}
 use Rattle.std.specs.Result.{MatchResult, IsErrAnd}
-use Rattle.std.specs.Prelude.{MatchOption, is_some}
-use Rattle.pr_forms.specs.Form.{Form, token, nothing, pair, either, turns, fold, rule}
+use Rattle.std.specs.Prelude.{is_some}
+use Rattle.pr_forms.specs.Form.{Form, token, pair, turns, fold, rule}
 use Rattle.pr_forms.specs.Table.{is_next}
-use Rattle.pr_forms.specs.Run.{Outcome, good, bad, run_rule, run_left, run_right, run_pair, run_first, run_second, run_token, run_other, run_end, run_nothing, run_fold, run_base, Runs}
-use Rattle.pr_forms.proofs.Ways.{token_goes_on, token_ends, other_side}
-use Rattle.pr_forms.proofs.Steps.{next_pair, next_fold, next_left}
+use Rattle.pr_forms.specs.Run.{good, bad, run_rule, run_left, run_right, run_pair, run_first, run_second, run_token, run_other, run_end, run_nothing, run_fold, run_base}
+use Rattle.pr_forms.proofs.Ways.{token_goes_on, token_ends}
+use Rattle.pr_forms.proofs.Steps.{next_pair, next_fold}
 use Rattle.pr_time.specs.declared.text.Letter.{Letter}
 use Rattle.pr_time.specs.declared.text.Letter.TheVariants.{Digit, Y, W, D, H, M, S, Other}
 use Rattle.pr_time.specs.declared.text.Unit.{Unit as TimeUnit}
-use Rattle.pr_time.specs.declared.text.Unit.TheVariants.{Year, Week, Day, Hour, Minute, Second, Millisecond}
-use Rattle.pr_time.specs.SpanText.{production, table, Rule, Text, AfterZero, After, From, AfterM, Value, count, scaled, span, mark, digit, digit_at, zero_at, other_digit_at, unit, unit_at, ms_of, shifted, times, followed, second_of, amount, smaller, below, NoUnit, seen}
+use Rattle.pr_time.specs.declared.text.Unit.TheVariants.{Year, Millisecond}
+use Rattle.pr_time.specs.SpanText.{table, Rule, Text, AfterZero, After, From, Value, count, span, digit, digit_at, zero_at, other_digit_at, ms_of, shifted, times, second_of, amount, smaller, below, NoUnit}
 use Rattle.pr_time.specs.SpanReader.{Gives, Takes, Lacks, Digits, Counts, Measures, Enters, Going, kept, starts_amount}
 
 -- one more digit

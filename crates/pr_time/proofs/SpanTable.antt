@@ -1,10 +1,9 @@
 -- One letter ahead decides the grammar of spans.
-use Rattle.std.proofs.Common.{◌≡◌, ℕ, zero, suc, Bool, true, false, refl}
+use Rattle.std.proofs.Common.{◌≡◌, zero, true, refl}
 use Rattle.pr_forms.specs.Table.{empty_of, starts_of, more_of, parts_at, Decides, IsDecided}
 use Rattle.pr_forms.proofs.Decided.{plain_binds}
 use Rattle.pr_time.specs.declared.text.Letter.{Letter}
-use Rattle.pr_time.specs.declared.text.Letter.TheVariants.{Digit, Y, W, D, H, M, S, Other}
-use Rattle.pr_time.specs.declared.text.Unit.{Unit as TimeUnit}
+use Rattle.pr_time.specs.declared.text.Letter.TheVariants.{Digit, Y}
 use Rattle.pr_time.specs.declared.text.Unit.TheVariants.{Year, Week, Day, Hour, Minute, Second, Millisecond}
 use Rattle.pr_time.specs.SpanText.{production, table, Rule, Text, AfterZero, After, From, AfterM, NoUnit}
 

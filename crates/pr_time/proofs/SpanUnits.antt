@@ -1,16 +1,16 @@
 -- A unit at the front of a span text: which rules it goes through.
-use Rattle.std.proofs.Common.{◌≡◌, ℕ, zero, suc, List, [], ◌∷◌, Option, Some, None, Bool, true, false, refl, ap, sym, ◌∙◌, subst, inl, inr}
+use Rattle.std.proofs.Common.{◌≡◌, List, [], ◌∷◌, Option, Some, None, false, refl, sym, subst, inl, inr}
 use Rattle.std.specs.Prelude.{MatchOption, ◌⊎◌}
-use Rattle.pr_forms.specs.Form.{Form, token, nothing, pair, either, rule}
+use Rattle.pr_forms.specs.Form.{Form, pair, either, rule}
 use Rattle.pr_forms.specs.Table.{is_next}
 use Rattle.pr_forms.specs.Run.{Outcome, good, bad, run_rule, run_left, run_right, run_pair, run_first, run_second, run_token, run_other, run_end, run_nothing}
 use Rattle.pr_forms.proofs.Ways.{take_side, take_side_bad, other_side}
 use Rattle.pr_time.specs.declared.text.Letter.{Letter}
-use Rattle.pr_time.specs.declared.text.Letter.TheVariants.{Digit, Y, W, D, H, M, S, Other}
+use Rattle.pr_time.specs.declared.text.Letter.TheVariants.{Y, W, D, H, M, S}
 use Rattle.pr_time.specs.declared.text.Unit.{Unit as TimeUnit}
 use Rattle.pr_time.specs.declared.text.Unit.TheVariants.{Year, Week, Day, Hour, Minute, Second, Millisecond}
-use Rattle.pr_time.specs.SpanText.{production, table, Rule, Text, AfterZero, After, From, AfterM, Value, unit, ms_of, scaled, followed, smaller}
-use Rattle.pr_time.specs.SpanReader.{Gives, Takes, Lacks, Enters, named, unit_left}
+use Rattle.pr_time.specs.SpanText.{production, table, Rule, After, From, Value, unit, ms_of, scaled, followed}
+use Rattle.pr_time.specs.SpanReader.{Gives, Takes, Lacks, Enters, unit_left}
 
 -- no unit at the end
 end_millisecond : Gives (rule (From Millisecond)) [] (bad [])

@@ -4,10 +4,10 @@ use Rattle.pr_forms.specs.Form.{Form, turns, rule}
 use Rattle.pr_forms.specs.Table.{is_next}
 use Rattle.pr_forms.specs.Run.{Outcome, good, bad, Runs, Takes as TakesBy, Lacks as LacksBy, Leads as LeadsBy}
 use Rattle.pr_time.specs.declared.text.Letter.{Letter}
-use Rattle.pr_time.specs.declared.text.Letter.TheVariants.{Digit, Y, W, D, H, M, S, Other}
+use Rattle.pr_time.specs.declared.text.Letter.TheVariants.{Y, W, D, H, M, S}
 use Rattle.pr_time.specs.declared.text.Unit.{Unit as TimeUnit}
-use Rattle.pr_time.specs.declared.text.Unit.TheVariants.{Year, Week, Day, Hour, Minute, Second, Millisecond}
-use Rattle.pr_time.specs.SpanText.{production, table, seen, Rule, Text, AfterZero, After, From, Value, count, span, scaled, ms_of, rank, shifted, digit, amount}
+use Rattle.pr_time.specs.declared.text.Unit.TheVariants.{Year, Week, Day, Hour, Minute, Second}
+use Rattle.pr_time.specs.SpanText.{production, table, seen, Rule, AfterZero, After, From, Value, count, span, scaled, ms_of, rank, shifted, digit}
 
 abbrev pub Gives : Form Letter Rule Value → List Letter → Outcome Letter Value → Type 0
 Gives f ts o = Runs production table f ts o

@@ -1,11 +1,11 @@
 -- The text of a span as it is printed.
-use Rattle.std.specs.Prelude.{ℕ, ◌/◌, ◌%◌, ◌==◌, List, [], ◌∷◌, ◌++◌, decimal, codes, if◌then◌else◌}
+use Rattle.std.specs.Prelude.{ℕ, ◌/◌, ◌%◌, ◌==◌, List, [], ◌++◌, decimal, codes, if◌then◌else◌}
 
 -- a number with its unit, or nothing where the number is 0
 abbrev pub part_text : ℕ → List ℕ → List ℕ
 part_text n unit = if n == 0 then [] else decimal n ++ unit
 
--- the parts in days, hours, minutes, seconds and milliseconds that are not 0
+-- the days, hours, minutes, seconds and milliseconds of a span, each left out where it is 0
 abbrev pub parts_text : ℕ → List ℕ
 parts_text ms =
     part_text (ms / 86400000) (codes "d") ++ part_text (ms % 86400000 / 3600000) (codes "h") ++ part_text (ms % 3600000 / 60000) (codes "m")

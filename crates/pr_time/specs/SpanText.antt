@@ -1,5 +1,5 @@
 -- The texts of spans: what they read, and where they are bad.
-use Rattle.std.specs.Prelude.{◌≡◌, ℕ, zero, suc, ◌+◌, ◌-◌, ◌*◌, ◌<◌, ◌^◌, ◌==◌, nat_le, ◌&&◌, ◌||◌, Bool, true, false, Option, Some, None, List, [], ◌∷◌, map, if◌then◌else◌}
+use Rattle.std.specs.Prelude.{ℕ, zero, suc, ◌+◌, ◌-◌, ◌*◌, ◌<◌, ◌^◌, ◌==◌, nat_le, ◌&&◌, ◌||◌, Bool, true, false, Option, Some, None, List, [], map, if◌then◌else◌}
 use Rattle.pr_forms.specs.Form.{Form, token, nothing, pair, either, turns, fold, rule, Reads, IsFirstBad}
 use Rattle.pr_forms.specs.Table.{Table}
 use Rattle.pr_time.specs.declared.text.Letter.{Letter}
@@ -214,7 +214,7 @@ table = record { empty = empty_rule; starts = starts_rule; more = more_rule }
 abbrev pub ReadsSpan : List ℕ → ℕ → Type 0
 ReadsSpan text ms = Reads production (rule Text) (seen text) (span ms) []
 
--- The place is the first one at which no span text can go on.
+-- The place of the first bad byte: those before it begin some span text, and with it they begin none.
 abbrev pub IsBadPlace : List ℕ → ℕ → Type 0
 IsBadPlace text place = IsFirstBad production (rule Text) (seen text) place
 

@@ -34,8 +34,8 @@ fn put_part(out: &mut [u8; 40], at: usize, number: u64, unit: &[u8]) -> usize
     put(out, unit_at, unit)
 }
 
-/// Writes a span by its parts in `d h m s ms` that are not 0, with `0s` for none, at the front of `out`, and says how many
-/// bytes that took; the others stay.
+/// Writes a span in days, hours, minutes, seconds and milliseconds at the front of `out`, leaving out what is 0 (`1h7ms`, and
+/// `0s` where all is), and says how many bytes that took. The other bytes stay.
 pub fn write_span(s: Span, out: &mut [u8; 40]) -> usize
     ensures at { result ≤ 40 }
     ensures text { take result out.new ≡ shown_span s }

@@ -43,7 +43,8 @@ const MANY: u64 = (1 << 40) + 1;
 /// Why a text gives no span.
 #[derive(Clone, Copy, PartialEq, Eq, Debug)]
 pub enum SpanFault {
-    /// The text can go on as a span text up to this byte, and not with it. The text's length, where it ends too early.
+    /// The bytes before this one begin some span text, and with it they begin none. The text's length, where it ends too
+    /// early.
     BadSpan { at: usize },
     /// A span text of more than 2^40 milliseconds.
     SpanTooLong,
@@ -325,15 +326,15 @@ fn span_in(text: &[u8]) -> Result<(u64, &[u8]), &[u8]>
     }
 }
 
-/// The span that a text writes: `0`, or numbers each followed by a unit, with the units `y w d h m s ms` in falling
-/// order, each at most once. A `y` is 365 days and a `w` is 7 (the form of durations in the Prometheus documentation,
-/// "Querying basics"; the limit of 2^40 ms is our own choice).
+/// The span that a text writes: `0`, or numbers with a unit each, from the greatest unit down and none twice, out of
+/// `y w d h m s ms`. A year has 365 days (the form of durations in the Prometheus documentation, "Querying basics"; that a
+/// span ends at 2^40 ms is our own choice).
 pub fn read_span(text: &[u8]) -> Result<Span, SpanFault>
     // A span that is answered is what the text reads as.
     ensures span { IfOk result (ReadsSpan text.now) }
     // What the text reads as is answered, unless it is too long.
     ensures only { (v : Value) → Reads production (rule Text) (seen text.now) v [] → MatchResult result (λ s. v ≡ span s) (IsTooLong v) }
-    // Else the fault says the first place at which no span text can go on.
+    // Else the fault says which byte is the first bad one.
     ensures place { MatchResult result (λ _. IsBadPlace text.now (length text.now)) (Refuses text.now) }
 {
     match span_in(text) {

@@ -1,6 +1,4 @@
 use Rattle.pr_forms.proofs.Sound.{meets, reads}
-use Rattle.pr_forms.proofs.Ways.{exit}
-use Rattle.pr_forms.proofs.Public.{bad_place}
 use Rattle.pr_forms.proofs.laws.good_run_reads.Goals as goal
 
 pub returns : goal.returns

@@ -1,10 +1,10 @@
-use Rattle.std.proofs.Common.{◌≡◌, sym, ◌∙◌, ap, refl, arith, List, [], ◌∷◌, ◌++◌}
+use Rattle.std.proofs.Common.{◌≡◌, sym, ◌∙◌, ap, arith, [], ◌∷◌, ◌++◌}
 use Rattle.std.proofs.lemmas.Result.{MatchResult-weaker}
 use Rattle.pr_forms.specs.Form.{rule}
 use Rattle.pr_forms.specs.Run.{run_rule, run_fold, run_base, run_pair, run_first, run_second, run_right, run_left, run_nothing}
 use Rattle.pr_forms.proofs.Ways.{exit, fails, value_is, leads_value, take_side, take_side_bad, other_side, loop_goes_on, loop_fails}
 use Rattle.pr_forms_sample.specs.Tree.{seen, tree_of, trees_of, more, none, number}
-use Rattle.pr_forms_sample.specs.Grammar.{production, table, Value, part, at, word, turn, arguments, closed, alone, through, joined, negated_by, opened_by, closed_by, ended_by, called, sign, tighter, Binary, Unary, Primary, Tail, Arguments}
+use Rattle.pr_forms_sample.specs.Grammar.{production, table, part, at, word, turn, arguments, closed, alone, joined, negated_by, opened_by, closed_by, called, tighter, Binary, Unary, Primary, Tail, Arguments}
 use Rattle.pr_forms_sample.specs.Reader.{value_of, group}
 use Rattle.pr_forms_sample.specs.declared.parser.Level.TheVariants.{Sum}
 use Rattle.pr_forms_sample.proofs.Ways.{primary_number, primary_name, primary_name_bad, primary_open, primary_open_bad, primary_end, primary_sign, trees_of-push}

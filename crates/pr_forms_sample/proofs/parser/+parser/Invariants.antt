@@ -1,4 +1,4 @@
-use Rattle.std.proofs.Common.{◌≡◌, ◌<◌, ◌≤◌, length, ℕ, ◌+◌, ◌*◌}
+use Rattle.std.proofs.Common.{◌<◌, length, ◌+◌, ◌*◌}
 use Rattle.pr_forms.specs.Form.{rule, turns}
 use Rattle.pr_forms_sample.specs.Tree.{trees_of}
 use Rattle.pr_forms_sample.specs.Grammar.{Binary, Arguments, joined, argument, arguments, operand, next_argument}

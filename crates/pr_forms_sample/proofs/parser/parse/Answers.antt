@@ -1,7 +1,7 @@
-use Rattle.std.proofs.Common.{rules, refl, sym, ◌∙◌, ap}
+use Rattle.std.proofs.Common.{rules, refl}
 use Rattle.pr_forms.proofs.Public.{read_whole, only_value, not_whole, no_reading, rest_place, bad_place, end_place, left_short}
-use Rattle.pr_forms_sample.specs.Tree.{seen_token, tree_of}
-use Rattle.pr_forms_sample.specs.Grammar.{production, table, Binary, Value}
+use Rattle.pr_forms_sample.specs.Tree.{seen_token}
+use Rattle.pr_forms_sample.specs.Grammar.{production, table, Binary}
 use Rattle.pr_forms_sample.specs.declared.parser.Level.TheVariants.{Sum}
 use Rattle.pr_forms_sample.specs.Reader.{value_of}
 use Rattle.pr_forms_sample.proofs.Table.{known}

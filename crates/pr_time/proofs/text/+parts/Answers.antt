@@ -1,8 +1,8 @@
-use Rattle.std.proofs.Common.{arith, ◌*◌, ◌+◌, ◌^◌, ◌-◌, ◌≡◌, min, sym, ◌∙◌, ap, subst}
+use Rattle.std.proofs.Common.{◌∙◌}
 use Rattle.std.proofs.lemmas.Result.{MatchResult-weaker}
-use Rattle.pr_forms.specs.Form.{fold, turns, rule}
+use Rattle.pr_forms.specs.Form.{fold}
 use Rattle.pr_forms.specs.Run.{bad}
-use Rattle.pr_time.specs.SpanText.{shifted, digit, count, amount, seen, After, From}
+use Rattle.pr_time.specs.SpanText.{shifted, digit, amount, seen, From}
 use Rattle.pr_time.specs.SpanReader.{Gives}
 use Rattle.pr_time.proofs.SpanReading.{amount_reads, amount_no_unit, amount_bad_part, exit, past_part, no_part, one_part, bad_part, first_digit, kept_small}
 use Rattle.pr_time.proofs.text.+parts.Goals as goal

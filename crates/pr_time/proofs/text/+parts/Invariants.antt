@@ -1,4 +1,4 @@
-use Rattle.std.proofs.Common.{ℕ, ◌+◌, ◌*◌, length}
+use Rattle.std.proofs.Common.{◌+◌, ◌*◌, length}
 use Rattle.pr_time.proofs.text.+parts.Given as goal
 
 abbrev pub decreases-amount_in : goal.decreases-amount_in

@@ -1,9 +1,8 @@
 use Rattle.std.proofs.lemmas.Result.{MatchResult-weaker}
 use Rattle.std.proofs.Common.{◌∙◌}
 use Rattle.pr_forms.specs.Form.{fold, token}
-use Rattle.pr_time.specs.SpanText.{shifted, digit, count, other_digit_at}
+use Rattle.pr_time.specs.SpanText.{shifted, digit, other_digit_at}
 use Rattle.pr_time.proofs.SpanReading.{no_text, zero_text, zero_text_bad, other_text, other_text_bad, other_front, kept_small}
-use Rattle.pr_time.specs.SpanReader.{Takes}
 use Rattle.pr_time.proofs.text.span_in.Goals as goal
 
 pub returns-in-None : goal.returns-in-None
