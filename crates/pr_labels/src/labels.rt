@@ -139,6 +139,7 @@ impl Labels {
         None
     }
 
+    /// Another set with the same pairs.
     pub fn copy(&self, alloc: Global) -> Result<Labels, AllocError>
         ensures { IfOk result (λ l. l ≡ self.now) }
     {

@@ -62,7 +62,7 @@ abbrev pub infinity : Bool → Num
 infinity true = NegInf
 infinity false = PosInf
 
--- an infinity times a value of this many units: by the signs, and nothing where it is zero
+-- an infinity times a value of this many units: by the signs, and NaN where it is zero
 abbrev pub infinite_times : Bool → ℤ → Num
 infinite_times negative (pos zero) = NaN
 infinite_times negative (pos (suc n)) = infinity negative
@@ -85,7 +85,7 @@ product_of PosInf NegInf = Ok NegInf
 product_of NegInf PosInf = Ok NegInf
 product_of NegInf NegInf = Ok PosInf
 
--- a value of this many units over zero: the infinity of its sign, and nothing for zero itself
+-- a value of this many units over zero: the infinity of its sign, and NaN for zero itself
 abbrev pub over_zero : ℤ → Num
 over_zero (pos zero) = NaN
 over_zero (pos (suc n)) = PosInf

@@ -61,20 +61,26 @@ impl Nano {
 /// A value: a finite decimal, or one of the three that are not finite.
 #[derive(Clone, Copy, Debug, Drop)]
 pub enum Num {
+    /// A finite decimal.
     Finite(Nano),
+    /// No number.
     NaN,
+    /// The infinity above all values.
     PosInf,
+    /// The infinity below all values.
     NegInf,
 }
 
-/// The answer of an operation whose exact result has a magnitude of 10^20 or more.
+/// The answer of an operation whose result, rounded to nine places, has a magnitude of 10^20 or more.
 #[derive(Clone, Copy, Debug, Drop, PartialEq, Eq)]
 pub struct TooWide;
 
 /// What a sample holds: a value, or the mark that its series has gone stale.
 #[derive(Clone, Copy, Debug, Drop)]
 pub enum Point {
+    /// A value.
     Value(Num),
+    /// The marker.
     Stale,
 }
 

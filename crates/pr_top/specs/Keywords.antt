@@ -7,9 +7,9 @@ use Rattle.std.specs.Str.{str_eq_ignore_ascii_case}
 unfoldable pub keywords : List (List ℕ)
 keywords =
     (codes "and" ∷ codes "or" ∷ codes "unless" ∷ codes "on" ∷ codes "ignoring" ∷ codes "group_left" ∷ codes "group_right" ∷ codes "bool" ∷ codes "offset"
-      ∷ codes "by" ∷ codes "without" ∷ [])
+    ∷ codes "by" ∷ codes "without" ∷ [])
     ++ (codes "sum" ∷ codes "avg" ∷ codes "min" ∷ codes "max" ∷ codes "count" ∷ codes "group" ∷ codes "topk" ∷ codes "bottomk" ∷ codes "quantile"
-      ∷ codes "count_values" ∷ [])
+    ∷ codes "count_values" ∷ [])
     ++ (codes "inf" ∷ codes "nan" ∷ [])
 
 -- whether a text is a word, in any case

@@ -15,7 +15,8 @@ use super::status::{Status, Stop};
 use pr_outside::{Files, Keeper, Sink, SinkError, Source};
 use std::alloc::Global;
 
-const USAGE: &[u8] = b"usage: promtool run [--store FILE] | test rules FILE... | check rules FILE... | check metrics | exercise N | backfill STORE START END STEP FILE...\n";
+const USAGE: &[u8] =
+    b"usage: promtool run [--store FILE] | test rules FILE... | check rules FILE... | check metrics | exercise N | backfill STORE START END STEP FILE...\n";
 
 #[tactic(auto, unfolding(crate::specs::Usage::usage_text))]
 fn usage() -> &'static [u8]

@@ -4,6 +4,8 @@
 mod fields;
 mod items;
 mod steps;
+#[cfg(test)]
+mod tests;
 mod text;
 
 pub use fields::{is_blank, split_first, split_last, without_leading, without_trailing};

@@ -24,6 +24,7 @@ impl Model for Text {
 }
 
 impl Text {
+    /// The text of a string.
     pub fn new(inner: String) -> Text
         ensures { result ≡ string_bytes inner }
     {
@@ -39,18 +40,21 @@ impl Text {
         })
     }
 
+    /// The text, borrowed.
     pub fn as_str(&self) -> &str
         ensures { result.now ≡ self.now }
     {
         &self.inner
     }
 
+    /// Another text with the same bytes.
     pub fn copy(&self, alloc: Global) -> Result<Text, AllocError>
         ensures { IfOk result (λ t. t ≡ self.now) }
     {
         Text::from_str(alloc, self.as_str())
     }
 
+    /// The string of the text.
     pub fn into_string(self) -> String
         ensures { string_bytes result ≡ self }
     {
