@@ -1,4 +1,5 @@
 pub mod Admission
 pub mod Lookback
 pub mod Series
+pub mod Chosen
 pub mod Examples

@@ -13,4 +13,4 @@ pub use examples::{
     a_marker_hides, an_equal_point_is_the_same, an_older_point_is_out_of_order,
     lookback_is_five_minutes,
 };
-pub use laws::put_keeps_lawful;
+pub use laws::{chosen_are_those_that_pass, put_keeps_lawful};
