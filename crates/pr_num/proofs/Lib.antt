@@ -10,3 +10,5 @@ pub mod RoundTrip
 pub mod Parts
 pub mod Algebra
 pub mod Floors
+pub mod FormTexts
+pub mod FormsOnly

@@ -7,7 +7,7 @@ use Rattle.std.specs.Char.{is_ascii_digit, digit_value, to_ascii_lowercase}
 use Rattle.std.specs.Str.{str_eq_ignore_ascii_case}
 use Rattle.std.specs.Str.Parse.{digits_value, digits_value_after, AllDigits}
 use Rattle.std.proofs.Math.Nat.{pow-suc}
-use Rattle.std.proofs.lemmas.Nat.{div_below, mod_below, div-add-mod'}
+use Rattle.std.proofs.lemmas.Nat.{div-add-mod'}
 use Rattle.std.proofs.lemmas.Bool.{cases_eq, and_left as and_false}
 use Rattle.std.proofs.lemmas.List.{append-nil, take_at, drop_at}
 use Rattle.std.proofs.lemmas.Fmt.{decimal_is_IsNumeral_wide}
@@ -74,11 +74,11 @@ fraction_value (suc n) u h w =
     ]
 
 -- ---- the front digits of a printed number
-and_first : (a b : Bool) → (a && b) ≡ true → a ≡ true
+pub and_first : (a b : Bool) → (a && b) ≡ true → a ≡ true
 and_first true b h = refl
 and_first false b h = h
 
-and_second : (a b : Bool) → (a && b) ≡ true → b ≡ true
+pub and_second : (a b : Bool) → (a && b) ≡ true → b ≡ true
 and_second true b h = h
 and_second false b h = cc
 
@@ -89,10 +89,10 @@ prefix_all (x ∷ ds) rest h z =
     let ih = prefix_all ds rest (and_second (is_ascii_digit x) (list_all is_ascii_digit ds) h) z in
     rw (a, ih) (omega arith)
 
-front_all : (ds rest : List ℕ) → list_all is_ascii_digit ds ≡ true → prefix_len is_ascii_digit rest ≡ 0 → front_digits (ds ++ rest) ≡ ds
+pub front_all : (ds rest : List ℕ) → list_all is_ascii_digit ds ≡ true → prefix_len is_ascii_digit rest ≡ 0 → front_digits (ds ++ rest) ≡ ds
 front_all ds rest h z = rw (prefix_all ds rest h z) (take_at ds rest (length ds) refl)
 
-after_all : (ds rest : List ℕ) → list_all is_ascii_digit ds ≡ true → prefix_len is_ascii_digit rest ≡ 0 → after_digits (ds ++ rest) ≡ rest
+pub after_all : (ds rest : List ℕ) → list_all is_ascii_digit ds ≡ true → prefix_len is_ascii_digit rest ≡ 0 → after_digits (ds ++ rest) ≡ rest
 after_all ds rest h z = rw (prefix_all ds rest h z) (drop_at ds rest (length ds) refl)
 
 -- ---- the text of a size is read as the size
@@ -122,7 +122,7 @@ whole_read n W w = rw (append-nil W, w) (half_abs-one (n * 10 ^ 9))
 not_letter : (c w : ℕ) → is_ascii_digit c ≡ true → 97 ≤ w → nat_eq (to_ascii_lowercase c) (to_ascii_lowercase w) ≡ false
 not_letter c w h lower = grind arith
 
-not_word : (c w : ℕ) (bs ws : List ℕ) → is_ascii_digit c ≡ true → 97 ≤ w → str_eq_ignore_ascii_case (c ∷ bs) (w ∷ ws) ≡ false
+pub not_word : (c w : ℕ) (bs ws : List ℕ) → is_ascii_digit c ≡ true → 97 ≤ w → str_eq_ignore_ascii_case (c ∷ bs) (w ∷ ws) ≡ false
 not_word c w bs ws h lower = and_false _ _ (not_letter c w h lower)
 
 -- ---- the printed text
@@ -166,7 +166,7 @@ unsigned_read negative c W u n digits value small fits =
     let a : after_digits (c ∷ (W ++ point_text u)) ≡ point_text u = after_all (c ∷ W) (point_text u) digits (point_stops u) in
     rw (i, j, f, a) (parts_read negative (c ∷ W) u n (omega arith) value small fits)
 
-digit_start : (c : ℕ) (bs : List ℕ) → is_ascii_digit c ≡ true → reads (c ∷ bs) ≡ reads_unsigned false (c ∷ bs)
+pub digit_start : (c : ℕ) (bs : List ℕ) → is_ascii_digit c ≡ true → reads (c ∷ bs) ≡ reads_unsigned false (c ∷ bs)
 unfolding reads
 digit_start c bs d =
     let a : nat_eq c 45 ≡ false = grind arith in

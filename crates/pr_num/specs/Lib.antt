@@ -10,3 +10,4 @@ pub mod Multiples
 pub mod Parts
 pub mod Total
 pub mod Quantile
+pub mod Forms

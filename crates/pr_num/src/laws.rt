@@ -1,21 +1,38 @@
 //! Laws of the definitions that contracts of this crate cite. A law is a function that does nothing,
 //! and its contract is the theorem.
-ghost use Rattle.std.specs.Prelude.{◌≡◌, ◌≢◌, ◌<◌, ◌∷◌, ◌++◌, ◌↔◌, ℤ, List, [], IfSome, unsigned_abs};
+ghost use Rattle.std.specs.Prelude.{◌≡◌, ◌≢◌, ◌<◌, ◌∷◌, ◌++◌, ◌↔◌, ℕ, ℤ, List, [], IfSome, codes, true, unsigned_abs};
 ghost use Rattle.std.specs.Cmp.{IsTotalOrder};
+ghost use Rattle.std.specs.Str.{str_eq_ignore_ascii_case};
 ghost use Rattle.std.specs.declared.cmp.Ordering.{Ordering};
-ghost use Rattle.pr_num.specs.Arithmetic.{IsFit, product_of, sum_of};
+ghost use Rattle.pr_num.specs.Arithmetic.{IsFit, infinity, product_of, sum_of};
+ghost use Rattle.pr_num.specs.Forms.{Exponent, Fraction, IsInfinityWord, IsNumberText, IsUnsignedForm, Sign, decimals, form_text, is_minus, scale_part, sign_text};
 ghost use Rattle.pr_num.specs.Half.{IsHalf, half};
 ghost use Rattle.pr_num.specs.Multiples.{IsFloor, floor_quotient};
 ghost use Rattle.pr_num.specs.Order.{compared, order_of};
-ghost use Rattle.pr_num.specs.Reads.{reads};
+ghost use Rattle.pr_num.specs.Reads.{number_of, reads, text_magnitude};
 ghost use Rattle.pr_num.specs.Shown.{shown};
 ghost use Rattle.pr_num.specs.Total.{Tally, joined, no_values, one_value, total_of};
+ghost use Rattle.pr_num.specs.declared.text.NumFault.{NumFault};
 ghost use Rattle.pr_num.specs.declared.value.Num.{Num};
 
 /// The printed text of every value reads as that value.
 #[tactic(auto, using(crate::proofs::RoundTrip::reads_shown))]
 pub fn printed_texts_read_back()
     ensures { (v : Num) → IsFit v → reads (shown v) ≡ Ok v }
+{}
+
+/// The texts of the form read as their exact fraction, rounded, and the words as what they name. No
+/// other text is read as a number.
+#[tactic(auto, using(crate::proofs::FormTexts::form_reads, crate::proofs::FormTexts::infinity_reads, crate::proofs::FormTexts::nan_reads, crate::proofs::FormsOnly::only_number_texts))]
+pub fn number_texts_have_the_form()
+    ensures form { (sign : Sign) (whole : List ℕ) (fraction : Fraction) (exponent : Exponent) →
+        IsUnsignedForm whole fraction exponent →
+        reads (form_text sign whole fraction exponent)
+        ≡ number_of (is_minus sign) (text_magnitude whole (decimals fraction) (scale_part exponent)) }
+    ensures infinity { (sign : Sign) (word : List ℕ) → IsInfinityWord word →
+        reads (sign_text sign ++ word) ≡ Ok (infinity (is_minus sign)) }
+    ensures nan { (text : List ℕ) → str_eq_ignore_ascii_case text (codes "nan") ≡ true → reads text ≡ Ok Num.NaN }
+    ensures only { (text : List ℕ) → reads text ≢ Err NumFault.NotNumber → IsNumberText text }
 {}
 
 /// Rounding gives the whole number next to a fraction and the even one of two, and no other number is

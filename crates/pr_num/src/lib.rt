@@ -26,8 +26,8 @@ mod wide;
 
 pub use arithmetic::muldiv_units;
 pub use laws::{
-    floor_is_next_below, order_is_total, printed_texts_read_back, rounding_is_half_to_even,
-    sums_and_products_commute, totals_join,
+    floor_is_next_below, number_texts_have_the_form, order_is_total, printed_texts_read_back,
+    rounding_is_half_to_even, sums_and_products_commute, totals_join,
 };
 pub use print::write;
 pub use ranks::quantile;
