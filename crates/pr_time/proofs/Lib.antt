@@ -4,3 +4,5 @@ pub mod SpanReading
 pub mod SpanPublic
 pub mod SpanPrint
 pub mod SpanRead
+pub mod SpanParts
+pub mod SpanKnown

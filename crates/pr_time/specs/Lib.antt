@@ -1,3 +1,4 @@
 pub mod SpanText
 pub mod SpanReader
 pub mod SpanShown
+pub mod SpanParts

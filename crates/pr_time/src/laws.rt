@@ -1,7 +1,8 @@
 //! The laws of span texts, each as the contract of a function that does nothing.
 ghost use Rattle.std.specs.Prelude.{◌≡◌, ℕ, List, ◌≤◌, ◌^◌};
 ghost use Rattle.pr_forms.specs.Table.{IsDecided};
-ghost use Rattle.pr_time.specs.SpanText.{production, table, ReadsSpan};
+ghost use Rattle.pr_time.specs.SpanText.{production, table, seen, ReadsSpan};
+ghost use Rattle.pr_time.specs.SpanParts.{IsSpanText};
 ghost use Rattle.pr_time.specs.SpanShown.{shown_span};
 
 /// One byte ahead decides the grammar of span texts: so a text is read in one way, and without going back.
@@ -17,4 +18,11 @@ pub fn text_reads_as_one_span()
 /// A span that is printed reads as that span.
 pub fn shown_span_reads()
     ensures { (ms : ℕ) → ms ≤ 2 ^ 40 → ReadsSpan (shown_span ms) ms }
+{}
+
+/// What the grammar reads, told without it: a zero alone, or numbers with a unit each, every unit smaller than the one
+/// before; and the milliseconds are the sum.
+pub fn span_text_is_zero_or_parts()
+    ensures read { (text : List ℕ) (ms : ℕ) → IsSpanText (seen text) ms → ReadsSpan text ms }
+    ensures only { (text : List ℕ) (ms : ℕ) → ReadsSpan text ms → IsSpanText (seen text) ms }
 {}
