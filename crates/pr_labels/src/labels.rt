@@ -1,4 +1,7 @@
 // A label set.
+mod choose;
+mod edits;
+
 use crate::pair::Pair;
 use pr_words::Text;
 use std::alloc::{AllocError, Global};
