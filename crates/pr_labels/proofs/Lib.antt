@@ -1,2 +1,4 @@
 pub mod Ascii
 pub mod LabelSets
+pub mod Making
+pub mod Putting

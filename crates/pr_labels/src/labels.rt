@@ -1,6 +1,7 @@
 // A label set.
 mod choose;
 mod edits;
+mod made;
 
 use crate::pair::Pair;
 use pr_words::Text;
