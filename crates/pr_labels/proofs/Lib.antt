@@ -1,4 +1,5 @@
 pub mod Ascii
+pub mod LabelLaws
 pub mod LabelSets
 pub mod Making
 pub mod Putting

@@ -72,17 +72,17 @@ replaced x y (p ∷ ps) lt is found =
     replace_step (slice_cmp nat_cmp p.name x.name) p ps x y (place x.name ps) (put_in x.name (x ∷ []) ps) (texts_ties p.name x.name) (λ lt' is'. replaced x y ps lt' is' found) lt is found
 
 -- what the filters give of pairs that are all above the name
-record AllAbove (name : List ℕ) (ps : List Pair) : Type 0 where
-  none : filter (is_below name) ps ≡ []
-  all : filter (is_above name) ps ≡ ps
-  others : without_name ps name ≡ ps
+pub record AllAbove (name : List ℕ) (ps : List Pair) : Type 0 where
+  pub none : filter (is_below name) ps ≡ []
+  pub all : filter (is_above name) ps ≡ ps
+  pub others : without_name ps name ≡ ps
 
 above_step : (o r : Ordering) (name : List ℕ) (q : Pair) (qs below above other : List Pair) → o ≡ ordering_reverse r → r ≡ Less → bytes_eq q.name name ≡ is_eq o → below ≡ [] → above ≡ qs → other ≡ qs → (cond (is_lt o) (q ∷ below) below ≡ []) × (cond (is_lt r) (q ∷ above) above ≡ q ∷ qs) × (cond (not (bytes_eq q.name name)) (q ∷ other) other ≡ q ∷ qs)
 above_step o Less name q qs below above other e l tie b a w = rw (tie, e) (b, ap (λ t. q ∷ t) a, ap (λ t. q ∷ t) w)
 above_step o Equal name q qs below above other e l tie b a w = cc
 above_step o Greater name q qs below above other e l tie b a w = cc
 
-all_above : (name : List ℕ) (ps : List Pair) → IsLabelSet ps → IsBelowFirst name ps → AllAbove name ps
+pub all_above : (name : List ℕ) (ps : List Pair) → IsLabelSet ps → IsBelowFirst name ps → AllAbove name ps
 all_above name [] s b = record { none = refl; all = refl; others = refl }
 all_above name (q ∷ qs) s b =
     let rest : AllAbove name qs = all_above name qs s.2 (below_next name q qs b s.1) in
@@ -127,7 +127,7 @@ without_is_put name (p ∷ ps) s =
     without_step (slice_cmp nat_cmp p.name name) name p ps (without_name ps name) (put_in name [] ps) (texts_ties p.name name) (without_is_put name ps s.2) (λ l. (above_after name p ps s l).others)
 
 -- what `set` puts in of a label is the label
-label_alone : (name value : List ℕ) → value ≢ [] → label_of name value ≡ pair_of name value ∷ []
+pub label_alone : (name value : List ℕ) → value ≢ [] → label_of name value ≡ pair_of name value ∷ []
 label_alone name [] h = absurd (h refl)
 label_alone name (b ∷ bs) h = refl
 

@@ -24,6 +24,11 @@ abbrev pub label_of : List ℕ → List ℕ → List Pair
 label_of name [] = []
 label_of name (b ∷ bs) = pair_of name (b ∷ bs) ∷ []
 
+-- the value, where it is not empty
+abbrev pub value_if_any : List ℕ → Option (List ℕ)
+value_if_any [] = None
+value_if_any (b ∷ bs) = Some (b ∷ bs)
+
 -- the pairs with names below, then the new pair where its value is not empty, then those with names above
 abbrev pub set_label : List Pair → List ℕ → List ℕ → List Pair
 set_label labels name value = filter (is_below name) labels ++ (label_of name value ++ filter (is_above name) labels)

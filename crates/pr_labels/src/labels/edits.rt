@@ -83,7 +83,12 @@ impl Labels {
     }
 
     // The same of a label name.
-    pub(crate) fn assign(&mut self, alloc: Global, name: &str, value: &str) -> Result<(), AllocError>
+    pub(crate) fn assign(
+        &mut self,
+        alloc: Global,
+        name: &str,
+        value: &str,
+    ) -> Result<(), AllocError>
         requires { is_label_name name.now ≡ true }
         ensures ok { OnOk result (self.new ≡ set_label self.old name.now value.now) }
         ensures err { OnErr result (self.new ≡ self.old) }
