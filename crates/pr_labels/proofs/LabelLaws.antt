@@ -140,7 +140,7 @@ pub union_stays : (ls over : List Pair) → IsLabelSet ls → IsLabelSet over �
 union_stays ls [] s t = s
 union_stays ls (p ∷ ps) s t = union_stays (set_pair ls p) ps (set_is_set p.name p.value ls t.0.name s) t.2
 
-first_none : (a b : Option LabelFault) → option_or a b ≡ None → (a ≡ None) × (b ≡ None)
+pub first_none : (a b : Option LabelFault) → option_or a b ≡ None → (a ≡ None) × (b ≡ None)
 first_none None b h = (refl, h)
 first_none (Some x) b h = cc
 

@@ -2,4 +2,5 @@ pub mod Ascii
 pub mod LabelLaws
 pub mod LabelSets
 pub mod Making
+pub mod Permuted
 pub mod Putting

@@ -1,5 +1,5 @@
 -- What the operations of label sets give: filters of the list of pairs.
-use Rattle.std.specs.Prelude.{ℕ, Bool, true, false, not, cond, List, [], ◌∷◌, ◌++◌, filter, fold, length, Option, Some, None}
+use Rattle.std.specs.Prelude.{ℕ, Bool, true, false, not, cond, List, [], ◌∷◌, ◌++◌, filter, fold, length, Option, Some, None, is_some}
 use Rattle.std.specs.List.{list_any}
 use Rattle.std.specs.Option.{option_or}
 use Rattle.std.specs.Cmp.Lexicographic.{slice_cmp}
@@ -28,6 +28,9 @@ label_of name (b ∷ bs) = pair_of name (b ∷ bs) ∷ []
 abbrev pub value_if_any : List ℕ → Option (List ℕ)
 value_if_any [] = None
 value_if_any (b ∷ bs) = Some (b ∷ bs)
+
+abbrev pub has_value : Pair → Bool
+has_value p = is_some (value_if_any p.value)
 
 -- the pairs with names below, then the new pair where its value is not empty, then those with names above
 abbrev pub set_label : List Pair → List ℕ → List ℕ → List Pair

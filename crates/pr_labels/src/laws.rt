@@ -1,10 +1,11 @@
 //! Laws of the definitions that contracts of this crate cite. A law is a function that does nothing,
 //! and its contract is the theorem.
-ghost use Rattle.std.specs.Prelude.{◌≡◌, ℕ, Bool, true, false, List, cond, None};
+ghost use Rattle.std.specs.Prelude.{◌≡◌, ℕ, Bool, true, false, List, cond, filter, None};
 ghost use Rattle.std.specs.List.{list_any};
+ghost use Rattle.std.specs.List.Sorted.{IsPermutation};
 ghost use Rattle.std.specs.Option.{option_or};
 ghost use Rattle.std.specs.Str.{bytes_eq};
-ghost use Rattle.pr_labels.specs.Edits.{first_fault, key_labels, labels_of, listed_labels, set_label, union_labels, unlisted_labels, value_if_any, without_name};
+ghost use Rattle.pr_labels.specs.Edits.{first_fault, has_value, key_labels, labels_of, listed_labels, set_label, union_labels, unlisted_labels, value_if_any, without_name};
 ghost use Rattle.pr_labels.specs.LabelSet.{IsLabelSet, value_of};
 ghost use Rattle.pr_labels.specs.Names.{is_label_name};
 ghost use Rattle.pr_labels.specs.declared.pair.Pair.{Pair};
@@ -45,4 +46,11 @@ pub fn values_after_operations()
     ensures union { (ls over : List Pair) (other : List ℕ) → IsLabelSet over
         → value_of (union_labels ls over) other
         ≡ option_or (value_of over other) (value_of ls other) }
+{}
+
+/// The set that faultless pairs make has exactly those of them whose values are not empty.
+#[tactic(auto, using(crate::proofs::Permuted::made_of_all))]
+pub fn from_pairs_takes_all()
+    ensures { (pairs : List Pair) → first_fault pairs ≡ None
+        → IsPermutation (filter has_value pairs) (labels_of pairs) }
 {}

@@ -57,8 +57,8 @@ impl Labels {
         ensures { IfOk result (λ l. l ≡ union_labels self.now over.now) }
     {
         let mut labels = self.copy(alloc)?;
-        for pair in &over.pairs {
-            labels.assign(alloc, pair.name.as_str(), pair.value.as_str())?;
+        for label in &over.pairs {
+            labels.assign(alloc, label.name.as_str(), label.value.as_str())?;
         }
         Ok(labels)
     }

@@ -6,6 +6,6 @@ use Rattle.pr_labels.proofs.labels.Labels.union.Goals as goal
 pub assign-requires : goal.assign-requires
 assign-requires c =
     let items = c.over.inside.pairs.items in
-    let within : c.loop-pair.pair-index < length items = omega (arith, c.deref-pair-items.ensures.len) in
-    let named : is_label_name c.pair-item.result.name ≡ true = named_at items c.loop-pair.pair-index c.pair-item.result c.over.invariant within (rw c.deref-pair-items.ensures.value at c.pair-item.is) in
+    let within : c.loop-label.label-index < length items = omega (arith, c.deref-label-items.ensures.len) in
+    let named : is_label_name c.label-item.result.name ≡ true = named_at items c.loop-label.label-index c.label-item.result c.over.invariant within (rw c.deref-label-items.ensures.value at c.label-item.is) in
     rw c.as_str.ensures named
