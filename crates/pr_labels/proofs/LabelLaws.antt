@@ -1,5 +1,5 @@
 -- Laws of the operations: what a set has of a name after each, and that each gives a label set.
-use Rattle.std.proofs.Common.{◌≡◌, ◌≢◌, ℕ, List, [], ◌∷◌, ◌++◌, true, false, Bool, cond, filter, fold, not, sym, ◌∙◌, ap, refl, Option, Some, None, option_map, find}
+use Rattle.std.proofs.Common.{◌≡◌, ◌≢◌, ℕ, List, [], ◌∷◌, ◌++◌, true, false, Bool, cond, filter, fold, not, sym, ◌∙◌, ap, refl, Option, Some, None}
 use Rattle.std.specs.List.{list_any}
 use Rattle.std.specs.Option.{option_or}
 use Rattle.std.specs.Cmp.Lexicographic.{slice_cmp, texts_ties, bytes_decides}
@@ -11,11 +11,11 @@ use Rattle.std.proofs.lemmas.Cmp.{nat_list_cmp_total, nat_list_eq_equiv}
 use Rattle.pr_labels.specs.declared.fault.LabelFault.{LabelFault}
 use Rattle.pr_labels.specs.declared.pair.Pair.{Pair}
 use Rattle.pr_labels.specs.Edits.{fault_after, first_fault, is_above, is_below, is_listed, key_labels, label_of, labels_of, listed_labels, pair_fault, set_label, set_pair, union_labels, unlisted_labels, value_if_any, without_name}
-use Rattle.pr_labels.specs.LabelSet.{IsLabel, IsLabelSet, IsBelowFirst, has_name, metric_label, value_of}
+use Rattle.pr_labels.specs.LabelSet.{IsLabelSet, IsBelowFirst, has_name, metric_label, value_of}
 use Rattle.pr_labels.specs.Names.{is_label_name}
 use Rattle.pr_labels.proofs.LabelSets.{filter_is_set}
 use Rattle.pr_labels.proofs.Making.{named_pair}
-use Rattle.pr_labels.proofs.Putting.{AllAbove, all_above, set_is_set}
+use Rattle.pr_labels.proofs.Putting.{all_above, set_is_set}
 
 same_names : (a b : List ℕ) → bytes_eq a b ≡ true → a ≡ b
 same_names a b h = (bytes_decides a b).0 h

@@ -1,9 +1,8 @@
 -- Steps of the loops that set one pair after another.
-use Rattle.std.proofs.Common.{◌≡◌, ℕ, ◌+◌, ◌<◌, List, [], ◌∷◌, ◌++◌, true, false, Bool, cond, arith, sym, ◌∙◌, ap, refl, length, get_or, take, drop, Option, Some, None, zero, suc}
-use Rattle.std.specs.Option.{option_or}
+use Rattle.std.proofs.Common.{◌≡◌, ℕ, ◌<◌, List, [], ◌∷◌, true, false, Bool, cond, arith, ◌∙◌, ap, refl, length, get_or, Some, None, zero, suc}
 use Rattle.pr_labels.specs.declared.fault.LabelFault.{LabelFault}
 use Rattle.pr_labels.specs.declared.pair.Pair.{Pair}
-use Rattle.pr_labels.specs.Edits.{fault_after, pair_fault}
+use Rattle.pr_labels.specs.Edits.{pair_fault}
 use Rattle.pr_labels.specs.LabelSet.{IsLabelSet}
 use Rattle.pr_labels.specs.Names.{is_label_name}
 

@@ -1,5 +1,5 @@
 -- The set that pairs make has exactly the pairs whose values are not empty.
-use Rattle.std.proofs.Common.{◌≡◌, ℕ, List, [], ◌∷◌, ◌++◌, true, false, Bool, cond, ◌||◌, filter, fold, sym, ◌∙◌, ap, refl, Option, Some, None, is_some, append_assoc, append-nil}
+use Rattle.std.proofs.Common.{◌≡◌, ℕ, List, [], ◌∷◌, ◌++◌, true, false, Bool, cond, ◌||◌, filter, fold, sym, ◌∙◌, refl, Some, None, is_some, append_assoc, append-nil}
 use Rattle.std.specs.List.{list_any}
 use Rattle.std.specs.List.Sorted.{IsPermutation}
 use Rattle.std.specs.Cmp.Lexicographic.{slice_cmp, texts_ties}

@@ -12,7 +12,7 @@ use Rattle.std.proofs.lemmas.Cmp.{nat_list_cmp_total}
 use Rattle.pr_labels.specs.declared.pair.Pair.{Pair}
 use Rattle.pr_labels.specs.Edits.{is_above, is_below, label_of, set_label, set_pair, without_name}
 use Rattle.pr_labels.specs.Names.{is_label_name}
-use Rattle.pr_labels.specs.LabelSet.{IsLabel, IsLabelSet, IsBelowFirst, has_name, pair_of}
+use Rattle.pr_labels.specs.LabelSet.{IsLabel, IsLabelSet, IsBelowFirst, pair_of}
 use Rattle.pr_labels.proofs.LabelSets.{below_next}
 
 -- the list with the new pairs where the name's place is, instead of the pair with the name

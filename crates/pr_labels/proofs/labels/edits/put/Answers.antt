@@ -1,5 +1,4 @@
-use Rattle.std.proofs.Common.{◌≡◌, ◌<◌, ◌≤◌, true, false, length, arith}
-use Rattle.pr_labels.specs.Edits.{set_pair}
+use Rattle.std.proofs.Common.{◌≡◌, arith}
 use Rattle.pr_labels.proofs.Putting.{place, put_between, put_over, stands_apart, stands_behind, StandsApart}
 use Rattle.pr_labels.proofs.labels.edits.put.Goals as goal
 use Rattle.pr_labels.proofs.labels.edits.put.Goals.{else-place-len-via-then-place-len+else-eq, else-place-len-via-else-place-len}
