@@ -1,1 +1,6 @@
 pub mod Ascii
+pub mod LabelLaws
+pub mod LabelSets
+pub mod Making
+pub mod Permuted
+pub mod Putting

@@ -1,4 +1,5 @@
 pub mod Names
 pub mod LabelSet
+pub mod Edits
 pub mod Order
 pub mod SeriesText

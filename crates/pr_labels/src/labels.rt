@@ -1,4 +1,8 @@
 // A label set.
+mod choose;
+mod edits;
+mod made;
+
 use crate::pair::Pair;
 use pr_words::Text;
 use std::alloc::{AllocError, Global};

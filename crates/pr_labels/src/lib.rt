@@ -1,13 +1,23 @@
 //! Label sets: the names with values by which series are told apart.
 #![tactic(auto)]
 
+mod fault;
+mod grouping;
 mod item;
 mod labels;
+mod laws;
+mod matching;
 mod names;
 mod pair;
 mod print;
+#[cfg(test)]
+mod tests;
 
+pub use fault::LabelFault;
+pub use grouping::Grouping;
 pub use item::Item;
 pub use labels::Labels;
-pub use names::is_metric_name;
+pub use laws::{from_pairs_takes_all, operations_give_label_sets, values_after_operations};
+pub use matching::{Card, Matching};
+pub use names::{is_label_name, is_metric_name};
 pub use pair::Pair;
