@@ -1,0 +1,3 @@
+pub mod StringTable
+pub mod StringReading
+pub mod StringPublic

@@ -1,0 +1,14 @@
+use Rattle.pr_strings.proofs.StringReading.{escape_named, escape_other}
+use Rattle.pr_strings.proofs.reader.escape_in.Goals as goal
+
+pub returns-in-Some-clause-read : goal.returns-in-Some-clause-read
+returns-in-Some-clause-read c = escape_named c.args.mark _ _ _ c.in-Some.ensures.read
+
+pub returns-in_default-numbering_in-clause-read : goal.returns-in_default-numbering_in-clause-read
+returns-in_default-numbering_in-clause-read c = escape_other c.args.mark _ _ c.in_default.ensures.read c.in_default-numbering_in.ensures.read
+
+pub returns-in-Ok-clause-read : goal.returns-in-Ok-clause-read
+returns-in-Ok-clause-read c = escape_other c.args.mark _ _ c.in_default.ensures.read (c.in-Some-numbering_in.ensures.read.gives _ c.in-Ok.ensures.read)
+
+pub returns-in-Err-clause-read : goal.returns-in-Err-clause-read
+returns-in-Err-clause-read c = escape_other c.args.mark _ _ c.in_default.ensures.read (c.in-Some-numbering_in.ensures.read.gives _ c.in-Err.ensures.read)

@@ -1,0 +1,10 @@
+//! The strings of the query language, read from the front of a text. Each format that has strings reads them here.
+#![tactic(auto)]
+
+mod kind;
+mod laws;
+mod reader;
+
+pub use kind::{Kind, Mark};
+pub use laws::one_byte_decides;
+pub use reader::{Piece, read_string};
