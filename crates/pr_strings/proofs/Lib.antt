@@ -1,3 +1,4 @@
 pub mod StringTable
 pub mod StringReading
 pub mod StringPublic
+pub mod Within

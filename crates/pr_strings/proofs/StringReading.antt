@@ -12,7 +12,7 @@ use Rattle.pr_forms.proofs.Steps.{next_pair, next_left, next_right}
 use Rattle.pr_strings.specs.declared.kind.Mark.{Mark}
 use Rattle.pr_strings.specs.declared.kind.Mark.TheVariants.{Double, Single, Back}
 use Rattle.pr_strings.specs.declared.kind.Kind.{Kind}
-use Rattle.pr_strings.specs.declared.kind.Kind.TheVariants.{Quote, Backslash, Feed, A, B, F, N, R, T, V, X, Short, Long, Digit, Other}
+use Rattle.pr_strings.specs.declared.kind.Kind.TheVariants.{Quote, Backslash, Feed, A, B, F, N, R, T, V, X, Short, Long, Digit, HexLetter, OtherLetter, Colon, Open, Close, Comma, Equal, Blank, Other}
 use Rattle.pr_strings.specs.Strings.{production, table, kind_of, Letter, letter, letter_of, seen, Value, content, mark, byte_value, Rule, Text, Quoted, Escape, Digits, Then, quote_at, plain_at, escape_at, named_at, numbering, numbered_by, numbered, nothing_follows, digit_of, fits, reached, any_at, joined, first_of, second_of, piece}
 use Rattle.pr_strings.specs.Reader.{Gives, Takes, Lacks, Leads, Breaks}
 
@@ -53,7 +53,7 @@ pub digit_read : (text rest : List ℕ) (b limit left n d : ℕ) (able : Bool) �
     Leads (rule (Digits limit (suc left) n)) text (rule (Digits limit left (n * 16 + d))) rest
 digit_read text rest b limit left n d able e h f y =
     let l = entered (λ t. reached limit left n (digit_of t)) text rest b limit left (n * 16 + d) e
-        (ap (reached limit left n) (sym h) ∙ ap (λ x. if x then Some (Then limit left (n * 16 + d)) else None) (sym f ∙ y)) in
+    (ap (reached limit left n) (sym h) ∙ ap (λ x. if x then Some (Then limit left (n * 16 + d)) else None) (sym f ∙ y)) in
     record { gives = λ o k. run_rule (l.gives o k) }
 
 pub digit_end : (text : List ℕ) (limit left n : ℕ) → length text ≡ 0 → Gives (rule (Digits limit (suc left) n)) text (bad (seen text))

@@ -1,2 +1,3 @@
 pub mod Strings
 pub mod Reader
+pub mod Within

@@ -5,17 +5,33 @@ use Rattle.pr_forms.specs.Table.{Table}
 use Rattle.pr_strings.specs.declared.kind.Mark.{Mark}
 use Rattle.pr_strings.specs.declared.kind.Mark.TheVariants.{Double, Single, Back}
 use Rattle.pr_strings.specs.declared.kind.Kind.{Kind}
-use Rattle.pr_strings.specs.declared.kind.Kind.TheVariants.{Quote, Backslash, Feed, A, B, F, N, R, T, V, X, Short, Long, Digit, Other}
+use Rattle.pr_strings.specs.declared.kind.Kind.TheVariants.{Quote, Backslash, Feed, A, B, F, N, R, T, V, X, Short, Long, Digit, HexLetter, OtherLetter, Colon, Open, Close, Comma, Equal, Blank, Other}
 
--- what a byte is to a string: the quotes, the backslash, the line feed, the letters that stand after a backslash, of which a, b and f
--- are digits of base 16 too, the other digits, and all else
+-- what a byte is to the texts that have strings
+abbrev pub is_hex_letter : ℕ → Bool
+is_hex_letter b = (nat_le 65 b && nat_le b 70) || (nat_le 99 b && nat_le b 101)
+
+abbrev pub is_other_letter : ℕ → Bool
+is_other_letter b = (nat_le 71 b && nat_le b 90) || (nat_le 103 b && nat_le b 122) || b == 95
+
+-- the signs and the blanks, and all else
+abbrev pub sign_of : ℕ → Kind
+sign_of b = if b == 58 then Colon else (if b == 123 then Open else (if b == 125 then Close else (if b == 44 then Comma else (if b == 61 then Equal else
+    (if b == 32 || b == 9 then Blank else Other)))))
+
+-- the digits and the letters without a meaning after a backslash
+abbrev pub word_of : ℕ → Kind
+word_of b = if nat_le 48 b && nat_le b 57 then Digit else (if is_hex_letter b then HexLetter else (if is_other_letter b then OtherLetter else sign_of b))
+
+-- the letters that stand after a backslash
+abbrev pub escape_of : ℕ → Kind
+escape_of b = if b == 97 then A else (if b == 98 then B else (if b == 102 then F else (if b == 110 then N else (if b == 114 then R else
+    (if b == 116 then T else (if b == 118 then V else (if b == 120 then X else (if b == 117 then Short else (if b == 85 then Long else word_of b)))))))))
+
+-- the quotes, the backslash and the line feed
 abbrev pub kind_of : ℕ → Kind
-kind_of b =
-    if b == 34 then Quote Double else (if b == 39 then Quote Single else (if b == 96 then Quote Back else
-    (if b == 92 then Backslash else (if b == 10 then Feed else
-    (if b == 97 then A else (if b == 98 then B else (if b == 102 then F else (if b == 110 then N else (if b == 114 then R else
-    (if b == 116 then T else (if b == 118 then V else (if b == 120 then X else (if b == 117 then Short else (if b == 85 then Long else
-    (if (nat_le 48 b && nat_le b 57) || (nat_le 65 b && nat_le b 70) || (nat_le 99 b && nat_le b 101) then Digit else Other)))))))))))))))
+kind_of b = if b == 34 then Quote Double else (if b == 39 then Quote Single else (if b == 96 then Quote Back else
+    (if b == 92 then Backslash else (if b == 10 then Feed else escape_of b))))
 
 -- A byte as the grammar sees it.
 pub data Letter : Type 0 where
@@ -119,6 +135,7 @@ digit_value b = if nat_le b 57 then b - 48 else (if nat_le b 70 then b - 55 else
 -- the value of a digit of base 16
 abbrev pub digit_of : Letter → Option ℕ
 digit_of (letter Digit b) = Some (digit_value b)
+digit_of (letter HexLetter b) = Some (digit_value b)
 digit_of (letter A b) = Some 10
 digit_of (letter B b) = Some 11
 digit_of (letter F b) = Some 15

@@ -1,4 +1,4 @@
-//! What a byte is to a string.
+//! What a byte is to the texts that have strings.
 ghost use Rattle.std.specs.Prelude.{◌≡◌};
 ghost use Rattle.pr_strings.specs.Strings.{kind_of};
 
@@ -10,7 +10,7 @@ pub enum Mark {
     Back,
 }
 
-/// What a byte is to a string.
+/// What a byte is to the texts that have strings. The letters `a b f n r t v x u U` have a meaning after a backslash.
 #[derive(Clone, Copy, PartialEq, Eq, Debug)]
 pub enum Kind {
     Quote(Mark),
@@ -29,13 +29,25 @@ pub enum Kind {
     Short,
     /// `U`, after which eight digits stand.
     Long,
-    /// A digit of base 16 other than `a`, `b` and `f`.
     Digit,
+    /// A letter that is a digit of base 16, other than `a`, `b` and `f`.
+    HexLetter,
+    /// Another letter, or an underscore.
+    OtherLetter,
+    Colon,
+    /// An opening brace.
+    Open,
+    /// A closing brace.
+    Close,
+    Comma,
+    Equal,
+    /// A space or a tab.
+    Blank,
     Other,
 }
 
-/// What the byte is to a string.
-pub(crate) fn kind_of(byte: u8) -> Kind
+/// What the byte is to the texts that have strings.
+pub fn kind_of(byte: u8) -> Kind
     ensures { result ≡ kind_of byte }
 {
     match byte {
@@ -54,7 +66,15 @@ pub(crate) fn kind_of(byte: u8) -> Kind
         b'x' => Kind::X,
         b'u' => Kind::Short,
         b'U' => Kind::Long,
-        b'0'..=b'9' | b'A'..=b'F' | b'c'..=b'e' => Kind::Digit,
+        b'0'..=b'9' => Kind::Digit,
+        b'A'..=b'F' | b'c'..=b'e' => Kind::HexLetter,
+        b'G'..=b'Z' | b'g'..=b'z' | b'_' => Kind::OtherLetter,
+        b':' => Kind::Colon,
+        b'{' => Kind::Open,
+        b'}' => Kind::Close,
+        b',' => Kind::Comma,
+        b'=' => Kind::Equal,
+        b' ' | b'\t' => Kind::Blank,
         _ => Kind::Other,
     }
 }

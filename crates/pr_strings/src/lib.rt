@@ -4,7 +4,9 @@
 mod kind;
 mod laws;
 mod reader;
+#[cfg(test)]
+mod tests;
 
-pub use kind::{Kind, Mark};
+pub use kind::{Kind, Mark, kind_of};
 pub use laws::one_byte_decides;
 pub use reader::{Piece, read_string};

@@ -154,9 +154,7 @@ fn named_in(mark: Mark, text: &[u8]) -> Option<(u8, &[u8])>
         text,
         |byte: &u8| -> Option<u8>
             ensures { option_map byte_value result ≡ named_at mark (letter_of byte.now) }
-        {
-            named_byte(mark, kind_of(*byte))
-        },
+        { named_byte(mark, kind_of(*byte)) },
     )
 }
 
