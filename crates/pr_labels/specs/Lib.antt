@@ -2,3 +2,4 @@ pub mod Names
 pub mod LabelSet
 pub mod Order
 pub mod SeriesText
+pub mod SeriesGrammar

@@ -3,11 +3,13 @@
 
 mod item;
 mod labels;
+mod laws;
 mod names;
 mod pair;
 mod print;
 
 pub use item::Item;
 pub use labels::Labels;
+pub use laws::one_byte_decides_series_texts;
 pub use names::is_metric_name;
 pub use pair::Pair;

@@ -1,19 +1,19 @@
 -- What the reading of a string says of the text.
 use Rattle.std.proofs.Common.{◌≡◌, ℕ, ◌-◌, List, [], ◌∷◌, Result, Ok, Err, Bool, true, false, length, refl, ap, sym, ◌∙◌, subst}
 use Rattle.std.proofs.lemmas.Result.{MatchResult-weaker}
-use Rattle.std.specs.Prelude.{MatchResult, IfOk}
+use Rattle.std.specs.Prelude.{MatchResult, IfOk, IfErr}
 use Rattle.std.specs.Result.{IsErrAnd}
 use Rattle.pr_forms.specs.Form.{rule, Reads}
 use Rattle.pr_forms.specs.Table.{is_more}
 use Rattle.pr_forms.specs.Run.{Outcome, good, bad, Runs}
 use Rattle.pr_forms.specs.declared.reader.Fault.{Fault}
 use Rattle.pr_forms.specs.declared.reader.Fault.TheVariants.{Bad, Memory}
-use Rattle.pr_forms.proofs.Public.{rest_place, bad_place}
+use Rattle.pr_forms.proofs.Public.{rest_place, bad_place, left_short}
 use Rattle.pr_forms.proofs.Sound.{meets, reads}
 use Rattle.pr_forms.proofs.Decided.{Agrees, same, goes_on, agrees, rule_decides}
 use Rattle.pr_strings.specs.declared.kind.Mark.{Mark}
 use Rattle.pr_strings.specs.Strings.{production, table, letter_of, seen, Letter, Value, content, Rule, Text, Quoted, piece, IsString, IsBadPlace}
-use Rattle.pr_strings.specs.Reader.{Gives, Leads, FailsAt, BreaksAt, Refuses, IsMemory, IsOnly}
+use Rattle.pr_strings.specs.Reader.{Gives, Leads, FailsAt, BreaksAt, Refuses, IsMemory, IsNoLonger, IsOnly}
 use Rattle.pr_strings.proofs.StringTable.{known}
 use Rattle.pr_strings.proofs.StringReading.{Pieces, broken_piece}
 
@@ -52,6 +52,13 @@ module _ {X : Type 0} (bytes rest : X → List ℕ) (text : List ℕ) (r : Resul
   place_fault : (e : Fault ℕ) → FailsAt (rule Text) text e → Refuses text e
   place_fault (Bad at) q = unread_place text at.now q
   place_fault Memory q = tt
+
+  within_fault : (e : Fault ℕ) → FailsAt (rule Text) text e → IsNoLonger text e
+  within_fault (Bad at) q = left_short letter_of production table known Text text at.now _ q refl
+  within_fault Memory q = tt
+
+  pub no_longer : IsRead → IfErr r (IsNoLonger text)
+  no_longer h = MatchResult-weaker r h (λ x q. tt) within_fault
 
   pub place : IsRead → MatchResult r (λ x. IsBadPlace text (length text - length (rest x))) (Refuses text)
   place h = MatchResult-weaker r h (λ x q. rest_place letter_of production table known Text text (rest x) (content (bytes x)) q) place_fault

@@ -49,6 +49,11 @@ abbrev pub Refuses : List ℕ → Fault ℕ → Type 0
 Refuses text (Bad rest) = IsBadPlace text (length text - length rest.now)
 Refuses text Memory = Unit {0}
 
+-- What is left is no longer than the text.
+abbrev pub IsNoLonger : List ℕ → Fault ℕ → Type 0
+IsNoLonger text (Bad rest) = length rest.now ≤ length text
+IsNoLonger text Memory = Unit {0}
+
 -- The fault is want of memory.
 abbrev pub IsMemory : Fault ℕ → Type 0
 IsMemory (Bad rest) = ⊥

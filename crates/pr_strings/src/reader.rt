@@ -1,5 +1,5 @@
 //! Reading a string at the front of a text.
-ghost use Rattle.std.specs.Prelude.{◌≡◌, ℕ, suc, ◌-◌, List, [], ◌++◌, ◌<◌, ◌≤◌, ◌^◌, true, length, IfOk, IfSome, OnOk, MatchOption, MatchResult, option_map, encode_utf8};
+ghost use Rattle.std.specs.Prelude.{◌≡◌, ℕ, suc, ◌-◌, List, [], ◌++◌, ◌<◌, ◌≤◌, ◌^◌, true, length, IfOk, IfErr, IfSome, OnOk, MatchOption, MatchResult, option_map, encode_utf8};
 ghost use Rattle.pr_forms.specs.Form.{rule, Reads};
 ghost use Rattle.pr_forms.specs.Run.{good, bad};
 ghost use Rattle.pr_strings.specs.Strings.{
@@ -34,7 +34,7 @@ ghost use Rattle.pr_strings.specs.Strings.{
   numbered,
   nothing_follows,
 };
-ghost use Rattle.pr_strings.specs.Reader.{Gives, Takes, Lacks, Leads, BreaksAt, FailsAt, IsNumbering, bytes_of, Refuses, IsMemory, IsOnly};
+ghost use Rattle.pr_strings.specs.Reader.{Gives, Takes, Lacks, Leads, BreaksAt, FailsAt, IsNumbering, bytes_of, Refuses, IsMemory, IsNoLonger, IsOnly};
 ghost use Rattle.pr_forms.specs.Form.{token, chosen};
 
 use crate::kind::{Kind, Mark, kind_of};
@@ -359,6 +359,7 @@ pub fn read_string(alloc: Global, text: &[u8]) -> Result<(Vec<u8>, &[u8]), Fault
     // The same as a step of a reader.
     ensures read { MatchResult result (λ x. Gives (rule Text) text.now (good (content x.0.items) (seen x.1.now))) (FailsAt (rule Text) text.now) }
     ensures shorter { IfOk result (λ x. length x.1.now < length text.now) }
+    ensures within { IfErr result (IsNoLonger text.now) }
 {
     match opening_in(text) {
         Some((mark, after)) => quoted_in(alloc, mark, after),
