@@ -1,5 +1,6 @@
 -- What the functions that read a string say of themselves.
-use Rattle.std.specs.Prelude.{◌≡◌, ℕ, ◌-◌, ◌≤◌, List, [], ◌∷◌, true, length, encode_utf8}
+use Rattle.std.specs.Prelude.{◌≡◌, ℕ, ◌-◌, ◌≤◌, List, [], ◌∷◌, ◌++◌, true, length, encode_utf8}
+use Rattle.std.specs.Str.{IsUtf8}
 use Rattle.pr_forms.specs.Form.{Form, rule}
 use Rattle.pr_forms.specs.Table.{is_next}
 use Rattle.pr_forms.specs.Run.{Outcome, good, bad, Runs, Takes as TakesBy, Lacks as LacksBy, Leads as LeadsBy}
@@ -53,6 +54,18 @@ Refuses text Memory = Unit {0}
 abbrev pub IsNoLonger : List ℕ → Fault ℕ → Type 0
 IsNoLonger text (Bad rest) = length rest.now ≤ length text
 IsNoLonger text Memory = Unit {0}
+
+-- Where one list of bytes is UTF-8, the other one is too.
+abbrev pub KeepsText : List ℕ → List ℕ → Type 0
+KeepsText text rest = IsUtf8 text → IsUtf8 rest
+
+-- A front that the text goes on as UTF-8, the bytes and the rest go on too.
+abbrev pub KeepsFront : List ℕ → List ℕ → List ℕ → Type 0
+KeepsFront text bytes rest = (front : List ℕ) → IsUtf8 (front ++ text) → IsUtf8 (front ++ (bytes ++ rest))
+
+-- Where the text is UTF-8, so are the bytes, and so is the rest.
+abbrev pub SplitsText : List ℕ → List ℕ → List ℕ → Type 0
+SplitsText text bytes rest = IsUtf8 text → IsUtf8 bytes × IsUtf8 rest
 
 -- The fault is want of memory.
 abbrev pub IsMemory : Fault ℕ → Type 0

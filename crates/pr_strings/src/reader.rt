@@ -34,7 +34,8 @@ ghost use Rattle.pr_strings.specs.Strings.{
   numbered,
   nothing_follows,
 };
-ghost use Rattle.pr_strings.specs.Reader.{Gives, Takes, Lacks, Leads, BreaksAt, FailsAt, IsNumbering, bytes_of, Refuses, IsMemory, IsNoLonger, IsOnly};
+ghost use Rattle.pr_strings.specs.Reader.{Gives, Takes, Lacks, Leads, BreaksAt, FailsAt, IsNumbering, bytes_of, Refuses, IsMemory, IsNoLonger, IsOnly, KeepsText, KeepsFront, SplitsText};
+ghost use Rattle.std.specs.Char.{IsScalar};
 ghost use Rattle.pr_forms.specs.Form.{token, chosen};
 
 use crate::kind::{Kind, Mark, kind_of};
@@ -200,6 +201,7 @@ fn numbering_in(text: &[u8]) -> Option<((u32, u32), &[u8])>
         (λ x. Leads (chosen numbered nothing_follows) text.now (rule (Digits x.0.0 x.0.1 0)) x.1.now) }
     ensures known { IfSome result (λ x. IsNumbering x.0.0 x.0.1) }
     ensures shorter { IfSome result (λ x. length x.1.now < length text.now) }
+    ensures text { IfSome result (λ x. KeepsText text.now x.1.now) }
 {
     let Some((first, rest)) = text.split_first() else {
         return None;
@@ -220,6 +222,7 @@ fn digit_in(limit: u32, left: u32, number: u32, text: &[u8]) -> Option<(u32, &[u
         (λ x. Leads (rule (Digits limit (suc left) number)) text.now (rule (Digits limit left x.0)) x.1.now) }
     ensures able { IfSome result (λ x. fits limit left x.0 ≡ true) }
     ensures shorter { IfSome result (λ x. length x.1.now < length text.now) }
+    ensures text { IfSome result (λ x. KeepsText text.now x.1.now) }
 {
     let Some((first, rest)) = text.split_first() else {
         return None;
@@ -241,6 +244,8 @@ fn digits_in(limit: u32, digits: u32, text: &[u8]) -> Result<(char, &[u8]), &[u8
     ensures read { MatchResult result (λ x. Gives (rule (Digits limit digits 0)) text.now (good (content (encode_utf8 x.0)) (seen x.1.now)))
         (λ rest. Gives (rule (Digits limit digits 0)) text.now (bad (seen rest.now))) }
     ensures shorter { IfOk result (λ x. length x.1.now ≤ length text.now) }
+    ensures scalar { IfOk result (λ x. IsScalar x.0) }
+    ensures text { IfOk result (λ x. KeepsText text.now x.1.now) }
 {
     let mut number = 0;
     let mut left = digits;
@@ -264,6 +269,7 @@ fn escape_in(mark: Mark, text: &[u8]) -> Result<(Piece, &[u8]), &[u8]>
     ensures read { MatchResult result (λ x. Gives (rule (Escape mark)) text.now (good (content (bytes_of x.0)) (seen x.1.now)))
         (λ rest. Gives (rule (Escape mark)) text.now (bad (seen rest.now))) }
     ensures shorter { IfOk result (λ x. length x.1.now < length text.now) }
+    ensures text { IfOk result (λ x. KeepsText text.now (bytes_of x.0 ++ x.1.now)) }
 {
     if let Some((byte, rest)) = named_in(mark, text) {
         return Ok((Piece::Byte(byte), rest));
@@ -282,6 +288,7 @@ fn piece_in(mark: Mark, text: &[u8]) -> Result<Option<(Piece, &[u8])>, Fault<'_,
     ensures read { MatchResult result (λ o. MatchOption o (Lacks (piece mark) text.now) (λ x. Takes (piece mark) text.now (content (bytes_of x.0)) x.1.now))
         (BreaksAt (piece mark) text.now) }
     ensures shorter { IfOk result (λ o. IfSome o (λ x. length x.1.now < length text.now)) }
+    ensures text { IfOk result (λ o. IfSome o (λ x. KeepsFront text.now (bytes_of x.0) x.1.now)) }
 {
     if let Some((byte, rest)) = plain_in(mark, text) {
         return Ok(Some((Piece::Byte(byte), rest)));
@@ -315,6 +322,7 @@ fn push_piece(bytes: &mut Vec<u8>, piece: Piece) -> Result<(), AllocError>
 fn quoted_in(alloc: Global, mark: Mark, text: &[u8]) -> Result<(Vec<u8>, &[u8]), Fault<'_, u8>>
     ensures read { MatchResult result (λ x. Gives (rule (Quoted mark)) text.now (good (content x.0.items) (seen x.1.now))) (FailsAt (rule (Quoted mark)) text.now) }
     ensures shorter { IfOk result (λ x. length x.1.now < length text.now) }
+    ensures text { IfOk result (λ x. SplitsText text.now x.0.items x.1.now) }
 {
     let mut bytes = Vec::new(alloc);
     let mut rest = text;
@@ -332,6 +340,7 @@ fn quoted_in(alloc: Global, mark: Mark, text: &[u8]) -> Result<(Vec<u8>, &[u8]),
 fn opening_in(text: &[u8]) -> Option<(Mark, &[u8])>
     ensures read { MatchOption result (Gives (rule Text) text.now (bad (seen text.now))) (λ x. Leads (rule Text) text.now (rule (Quoted x.0)) x.1.now) }
     ensures shorter { IfSome result (λ x. length x.1.now < length text.now) }
+    ensures text { IfSome result (λ x. KeepsText text.now x.1.now) }
 {
     let Some((first, rest)) = text.split_first() else {
         return None;
@@ -360,6 +369,8 @@ pub fn read_string(alloc: Global, text: &[u8]) -> Result<(Vec<u8>, &[u8]), Fault
     ensures read { MatchResult result (λ x. Gives (rule Text) text.now (good (content x.0.items) (seen x.1.now))) (FailsAt (rule Text) text.now) }
     ensures shorter { IfOk result (λ x. length x.1.now < length text.now) }
     ensures within { IfErr result (IsNoLonger text.now) }
+    // Bytes that UTF-8 texts mean are UTF-8, and so is what follows.
+    ensures text { IfOk result (λ x. SplitsText text.now x.0.items x.1.now) }
 {
     match opening_in(text) {
         Some((mark, after)) => quoted_in(alloc, mark, after),

@@ -1,7 +1,7 @@
 use Rattle.std.proofs.Common.{◌≡◌, ◌≤◌, true, length}
 use Rattle.pr_forms.specs.Form.{rule}
 use Rattle.pr_strings.specs.Strings.{fits, Digits}
-use Rattle.pr_strings.specs.Reader.{Leads}
+use Rattle.pr_strings.specs.Reader.{Leads, KeepsText}
 use Rattle.pr_strings.proofs.reader.digits_in.Given as goal
 
 abbrev pub invariant-loop-left : goal.invariant-loop-left
@@ -9,6 +9,7 @@ invariant-loop-left l = record {
   leads : Leads (rule (Digits l.limit l.digits 0)) l.text (rule (Digits l.limit l.left l.number)) l.rest;
   able : fits l.limit l.left l.number ≡ true;
   few : l.left ≤ l.digits;
+  text : KeepsText l.text l.rest;
   shorter : length l.rest ≤ length l.text;
 }
 

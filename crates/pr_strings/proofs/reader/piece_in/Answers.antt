@@ -1,4 +1,6 @@
 use Rattle.pr_strings.proofs.StringReading.{piece_plain, piece_none, piece_escape, piece_breaks}
+use Rattle.pr_strings.specs.Reader.{bytes_of}
+use Rattle.pr_strings.proofs.StringUtf8.{plain_text, escape_text}
 use Rattle.pr_strings.proofs.reader.piece_in.Goals as goal
 
 pub returns-in-Some-clause-read : goal.returns-in-Some-clause-read
@@ -14,3 +16,10 @@ returns-in-Ok-clause-read c =
 pub returns-in-Err-clause-read : goal.returns-in-Err-clause-read
 returns-in-Err-clause-read c =
     piece_breaks c.args.mark _ c.in-Some-backslash_in.after.now c.in-Err.rest.now c.in_default.ensures.read c.in-Some-backslash_in.ensures.read c.in-Err.ensures.read
+
+pub returns-in-Some-clause-text : goal.returns-in-Some-clause-text
+returns-in-Some-clause-text c = plain_text c.args.mark _ _ c.in-Some.byte c.in-Some.ensures.read
+
+pub returns-in-Ok-clause-text : goal.returns-in-Ok-clause-text
+returns-in-Ok-clause-text c =
+    escape_text c.args.mark _ c.in-Some-backslash_in.after.now (bytes_of c.in-Ok.piece) c.in-Ok.rest.now c.in-Some-backslash_in.ensures.read c.in-Ok.ensures.text
