@@ -1,18 +1,18 @@
 -- What the reading of a string says of the text.
-use Rattle.std.proofs.Common.{◌≡◌, ℕ, ◌-◌, List, [], ◌∷◌, Result, Ok, Err, Bool, true, false, length, refl, ap, sym, ◌∙◌, subst}
+use Rattle.std.proofs.Common.{◌≡◌, ℕ, ◌-◌, List, [], ◌∷◌, Result, Ok, Err, true, length, refl, sym, subst}
 use Rattle.std.proofs.lemmas.Result.{MatchResult-weaker}
 use Rattle.std.specs.Prelude.{MatchResult, IfOk, IfErr}
 use Rattle.std.specs.Result.{IsErrAnd}
 use Rattle.pr_forms.specs.Form.{rule, Reads}
 use Rattle.pr_forms.specs.Table.{is_more}
-use Rattle.pr_forms.specs.Run.{Outcome, good, bad, Runs}
+use Rattle.pr_forms.specs.Run.{good, bad}
 use Rattle.pr_forms.specs.declared.reader.Fault.{Fault}
 use Rattle.pr_forms.specs.declared.reader.Fault.TheVariants.{Bad, Memory}
 use Rattle.pr_forms.proofs.Public.{rest_place, bad_place, left_short}
 use Rattle.pr_forms.proofs.Sound.{meets, reads}
 use Rattle.pr_forms.proofs.Decided.{Agrees, same, goes_on, agrees, rule_decides}
 use Rattle.pr_strings.specs.declared.kind.Mark.{Mark}
-use Rattle.pr_strings.specs.Strings.{production, table, letter_of, seen, Letter, Value, content, Rule, Text, Quoted, piece, IsString, IsBadPlace}
+use Rattle.pr_strings.specs.Strings.{production, table, letter_of, seen, Letter, Value, content, Text, Quoted, piece, IsString, IsBadPlace}
 use Rattle.pr_strings.specs.Reader.{Gives, Leads, FailsAt, BreaksAt, Refuses, IsMemory, IsNoLonger, IsOnly}
 use Rattle.pr_strings.proofs.StringTable.{known}
 use Rattle.pr_strings.proofs.StringReading.{Pieces, broken_piece}

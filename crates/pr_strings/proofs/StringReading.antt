@@ -1,10 +1,10 @@
 -- The ways of the functions that read a string.
-use Rattle.std.proofs.Common.{◌≡◌, ℕ, zero, suc, ◌+◌, ◌*◌, ◌-◌, ◌<◌, ◌≤◌, ◌^◌, List, [], ◌∷◌, ◌++◌, Option, Some, None, Bool, true, false, length, refl, ap, sym, ◌∙◌, subst, arith, inl, inr}
+use Rattle.std.proofs.Common.{◌≡◌, ℕ, suc, ◌+◌, ◌*◌, ◌-◌, ◌<◌, ◌≤◌, ◌^◌, List, [], ◌∷◌, ◌++◌, Option, Some, None, Bool, true, false, length, refl, ap, sym, ◌∙◌, subst, arith}
 use Rattle.std.proofs.Math.Nat.{one-le-pow, mul-le-mul_left}
 use Rattle.std.proofs.lemmas.Bool.Decides.{nat_tests}
 use Rattle.std.specs.Prelude.{nat_le, not, ◌&&◌, encode_utf8, if◌then◌else◌}
 use Rattle.std.specs.Char.{InScalarRange}
-use Rattle.pr_forms.specs.Form.{Form, token, nothing, pair, either, turns, chosen, rule}
+use Rattle.pr_forms.specs.Form.{Form, token, pair, turns, chosen, rule}
 use Rattle.pr_forms.specs.Table.{is_next}
 use Rattle.pr_forms.specs.Run.{Outcome, good, bad, Runs, run_rule, run_left, run_right, run_pair, run_first, run_second, run_token, run_other, run_end, run_nothing, run_turn, run_in_turn, run_stop, run_chosen, run_chosen_bad, run_unchosen, run_chosen_end}
 use Rattle.pr_forms.proofs.Decided.{shrinks}
@@ -12,8 +12,8 @@ use Rattle.pr_forms.proofs.Steps.{next_pair, next_left, next_right}
 use Rattle.pr_strings.specs.declared.kind.Mark.{Mark}
 use Rattle.pr_strings.specs.declared.kind.Mark.TheVariants.{Double, Single, Back}
 use Rattle.pr_strings.specs.declared.kind.Kind.{Kind}
-use Rattle.pr_strings.specs.declared.kind.Kind.TheVariants.{Quote, Backslash, Feed, A, B, F, N, R, T, V, X, Short, Long, Digit, HexLetter, OtherLetter, Colon, Open, Close, Comma, Equal, Blank, Other}
-use Rattle.pr_strings.specs.Strings.{production, table, kind_of, Letter, letter, letter_of, seen, Value, content, mark, byte_value, Rule, Text, Quoted, Escape, Digits, Then, quote_at, plain_at, escape_at, named_at, numbering, numbered_by, numbered, nothing_follows, digit_of, fits, reached, any_at, joined, first_of, second_of, piece}
+use Rattle.pr_strings.specs.declared.kind.Kind.TheVariants.{Quote}
+use Rattle.pr_strings.specs.Strings.{production, table, kind_of, Letter, letter, letter_of, seen, Value, content, mark, byte_value, Rule, Text, Quoted, Escape, Digits, Then, quote_at, plain_at, escape_at, named_at, numbering, numbered_by, numbered, nothing_follows, digit_of, fits, reached, any_at, joined, second_of, piece}
 use Rattle.pr_strings.specs.Reader.{Gives, Takes, Lacks, Leads, Breaks}
 
 -- past a token that has no value alone

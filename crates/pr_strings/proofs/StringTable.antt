@@ -1,11 +1,9 @@
 -- One byte ahead decides the grammar of strings.
-use Rattle.std.proofs.Common.{◌≡◌, ℕ, zero, suc, Bool, true, false, refl}
-use Rattle.pr_forms.specs.Table.{empty_of, starts_of, more_of, parts_at, is_solid, Binds, Decides, IsDecided}
+use Rattle.std.proofs.Common.{◌≡◌, zero, suc, true, refl}
+use Rattle.pr_forms.specs.Table.{empty_of, starts_of, more_of, parts_at, is_solid, Binds, IsDecided}
 use Rattle.pr_forms.proofs.Decided.{plain_binds}
-use Rattle.pr_strings.specs.declared.kind.Mark.{Mark}
 use Rattle.pr_strings.specs.declared.kind.Mark.TheVariants.{Double, Single, Back}
-use Rattle.pr_strings.specs.declared.kind.Kind.{Kind}
-use Rattle.pr_strings.specs.declared.kind.Kind.TheVariants.{Quote, Backslash, Feed, A, B, F, N, R, T, V, X, Short, Long, Digit, HexLetter, OtherLetter, Colon, Open, Close, Comma, Equal, Blank, Other}
+use Rattle.pr_strings.specs.declared.kind.Kind.TheVariants.{Quote}
 use Rattle.pr_strings.specs.Strings.{production, table, Letter, letter, Rule, Text, Quoted, Escape, Digits, Then}
 
 starts_known : (n : Rule) (t : Letter) → starts_of table (production n) t ≡ table.starts n t

@@ -1,12 +1,12 @@
 -- Where a text is UTF-8, so is what a string of it means.
-use Rattle.std.proofs.Common.{◌≡◌, ◌≢◌, ℕ, ◌+◌, ◌<◌, ◌≤◌, List, [], ◌∷◌, ◌++◌, Option, Some, None, Bool, true, false, length, map, take, drop, get_or, refl, ap, sym, ◌∙◌, subst, arith, inl, inr, append_assoc, length-append, lit<}
+use Rattle.std.proofs.Common.{◌≡◌, ℕ, ◌+◌, ◌<◌, ◌≤◌, List, [], ◌∷◌, ◌++◌, Option, Some, None, Bool, true, false, length, get_or, refl, ap, sym, ◌∙◌, subst, arith, inl, inr, append_assoc, length-append, lit<}
 use Rattle.std.proofs.Math.Seq.{take-append_seam, drop-append-add, get_or-append_seam}
 use Rattle.std.proofs.lemmas.Str.{IsUtf8-take, IsUtf8-drop, IsUtf8-append, IsUtf8-encode, IsUtf8-from_ascii, IsCharBoundary-before_ascii, IsCharBoundary-after_ascii}
 use Rattle.std.proofs.lemmas.Bool.{cases_lt}
 use Rattle.std.proofs.lemmas.Bool.Decides.{nat_tests}
 use Rattle.std.proofs.lemmas.Str.Ascii.{IsAscii-from_all}
 use Rattle.std.proofs.lemmas.List.Elements.{All-cons}
-use Rattle.std.specs.Prelude.{◌⊎◌, encode_utf8, if◌then◌else◌, is_some}
+use Rattle.std.specs.Prelude.{encode_utf8, if◌then◌else◌}
 use Rattle.std.specs.Str.{IsUtf8}
 use Rattle.std.specs.Char.{IsScalar}
 use Rattle.pr_forms.specs.Form.{token}
@@ -14,8 +14,8 @@ use Rattle.pr_forms.specs.Run.{good, Runs, run_token}
 use Rattle.pr_strings.specs.declared.kind.Mark.{Mark}
 use Rattle.pr_strings.specs.declared.kind.Mark.TheVariants.{Double, Single, Back}
 use Rattle.pr_strings.specs.declared.kind.Kind.{Kind}
-use Rattle.pr_strings.specs.declared.kind.Kind.TheVariants.{Quote, Backslash, Feed, A, B, F, N, R, T, V, X, Short, Long, Digit, HexLetter, OtherLetter, Colon, Open, Close, Comma, Equal, Blank, Other}
-use Rattle.pr_strings.specs.Strings.{production, table, kind_of, Letter, letter, letter_of, seen, Value, content, mark, byte_value, quote_at, plain_at, escape_at, named_at, named_byte, is_plain, is_escape, same_mark, as_content, numbered_by, numbering, digit_of, Rule}
+use Rattle.pr_strings.specs.declared.kind.Kind.TheVariants.{Quote, Backslash, A, B, F, N, R, T, V, Other}
+use Rattle.pr_strings.specs.Strings.{production, table, kind_of, Letter, letter, letter_of, seen, Value, mark, byte_value, quote_at, plain_at, escape_at, named_at, named_byte, is_plain, as_content, numbered_by, numbering, digit_of, Rule}
 use Rattle.pr_strings.specs.Reader.{Takes, KeepsText, KeepsFront, SplitsText}
 
 -- a text may be cut around an ASCII byte

@@ -1,8 +1,8 @@
 -- A grammar within another one is decided as it is alone, and runs as it runs alone.
-use Rattle.std.proofs.Common.{◌≡◌, ℕ, ◌≤◌, List, [], ◌∷◌, length, Option, Some, None, Bool, true, false, refl, ap, sym, ◌∙◌, subst}
+use Rattle.std.proofs.Common.{◌≡◌, List, [], ◌∷◌, Option, Some, None, Bool, true, refl, ap, sym, ◌∙◌, subst}
 use Rattle.std.specs.Prelude.{is_some, ◌||◌, ◌&&◌}
 use Rattle.pr_forms.specs.Form.{Form, token, nothing, pair, either, turns, fold, chosen, rule}
-use Rattle.pr_forms.specs.Table.{Table, empty_of, starts_of, more_of, is_next, negation, parts_at, is_solid, Binds, Decides, IsDecided}
+use Rattle.pr_forms.specs.Table.{Table, empty_of, starts_of, more_of, is_next, negation, parts_at, is_solid, Binds, Decides}
 use Rattle.pr_forms.specs.Run.{Outcome, good, bad, Runs, run_token, run_other, run_end, run_nothing, run_pair, run_first, run_second, run_left, run_right, run_stop, run_turn, run_in_turn, run_fold, run_base, run_chosen, run_chosen_bad, run_unchosen, run_chosen_end, run_rule}
 use Rattle.pr_strings.specs.Within.{Place, on_option, join_inner, lifted, within, outcome_within}
 

@@ -1,15 +1,15 @@
 -- What the functions that read a string say of themselves.
 use Rattle.std.specs.Prelude.{◌≡◌, ℕ, ◌-◌, ◌≤◌, List, [], ◌∷◌, ◌++◌, true, length, encode_utf8}
 use Rattle.std.specs.Str.{IsUtf8}
-use Rattle.pr_forms.specs.Form.{Form, rule}
+use Rattle.pr_forms.specs.Form.{Form}
 use Rattle.pr_forms.specs.Table.{is_next}
-use Rattle.pr_forms.specs.Run.{Outcome, good, bad, Runs, Takes as TakesBy, Lacks as LacksBy, Leads as LeadsBy}
+use Rattle.pr_forms.specs.Run.{Outcome, bad, Runs, Takes as TakesBy, Lacks as LacksBy, Leads as LeadsBy}
 use Rattle.pr_forms.specs.Reader.{FailsBy}
 use Rattle.pr_forms.specs.declared.reader.Fault.{Fault}
 use Rattle.pr_forms.specs.declared.reader.Fault.TheVariants.{Bad, Memory}
 use Rattle.pr_strings.specs.declared.reader.Piece.{Piece}
 use Rattle.pr_strings.specs.declared.reader.Piece.TheVariants.{Byte, Character}
-use Rattle.pr_strings.specs.Strings.{production, table, letter_of, seen, Letter, Rule, Value, Text, content, IsBadPlace}
+use Rattle.pr_strings.specs.Strings.{production, table, seen, Letter, Rule, Value, content, IsBadPlace}
 
 abbrev pub Gives : Form Letter Rule Value → List ℕ → Outcome Letter Value → Type 0
 Gives f text o = Runs production table f (seen text) o

@@ -1,5 +1,5 @@
 -- A grammar within another one: its rules and values stand among those of the other, and its forms read what they read alone.
-use Rattle.std.specs.Prelude.{Option, Some, None, List}
+use Rattle.std.specs.Prelude.{Option, Some, None}
 use Rattle.pr_forms.specs.Form.{Form, token, nothing, pair, either, turns, fold, chosen, rule}
 use Rattle.pr_forms.specs.Run.{Outcome, good, bad}
 

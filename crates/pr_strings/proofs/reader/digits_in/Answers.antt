@@ -1,5 +1,5 @@
-use Rattle.std.proofs.Common.{◌≡◌, arith, sym, ◌∙◌}
-use Rattle.pr_strings.proofs.StringReading.{able_small, able_scalar, none_yet, next_digit, last_digit, bad_digit}
+use Rattle.std.proofs.Common.{arith}
+use Rattle.pr_strings.proofs.StringReading.{able_small, last_digit}
 use Rattle.pr_strings.proofs.reader.digits_in.Goals as goal
 
 pub digit_in-requires-clause-able : goal.digit_in-requires-clause-able

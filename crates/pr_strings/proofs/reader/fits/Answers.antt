@@ -1,4 +1,4 @@
-use Rattle.std.proofs.Common.{◌≡◌, ℕ, ◌<◌, ◌≤◌, ◌^◌, ◌*◌, arith}
+use Rattle.std.proofs.Common.{ℕ, ◌≤◌, ◌^◌, ◌*◌, arith}
 use Rattle.std.proofs.Math.Nat.{pow-le-pow_right, mul-le-mul}
 use Rattle.pr_strings.proofs.reader.fits.Goals as goal
 

@@ -1,6 +1,6 @@
 use Rattle.std.proofs.Common.{arith}
 use Rattle.pr_strings.specs.Reader.{bytes_of}
-use Rattle.pr_strings.proofs.StringReading.{no_pieces, more_pieces, all_pieces, no_quote}
+use Rattle.pr_strings.proofs.StringReading.{more_pieces, all_pieces, no_quote}
 use Rattle.pr_strings.proofs.StringPublic.{exit}
 use Rattle.pr_strings.proofs.StringUtf8.{more_text, last_text}
 use Rattle.pr_strings.proofs.reader.quoted_in.Goals as goal

@@ -1,4 +1,4 @@
-use Rattle.std.proofs.Common.{◌≡◌, ◌≤◌, ◌++◌, true, length}
+use Rattle.std.proofs.Common.{◌≤◌, ◌++◌, length}
 use Rattle.pr_strings.specs.Reader.{KeepsText}
 use Rattle.pr_strings.proofs.StringReading.{Pieces}
 use Rattle.pr_strings.proofs.reader.quoted_in.Given as goal
