@@ -3,3 +3,4 @@ pub mod LabelSet
 pub mod Order
 pub mod SeriesText
 pub mod SeriesGrammar
+pub mod SeriesReader

@@ -157,7 +157,7 @@ blanks = turns second_of mark (sign Blank)
 --   braces        = "{" items
 --   items         = blanks item
 --   item          = "}" | label-name blanks "=" blanks string after
---   after         = blanks ( "}" | "," items )
+--   after         = blanks ( "," items | "}" )
 -- A label's name that stands before cannot be followed by anything. `__name__` stands before where a metric's name does.
 abbrev pub production : Rule → Form Letter Rule Value
 production Series = either (chosen metric_start goes_on) (rule (Braces []))
@@ -172,9 +172,9 @@ production (NameByte names name) = pair second_of (token any_at) (rule (NameRest
 production (NameRest names name) = either (chosen (name_byte names name) nothing_follows) (rule (Named (is_among name names) names name))
 production (Named true names name) = token none_at
 production (Named false names name) = pair second_of blanks (pair second_of (sign Equal) (pair second_of blanks
-    (pair (labelled name) (rule (InString strings.Text)) (rule (After (name ∷ names))))))
+    (pair (labelled name) (rule (InString strings.Text)) (rule (After (names ++ name ∷ []))))))
 production (After names) = pair second_of blanks (rule (Next names))
-production (Next names) = either (pair second_of (sign Close) (nothing (listed []))) (pair second_of (sign Comma) (rule (Items names)))
+production (Next names) = either (pair second_of (sign Comma) (rule (Items names))) (pair second_of (sign Close) (nothing (listed [])))
 production (InString n) = within place (strings.production n)
 
 -- What one byte ahead tells of the rules.
@@ -194,8 +194,8 @@ starts_kind (Item names) k = same_sign Close k || is_letter k
 starts_kind (NameByte names name) k = true
 starts_kind (NameRest names name) k = is_label_byte k || starts_named (is_among name names) k
 starts_kind (Named twice names name) k = starts_named twice k
-starts_kind (After names) k = same_sign Blank k || (same_sign Close k || same_sign Comma k)
-starts_kind (Next names) k = same_sign Close k || same_sign Comma k
+starts_kind (After names) k = same_sign Blank k || (same_sign Comma k || same_sign Close k)
+starts_kind (Next names) k = same_sign Comma k || same_sign Close k
 starts_kind (InString n) k = false
 
 abbrev pub starts_rule : Rule → Letter → Bool
