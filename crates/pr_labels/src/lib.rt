@@ -3,15 +3,17 @@
 
 mod item;
 mod labels;
-mod laws;
 mod names;
 mod pair;
 mod print;
 mod series;
+mod series_laws;
+#[cfg(test)]
+mod series_tests;
 
 pub use item::Item;
 pub use labels::Labels;
-pub use laws::one_byte_decides_series_texts;
 pub use names::is_metric_name;
 pub use pair::Pair;
 pub use series::{TextFault, read_series_pairs};
+pub use series_laws::one_byte_decides_series_texts;
