@@ -4,3 +4,5 @@ pub mod LabelSets
 pub mod Making
 pub mod Permuted
 pub mod Putting
+pub mod SeriesTable
+pub mod SeriesReading

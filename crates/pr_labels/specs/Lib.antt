@@ -3,3 +3,5 @@ pub mod LabelSet
 pub mod Edits
 pub mod Order
 pub mod SeriesText
+pub mod SeriesGrammar
+pub mod SeriesReader

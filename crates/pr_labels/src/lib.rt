@@ -10,6 +10,10 @@ mod matching;
 mod names;
 mod pair;
 mod print;
+mod series;
+mod series_laws;
+#[cfg(test)]
+mod series_tests;
 #[cfg(test)]
 mod tests;
 
@@ -21,3 +25,5 @@ pub use laws::{from_pairs_takes_all, operations_give_label_sets, values_after_op
 pub use matching::{Card, Matching};
 pub use names::{is_label_name, is_metric_name};
 pub use pair::Pair;
+pub use series::{TextFault, read_series_pairs};
+pub use series_laws::one_byte_decides_series_texts;

@@ -1,0 +1,131 @@
+-- A grammar within another one is decided as it is alone, and runs as it runs alone.
+use Rattle.std.proofs.Common.{◌≡◌, List, [], ◌∷◌, Option, Some, None, Bool, true, refl, ap, sym, ◌∙◌, subst}
+use Rattle.std.specs.Prelude.{is_some, ◌||◌, ◌&&◌}
+use Rattle.pr_forms.specs.Form.{Form, token, nothing, pair, either, turns, fold, chosen, rule}
+use Rattle.pr_forms.specs.Table.{Table, empty_of, starts_of, more_of, is_next, negation, parts_at, is_solid, Binds, Decides}
+use Rattle.pr_forms.specs.Run.{Outcome, good, bad, Runs, run_token, run_other, run_end, run_nothing, run_pair, run_first, run_second, run_left, run_right, run_stop, run_turn, run_in_turn, run_fold, run_base, run_chosen, run_chosen_bad, run_unchosen, run_chosen_end, run_rule}
+use Rattle.pr_strings.specs.Within.{Place, on_option, join_inner, lifted, within, outcome_within}
+
+some_within : {X Y : Type 0} (f : X → Y) (o : Option X) → is_some (on_option f o) ≡ is_some o
+some_within f None = refl
+some_within f (Some x) = refl
+
+option_within : {X Y : Type 0} (f : X → Y) (o : Option X) (x : X) → o ≡ Some x → on_option f o ≡ Some (f x)
+option_within f o x e = ap (on_option f) e
+
+none_within : {X Y : Type 0} (f : X → Y) (o : Option X) → o ≡ None → on_option f o ≡ None
+none_within f o e = ap (on_option f) e
+
+both_or : {a b c d : Bool} → a ≡ c → b ≡ d → (a || b) ≡ (c || d)
+both_or e h = rw (e, h) refl
+
+both_and : {a b c d : Bool} → a ≡ c → b ≡ d → (a && b) ≡ (c && d)
+both_and e h = rw (e, h) refl
+
+module _ {T N V M W : Type 0} (p : Place N V M W) (S : Table T N) (Z : Table T M)
+    (same_empty : (n : N) → Z.empty (p.rule_of n) ≡ S.empty n) (same_starts : (n : N) (t : T) → Z.starts (p.rule_of n) t ≡ S.starts n t)
+    (same_more : (n : N) (t : T) → Z.more (p.rule_of n) t ≡ S.more n t) where
+  pub empty_within : (f : Form T N V) → empty_of Z (within p f) ≡ empty_of S f
+  empty_within (token g) = refl
+  empty_within (nothing v) = refl
+  empty_within (pair c f g) = both_and (empty_within f) (empty_within g)
+  empty_within (either f g) = both_or (empty_within f) (empty_within g)
+  empty_within (turns c v g) = refl
+  empty_within (fold c f g) = empty_within f
+  empty_within (chosen q m) = refl
+  empty_within (rule n) = same_empty n
+
+  pub starts_within : (f : Form T N V) (t : T) → starts_of Z (within p f) t ≡ starts_of S f t
+  starts_within (token g) t = some_within p.value_of (g t)
+  starts_within (nothing v) t = refl
+  starts_within (pair c f g) t = both_or (starts_within f t) (both_and (empty_within f) (starts_within g t))
+  starts_within (either f g) t = both_or (starts_within f t) (starts_within g t)
+  starts_within (turns c v g) t = starts_within g t
+  starts_within (fold c f g) t = both_or (starts_within f t) (both_and (empty_within f) (starts_within g t))
+  starts_within (chosen q m) t = some_within p.rule_of (q t)
+  starts_within (rule n) t = same_starts n t
+
+  pub more_within : (f : Form T N V) (t : T) → more_of Z (within p f) t ≡ more_of S f t
+  more_within (token g) t = refl
+  more_within (nothing v) t = refl
+  more_within (pair c f g) t = both_or (more_within g t) (both_and (empty_within g) (both_or (more_within f t) (starts_within g t)))
+  more_within (either f g) t = both_or (more_within f t) (both_or (more_within g t) (both_or (both_and (empty_within f) (starts_within g t)) (both_and (empty_within g) (starts_within f t))))
+  more_within (turns c v g) t = both_or (starts_within g t) (more_within g t)
+  more_within (fold c f g) t = both_or (more_within f t) (both_or (starts_within g t) (more_within g t))
+  more_within (chosen q m) t = refl
+  more_within (rule n) t = same_more n t
+
+  apart_within : (a b c d : Bool) → a ≡ c → b ≡ d → negation (a && b) ≡ negation (c && d)
+  apart_within a b c d e h = ap negation (both_and e h)
+
+  pub parts_within : (f : Form T N V) (t : T) → parts_at Z (within p f) t ≡ parts_at S f t
+  parts_within (token g) t = refl
+  parts_within (nothing v) t = refl
+  parts_within (pair c f g) t = both_and (parts_within f t) (both_and (parts_within g t) (apart_within _ _ _ _ (more_within f t) (starts_within g t)))
+  parts_within (either f g) t = both_and (parts_within f t) (both_and (parts_within g t) (apart_within _ _ _ _ (starts_within f t) (starts_within g t)))
+  parts_within (turns c v g) t = both_and (parts_within g t) (apart_within _ _ _ _ (more_within g t) (starts_within g t))
+  parts_within (fold c f g) t = both_and (parts_within f t)
+      (both_and (both_and (parts_within g t) (apart_within _ _ _ _ (more_within g t) (starts_within g t))) (apart_within _ _ _ _ (more_within f t) (starts_within g t)))
+  parts_within (chosen q m) t = refl
+  parts_within (rule n) t = refl
+
+  pub solid_within : (f : Form T N V) → is_solid Z (within p f) ≡ is_solid S f
+  solid_within (token g) = refl
+  solid_within (nothing v) = refl
+  solid_within (pair c f g) = both_and (solid_within f) (solid_within g)
+  solid_within (either f g) = both_and (ap negation (empty_within f)) (both_and (solid_within f) (solid_within g))
+  solid_within (turns c v g) = both_and (ap negation (empty_within g)) (solid_within g)
+  solid_within (fold c f g) = both_and (solid_within f) (both_and (ap negation (empty_within g)) (solid_within g))
+  solid_within (chosen q m) = refl
+  solid_within (rule n) = refl
+
+  chosen_binds : (o : Option N) (m : T → Bool) (k : M) (u : T) → ((n : N) → o ≡ Some n → S.more n u ≡ true → m u ≡ true) → on_option p.rule_of o ≡ Some k → Z.more k u ≡ true → m u ≡ true
+  chosen_binds None m k u h e i = cc
+  chosen_binds (Some n) m k u h e i = let same : k ≡ p.rule_of n = cc in h n refl (sym (same_more n u) ∙ ap (λ x. Z.more x u) (sym same) ∙ i)
+
+  pub binds_within : (f : Form T N V) → Binds S f → Binds Z (within p f)
+  binds_within (token g) b = tt
+  binds_within (nothing v) b = tt
+  binds_within (pair c f g) b = (binds_within f b.0, binds_within g b.1)
+  binds_within (either f g) b = (binds_within f b.0, binds_within g b.1)
+  binds_within (turns c v g) b = binds_within g b
+  binds_within (fold c f g) b = (binds_within f b.0, binds_within g b.1)
+  binds_within (chosen q m) b = λ t k u e h. chosen_binds (q t) m k u (λ n i j. b t n u i j) e h
+  binds_within (rule n) b = tt
+
+  pub decides_within : (f : Form T N V) → Decides S f → Decides Z (within p f)
+  decides_within f d = record { at = λ t. parts_within f t ∙ d.at t; solid = solid_within f ∙ d.solid; binds = binds_within f d.binds }
+
+  pub next_within : (f : Form T N V) (ts : List T) → is_next Z (within p f) ts ≡ is_next S f ts
+  next_within f [] = refl
+  next_within f (t ∷ ts) = starts_within f t
+
+  module _ (G : N → Form T N V) (H : M → Form T M W) (same_form : (n : N) → H (p.rule_of n) ≡ within p (G n)) (back : (v : V) → p.inner (p.value_of v) ≡ Some v) where
+    joins : (c : V → V → V) (v w : V) → lifted p c (p.value_of v) (p.value_of w) ≡ p.value_of (c v w)
+    joins c v w = ap (λ o. join_inner p.value_of p.mark_of c o (p.inner (p.value_of w))) (back v) ∙ ap (λ o. join_inner p.value_of p.mark_of c (Some v) o) (back w)
+
+    -- a run of the grammar is a run of the other one
+    pub runs_within : {f : Form T N V} {ts : List T} {o : Outcome T V} → Runs G S f ts o → Runs H Z (within p f) ts (outcome_within p o)
+    runs_within (run_token {p = q} {t = t} {v = v} e) = run_token (option_within p.value_of (q t) v e)
+    runs_within (run_other {p = q} {t = t} e) = run_other (none_within p.value_of (q t) e)
+    runs_within run_end = run_end
+    runs_within run_nothing = run_nothing
+    runs_within (run_pair {c = c} {f = f} {g = g} {ts = ts} {rest = rest} {v = v} {w = w} x y) =
+        subst (λ z. Runs H Z (pair (lifted p c) (within p f) (within p g)) ts (good z rest)) (joins c v w) (run_pair (runs_within x) (runs_within y))
+    runs_within (run_first x) = run_first (runs_within x)
+    runs_within (run_second x y) = run_second (runs_within x) (runs_within y)
+    runs_within (run_left {f = f} {ts = ts} e x) = run_left (next_within f ts ∙ e) (runs_within x)
+    runs_within (run_right {f = f} {ts = ts} e x) = run_right (next_within f ts ∙ e) (runs_within x)
+    runs_within (run_stop {g = g} {ts = ts} e) = run_stop (next_within g ts ∙ e)
+    runs_within (run_turn {c = c} {g = g} {ts = ts} {mid = mid} {v = v} {w = w} {o = o} e x y) =
+        run_turn (next_within g ts ∙ e) (runs_within x) (subst (λ z. Runs H Z (turns (lifted p c) z (within p g)) mid (outcome_within p o)) (sym (joins c v w)) (runs_within y))
+    runs_within (run_in_turn {g = g} {ts = ts} e x) = run_in_turn (next_within g ts ∙ e) (runs_within x)
+    runs_within (run_fold x y) = run_fold (runs_within x) (runs_within y)
+    runs_within (run_base x) = run_base (runs_within x)
+    runs_within (run_chosen {q = q} {t = t} {n = n} {ts = ts} {rest = rest} {v = v} e l x) =
+        run_chosen (option_within p.rule_of (q t) n e) l (subst (λ f. Runs H Z f (t ∷ ts) (good (p.value_of v) rest)) (sym (same_form n)) (runs_within x))
+    runs_within (run_chosen_bad {q = q} {t = t} {n = n} {ts = ts} {rest = rest} e x) =
+        run_chosen_bad (option_within p.rule_of (q t) n e) (subst (λ f. Runs H Z f (t ∷ ts) (bad rest)) (sym (same_form n)) (runs_within x))
+    runs_within (run_unchosen {q = q} {t = t} e) = run_unchosen (none_within p.rule_of (q t) e)
+    runs_within run_chosen_end = run_chosen_end
+    runs_within (run_rule {n = n} {ts = ts} {o = o} x) = run_rule (subst (λ f. Runs H Z f ts (outcome_within p o)) (sym (same_form n)) (runs_within x))

@@ -1,0 +1,77 @@
+-- What the functions that read a string say of themselves.
+use Rattle.std.specs.Prelude.{◌≡◌, ℕ, ◌-◌, ◌≤◌, List, [], ◌∷◌, ◌++◌, true, length, encode_utf8}
+use Rattle.std.specs.Str.{IsUtf8}
+use Rattle.pr_forms.specs.Form.{Form}
+use Rattle.pr_forms.specs.Table.{is_next}
+use Rattle.pr_forms.specs.Run.{Outcome, bad, Runs, Takes as TakesBy, Lacks as LacksBy, Leads as LeadsBy}
+use Rattle.pr_forms.specs.Reader.{FailsBy}
+use Rattle.pr_forms.specs.declared.reader.Fault.{Fault}
+use Rattle.pr_forms.specs.declared.reader.Fault.TheVariants.{Bad, Memory}
+use Rattle.pr_strings.specs.declared.reader.Piece.{Piece}
+use Rattle.pr_strings.specs.declared.reader.Piece.TheVariants.{Byte, Character}
+use Rattle.pr_strings.specs.Strings.{production, table, seen, Letter, Rule, Value, content, IsBadPlace}
+
+abbrev pub Gives : Form Letter Rule Value → List ℕ → Outcome Letter Value → Type 0
+Gives f text o = Runs production table f (seen text) o
+
+abbrev pub Takes : Form Letter Rule Value → List ℕ → Value → List ℕ → Type 0
+Takes f text v rest = TakesBy production table f (seen text) v (seen rest)
+
+abbrev pub Lacks : Form Letter Rule Value → List ℕ → Type 0
+Lacks f text = LacksBy production table f (seen text)
+
+abbrev pub Leads : Form Letter Rule Value → List ℕ → Form Letter Rule Value → List ℕ → Type 0
+Leads f text g rest = LeadsBy production table f (seen text) g (seen rest)
+
+-- The form begins at the front, and fails where the rest begins.
+pub record Breaks (f : Form Letter Rule Value) (text rest : List ℕ) : Type 0 where
+  pub gives : Runs production table f (seen text) (bad (seen rest))
+  pub next : is_next table f (seen text) ≡ true
+
+abbrev pub FailsAt : Form Letter Rule Value → List ℕ → Fault ℕ → Type 0
+FailsAt f text fault = FailsBy seen production table f (seen text) fault
+
+abbrev pub BreaksAt : Form Letter Rule Value → List ℕ → Fault ℕ → Type 0
+BreaksAt f text (Bad rest) = Breaks f text rest.now
+BreaksAt f text Memory = Unit {0}
+
+-- a limit of characters and a number of digits, as escapes have them
+pub record IsNumbering (limit digits : ℕ) : Type 0 where
+  pub limited : limit ≤ 1114111
+  pub few : digits ≤ 8
+
+-- the bytes that a piece means
+abbrev pub bytes_of : Piece → List ℕ
+bytes_of (Byte b) = b ∷ []
+bytes_of (Character c) = encode_utf8 c
+
+-- The front that can go on as a string ends where the fault says.
+abbrev pub Refuses : List ℕ → Fault ℕ → Type 0
+Refuses text (Bad rest) = IsBadPlace text (length text - length rest.now)
+Refuses text Memory = Unit {0}
+
+-- What is left is no longer than the text.
+abbrev pub IsNoLonger : List ℕ → Fault ℕ → Type 0
+IsNoLonger text (Bad rest) = length rest.now ≤ length text
+IsNoLonger text Memory = Unit {0}
+
+-- Where one list of bytes is UTF-8, the other one is too.
+abbrev pub KeepsText : List ℕ → List ℕ → Type 0
+KeepsText text rest = IsUtf8 text → IsUtf8 rest
+
+-- A front that the text goes on as UTF-8, the bytes and the rest go on too.
+abbrev pub KeepsFront : List ℕ → List ℕ → List ℕ → Type 0
+KeepsFront text bytes rest = (front : List ℕ) → IsUtf8 (front ++ text) → IsUtf8 (front ++ (bytes ++ rest))
+
+-- Where the text is UTF-8, so are the bytes, and so is the rest.
+abbrev pub SplitsText : List ℕ → List ℕ → List ℕ → Type 0
+SplitsText text bytes rest = IsUtf8 text → IsUtf8 bytes × IsUtf8 rest
+
+-- The fault is want of memory.
+abbrev pub IsMemory : Fault ℕ → Type 0
+IsMemory (Bad rest) = ⊥
+IsMemory Memory = Unit {0}
+
+-- A string that a text begins with is the one that is answered.
+abbrev pub IsOnly : List ℕ → List ℕ → Value → List Letter → Type 0
+IsOnly bytes rest v left = (v ≡ content bytes) × (left ≡ seen rest)

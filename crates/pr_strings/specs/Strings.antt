@@ -1,0 +1,219 @@
+-- The strings of the query language: what they read, and where they are bad.
+use Rattle.std.specs.Prelude.{ℕ, zero, suc, ◌+◌, ◌-◌, ◌*◌, ◌^◌, ◌==◌, nat_le, ◌&&◌, ◌||◌, not, Bool, true, false, Option, Some, None, is_some, List, [], ◌∷◌, ◌++◌, map, encode_utf8, if◌then◌else◌}
+use Rattle.pr_forms.specs.Form.{Form, token, nothing, pair, either, turns, chosen, rule, Reads, IsFirstBad}
+use Rattle.pr_forms.specs.Table.{Table}
+use Rattle.pr_strings.specs.declared.kind.Mark.{Mark}
+use Rattle.pr_strings.specs.declared.kind.Mark.TheVariants.{Double, Single, Back}
+use Rattle.pr_strings.specs.declared.kind.Kind.{Kind}
+use Rattle.pr_strings.specs.declared.kind.Kind.TheVariants.{Quote, Backslash, Feed, A, B, F, N, R, T, V, X, Short, Long, Digit, HexLetter, OtherLetter, Colon, Open, Close, Comma, Equal, Blank, Other}
+
+-- what a byte is to the texts that have strings
+abbrev pub is_hex_letter : ℕ → Bool
+is_hex_letter b = (nat_le 65 b && nat_le b 70) || (nat_le 99 b && nat_le b 101)
+
+abbrev pub is_other_letter : ℕ → Bool
+is_other_letter b = (nat_le 71 b && nat_le b 90) || (nat_le 103 b && nat_le b 122) || b == 95
+
+-- the signs and the blanks, and all else
+abbrev pub sign_of : ℕ → Kind
+sign_of b = if b == 58 then Colon else (if b == 123 then Open else (if b == 125 then Close else (if b == 44 then Comma else (if b == 61 then Equal else
+    (if b == 32 || b == 9 then Blank else Other)))))
+
+-- the digits and the letters without a meaning after a backslash
+abbrev pub word_of : ℕ → Kind
+word_of b = if nat_le 48 b && nat_le b 57 then Digit else (if is_hex_letter b then HexLetter else (if is_other_letter b then OtherLetter else sign_of b))
+
+-- the letters that stand after a backslash
+abbrev pub escape_of : ℕ → Kind
+escape_of b = if b == 97 then A else (if b == 98 then B else (if b == 102 then F else (if b == 110 then N else (if b == 114 then R else
+    (if b == 116 then T else (if b == 118 then V else (if b == 120 then X else (if b == 117 then Short else (if b == 85 then Long else word_of b)))))))))
+
+-- the quotes, the backslash and the line feed
+abbrev pub kind_of : ℕ → Kind
+kind_of b = if b == 34 then Quote Double else (if b == 39 then Quote Single else (if b == 96 then Quote Back else
+    (if b == 92 then Backslash else (if b == 10 then Feed else escape_of b))))
+
+-- A byte as the grammar sees it.
+pub data Letter : Type 0 where
+  letter : Kind → ℕ → Letter
+
+abbrev pub letter_of : ℕ → Letter
+letter_of b = letter (kind_of b) b
+
+abbrev pub seen : List ℕ → List Letter
+seen = map letter_of
+
+-- What stands for a part of a string.
+pub data Value : Type 0 where
+  -- the bytes that a part means
+  content : List ℕ → Value
+  -- a byte that has no value alone
+  mark : Value
+
+-- The rules.
+pub data Rule : Type 0 where
+  -- a string
+  Text : Rule
+  -- what stands after its first quote, with the last one
+  Quoted : Mark → Rule
+  -- what stands after a backslash
+  Escape : Mark → Rule
+  -- a number of digits that are left, after those that have written a number, of a character at most this one
+  Digits : ℕ → ℕ → ℕ → Rule
+  -- a byte, and then as many digits
+  Then : ℕ → ℕ → ℕ → Rule
+
+abbrev pub same_mark : Mark → Mark → Bool
+same_mark Double Double = true
+same_mark Single Single = true
+same_mark Back Back = true
+same_mark _ _ = false
+
+abbrev pub quote_at : Mark → Letter → Option Value
+quote_at m (letter (Quote n) b) = if same_mark m n then Some mark else None
+quote_at m _ = None
+
+-- Between backticks all but a backtick stands for itself; between the other quotes neither a backslash nor a line feed does.
+abbrev pub is_plain : Mark → Kind → Bool
+is_plain m (Quote n) = not (same_mark m n)
+is_plain Back k = true
+is_plain m Backslash = false
+is_plain m Feed = false
+is_plain m k = true
+
+-- a byte that a part means
+abbrev pub byte_value : ℕ → Value
+byte_value b = content (b ∷ [])
+
+abbrev pub plain_at : Mark → Letter → Option Value
+plain_at m (letter k b) = if is_plain m k then Some (byte_value b) else None
+
+abbrev pub is_escape : Mark → Kind → Bool
+is_escape Back k = false
+is_escape m Backslash = true
+is_escape m k = false
+
+abbrev pub escape_at : Mark → Letter → Option Value
+escape_at m (letter k b) = if is_escape m k then Some mark else None
+
+-- the byte that a letter after a backslash stands for; of the quotes, only the string's own one does
+abbrev pub named_byte : Mark → Kind → Option ℕ
+named_byte m (Quote n) = if same_mark m n then Some (if same_mark m Double then 34 else (if same_mark m Single then 39 else 96)) else None
+named_byte m Backslash = Some 92
+named_byte m A = Some 7
+named_byte m B = Some 8
+named_byte m F = Some 12
+named_byte m N = Some 10
+named_byte m R = Some 13
+named_byte m T = Some 9
+named_byte m V = Some 11
+named_byte m k = None
+
+abbrev pub as_content : Option ℕ → Option Value
+as_content (Some b) = Some (byte_value b)
+as_content None = None
+
+abbrev pub named_at : Mark → Letter → Option Value
+named_at m (letter k b) = as_content (named_byte m k)
+
+-- After x two digits follow, up to 7F; after u four and after U eight, up to the last character.
+abbrev pub numbering : ℕ → ℕ → Rule
+numbering limit digits = Then limit digits 0
+
+abbrev pub numbered_by : Kind → Option Rule
+numbered_by X = Some (numbering 127 2)
+numbered_by Short = Some (numbering 1114111 4)
+numbered_by Long = Some (numbering 1114111 8)
+numbered_by k = None
+
+abbrev pub numbered : Letter → Option Rule
+numbered (letter k b) = numbered_by k
+
+abbrev pub digit_value : ℕ → ℕ
+digit_value b = if nat_le b 57 then b - 48 else (if nat_le b 70 then b - 55 else b - 87)
+
+-- the value of a digit of base 16
+abbrev pub digit_of : Letter → Option ℕ
+digit_of (letter Digit b) = Some (digit_value b)
+digit_of (letter HexLetter b) = Some (digit_value b)
+digit_of (letter A b) = Some 10
+digit_of (letter B b) = Some 11
+digit_of (letter F b) = Some 15
+digit_of _ = None
+
+-- Whether a number can become that of a character with so many digits more: the least number that it can become is not above the
+-- limit, and not all that it can become are surrogates, which are no characters.
+abbrev pub fits : ℕ → ℕ → ℕ → Bool
+fits limit left n = nat_le (n * 16 ^ left) limit && not (nat_le 55296 (n * 16 ^ left) && nat_le (n * 16 ^ left + 16 ^ left) 57344)
+
+abbrev pub reached : ℕ → ℕ → ℕ → Option ℕ → Option Rule
+reached limit left n None = None
+reached limit left n (Some d) = if fits limit left (n * 16 + d) then Some (Then limit left (n * 16 + d)) else None
+
+abbrev pub any_at : Letter → Option Value
+any_at t = Some mark
+
+-- how the values of parts are joined
+abbrev pub joined : Value → Value → Value
+joined (content bs) (content cs) = content (bs ++ cs)
+joined _ _ = mark
+
+abbrev pub first_of : Value → Value → Value
+first_of v w = v
+
+abbrev pub second_of : Value → Value → Value
+second_of v w = w
+
+abbrev pub nothing_follows : Letter → Bool
+nothing_follows t = false
+
+-- a byte that stands for itself, or an escape
+abbrev pub piece : Mark → Form Letter Rule Value
+piece m = either (token (plain_at m)) (pair second_of (token (escape_at m)) (rule (Escape m)))
+
+-- The productions:
+--   text            = '"' quoted(double) | "'" quoted(single) | "`" quoted(back)
+--   quoted(m)       = {plain(m) | "\" escape(m)} m
+--   escape(m)       = m | "\" | "a" | "b" | "f" | "n" | "r" | "t" | "v" | "x" digits(2) | "u" digits(4) | "U" digits(8)
+--   digits(0)       =
+--   digits(k + 1)   = a digit with which a character can still come, and digits(k)
+-- `Then` reads the byte that chose it and then the digits.
+abbrev pub production : Rule → Form Letter Rule Value
+production Text = either (pair second_of (token (quote_at Double)) (rule (Quoted Double)))
+    (either (pair second_of (token (quote_at Single)) (rule (Quoted Single))) (pair second_of (token (quote_at Back)) (rule (Quoted Back))))
+production (Quoted m) = pair first_of (turns joined (content []) (piece m)) (token (quote_at m))
+production (Escape m) = either (token (named_at m)) (chosen numbered nothing_follows)
+production (Digits limit zero n) = nothing (content (encode_utf8 n))
+production (Digits limit (suc left) n) = chosen (λ t. reached limit left n (digit_of t)) nothing_follows
+production (Then limit left n) = pair second_of (token any_at) (rule (Digits limit left n))
+
+-- What one byte ahead tells of the rules.
+abbrev pub starts_rule : Rule → Letter → Bool
+starts_rule Text (letter (Quote m) b) = true
+starts_rule Text t = false
+starts_rule (Quoted Back) t = true
+starts_rule (Quoted m) (letter Feed b) = false
+starts_rule (Quoted m) t = true
+starts_rule (Escape m) (letter k b) = is_some (named_byte m k) || is_some (numbered (letter k b))
+starts_rule (Digits limit zero n) t = false
+starts_rule (Digits limit (suc left) n) t = is_some (reached limit left n (digit_of t))
+starts_rule (Then limit left n) t = true
+
+abbrev pub empty_rule : Rule → Bool
+empty_rule (Digits limit zero n) = true
+empty_rule _ = false
+
+-- a string has an end, and nothing goes on after it
+abbrev pub more_rule : Rule → Letter → Bool
+more_rule n t = false
+
+abbrev pub table : Table Letter Rule
+table = record { empty = empty_rule; starts = starts_rule; more = more_rule }
+
+-- The front of the text before the rest is a string, and means the bytes.
+abbrev pub IsString : List ℕ → List ℕ → List ℕ → Type 0
+IsString text bytes rest = Reads production (rule Text) (seen text) (content bytes) (seen rest)
+
+-- The place is the first one at which no string can go on.
+abbrev pub IsBadPlace : List ℕ → ℕ → Type 0
+IsBadPlace text place = IsFirstBad production (rule Text) (seen text) place
