@@ -1,6 +1,6 @@
 -- The ways of the functions that read a series text.
-use Rattle.std.proofs.Common.{◌≡◌, ℕ, ◌<◌, ◌≤◌, ◌-◌, List, [], ◌∷◌, ◌++◌, Bool, true, false, Option, Some, None, Result, Ok, Err, length, map, refl, ap, sym, ◌∙◌, subst, arith, append_assoc}
-use Rattle.std.specs.Prelude.{encode_utf8, if◌then◌else◌, MatchOption, MatchResult, IfSome, option_map, is_some, ◌||◌, ◌&&◌}
+use Rattle.std.proofs.Common.{◌≡◌, ℕ, ◌<◌, List, [], ◌∷◌, ◌++◌, Bool, true, false, Option, Some, None, Result, Ok, Err, length, refl, ap, sym, ◌∙◌, subst, arith, append_assoc}
+use Rattle.std.specs.Prelude.{encode_utf8, if◌then◌else◌, MatchOption, MatchResult, IfSome, option_map, is_some}
 use Rattle.pr_forms.specs.Table.{is_next, starts_of}
 use Rattle.pr_forms.proofs.Steps.{next_pair}
 use Rattle.std.specs.Result.{IsErrAnd}
@@ -11,12 +11,11 @@ use Rattle.pr_forms.specs.declared.reader.Fault.TheVariants.{Bad, Memory}
 use Rattle.pr_strings.specs.Within.{outcome_within}
 use Rattle.pr_strings.proofs.Within.{runs_within}
 use Rattle.std.proofs.lemmas.Str.{encode_ascii}
-use Rattle.std.specs.Str.{bytes_eq}
-use Rattle.pr_forms.specs.Form.{Form, token, nothing, pair, either, turns, chosen, rule}
+use Rattle.pr_forms.specs.Form.{Form, token, nothing, pair, either, chosen, rule}
 use Rattle.pr_forms.specs.Run.{Outcome, good, bad, Runs, run_rule, run_left, run_right, run_pair, run_first, run_second, run_token, run_other, run_end, run_nothing, run_turn, run_stop, run_chosen, run_chosen_bad, run_unchosen, run_chosen_end}
 use Rattle.pr_forms.proofs.Decided.{shrinks}
 use Rattle.pr_strings.specs.declared.kind.Kind.{Kind}
-use Rattle.pr_strings.specs.declared.kind.Kind.TheVariants.{Quote, Backslash, Feed, A, B, F, N, R, T, V, X, Short, Long, Digit, HexLetter, OtherLetter, Colon, Open, Close, Comma, Equal, Blank, Other}
+use Rattle.pr_strings.specs.declared.kind.Kind.TheVariants.{Open, Close, Comma, Equal, Blank, Other}
 use Rattle.pr_strings.specs.Strings as strings
 use Rattle.pr_strings.specs.Strings.{Letter, letter, kind_of, letter_of, seen}
 use Rattle.pr_strings.specs.Reader.{KeepsText, FailsAt as StringFails}
@@ -27,7 +26,7 @@ use Rattle.pr_forms.proofs.Ways.{take_side, other_side}
 use Rattle.pr_labels.specs.declared.pair.Pair.{Pair}
 use Rattle.pr_labels.specs.declared.series.Part.{Part}
 use Rattle.pr_labels.specs.declared.series.Part.TheVariants.{MetricFirst, MetricNext, LabelFirst, LabelNext}
-use Rattle.pr_labels.specs.SeriesGrammar.{production, table, Rule, Value, mark, listed, quoted, blanks, sign, sign_at, same_sign, second_of, any_at, none_at, goes_on, nothing_follows, is_letter, is_label_byte, is_among, name_start, name_byte, labelled, headed, place, Series, MetricByte, MetricRest, Tail, Listed, Braces, metric_start, metric_byte, is_metric_letter, is_metric_byte, Item, Items, NameByte, NameRest, Named, After, Next, InString}
+use Rattle.pr_labels.specs.SeriesGrammar.{production, table, Rule, Value, mark, listed, quoted, blanks, sign, sign_at, same_sign, second_of, any_at, goes_on, nothing_follows, is_letter, is_label_byte, is_among, name_start, name_byte, labelled, headed, place, Series, MetricByte, MetricRest, Tail, Braces, metric_start, metric_byte, is_metric_letter, is_metric_byte, Item, Items, NameByte, NameRest, Named, After, Next, InString}
 use Rattle.pr_labels.specs.SeriesReader.{Gives, Takes, Lacks, Leads, in_part, IsOver, over_end, over_byte, IsPart, GoesOn, name_over, name_more, equals, names_of, Reaches, FailsAt, CanClose, starts_listed}
 
 -- a byte at the front

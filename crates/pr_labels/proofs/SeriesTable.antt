@@ -1,12 +1,11 @@
 -- One byte ahead decides the grammar of series texts.
-use Rattle.std.proofs.Common.{◌≡◌, ℕ, List, [], ◌∷◌, ◌++◌, Option, Some, None, Bool, true, false, refl, ◌∙◌, subst}
+use Rattle.std.proofs.Common.{◌≡◌, ℕ, List, [], ◌∷◌, ◌++◌, Some, None, Bool, true, false, refl, ◌∙◌, subst}
 use Rattle.std.specs.Prelude.{if◌then◌else◌}
 use Rattle.pr_forms.specs.Form.{either, chosen, rule}
-use Rattle.pr_forms.specs.Table.{empty_of, starts_of, more_of, parts_at, is_solid, Binds, Decides, IsDecided}
+use Rattle.pr_forms.specs.Table.{empty_of, starts_of, more_of, parts_at, is_solid, Binds, IsDecided}
 use Rattle.pr_forms.proofs.Decided.{plain_binds}
-use Rattle.pr_strings.specs.declared.kind.Mark.{Mark}
 use Rattle.pr_strings.specs.declared.kind.Kind.{Kind}
-use Rattle.pr_strings.specs.declared.kind.Kind.TheVariants.{Quote, Backslash, Feed, A, B, F, N, R, T, V, X, Short, Long, Digit, HexLetter, OtherLetter, Colon, Open, Close, Comma, Equal, Blank, Other}
+use Rattle.pr_strings.specs.declared.kind.Kind.TheVariants.{A}
 use Rattle.pr_strings.specs.Strings as strings
 use Rattle.pr_strings.specs.Strings.{Letter, letter}
 use Rattle.pr_strings.proofs.StringTable as string_table

@@ -1,4 +1,4 @@
-use Rattle.std.proofs.Common.{arith, ◌∙◌}
+use Rattle.std.proofs.Common.{arith}
 use Rattle.pr_labels.specs.SeriesReader.{name_over}
 use Rattle.pr_labels.proofs.SeriesReading.{more_name}
 use Rattle.pr_labels.proofs.series.name_in.Goals as goal
