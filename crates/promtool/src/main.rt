@@ -1,6 +1,8 @@
 //! The program: it makes the real objects, hands the words to `pr_top::promtool`, and ends with its status.
 #![tactic(auto)]
 
+#[cfg(test)]
+mod tests;
 mod words;
 
 use crate::words::words_of;
