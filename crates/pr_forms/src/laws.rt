@@ -1,9 +1,10 @@
 //! The laws of grammars. Each stands as the contract of a function that does nothing, at any tokens `T`, rule
 //! names `N` and values `V`; callers' proofs cite the lemmas of `proofs/` that prove them.
-ghost use Rattle.std.specs.Prelude.{◌≡◌, ℕ, List, [], ◌++◌, ◌<◌, ◌≤◌, ◌-◌, length, take, drop};
+ghost use Rattle.std.specs.Prelude.{◌≡◌, Some, ℕ, List, [], ◌++◌, ◌<◌, ◌≤◌, ◌-◌, length, take, drop};
 ghost use Rattle.pr_forms.specs.Form.{Form, rule, Reads, Begins, IsFirstBad};
 ghost use Rattle.pr_forms.specs.Table.{Table, IsDecided};
 ghost use Rattle.pr_forms.specs.Run.{Runs, Outcome, good, bad, left_of};
+ghost use Rattle.pr_forms.specs.Reading.{Ends, reading, bad_place};
 
 /// Two readings of a text have the same value, where one token ahead decides the grammar.
 pub fn two_readings_agree<T, N, V>()
@@ -69,4 +70,19 @@ pub fn beginning_before_another_rest<T, N, V>()
 pub fn bad_place_of_a_front<T, N, V>()
     ensures { (G : N → Form T N V) (f : Form T N V) (ts : List T) (m k : ℕ) → k < m → m ≤ length ts →
         IsFirstBad G f (take m ts) k → IsFirstBad G f ts k }
+{}
+
+/// The reading of a text is a function of it, where the grammar ends: what the function gives is the reading, and each
+/// reading is given.
+pub fn reading_is_a_function<T, N, V>()
+    ensures reads { (G : N → Form T N V) (S : Table T N) (rank : N → ℕ) (limit : ℕ) (n : N) (ts : List T) (v : V) →
+        IsDecided G S → Ends G S rank limit → reading G S limit (rule n) ts ≡ Some v → Reads G (rule n) ts v [] }
+    ensures given { (G : N → Form T N V) (S : Table T N) (rank : N → ℕ) (limit : ℕ) (n : N) (ts : List T) (v : V) →
+        IsDecided G S → Ends G S rank limit → Reads G (rule n) ts v [] → reading G S limit (rule n) ts ≡ Some v }
+{}
+
+/// So is the first bad place.
+pub fn bad_place_is_a_function<T, N, V>()
+    ensures { (G : N → Form T N V) (S : Table T N) (rank : N → ℕ) (limit : ℕ) (n : N) (ts : List T) →
+        IsDecided G S → Ends G S rank limit → IsFirstBad G (rule n) ts (bad_place G S limit (rule n) ts) }
 {}
