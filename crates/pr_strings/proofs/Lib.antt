@@ -1,4 +1,5 @@
 pub mod StringTable
+pub mod StringEnds
 pub mod StringReading
 pub mod StringPublic
 pub mod StringUtf8

@@ -1,9 +1,10 @@
 -- A grammar within another one is decided as it is alone, and runs as it runs alone.
-use Rattle.std.proofs.Common.{◌≡◌, List, [], ◌∷◌, Option, Some, None, Bool, true, refl, ap, sym, ◌∙◌, subst}
+use Rattle.std.proofs.Common.{◌≡◌, ℕ, zero, suc, pred, nat_le, false, List, [], ◌∷◌, Option, Some, None, Bool, true, refl, ap, sym, ◌∙◌, subst}
 use Rattle.std.specs.Prelude.{is_some, ◌||◌, ◌&&◌}
 use Rattle.pr_forms.specs.Form.{Form, token, nothing, pair, either, turns, fold, chosen, rule}
 use Rattle.pr_forms.specs.Table.{Table, empty_of, starts_of, more_of, is_next, negation, parts_at, is_solid, Binds, Decides}
 use Rattle.pr_forms.specs.Run.{Outcome, good, bad, Runs, run_token, run_other, run_end, run_nothing, run_pair, run_first, run_second, run_left, run_right, run_stop, run_turn, run_in_turn, run_fold, run_base, run_chosen, run_chosen_bad, run_unchosen, run_chosen_end, run_rule}
+use Rattle.pr_forms.specs.Reading.{EndsIn, after_part}
 use Rattle.pr_strings.specs.Within.{Place, on_option, join_inner, lifted, within, outcome_within}
 
 some_within : {X Y : Type 0} (f : X → Y) (o : Option X) → is_some (on_option f o) ≡ is_some o
@@ -129,3 +130,30 @@ module _ {T N V M W : Type 0} (p : Place N V M W) (S : Table T N) (Z : Table T M
     runs_within (run_unchosen {q = q} {t = t} e) = run_unchosen (none_within p.rule_of (q t) e)
     runs_within run_chosen_end = run_chosen_end
     runs_within (run_rule {n = n} {ts = ts} {o = o} x) = run_rule (subst (λ f. Runs H Z f ts (outcome_within p o)) (sym (same_form n)) (runs_within x))
+
+  -- and it ends as it ends alone
+  module _ (rank : N → ℕ) (other : M → ℕ) (limit : ℕ) (same_rank : (n : N) → other (p.rule_of n) ≡ rank n) where
+    picks_within : (t : T) (b : ℕ) (x : Option N) (m : M) → ((n : N) → x ≡ Some n → (S.empty n ≡ false) × (nat_le (rank n) b ≡ true)) →
+        on_option p.rule_of x ≡ Some m → (Z.empty m ≡ false) × (nat_le (other m) b ≡ true)
+    picks_within t b None m h e = absurd (cc)
+    picks_within t b (Some n) m h e =
+        let same : p.rule_of n ≡ m = cc in
+        let k = h n refl in
+        subst (λ x. (Z.empty x ≡ false) × (nat_le (other x) b ≡ true)) same (same_empty n ∙ k.0, ap (λ r. nat_le r b) (same_rank n) ∙ k.1)
+
+    parts_left : (b : ℕ) (x y : Bool) (f : Form T N V) → x ≡ y → EndsIn Z other limit (after_part y limit b) (within p f) → EndsIn Z other limit (after_part x limit b) (within p f)
+    parts_left b x y f e h = subst (λ z. EndsIn Z other limit (after_part z limit b) (within p f)) (sym e) h
+
+    turns_left : (b : ℕ) (x y : Bool) (f : Form T N V) → x ≡ y → EndsIn Z other limit (pred (after_part y limit b)) (within p f) → EndsIn Z other limit (pred (after_part x limit b)) (within p f)
+    turns_left b x y f e h = subst (λ z. EndsIn Z other limit (pred (after_part z limit b)) (within p f)) (sym e) h
+
+    pub ends_within : (b : ℕ) (f : Form T N V) → EndsIn S rank limit b f → EndsIn Z other limit b (within p f)
+    ends_within zero f h = absurd h
+    ends_within (suc b) (token g) h = tt
+    ends_within (suc b) (nothing v) h = tt
+    ends_within (suc b) (pair c f g) h = (ends_within b f h.0, parts_left b (empty_of Z (within p f)) (empty_of S f) g (empty_within f) (ends_within (after_part (empty_of S f) limit b) g h.1))
+    ends_within (suc b) (either f g) h = (ends_within b f h.0, ends_within b g h.1)
+    ends_within (suc b) (turns c v g) h = ends_within b g h
+    ends_within (suc b) (fold c f g) h = (ends_within b f h.0, turns_left b (empty_of Z (within p f)) (empty_of S f) g (empty_within f) (ends_within (pred (after_part (empty_of S f) limit b)) g h.1))
+    ends_within (suc b) (chosen q m) h = λ t k e. picks_within t b (q t) k (h t) e
+    ends_within (suc b) (rule n) h = ap (λ r. nat_le r b) (same_rank n) ∙ h

@@ -210,6 +210,17 @@ more_rule n t = false
 abbrev pub table : Table Letter Rule
 table = record { empty = empty_rule; starts = starts_rule; more = more_rule }
 
+-- how many steps a rule makes at most before it comes to a byte, and a bound on that
+abbrev pub rank : Rule → ℕ
+rank Text = 4
+rank (Quoted m) = 5
+rank (Escape m) = 4
+rank (Digits limit left n) = 3
+rank (Then limit left n) = 2
+
+abbrev pub steps : ℕ
+steps = 10
+
 -- The front of the text before the rest is a string, and means the bytes.
 abbrev pub IsString : List ℕ → List ℕ → List ℕ → Type 0
 IsString text bytes rest = Reads production (rule Text) (seen text) (content bytes) (seen rest)
