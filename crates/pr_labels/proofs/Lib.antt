@@ -5,4 +5,5 @@ pub mod Making
 pub mod Permuted
 pub mod Putting
 pub mod SeriesTable
+pub mod SeriesEnds
 pub mod SeriesReading

@@ -12,13 +12,13 @@ use Rattle.pr_strings.proofs.StringTable as string_table
 use Rattle.pr_strings.proofs.Within.{empty_within, starts_within, more_within, decides_within}
 use Rattle.pr_labels.specs.SeriesGrammar.{production, table, place, Value, Rule, Series, MetricByte, MetricRest, Tail, Listed, Braces, Items, Item, NameByte, NameRest, Named, After, Next, InString, is_among, is_letter, is_label_byte, is_metric_letter, is_metric_byte, metric_start, metric_byte, name_start, name_byte, goes_on, nothing_follows}
 
-same_empty : (n : strings.Rule) → table.empty (place.rule_of n) ≡ strings.table.empty n
+pub same_empty : (n : strings.Rule) → table.empty (place.rule_of n) ≡ strings.table.empty n
 same_empty n = refl
 
-same_starts : (n : strings.Rule) (t : Letter) → table.starts (place.rule_of n) t ≡ strings.table.starts n t
+pub same_starts : (n : strings.Rule) (t : Letter) → table.starts (place.rule_of n) t ≡ strings.table.starts n t
 same_starts n t = refl
 
-same_more : (n : strings.Rule) (t : Letter) → table.more (place.rule_of n) t ≡ strings.table.more n t
+pub same_more : (n : strings.Rule) (t : Letter) → table.more (place.rule_of n) t ≡ strings.table.more n t
 same_more n t = refl
 
 starts_named : (twice : Bool) (names : List (List ℕ)) (name : List ℕ) (t : Letter) → starts_of table (production (Named twice names name)) t ≡ table.starts (Named twice names name) t

@@ -4,4 +4,5 @@ pub mod Edits
 pub mod Order
 pub mod SeriesText
 pub mod SeriesGrammar
+pub mod SeriesReading
 pub mod SeriesReader

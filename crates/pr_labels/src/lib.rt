@@ -26,4 +26,4 @@ pub use matching::{Card, Matching};
 pub use names::{is_label_name, is_metric_name};
 pub use pair::Pair;
 pub use series::{TextFault, read_series_pairs};
-pub use series_laws::one_byte_decides_series_texts;
+pub use series_laws::{one_byte_decides_series_texts, reading_of_a_series_text_is_a_function};

@@ -1,8 +1,19 @@
 //! The laws of series texts, each as the contract of a function that does nothing.
+ghost use Rattle.std.specs.Prelude.{◌≡◌, ℕ, List, Some};
 ghost use Rattle.pr_forms.specs.Table.{IsDecided};
-ghost use Rattle.pr_labels.specs.SeriesGrammar.{production, table};
+ghost use Rattle.pr_labels.specs.SeriesGrammar.{production, table, ReadsSeries, IsBadPlace};
+ghost use Rattle.pr_labels.specs.SeriesReading.{series_pairs, bad_series_place};
+ghost use Rattle.pr_labels.specs.declared.pair.Pair.{Pair};
 
 /// One byte ahead decides the grammar of series texts: so a text is read in one way, and without going back.
 pub fn one_byte_decides_series_texts()
     ensures { IsDecided production table }
+{}
+
+/// What a series text reads as is a function of its bytes, and so is the first bad place.
+#[tactic(auto, using(crate::proofs::SeriesEnds::pairs_read, crate::proofs::SeriesEnds::pairs_given, crate::proofs::SeriesEnds::place_given))]
+pub fn reading_of_a_series_text_is_a_function()
+    ensures reads { (text : List ℕ) (pairs : List Pair) → series_pairs text ≡ Some pairs → ReadsSeries text pairs }
+    ensures given { (text : List ℕ) (pairs : List Pair) → ReadsSeries text pairs → series_pairs text ≡ Some pairs }
+    ensures place { (text : List ℕ) → IsBadPlace text (bad_series_place text) }
 {}
