@@ -6,3 +6,5 @@ pub mod Permuted
 pub mod Putting
 pub mod SeriesTable
 pub mod SeriesReading
+pub mod ByRules
+pub mod SeriesNames

@@ -1,8 +1,16 @@
 //! The laws of series texts, each as the contract of a function that does nothing.
 ghost use Rattle.pr_forms.specs.Table.{IsDecided};
-ghost use Rattle.pr_labels.specs.SeriesGrammar.{production, table};
+ghost use Rattle.std.specs.Prelude.{◌≡◌, ℕ, List, None};
+ghost use Rattle.pr_labels.specs.Edits.{first_fault};
+ghost use Rattle.pr_labels.specs.SeriesGrammar.{production, table, ReadsSeries};
+ghost use Rattle.pr_labels.specs.declared.pair.Pair.{Pair};
 
 /// One byte ahead decides the grammar of series texts: so a text is read in one way, and without going back.
 pub fn one_byte_decides_series_texts()
     ensures { IsDecided production table }
+{}
+
+/// What a series text reads has label names, each once: so its pairs are faultless, and make a label set.
+pub fn series_texts_name_labels_once()
+    ensures { (text : List ℕ) (pairs : List Pair) → ReadsSeries text pairs → first_fault pairs ≡ None }
 {}
