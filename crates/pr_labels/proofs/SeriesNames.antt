@@ -1,5 +1,5 @@
 -- What a series text reads has label names, each once.
-use Rattle.std.proofs.Common.{◌≡◌, ◌&&◌, ◌||◌, ℕ, List, [], ◌∷◌, ◌++◌, Option, Some, None, Bool, true, false, cond, refl, ap, sym, ◌∙◌, subst, arith, inl, inr}
+use Rattle.std.proofs.Common.{◌≡◌, ◌≢◌, ◌&&◌, ◌||◌, ℕ, List, [], ◌∷◌, ◌++◌, Option, Some, None, Bool, true, false, cond, refl, ap, sym, ◌∙◌, subst, arith, inl, inr}
 use Rattle.std.specs.Prelude.{if◌then◌else◌}
 use Rattle.std.specs.List.{list_any, list_all}
 use Rattle.std.specs.Str.{bytes_eq}
@@ -10,6 +10,8 @@ use Rattle.pr_forms.specs.Form.{token, pair, either, rule, chosen}
 use Rattle.pr_strings.specs.declared.kind.Kind.{Kind}
 use Rattle.pr_strings.specs.Strings as strings
 use Rattle.pr_strings.specs.Strings.{Letter, letter, kind_of, letter_of, seen}
+use Rattle.pr_labels.specs.declared.fault.LabelFault.{LabelFault}
+use Rattle.pr_labels.specs.declared.fault.LabelFault.TheVariants.{Memory}
 use Rattle.pr_labels.specs.declared.pair.Pair.{Pair}
 use Rattle.pr_labels.specs.Edits.{fault_after, first_fault}
 use Rattle.pr_labels.specs.LabelSet.{has_name, metric_label, pair_of}
@@ -139,3 +141,10 @@ rule_holds (by_rule p) = p
 
 pub series_faultless : (text : List ℕ) (pairs : List Pair) → ReadsSeries text pairs → first_fault pairs ≡ None
 series_faultless text pairs d = (rule_holds {n = Series} {v = listed pairs} (by_rules production IsSeen Holds (λ n v m. step n m) d (each_seen text))) [] refl
+
+-- so no fault is found among the pairs
+pub no_fault : (text : List ℕ) (pairs items : List Pair) (fault : LabelFault) → ReadsSeries text pairs → items ≡ pairs → (fault ≢ Memory → first_fault items ≡ Some fault) → (fault ≡ Memory → ⊥) → ⊥
+no_fault text pairs items fault d e finds other =
+    let none : first_fault items ≡ None = ap first_fault e ∙ series_faultless text pairs d in
+    let some : first_fault items ≡ Some fault = finds other in
+    cc

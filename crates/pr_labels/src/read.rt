@@ -28,7 +28,11 @@ pub fn read_series_text(alloc: Global, text: &str) -> Result<Labels, TextFault>
     let pairs = read_series_pairs(alloc, text)?;
     match Labels::from_pairs(alloc, &pairs) {
         Ok(labels) => Ok(labels),
-        Err(LabelFault::Memory) => Err(TextFault::Memory),
-        Err(LabelFault::BadName { .. } | LabelFault::Twice { .. }) => unreachable!(),
+        // Their names are label names, each once.
+        Err(fault) => match fault {
+            LabelFault::BadName { .. } => unreachable!(),
+            LabelFault::Twice { .. } => unreachable!(),
+            LabelFault::Memory => Err(TextFault::Memory),
+        },
     }
 }
