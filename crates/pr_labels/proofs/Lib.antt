@@ -7,3 +7,5 @@ pub mod Putting
 pub mod SeriesTable
 pub mod SeriesEnds
 pub mod SeriesReading
+pub mod ByRules
+pub mod SeriesNames

@@ -1,8 +1,8 @@
 -- The grammar of series texts ends: so the labels of a text are a function of it.
-use Rattle.std.proofs.Common.{◌≡◌, ℕ, zero, suc, nat_le, Option, Some, None, Bool, true, false, List, [], ◌∷◌, ◌++◌, refl, sym, ap, ◌∙◌, subst, arith}
+use Rattle.std.proofs.Common.{◌≡◌, ℕ, suc, nat_le, Option, Some, None, Bool, true, false, List, [], ◌∷◌, ◌++◌, refl, ap, arith}
 use Rattle.std.proofs.lemmas.Bool.{leb-true, le-leb}
 use Rattle.std.specs.Prelude.{if◌then◌else◌}
-use Rattle.pr_forms.specs.Form.{rule, Reads, IsFirstBad}
+use Rattle.pr_forms.specs.Form.{rule, Reads}
 use Rattle.pr_forms.specs.Reading.{EndsIn, Ends, reading}
 use Rattle.pr_forms.proofs.Ending.{given_reads, reads_given, given_place}
 use Rattle.pr_strings.specs.Strings as strings
@@ -11,7 +11,13 @@ use Rattle.pr_strings.proofs.StringEnds as string_ends
 use Rattle.pr_strings.proofs.Within.{ends_within}
 use Rattle.pr_labels.specs.declared.pair.Pair.{Pair}
 use Rattle.pr_labels.specs.SeriesGrammar.{production, table, place, Rule, Series, MetricByte, MetricRest, Tail, Listed, Braces, Items, Item, NameByte, NameRest, Named, After, Next, InString, Value, listed, quoted, mark, ReadsSeries, IsBadPlace, metric_start, metric_byte, name_start, name_byte, is_metric_letter, is_metric_byte, is_letter, is_label_byte}
-use Rattle.pr_labels.specs.SeriesReading.{rank, steps, pairs_in, series_pairs, bad_series_place}
+use Rattle.pr_labels.specs.SeriesReading.{rank, steps, pairs_in, series_pairs, bad_series_place, series_labels, HasNoLabels}
+use Rattle.pr_labels.specs.declared.series.TextFault.{TextFault}
+use Rattle.pr_labels.specs.declared.series.TextFault.TheVariants.{BadLabels, Memory}
+use Rattle.pr_labels.specs.SeriesReader.{Refuses, Misses}
+use Rattle.pr_labels.specs.Edits.{labels_of}
+use Rattle.std.specs.Option.{option_map}
+use Rattle.pr_forms.proofs.Places.{one_place}
 use Rattle.pr_labels.proofs.SeriesTable.{known, same_empty, same_starts, same_more}
 
 -- the rule that a byte of a name chooses reads that byte
@@ -92,3 +98,24 @@ pairs_given text pairs d = ap pairs_in (reads_given production table known rank 
 pub place_given : (text : List ℕ) → IsBadPlace text (bad_series_place text)
 unfolding bad_series_place
 place_given text = given_place production table known rank steps ends Series (seen text)
+
+-- the label set of the pairs that are read
+pub labels_given : (text : List ℕ) (pairs : List Pair) → ReadsSeries text pairs → series_labels text ≡ Some (labels_of pairs)
+unfolding series_labels
+labels_given text pairs d = ap (option_map labels_of) (pairs_given text pairs d)
+
+no_pairs : (text : List ℕ) (o : Option (List Pair)) → series_pairs text ≡ o → ((pairs : List Pair) → ReadsSeries text pairs → ⊥) → option_map labels_of o ≡ None
+no_pairs text None e h = refl
+no_pairs text (Some pairs) e h = absurd (h pairs (pairs_read text pairs e))
+
+pub no_labels : (text : List ℕ) → ((pairs : List Pair) → ReadsSeries text pairs → ⊥) → series_labels text ≡ None
+unfolding series_labels
+no_labels text h = no_pairs text (series_pairs text) refl h
+
+pub one_bad_place : (text : List ℕ) (at : ℕ) → IsBadPlace text at → at ≡ bad_series_place text
+one_bad_place text at h = one_place production (rule Series) (seen text) at (bad_series_place text) h (place_given text)
+
+-- a text that is refused has no label set
+pub refused_has_none : (text : List ℕ) (fault : TextFault) → ((v : Value) → Reads production (rule Series) (seen text) v [] → Misses fault) → Refuses text fault → HasNoLabels text fault
+refused_has_none text (BadLabels at) h p = (no_labels text (λ pairs d. h (listed pairs) d), one_bad_place text at p)
+refused_has_none text Memory h p = tt

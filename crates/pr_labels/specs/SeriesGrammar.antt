@@ -1,5 +1,5 @@
 -- Series texts: what they read, and where they are bad.
-use Rattle.std.specs.Prelude.{ℕ, ◌||◌, Bool, true, false, Option, Some, None, List, [], ◌∷◌, ◌++◌, if◌then◌else◌}
+use Rattle.std.specs.Prelude.{◌≡◌, ℕ, ◌||◌, Bool, true, false, Option, Some, None, List, [], ◌∷◌, ◌++◌, if◌then◌else◌}
 use Rattle.std.specs.List.{list_any}
 use Rattle.std.specs.Str.{bytes_eq}
 use Rattle.pr_forms.specs.Form.{Form, token, nothing, pair, either, turns, chosen, rule, Reads, IsFirstBad}
@@ -10,6 +10,7 @@ use Rattle.pr_strings.specs.Strings as strings
 use Rattle.pr_strings.specs.Strings.{Letter, letter, seen}
 use Rattle.pr_strings.specs.Within.{Place, within}
 use Rattle.pr_labels.specs.declared.pair.Pair.{Pair}
+use Rattle.pr_labels.specs.Edits.{labels_of}
 use Rattle.pr_labels.specs.LabelSet.{metric_label, pair_of}
 
 -- What stands for a part of a series text.
@@ -222,6 +223,12 @@ table = record { empty = empty_rule; starts = starts_rule; more = more_rule }
 -- The text is a series text, with these labels in its order; values may be empty.
 abbrev pub ReadsSeries : List ℕ → List Pair → Type 0
 ReadsSeries text pairs = Reads production (rule Series) (seen text) (listed pairs) []
+
+-- The text is a series text, and its label set is this one: the set of the pairs that it reads.
+pub record ReadsLabels (text : List ℕ) (labels : List Pair) : Type 0 where
+  pub pairs : List Pair
+  pub reads : ReadsSeries text pairs
+  pub are : labels ≡ labels_of pairs
 
 -- The place is the first one at which no series text can go on.
 abbrev pub IsBadPlace : List ℕ → ℕ → Type 0

@@ -10,6 +10,7 @@ mod matching;
 mod names;
 mod pair;
 mod print;
+mod read;
 mod series;
 mod series_laws;
 #[cfg(test)]
@@ -25,5 +26,9 @@ pub use laws::{from_pairs_takes_all, operations_give_label_sets, values_after_op
 pub use matching::{Card, Matching};
 pub use names::{is_label_name, is_metric_name};
 pub use pair::Pair;
+pub use read::read_series_text;
 pub use series::{TextFault, read_series_pairs};
-pub use series_laws::{one_byte_decides_series_texts, reading_of_a_series_text_is_a_function};
+pub use series_laws::{
+    one_byte_decides_series_texts, reading_of_a_series_text_is_a_function,
+    series_texts_name_labels_once,
+};

@@ -1,6 +1,7 @@
 //! The laws of series texts, each as the contract of a function that does nothing.
-ghost use Rattle.std.specs.Prelude.{◌≡◌, ℕ, List, Some};
+ghost use Rattle.std.specs.Prelude.{◌≡◌, ℕ, List, Some, None};
 ghost use Rattle.pr_forms.specs.Table.{IsDecided};
+ghost use Rattle.pr_labels.specs.Edits.{first_fault};
 ghost use Rattle.pr_labels.specs.SeriesGrammar.{production, table, ReadsSeries, IsBadPlace};
 ghost use Rattle.pr_labels.specs.SeriesReading.{series_pairs, bad_series_place};
 ghost use Rattle.pr_labels.specs.declared.pair.Pair.{Pair};
@@ -16,4 +17,9 @@ pub fn reading_of_a_series_text_is_a_function()
     ensures reads { (text : List ℕ) (pairs : List Pair) → series_pairs text ≡ Some pairs → ReadsSeries text pairs }
     ensures given { (text : List ℕ) (pairs : List Pair) → ReadsSeries text pairs → series_pairs text ≡ Some pairs }
     ensures place { (text : List ℕ) → IsBadPlace text (bad_series_place text) }
+{}
+
+/// What a series text reads has label names, each once: so its pairs are faultless, and make a label set.
+pub fn series_texts_name_labels_once()
+    ensures { (text : List ℕ) (pairs : List Pair) → ReadsSeries text pairs → first_fault pairs ≡ None }
 {}
