@@ -9,3 +9,4 @@ pub mod SeriesEnds
 pub mod SeriesReading
 pub mod ByRules
 pub mod SeriesNames
+pub mod SeriesExamples

@@ -1,6 +1,7 @@
 //! Label sets: the names with values by which series are told apart.
 #![tactic(auto)]
 
+mod examples;
 mod fault;
 mod grouping;
 mod item;
@@ -18,6 +19,7 @@ mod series_tests;
 #[cfg(test)]
 mod tests;
 
+pub use examples::small_series_texts_read_so;
 pub use fault::LabelFault;
 pub use grouping::Grouping;
 pub use item::Item;

@@ -10,8 +10,9 @@ use Rattle.pr_num.specs.declared.value.Point.TheVariants.{Value, Stale}
 use Rattle.pr_num.specs.declared.text.NumFault.{NumFault}
 use Rattle.pr_num.specs.Reads.{reads}
 use Rattle.pr_labels.specs.declared.pair.Pair.{Pair}
-use Rattle.pr_labels.specs.LabelSet.{named}
-use Rattle.pr_labels.specs.Names.{is_metric_name}
+use Rattle.pr_labels.specs.LabelSet.{metric_label, value_of}
+use Rattle.pr_labels.specs.SeriesReading.{series_labels}
+use Rattle.pr_labels.specs.SeriesText.{series_text}
 use Rattle.pr_words.specs.Fields.{without_trailing, first_field, after_field, last_field, before_last_field}
 use Rattle.pr_world.specs.declared.event.Event.{Event}
 use Rattle.pr_world.specs.declared.event.Event.TheVariants.{Add, Query}
@@ -46,9 +47,26 @@ point_read (Err fault) = None
 abbrev pub point_of : List ℕ → Option Point
 point_of text = cond (bytes_eq text (codes "stale")) (Some Stale) (point_read (reads text))
 
--- a series: the name of a metric that is no word of the query language
+-- a series: any series text
 abbrev pub series_of : List ℕ → Option (List Pair)
-series_of text = cond (is_metric_name text && not (is_keyword text)) (Some (named text)) None
+series_of text = cond (is_utf8 text) (series_labels text) None
+
+-- whether a metric's name, where there is one, is a word of the query language
+abbrev pub is_word : Option (List ℕ) → Bool
+is_word None = false
+is_word (Some name) = is_keyword name
+
+-- whether a label set can be asked for by the text: it has labels, its metric's name is no word, and the text is as it is printed
+abbrev pub is_selector : List ℕ → List Pair → Bool
+is_selector text labels = nat_lt 0 (length labels) && (not (is_word (value_of labels metric_label)) && bytes_eq (series_text labels) text)
+
+abbrev pub selector_by : List ℕ → Option (List Pair) → Option (List Pair)
+selector_by text None = None
+selector_by text (Some labels) = cond (is_selector text labels) (Some labels) None
+
+-- a selector: the labels that a series must have
+abbrev pub selector_of : List ℕ → Option (List Pair)
+selector_of text = selector_by text (series_of text)
 
 -- an event, where each part of it can be read
 abbrev pub add_of : Option ℕ → Option (List Pair) → Option Point → Option Event
@@ -66,9 +84,9 @@ query_of (Some time) (Some equal) = Some (Query time equal)
 abbrev pub add_in : List ℕ → Option Event
 add_in text = add_of (time_of (first_field text)) (series_of (before_last_field (after_field text))) (point_of (last_field (after_field text)))
 
--- a time, and a series
+-- a time, and a selector
 abbrev pub query_in : List ℕ → Option Event
-query_in text = query_of (time_of (first_field text)) (series_of (after_field text))
+query_in text = query_of (time_of (first_field text)) (selector_of (after_field text))
 
 -- the event that a word and what stands after it spell
 abbrev pub event_by : List ℕ → List ℕ → Option Event

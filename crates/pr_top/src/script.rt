@@ -2,13 +2,15 @@
 ghost use Rattle.std.specs.Prelude.{◌≡◌, ◌^◌, ◌<◌, ◌≤◌, IfOk, Some, None, min, true};
 ghost use Rattle.std.specs.List.{list_all};
 ghost use Rattle.std.specs.Char.{is_ascii_digit};
-ghost use Rattle.std.specs.Str.{is_utf8};
+ghost use Rattle.std.specs.Str.{bytes_eq, is_utf8};
 ghost use Rattle.std.specs.Str.Parse.{digits_value};
-ghost use Rattle.pr_labels.specs.Names.{is_metric_name};
-ghost use Rattle.pr_top.specs.Script.{is_comment, is_passed_over, begins_with_zero, is_decimal, time_of, point_of, series_of, add_of, query_of, add_in, query_in, event_by, event_of};
+ghost use Rattle.pr_labels.specs.LabelSet.{metric_label, value_of};
+ghost use Rattle.pr_labels.specs.SeriesReading.{series_labels};
+ghost use Rattle.pr_labels.specs.SeriesText.{series_text};
+ghost use Rattle.pr_top.specs.Script.{is_comment, is_passed_over, begins_with_zero, is_decimal, time_of, point_of, series_of, is_word, is_selector, selector_of, add_of, query_of, add_in, query_in, event_by, event_of};
 
 use super::keywords::is_keyword;
-use pr_labels::{Labels, is_metric_name};
+use pr_labels::{Labels, TextFault, read_series_text};
 use pr_num::Point;
 use pr_time::Ms;
 use pr_words::{split_first, split_last, without_trailing};
@@ -96,26 +98,62 @@ fn point_of(text: &[u8]) -> Option<Point>
     }
 }
 
-// The series of a metric name that is no word of the query language.
-fn named(alloc: Global, name: &str) -> Result<Option<Labels>, AllocError>
-    requires { is_metric_name name.now ≡ true }
-    ensures { IfOk result (λ o. o ≡ series_of name.now) }
+// The label set of a series text.
+fn labels_of(alloc: Global, text: &str) -> Result<Option<Labels>, AllocError>
+    ensures { IfOk result (λ o. o ≡ series_labels text.now) }
 {
-    if is_keyword(name) {
-        return Ok(None);
+    match read_series_text(alloc, text) {
+        Ok(labels) => Ok(Some(labels)),
+        Err(TextFault::BadLabels { .. }) => Ok(None),
+        Err(TextFault::Memory) => Err(AllocError),
     }
-    Ok(Some(Labels::of_metric(alloc, name)?))
 }
 
 fn series_of(alloc: Global, text: &[u8]) -> Result<Option<Labels>, AllocError>
     ensures { IfOk result (λ o. o ≡ series_of text.now) }
 {
-    if !is_metric_name(text) {
-        return Ok(None);
-    }
     match str::from_utf8(text) {
-        Ok(name) => named(alloc, name),
-        Err(_) => unreachable!(),
+        Ok(text) => labels_of(alloc, text),
+        Err(_) => Ok(None),
+    }
+}
+
+fn is_printed(alloc: Global, labels: &Labels, text: &[u8]) -> Result<bool, AllocError>
+    ensures { IfOk result (λ b. b ≡ bytes_eq (series_text labels.now) text.now) }
+{
+    let mut printed = Vec::new(alloc);
+    labels.write(alloc, &mut printed)?;
+    Ok(printed.as_slice() == text)
+}
+
+fn has_word(labels: &Labels) -> bool
+    ensures { result ≡ is_word (value_of labels.now metric_label) }
+{
+    match labels.get("__name__") {
+        Some(name) => is_keyword(name),
+        None => false,
+    }
+}
+
+fn is_selector(alloc: Global, text: &[u8], labels: &Labels) -> Result<bool, AllocError>
+    ensures { IfOk result (λ b. b ≡ is_selector text.now labels.now) }
+{
+    if labels.pairs().is_empty() || has_word(labels) {
+        return Ok(false);
+    }
+    is_printed(alloc, labels, text)
+}
+
+fn selector_of(alloc: Global, text: &[u8]) -> Result<Option<Labels>, AllocError>
+    ensures { IfOk result (λ o. o ≡ selector_of text.now) }
+{
+    let Some(labels) = series_of(alloc, text)? else {
+        return Ok(None);
+    };
+    if is_selector(alloc, text, &labels)? {
+        Ok(Some(labels))
+    } else {
+        Ok(None)
     }
 }
 
@@ -143,11 +181,11 @@ fn add_in(alloc: Global, text: &[u8]) -> Result<Option<Event>, AllocError>
 fn query_in(alloc: Global, text: &[u8]) -> Result<Option<Event>, AllocError>
     ensures { IfOk result (λ o. o ≡ query_in text.now) }
 {
-    let (time, series) = split_first(text);
+    let (time, selector) = split_first(text);
     let Some(time) = time_of(time) else {
         return Ok(None);
     };
-    match series_of(alloc, series)? {
+    match selector_of(alloc, selector)? {
         Some(equal) => Ok(Some(Event::Query { time, equal })),
         None => Ok(None),
     }
