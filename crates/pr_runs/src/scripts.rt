@@ -6,7 +6,7 @@ use std::test::Fail;
 #[test]
 fn scripts_are_answered(rt: HostRuntime) -> Result<(), Fail> {
     let alloc = rt.alloc();
-    let cases: [(&[u8], &[u8], Status); 12] = [
+    let cases: [(&[u8], &[u8], Status); 14] = [
         (b"", b"opened 0\n", Status::Done),
         (
             b"add 0 m 1\nquery 299999 m\nquery 300000 m\n",
@@ -62,6 +62,18 @@ fn scripts_are_answered(rt: HostRuntime) -> Result<(), Fail> {
             b"opened 0\nbad line 3\n",
             Status::Problem,
         ),
+        // A series is any label set, and a question asks for all that have its labels.
+        (
+            b"add 0 {} 1\nadd 0 sum 2\nadd 0 m { b = 'x y' , a=\"\" , } 3\nadd 0 {b=`x y`,c=\"\"} 4\nquery 0 {b=\"x y\"}\nquery 0 m{b=\"x y\"}\n",
+            b"opened 0\nadded\nadded\nadded\nadded\nvector 2\nvalue m{b=\"x y\"} 3\nvalue {b=\"x y\"} 4\nvector 1\nvalue m{b=\"x y\"} 3\n",
+            Status::Done,
+        ),
+        // What is printed can be asked for: with escapes, and with a name that is not classic.
+        (
+            b"add 0 {__name__='my \"m\"',a='\\\\\\n\\u0041'} 1\nquery 0 {__name__=\"my \\\"m\\\"\",a=\"\\\\\\nA\"}\n",
+            b"opened 0\nadded\nvector 1\nvalue {__name__=\"my \\\"m\\\"\",a=\"\\\\\\nA\"} 1\n",
+            Status::Done,
+        ),
         (
             b"add 0 m 1.5\nquery 0 m\nadd 1 m -2e1\nquery 1 m\nadd 2 m NaN\nadd 2 m nan\n",
             b"opened 0\nadded\nvector 1\nvalue m 1.5\nadded\nvector 1\nvalue m -20\nadded\nsame\n",
@@ -80,7 +92,7 @@ fn scripts_are_answered(rt: HostRuntime) -> Result<(), Fail> {
 #[test]
 fn other_lines_are_refused(rt: HostRuntime) -> Result<(), Fail> {
     let alloc = rt.alloc();
-    let lines: [&[u8]; 36] = [
+    let lines: [&[u8]; 43] = [
         b"x",
         b"add",
         b"add 0",
@@ -96,9 +108,9 @@ fn other_lines_are_refused(rt: HostRuntime) -> Result<(), Fail> {
         b"add 0 m 1 2",
         b"add 0 m n 1",
         b"add 0 1m 1",
-        b"add 0 sum 1",
-        b"add 0 Inf 1",
-        b"add 0 BY 1",
+        b"add 0 {a=\"1\",a=\"2\"} 1",
+        b"add 0 m{__name__=\"n\"} 1",
+        b"add 0 {a=\"\xff\"} 1",
         b"add 0 m Stale",
         b"add 0 m x",
         b"add 0 m 1e",
@@ -114,6 +126,13 @@ fn other_lines_are_refused(rt: HostRuntime) -> Result<(), Fail> {
         b"query m",
         b"query 0 m n",
         b"query 0 count",
+        b"query 0 By{a=\"1\"}",
+        b"query 0 {}",
+        b"query 0 m{}",
+        b"query 0 {a=\"1\",}",
+        b"query 0 {b=\"1\",a=\"2\"}",
+        b"query 0 {a='1'}",
+        b"query 0 {__name__=\"m\"}",
         b"query 0 m\xff",
         b"# \xff",
         b"|m 1",

@@ -1,6 +1,8 @@
 -- Whether bytes are a text, by what reading them answers.
-use Rattle.std.proofs.Common.{◌≡◌, ℕ, Bool, true, false, List, sym, refl}
+use Rattle.std.proofs.Common.{◌≡◌, ℕ, Bool, true, false, List, None, sym, refl}
 use Rattle.std.specs.Str.{IsUtf8, is_utf8}
+use Rattle.pr_labels.specs.SeriesReading.{series_labels}
+use Rattle.pr_top.specs.Script.{series_of}
 use Rattle.std.proofs.lemmas.Str.{IsUtf8-from_is_utf8, is_utf8-from_IsUtf8}
 
 pub is_text : (bytes : List ℕ) → IsUtf8 bytes → true ≡ is_utf8 bytes
@@ -12,3 +14,10 @@ by_test false bytes h n = refl
 
 pub not_text : (bytes : List ℕ) → (IsUtf8 bytes → ⊥) → false ≡ is_utf8 bytes
 not_text bytes n = by_test (is_utf8 bytes) bytes refl n
+
+-- a series is read from a text alone
+pub text_series : (bytes : List ℕ) → IsUtf8 bytes → series_labels bytes ≡ series_of bytes
+text_series bytes h = rw (is_utf8-from_IsUtf8 bytes h) refl
+
+pub no_text_series : (bytes : List ℕ) → (IsUtf8 bytes → ⊥) → None ≡ series_of bytes
+no_text_series bytes n = rw (sym (not_text bytes n)) refl

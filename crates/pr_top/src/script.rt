@@ -109,6 +109,7 @@ fn labels_of(alloc: Global, text: &str) -> Result<Option<Labels>, AllocError>
     }
 }
 
+#[tactic(auto, using(crate::proofs::Utf8::text_series, crate::proofs::Utf8::no_text_series))]
 fn series_of(alloc: Global, text: &[u8]) -> Result<Option<Labels>, AllocError>
     ensures { IfOk result (λ o. o ≡ series_of text.now) }
 {
