@@ -3,3 +3,5 @@ pub mod StringReading
 pub mod StringPublic
 pub mod StringUtf8
 pub mod Within
+pub mod Written
+pub mod Fronts
