@@ -8,3 +8,5 @@ pub mod SeriesTable
 pub mod SeriesReading
 pub mod ByRules
 pub mod SeriesNames
+pub mod SetValues
+pub mod SeriesWritten

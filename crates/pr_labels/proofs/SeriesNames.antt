@@ -1,13 +1,12 @@
 -- What a series text reads has label names, each once.
-use Rattle.std.proofs.Common.{◌≡◌, ◌≢◌, ◌&&◌, ◌||◌, ℕ, List, [], ◌∷◌, ◌++◌, Option, Some, None, Bool, true, false, cond, refl, ap, sym, ◌∙◌, subst, arith, inl, inr}
+use Rattle.std.proofs.Common.{◌≡◌, ◌≢◌, ◌&&◌, ◌||◌, ℕ, List, [], ◌∷◌, ◌++◌, Some, None, Bool, true, false, refl, ap, sym, ◌∙◌, subst, arith}
 use Rattle.std.specs.Prelude.{if◌then◌else◌}
 use Rattle.std.specs.List.{list_any, list_all}
 use Rattle.std.specs.Str.{bytes_eq}
 use Rattle.std.proofs.lemmas.List.{map-append}
 use Rattle.std.proofs.lemmas.List.Folds.{list_all-append}
 use Rattle.std.proofs.lemmas.Bool.Decides.{nat_tests}
-use Rattle.pr_forms.specs.Form.{token, pair, either, rule, chosen}
-use Rattle.pr_strings.specs.declared.kind.Kind.{Kind}
+use Rattle.pr_forms.specs.Form.{rule}
 use Rattle.pr_strings.specs.Strings as strings
 use Rattle.pr_strings.specs.Strings.{Letter, letter, kind_of, letter_of, seen}
 use Rattle.pr_labels.specs.declared.fault.LabelFault.{LabelFault}
@@ -17,7 +16,7 @@ use Rattle.pr_labels.specs.Edits.{fault_after, first_fault}
 use Rattle.pr_labels.specs.LabelSet.{has_name, metric_label, pair_of}
 use Rattle.pr_labels.specs.Names as names_of_bytes
 use Rattle.pr_labels.specs.Names.{is_label_name}
-use Rattle.pr_labels.specs.SeriesGrammar.{production, Rule, Value, listed, quoted, mark, headed, labelled, is_among, is_letter, is_label_byte, is_metric_letter, is_metric_byte, metric_start, metric_byte, name_start, name_byte, none_at, ReadsSeries, Series, MetricByte, MetricRest, Tail, Listed, Braces, Items, Item, NameByte, NameRest, Named, After, Next, InString}
+use Rattle.pr_labels.specs.SeriesGrammar.{production, Rule, Value, listed, quoted, mark, headed, labelled, is_among, is_letter, is_label_byte, is_metric_letter, is_metric_byte, ReadsSeries, Series, MetricByte, MetricRest, Tail, Listed, Braces, Items, Item, NameByte, NameRest, Named, After, Next, InString}
 use Rattle.pr_labels.specs.SeriesReader.{names_of}
 use Rattle.pr_labels.proofs.ByRules.{Each, Meets, by_token, by_nothing, by_pair, by_left, by_right, by_choice, by_rule, by_rules}
 
@@ -81,7 +80,7 @@ next_label : (names : List (List ℕ)) (name : List ℕ) (v w : Value) → is_la
 next_label names name (quoted (strings.content bytes)) (listed pairs) k once h = λ before e.
     let apart : list_any (has_name name) before ≡ false = sym (among_names name before) ∙ (ap (is_among name) e ∙ sym once) in
     let rest : fault_after (before ++ pair_of name bytes ∷ []) pairs ≡ None =
-        h (before ++ pair_of name bytes ∷ []) (map-append (λ p. p.name) before (pair_of name bytes ∷ []) ∙ ap (λ ns. ns ++ name ∷ []) e) in
+    h (before ++ pair_of name bytes ∷ []) (map-append (λ p. p.name) before (pair_of name bytes ∷ []) ∙ ap (λ ns. ns ++ name ∷ []) e) in
     rw (k, apart) rest
 next_label names name (quoted (strings.content bytes)) (quoted w) k once h = tt
 next_label names name (quoted (strings.content bytes)) mark k once h = tt
@@ -103,7 +102,7 @@ more_name : (name : List ℕ) (b : ℕ) → is_label_name name ≡ true → is_l
 more_name [] b h k = cc
 more_name (c ∷ name) b h k =
     both_more (names_of_bytes.is_letter c) (list_all names_of_bytes.is_label_byte name) (names_of_bytes.is_label_byte b) (list_all names_of_bytes.is_label_byte (name ++ b ∷ [])) h (sym (label_kind b) ∙ k)
-        (list_all-append names_of_bytes.is_label_byte name (b ∷ []))
+    (list_all-append names_of_bytes.is_label_byte name (b ∷ []))
 
 name_chosen : (test : Bool) (names : List (List ℕ)) (name : List ℕ) (n : Rule) (v : Value) → (if test then Some (NameByte names name) else None) ≡ Some n → (test ≡ true → is_label_name name ≡ true) → Holds n v → Fits names v
 name_chosen true names name n v e k p = let same : n ≡ NameByte names name = cc in (subst (λ x. Holds x v) same p) (k refl)

@@ -27,5 +27,7 @@ pub use matching::{Card, Matching};
 pub use names::{is_label_name, is_metric_name};
 pub use pair::Pair;
 pub use read::read_series_text;
-pub use series::{TextFault, read_series_pairs};
-pub use series_laws::{one_byte_decides_series_texts, series_texts_name_labels_once};
+pub use series::TextFault;
+pub use series_laws::{
+    one_byte_decides_series_texts, printed_labels_read_back, series_texts_name_labels_once,
+};

@@ -1,40 +1,20 @@
 // The printed text of a label set.
 ghost use Rattle.std.specs.Prelude.{◌≡◌, ◌++◌, OnOk, OnErr, IfOk, map, flat_map};
 ghost use Rattle.pr_labels.specs.LabelSet.{has_name, metric_label};
-ghost use Rattle.pr_labels.specs.SeriesText.{escaped_byte, pair_text, following_text, pairs_text, list_text, rest_text, unnamed, series_text};
+ghost use Rattle.pr_labels.specs.SeriesText.{pair_text, following_text, pairs_text, list_text, rest_text, unnamed, series_text};
 
 use crate::labels::Labels;
 use crate::names::is_metric_name;
 use crate::pair::Pair;
+use pr_strings::write_string;
 use std::alloc::{AllocError, Global};
-
-fn push_escaped_byte(text: &mut Vec<u8>, b: u8) -> Result<(), AllocError>
-    ensures { OnOk result (text.new.items ≡ text.old.items ++ escaped_byte b) }
-{
-    match b {
-        b'\\' => text.extend_from_slice(b"\\\\"),
-        b'"' => text.extend_from_slice(b"\\\""),
-        b'\n' => text.extend_from_slice(b"\\n"),
-        _ => text.extend_from_slice(&[b]),
-    }
-}
-
-fn push_escaped(text: &mut Vec<u8>, value: &[u8]) -> Result<(), AllocError>
-    ensures { OnOk result (text.new.items ≡ text.old.items ++ flat_map escaped_byte value.now) }
-{
-    for b in value {
-        push_escaped_byte(text, *b)?;
-    }
-    Ok(())
-}
 
 fn push_pair(text: &mut Vec<u8>, pair: &Pair) -> Result<(), AllocError>
     ensures { OnOk result (text.new.items ≡ text.old.items ++ pair_text pair.now) }
 {
     text.extend_from_slice(pair.name.as_str().as_bytes())?;
-    text.extend_from_slice(b"=\"")?;
-    push_escaped(text, pair.value.as_str().as_bytes())?;
-    text.extend_from_slice(b"\"")
+    text.extend_from_slice(b"=")?;
+    write_string(pair.value.as_str().as_bytes(), text)
 }
 
 fn push_following(text: &mut Vec<u8>, pairs: &[&Pair]) -> Result<(), AllocError>

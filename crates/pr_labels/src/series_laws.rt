@@ -2,7 +2,9 @@
 ghost use Rattle.pr_forms.specs.Table.{IsDecided};
 ghost use Rattle.std.specs.Prelude.{◌≡◌, ℕ, List, None};
 ghost use Rattle.pr_labels.specs.Edits.{first_fault};
-ghost use Rattle.pr_labels.specs.SeriesGrammar.{production, table, ReadsSeries};
+ghost use Rattle.pr_labels.specs.LabelSet.{IsLabelSet};
+ghost use Rattle.pr_labels.specs.SeriesGrammar.{production, table, ReadsSeries, ReadsLabels};
+ghost use Rattle.pr_labels.specs.SeriesText.{series_text};
 ghost use Rattle.pr_labels.specs.declared.pair.Pair.{Pair};
 
 /// One byte ahead decides the grammar of series texts: so a text is read in one way, and without going back.
@@ -13,4 +15,9 @@ pub fn one_byte_decides_series_texts()
 /// What a series text reads has label names, each once: so its pairs are faultless, and make a label set.
 pub fn series_texts_name_labels_once()
     ensures { (text : List ℕ) (pairs : List Pair) → ReadsSeries text pairs → first_fault pairs ≡ None }
+{}
+
+/// A printed label set is a series text, and reads as that set.
+pub fn printed_labels_read_back()
+    ensures { (labels : List Pair) → IsLabelSet labels → ReadsLabels (series_text labels) labels }
 {}

@@ -1,6 +1,3 @@
-use Rattle.std.proofs.Common.{◌≡◌}
-use Rattle.pr_labels.specs.declared.fault.LabelFault.{LabelFault}
-use Rattle.pr_labels.specs.declared.fault.LabelFault.TheVariants.{BadName, Twice, Memory}
 use Rattle.pr_labels.proofs.SeriesNames.{no_fault}
 use Rattle.pr_labels.proofs.read.read_series_text.Goals as goal
 
