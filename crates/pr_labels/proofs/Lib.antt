@@ -10,3 +10,4 @@ pub mod ByRules
 pub mod SeriesNames
 pub mod SetValues
 pub mod SeriesWritten
+pub mod GoesOn

@@ -5,3 +5,4 @@ pub mod StringUtf8
 pub mod Within
 pub mod Written
 pub mod Fronts
+pub mod WrittenUtf8

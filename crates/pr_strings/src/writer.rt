@@ -1,5 +1,6 @@
 //! Writing a string.
 ghost use Rattle.std.specs.Prelude.{◌≡◌, ◌++◌, OnOk, OnErr, flat_map, length, take};
+ghost use Rattle.std.specs.Str.{IsUtf8};
 ghost use Rattle.pr_strings.specs.Quoted.{escaped_byte, quoted_text};
 
 use std::alloc::AllocError;
@@ -44,6 +45,8 @@ fn push_quoted(out: &mut Vec<u8>, bytes: &[u8]) -> Result<(), AllocError>
 pub fn write_string(bytes: &[u8], out: &mut Vec<u8>) -> Result<(), AllocError>
     ensures ok { OnOk result (out.new.items ≡ out.old.items ++ quoted_text bytes.now) }
     ensures err { OnErr result (out.new.items ≡ out.old.items) }
+    // A text goes on as a text.
+    ensures text { IsUtf8 bytes.now → IsUtf8 out.old.items → IsUtf8 out.new.items }
 {
     let before = out.len();
     let written = push_quoted(out, bytes);
