@@ -13,11 +13,12 @@ use Rattle.pr_labels.specs.declared.fault.LabelFault.{LabelFault}
 use Rattle.pr_labels.specs.declared.fault.LabelFault.TheVariants.{Memory}
 use Rattle.pr_labels.specs.declared.pair.Pair.{Pair}
 use Rattle.pr_labels.specs.Edits.{fault_after, first_fault}
-use Rattle.pr_labels.specs.LabelSet.{has_name, metric_label, pair_of}
+use Rattle.pr_labels.specs.LabelSet.{IsLabelSet, has_name, metric_label, pair_of}
 use Rattle.pr_labels.specs.Names as names_of_bytes
 use Rattle.pr_labels.specs.Names.{is_label_name}
-use Rattle.pr_labels.specs.SeriesGrammar.{production, Rule, Value, listed, quoted, mark, headed, labelled, is_among, is_letter, is_label_byte, is_metric_letter, is_metric_byte, ReadsSeries, Series, MetricByte, MetricRest, Tail, Listed, Braces, Items, Item, NameByte, NameRest, Named, After, Next, InString}
+use Rattle.pr_labels.specs.SeriesGrammar.{production, Rule, Value, listed, quoted, mark, headed, labelled, is_among, is_letter, is_label_byte, is_metric_letter, is_metric_byte, ReadsSeries, ReadsLabels, Series, MetricByte, MetricRest, Tail, Listed, Braces, Items, Item, NameByte, NameRest, Named, After, Next, InString}
 use Rattle.pr_labels.specs.SeriesReader.{names_of}
+use Rattle.pr_labels.proofs.LabelLaws.{made_is_set}
 use Rattle.pr_labels.proofs.ByRules.{Each, Meets, by_token, by_nothing, by_pair, by_left, by_right, by_choice, by_rule, by_rules}
 
 -- the letters and the bytes of names are those of the grammar
@@ -147,3 +148,7 @@ no_fault text pairs items fault d e finds other =
     let none : first_fault items ≡ None = ap first_fault e ∙ series_faultless text pairs d in
     let some : first_fault items ≡ Some fault = finds other in
     cc
+
+-- what a series text reads makes a label set
+pub read_is_set : (text : List ℕ) (ls : List Pair) → ReadsLabels text ls → IsLabelSet ls
+read_is_set text ls r = subst IsLabelSet (sym r.are) (made_is_set r.pairs (series_faultless text r.pairs r.reads))

@@ -22,7 +22,10 @@ pub use fault::LabelFault;
 pub use grouping::Grouping;
 pub use item::Item;
 pub use labels::Labels;
-pub use laws::{from_pairs_takes_all, operations_give_label_sets, values_after_operations};
+pub use laws::{
+    from_pairs_takes_all, operations_give_label_sets, values_after_operations,
+    values_tell_label_sets,
+};
 pub use matching::{Card, Matching};
 pub use names::{is_label_name, is_metric_name};
 pub use pair::Pair;

@@ -12,6 +12,12 @@ pub fn one_byte_decides_series_texts()
     ensures { IsDecided production table }
 {}
 
+/// A text reads as one label set at most, and what it reads as is a label set.
+pub fn series_text_reads_as_one_label_set()
+    ensures one { (text : List ℕ) (ls ms : List Pair) → ReadsLabels text ls → ReadsLabels text ms → ls ≡ ms }
+    ensures set { (text : List ℕ) (ls : List Pair) → ReadsLabels text ls → IsLabelSet ls }
+{}
+
 /// What a series text reads has label names, each once: so its pairs are faultless, and make a label set.
 pub fn series_texts_name_labels_once()
     ensures { (text : List ℕ) (pairs : List Pair) → ReadsSeries text pairs → first_fault pairs ≡ None }

@@ -1,6 +1,8 @@
 //! Series texts from outside.
+ghost use Rattle.std.specs.Prelude.{◌≡◌, IfOk};
+
 use super::*;
-use std::alloc::Global;
+use std::alloc::{AllocError, Global};
 
 /// Where a text is no series text; none where it is one, or memory ran out.
 fn bad_place(alloc: Global, text: &str) -> Option<usize> {
@@ -10,13 +12,32 @@ fn bad_place(alloc: Global, text: &str) -> Option<usize> {
     }
 }
 
-/// Whether a text is read as the label set that is printed like this.
-fn reads_as(alloc: Global, text: &str, want: &str) -> bool {
+/// The label set that is read from the printed text of one: the same.
+fn reread(alloc: Global, labels: &Labels) -> Result<Labels, AllocError>
+    ensures { IfOk result (λ l. l ≡ labels.now) }
+{
+    let mut printed = Vec::new(alloc);
+    labels.write(alloc, &mut printed)?;
+    match str::from_utf8(&printed) {
+        Ok(text) => match read_series_text(alloc, text) {
+            Ok(read) => Ok(read),
+            Err(TextFault::Memory) => Err(AllocError),
+            Err(TextFault::BadLabels { .. }) => unreachable!(),
+        },
+        Err(_) => unreachable!(),
+    }
+}
+
+/// Whether a text is read as the label set that is printed like this, and the printed text too.
+fn reads_as(alloc: Global, text: &str, want: &str) -> Result<bool, AllocError> {
     let mut printed = Vec::new(alloc);
     match read_series_text(alloc, text) {
-        Ok(labels) => labels.write(alloc, &mut printed).is_ok()
-            && printed.as_slice() == want.as_bytes(),
-        Err(_) => false,
+        Ok(labels) => {
+            let again = reread(alloc, &labels)?;
+            again.write(alloc, &mut printed)?;
+            Ok(again == labels && printed.as_slice() == want.as_bytes())
+        }
+        Err(_) => Ok(false),
     }
 }
 
@@ -36,7 +57,7 @@ fn reads_series_texts(rt: HostRuntime) {
         ("{ a = \"\" , }", "{}"),
         ("{a=\"\\u00e9\\n\"}", "{a=\"\u{e9}\\n\"}"),
     ] {
-        assert_eq!(rt; reads_as(rt.alloc(), text, want), true, "{text}");
+        assert_eq!(rt; reads_as(rt.alloc(), text, want), Ok(true), "{text}");
     }
 }
 
