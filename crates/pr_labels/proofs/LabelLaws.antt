@@ -17,16 +17,16 @@ use Rattle.pr_labels.proofs.LabelSets.{filter_is_set}
 use Rattle.pr_labels.proofs.Making.{named_pair}
 use Rattle.pr_labels.proofs.Putting.{all_above, set_is_set}
 
-same_names : (a b : List ℕ) → bytes_eq a b ≡ true → a ≡ b
+pub same_names : (a b : List ℕ) → bytes_eq a b ≡ true → a ≡ b
 same_names a b h = (bytes_decides a b).0 h
 
-alike : (a : List ℕ) → bytes_eq a a ≡ true
+pub alike : (a : List ℕ) → bytes_eq a a ≡ true
 alike a = (bytes_decides a a).1 refl
 
-value_hit : (p : Pair) (ps : List Pair) (other : List ℕ) → bytes_eq p.name other ≡ true → value_of (p ∷ ps) other ≡ Some p.value
+pub value_hit : (p : Pair) (ps : List Pair) (other : List ℕ) → bytes_eq p.name other ≡ true → value_of (p ∷ ps) other ≡ Some p.value
 value_hit p ps other tie = rw tie refl
 
-value_miss : (p : Pair) (ps : List Pair) (other : List ℕ) → bytes_eq p.name other ≡ false → value_of (p ∷ ps) other ≡ value_of ps other
+pub value_miss : (p : Pair) (ps : List Pair) (other : List ℕ) → bytes_eq p.name other ≡ false → value_of (p ∷ ps) other ≡ value_of ps other
 value_miss p ps other tie = rw tie refl
 
 -- what a filter keeps of a name, where it asks of the name alone
@@ -87,7 +87,7 @@ value_label name (b ∷ bs) other = by_test (bytes_eq name other) refl where
   by_test true tie = rw tie refl
   by_test false tie = rw tie refl
 
-or_nothing : (v : Option (List ℕ)) → option_or v None ≡ v
+pub or_nothing : (v : Option (List ℕ)) → option_or v None ≡ v
 or_nothing None = refl
 or_nothing (Some x) = refl
 
@@ -103,7 +103,7 @@ value_set ls name value other =
     value_append (filter (is_below name) ls) (label_of name value ++ filter (is_above name) ls) other ∙ ap (λ t. option_or (value_of (filter (is_below name) ls) other) t) (value_append (label_of name value) (filter (is_above name) ls) other) ∙ (λ i. option_or (below i) (option_or (value_label name value other i) (above i))) ∙ set_step (slice_cmp nat_cmp other name) (slice_cmp nat_cmp name other) (bytes_eq name other) (value_of ls other) (value_if_any value) (nat_list_cmp_total.antisymm name other) (texts_ties name other)
 
 -- no pair above a name has it
-none_above : (name : List ℕ) (ps : List Pair) → IsLabelSet ps → IsBelowFirst name ps → value_of ps name ≡ None
+pub none_above : (name : List ℕ) (ps : List Pair) → IsLabelSet ps → IsBelowFirst name ps → value_of ps name ≡ None
 none_above name ps s b =
     ap (λ t. value_of t name) (sym (all_above name ps s b).others) ∙ value_remove ps name name ∙ ap (λ t. cond t None (value_of ps name)) (alike name)
 

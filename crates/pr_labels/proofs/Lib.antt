@@ -10,3 +10,6 @@ pub mod SeriesReading
 pub mod ByRules
 pub mod SeriesNames
 pub mod SeriesExamples
+pub mod SetValues
+pub mod SeriesWritten
+pub mod GoesOn

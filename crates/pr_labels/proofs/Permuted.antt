@@ -63,7 +63,7 @@ label_apart : (other name value : List ℕ) → bytes_eq name other ≡ false �
 label_apart other name [] h = refl
 label_apart other name (b ∷ bs) h = rw h refl
 
-new_name : (known again : Bool) (bad twice : LabelFault) → cond known (cond again (Some twice) None) (Some bad) ≡ None → again ≡ false
+pub new_name : (known again : Bool) (bad twice : LabelFault) → cond known (cond again (Some twice) None) (Some bad) ≡ None → again ≡ false
 new_name true true bad twice h = cc
 new_name true false bad twice h = refl
 new_name false again bad twice h = cc

@@ -13,11 +13,12 @@ use Rattle.pr_labels.specs.declared.fault.LabelFault.{LabelFault}
 use Rattle.pr_labels.specs.declared.fault.LabelFault.TheVariants.{Memory}
 use Rattle.pr_labels.specs.declared.pair.Pair.{Pair}
 use Rattle.pr_labels.specs.Edits.{fault_after, first_fault}
-use Rattle.pr_labels.specs.LabelSet.{has_name, metric_label, pair_of}
+use Rattle.pr_labels.specs.LabelSet.{IsLabelSet, has_name, metric_label, pair_of}
 use Rattle.pr_labels.specs.Names as names_of_bytes
 use Rattle.pr_labels.specs.Names.{is_label_name}
-use Rattle.pr_labels.specs.SeriesGrammar.{production, Rule, Value, listed, quoted, mark, headed, labelled, is_among, is_letter, is_label_byte, is_metric_letter, is_metric_byte, ReadsSeries, Series, MetricByte, MetricRest, Tail, Listed, Braces, Items, Item, NameByte, NameRest, Named, After, Next, InString}
+use Rattle.pr_labels.specs.SeriesGrammar.{production, Rule, Value, listed, quoted, mark, headed, labelled, is_among, is_letter, is_label_byte, is_metric_letter, is_metric_byte, ReadsSeries, ReadsLabels, Series, MetricByte, MetricRest, Tail, Listed, Braces, Items, Item, NameByte, NameRest, Named, After, Next, InString}
 use Rattle.pr_labels.specs.SeriesReader.{names_of}
+use Rattle.pr_labels.proofs.LabelLaws.{made_is_set}
 use Rattle.pr_labels.proofs.ByRules.{Each, Meets, by_token, by_nothing, by_pair, by_left, by_right, by_choice, by_rule, by_rules}
 
 -- the letters and the bytes of names are those of the grammar
@@ -80,7 +81,7 @@ next_label : (names : List (List ℕ)) (name : List ℕ) (v w : Value) → is_la
 next_label names name (quoted (strings.content bytes)) (listed pairs) k once h = λ before e.
     let apart : list_any (has_name name) before ≡ false = sym (among_names name before) ∙ (ap (is_among name) e ∙ sym once) in
     let rest : fault_after (before ++ pair_of name bytes ∷ []) pairs ≡ None =
-        h (before ++ pair_of name bytes ∷ []) (map-append (λ p. p.name) before (pair_of name bytes ∷ []) ∙ ap (λ ns. ns ++ name ∷ []) e) in
+    h (before ++ pair_of name bytes ∷ []) (map-append (λ p. p.name) before (pair_of name bytes ∷ []) ∙ ap (λ ns. ns ++ name ∷ []) e) in
     rw (k, apart) rest
 next_label names name (quoted (strings.content bytes)) (quoted w) k once h = tt
 next_label names name (quoted (strings.content bytes)) mark k once h = tt
@@ -102,7 +103,7 @@ more_name : (name : List ℕ) (b : ℕ) → is_label_name name ≡ true → is_l
 more_name [] b h k = cc
 more_name (c ∷ name) b h k =
     both_more (names_of_bytes.is_letter c) (list_all names_of_bytes.is_label_byte name) (names_of_bytes.is_label_byte b) (list_all names_of_bytes.is_label_byte (name ++ b ∷ [])) h (sym (label_kind b) ∙ k)
-        (list_all-append names_of_bytes.is_label_byte name (b ∷ []))
+    (list_all-append names_of_bytes.is_label_byte name (b ∷ []))
 
 name_chosen : (test : Bool) (names : List (List ℕ)) (name : List ℕ) (n : Rule) (v : Value) → (if test then Some (NameByte names name) else None) ≡ Some n → (test ≡ true → is_label_name name ≡ true) → Holds n v → Fits names v
 name_chosen true names name n v e k p = let same : n ≡ NameByte names name = cc in (subst (λ x. Holds x v) same p) (k refl)
@@ -147,3 +148,7 @@ no_fault text pairs items fault d e finds other =
     let none : first_fault items ≡ None = ap first_fault e ∙ series_faultless text pairs d in
     let some : first_fault items ≡ Some fault = finds other in
     cc
+
+-- what a series text reads makes a label set
+pub read_is_set : (text : List ℕ) (ls : List Pair) → ReadsLabels text ls → IsLabelSet ls
+read_is_set text ls r = subst IsLabelSet (sym r.are) (made_is_set r.pairs (series_faultless text r.pairs r.reads))

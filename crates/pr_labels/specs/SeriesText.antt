@@ -1,15 +1,12 @@
 -- The printed text of a label set.
-use Rattle.std.specs.Prelude.{ℕ, not, cond, ◌==◌, List, [], ◌∷◌, ◌++◌, codes, filter, flat_map, Option, Some, None}
+use Rattle.std.specs.Prelude.{ℕ, not, cond, List, [], ◌∷◌, ◌++◌, codes, filter, flat_map, Option, Some, None}
+use Rattle.pr_strings.specs.Quoted.{quoted_text}
 use Rattle.pr_labels.specs.declared.pair.Pair.{Pair}
 use Rattle.pr_labels.specs.Names.{is_metric_name}
 use Rattle.pr_labels.specs.LabelSet.{metric_label, has_name, value_of}
 
--- a backslash, a quote and a line feed have a backslash before them
-abbrev pub escaped_byte : ℕ → List ℕ
-escaped_byte b = cond (b == 92) (codes "\\\\") (cond (b == 34) (codes "\\\"") (cond (b == 10) (codes "\\n") (b ∷ [])))
-
 abbrev pub pair_text : Pair → List ℕ
-pair_text p = p.name ++ codes "=\"" ++ flat_map escaped_byte p.value ++ codes "\""
+pair_text p = p.name ++ (codes "=" ++ quoted_text p.value)
 
 -- a pair that is not the first has a comma before it
 abbrev pub following_text : Pair → List ℕ

@@ -54,3 +54,10 @@ pub fn from_pairs_takes_all()
     ensures { (pairs : List Pair) → first_fault pairs ≡ None
         → IsPermutation (filter has_value pairs) (labels_of pairs) }
 {}
+
+/// A label set is known by what it has of each name.
+#[tactic(auto, using(crate::proofs::SetValues::same_values))]
+pub fn values_tell_label_sets()
+    ensures { (ls ms : List Pair) → IsLabelSet ls → IsLabelSet ms
+        → ((name : List ℕ) → value_of ls name ≡ value_of ms name) → ls ≡ ms }
+{}

@@ -24,13 +24,16 @@ pub use fault::LabelFault;
 pub use grouping::Grouping;
 pub use item::Item;
 pub use labels::Labels;
-pub use laws::{from_pairs_takes_all, operations_give_label_sets, values_after_operations};
+pub use laws::{
+    from_pairs_takes_all, operations_give_label_sets, values_after_operations,
+    values_tell_label_sets,
+};
 pub use matching::{Card, Matching};
 pub use names::{is_label_name, is_metric_name};
 pub use pair::Pair;
 pub use read::read_series_text;
-pub use series::{TextFault, read_series_pairs};
+pub use series::TextFault;
 pub use series_laws::{
-    one_byte_decides_series_texts, reading_of_a_series_text_is_a_function,
-    series_texts_name_labels_once,
+    one_byte_decides_series_texts, printed_labels_read_back, reading_of_a_series_text_is_a_function,
+    series_text_reads_as_one_label_set, series_texts_name_labels_once,
 };

@@ -1,44 +1,28 @@
 // The printed text of a label set.
 ghost use Rattle.std.specs.Prelude.{◌≡◌, ◌++◌, OnOk, OnErr, IfOk, map, flat_map};
+ghost use Rattle.std.specs.Str.{IsUtf8};
+ghost use Rattle.pr_strings.specs.Reader.{KeepsText};
 ghost use Rattle.pr_labels.specs.LabelSet.{has_name, metric_label};
-ghost use Rattle.pr_labels.specs.SeriesText.{escaped_byte, pair_text, following_text, pairs_text, list_text, rest_text, unnamed, series_text};
+ghost use Rattle.pr_labels.specs.SeriesText.{pair_text, following_text, pairs_text, list_text, rest_text, unnamed, series_text};
 
 use crate::labels::Labels;
 use crate::names::is_metric_name;
 use crate::pair::Pair;
+use pr_strings::write_string;
 use std::alloc::{AllocError, Global};
 
-fn push_escaped_byte(text: &mut Vec<u8>, b: u8) -> Result<(), AllocError>
-    ensures { OnOk result (text.new.items ≡ text.old.items ++ escaped_byte b) }
-{
-    match b {
-        b'\\' => text.extend_from_slice(b"\\\\"),
-        b'"' => text.extend_from_slice(b"\\\""),
-        b'\n' => text.extend_from_slice(b"\\n"),
-        _ => text.extend_from_slice(&[b]),
-    }
-}
-
-fn push_escaped(text: &mut Vec<u8>, value: &[u8]) -> Result<(), AllocError>
-    ensures { OnOk result (text.new.items ≡ text.old.items ++ flat_map escaped_byte value.now) }
-{
-    for b in value {
-        push_escaped_byte(text, *b)?;
-    }
-    Ok(())
-}
-
 fn push_pair(text: &mut Vec<u8>, pair: &Pair) -> Result<(), AllocError>
-    ensures { OnOk result (text.new.items ≡ text.old.items ++ pair_text pair.now) }
+    ensures ok { OnOk result (text.new.items ≡ text.old.items ++ pair_text pair.now) }
+    ensures text { OnOk result (KeepsText text.old.items text.new.items) }
 {
     text.extend_from_slice(pair.name.as_str().as_bytes())?;
-    text.extend_from_slice(b"=\"")?;
-    push_escaped(text, pair.value.as_str().as_bytes())?;
-    text.extend_from_slice(b"\"")
+    text.extend_from_slice(b"=")?;
+    write_string(pair.value.as_str().as_bytes(), text)
 }
 
 fn push_following(text: &mut Vec<u8>, pairs: &[&Pair]) -> Result<(), AllocError>
-    ensures { OnOk result (text.new.items ≡ text.old.items ++ flat_map following_text (map (λ p. p.now) pairs.now)) }
+    ensures ok { OnOk result (text.new.items ≡ text.old.items ++ flat_map following_text (map (λ p. p.now) pairs.now)) }
+    ensures text { OnOk result (KeepsText text.old.items text.new.items) }
 {
     for pair in pairs {
         text.extend_from_slice(b",")?;
@@ -48,7 +32,8 @@ fn push_following(text: &mut Vec<u8>, pairs: &[&Pair]) -> Result<(), AllocError>
 }
 
 fn push_pairs(text: &mut Vec<u8>, pairs: &[&Pair]) -> Result<(), AllocError>
-    ensures { OnOk result (text.new.items ≡ text.old.items ++ pairs_text (map (λ p. p.now) pairs.now)) }
+    ensures ok { OnOk result (text.new.items ≡ text.old.items ++ pairs_text (map (λ p. p.now) pairs.now)) }
+    ensures text { OnOk result (KeepsText text.old.items text.new.items) }
 {
     match pairs {
         [] => Ok(()),
@@ -60,7 +45,8 @@ fn push_pairs(text: &mut Vec<u8>, pairs: &[&Pair]) -> Result<(), AllocError>
 }
 
 fn push_list(text: &mut Vec<u8>, pairs: &[&Pair]) -> Result<(), AllocError>
-    ensures { OnOk result (text.new.items ≡ text.old.items ++ list_text (map (λ p. p.now) pairs.now)) }
+    ensures ok { OnOk result (text.new.items ≡ text.old.items ++ list_text (map (λ p. p.now) pairs.now)) }
+    ensures text { OnOk result (KeepsText text.old.items text.new.items) }
 {
     text.extend_from_slice(b"{")?;
     push_pairs(text, pairs)?;
@@ -68,7 +54,8 @@ fn push_list(text: &mut Vec<u8>, pairs: &[&Pair]) -> Result<(), AllocError>
 }
 
 fn push_rest(text: &mut Vec<u8>, pairs: &[&Pair]) -> Result<(), AllocError>
-    ensures { OnOk result (text.new.items ≡ text.old.items ++ rest_text (map (λ p. p.now) pairs.now)) }
+    ensures ok { OnOk result (text.new.items ≡ text.old.items ++ rest_text (map (λ p. p.now) pairs.now)) }
+    ensures text { OnOk result (KeepsText text.old.items text.new.items) }
 {
     if pairs.is_empty() {
         return Ok(());
@@ -98,7 +85,8 @@ fn borrowed<'a>(alloc: Global, pairs: &'a [Pair]) -> Result<Vec<&'a Pair>, Alloc
 
 #[tactic(auto, unfolding(crate::specs::SeriesText::series_text))]
 fn text_of(alloc: Global, labels: &Labels) -> Result<Vec<u8>, AllocError>
-    ensures { IfOk result (λ text. text.items ≡ series_text labels.now) }
+    ensures ok { IfOk result (λ text. text.items ≡ series_text labels.now) }
+    ensures text { IfOk result (λ text. IsUtf8 text.items) }
 {
     let mut text = Vec::new(alloc);
     match labels.get("__name__") {
@@ -117,6 +105,8 @@ impl Labels {
     pub fn write(&self, alloc: Global, out: &mut Vec<u8>) -> Result<(), AllocError>
         ensures ok { OnOk result (out.new.items ≡ out.old.items ++ series_text self.now) }
         ensures err { OnErr result (out.new.items ≡ out.old.items) }
+        // A text goes on as a text.
+        ensures text { KeepsText out.old.items out.new.items }
     {
         let text = text_of(alloc, self)?;
         out.extend_from_slice(&text)

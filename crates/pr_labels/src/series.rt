@@ -1,4 +1,4 @@
-//! Reading a series text.
+//! Reading the pairs of a series text.
 ghost use Rattle.std.specs.Prelude.{◌≡◌, ℕ, List, [], ◌∷◌, ◌++◌, ◌<◌, ◌≤◌, length, map, IfOk, IfSome, MatchOption, MatchResult, option_map, string_bytes, codes};
 ghost use Rattle.std.specs.Str.{IsUtf8};
 ghost use Rattle.pr_labels.specs.declared.series.Part.TheVariants.{LabelFirst};
@@ -323,15 +323,8 @@ fn series_in(alloc: Global, text: &[u8]) -> Result<(Vec<Pair>, &[u8]), Fault<'_,
 }
 
 /// The labels of a series text in its order, the metric's name as the label `__name__` before the others; a value may be
-/// empty. A series text is a metric's name, a label list in braces, or both; a list may end with a comma, and blanks, which are
-/// spaces and tabs, stand only between parts. Values are strings in any of the three quotes. A name stands once, and `__name__`
-/// not after a metric's name (the notation of time series in the Prometheus documentation, "Data model"; values in other
-/// quotes, blanks and a last comma as in "Querying basics").
-///
-/// # Errors
-/// The first byte with which no series text can go on. Where a name stands twice this is the byte after the second one, since
-/// up to there it could still be the front of another name.
-pub fn read_series_pairs(alloc: Global, text: &str) -> Result<Vec<Pair>, TextFault>
+/// empty. The faults are those of `read_series_text`.
+pub(crate) fn read_series_pairs(alloc: Global, text: &str) -> Result<Vec<Pair>, TextFault>
     // Labels that are answered are what the text reads as.
     ensures tree { IfOk result (λ pairs. ReadsSeries text.now pairs.items) }
     // What the text reads as is answered, unless memory runs out.

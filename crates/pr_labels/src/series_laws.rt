@@ -2,8 +2,10 @@
 ghost use Rattle.std.specs.Prelude.{◌≡◌, ℕ, List, Some, None};
 ghost use Rattle.pr_forms.specs.Table.{IsDecided};
 ghost use Rattle.pr_labels.specs.Edits.{first_fault};
-ghost use Rattle.pr_labels.specs.SeriesGrammar.{production, table, ReadsSeries, IsBadPlace};
+ghost use Rattle.pr_labels.specs.LabelSet.{IsLabelSet};
+ghost use Rattle.pr_labels.specs.SeriesGrammar.{production, table, ReadsSeries, ReadsLabels, IsBadPlace};
 ghost use Rattle.pr_labels.specs.SeriesReading.{series_pairs, bad_series_place};
+ghost use Rattle.pr_labels.specs.SeriesText.{series_text};
 ghost use Rattle.pr_labels.specs.declared.pair.Pair.{Pair};
 
 /// One byte ahead decides the grammar of series texts: so a text is read in one way, and without going back.
@@ -19,7 +21,18 @@ pub fn reading_of_a_series_text_is_a_function()
     ensures place { (text : List ℕ) → IsBadPlace text (bad_series_place text) }
 {}
 
+/// A text reads as one label set at most, and what it reads as is a label set.
+pub fn series_text_reads_as_one_label_set()
+    ensures one { (text : List ℕ) (ls ms : List Pair) → ReadsLabels text ls → ReadsLabels text ms → ls ≡ ms }
+    ensures set { (text : List ℕ) (ls : List Pair) → ReadsLabels text ls → IsLabelSet ls }
+{}
+
 /// What a series text reads has label names, each once: so its pairs are faultless, and make a label set.
 pub fn series_texts_name_labels_once()
     ensures { (text : List ℕ) (pairs : List Pair) → ReadsSeries text pairs → first_fault pairs ≡ None }
+{}
+
+/// A printed label set is a series text, and reads as that set.
+pub fn printed_labels_read_back()
+    ensures { (labels : List Pair) → IsLabelSet labels → ReadsLabels (series_text labels) labels }
 {}

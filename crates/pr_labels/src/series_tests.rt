@@ -1,50 +1,53 @@
 //! Series texts from outside.
 use super::*;
-use std::alloc::Global;
+use std::alloc::{AllocError, Global};
 
 /// Where a text is no series text; none where it is one, or memory ran out.
 fn bad_place(alloc: Global, text: &str) -> Option<usize> {
-    match read_series_pairs(alloc, text) {
+    match read_series_text(alloc, text) {
         Ok(_) | Err(TextFault::Memory) => None,
         Err(TextFault::BadLabels { at }) => Some(at),
     }
 }
 
-/// Whether a text is a series text with these names and values, each followed by a semicolon.
-fn reads_as(alloc: Global, text: &str, want: &str) -> bool {
-    match read_series_pairs(alloc, text) {
-        Ok(pairs) => {
-            let mut rest = want;
-            for pair in &pairs {
-                for part in [pair.name.as_str(), pair.value.as_str()] {
-                    match rest.strip_prefix(part) {
-                        Some(after) => match after.strip_prefix(";") {
-                            Some(next) => rest = next,
-                            None => return false,
-                        },
-                        None => return false,
-                    }
-                }
-            }
-            rest.is_empty()
+/// The label set that is read from the printed text of one.
+fn reread(alloc: Global, labels: &Labels) -> Result<Labels, AllocError> {
+    let mut printed = Vec::new(alloc);
+    labels.write(alloc, &mut printed)?;
+    let text = str::from_utf8(&printed).unwrap_or("");
+    read_series_text(alloc, text).map_err(|_| AllocError)
+}
+
+/// Whether a text is read as the label set that is printed like this, and the printed text too.
+fn reads_as(alloc: Global, text: &str, want: &str) -> Result<bool, AllocError> {
+    let mut printed = Vec::new(alloc);
+    match read_series_text(alloc, text) {
+        Ok(labels) => {
+            let again = reread(alloc, &labels)?;
+            again.write(alloc, &mut printed)?;
+            Ok(again == labels && printed.as_slice() == want.as_bytes())
         }
-        Err(_) => false,
+        Err(_) => Ok(false),
     }
 }
 
 #[test]
 fn reads_series_texts(rt: HostRuntime) {
     for (text, want) in [
-        ("up", "__name__;up;"),
-        ("{}", ""),
-        ("up{}", "__name__;up;"),
-        ("a:b_1 \t{a=\"1\"}", "__name__;a:b_1;a;1;"),
-        ("up{b=\"1\",a='\"',c=`\\`,}", "__name__;up;b;1;a;\";c;\\;"),
-        ("{__name__=\"a b\"}", "__name__;a b;"),
-        ("{ a = \"\" , }", "a;;"),
-        ("{a=\"\\u00e9\\n\"}", "a;\u{e9}\n;"),
+        ("up", "up"),
+        ("{}", "{}"),
+        ("up{}", "up"),
+        ("a:b_1 \t{a=\"1\"}", "a:b_1{a=\"1\"}"),
+        (
+            "up{b=\"1\",a='\"',c=`\\`,}",
+            "up{a=\"\\\"\",b=\"1\",c=\"\\\\\"}",
+        ),
+        ("{__name__=\"a b\"}", "{__name__=\"a b\"}"),
+        ("{b=\"1\",__name__=\"up\"}", "up{b=\"1\"}"),
+        ("{ a = \"\" , }", "{}"),
+        ("{a=\"\\u00e9\\n\"}", "{a=\"\u{e9}\\n\"}"),
     ] {
-        assert_eq!(rt; reads_as(rt.alloc(), text, want), true, "{text}");
+        assert_eq!(rt; reads_as(rt.alloc(), text, want), Ok(true), "{text}");
     }
 }
 

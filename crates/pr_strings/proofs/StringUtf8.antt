@@ -107,7 +107,7 @@ opening_text text rest b k m e h n = keeps_after text rest b e (small_byte b (λ
     not_other m e = cc
 
 -- the escapes
-byte_text : (c : ℕ) → c < 128 → IsUtf8 (c ∷ [])
+pub byte_text : (c : ℕ) → c < 128 → IsUtf8 (c ∷ [])
 byte_text c h = IsUtf8-from_ascii (c ∷ []) (IsAscii-from_all (c ∷ []) (All-cons (λ b. b < 128) c [] h (λ i d lt. absurd (omega (arith, lt)))))
 
 -- the bytes that escapes of one letter mean

@@ -1,7 +1,7 @@
 -- A grammar within another one is decided as it is alone, and runs as it runs alone.
 use Rattle.std.proofs.Common.{◌≡◌, ℕ, zero, suc, pred, nat_le, false, List, [], ◌∷◌, Option, Some, None, Bool, true, refl, ap, sym, ◌∙◌, subst}
 use Rattle.std.specs.Prelude.{is_some, ◌||◌, ◌&&◌}
-use Rattle.pr_forms.specs.Form.{Form, token, nothing, pair, either, turns, fold, chosen, rule}
+use Rattle.pr_forms.specs.Form.{Form, token, nothing, pair, either, turns, fold, chosen, rule, Reads, is_token, is_nothing, is_pair, is_left, is_right, is_stop, is_turn, is_fold, is_chosen, is_rule}
 use Rattle.pr_forms.specs.Table.{Table, empty_of, starts_of, more_of, is_next, negation, parts_at, is_solid, Binds, Decides}
 use Rattle.pr_forms.specs.Run.{Outcome, good, bad, Runs, run_token, run_other, run_end, run_nothing, run_pair, run_first, run_second, run_left, run_right, run_stop, run_turn, run_in_turn, run_fold, run_base, run_chosen, run_chosen_bad, run_unchosen, run_chosen_end, run_rule}
 use Rattle.pr_forms.specs.Reading.{EndsIn, after_part}
@@ -130,6 +130,22 @@ module _ {T N V M W : Type 0} (p : Place N V M W) (S : Table T N) (Z : Table T M
     runs_within (run_unchosen {q = q} {t = t} e) = run_unchosen (none_within p.rule_of (q t) e)
     runs_within run_chosen_end = run_chosen_end
     runs_within (run_rule {n = n} {ts = ts} {o = o} x) = run_rule (subst (λ f. Runs H Z f ts (outcome_within p o)) (sym (same_form n)) (runs_within x))
+
+    -- what the grammar reads, the other one reads too
+    pub reads_within : {f : Form T N V} {ts rest : List T} {v : V} → Reads G f ts v rest → Reads H (within p f) ts (p.value_of v) rest
+    reads_within (is_token {p = q} {t = t} {v = v} e) = is_token (option_within p.value_of (q t) v e)
+    reads_within is_nothing = is_nothing
+    reads_within (is_pair {c = c} {f = f} {g = g} {ts = ts} {rest = rest} {v = v} {w = w} x y) =
+        subst (λ z. Reads H (pair (lifted p c) (within p f) (within p g)) ts z rest) (joins c v w) (is_pair (reads_within x) (reads_within y))
+    reads_within (is_left x) = is_left (reads_within x)
+    reads_within (is_right x) = is_right (reads_within x)
+    reads_within is_stop = is_stop
+    reads_within (is_turn {c = c} {g = g} {mid = mid} {rest = rest} {v = v} {w = w} {x = u} x y) =
+        is_turn (reads_within x) (subst (λ z. Reads H (turns (lifted p c) z (within p g)) mid (p.value_of u) rest) (sym (joins c v w)) (reads_within y))
+    reads_within (is_fold x y) = is_fold (reads_within x) (reads_within y)
+    reads_within (is_chosen {q = q} {t = t} {n = n} {ts = ts} {rest = rest} {v = v} e l x) =
+        is_chosen (option_within p.rule_of (q t) n e) l (subst (λ f. Reads H f (t ∷ ts) (p.value_of v) rest) (sym (same_form n)) (reads_within x))
+    reads_within (is_rule {n = n} {ts = ts} {rest = rest} {v = v} x) = is_rule (subst (λ f. Reads H f ts (p.value_of v) rest) (sym (same_form n)) (reads_within x))
 
   -- and it ends as it ends alone
   module _ (rank : N → ℕ) (other : M → ℕ) (limit : ℕ) (same_rank : (n : N) → other (p.rule_of n) ≡ rank n) where

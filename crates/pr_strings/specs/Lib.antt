@@ -1,3 +1,4 @@
 pub mod Strings
 pub mod Reader
 pub mod Within
+pub mod Quoted

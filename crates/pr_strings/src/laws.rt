@@ -1,8 +1,15 @@
 //! The laws of strings, each as the contract of a function that does nothing.
+ghost use Rattle.std.specs.Prelude.{ℕ, List, ◌++◌};
 ghost use Rattle.pr_forms.specs.Table.{IsDecided};
-ghost use Rattle.pr_strings.specs.Strings.{production, table};
+ghost use Rattle.pr_strings.specs.Quoted.{quoted_text};
+ghost use Rattle.pr_strings.specs.Strings.{production, table, IsString};
 
 /// One byte ahead decides the grammar of strings: so a string is read in one way, and without going back.
 pub fn one_byte_decides()
     ensures { IsDecided production table }
+{}
+
+/// Bytes that are written in double quotes are read as those bytes, whatever follows.
+pub fn quoted_texts_read_back()
+    ensures { (bytes rest : List ℕ) → IsString (quoted_text bytes ++ rest) bytes rest }
 {}

@@ -1,4 +1,5 @@
-//! The strings of the query language, read from the front of a text. Each format that has strings reads them here.
+//! The strings of the query language, read from the front of a text and written. Each format that has strings has them
+//! from here.
 #![tactic(auto)]
 
 mod kind;
@@ -6,7 +7,9 @@ mod laws;
 mod reader;
 #[cfg(test)]
 mod tests;
+mod writer;
 
 pub use kind::{Kind, Mark, kind_of};
-pub use laws::one_byte_decides;
-pub use reader::{Piece, read_string};
+pub use laws::{one_byte_decides, quoted_texts_read_back};
+pub use reader::read_string;
+pub use writer::write_string;

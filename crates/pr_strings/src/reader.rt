@@ -44,7 +44,7 @@ use std::alloc::{AllocError, Global};
 
 /// What a piece of a string means: a byte that stands for itself, or the character of an escape.
 #[derive(Clone, Copy, PartialEq, Eq, Debug)]
-pub enum Piece {
+enum Piece {
     Byte(u8),
     Character(char),
 }

@@ -71,3 +71,16 @@ fn refuses(rt: HostRuntime) {
         assert_eq!(rt; result_of(rt.alloc(), text, b""), Told::Bad(at));
     }
 }
+
+#[test]
+fn writes(rt: HostRuntime) {
+    for (bytes, want) in [
+        (b"".as_slice(), br#"x"""#.as_slice()),
+        (b"a'b`\xC3\xA9\t", b"x\"a'b`\xC3\xA9\t\""),
+        (b"\"\\\n", br#"x"\"\\\n""#),
+    ] {
+        let mut out = Vec::new(rt.alloc());
+        let written = out.push(b'x').is_ok() && write_string(bytes, &mut out).is_ok();
+        assert!(rt; written && out.as_slice() == want);
+    }
+}
