@@ -3,3 +3,4 @@ pub mod StringReading
 pub mod StringPublic
 pub mod StringUtf8
 pub mod Within
+pub mod StringOpen

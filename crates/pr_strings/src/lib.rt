@@ -9,4 +9,4 @@ mod tests;
 
 pub use kind::{Kind, Mark, kind_of};
 pub use laws::one_byte_decides;
-pub use reader::{Piece, read_string};
+pub use reader::{Piece, is_open_at, read_string};
