@@ -1,0 +1,12 @@
+//! The tokens of the query language: names, numbers, durations, strings and signs, each with its place.
+#![tactic(auto)]
+
+mod fault;
+mod number;
+mod part;
+mod reader;
+mod token;
+
+pub use fault::{LexError, LexKind};
+pub use reader::tokens;
+pub use token::{Sign, Token, TokenKind};
