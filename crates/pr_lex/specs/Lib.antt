@@ -2,3 +2,4 @@ pub mod Number
 pub mod Bytes
 pub mod Tokens
 pub mod Reader
+pub mod Words

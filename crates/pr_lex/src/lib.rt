@@ -5,8 +5,12 @@ mod fault;
 mod number;
 mod part;
 mod reader;
+#[cfg(test)]
+mod tests;
 mod token;
+mod words;
 
 pub use fault::{LexError, LexKind};
 pub use reader::tokens;
 pub use token::{Sign, Token, TokenKind};
+pub use words::{Word, word_of};

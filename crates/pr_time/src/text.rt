@@ -329,7 +329,8 @@ fn span_in(text: &[u8]) -> Result<(u64, &[u8]), &[u8]>
 /// The place of the first byte with which the span text at the front of a text cannot go on: so a reader of other texts finds
 /// where one ends.
 pub fn span_end(text: &[u8]) -> usize
-    ensures { IsBadPlace text.now result }
+    ensures place { IsBadPlace text.now result }
+    ensures within { result ≤ length text.now }
 {
     match span_in(text) {
         Ok((_ms, left)) => place_of(text, left),

@@ -7,8 +7,8 @@ place_of-requires c = left_is_short _ c.in-Ok.left.now c.in-Ok._ms c.in-Ok.ensur
 pub place_of-requires-in-Err : goal.place_of-requires-in-Err
 place_of-requires-in-Err c = bad_is_short _ c.in-Err.rest.now c.in-Err.ensures.read
 
-pub returns-in-Ok : goal.returns-in-Ok
-returns-in-Ok c = rw c.place_of.ensures (left_place _ c.in-Ok.left.now c.in-Ok._ms c.in-Ok.ensures.read)
+pub returns-in-Ok-clause-place : goal.returns-in-Ok-clause-place
+returns-in-Ok-clause-place c = rw c.place_of.ensures (left_place _ c.in-Ok.left.now c.in-Ok._ms c.in-Ok.ensures.read)
 
-pub returns-in-Err : goal.returns-in-Err
-returns-in-Err c = rw c.place_of-in-Err.ensures (none_place _ c.in-Err.rest.now c.in-Err.ensures.read)
+pub returns-in-Err-clause-place : goal.returns-in-Err-clause-place
+returns-in-Err-clause-place c = rw c.place_of-in-Err.ensures (none_place _ c.in-Err.rest.now c.in-Err.ensures.read)
