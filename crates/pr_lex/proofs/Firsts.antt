@@ -1,7 +1,7 @@
 -- What the first byte of a text says where a token begins there.
-use Rattle.std.proofs.Common.{◌≡◌, ℕ, ◌+◌, ◌<◌, ◌≤◌, List, [], ◌∷◌, true, false, Bool, length, take, drop, get_or, arith, refl, ap, sym, ◌∙◌, subst, cond, Result, Ok, Err, inl, inr}
+use Rattle.std.proofs.Common.{◌≡◌, ℕ, ◌+◌, ◌<◌, ◌≤◌, List, [], ◌∷◌, true, false, Bool, length, take, drop, arith, refl, sym, subst, cond, Ok, inl, inr}
 use Rattle.std.proofs.lemmas.Bool.{cases_lt}
-use Rattle.std.specs.Prelude.{if◌then◌else◌, ◌==◌, ◌&&◌, ◌||◌, not, nat_le, ◌⊎◌}
+use Rattle.std.specs.Prelude.{if◌then◌else◌, ◌==◌, ◌⊎◌}
 use Rattle.std.proofs.lemmas.List.Sums.{prefix_len-le-length}
 use Rattle.std.specs.List.{prefix_len}
 use Rattle.std.proofs.lemmas.Bool.Decides.{nat_tests}
@@ -13,8 +13,8 @@ use Rattle.pr_lex.specs.declared.part.Class.TheVariants.{Digit, Blank, Line}
 use Rattle.pr_lex.specs.declared.part.Lexeme.{Lexeme}
 use Rattle.pr_lex.specs.declared.part.Lexeme.TheVariants.{Name, Number, Duration, Text, Sign}
 use Rattle.pr_lex.specs.declared.part.Part.{Part}
-use Rattle.pr_lex.specs.declared.part.Part.TheVariants.{End, Gap, Token}
-use Rattle.pr_lex.specs.Bytes.{is_of, is_blank, is_quote, is_digit, is_letter, name_class, front_len, starts_name, starts_unit, digits_lexeme, lexeme_at, part_at}
+use Rattle.pr_lex.specs.declared.part.Part.TheVariants.{Gap, Token}
+use Rattle.pr_lex.specs.Bytes.{is_of, is_blank, is_quote, is_digit, name_class, front_len, starts_name, starts_unit, lexeme_at, part_at}
 
 past_gaps : (x y : Bool) (g h : ℕ) (p : Part) (l : Lexeme) → (if x then Gap g else (if y then Gap h else p)) ≡ Token l → p ≡ Token l
 past_gaps true y g h p l e = cc

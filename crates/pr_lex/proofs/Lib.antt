@@ -6,3 +6,4 @@ pub mod Unique
 pub mod Rests
 pub mod TokensLoop
 pub mod TextStarts
+pub mod Ordered

@@ -1,6 +1,5 @@
 -- The bytes of a name are ASCII, and so they are a text.
-use Rattle.std.proofs.Common.{◌≡◌, ℕ, ◌<◌, ◌≤◌, List, [], ◌∷◌, true, false, Bool, length, take, arith, All}
-use Rattle.std.specs.Prelude.{if◌then◌else◌}
+use Rattle.std.proofs.Common.{◌≡◌, ℕ, ◌<◌, List, true, false, Bool, take, arith, All}
 use Rattle.std.specs.List.{list_all}
 use Rattle.std.specs.Str.{IsUtf8}
 use Rattle.std.proofs.lemmas.Str.{IsUtf8-from_ascii}

@@ -1,11 +1,11 @@
 -- The ways of the functions that read a number.
-use Rattle.std.proofs.Common.{◌≡◌, ℕ, ◌-◌, ◌≤◌, List, [], ◌∷◌, Result, Ok, Err, length, refl}
+use Rattle.std.proofs.Common.{ℕ, ◌-◌, ◌≤◌, List, Result, Ok, Err, length, refl}
 use Rattle.std.specs.Borrow.{Bor}
 use Rattle.pr_forms.specs.Form.{token, rule}
-use Rattle.pr_forms.specs.Run.{Outcome, good, bad, Runs, run_rule, run_pair, run_first, run_second, run_nothing}
+use Rattle.pr_forms.specs.Run.{good, bad, run_rule, run_pair, run_first, run_second, run_nothing}
 use Rattle.pr_forms.proofs.Ways.{take_side, take_side_bad, other_side, take_pair, no_pair, token_goes_on, token_ends}
 use Rattle.pr_forms.proofs.Public.{rest_place, bad_place, left_short}
-use Rattle.pr_lex.specs.Number.{production, table, letter_of, seen, Value, mark, Rule, Number, Fraction, Power, Exponent, Digits, Tail, digit_at, point_at, e_at, plus_minus_at, digits, IsNumberEnd}
+use Rattle.pr_lex.specs.Number.{production, table, letter_of, seen, mark, Number, Fraction, Power, Exponent, Digits, Tail, digit_at, point_at, e_at, plus_minus_at, digits, IsNumberEnd}
 use Rattle.pr_lex.specs.Reader.{Gives, Takes, Lacks, Leads, Ends}
 use Rattle.pr_lex.proofs.NumberTable.{known}
 

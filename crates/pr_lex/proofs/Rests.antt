@@ -1,5 +1,5 @@
 -- Facts of what a token function calls.
-use Rattle.std.proofs.Common.{◌≡◌, ℕ, ◌-◌, ◌≤◌, List, Result, Ok, Err, length, map, drop, refl, ap, sym, ◌∙◌, subst, take, take_all, arith, length-drop}
+use Rattle.std.proofs.Common.{◌≡◌, ℕ, ◌-◌, List, Result, Ok, Err, length, drop, refl, ap, sym, ◌∙◌, subst, take, take_all, arith, length-drop}
 use Rattle.std.proofs.lemmas.List.{length-map, drop-map}
 use Rattle.std.specs.Prelude.{MatchResult}
 use Rattle.std.specs.Result.{IsOk}

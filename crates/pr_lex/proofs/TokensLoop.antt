@@ -1,5 +1,5 @@
 -- What the loop over the tokens of a text keeps.
-use Rattle.std.proofs.Common.{◌≡◌, ℕ, ◌+◌, ◌<◌, ◌≤◌, List, [], ◌∷◌, ◌++◌, Bool, false, length, drop, refl, sym, ◌∙◌, ap, subst, append_assoc, arith, length-drop, Result, Err, ◌^◌}
+use Rattle.std.proofs.Common.{◌≡◌, ℕ, ◌+◌, ◌<◌, ◌≤◌, List, [], ◌∷◌, ◌++◌, Bool, false, length, drop, refl, sym, ◌∙◌, ap, subst, append_assoc, arith, length-drop, Err, ◌^◌}
 use Rattle.std.proofs.lemmas.List.{drop-drop, append-nil}
 use Rattle.pr_lex.specs.declared.token.Token.{Token}
 use Rattle.pr_lex.specs.declared.token.TokenKind.{TokenKind}
@@ -11,7 +11,7 @@ use Rattle.pr_lex.specs.declared.fault.LexError.{LexError}
 use Rattle.pr_lex.specs.declared.fault.LexError.TheVariants.{Fault, Memory}
 use Rattle.pr_lex.specs.Reader.{IsRead, IsWithin, Refuses, Misses, Fits, moved}
 use Rattle.pr_lex.proofs.Unique.{one_list, not_both}
-use Rattle.pr_lex.specs.Tokens.{HasTokens, IsTokenOf, IsFaultOf, inside_after, AreTokens, no_more, past_gap, one_more, IsFirstFault, fault_here, fault_past_gap, fault_past_token}
+use Rattle.pr_lex.specs.Tokens.{HasTokens, IsTokenOf, inside_after, AreTokens, no_more, past_gap, one_more, IsFirstFault, fault_here, fault_past_gap, fault_past_token}
 
 -- The tokens from the place on, after those found, are the tokens of the text; and so is the first fault.
 pub record Found (text : List ℕ) (inside : Bool) (place : ℕ) (found : List Token) : Type 0 where

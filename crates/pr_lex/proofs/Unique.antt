@@ -1,6 +1,6 @@
 -- A text has one list of tokens or one first fault, and not both.
-use Rattle.std.proofs.Common.{◌≡◌, ℕ, ◌+◌, ◌<◌, ◌≤◌, ◌^◌, List, [], ◌∷◌, length, take, drop, refl, ap, sym, ◌∙◌, subst, Bool, true, Result, Ok, Err, arith}
-use Rattle.pr_forms.specs.Form.{Form, rule, Reads}
+use Rattle.std.proofs.Common.{◌≡◌, ℕ, ◌+◌, ◌<◌, ◌≤◌, ◌^◌, List, [], ◌∷◌, take, drop, refl, ap, sym, ◌∙◌, subst, Bool, true, Result, Ok, Err, arith}
+use Rattle.pr_forms.specs.Form.{rule}
 use Rattle.pr_forms.specs.Table.{is_more}
 use Rattle.pr_forms.proofs.Places.{one_place}
 use Rattle.pr_forms.proofs.Readings.{Alike, alike, first_goes_on, second_goes_on, readings_alike, one_reading}
@@ -23,9 +23,8 @@ use Rattle.pr_lex.specs.declared.part.Lexeme.{Lexeme}
 use Rattle.pr_lex.specs.declared.part.Lexeme.TheVariants.{Name, Number, Duration, Text, Sign}
 use Rattle.pr_lex.specs.declared.part.Part.{Part}
 use Rattle.pr_lex.specs.declared.part.Part.TheVariants.{End, Gap, Token as TokenPart}
-use Rattle.pr_lex.specs.Bytes.{part_at, front_len, name_class}
 use Rattle.pr_lex.specs.Number as numbers
-use Rattle.pr_lex.specs.Tokens.{sign_at, IsTokenOf, IsFaultOf, IsNumber, IsDuration, IsText, IsNumberFault, IsDurationFault, IsTextFault, NumberFault, DurationFault, TextFault, AreTokens, no_more, past_gap, one_more, inside_after, IsFirstFault, fault_here, fault_past_gap, fault_past_token}
+use Rattle.pr_lex.specs.Tokens.{sign_at, IsTokenOf, IsFaultOf, IsNumber, IsDuration, IsText, IsNumberFault, IsTextFault, NumberFault, DurationFault, TextFault, AreTokens, no_more, past_gap, one_more, inside_after, IsFirstFault, fault_here, fault_past_gap, fault_past_token}
 
 -- where each kind ends
 number_end : (text : List ℕ) (n m : ℕ) → numbers.IsNumberEnd text n → numbers.IsNumberEnd text m → n ≡ m

@@ -1,5 +1,5 @@
 -- What a text begins with, by its bytes.
-use Rattle.std.specs.Prelude.{ℕ, ◌==◌, nat_le, ◌&&◌, ◌||◌, not, Bool, true, false, List, [], ◌∷◌, drop, if◌then◌else◌}
+use Rattle.std.specs.Prelude.{ℕ, ◌==◌, nat_le, ◌&&◌, ◌||◌, not, Bool, false, List, [], ◌∷◌, drop, if◌then◌else◌}
 use Rattle.std.specs.List.{prefix_len}
 use Rattle.pr_lex.specs.declared.part.Class.{Class}
 use Rattle.pr_lex.specs.declared.part.Class.TheVariants.{Blank, Line, Digit, Name, NameInBrackets}

@@ -3,3 +3,4 @@ pub mod Bytes
 pub mod Tokens
 pub mod Reader
 pub mod Words
+pub mod Order

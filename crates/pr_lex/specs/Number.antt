@@ -1,7 +1,7 @@
 -- The texts of numbers as far as they go on: digits with a point among them or before them, and an exponent. What a whole one
 -- is worth is a definition of pr_num.
 use Rattle.std.specs.Prelude.{ℕ, ◌==◌, nat_le, ◌&&◌, ◌||◌, Bool, true, false, Option, Some, None, List, map, if◌then◌else◌}
-use Rattle.pr_forms.specs.Form.{Form, token, nothing, pair, either, turns, fold, rule, IsFirstBad}
+use Rattle.pr_forms.specs.Form.{Form, token, nothing, pair, either, turns, rule, IsFirstBad}
 use Rattle.pr_forms.specs.Table.{Table}
 use Rattle.pr_lex.specs.declared.number.Letter.{Letter}
 use Rattle.pr_lex.specs.declared.number.Letter.TheVariants.{Digit, Point, E, PlusMinus, Other}

@@ -149,7 +149,8 @@ const LINES: [(&str, &str); 16] = [
 ];
 
 /// A text with all kinds of tokens.
-const EXPRESSION: &str = "sum by (job) (rate(http:x{job=~\"a\\u00e9é\",b!='\\x41'}[5m30s:1h] offset 1w)) # sum\n >= bool 1.5e-3 / on() `c\nd` != .25";
+const EXPRESSION: &str =
+    "sum by (job) (rate(http:x{job=~\"a\\u00e9é\",b!='\\x41'}[5m30s:1h] offset 1w)) # sum\n >= bool 1.5e-3 / on() `c\nd` != .25";
 
 fn sign_text(sign: Sign) -> &'static str {
     match sign {
@@ -239,7 +240,11 @@ fn fronts_are_answered(rt: HostRuntime) -> Result<(), Fail> {
             match tokens(rt.alloc(), front) {
                 Ok(found) => {
                     for token in &found {
-                        assert_eq!(rt; token.start < token.end && token.end <= end, true, "{front}");
+                        assert_eq!(rt;
+                            token.start < token.end && token.end <= end,
+                            true,
+                            "{front}"
+                        );
                     }
                 }
                 Err(LexError::Fault { at, .. }) => assert_eq!(rt; at <= end, true, "{front}"),

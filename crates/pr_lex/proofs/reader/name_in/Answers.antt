@@ -1,4 +1,3 @@
-use Rattle.std.proofs.Common.{arith}
 use Rattle.pr_lex.proofs.NameTexts.{name_is_text}
 use Rattle.pr_lex.proofs.Rests.{text_is_ok}
 use Rattle.pr_lex.proofs.Firsts.{name_long}

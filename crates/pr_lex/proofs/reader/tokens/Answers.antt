@@ -1,8 +1,8 @@
-use Rattle.std.proofs.Common.{arith, sym, drop, length-drop, length}
+use Rattle.std.proofs.Common.{arith, sym, drop, length-drop}
 use Rattle.pr_lex.proofs.Rests.{from_place}
-use Rattle.pr_lex.proofs.Firsts.{gap_long, gap_within}
+use Rattle.pr_lex.proofs.Firsts.{gap_within}
 use Rattle.pr_lex.proofs.TextStarts.{has_text}
-use Rattle.pr_lex.proofs.TokensLoop.{gap_found, token_found, over_found, all_found, fault_found, only_tokens, no_tokens, can_move}
+use Rattle.pr_lex.proofs.TokensLoop.{gap_found, token_found, over_found, fault_found, only_tokens, no_tokens}
 use Rattle.pr_lex.proofs.reader.tokens.Goals as goal
 
 pub overflow_add-place : goal.overflow_add-place

@@ -1,4 +1,4 @@
-use Rattle.std.proofs.Common.{ℕ, ◌-◌, ◌≤◌, length}
+use Rattle.std.proofs.Common.{◌-◌, ◌≤◌, length}
 use Rattle.pr_lex.proofs.TokensLoop.{Found}
 use Rattle.pr_lex.proofs.reader.tokens.Given as goal
 
