@@ -78,17 +78,12 @@ fn text_fault(text: &[u8], rest: &[u8]) -> LexError
     ensures { IsFaulty text.now (length text.now - length rest.now) result }
 {
     let end = place_of(text, rest);
-    if rest.is_empty() || is_open_at(text, end) {
-        LexError::Fault {
-            at: 0,
-            kind: LexKind::OpenText,
-        }
+    let (at, kind) = if rest.is_empty() || is_open_at(text, end) {
+        (0, LexKind::OpenText)
     } else {
-        LexError::Fault {
-            at: end,
-            kind: LexKind::BadEscape,
-        }
-    }
+        (end, LexKind::BadEscape)
+    };
+    LexError::Fault { at, kind }
 }
 
 /// What the string at the front means, and its length.
