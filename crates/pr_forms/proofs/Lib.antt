@@ -11,3 +11,4 @@ pub mod Ways
 pub mod Public
 pub mod Longer
 pub mod Taking
+pub mod Existence

@@ -3,3 +3,4 @@ pub mod Table
 pub mod Run
 pub mod Reader
 pub mod Take
+pub mod Grounded

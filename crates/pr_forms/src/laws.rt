@@ -3,6 +3,7 @@
 ghost use Rattle.std.specs.Prelude.{◌≡◌, ℕ, List, [], ◌++◌, ◌<◌, ◌≤◌, ◌-◌, length, take, drop};
 ghost use Rattle.pr_forms.specs.Form.{Form, rule, Reads, Begins, IsFirstBad};
 ghost use Rattle.pr_forms.specs.Table.{Table, IsDecided};
+ghost use Rattle.pr_forms.specs.Grounded.{IsGrounded};
 ghost use Rattle.pr_forms.specs.Run.{Runs, Outcome, good, bad, left_of};
 
 /// Two readings of a text have the same value, where one token ahead decides the grammar.
@@ -69,4 +70,10 @@ pub fn beginning_before_another_rest<T, N, V>()
 pub fn bad_place_of_a_front<T, N, V>()
     ensures { (G : N → Form T N V) (f : Form T N V) (ts : List T) (m k : ℕ) → k < m → m ≤ length ts →
         IsFirstBad G f (take m ts) k → IsFirstBad G f ts k }
+{}
+
+/// Where no rule leads back to itself before a token is read, every text has a run: so a grammar answers every text.
+pub fn every_text_has_a_run<T, N, V>()
+    ensures { (G : N → Form T N V) (S : Table T N) (n : N) (ts : List T) → IsDecided G S → IsGrounded G S →
+        (o : Outcome T V) × Runs G S (rule n) ts o }
 {}
