@@ -35,12 +35,12 @@ same_turn m w x y v next mid r (goes_on i) e = absurd (no_more m mid i.is)
 no_turn : (m : Mark) (y : Value) (at mid : List Letter) → Agrees table (piece m) (bad at) y mid → ⊥
 no_turn m y at mid (goes_on i) = no_more m mid i.is
 
-step_on : (m : Mark) (w x v : Value) (rest next r : List Letter) → Runs production table (piece m) rest (good x next) → length r < length rest →
+pub step_on : (m : Mark) (w x v : Value) (rest next r : List Letter) → Runs production table (piece m) rest (good x next) → length r < length rest →
     Reads production (pieces_after m w) rest v r → Reads production (pieces_after m (joined w x)) next v r
 step_on m w x v rest next r q lt is_stop = absurd (omega arith)
 step_on m w x v rest next r q lt (is_turn d e) = same_turn m w x _ v next _ r (agrees production table known (decided m) q d) e
 
-no_step : (m : Mark) (w v : Value) (rest at r : List Letter) → Runs production table (piece m) rest (bad at) → length r < length rest → Reads production (pieces_after m w) rest v r → ⊥
+pub no_step : (m : Mark) (w v : Value) (rest at r : List Letter) → Runs production table (piece m) rest (bad at) → length r < length rest → Reads production (pieces_after m w) rest v r → ⊥
 no_step m w v rest at r q lt is_stop = omega arith
 no_step m w v rest at r q lt (is_turn d e) = no_turn m _ at _ (agrees production table known (decided m) q d)
 
@@ -86,9 +86,9 @@ module _ (text : List ℕ) (place : ℕ) (short : place ≤ length text) where
       let h : Quote m ≡ Quote q = sym x.opens ∙ (ap kind_of first ∙ y.opens) in
       (cc, cc)
 
-  -- what an open string says of the pieces from here on
-  open_on : (m : Mark) (body rest : List ℕ) → IsOpening text m body → Along m body rest target → IsOpenAt text place → (v : Value) × Reads production (pieces_after m (content [])) (seen body) v target
-  open_on m body rest o a x =
+  -- what an open string says of the pieces after its quote
+  pub open_on : (m : Mark) (body : List ℕ) → IsOpening text m body → IsOpenAt text place → (v : Value) × Reads production (pieces_after m (content [])) (seen body) v target
+  open_on m body o x =
       let s = same_opening m x.quote body x.rest o x.opening in
       (x.value, subst (λ q. Reads production (pieces_after q (content [])) (seen body) x.value target) (sym s.0)
       (subst (λ b. Reads production (pieces_after x.quote (content [])) (seen b) x.value target) (sym s.1) x.pieces))
@@ -98,7 +98,7 @@ module _ (text : List ℕ) (place : ℕ) (short : place ≤ length text) where
 
   pub not_past_bad : (m : Mark) (body rest : List ℕ) (at : List Letter) → IsOpening text m body → Along m body rest target → length text - place < length rest → Runs production table (piece m) (seen rest) (bad at) → IsOpenAt text place → ⊥
   not_past_bad m body rest at o a lt q x =
-      let d = open_on m body rest o a x in
+      let d = open_on m body o x in
       no_step m a.value d.0 (seen rest) at target q (below rest target _ target_length lt) (a.on d.0 d.1)
 
   pub not_past_none : (m : Mark) (body rest : List ℕ) → IsOpening text m body → Along m body rest target → length text - place < length rest → Lacks (piece m) rest → IsOpenAt text place → ⊥
@@ -110,7 +110,7 @@ module _ (text : List ℕ) (place : ℕ) (short : place ≤ length text) where
 
   pub not_passed : (m : Mark) (body rest : List ℕ) → IsOpening text m body → Along m body rest target → length rest < length text - place → IsOpenAt text place → ⊥
   not_passed m body rest o a lt x =
-      let d = open_on m body rest o a x in
+      let d = open_on m body o x in
       let s = suffix_length (reads_suffix (a.on d.0 d.1)) in
       omega (arith, s, seen_length rest, target_length)
 
