@@ -7,3 +7,5 @@ pub mod Rests
 pub mod TokensLoop
 pub mod TextStarts
 pub mod Ordered
+pub mod Grounds
+pub mod Total

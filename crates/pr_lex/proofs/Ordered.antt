@@ -43,7 +43,7 @@ sign_part [] s n e = cc
 sign_part (a ∷ []) s n e = alone_part a [] s n (one_byte_sign a) e
 sign_part (a ∷ b ∷ rest) s n e = pair_part a b rest s n (longer_sign a (b ∷ rest)) e
 
-token_part : (l : Lexeme) (inside : Bool) (text : List ℕ) (n : ℕ) (token : TokenKind) → part_at inside text ≡ TokenPart l → IsTokenOf l inside text n token → IsPart text n
+pub token_part : (l : Lexeme) (inside : Bool) (text : List ℕ) (n : ℕ) (token : TokenKind) → part_at inside text ≡ TokenPart l → IsTokenOf l inside text n token → IsPart text n
 token_part Name inside text n token e x = record {
   long = subst (λ k. 0 < k) (sym x.longest) (name_long inside text e);
   within = subst (λ k. k ≤ length text) (sym x.longest) (prefix_len-le-length (is_of (name_class inside)) text);

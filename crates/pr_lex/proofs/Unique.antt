@@ -40,7 +40,7 @@ string_end text n m = one_place strings.production (rule strings.Text) (strings.
 one_span : (text : List ℕ) (a b : ℕ) → spans.ReadsSpan text a → spans.ReadsSpan text b → a ≡ b
 one_span text a b d e = let h : spans.span a ≡ spans.span b = one_reading spans.production spans.table span_table.known spans.Text (spans.seen text) (spans.span a) (spans.span b) d e in cc
 
-no_longer_string : (ts : List strings.Letter) → is_more {V = strings.Value} strings.table (rule strings.Text) ts ≡ true → ⊥
+pub no_longer_string : (ts : List strings.Letter) → is_more {V = strings.Value} strings.table (rule strings.Text) ts ≡ true → ⊥
 no_longer_string [] h = cc
 no_longer_string (t ∷ ts) h = cc
 
