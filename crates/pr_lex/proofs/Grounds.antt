@@ -1,10 +1,8 @@
 -- The grammars of numbers and of strings end.
-use Rattle.std.proofs.Common.{◌≡◌, ℕ, zero, suc, ◌+◌, ◌*◌, ◌-◌, ◌<◌, ◌≤◌, Option, Some, None, Bool, true, false, refl, sym, ap, subst, arith}
+use Rattle.std.proofs.Common.{◌≡◌, ℕ, zero, suc, ◌+◌, ◌*◌, ◌<◌, Option, Some, None, Bool, true, false, refl, subst, arith}
 use Rattle.std.specs.Prelude.{if◌then◌else◌}
 use Rattle.pr_forms.specs.Grounded.{GoesInto, Chooses, IsGrounded}
 use Rattle.pr_lex.specs.Number as numbers
-use Rattle.pr_strings.specs.declared.kind.Mark.{Mark}
-use Rattle.pr_strings.specs.declared.kind.Mark.TheVariants.{Double, Single, Back}
 use Rattle.pr_strings.specs.declared.kind.Kind.{Kind}
 use Rattle.pr_strings.specs.declared.kind.Kind.TheVariants.{X, Short, Long}
 use Rattle.pr_strings.specs.Strings as strings

@@ -1,15 +1,15 @@
 -- Every text has its tokens, or a first fault.
-use Rattle.std.proofs.Common.{◌≡◌, ℕ, zero, suc, ◌+◌, ◌-◌, ◌<◌, ◌≤◌, ◌^◌, List, [], ◌∷◌, Bool, true, false, Option, Some, None, Result, Ok, Err, length, take, drop, refl, ap, sym, ◌∙◌, subst, arith, inl, inr, length-drop}
+use Rattle.std.proofs.Common.{◌≡◌, ℕ, zero, suc, ◌+◌, ◌-◌, ◌<◌, ◌≤◌, ◌^◌, List, [], ◌∷◌, Bool, false, Result, Ok, Err, length, take, drop, refl, ap, sym, ◌∙◌, subst, arith, inl, inr, length-drop}
 use Rattle.std.specs.Prelude.{◌⊎◌}
 use Rattle.std.proofs.lemmas.Bool.{cases_lt}
 use Rattle.std.proofs.lemmas.List.{length-map, drop-map}
-use Rattle.pr_forms.specs.Form.{Reads, rule, turns, is_stop, is_turn}
+use Rattle.pr_forms.specs.Form.{Reads, rule, is_stop, is_turn}
 use Rattle.pr_forms.specs.Run.{Runs, Outcome, good, bad, left_of}
 use Rattle.pr_forms.proofs.Existence.{Answered, answered, rule_answered, read_short}
-use Rattle.pr_forms.proofs.Places.{run_place, only_reading}
-use Rattle.pr_forms.proofs.Sound.{meets, reads, begins}
-use Rattle.pr_forms.proofs.Decided.{Agrees, same, goes_on, agrees, rule_decides}
-use Rattle.pr_forms.proofs.Suffixes.{Suffix, here, there, suffix_trans, suffix_drop, suffix_length, reads_suffix, begins_suffix, drop_suffix}
+use Rattle.pr_forms.proofs.Places.{run_place}
+use Rattle.pr_forms.proofs.Sound.{meets, reads}
+use Rattle.pr_forms.proofs.Decided.{Agrees, goes_on, agrees, rule_decides}
+use Rattle.pr_forms.proofs.Suffixes.{Suffix, here, there, suffix_trans, suffix_drop, suffix_length, reads_suffix, drop_suffix}
 use Rattle.pr_num.specs.declared.value.Num.{Num}
 use Rattle.pr_num.specs.declared.text.NumFault.{NumFault}
 use Rattle.pr_num.specs.declared.text.NumFault.TheVariants.{NotNumber, TooWide as WideNumber}
@@ -34,11 +34,11 @@ use Rattle.pr_lex.specs.declared.part.Part.{Part}
 use Rattle.pr_lex.specs.declared.part.Part.TheVariants.{End, Gap, Token as TokenPart}
 use Rattle.pr_lex.specs.Bytes.{part_at, front_len, name_class}
 use Rattle.pr_lex.specs.Number as numbers
-use Rattle.pr_lex.specs.Tokens.{sign_at, IsTokenOf, IsFaultOf, IsDuration, IsLeftOpen, AreTokens, no_more, past_gap, one_more, inside_after, IsFirstFault, fault_here, fault_past_gap, fault_past_token}
+use Rattle.pr_lex.specs.Tokens.{sign_at, IsTokenOf, IsFaultOf, AreTokens, no_more, past_gap, one_more, inside_after, IsFirstFault, fault_here, fault_past_gap, fault_past_token}
 use Rattle.pr_lex.proofs.NumberTable.{known}
 use Rattle.pr_lex.proofs.Grounds.{number_grounded, string_grounded}
 use Rattle.pr_lex.proofs.Firsts.{gap_long, gap_within}
-use Rattle.pr_lex.proofs.Ordered.{IsPart, token_part}
+use Rattle.pr_lex.proofs.Ordered.{token_part}
 use Rattle.pr_lex.proofs.Unique.{no_longer_string}
 
 -- A token, or a fault.
@@ -171,8 +171,12 @@ text_readable inside text = let a = rule_answered strings.production strings.tab
         let d = reads (meets q) in
         let n : ℕ = length (strings.seen text) - length rest in
         let is : rest ≡ strings.seen (drop n text) = sym (suffix_drop (reads_suffix d)) ∙ drop-map strings.letter_of n text in
-        has_token n (TextKind c) (record { longest = end (good (strings.content c) rest) q; content = c;
-            whole = subst (λ r. Reads strings.production (rule strings.Text) (strings.seen text) (strings.content c) r) is d; is = refl })
+        has_token n (TextKind c) (record {
+          longest = end (good (strings.content c) rest) q;
+          content = c;
+          whole = subst (λ r. Reads strings.production (rule strings.Text) (strings.seen text) (strings.content c) r) is d;
+          is = refl;
+        })
 
 sign_readable : (inside : Bool) (text : List ℕ) (r : Result (SignName × ℕ) ℕ) → sign_at text ≡ r → IsReadable Sign inside text
 sign_readable inside text (Ok x) e = has_token x.1 (SignKind x.0) (record { sign = x.0; longest = e; is = refl })
@@ -215,5 +219,5 @@ up_to : (l : ℕ) (inside : Bool) (at : ℕ) (text : List ℕ) → length text �
 up_to zero inside at text le = by_part inside at text (λ i n pos short. absurd (omega arith)) (part_at inside text) refl
 up_to (suc l) inside at text le = by_part inside at text (λ i n pos short. up_to l i (at + n) (drop n text) (omega (arith, length-drop n text))) (part_at inside text) refl
 
-pub lexed : (text : List ℕ) → IsAnswered false 0 text
-lexed text = up_to (length text) false 0 text (omega arith)
+pub answer_of : (text : List ℕ) → IsAnswered false 0 text
+answer_of text = up_to (length text) false 0 text (omega arith)
