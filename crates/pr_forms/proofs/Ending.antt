@@ -35,6 +35,11 @@ less_room k {a} {b} h = let m : k * suc a ≤ k * b = mul-le-mul_left k h in ome
 same_room : (k : ℕ) {a b : ℕ} → a ≤ b → k * a ≤ k * b
 same_room k {a} {b} h = mul-le-mul_left k h
 
+-- What a reader of the form gives at the tokens.
+pub record Answered {T N V : Type 0} (G : N → Form T N V) (S : Table T N) (f : Form T N V) (ts : List T) : Type 0 where
+  pub outcome : Outcome T V
+  pub runs : Runs G S f ts outcome
+
 module _ {T N V : Type 0} (G : N → Form T N V) (S : Table T N) (known : IsDecided G S) where
   -- what cannot be empty reads a token
   pub consumes : {f : Form T N V} {ts rest : List T} {v : V} → Reads G f ts v rest → empty_of S f ≡ false → length rest < length ts
@@ -143,6 +148,10 @@ module _ {T N V : Type 0} (G : N → Form T N V) (S : Table T N) (known : IsDeci
         (λ m i. let k = leb-true (rank m) b (e t m i).1 in ((e t m i).0, given n (rank m) (G m) (t ∷ ts) (known.decides m) (ends.ends m) (omega arith)))
     given (suc n) (suc b) (rule m) ts d e h = let k = leb-true (rank m) b e in rule_given n m ts (given n (rank m) (G m) ts (known.decides m) (ends.ends m) (omega arith))
 
+    -- what a reader of a form gives, in as many steps as a token leaves
+    pub form_answered : (f : Form T N V) (ts : List T) → Decides S f → EndsIn S rank limit limit f → Answered G S f ts
+    form_answered f ts d e = let x = given (limit * length ts + limit) limit f ts d e (omega arith) in record { outcome = x.outcome; runs = x.runs }
+
     some_reading : (o : Outcome T V) (v : V) → whole_value (Some o) ≡ Some v → o ≡ good v []
     some_reading (good w []) v e = cc
     some_reading (good w (t ∷ ts)) v e = absurd (cc)
@@ -153,6 +162,9 @@ module _ {T N V : Type 0} (G : N → Form T N V) (S : Table T N) (known : IsDeci
     rule_runs m ts =
         let k = leb-true (suc (rank m)) limit (ends.below m) in
         given (limit * suc (length ts)) (suc (rank m)) (rule m) ts (rule_decides S m) (le-leb (rank m) (rank m) (omega arith)) (omega (arith, k, mul-suc limit (length ts)))
+
+    pub rule_answered : (m : N) (ts : List T) → Answered G S (rule m) ts
+    rule_answered m ts = let x = rule_runs m ts in record { outcome = x.outcome; runs = x.runs }
 
     -- what the function gives is the reading of the text, and there is no other
     pub given_reads : (m : N) (ts : List T) (v : V) → reading G S limit (rule m) ts ≡ Some v → Reads G (rule m) ts v []

@@ -72,6 +72,12 @@ pub fn bad_place_of_a_front<T, N, V>()
         IsFirstBad G f (take m ts) k → IsFirstBad G f ts k }
 {}
 
+/// Every text has a run, where the grammar ends: so a grammar answers every text.
+pub fn every_text_has_a_run<T, N, V>()
+    ensures { (G : N → Form T N V) (S : Table T N) (rank : N → ℕ) (limit : ℕ) (n : N) (ts : List T) → IsDecided G S → Ends G S rank limit →
+        (o : Outcome T V) × Runs G S (rule n) ts o }
+{}
+
 /// The reading of a text is a function of it, where the grammar ends: what the function gives is the reading, and each
 /// reading is given.
 pub fn reading_is_a_function<T, N, V>()

@@ -7,3 +7,4 @@ pub mod Within
 pub mod Written
 pub mod Fronts
 pub mod WrittenUtf8
+pub mod StringOpen

@@ -9,7 +9,8 @@ use Rattle.pr_forms.specs.declared.reader.Fault.{Fault}
 use Rattle.pr_forms.specs.declared.reader.Fault.TheVariants.{Bad, Memory}
 use Rattle.pr_strings.specs.declared.reader.Piece.{Piece}
 use Rattle.pr_strings.specs.declared.reader.Piece.TheVariants.{Byte, Character}
-use Rattle.pr_strings.specs.Strings.{production, table, seen, Letter, Rule, Value, content, IsBadPlace}
+use Rattle.pr_strings.specs.Strings.{production, table, seen, Letter, Rule, Value, content, IsBadPlace, IsOpening}
+use Rattle.pr_strings.specs.declared.kind.Mark.{Mark}
 
 abbrev pub Gives : Form Letter Rule Value → List ℕ → Outcome Letter Value → Type 0
 Gives f text o = Runs production table f (seen text) o
@@ -31,9 +32,14 @@ pub record Breaks (f : Form Letter Rule Value) (text rest : List ℕ) : Type 0 w
 abbrev pub FailsAt : Form Letter Rule Value → List ℕ → Fault ℕ → Type 0
 FailsAt f text fault = FailsBy seen production table f (seen text) fault
 
+-- A reader that takes no memory breaks off at the fault's text.
 abbrev pub BreaksAt : Form Letter Rule Value → List ℕ → Fault ℕ → Type 0
 BreaksAt f text (Bad rest) = Breaks f text rest.now
-BreaksAt f text Memory = Unit {0}
+BreaksAt f text Memory = ⊥
+
+-- The text does not begin with a quote.
+abbrev pub HasNoOpening : List ℕ → Type 0
+HasNoOpening text = (quote : Mark) (rest : List ℕ) → IsOpening text quote rest → ⊥
 
 -- a limit of characters and a number of digits, as escapes have them
 pub record IsNumbering (limit digits : ℕ) : Type 0 where

@@ -1,5 +1,5 @@
 -- The strings of the query language: what they read, and where they are bad.
-use Rattle.std.specs.Prelude.{ℕ, zero, suc, ◌+◌, ◌-◌, ◌*◌, ◌^◌, ◌==◌, nat_le, ◌&&◌, ◌||◌, not, Bool, true, false, Option, Some, None, is_some, List, [], ◌∷◌, ◌++◌, map, encode_utf8, if◌then◌else◌}
+use Rattle.std.specs.Prelude.{◌≡◌, ℕ, zero, suc, ◌+◌, ◌-◌, ◌*◌, ◌^◌, ◌==◌, nat_le, ◌&&◌, ◌||◌, not, Bool, true, false, Option, Some, None, is_some, List, [], ◌∷◌, ◌++◌, drop, map, encode_utf8, if◌then◌else◌}
 use Rattle.pr_forms.specs.Form.{Form, token, nothing, pair, either, turns, chosen, rule, Reads, IsFirstBad}
 use Rattle.pr_forms.specs.Table.{Table}
 use Rattle.pr_strings.specs.declared.kind.Mark.{Mark}
@@ -228,3 +228,17 @@ IsString text bytes rest = Reads production (rule Text) (seen text) (content byt
 -- The place is the first one at which no string can go on.
 abbrev pub IsBadPlace : List ℕ → ℕ → Type 0
 IsBadPlace text place = IsFirstBad production (rule Text) (seen text) place
+
+-- The text begins with a quote, and the rest follows it.
+pub record IsOpening (text : List ℕ) (quote : Mark) (rest : List ℕ) : Type 0 where
+  pub first : ℕ
+  pub is : text ≡ first ∷ rest
+  pub opens : kind_of first ≡ Quote quote
+
+-- The bytes between the first quote of the text and the place are whole pieces: a string could end there.
+pub record IsOpenAt (text : List ℕ) (place : ℕ) : Type 0 where
+  pub quote : Mark
+  pub rest : List ℕ
+  pub opening : IsOpening text quote rest
+  pub value : Value
+  pub pieces : Reads production (turns joined (content []) (piece quote)) (seen rest) value (drop place (seen text))

@@ -11,5 +11,5 @@ mod writer;
 
 pub use kind::{Kind, Mark, kind_of};
 pub use laws::{one_byte_decides, quoted_texts_read_back};
-pub use reader::read_string;
+pub use reader::{is_open_at, read_string};
 pub use writer::write_string;

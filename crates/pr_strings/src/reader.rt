@@ -1,5 +1,5 @@
 //! Reading a string at the front of a text.
-ghost use Rattle.std.specs.Prelude.{◌≡◌, ℕ, suc, ◌-◌, List, [], ◌++◌, ◌<◌, ◌≤◌, ◌^◌, true, length, IfOk, IfErr, IfSome, OnOk, MatchOption, MatchResult, option_map, encode_utf8};
+ghost use Rattle.std.specs.Prelude.{◌≡◌, ℕ, suc, ◌-◌, List, [], ◌++◌, ◌<◌, ◌≤◌, ◌^◌, true, length, IfOk, IfErr, IfSome, OnOk, MatchBool, MatchOption, MatchResult, option_map, encode_utf8};
 ghost use Rattle.pr_forms.specs.Form.{rule, Reads};
 ghost use Rattle.pr_forms.specs.Run.{good, bad};
 ghost use Rattle.pr_strings.specs.Strings.{
@@ -29,12 +29,14 @@ ghost use Rattle.pr_strings.specs.Strings.{
   production,
   IsString,
   IsBadPlace,
+  IsOpening,
+  IsOpenAt,
   numbering,
   numbered_by,
   numbered,
   nothing_follows,
 };
-ghost use Rattle.pr_strings.specs.Reader.{Gives, Takes, Lacks, Leads, BreaksAt, FailsAt, IsNumbering, bytes_of, Refuses, IsMemory, IsNoLonger, IsOnly, KeepsText, KeepsFront, SplitsText};
+ghost use Rattle.pr_strings.specs.Reader.{HasNoOpening, Gives, Takes, Lacks, Leads, BreaksAt, FailsAt, IsNumbering, bytes_of, Refuses, IsMemory, IsNoLonger, IsOnly, KeepsText, KeepsFront, SplitsText};
 ghost use Rattle.std.specs.Char.{IsScalar};
 ghost use Rattle.pr_forms.specs.Form.{token, chosen};
 
@@ -338,6 +340,7 @@ fn quoted_in(alloc: Global, mark: Mark, text: &[u8]) -> Result<(Vec<u8>, &[u8]),
 
 /// The quote at the front, and what follows it.
 fn opening_in(text: &[u8]) -> Option<(Mark, &[u8])>
+    ensures opens { MatchOption result (HasNoOpening text.now) (λ x. IsOpening text.now x.0 x.1.now) }
     ensures read { MatchOption result (Gives (rule Text) text.now (bad (seen text.now))) (λ x. Leads (rule Text) text.now (rule (Quoted x.0)) x.1.now) }
     ensures shorter { IfSome result (λ x. length x.1.now < length text.now) }
     ensures text { IfSome result (λ x. KeepsText text.now x.1.now) }
@@ -376,4 +379,24 @@ pub fn read_string(alloc: Global, text: &[u8]) -> Result<(Vec<u8>, &[u8]), Fault
         Some((mark, after)) => quoted_in(alloc, mark, after),
         None => Err(Fault::Bad(text)),
     }
+}
+
+/// Whether a string that begins with the text could end at the place: only whole pieces stand between its first quote and
+/// the place. So a reader of other texts tells a string that is left open from one that breaks off inside an escape.
+pub fn is_open_at(text: &[u8], place: usize) -> bool
+    requires { place ≤ length text.now }
+    ensures { MatchBool result (IsOpenAt text.now place) (IsOpenAt text.now place → ⊥) }
+{
+    let Some((mark, after)) = opening_in(text) else {
+        return false;
+    };
+    let mut rest = after;
+    while rest.len() > text.len() - place {
+        match piece_in(mark, rest) {
+            Ok(Some((_piece, next))) => rest = next,
+            Ok(None) => return false,
+            Err(_) => return false,
+        }
+    }
+    rest.len() == text.len() - place
 }

@@ -6,3 +6,4 @@ pub mod SpanPrint
 pub mod SpanRead
 pub mod SpanParts
 pub mod SpanKnown
+pub mod SpanTotal

@@ -1,7 +1,7 @@
 //! The laws of span texts, each as the contract of a function that does nothing.
-ghost use Rattle.std.specs.Prelude.{◌≡◌, ℕ, List, ◌≤◌, ◌^◌};
+ghost use Rattle.std.specs.Prelude.{◌≡◌, ℕ, List, ◌≤◌, ◌^◌, ◌⊎◌};
 ghost use Rattle.pr_forms.specs.Table.{IsDecided};
-ghost use Rattle.pr_time.specs.SpanText.{production, table, seen, ReadsSpan};
+ghost use Rattle.pr_time.specs.SpanText.{production, table, seen, ReadsSpan, IsBadPlace};
 ghost use Rattle.pr_time.specs.SpanParts.{IsSpanText};
 ghost use Rattle.pr_time.specs.SpanShown.{shown_span};
 
@@ -13,6 +13,12 @@ pub fn one_byte_decides()
 /// A text reads as one span at most.
 pub fn text_reads_as_one_span()
     ensures { (text : List ℕ) (m n : ℕ) → ReadsSpan text m → ReadsSpan text n → m ≡ n }
+{}
+
+/// Each text is a span text or none, and has a first place at which no span text can go on.
+pub fn text_is_a_span_or_none()
+    ensures whole { (text : List ℕ) → ((ms : ℕ) × ReadsSpan text ms) ⊎ ((ms : ℕ) → ReadsSpan text ms → ⊥) }
+    ensures place { (text : List ℕ) → (n : ℕ) × IsBadPlace text n }
 {}
 
 /// A span that is printed reads as that span.

@@ -9,5 +9,5 @@ mod text;
 mod value;
 
 pub use print::write_span;
-pub use text::{SpanFault, read_span};
+pub use text::{SpanFault, read_span, span_end};
 pub use value::{Ms, Span};

@@ -326,6 +326,18 @@ fn span_in(text: &[u8]) -> Result<(u64, &[u8]), &[u8]>
     }
 }
 
+/// The place of the first byte with which the span text at the front of a text cannot go on: so a reader of other texts finds
+/// where one ends.
+pub fn span_end(text: &[u8]) -> usize
+    ensures place { IsBadPlace text.now result }
+    ensures within { result ≤ length text.now }
+{
+    match span_in(text) {
+        Ok((_ms, left)) => place_of(text, left),
+        Err(rest) => place_of(text, rest),
+    }
+}
+
 /// The span that a text writes: `0`, or numbers with a unit each, from the greatest unit down and none twice, out of
 /// `y w d h m s ms`. A year has 365 days (the form of durations in the Prometheus documentation, "Querying basics"; that a
 /// span ends at 2^40 ms is our own choice).

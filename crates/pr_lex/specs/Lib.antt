@@ -1,0 +1,6 @@
+pub mod Number
+pub mod Bytes
+pub mod Tokens
+pub mod Reader
+pub mod Words
+pub mod Order

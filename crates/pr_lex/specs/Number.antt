@@ -1,0 +1,112 @@
+-- The texts of numbers as far as they go on: digits with a point among them or before them, and an exponent. What a whole one
+-- is worth is a definition of pr_num.
+use Rattle.std.specs.Prelude.{ℕ, ◌==◌, nat_le, ◌&&◌, ◌||◌, Bool, true, false, Option, Some, None, List, map, if◌then◌else◌}
+use Rattle.pr_forms.specs.Form.{Form, token, nothing, pair, either, turns, rule, IsFirstBad}
+use Rattle.pr_forms.specs.Table.{Table}
+use Rattle.pr_lex.specs.declared.number.Letter.{Letter}
+use Rattle.pr_lex.specs.declared.number.Letter.TheVariants.{Digit, Point, E, PlusMinus, Other}
+
+-- what a byte is to a number
+abbrev pub letter_of : ℕ → Letter
+letter_of b =
+    if nat_le 48 b && nat_le b 57 then Digit else (if b == 46 then Point else (if b == 101 || b == 69 then E else (if b == 43 || b == 45 then PlusMinus else Other)))
+
+-- the bytes as the grammar sees them
+abbrev pub seen : List ℕ → List Letter
+seen = map letter_of
+
+-- What stands for a part of a number: nothing but that it is there.
+pub data Value : Type 0 where
+  mark : Value
+
+-- The rules.
+pub data Rule : Type 0 where
+  -- a number
+  Number : Rule
+  -- what may follow its first digits
+  Fraction : Rule
+  -- an exponent with its letter, which there need not be
+  Power : Rule
+  -- an exponent after its letter
+  Exponent : Rule
+  -- a digit or more
+  Digits : Rule
+  -- what stands after a point at the front
+  Tail : Rule
+
+abbrev pub digit_at : Letter → Option Value
+digit_at Digit = Some mark
+digit_at _ = None
+
+abbrev pub point_at : Letter → Option Value
+point_at Point = Some mark
+point_at _ = None
+
+abbrev pub e_at : Letter → Option Value
+e_at E = Some mark
+e_at _ = None
+
+abbrev pub plus_minus_at : Letter → Option Value
+plus_minus_at PlusMinus = Some mark
+plus_minus_at _ = None
+
+abbrev pub digit : Form Letter Rule Value
+digit = token digit_at
+
+abbrev pub both : Value → Value → Value
+both v w = mark
+
+-- any number of digits
+abbrev pub digits : Form Letter Rule Value
+digits = turns both mark digit
+
+-- The productions:
+--   number   = "." tail | digits fraction
+--   tail     = digits power
+--   fraction = "." {digit} power | power
+--   power    = ("e" | "E") exponent |
+--   exponent = ("+" | "-") digits | digits
+--   digits   = digit {digit}
+abbrev pub production : Rule → Form Letter Rule Value
+production Number = either (pair both (token point_at) (rule Tail)) (pair both (rule Digits) (rule Fraction))
+production Tail = pair both (rule Digits) (rule Power)
+production Fraction = either (pair both (token point_at) (pair both digits (rule Power))) (rule Power)
+production Power = either (pair both (token e_at) (rule Exponent)) (nothing mark)
+production Exponent = either (pair both (token plus_minus_at) (rule Digits)) (rule Digits)
+production Digits = pair both digit digits
+
+-- What one byte ahead tells of the rules.
+abbrev pub starts_rule : Rule → Letter → Bool
+starts_rule Number Digit = true
+starts_rule Number Point = true
+starts_rule Fraction Point = true
+starts_rule Fraction E = true
+starts_rule Power E = true
+starts_rule Exponent PlusMinus = true
+starts_rule Exponent Digit = true
+starts_rule Digits Digit = true
+starts_rule Tail Digit = true
+starts_rule n t = false
+
+abbrev pub empty_rule : Rule → Bool
+empty_rule Fraction = true
+empty_rule Power = true
+empty_rule _ = false
+
+-- after a whole one more digits, a point or an exponent may come
+abbrev pub more_rule : Rule → Letter → Bool
+more_rule n Digit = true
+more_rule Number Point = true
+more_rule Number E = true
+more_rule Fraction Point = true
+more_rule Fraction E = true
+more_rule Power E = true
+more_rule Tail E = true
+more_rule n t = false
+
+abbrev pub table : Table Letter Rule
+table = record { empty = empty_rule; starts = starts_rule; more = more_rule }
+
+-- The place is the first one at which no number can go on.
+abbrev pub IsNumberEnd : List ℕ → ℕ → Type 0
+IsNumberEnd text place = IsFirstBad production (rule Number) (seen text) place

@@ -1,0 +1,71 @@
+-- What the functions that read tokens say of themselves.
+use Rattle.std.specs.Prelude.{ℕ, ◌+◌, ◌^◌, ◌<◌, ◌≤◌, List, length, Bool, Result, Ok, Err}
+use Rattle.std.specs.Borrow.{Bor}
+use Rattle.std.specs.Str.{IsUtf8}
+use Rattle.pr_forms.specs.Form.{Form, rule}
+use Rattle.pr_forms.specs.Run.{Outcome, good, bad, Runs, Takes as TakesBy, Lacks as LacksBy, Leads as LeadsBy}
+use Rattle.pr_lex.specs.declared.number.Letter.{Letter}
+use Rattle.pr_lex.specs.declared.token.TokenKind.{TokenKind}
+use Rattle.pr_lex.specs.declared.fault.LexError.{LexError}
+use Rattle.pr_lex.specs.declared.fault.LexError.TheVariants.{Fault, Memory}
+use Rattle.pr_lex.specs.declared.part.Lexeme.{Lexeme}
+use Rattle.pr_lex.specs.declared.part.Lexeme.TheVariants.{Text as TextLexeme}
+use Rattle.pr_lex.specs.Number.{production, table, seen, Value, mark, Rule}
+use Rattle.pr_lex.specs.Tokens.{IsTokenOf, IsFaultOf, TextFault, HasFault}
+
+abbrev pub Gives : Form Letter Rule Value → List ℕ → Outcome Letter Value → Type 0
+Gives f text o = Runs production table f (seen text) o
+
+abbrev pub Takes : Form Letter Rule Value → List ℕ → List ℕ → Type 0
+Takes f text rest = TakesBy production table f (seen text) mark (seen rest)
+
+abbrev pub Lacks : Form Letter Rule Value → List ℕ → Type 0
+Lacks f text = LacksBy production table f (seen text)
+
+abbrev pub Leads : Form Letter Rule Value → List ℕ → Form Letter Rule Value → List ℕ → Type 0
+Leads f text g rest = LeadsBy production table f (seen text) g (seen rest)
+
+-- The reader of a rule gives what follows it, or fails at the rest.
+abbrev pub Ends : Rule → List ℕ → Result (Bor (List ℕ)) (Bor (List ℕ)) → Type 0
+Ends n text (Ok rest) = Gives (rule n) text (good mark (seen rest.now))
+Ends n text (Err rest) = Gives (rule n) text (bad (seen rest.now))
+
+-- The token that the text begins with, or its fault in the text, unless memory runs out.
+abbrev pub IsRead : Lexeme → Bool → List ℕ → Result (TokenKind × ℕ) LexError → Type 0
+IsRead lexeme inside text (Ok x) = IsTokenOf lexeme inside text x.1 x.0
+IsRead lexeme inside text (Err (Fault at kind)) = IsFaultOf lexeme text at kind
+IsRead lexeme inside text (Err Memory) = Unit {0}
+
+-- What is wrong with a string that goes on up to `end`.
+abbrev pub IsFaulty : List ℕ → ℕ → LexError → Type 0
+IsFaulty text end (Fault at kind) = TextFault kind text end at
+IsFaulty text end Memory = ⊥
+
+-- The place of a fault is in the text, or at its end.
+abbrev pub IsWithin : List ℕ → LexError → Type 0
+IsWithin text (Fault at kind) = at ≤ length text
+IsWithin text Memory = Unit {0}
+
+-- A fault of a text that stands at a place of another one, as a fault of that one, and that its place is a number of the code.
+abbrev pub moved : ℕ → LexError → LexError
+moved place (Fault at kind) = Fault (place + at) kind
+moved place Memory = Memory
+
+abbrev pub Fits : ℕ → LexError → Type 0
+Fits place (Fault at kind) = place + at < 2 ^ 64
+Fits place Memory = Unit {0}
+
+-- A string is read from UTF-8.
+abbrev pub HasText : Lexeme → List ℕ → Type 0
+HasText TextLexeme text = IsUtf8 text
+HasText _ text = Unit {0}
+
+-- A fault is the first one of the text.
+abbrev pub Refuses : List ℕ → LexError → Type 0
+Refuses text (Fault at kind) = HasFault text at kind
+Refuses text Memory = Unit {0}
+
+-- Only want of memory keeps tokens from being answered.
+abbrev pub Misses : LexError → Type 0
+Misses (Fault at kind) = ⊥
+Misses Memory = Unit {0}

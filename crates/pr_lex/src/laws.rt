@@ -1,0 +1,30 @@
+//! The laws of tokens, each as the contract of a function that does nothing.
+ghost use Rattle.std.specs.Prelude.{◌≡◌, ℕ, List, length, ◌⊎◌};
+ghost use Rattle.pr_forms.specs.Table.{IsDecided};
+ghost use Rattle.pr_lex.specs.declared.token.Token.{Token};
+ghost use Rattle.pr_lex.specs.declared.fault.LexKind.{LexKind};
+ghost use Rattle.pr_lex.specs.Number.{production, table};
+ghost use Rattle.pr_lex.specs.Tokens.{HasTokens, HasFault};
+ghost use Rattle.pr_lex.specs.Order.{AreInOrder};
+
+/// One byte ahead decides the grammar of numbers.
+pub fn one_byte_decides_numbers()
+    ensures { IsDecided production table }
+{}
+
+/// A text has one list of tokens at most, or one first fault, and not both.
+pub fn tokens_or_one_fault()
+    ensures tokens { (text : List ℕ) (ts us : List Token) → HasTokens text ts → HasTokens text us → ts ≡ us }
+    ensures fault { (text : List ℕ) (p q : ℕ) (k j : LexKind) → HasFault text p k → HasFault text q j → (p ≡ q) × (k ≡ j) }
+    ensures apart { (text : List ℕ) (ts : List Token) (place : ℕ) (kind : LexKind) → HasTokens text ts → HasFault text place kind → ⊥ }
+{}
+
+/// Each text has its tokens or a first fault.
+pub fn every_text_is_answered()
+    ensures { (text : List ℕ) → ((tokens : List Token) × HasTokens text tokens) ⊎ ((place : ℕ) × ((kind : LexKind) × HasFault text place kind)) }
+{}
+
+/// The tokens of a text lie in it in their order, none is empty, and no two of them overlap.
+pub fn tokens_lie_in_order()
+    ensures { (text : List ℕ) (tokens : List Token) → HasTokens text tokens → AreInOrder 0 tokens (length text) }
+{}

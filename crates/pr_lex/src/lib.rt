@@ -1,0 +1,17 @@
+//! The tokens of the query language: names, numbers, durations, strings and signs, each with its place.
+#![tactic(auto)]
+
+mod fault;
+pub mod laws;
+mod number;
+mod part;
+mod reader;
+#[cfg(test)]
+mod tests;
+mod token;
+mod words;
+
+pub use fault::{LexError, LexKind};
+pub use reader::tokens;
+pub use token::{Sign, Token, TokenKind};
+pub use words::{Word, word_of};
