@@ -1,4 +1,3 @@
-pub mod Keywords
 pub mod Script
 pub mod Printed
 pub mod Told

@@ -1,5 +1,5 @@
 -- The lines of a script, and the events that they spell.
-use Rattle.std.specs.Prelude.{ℕ, ◌^◌, Bool, false, not, ◌&&◌, ◌||◌, cond, ◌==◌, nat_lt, List, [], ◌∷◌, length, codes, Option, Some, None, Result, Ok, Err}
+use Rattle.std.specs.Prelude.{ℕ, ◌^◌, Bool, false, not, ◌&&◌, ◌||◌, cond, ◌==◌, nat_lt, List, [], ◌∷◌, length, codes, Option, Some, None, is_some, Result, Ok, Err}
 use Rattle.std.specs.List.{list_all}
 use Rattle.std.specs.Str.{bytes_eq, is_utf8}
 use Rattle.std.specs.Str.Parse.{digits_value}
@@ -10,13 +10,13 @@ use Rattle.pr_num.specs.declared.value.Point.TheVariants.{Value, Stale}
 use Rattle.pr_num.specs.declared.text.NumFault.{NumFault}
 use Rattle.pr_num.specs.Reads.{reads}
 use Rattle.pr_labels.specs.declared.pair.Pair.{Pair}
+use Rattle.pr_lex.specs.Words.{word_of}
 use Rattle.pr_labels.specs.LabelSet.{metric_label, value_of}
 use Rattle.pr_labels.specs.SeriesReading.{series_labels}
 use Rattle.pr_labels.specs.SeriesText.{series_text}
 use Rattle.pr_words.specs.Fields.{without_trailing, first_field, after_field, last_field, before_last_field}
 use Rattle.pr_world.specs.declared.event.Event.{Event}
 use Rattle.pr_world.specs.declared.event.Event.TheVariants.{Add, Query}
-use Rattle.pr_top.specs.Keywords.{is_keyword}
 
 -- a line that begins so is a comment
 abbrev pub is_comment : List ℕ → Bool
@@ -51,14 +51,14 @@ point_of text = cond (bytes_eq text (codes "stale")) (Some Stale) (point_read (r
 abbrev pub series_of : List ℕ → Option (List Pair)
 series_of text = cond (is_utf8 text) (series_labels text) None
 
--- whether a metric's name, where there is one, is a word of the query language
-abbrev pub is_word : Option (List ℕ) → Bool
-is_word None = false
-is_word (Some name) = is_keyword name
+-- whether a metric's name, where there is one, is a word of the query language, in any case
+abbrev pub is_reserved : Option (List ℕ) → Bool
+is_reserved None = false
+is_reserved (Some name) = is_some (word_of name)
 
 -- whether a label set can be asked for by the text: it has labels, its metric's name is no word, and the text is as it is printed
 abbrev pub is_selector : List ℕ → List Pair → Bool
-is_selector text labels = nat_lt 0 (length labels) && (not (is_word (value_of labels metric_label)) && bytes_eq (series_text labels) text)
+is_selector text labels = nat_lt 0 (length labels) && (not (is_reserved (value_of labels metric_label)) && bytes_eq (series_text labels) text)
 
 abbrev pub selector_by : List ℕ → Option (List Pair) → Option (List Pair)
 selector_by text None = None

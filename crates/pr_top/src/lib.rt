@@ -4,7 +4,6 @@
 mod engine;
 mod examples;
 mod history;
-mod keywords;
 mod output;
 mod run;
 mod script;

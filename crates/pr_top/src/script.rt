@@ -7,10 +7,10 @@ ghost use Rattle.std.specs.Str.Parse.{digits_value};
 ghost use Rattle.pr_labels.specs.LabelSet.{metric_label, value_of};
 ghost use Rattle.pr_labels.specs.SeriesReading.{series_labels};
 ghost use Rattle.pr_labels.specs.SeriesText.{series_text};
-ghost use Rattle.pr_top.specs.Script.{is_comment, is_passed_over, begins_with_zero, is_decimal, time_of, point_of, series_of, is_word, is_selector, selector_of, add_of, query_of, add_in, query_in, event_by, event_of};
+ghost use Rattle.pr_top.specs.Script.{is_comment, is_passed_over, begins_with_zero, is_decimal, time_of, point_of, series_of, is_reserved, is_selector, selector_of, add_of, query_of, add_in, query_in, event_by, event_of};
 
-use super::keywords::is_keyword;
 use pr_labels::{Labels, TextFault, read_series_text};
+use pr_lex::word_of;
 use pr_num::Point;
 use pr_time::Ms;
 use pr_words::{split_first, split_last, without_trailing};
@@ -127,11 +127,12 @@ fn is_printed(alloc: Global, labels: &Labels, text: &[u8]) -> Result<bool, Alloc
     Ok(printed.as_slice() == text)
 }
 
-fn has_word(labels: &Labels) -> bool
-    ensures { result ≡ is_word (value_of labels.now metric_label) }
+/// Whether the metric's name, where there is one, is a word of the query language.
+fn is_reserved(labels: &Labels) -> bool
+    ensures { result ≡ is_reserved (value_of labels.now metric_label) }
 {
     match labels.get("__name__") {
-        Some(name) => is_keyword(name),
+        Some(name) => word_of(name).is_some(),
         None => false,
     }
 }
@@ -139,7 +140,7 @@ fn has_word(labels: &Labels) -> bool
 fn is_selector(alloc: Global, text: &[u8], labels: &Labels) -> Result<bool, AllocError>
     ensures { IfOk result (λ b. b ≡ is_selector text.now labels.now) }
 {
-    if labels.pairs().is_empty() || has_word(labels) {
+    if labels.pairs().is_empty() || is_reserved(labels) {
         return Ok(false);
     }
     is_printed(alloc, labels, text)

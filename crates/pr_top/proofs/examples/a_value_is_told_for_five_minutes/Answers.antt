@@ -8,11 +8,11 @@ use Rattle.pr_num.specs.Reads.{reads}
 use Rattle.pr_num.specs.Shown.{shown}
 use Rattle.pr_labels.specs.SeriesText.{series_text}
 use Rattle.pr_labels.proofs.SeriesExamples.{metric}
-use Rattle.pr_top.specs.Keywords.{is_keyword, keywords, same_word}
+use Rattle.pr_lex.specs.Words.{is_word, word_of, word_text, words}
 use Rattle.pr_top.proofs.examples.a_value_is_told_for_five_minutes.Goals as goal
 
 pub returns : goal.returns
-unfolding half_abs reads shown series_text is_keyword keywords same_word
+unfolding half_abs reads shown series_text is_word word_of word_text words
 returns c =
     let zero : decimal 0 ≡ 48 ∷ [] = decimal_digit 0 (lit< tt) in
     let one : decimal 1 ≡ 49 ∷ [] = decimal_digit 1 (lit< tt) in
