@@ -1,5 +1,5 @@
 -- The grammar of series texts ends: so the labels of a text are a function of it.
-use Rattle.std.proofs.Common.{◌≡◌, ℕ, suc, nat_le, Option, Some, None, Bool, true, false, List, [], ◌∷◌, ◌++◌, refl, ap, arith}
+use Rattle.std.proofs.Common.{◌≡◌, ℕ, suc, nat_le, Option, Some, None, Bool, true, false, List, [], ◌∷◌, ◌++◌, refl, sym, ap, arith}
 use Rattle.std.proofs.lemmas.Bool.{leb-true, le-leb}
 use Rattle.std.specs.Prelude.{if◌then◌else◌}
 use Rattle.pr_forms.specs.Form.{rule, Reads}
@@ -10,7 +10,7 @@ use Rattle.pr_strings.specs.Strings.{Letter, letter, seen}
 use Rattle.pr_strings.proofs.StringEnds as string_ends
 use Rattle.pr_strings.proofs.Within.{ends_within}
 use Rattle.pr_labels.specs.declared.pair.Pair.{Pair}
-use Rattle.pr_labels.specs.SeriesGrammar.{production, table, place, Rule, Series, MetricByte, MetricRest, Tail, Listed, Braces, Items, Item, NameByte, NameRest, Named, After, Next, InString, Value, listed, quoted, mark, ReadsSeries, IsBadPlace, metric_start, metric_byte, name_start, name_byte, is_metric_letter, is_metric_byte, is_letter, is_label_byte}
+use Rattle.pr_labels.specs.SeriesGrammar.{production, table, place, Rule, Series, MetricByte, MetricRest, Tail, Listed, Braces, Items, Item, NameByte, NameRest, Named, After, Next, InString, Value, listed, quoted, mark, ReadsSeries, ReadsLabels, IsBadPlace, metric_start, metric_byte, name_start, name_byte, is_metric_letter, is_metric_byte, is_letter, is_label_byte}
 use Rattle.pr_labels.specs.SeriesReading.{rank, steps, pairs_in, series_pairs, bad_series_place, series_labels, HasNoLabels}
 use Rattle.pr_labels.specs.declared.series.TextFault.{TextFault}
 use Rattle.pr_labels.specs.declared.series.TextFault.TheVariants.{BadLabels, Memory}
@@ -18,6 +18,8 @@ use Rattle.pr_labels.specs.SeriesReader.{Refuses, Misses}
 use Rattle.pr_labels.specs.Edits.{labels_of}
 use Rattle.std.specs.Option.{option_map}
 use Rattle.pr_forms.proofs.Places.{one_place}
+use Rattle.pr_labels.specs.LabelSet.{IsLabelSet}
+use Rattle.pr_labels.proofs.SeriesNames.{read_is_set}
 use Rattle.pr_labels.proofs.SeriesTable.{known, same_empty, same_starts, same_more}
 
 -- the rule that a byte of a name chooses reads that byte
@@ -119,3 +121,15 @@ one_bad_place text at h = one_place production (rule Series) (seen text) at (bad
 pub refused_has_none : (text : List ℕ) (fault : TextFault) → ((v : Value) → Reads production (rule Series) (seen text) v [] → Misses fault) → Refuses text fault → HasNoLabels text fault
 refused_has_none text (BadLabels at) h p = (no_labels text (λ pairs d. h (listed pairs) d), one_bad_place text at p)
 refused_has_none text Memory h p = tt
+
+-- what the function gives is a label set, and that of the text's reading
+pairs_of_labels : (text : List ℕ) (o : Option (List Pair)) (ls : List Pair) → series_pairs text ≡ o → option_map labels_of o ≡ Some ls → ReadsLabels text ls
+pairs_of_labels text None ls e h = absurd (cc)
+pairs_of_labels text (Some pairs) ls e h = let same : labels_of pairs ≡ ls = cc in record { pairs = pairs; reads = pairs_read text pairs e; are = sym same }
+
+pub labels_read : (text : List ℕ) (ls : List Pair) → series_labels text ≡ Some ls → ReadsLabels text ls
+unfolding series_labels
+labels_read text ls e = pairs_of_labels text (series_pairs text) ls refl e
+
+pub labels_are_set : (text : List ℕ) (ls : List Pair) → series_labels text ≡ Some ls → IsLabelSet ls
+labels_are_set text ls e = read_is_set text ls (labels_read text ls e)

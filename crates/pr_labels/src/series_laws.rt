@@ -4,7 +4,7 @@ ghost use Rattle.pr_forms.specs.Table.{IsDecided};
 ghost use Rattle.pr_labels.specs.Edits.{first_fault};
 ghost use Rattle.pr_labels.specs.LabelSet.{IsLabelSet};
 ghost use Rattle.pr_labels.specs.SeriesGrammar.{production, table, ReadsSeries, ReadsLabels, IsBadPlace};
-ghost use Rattle.pr_labels.specs.SeriesReading.{series_pairs, bad_series_place};
+ghost use Rattle.pr_labels.specs.SeriesReading.{series_pairs, series_labels, bad_series_place};
 ghost use Rattle.pr_labels.specs.SeriesText.{series_text};
 ghost use Rattle.pr_labels.specs.declared.pair.Pair.{Pair};
 
@@ -13,11 +13,11 @@ pub fn one_byte_decides_series_texts()
     ensures { IsDecided production table }
 {}
 
-/// What a series text reads as is a function of its bytes, and so is the first bad place.
-#[tactic(auto, using(crate::proofs::SeriesEnds::pairs_read, crate::proofs::SeriesEnds::pairs_given, crate::proofs::SeriesEnds::place_given))]
+/// What a series text reads as is a function of its bytes, and so are its label set and the first bad place.
 pub fn reading_of_a_series_text_is_a_function()
     ensures reads { (text : List ℕ) (pairs : List Pair) → series_pairs text ≡ Some pairs → ReadsSeries text pairs }
     ensures given { (text : List ℕ) (pairs : List Pair) → ReadsSeries text pairs → series_pairs text ≡ Some pairs }
+    ensures labels { (text : List ℕ) (labels : List Pair) → series_labels text ≡ Some labels → ReadsLabels text labels }
     ensures place { (text : List ℕ) → IsBadPlace text (bad_series_place text) }
 {}
 

@@ -9,3 +9,4 @@ pub mod Results
 pub mod Pieces
 pub mod Reading
 pub mod RunWords
+pub mod Selectors

@@ -56,9 +56,13 @@ abbrev pub is_reserved : Option (List ℕ) → Bool
 is_reserved None = false
 is_reserved (Some name) = is_some (word_of name)
 
--- whether a label set can be asked for by the text: it has labels, its metric's name is no word, and the text is as it is printed
+-- whether a label set can be asked for: it has labels, and its metric's name is no word
+abbrev pub can_be_asked : List Pair → Bool
+can_be_asked labels = nat_lt 0 (length labels) && not (is_reserved (value_of labels metric_label))
+
+-- whether it is asked for by the text, which is as the set is printed
 abbrev pub is_selector : List ℕ → List Pair → Bool
-is_selector text labels = nat_lt 0 (length labels) && (not (is_reserved (value_of labels metric_label)) && bytes_eq (series_text labels) text)
+is_selector text labels = can_be_asked labels && bytes_eq (series_text labels) text
 
 abbrev pub selector_by : List ℕ → Option (List Pair) → Option (List Pair)
 selector_by text None = None

@@ -4,6 +4,7 @@
 mod engine;
 mod examples;
 mod history;
+mod laws;
 mod output;
 mod run;
 mod script;
@@ -13,5 +14,6 @@ mod texts;
 mod top;
 
 pub use examples::a_value_is_told_for_five_minutes;
+pub use laws::questions_are_printed_label_sets;
 pub use status::Status;
 pub use top::promtool;

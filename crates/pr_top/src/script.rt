@@ -7,7 +7,7 @@ ghost use Rattle.std.specs.Str.Parse.{digits_value};
 ghost use Rattle.pr_labels.specs.LabelSet.{metric_label, value_of};
 ghost use Rattle.pr_labels.specs.SeriesReading.{series_labels};
 ghost use Rattle.pr_labels.specs.SeriesText.{series_text};
-ghost use Rattle.pr_top.specs.Script.{is_comment, is_passed_over, begins_with_zero, is_decimal, time_of, point_of, series_of, is_reserved, is_selector, selector_of, add_of, query_of, add_in, query_in, event_by, event_of};
+ghost use Rattle.pr_top.specs.Script.{is_comment, is_passed_over, begins_with_zero, is_decimal, time_of, point_of, series_of, is_reserved, can_be_asked, is_selector, selector_of, add_of, query_of, add_in, query_in, event_by, event_of};
 
 use pr_labels::{Labels, TextFault, read_series_text};
 use pr_lex::word_of;
@@ -137,10 +137,16 @@ fn is_reserved(labels: &Labels) -> bool
     }
 }
 
+fn can_be_asked(labels: &Labels) -> bool
+    ensures { result ≡ can_be_asked labels.now }
+{
+    !labels.pairs().is_empty() && !is_reserved(labels)
+}
+
 fn is_selector(alloc: Global, text: &[u8], labels: &Labels) -> Result<bool, AllocError>
     ensures { IfOk result (λ b. b ≡ is_selector text.now labels.now) }
 {
-    if labels.pairs().is_empty() || is_reserved(labels) {
+    if !can_be_asked(labels) {
         return Ok(false);
     }
     is_printed(alloc, labels, text)

@@ -1,4 +1,4 @@
-use Rattle.std.proofs.Common.{◌≡◌, ℕ, List, ap, sym, ◌∙◌}
+use Rattle.std.proofs.Common.{◌≡◌, List, ap, sym, ◌∙◌}
 use Rattle.pr_forms.proofs.Readings.{one_reading}
 use Rattle.pr_strings.specs.Strings.{seen}
 use Rattle.pr_labels.specs.declared.pair.Pair.{Pair}
