@@ -137,12 +137,12 @@ module _ {T N V : Type 0} (G : N → Form T N V) (S : Table T N) (known : IsDeci
         either_given n f g ts (is_next S f ts) refl (λ i. given n b f ts (decides_left S d) e.0 (omega arith)) (λ i. given n b g ts (decides_right S d) e.1 (omega arith))
     given (suc n) (suc b) (turns c v g) ts d e h =
         turns_given n c v g ts (is_next S g ts) refl (λ i. given n b g ts (decides_turn S d) e (omega arith))
-            (λ w mid r. given n (suc b) (turns c (c v w) g) mid (decides_again S d) e
-                (turn_room ts mid n b (consumes (reads (meets r)) (not_true (empty_of S g) (λ i. decides_full_turn S d (record { is = i })))) h))
+        (λ w mid r. given n (suc b) (turns c (c v w) g) mid (decides_again S d) e
+        (turn_room ts mid n b (consumes (reads (meets r)) (not_true (empty_of S g) (λ i. decides_full_turn S d (record { is = i })))) h))
     given (suc n) (suc b) (fold c f g) ts d e h =
         let x = given n b f ts (decides_base S d) e.0 (omega arith) in
         fold_given n c f g ts x.outcome x.is x.runs (λ v mid r. given n (after_part (empty_of S f) limit b) (turns c v g) mid (decides_turns S v d)
-            (turns_end c v g (after_part (empty_of S f) limit b) e.1) (room f ts mid v n b (empty_of S f) refl r h))
+        (turns_end c v g (after_part (empty_of S f) limit b) e.1) (room f ts mid v n b (empty_of S f) refl r h))
     given (suc n) (suc b) (chosen q more) [] d e h = record { outcome = bad []; is = refl; runs = run_chosen_end }
     given (suc n) (suc b) (chosen q more) (t ∷ ts) d e h = chosen_given n q more t ts (q t) refl
         (λ m i. let k = leb-true (rank m) b (e t m i).1 in ((e t m i).0, given n (rank m) (G m) (t ∷ ts) (known.decides m) (ends.ends m) (omega arith)))

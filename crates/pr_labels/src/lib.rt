@@ -34,6 +34,7 @@ pub use pair::Pair;
 pub use read::read_series_text;
 pub use series::TextFault;
 pub use series_laws::{
-    one_byte_decides_series_texts, printed_labels_read_back, reading_of_a_series_text_is_a_function,
-    series_text_reads_as_one_label_set, series_texts_name_labels_once,
+    one_byte_decides_series_texts, printed_labels_read_back,
+    reading_of_a_series_text_is_a_function, series_text_reads_as_one_label_set,
+    series_texts_name_labels_once,
 };

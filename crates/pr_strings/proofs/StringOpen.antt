@@ -89,9 +89,11 @@ module _ (text : List ℕ) (place : ℕ) (short : place ≤ length text) where
   -- what an open string says of the pieces after its quote
   pub open_on : (m : Mark) (body : List ℕ) → IsOpening text m body → IsOpenAt text place → (v : Value) × Reads production (pieces_after m (content [])) (seen body) v target
   open_on m body o x =
-      let s = same_opening m x.quote body x.rest o x.opening in
-      (x.value, subst (λ q. Reads production (pieces_after q (content [])) (seen body) x.value target) (sym s.0)
-      (subst (λ b. Reads production (pieces_after x.quote (content [])) (seen b) x.value target) (sym s.1) x.pieces))
+      let s = same_opening m x.quote body x.rest o x.opening in (
+        x.value,
+        subst (λ q. Reads production (pieces_after q (content [])) (seen body) x.value target) (sym s.0)
+            (subst (λ b. Reads production (pieces_after x.quote (content [])) (seen b) x.value target) (sym s.1) x.pieces),
+      )
 
   pub not_without_opening : HasNoOpening text → IsOpenAt text place → ⊥
   not_without_opening h x = h x.quote x.rest x.opening
