@@ -36,12 +36,13 @@ impl<'m> Selection<'m> {
     }
 
     /// Whether a label set meets all of the matchers.
+    #[tactic(auto, unfolding(crate::specs::Matcher::meets_all))]
     pub fn takes(&mut self, labels: &Labels) -> bool
         ensures found { result ≡ meets_all self.old labels.now }
         ensures same { self.new ≡ self.old }
     {
-        for searcher in &mut self.searchers {
-            if !searcher.matches(labels) {
+        for at in 0..self.searchers.len() {
+            if !self.searchers[at].matches(labels) {
                 return false;
             }
         }
@@ -50,6 +51,7 @@ impl<'m> Selection<'m> {
 }
 
 /// The places of the label sets that meet all of the matchers, rising.
+#[tactic(auto, unfolding(crate::specs::Matcher::places_from))]
 pub fn select(
     alloc: Global,
     matchers: &[Matcher],
