@@ -17,10 +17,16 @@ use Rattle.regex.proofs.OnLiterals.{IsReadAs, same_refl}
 use Rattle.regex.proofs.ForCallers.{alike_as_written, names_as_written, is_match_alike, found_alike, span_alike, IsNamedAs}
 use Rattle.regex_syntax.specs.Brackets.{Nested}
 use Rattle.regex_syntax.specs.Grammar.{Names, read}
+use Rattle.regex.specs.declared.error.Error.{Error}
+use Rattle.regex.specs.declared.error.Error.TheVariants.{Syntax, CompiledTooBig, Internal, OutOfMemory}
+use Rattle.regex.specs.Sources.{IsRefusal}
+use Rattle.regex.specs.Failures.{IsRightKind}
 use Rattle.regex_syntax.specs.declared.error.ErrorKind.{ErrorKind}
-use Rattle.regex_syntax.specs.declared.error.ErrorKind.TheVariants.{OutOfMemory}
+use Rattle.regex_syntax.specs.declared.error.ErrorKind.TheVariants as kind
 use Rattle.pr_match.specs.Pattern.{is_readable, is_within, deepest, anchored, first_match, matches_whole}
-use Rattle.pr_match.specs.Compiled.{IsFrom, Decides}
+use Rattle.pr_match.specs.Compiled.{IsFrom, Decides, fault_of}
+use Rattle.pr_match.specs.declared.fault.MatchError.{MatchError}
+use Rattle.pr_match.specs.declared.fault.MatchError.TheVariants.{BadPattern, Memory}
 
 none_of : {A : Type 0} (o : Option A) → false ≡ is_some o → o ≡ None
 none_of None e = refl
@@ -49,12 +55,23 @@ unfolding is_readable Reads
 readable_of_read source r h = passes (read default_config (chars source)) _ (λ q p. p.0) (rw (h.is_source, h.is_default) at h.is_read)
 
 -- an error of syntax means that the text cannot be read
-pub unreadable_of_refusal : (source : List ℕ) (kind : ErrorKind) → kind ≢ OutOfMemory → Refuses default_config source kind → is_readable source ≡ false
+pub unreadable_of_refusal : (source : List ℕ) (k : ErrorKind) → k ≢ kind.OutOfMemory → Refuses default_config source k → is_readable source ≡ false
 unfolding is_readable Refuses
-unreadable_of_refusal source kind real refused =
+unreadable_of_refusal source k real refused =
     ⊎_elim (λ e. absurd (real e))
     (⊎_elim (λ e. rw e refl) (λ deep. fails (read default_config (chars source)) deep.1))
     refused
+
+apart : Memory ≢ BadPattern
+apart e = cc
+
+-- where the fault is the text's, it cannot be read
+pub unreadable_of_fault : (source : List ℕ) (error : Error) (fault : MatchError) → IsRefusal default_config source error → IsRightKind default_config source error →
+    fault ≡ fault_of error → fault ≡ BadPattern → is_readable source ≡ false
+unreadable_of_fault source (Syntax e) fault refusal kind f b = unreadable_of_refusal source e.kind kind (refusal e refl)
+unreadable_of_fault source CompiledTooBig fault refusal kind f b = absurd (apart (sym f ∙ b))
+unreadable_of_fault source Internal fault refusal kind f b = absurd (apart (sym f ∙ b))
+unreadable_of_fault source OutOfMemory fault refusal kind f b = absurd (apart (sym f ∙ b))
 
 module _ (source : List ℕ) (r : Regex) (h : IsFrom source r) (hay : List ℕ) (bytes : (k : ℕ) → get_or hay k 0 < 256) where
   abbrev search_of : Option Found → Option (Match × Names)

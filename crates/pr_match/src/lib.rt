@@ -3,12 +3,14 @@
 
 mod condition;
 mod fault;
+mod laws;
 mod matcher;
 mod op;
 mod pattern;
 mod selection;
 
 pub use fault::MatchError;
+pub use laws::{an_absent_label_is_empty, operators_are_opposite};
 pub use matcher::{LabelSearcher, Matcher};
 pub use op::MatchOp;
 pub use pattern::{Pattern, Searcher};

@@ -1,7 +1,7 @@
 // Patterns, and searchers for them.
 ghost use Rattle.std.specs.Prelude.{◌≡◌, true, false, IfOk, OnOk};
 ghost use Rattle.pr_match.specs.Pattern.{is_readable, is_pattern, anchored, matches_whole, expanded};
-ghost use Rattle.pr_match.specs.Compiled.{IsFrom};
+ghost use Rattle.pr_match.specs.Compiled.{IsFrom, fault_of};
 
 use crate::fault::MatchError;
 use pr_words::Text;
@@ -123,7 +123,16 @@ fn compile(alloc: Global, source: &str) -> Result<Regex, MatchError>
 {
     match Regex::new(alloc, source) {
         Ok(regex) => Ok(regex),
-        Err(Error::Syntax(_)) => Err(MatchError::BadPattern),
-        Err(_) => Err(MatchError::Memory),
+        Err(error) => Err(fault_of(&error)),
+    }
+}
+
+// What a refusal to compile means: each fault of syntax, the limit on nesting among them, is the text's.
+fn fault_of(error: &Error) -> MatchError
+    ensures { result ≡ fault_of error.now }
+{
+    match error {
+        Error::Syntax(_) => MatchError::BadPattern,
+        _ => MatchError::Memory,
     }
 }

@@ -6,5 +6,5 @@ use Rattle.pr_match.proofs.selection.select.Given as goal
 abbrev pub invariant-loop-place : goal.invariant-loop-place
 invariant-loop-place l = record {
   same : l.selection ≡ l.matchers;
-  places : l.places.items ++ places_from l.place-index l.matchers (drop l.place-index l.sets) ≡ places_from 0 l.matchers l.sets;
+  places : l.places.items ++ places_from l.place l.matchers (drop l.place l.sets) ≡ places_from 0 l.matchers l.sets;
 }

@@ -1,0 +1,25 @@
+//! Laws of the definitions that contracts of this crate cite. A law is a function that does nothing,
+//! and its contract is the theorem.
+ghost use Rattle.std.specs.Prelude.{◌≡◌, ℕ, List, [], not, None};
+ghost use Rattle.pr_labels.specs.declared.pair.Pair.{Pair};
+ghost use Rattle.pr_labels.specs.LabelSet.{value_of};
+ghost use Rattle.pr_match.specs.Matcher.{LabelTest, label_test, meets, passes};
+ghost use Rattle.pr_match.specs.declared.op.MatchOp.TheVariants.{Equal, NotEqual, Like, NotLike};
+
+/// `!=` lets through exactly those label sets that `=` does not, and `!~` those that `=~` does not.
+#[tactic(auto, unfolding(crate::specs::Matcher::meets))]
+pub fn operators_are_opposite()
+    ensures equal { (name text : List ℕ) (labels : List Pair)
+        → meets (label_test name NotEqual text) labels ≡ not (meets (label_test name Equal text) labels) }
+    ensures like { (name pattern : List ℕ) (labels : List Pair)
+        → meets (label_test name NotLike pattern) labels ≡ not (meets (label_test name Like pattern) labels) }
+{}
+
+/// A label that a set has not is as one with an empty value: what a matcher says of it is what it says of the set
+/// without labels, and that is what its operator says of the empty text.
+#[tactic(auto, unfolding(crate::specs::Matcher::meets))]
+pub fn an_absent_label_is_empty()
+    ensures absent { (test : LabelTest) (labels : List Pair)
+        → value_of labels test.name ≡ None → meets test labels ≡ meets test [] }
+    ensures empty { (test : LabelTest) → meets test [] ≡ passes test.op test.text [] }
+{}
