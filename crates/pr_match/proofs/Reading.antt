@@ -118,9 +118,11 @@ module _ (source : List ℕ) (r : Regex) (h : IsFrom source r) (hay : List ℕ) 
       let there = found_alike same hay bytes true 0 m f in
       let spans : Some (span m) ≡ Some (span there.0) =
       sym (ap (option_map span) f) ∙ span_alike same hay bytes true 0 ∙ ap (option_map span) there.1 in
-      let names = names_as_written r default_config source h.is_source h.is_default h.is_read q.1 (is_named_as q e) in
-      (there.0, ap (option_map (λ m. (m, q.1))) there.1 ∙ ap (λ ns. Some (there.0, ns)) (sym names),
-      same_groups there.0 m (sym (same_Some _ _ spans)) there.2)
+      let names = names_as_written r default_config source h.is_source h.is_default h.is_read q.1 (is_named_as q e) in (
+        there.0,
+        ap (option_map (λ m. (m, q.1))) there.1 ∙ ap (λ ns. Some (there.0, ns)) (sym names),
+        same_groups there.0 m (sym (same_Some _ _ spans)) there.2,
+      )
 
   pub match_of_text : (m : Match) → find_str (regex_pattern r) hay 0 ≡ Some m →
       (k : Match) × (first_match source hay ≡ Some (k, regex_names r)) × (group_bytes hay k ≡ group_bytes hay m)

@@ -8,6 +8,8 @@ mod matcher;
 mod op;
 mod pattern;
 mod selection;
+#[cfg(test)]
+mod tests;
 
 pub use fault::MatchError;
 pub use laws::{an_absent_label_is_empty, operators_are_opposite};
