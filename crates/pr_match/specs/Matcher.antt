@@ -1,5 +1,5 @@
 -- What matchers ask of label sets.
-use Rattle.std.specs.Prelude.{ℕ, Bool, true, not, List, [], filter, map, unwrap_or}
+use Rattle.std.specs.Prelude.{ℕ, Bool, true, false, not, List, [], filter, map, Option, None, Some, unwrap_or}
 use Rattle.std.specs.List.{list_all, enumerate_from}
 use Rattle.std.specs.Str.{bytes_eq}
 use Rattle.pr_labels.specs.declared.pair.Pair.{Pair}
@@ -42,6 +42,11 @@ meets test labels = passes test.op test.text (text_at labels test.name)
 -- whether it meets all of them
 unfoldable pub meets_all : List LabelTest → List Pair → Bool
 meets_all tests labels = list_all (λ test. meets test labels) tests
+
+-- the same of a label set that may not be there
+abbrev pub is_met : List LabelTest → Option (List Pair) → Bool
+is_met tests None = false
+is_met tests (Some labels) = meets_all tests labels
 
 -- the places, counted from a first one, of the label sets that meet all matchers
 unfoldable pub places_from : ℕ → List LabelTest → List (List Pair) → List ℕ

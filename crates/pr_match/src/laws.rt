@@ -1,9 +1,10 @@
 //! Laws of the definitions that contracts of this crate cite. A law is a function that does nothing,
 //! and its contract is the theorem.
-ghost use Rattle.std.specs.Prelude.{◌≡◌, ℕ, List, [], not, None};
+ghost use Rattle.std.specs.Prelude.{◌≡◌, ℕ, List, [], nat_eq, not, None};
+ghost use Rattle.std.specs.List.{list_any, slice_get};
 ghost use Rattle.pr_labels.specs.declared.pair.Pair.{Pair};
 ghost use Rattle.pr_labels.specs.LabelSet.{value_of};
-ghost use Rattle.pr_match.specs.Matcher.{LabelTest, label_test, meets, passes};
+ghost use Rattle.pr_match.specs.Matcher.{LabelTest, label_test, is_met, meets, passes, places_from};
 ghost use Rattle.pr_match.specs.declared.op.MatchOp.TheVariants.{Equal, NotEqual, Like, NotLike};
 
 /// `!=` lets through exactly those label sets that `=` does not, and `!~` those that `=~` does not.
@@ -22,4 +23,11 @@ pub fn an_absent_label_is_empty()
     ensures absent { (test : LabelTest) (labels : List Pair)
         → value_of labels test.name ≡ None → meets test labels ≡ meets test [] }
     ensures empty { (test : LabelTest) → meets test [] ≡ passes test.op test.text [] }
+{}
+
+/// A place is selected exactly where a label set stands there that meets all of the matchers.
+#[tactic(auto, using(crate::proofs::Selected::selected))]
+pub fn selected_sets_meet_all()
+    ensures { (tests : List LabelTest) (sets : List (List Pair)) (place : ℕ)
+        → list_any (nat_eq place) (places_from 0 tests sets) ≡ is_met tests (slice_get sets place) }
 {}
