@@ -1,9 +1,10 @@
 //! Laws of the definitions that contracts of this crate cite. A law is a function that does nothing,
 //! and its contract is the theorem.
-ghost use Rattle.std.specs.Prelude.{◌≡◌, ℕ, List, [], nat_eq, not, None};
+ghost use Rattle.std.specs.Prelude.{◌≡◌, ℕ, List, [], codes, nat_eq, not, true, false, None, Some};
 ghost use Rattle.std.specs.List.{list_any, slice_get};
 ghost use Rattle.pr_labels.specs.declared.pair.Pair.{Pair};
 ghost use Rattle.pr_labels.specs.LabelSet.{value_of};
+ghost use Rattle.pr_match.specs.Pattern.{is_pattern, matches_whole, expanded};
 ghost use Rattle.pr_match.specs.Matcher.{LabelTest, label_test, is_met, meets, passes, places_from};
 ghost use Rattle.pr_match.specs.declared.op.MatchOp.TheVariants.{Equal, NotEqual, Like, NotLike};
 
@@ -30,4 +31,18 @@ pub fn an_absent_label_is_empty()
 pub fn selected_sets_meet_all()
     ensures { (tests : List LabelTest) (sets : List (List Pair)) (place : ℕ)
         → list_any (nat_eq place) (places_from 0 tests sets) ≡ is_met tests (slice_get sets place) }
+{}
+
+/// Worked examples of which texts are patterns, of what they match, and of what a template makes.
+pub fn patterns_by_example()
+    ensures side { matches_whole (codes "a|bc") (codes "bc") ≡ true }
+    ensures sides { matches_whole (codes "a|bc") (codes "abc") ≡ false }
+    ensures part { matches_whole (codes "b") (codes "ab") ≡ false }
+    ensures empty { matches_whole (codes "a*") [] ≡ true }
+    ensures template { expanded (codes "(a)(?P<x>b)") (codes "ab") (codes "$x$1a$$") ≡ Some (codes "b$") }
+    ensures no_match { expanded (codes "a") (codes "b") (codes "x") ≡ None }
+    ensures pattern { is_pattern (codes "a(b)") ≡ true }
+    ensures open_group { is_pattern (codes "a(") ≡ false }
+    ensures only_wrapped { is_pattern (codes ")(?:") ≡ false }
+    ensures only_alone { is_pattern (codes "(?x)a #") ≡ false }
 {}

@@ -12,7 +12,9 @@ mod selection;
 mod tests;
 
 pub use fault::MatchError;
-pub use laws::{an_absent_label_is_empty, operators_are_opposite, selected_sets_meet_all};
+pub use laws::{
+    an_absent_label_is_empty, operators_are_opposite, patterns_by_example, selected_sets_meet_all,
+};
 pub use matcher::{LabelSearcher, Matcher};
 pub use op::MatchOp;
 pub use pattern::{Pattern, Searcher};
