@@ -143,27 +143,26 @@ plain => plain;
  => ;
 ";
 
-/// The name, operator and text of a matcher, and whether `up{job="api",zone="eu 1"}` meets it.
-const MET: [(&str, MatchOp, &str, bool); 18] = [
-    ("job", MatchOp::Equal, "api", true),
-    ("job", MatchOp::Equal, "ap", false),
-    ("job", MatchOp::NotEqual, "api", false),
-    ("job", MatchOp::NotEqual, "a.*", true),
-    ("job", MatchOp::Like, "a.*", true),
-    ("job", MatchOp::Like, "a", false),
-    ("job", MatchOp::NotLike, "a.*", false),
-    ("job", MatchOp::NotLike, "a", true),
-    ("__name__", MatchOp::Equal, "up", true),
-    ("__name__", MatchOp::Like, "up|down", true),
-    ("zone", MatchOp::Like, "eu [0-9]", true),
-    ("env", MatchOp::Equal, "", true),
-    ("env", MatchOp::NotEqual, "", false),
-    ("env", MatchOp::NotEqual, "prod", true),
-    ("env", MatchOp::Like, ".*", true),
-    ("env", MatchOp::Like, ".+", false),
-    ("env", MatchOp::NotLike, "prod", true),
-    ("env", MatchOp::NotLike, "|prod", false),
-];
+/// A matcher, and whether `up{job="api",zone="eu 1"}` meets it.
+const MET: &str = r"job = api => yes
+job = ap => no
+job != api => no
+job != a.* => yes
+job =~ a.* => yes
+job =~ a => no
+job !~ a.* => no
+job !~ a => yes
+__name__ = up => yes
+__name__ =~ up|down => yes
+zone =~ eu [0-9] => yes
+env =  => yes
+env !=  => no
+env != prod => yes
+env =~ .* => yes
+env =~ .+ => no
+env !~ prod => yes
+env !~ |prod => no
+";
 
 /// The pattern of a text that is one.
 fn pattern_of(alloc: Global, text: &str) -> Result<Pattern, Fail> {
@@ -171,6 +170,16 @@ fn pattern_of(alloc: Global, text: &str) -> Result<Pattern, Fail> {
         Ok(pattern) => Ok(pattern),
         Err(MatchError::BadPattern) => Err("no pattern")?,
         Err(MatchError::Memory) => Err("too large")?,
+    }
+}
+
+/// The operator of a sign.
+fn op_of(sign: &str) -> MatchOp {
+    match sign {
+        "=" => MatchOp::Equal,
+        "!=" => MatchOp::NotEqual,
+        "=~" => MatchOp::Like,
+        _ => MatchOp::NotLike,
     }
 }
 
@@ -216,15 +225,13 @@ fn labels_of(alloc: Global, text: &str) -> Result<Labels, Fail> {
 
 #[test]
 fn matches_whole_texts(rt: HostRuntime) -> Result<(), Fail> {
-    let mut rows = 0;
+    assert_eq!(rt; WHOLE.lines().count(), 79);
     for line in WHOLE.lines() {
         let (pattern, rest) = line.split_once(" => ").ok_or("no pattern")?;
         let (text, answer) = rest.split_once(" => ").ok_or("no text")?;
         let found = pattern_of(rt.alloc(), pattern)?.matches(rt.alloc(), text)?;
         assert_eq!(rt; found, answer == "yes", "{line}");
-        rows = rows + 1;
     }
-    assert_eq!(rt; rows, 79);
     assert!(rt; pattern_of(rt.alloc(), "a.b")?.matches(rt.alloc(), "a\nb")?);
     assert!(rt; pattern_of(rt.alloc(), "(?-s)a.b")?.matches(rt.alloc(), "a\nb")? == false);
     assert!(rt; pattern_of(rt.alloc(), "ab")?.matches(rt.alloc(), "ab\n")? == false);
@@ -271,11 +278,15 @@ fn expands_templates(rt: HostRuntime) -> Result<(), Fail> {
 #[test]
 fn meets_matchers(rt: HostRuntime) -> Result<(), Fail> {
     let labels = labels_of(rt.alloc(), "up{job=\"api\",zone=\"eu 1\"}")?;
-    for (name, op, text, met) in MET {
-        let matcher = matcher_of(rt.alloc(), name, op, text)?;
-        assert_eq!(rt; matcher.matches(rt.alloc(), &labels)?, met, "{name} {text}");
+    for line in MET.lines() {
+        let (name, rest) = line.split_once(" ").ok_or("no name")?;
+        let (sign, rest) = rest.split_once(" ").ok_or("no operator")?;
+        let (text, answer) = rest.split_once(" => ").ok_or("no answer")?;
+        let matcher = matcher_of(rt.alloc(), name, op_of(sign), text)?;
+        let met = matcher.matches(rt.alloc(), &labels)?;
+        assert_eq!(rt; met, answer == "yes", "{line}");
         if name == "env" {
-            assert_eq!(rt; matcher.matches_empty(rt.alloc())?, met, "{text}");
+            assert_eq!(rt; matcher.matches_empty(rt.alloc())?, met, "{line}");
         }
     }
     for op in [MatchOp::Like, MatchOp::NotLike] {
