@@ -2,7 +2,7 @@
 use Rattle.std.specs.Prelude.{⊤}
 use Rattle.regex.specs.Patterns.{find_str}
 use Rattle.regex.proofs.OnLiterals.{regex_on_literals}
-use Rattle.regex_hir.specs.Find.{first_from, last_write, slot_of}
+use Rattle.regex_hir.specs.Find.{first_from, slot_of}
 use Rattle.regex_hir.specs.Text.{is_boundary, byte_before, has_bytes_at}
 use Rattle.regex_hir.specs.Re.{attempt}
 use Rattle.regex_hir.specs.Looks.{holds, holds_between}

@@ -1,5 +1,5 @@
 -- From what `Regex::new` ensures to the words of specs/Pattern.antt.
-use Rattle.std.proofs.Common.{◌≡◌, ◌≢◌, ℕ, zero, suc, ◌+◌, ◌*◌, ◌<◌, ◌≤◌, Bool, true, false, ◌⊎◌, List, chars, Option, None, Some, IsSome, IsSomeAnd, IfSome, is_some, option_map, option_and_then, get_or, refl, sym, ap, ap₂, ◌∙◌, subst, arith, inl, inr, ⊎_elim, true≢false, ◌==◌, if◌then◌else◌, ne_eqb}
+use Rattle.std.proofs.Common.{◌≡◌, ◌≢◌, ℕ, zero, suc, ◌+◌, ◌*◌, ◌<◌, ◌≤◌, true, false, List, chars, Option, None, Some, IsSomeAnd, IfSome, is_some, option_map, option_and_then, get_or, refl, sym, ap, ap₂, ◌∙◌, arith, ⊎_elim, true≢false, ◌==◌, if◌then◌else◌, ne_eqb}
 use Rattle.std.proofs.lemmas.Option.{none-some, same_Some}
 use mathlib.Core.Path.{fun_ext}
 use Rattle.regex.specs.Patterns.{Re, Match, find_str, slot_of, span, default_config, Reads, Refuses}
@@ -8,7 +8,7 @@ use Rattle.regex.specs.Templates.{written_after}
 use Rattle.regex.specs.Writes.{both, group_of}
 use Rattle.std.proofs.lemmas.Bool.{cond-false}
 use Rattle.std.proofs.lemmas.Bool.Decides.{nat_tests}
-use Rattle.regex.specs.Strings.{regex_pattern, matcher_pattern, regex_names, IsReadFromSource, IsCapturesOf, match_span}
+use Rattle.regex.specs.Strings.{regex_pattern, matcher_pattern, regex_names, IsCapturesOf, match_span}
 use Rattle.regex.specs.Search.{group_span}
 use Rattle.regex.specs.declared.string.captures.Captures.{Captures}
 use Rattle.regex.specs.declared.string.matcher.Matcher.{Matcher}
@@ -23,7 +23,7 @@ use Rattle.regex.specs.Sources.{IsRefusal}
 use Rattle.regex.specs.Failures.{IsRightKind}
 use Rattle.regex_syntax.specs.declared.error.ErrorKind.{ErrorKind}
 use Rattle.regex_syntax.specs.declared.error.ErrorKind.TheVariants as kind
-use Rattle.pr_match.specs.Pattern.{is_readable, is_within, deepest, anchored, first_match, matches_whole}
+use Rattle.pr_match.specs.Pattern.{is_readable, is_within, anchored, first_match, matches_whole}
 use Rattle.pr_match.specs.Compiled.{IsFrom, Decides, fault_of}
 use Rattle.pr_match.specs.declared.fault.MatchError.{MatchError}
 use Rattle.pr_match.specs.declared.fault.MatchError.TheVariants.{BadPattern, Memory}

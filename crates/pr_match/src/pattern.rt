@@ -9,7 +9,8 @@ use regex::{Error, Matcher, Regex, Template};
 use std::alloc::{AllocError, Global};
 use std::marker::Model;
 
-/// A pattern that is met by whole texts, line feeds included. Contracts see it as its text.
+/// A pattern that is met by whole texts, line feeds included. (Prometheus: Querying basics.) Contracts see it as its
+/// text.
 #[derive(Drop)]
 pub struct Pattern {
     regex: Regex,
@@ -31,7 +32,7 @@ impl Model for Pattern {
 impl Pattern {
     /// The pattern of a text. It is `BadPattern` exactly where the text, alone or anchored as `^(?s:text)$`, is no
     /// regular expression of the crate `regex`, or is nested in more than 250 levels. A pattern that is too large
-    /// to compile wants memory.
+    /// to compile wants memory. (Own choice: Prometheus reads RE2's syntax.)
     #[tactic(auto, unfolding(crate::specs::Pattern::is_pattern))]
     pub fn build(alloc: Global, text: &str) -> Result<Pattern, MatchError>
         ensures text { IfOk result (λ p. p ≡ text.now) }
@@ -65,7 +66,8 @@ impl Pattern {
     }
 
     /// The template with what each group matched in the place of `$1`, `${1}`, `$name` and `${name}`, and `$` in
-    /// that of `$$`. It is `None` exactly where the pattern does not match the whole text.
+    /// that of `$$`. It is `None` exactly where the pattern does not match the whole text. (Prometheus: Query
+    /// functions, `label_replace`.)
     pub fn expand(
         &self,
         alloc: Global,

@@ -1,4 +1,4 @@
-use Rattle.std.proofs.Common.{◌≡◌, ◌++◌, drop, length}
+use Rattle.std.proofs.Common.{◌≡◌, ◌++◌, drop}
 use Rattle.pr_match.specs.Matcher.{places_from}
 use Rattle.pr_match.proofs.selection.select.Given as goal
 
