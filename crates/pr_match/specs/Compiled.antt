@@ -1,0 +1,27 @@
+-- What private contracts say of regular expressions that are compiled.
+use Rattle.std.specs.Prelude.{◌≡◌, ℕ, ◌<◌, List, slice_index, is_some}
+use Rattle.regex.specs.Patterns.{find_str, default_config}
+use Rattle.regex.specs.Strings.{regex_source, regex_config, matcher_pattern, IsReadFromSource}
+use Rattle.regex.specs.declared.string.regex.Regex.{Regex}
+use Rattle.regex.specs.declared.string.matcher.Matcher.{Matcher}
+use Rattle.regex.specs.declared.error.Error.{Error}
+use Rattle.regex.specs.declared.error.Error.TheVariants.{Syntax}
+use Rattle.pr_match.specs.Pattern.{matches_whole}
+use Rattle.pr_match.specs.declared.fault.MatchError.{MatchError}
+use Rattle.pr_match.specs.declared.fault.MatchError.TheVariants.{BadPattern, Memory}
+
+-- the regular expression is what the source is read as
+pub record IsFrom (source : List ℕ) (regex : Regex) : Type 0 where
+  pub is_source : regex_source regex ≡ source
+  pub is_default : regex_config regex ≡ default_config
+  pub is_read : IsReadFromSource regex
+
+-- the searcher finds a match in exactly the texts that the pattern matches whole
+abbrev pub Decides : List ℕ → Matcher → Type 0
+Decides pattern searcher =
+    (text : List ℕ) → ((k : ℕ) → slice_index text k < 256) → is_some (find_str (matcher_pattern searcher) text 0) ≡ matches_whole pattern text
+
+-- what a refusal to compile means
+abbrev pub fault_of : Error → MatchError
+fault_of (Syntax e) = BadPattern
+fault_of _ = Memory

@@ -1,0 +1,4 @@
+pub mod Pattern
+pub mod Compiled
+pub mod Matcher
+pub mod Conditions

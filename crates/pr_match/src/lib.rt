@@ -1,0 +1,21 @@
+//! Patterns and matchers: which texts and which label sets a selector's tests let through.
+#![tactic(auto)]
+
+mod condition;
+mod fault;
+mod laws;
+mod matcher;
+mod op;
+mod pattern;
+mod selection;
+#[cfg(test)]
+mod tests;
+
+pub use fault::MatchError;
+pub use laws::{
+    an_absent_label_is_empty, operators_are_opposite, patterns_by_example, selected_sets_meet_all,
+};
+pub use matcher::{LabelSearcher, Matcher};
+pub use op::MatchOp;
+pub use pattern::{Pattern, Searcher};
+pub use selection::{Selection, select};

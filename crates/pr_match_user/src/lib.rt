@@ -1,0 +1,72 @@
+//! A small caller of pr_match, so that a change of what callers rest on is felt. It names no other crate's words for
+//! patterns, and has no proofs of its own.
+#![tactic(auto)]
+
+#[cfg(test)]
+mod tests;
+
+ghost use Rattle.std.specs.Prelude.{◌≡◌, ◌&&◌, true, false, IfOk, OnOk};
+ghost use Rattle.std.specs.List.{slice_get};
+ghost use Rattle.pr_match.specs.Pattern.{is_pattern, expanded};
+ghost use Rattle.pr_match.specs.Matcher.{label_test, meets, meets_all, places_from};
+ghost use Rattle.pr_match.specs.declared.op.MatchOp.TheVariants.{Like};
+
+use pr_labels::Labels;
+use pr_match::{MatchError, MatchOp, Matcher, Pattern, Selection, select};
+use pr_words::Text;
+use std::alloc::{AllocError, Global};
+
+/// The first place of a label set that meets all of the matchers.
+pub fn first_place(
+    alloc: Global,
+    matchers: &[Matcher],
+    sets: &[Labels],
+) -> Result<Option<usize>, AllocError>
+    ensures { IfOk result (λ place. place ≡ slice_get (places_from 0 matchers.now sets.now) 0) }
+{
+    let places = select(alloc, matchers, sets)?;
+    Ok(places.first().copied())
+}
+
+/// Whether two label sets both meet all of the matchers.
+pub fn both_meet(
+    alloc: Global,
+    matchers: &[Matcher],
+    one: &Labels,
+    other: &Labels,
+) -> Result<bool, AllocError>
+    ensures { IfOk result (λ both. both ≡ meets_all matchers.now one.now && meets_all matchers.now other.now) }
+{
+    let mut selection = Selection::of(alloc, matchers)?;
+    let first = selection.takes(one);
+    let second = selection.takes(other);
+    Ok(first && second)
+}
+
+/// Whether a label of the set is like a pattern.
+pub fn is_like(
+    alloc: Global,
+    labels: &Labels,
+    name: &str,
+    pattern: &str,
+) -> Result<bool, MatchError>
+    ensures found { IfOk result (λ found. found ≡ meets (label_test name.now Like pattern.now) labels.now) }
+{
+    let matcher = Matcher::build(alloc, name, MatchOp::Like, pattern)?;
+    Ok(matcher.matches(alloc, labels)?)
+}
+
+/// The text that a template makes of a value.
+pub fn rewritten(
+    alloc: Global,
+    pattern: &str,
+    value: &str,
+    template: &str,
+) -> Result<Option<Text>, MatchError>
+    ensures made { IfOk result (λ made. made ≡ expanded pattern.now value.now template.now) }
+    ensures good { OnOk result (is_pattern pattern.now ≡ true) }
+    ensures bad { result ≡ Err MatchError.BadPattern → is_pattern pattern.now ≡ false }
+{
+    let pattern = Pattern::build(alloc, pattern)?;
+    Ok(pattern.expand(alloc, value, template)?)
+}

@@ -1,0 +1,31 @@
+//! Each function once.
+use super::*;
+use std::test::Fail;
+
+fn matcher_of(alloc: Global, name: &str, op: MatchOp, text: &str) -> Result<Matcher, Fail> {
+    match Matcher::build(alloc, name, op, text) {
+        Ok(matcher) => Ok(matcher),
+        Err(_) => Err("no matcher")?,
+    }
+}
+
+#[test]
+fn callers_get_what_matchers_say(rt: HostRuntime) -> Result<(), Fail> {
+    let alloc = rt.alloc();
+    let mut sets = Vec::new(alloc);
+    for name in ["up", "down", "uptime"] {
+        sets.push(Labels::of_metric(alloc, name)?)?;
+    }
+    let mut matchers = Vec::new(alloc);
+    matchers.push(matcher_of(alloc, "__name__", MatchOp::NotEqual, "up")?)?;
+    assert_eq!(rt; first_place(alloc, &matchers, &sets)?, Some(1));
+    assert_eq!(rt; both_meet(alloc, &matchers, &sets[1], &sets[2])?, true);
+    assert_eq!(rt; both_meet(alloc, &matchers, &sets[1], &sets[0])?, false);
+    assert_eq!(rt; is_like(alloc, &sets[2], "__name__", "up.*"), Ok(true));
+    assert_eq!(rt; is_like(alloc, &sets[2], "__name__", "up"), Ok(false));
+    match rewritten(alloc, "(.*)time", "uptime", "down$1") {
+        Ok(Some(text)) => assert_eq!(rt; text.as_str(), "downup"),
+        Ok(None) | Err(_) => Err("no match")?,
+    }
+    Ok(())
+}
