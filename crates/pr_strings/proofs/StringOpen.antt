@@ -1,5 +1,5 @@
 -- Whether whole pieces reach up to a place: what the loop over them keeps.
-use Rattle.std.proofs.Common.{◌≡◌, ℕ, ◌-◌, ◌<◌, ◌≤◌, List, [], ◌∷◌, Bool, true, false, length, map, drop, refl, ap, sym, ◌∙◌, subst, arith, length-drop}
+use Rattle.std.proofs.Common.{◌≡◌, ℕ, ◌-◌, ◌<◌, ◌≤◌, List, [], ◌∷◌, Bool, true, false, length, drop, refl, ap, sym, ◌∙◌, subst, arith, length-drop}
 use Rattle.std.proofs.lemmas.List.{length-map}
 use Rattle.std.specs.Prelude.{MatchBool, nat_eq}
 use Rattle.pr_forms.specs.Form.{Form, turns, Reads, is_stop, is_turn}
@@ -89,9 +89,11 @@ module _ (text : List ℕ) (place : ℕ) (short : place ≤ length text) where
   -- what an open string says of the pieces after its quote
   pub open_on : (m : Mark) (body : List ℕ) → IsOpening text m body → IsOpenAt text place → (v : Value) × Reads production (pieces_after m (content [])) (seen body) v target
   open_on m body o x =
-      let s = same_opening m x.quote body x.rest o x.opening in
-      (x.value, subst (λ q. Reads production (pieces_after q (content [])) (seen body) x.value target) (sym s.0)
-      (subst (λ b. Reads production (pieces_after x.quote (content [])) (seen b) x.value target) (sym s.1) x.pieces))
+      let s = same_opening m x.quote body x.rest o x.opening in (
+        x.value,
+        subst (λ q. Reads production (pieces_after q (content [])) (seen body) x.value target) (sym s.0)
+            (subst (λ b. Reads production (pieces_after x.quote (content [])) (seen b) x.value target) (sym s.1) x.pieces),
+      )
 
   pub not_without_opening : HasNoOpening text → IsOpenAt text place → ⊥
   not_without_opening h x = h x.quote x.rest x.opening
