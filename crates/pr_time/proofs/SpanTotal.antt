@@ -78,7 +78,6 @@ span_or_none text = by_outcome a.outcome a.runs
     by_outcome (good (scaled s k) []) q = inr (λ ms d. let e = only (good (scaled s k) []) q ms d in absurd (cc))
     by_outcome (good mark []) q = inr (λ ms d. let e = only (good mark []) q ms d in absurd (cc))
 
-
 pub span_place : (text : List ℕ) → (n : ℕ) × IsBadPlace text n
 span_place text =
     let a = rule_answered production table known span_grounded Text (seen text) in
