@@ -136,7 +136,7 @@ module _ {T N V : Type 0} (G : N → Form T N V) (S : Table T N) (known : IsDeci
   by_rank l shorter zero n lt ts le = absurd (omega arith)
   by_rank l shorter (suc k) n lt ts le =
       let a = by_form G S known l shorter (λ m. grounded.rank m < grounded.rank n) (λ m less us short. by_rank l shorter k m (omega (arith, lt, less)) us short)
-          (G n) ts le (grounded.falls n) ((known.decides n).solid) (grounded.chooses n) in
+      (G n) ts le (grounded.falls n) ((known.decides n).solid) (grounded.chooses n) in
       answer a.outcome (run_rule a.runs)
 
   any : (f : Form T N V) → GoesInto S (λ n. Unit {0}) f
