@@ -102,7 +102,7 @@ span_long text n ms d = elim (cases_lt 0 n) [ inl lt ↦ lt | inr ge ↦ absurd 
 line_byte : (b : ℕ) → (b == 35) ≡ true → is_of Line b ≡ true
 line_byte b h = grind (arith, nat_tests)
 
-gap_is : (text : List ℕ) (x y : Bool) (g h n : ℕ) (l : Lexeme) → (if x then Gap g else (if y then Gap h else Token l)) ≡ Gap n → ((x ≡ true) × (g ≡ n)) ⊎ ((y ≡ true) × (h ≡ n))
+pub gap_is : (text : List ℕ) (x y : Bool) (g h n : ℕ) (l : Lexeme) → (if x then Gap g else (if y then Gap h else Token l)) ≡ Gap n → ((x ≡ true) × (g ≡ n)) ⊎ ((y ≡ true) × (h ≡ n))
 gap_is text true y g h n l e = inl (refl, cc)
 gap_is text false true g h n l e = inr (refl, cc)
 gap_is text false false g h n l e = cc

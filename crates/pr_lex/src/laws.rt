@@ -1,5 +1,5 @@
 //! The laws of tokens, each as the contract of a function that does nothing.
-ghost use Rattle.std.specs.Prelude.{◌≡◌, ℕ, List, length, ◌⊎◌};
+ghost use Rattle.std.specs.Prelude.{◌≡◌, ℕ, List, ◌⊎◌};
 ghost use Rattle.pr_forms.specs.Table.{IsDecided};
 ghost use Rattle.pr_lex.specs.declared.token.Token.{Token};
 ghost use Rattle.pr_lex.specs.declared.fault.LexKind.{LexKind};
@@ -24,7 +24,8 @@ pub fn every_text_is_answered()
     ensures { (text : List ℕ) → ((tokens : List Token) × HasTokens text tokens) ⊎ ((place : ℕ) × ((kind : LexKind) × HasFault text place kind)) }
 {}
 
-/// The tokens of a text lie in it in their order, none is empty, and no two of them overlap.
+/// The tokens of a text lie in it in their order. None is empty, no two of them overlap, and before, between and after them are
+/// blanks and comments.
 pub fn tokens_lie_in_order()
-    ensures { (text : List ℕ) (tokens : List Token) → HasTokens text tokens → AreInOrder 0 tokens (length text) }
+    ensures { (text : List ℕ) (tokens : List Token) → HasTokens text tokens → AreInOrder text 0 tokens }
 {}

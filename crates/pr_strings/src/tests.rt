@@ -84,3 +84,19 @@ fn writes(rt: HostRuntime) {
         assert!(rt; written && out.as_slice() == want);
     }
 }
+
+#[test]
+fn open_places(rt: HostRuntime) {
+    for (text, place, want) in [
+        (b"\"a\n".as_slice(), 2, true),
+        (b"\"", 1, true),
+        (b"\"\\\n", 2, false),
+        (b"\"\\x4\n", 4, false),
+        (b"\"\\\\\n", 3, true),
+        (b"\"\\\\\n", 2, false),
+        (b"a", 1, false),
+        (b"", 0, false),
+    ] {
+        assert_eq!(rt; place <= text.len() && is_open_at(text, place), want);
+    }
+}

@@ -77,3 +77,18 @@ fn writes(rt: HostRuntime) -> Result<(), Fail> {
     assert_eq!(rt; time.minus(Span::new(7).ok_or("too long")?), -2);
     Ok(())
 }
+
+#[test]
+fn ends(rt: HostRuntime) {
+    for (text, end) in [
+        ("5m", 2),
+        ("5m x", 2),
+        ("5m3x", 3),
+        ("5msx", 3),
+        ("0m", 2),
+        ("0 ", 1),
+        ("x", 0),
+    ] {
+        assert_eq!(rt; span_end(text.as_bytes()), end, "{text}");
+    }
+}

@@ -1,4 +1,3 @@
-use Rattle.std.proofs.Common.{arith}
 use Rattle.pr_strings.specs.Reader.{bytes_of}
 use Rattle.pr_strings.specs.Strings.{content}
 use Rattle.pr_strings.proofs.StringOpen.{not_without_opening, along_start, along_step, target_length, not_past_none, not_past_break, at_place}
