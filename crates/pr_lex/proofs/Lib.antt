@@ -9,3 +9,4 @@ pub mod TextStarts
 pub mod Ordered
 pub mod Grounds
 pub mod Total
+pub mod LongestSigns
