@@ -9,3 +9,4 @@ pub mod TextStarts
 pub mod Ordered
 pub mod NumberEnds
 pub mod Total
+pub mod LongestSigns

@@ -4,3 +4,4 @@ pub mod Tokens
 pub mod Reader
 pub mod Words
 pub mod Order
+pub mod Signs

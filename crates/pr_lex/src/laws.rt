@@ -1,15 +1,23 @@
 //! The laws of tokens, each as the contract of a function that does nothing.
-ghost use Rattle.std.specs.Prelude.{◌≡◌, ℕ, List, ◌⊎◌};
+ghost use Rattle.std.specs.Prelude.{◌≡◌, ℕ, List, length, ◌⊎◌, Ok, Err};
 ghost use Rattle.pr_forms.specs.Table.{IsDecided};
 ghost use Rattle.pr_lex.specs.declared.token.Token.{Token};
 ghost use Rattle.pr_lex.specs.declared.fault.LexKind.{LexKind};
 ghost use Rattle.pr_lex.specs.Number.{production, table};
-ghost use Rattle.pr_lex.specs.Tokens.{HasTokens, HasFault};
+ghost use Rattle.pr_lex.specs.Tokens.{sign_at, HasTokens, HasFault};
+ghost use Rattle.pr_lex.specs.declared.token.Sign.{Sign};
+ghost use Rattle.pr_lex.specs.Signs.{sign_text, BeginsWith, IsLongestSign};
 ghost use Rattle.pr_lex.specs.Order.{AreInOrder};
 
 /// One byte ahead decides the grammar of numbers.
 pub fn one_byte_decides_numbers()
     ensures { IsDecided production table }
+{}
+
+/// The sign that is taken is the longest one that the text begins with; where none is taken, it begins with none.
+pub fn longest_sign_is_taken()
+    ensures taken { (text : List ℕ) (sign : Sign) (n : ℕ) → sign_at text ≡ Ok (sign, n) → (n ≡ length (sign_text sign)) × IsLongestSign text sign }
+    ensures none { (text : List ℕ) (place : ℕ) (sign : Sign) → sign_at text ≡ Err place → BeginsWith text sign → ⊥ }
 {}
 
 /// A text has one list of tokens at most, or one first fault, and not both.
