@@ -8,18 +8,14 @@ use Rattle.std.specs.declared.cmp.Ordering.TheVariants.{Less, Equal, Greater}
 use Rattle.pr_num.specs.declared.value.Num.{Num}
 use Rattle.pr_labels.specs.declared.pair.Pair.{Pair}
 use Rattle.pr_labels.specs.declared.item.Item.{Item}
-use Rattle.pr_labels.specs.LabelSet.{value_of}
+use Rattle.pr_labels.specs.LabelSet.{text_at}
 use Rattle.pr_labels.specs.Order.{labels_cmp}
 use Rattle.pr_history.specs.declared.entry.Entry.{Entry}
 use Rattle.pr_history.specs.Lookback.{value_at}
 
--- the value of a name, empty where the set has not the name
-abbrev pub text_at : List Pair → List ℕ → List ℕ
-text_at labels name = unwrap_or (value_of labels name) []
-
 -- whether a label set has each of the values that are asked for; an absent label is the empty text
-abbrev pub meets : List Pair → List Pair → Bool
-meets equal labels = list_all (λ q. bytes_eq (text_at labels q.name) q.value) equal
+abbrev pub has_values : List Pair → List Pair → Bool
+has_values equal labels = list_all (λ q. bytes_eq (text_at labels q.name) q.value) equal
 
 -- one label set put into those in label order, unless it is among them
 abbrev pub placed : Ordering → List Pair → List Pair → List (List Pair) → List (List Pair) → List (List Pair)
@@ -44,4 +40,4 @@ items_of history x sets = filter_map (λ labels. option_map (item_of labels) (va
 
 -- the chosen series that have a value at a moment
 abbrev pub selected : List Entry → List Pair → ℤ → List (Item Num)
-selected history equal x = items_of history x (chosen (meets equal) history)
+selected history equal x = items_of history x (chosen (has_values equal) history)

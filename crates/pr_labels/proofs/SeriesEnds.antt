@@ -1,5 +1,5 @@
 -- The grammar of series texts ends: so the labels of a text are a function of it.
-use Rattle.std.proofs.Common.{◌≡◌, ℕ, suc, nat_le, Option, Some, None, Bool, true, false, List, [], ◌∷◌, ◌++◌, refl, sym, ap, arith}
+use Rattle.std.proofs.Common.{◌≡◌, ℕ, suc, nat_le, Option, Some, None, Bool, true, false, List, [], ◌∷◌, ◌++◌, refl, sym, ap, ◌∙◌, arith}
 use Rattle.std.proofs.lemmas.Bool.{leb-true, le-leb}
 use Rattle.std.specs.Prelude.{if◌then◌else◌}
 use Rattle.pr_forms.specs.Form.{rule, Reads}
@@ -10,11 +10,11 @@ use Rattle.pr_strings.specs.Strings.{Letter, letter, seen}
 use Rattle.pr_strings.proofs.StringEnds as string_ends
 use Rattle.pr_strings.proofs.Within.{ends_within}
 use Rattle.pr_labels.specs.declared.pair.Pair.{Pair}
-use Rattle.pr_labels.specs.SeriesGrammar.{production, table, place, Rule, Series, MetricByte, MetricRest, Tail, Listed, Braces, Items, Item, NameByte, NameRest, Named, After, Next, InString, Value, listed, quoted, mark, ReadsSeries, ReadsLabels, IsBadPlace, metric_start, metric_byte, name_start, name_byte, is_metric_letter, is_metric_byte, is_letter, is_label_byte}
+use Rattle.pr_labels.specs.SeriesGrammar.{production, table, embedding, Rule, Series, MetricByte, MetricRest, Tail, Listed, Braces, Items, Item, NameByte, NameRest, Named, After, Next, InString, Value, listed, quoted, mark, ReadsSeries, ReadsLabels, IsBadPlace, metric_start, metric_byte, name_start, name_byte, is_metric_letter, is_metric_byte, is_letter, is_label_byte}
 use Rattle.pr_labels.specs.SeriesReading.{rank, steps, pairs_in, series_pairs, bad_series_place, series_labels, HasNoLabels}
 use Rattle.pr_labels.specs.declared.series.TextFault.{TextFault}
 use Rattle.pr_labels.specs.declared.series.TextFault.TheVariants.{BadLabels, Memory}
-use Rattle.pr_labels.specs.SeriesReader.{Refuses, Misses}
+use Rattle.pr_labels.specs.SeriesGrammar.{Refuses, Misses}
 use Rattle.pr_labels.specs.Edits.{labels_of}
 use Rattle.std.specs.Option.{option_map}
 use Rattle.pr_forms.proofs.Places.{one_place}
@@ -61,7 +61,7 @@ ends_known (Named true names name) = tt
 ends_known (Named false names name) = (tt, (tt, (tt, (refl, refl))))
 ends_known (After names) = (tt, refl)
 ends_known (Next names) = ((tt, refl), (tt, tt))
-ends_known (InString n) = ends_within place strings.table table same_empty same_starts same_more strings.rank rank steps (λ m. refl) (strings.rank n) (strings.production n) (string_ends.ends.ends n)
+ends_known (InString n) = ends_within embedding strings.table table same_empty same_starts same_more strings.rank rank steps (λ m. refl) (strings.rank n) (strings.production n) (string_ends.ends.ends n)
 
 below_known : (n : Rule) → nat_le (suc (rank n)) steps ≡ true
 below_known (InString n) = string_ends.ends.below n
@@ -133,3 +133,6 @@ labels_read text ls e = pairs_of_labels text (series_pairs text) ls refl e
 
 pub labels_are_set : (text : List ℕ) (ls : List Pair) → series_labels text ≡ Some ls → IsLabelSet ls
 labels_are_set text ls e = read_is_set text ls (labels_read text ls e)
+
+pub reading_given : (text : List ℕ) (ls : List Pair) → ReadsLabels text ls → series_labels text ≡ Some ls
+reading_given text ls r = labels_given text r.pairs r.reads ∙ ap Some (sym r.are)

@@ -26,7 +26,7 @@ use Rattle.pr_forms.proofs.Ways.{take_side, other_side}
 use Rattle.pr_labels.specs.declared.pair.Pair.{Pair}
 use Rattle.pr_labels.specs.declared.series.Part.{Part}
 use Rattle.pr_labels.specs.declared.series.Part.TheVariants.{MetricFirst, MetricNext, LabelFirst, LabelNext}
-use Rattle.pr_labels.specs.SeriesGrammar.{production, table, Rule, Value, mark, listed, quoted, blanks, sign, sign_at, same_sign, second_of, any_at, goes_on, nothing_follows, is_letter, is_label_byte, is_among, name_start, name_byte, labelled, headed, place, Series, MetricByte, MetricRest, Tail, Braces, metric_start, metric_byte, is_metric_letter, is_metric_byte, Item, Items, NameByte, NameRest, Named, After, Next, InString}
+use Rattle.pr_labels.specs.SeriesGrammar.{production, table, Rule, Value, mark, listed, quoted, blanks, sign, sign_at, same_sign, second_of, any_at, goes_on, nothing_follows, is_letter, is_label_byte, is_among, name_start, name_byte, labelled, headed, embedding, Series, MetricByte, MetricRest, Tail, Braces, metric_start, metric_byte, is_metric_letter, is_metric_byte, Item, Items, NameByte, NameRest, Named, After, Next, InString}
 use Rattle.pr_labels.specs.SeriesReader.{Gives, Takes, Lacks, Leads, in_part, IsOver, over_end, over_byte, IsPart, GoesOn, name_over, name_more, equals, names_of, Reaches, FailsAt, CanClose, starts_listed}
 
 -- a byte at the front
@@ -111,8 +111,8 @@ sign_text wanted first rest None ts h step = tt
 sign_text wanted first rest (Some y) ts h step = keeps_after ts (rest y) h.first.now h.is (small_byte h.first.now (sign_kind wanted (kind_of h.first.now) h.first.now (step h.first (Some (first y)) h.has)))
 
 -- a string, as the grammar of series texts reads it
-string_within : (text : List ℕ) (o : Outcome Letter strings.Value) → Runs strings.production strings.table (rule strings.Text) (seen text) o → Runs production table (rule (InString strings.Text)) (seen text) (outcome_within place o)
-string_within text o k = runs_within place strings.table table (λ n. refl) (λ n t. refl) (λ n t. refl) strings.production production (λ n. refl) (λ v. refl) k
+string_within : (text : List ℕ) (o : Outcome Letter strings.Value) → Runs strings.production strings.table (rule strings.Text) (seen text) o → Runs production table (rule (InString strings.Text)) (seen text) (outcome_within embedding o)
+string_within text o k = runs_within embedding strings.table table (λ n. refl) (λ n t. refl) (λ n t. refl) strings.production production (λ n. refl) (λ v. refl) k
 
 pub value_read : (text rest bytes value : List ℕ) → value ≡ bytes → Runs strings.production strings.table (rule strings.Text) (seen text) (good (strings.content bytes) (seen rest)) →
     Gives (rule (InString strings.Text)) text (good (quoted (strings.content value)) (seen rest))

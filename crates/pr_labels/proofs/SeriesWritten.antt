@@ -16,7 +16,7 @@ use Rattle.pr_labels.specs.Edits.{fault_after, pair_fault}
 use Rattle.pr_labels.specs.LabelSet.{IsLabelSet, has_name, metric_label, pair_of, value_of}
 use Rattle.pr_labels.specs.Names as names_of_bytes
 use Rattle.pr_labels.specs.Names.{is_label_name, is_metric_name}
-use Rattle.pr_labels.specs.SeriesGrammar.{production, table, Rule, Value, listed, quoted, mark, is_among, is_letter, is_label_byte, is_metric_letter, is_metric_byte, place, ReadsSeries, ReadsLabels, MetricByte, MetricRest, Tail, Braces, Item, NameByte, NameRest, Named, After, InString}
+use Rattle.pr_labels.specs.SeriesGrammar.{production, table, Rule, Value, listed, quoted, mark, is_among, is_letter, is_label_byte, is_metric_letter, is_metric_byte, embedding, ReadsSeries, ReadsLabels, MetricByte, MetricRest, Tail, Braces, Item, NameByte, NameRest, Named, After, InString}
 use Rattle.pr_labels.specs.SeriesReader.{names_of}
 use Rattle.pr_labels.specs.SeriesText.{pair_text, following_text, list_text, rest_text, unnamed, text_by_name, series_text}
 use Rattle.pr_labels.proofs.LabelLaws.{first_none}
@@ -66,7 +66,7 @@ label_name names (b ∷ more) rest v end h once d =
     is_rule (is_right (is_chosen {n = NameByte names (b ∷ [])} (chosen_by (is_letter (kind_of b)) (NameByte names (b ∷ [])) (letter_kind b ∙ k.0)) (short next) (is_pair (is_token {v = mark} refl) next)))
 
 value_reads : (value rest : List ℕ) → Reading (rule (InString strings.Text)) (quoted_text value ++ rest) (quoted (strings.content value)) rest
-value_reads value rest = reads_within place strings.table table (λ n. refl) (λ n t. refl) (λ n t. refl) strings.production production (λ n. refl) (λ v. refl) (quoted_reads value rest)
+value_reads value rest = reads_within embedding strings.table table (λ n. refl) (λ n t. refl) (λ n t. refl) strings.production production (λ n. refl) (λ v. refl) (quoted_reads value rest)
 
 pair_reads : (names : List (List ℕ)) (p : Pair) (ps : List Pair) (rest end : List ℕ) → is_label_name p.name ≡ true → is_among p.name names ≡ false →
     Reading (rule (After (names ++ p.name ∷ []))) rest (listed ps) end → Reading (rule (Item names)) (pair_text p ++ rest) (listed (p ∷ ps)) end

@@ -1,5 +1,5 @@
 -- A label set is a list of pairs.
-use Rattle.std.specs.Prelude.{◌≡◌, ◌≢◌, ℕ, Bool, true, List, [], ◌∷◌, codes, find, Option}
+use Rattle.std.specs.Prelude.{◌≡◌, ◌≢◌, ℕ, Bool, true, List, [], ◌∷◌, codes, find, Option, unwrap_or}
 use Rattle.std.specs.Option.{option_map}
 use Rattle.std.specs.Cmp.Lexicographic.{slice_cmp}
 use Rattle.std.specs.Ordering.{nat_cmp}
@@ -35,9 +35,14 @@ pair_of name value = record { name = name; value = value }
 abbrev pub named : List ℕ → List Pair
 named name = pair_of metric_label name ∷ []
 
--- the value of a name, where the set has the name
+-- whether the pair has the name
 abbrev pub has_name : List ℕ → Pair → Bool
 has_name name p = bytes_eq p.name name
 
+-- the value of a name, where the set has the name
 abbrev pub value_of : List Pair → List ℕ → Option (List ℕ)
 value_of labels name = option_map (λ p. p.value) (find (has_name name) labels)
+
+-- the value of a name, empty where the set has not the name
+abbrev pub text_at : List Pair → List ℕ → List ℕ
+text_at labels name = unwrap_or (value_of labels name) []

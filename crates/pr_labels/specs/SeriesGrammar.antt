@@ -8,8 +8,10 @@ use Rattle.pr_strings.specs.declared.kind.Kind.{Kind}
 use Rattle.pr_strings.specs.declared.kind.Kind.TheVariants.{A, B, F, N, R, T, V, X, Short, Long, HexLetter, OtherLetter, Digit, Colon, Open, Close, Comma, Equal, Blank}
 use Rattle.pr_strings.specs.Strings as strings
 use Rattle.pr_strings.specs.Strings.{Letter, letter, seen}
-use Rattle.pr_strings.specs.Within.{Place, within}
+use Rattle.pr_strings.specs.Within.{Embedding, within}
 use Rattle.pr_labels.specs.declared.pair.Pair.{Pair}
+use Rattle.pr_labels.specs.declared.series.TextFault.{TextFault}
+use Rattle.pr_labels.specs.declared.series.TextFault.TheVariants.{BadLabels, Memory}
 use Rattle.pr_labels.specs.Edits.{labels_of}
 use Rattle.pr_labels.specs.LabelSet.{metric_label, pair_of}
 
@@ -131,8 +133,8 @@ abbrev pub inner_value : Value → Option strings.Value
 inner_value (quoted v) = Some v
 inner_value v = None
 
-abbrev pub place : Place strings.Rule strings.Value Rule Value
-place = record { rule_of = InString; value_of = quoted; inner = inner_value; mark_of = mark }
+abbrev pub embedding : Embedding strings.Rule strings.Value Rule Value
+embedding = record { rule_of = InString; value_of = quoted; inner = inner_value; mark_of = mark }
 
 abbrev pub nothing_follows : Letter → Bool
 nothing_follows t = false
@@ -176,7 +178,7 @@ production (Named false names name) = pair second_of blanks (pair second_of (sig
     (pair (labelled name) (rule (InString strings.Text)) (rule (After (names ++ name ∷ []))))))
 production (After names) = pair second_of blanks (rule (Next names))
 production (Next names) = either (pair second_of (sign Comma) (rule (Items names))) (pair second_of (sign Close) (nothing (listed [])))
-production (InString n) = within place (strings.production n)
+production (InString n) = within embedding (strings.production n)
 
 -- What one byte ahead tells of the rules.
 abbrev pub starts_named : Bool → Kind → Bool
@@ -233,3 +235,13 @@ pub record ReadsLabels (text : List ℕ) (labels : List Pair) : Type 0 where
 -- The place is the first one at which no series text can go on.
 abbrev pub IsBadPlace : List ℕ → ℕ → Type 0
 IsBadPlace text place = IsFirstBad production (rule Series) (seen text) place
+
+-- A text is refused at the first place at which no series text can go on.
+abbrev pub Refuses : List ℕ → TextFault → Type 0
+Refuses text (BadLabels at) = IsBadPlace text at
+Refuses text Memory = Unit {0}
+
+-- Only want of memory keeps a series text from being read.
+abbrev pub Misses : TextFault → Type 0
+Misses (BadLabels at) = ⊥
+Misses Memory = Unit {0}

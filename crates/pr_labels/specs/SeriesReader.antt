@@ -11,9 +11,7 @@ use Rattle.pr_strings.specs.Strings.{Letter, kind_of, seen}
 use Rattle.pr_labels.specs.declared.pair.Pair.{Pair}
 use Rattle.pr_labels.specs.declared.series.Part.{Part}
 use Rattle.pr_labels.specs.declared.series.Part.TheVariants.{MetricFirst, MetricNext, LabelFirst, LabelNext}
-use Rattle.pr_labels.specs.declared.series.TextFault.{TextFault}
-use Rattle.pr_labels.specs.declared.series.TextFault.TheVariants.{BadLabels, Memory}
-use Rattle.pr_labels.specs.SeriesGrammar.{production, table, Rule, Value, listed, mark, Listed, blanks, sign, second_of, is_letter, is_label_byte, is_metric_letter, is_metric_byte, IsBadPlace}
+use Rattle.pr_labels.specs.SeriesGrammar.{production, table, Rule, Value, listed, mark, Listed, blanks, sign, second_of, is_letter, is_label_byte, is_metric_letter, is_metric_byte}
 
 abbrev pub Gives : Form Letter Rule Value → List ℕ → Outcome Letter Value → Type 0
 Gives f text o = Runs production table f (seen text) o
@@ -72,13 +70,3 @@ pub data GoesOn (part : Part) : List ℕ → List ℕ → List ℕ → List ℕ 
 -- the sign between a name and a value, before what reads the value
 abbrev pub equals : Form Letter Rule Value → Form Letter Rule Value
 equals h = pair second_of blanks (pair second_of (sign Equal) (pair second_of blanks h))
-
--- A text is refused at the first place at which no series text can go on.
-abbrev pub Refuses : List ℕ → TextFault → Type 0
-Refuses text (BadLabels at) = IsBadPlace text at
-Refuses text Memory = Unit {0}
-
--- Only want of memory keeps a series text from being read.
-abbrev pub Misses : TextFault → Type 0
-Misses (BadLabels at) = ⊥
-Misses Memory = Unit {0}

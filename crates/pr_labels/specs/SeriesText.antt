@@ -1,9 +1,10 @@
 -- The printed text of a label set.
-use Rattle.std.specs.Prelude.{ℕ, not, cond, List, [], ◌∷◌, ◌++◌, codes, filter, flat_map, Option, Some, None}
+use Rattle.std.specs.Prelude.{ℕ, cond, List, [], ◌∷◌, ◌++◌, codes, flat_map, Option, Some, None}
 use Rattle.pr_strings.specs.Quoted.{quoted_text}
 use Rattle.pr_labels.specs.declared.pair.Pair.{Pair}
+use Rattle.pr_labels.specs.Edits.{without_name}
 use Rattle.pr_labels.specs.Names.{is_metric_name}
-use Rattle.pr_labels.specs.LabelSet.{metric_label, has_name, value_of}
+use Rattle.pr_labels.specs.LabelSet.{metric_label, value_of}
 
 abbrev pub pair_text : Pair → List ℕ
 pair_text p = p.name ++ (codes "=" ++ quoted_text p.value)
@@ -27,7 +28,7 @@ rest_text (p ∷ ps) = list_text (p ∷ ps)
 
 -- the pairs but that of the metric's name
 abbrev pub unnamed : List Pair → List Pair
-unnamed labels = filter (λ p. not (has_name metric_label p)) labels
+unnamed labels = without_name labels metric_label
 
 -- the metric's name stands first where it is a classic name, and else among the pairs
 abbrev pub text_by_name : Option (List ℕ) → List Pair → List ℕ

@@ -97,9 +97,9 @@ impl PartialOrd for Labels {
     }
 }
 
-ghost use Rattle.std.specs.Prelude.{◌≡◌, ◌≢◌, [], IfOk};
+ghost use Rattle.std.specs.Prelude.{◌≡◌, [], IfOk};
 ghost use Rattle.std.specs.Option.{option_copied};
-ghost use Rattle.pr_labels.specs.LabelSet.{value_of, named};
+ghost use Rattle.pr_labels.specs.LabelSet.{value_of};
 
 impl Labels {
     /// The empty label set.
@@ -109,19 +109,6 @@ impl Labels {
         Labels {
             pairs: Vec::new(alloc),
         }
-    }
-
-    /// The label set of a metric name alone.
-    pub fn of_metric(alloc: Global, name: &str) -> Result<Labels, AllocError>
-        requires { name.now ≢ [] }
-        ensures { IfOk result (λ l. l ≡ named name.now) }
-    {
-        let mut pairs = Vec::new(alloc);
-        pairs.push(Pair {
-            name: Text::from_str(alloc, "__name__")?,
-            value: Text::from_str(alloc, name)?,
-        })?;
-        Ok(Labels { pairs })
     }
 
     /// The pairs, in order of name.

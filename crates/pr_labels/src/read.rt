@@ -1,7 +1,6 @@
 //! Reading a label set.
 ghost use Rattle.std.specs.Prelude.{◌≡◌, List, Some, length, IfOk, MatchResult};
-ghost use Rattle.pr_labels.specs.SeriesGrammar.{IsBadPlace, ReadsLabels};
-ghost use Rattle.pr_labels.specs.SeriesReader.{Refuses, Misses};
+ghost use Rattle.pr_labels.specs.SeriesGrammar.{IsBadPlace, ReadsLabels, Refuses, Misses};
 ghost use Rattle.pr_labels.specs.SeriesReading.{series_labels, HasNoLabels};
 ghost use Rattle.pr_labels.specs.declared.pair.Pair.{Pair};
 

@@ -25,10 +25,12 @@ ghost use Rattle.pr_labels.specs.SeriesGrammar.{
   InString,
   production,
   ReadsSeries,
+  Refuses,
+  Misses,
   IsBadPlace,
 };
 ghost use Rattle.pr_labels.specs.LabelSet.{metric_label, pair_of};
-ghost use Rattle.pr_labels.specs.SeriesReader.{Gives, Takes, Lacks, Leads, FailsAt, names_of, Reaches, CanClose, starts_listed, in_part, IsOver, IsPart, GoesOn, equals, Refuses, Misses};
+ghost use Rattle.pr_labels.specs.SeriesReader.{Gives, Takes, Lacks, Leads, FailsAt, names_of, Reaches, CanClose, starts_listed, in_part, IsOver, IsPart, GoesOn, equals};
 
 use crate::pair::Pair;
 use pr_forms::{Fault, place_of, take};

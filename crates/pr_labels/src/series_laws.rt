@@ -1,16 +1,19 @@
 //! The laws of series texts, each as the contract of a function that does nothing.
 ghost use Rattle.std.specs.Prelude.{◌≡◌, ℕ, List, Some, None};
 ghost use Rattle.pr_forms.specs.Table.{IsDecided};
+ghost use Rattle.pr_forms.specs.Reading.{Ends};
 ghost use Rattle.pr_labels.specs.Edits.{first_fault};
 ghost use Rattle.pr_labels.specs.LabelSet.{IsLabelSet};
 ghost use Rattle.pr_labels.specs.SeriesGrammar.{production, table, ReadsSeries, ReadsLabels, IsBadPlace};
-ghost use Rattle.pr_labels.specs.SeriesReading.{series_pairs, series_labels, bad_series_place};
+ghost use Rattle.pr_labels.specs.SeriesReading.{rank, steps, series_pairs, series_labels, bad_series_place};
 ghost use Rattle.pr_labels.specs.SeriesText.{series_text};
 ghost use Rattle.pr_labels.specs.declared.pair.Pair.{Pair};
 
-/// One byte ahead decides the grammar of series texts: so a text is read in one way, and without going back.
+/// One byte ahead decides the grammar of series texts: so a text is read in one way, and without going back. The grammar
+/// ends: so its reading is a function of the text.
 pub fn one_byte_decides_series_texts()
-    ensures { IsDecided production table }
+    ensures decided { IsDecided production table }
+    ensures ends { Ends production table rank steps }
 {}
 
 /// What a series text reads as is a function of its bytes, and so are its label set and the first bad place.
@@ -18,6 +21,7 @@ pub fn reading_of_a_series_text_is_a_function()
     ensures reads { (text : List ℕ) (pairs : List Pair) → series_pairs text ≡ Some pairs → ReadsSeries text pairs }
     ensures given { (text : List ℕ) (pairs : List Pair) → ReadsSeries text pairs → series_pairs text ≡ Some pairs }
     ensures labels { (text : List ℕ) (labels : List Pair) → series_labels text ≡ Some labels → ReadsLabels text labels }
+    ensures labels_given { (text : List ℕ) (labels : List Pair) → ReadsLabels text labels → series_labels text ≡ Some labels }
     ensures place { (text : List ℕ) → IsBadPlace text (bad_series_place text) }
 {}
 

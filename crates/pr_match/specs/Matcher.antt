@@ -1,9 +1,9 @@
 -- What matchers ask of label sets.
-use Rattle.std.specs.Prelude.{ℕ, Bool, true, false, not, List, [], filter, map, Option, None, Some, unwrap_or}
+use Rattle.std.specs.Prelude.{ℕ, Bool, true, false, not, List, filter, map, Option, None, Some}
 use Rattle.std.specs.List.{list_all, enumerate_from}
 use Rattle.std.specs.Str.{bytes_eq}
 use Rattle.pr_labels.specs.declared.pair.Pair.{Pair}
-use Rattle.pr_labels.specs.LabelSet.{value_of}
+use Rattle.pr_labels.specs.LabelSet.{text_at}
 use Rattle.pr_match.specs.Pattern.{is_pattern, matches_whole}
 use Rattle.pr_match.specs.declared.op.MatchOp.{MatchOp}
 use Rattle.pr_match.specs.declared.op.MatchOp.TheVariants.{Equal, NotEqual, Like, NotLike}
@@ -30,10 +30,6 @@ passes Equal text value = bytes_eq value text
 passes NotEqual text value = not (bytes_eq value text)
 passes Like pattern value = matches_whole pattern value
 passes NotLike pattern value = not (matches_whole pattern value)
-
--- the value of a name, empty where the set has not the name
-abbrev pub text_at : List Pair → List ℕ → List ℕ
-text_at labels name = unwrap_or (value_of labels name) []
 
 -- whether a label set meets a matcher
 unfoldable pub meets : LabelTest → List Pair → Bool

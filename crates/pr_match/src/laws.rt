@@ -4,7 +4,7 @@ ghost use Rattle.std.specs.Prelude.{◌≡◌, ℕ, List, [], codes, nat_eq, not
 ghost use Rattle.std.specs.List.{list_any, slice_get};
 ghost use Rattle.pr_labels.specs.declared.pair.Pair.{Pair};
 ghost use Rattle.pr_labels.specs.LabelSet.{value_of};
-ghost use Rattle.pr_match.specs.Pattern.{is_pattern, matches_whole, expanded};
+ghost use Rattle.pr_match.specs.Pattern.{is_pattern, matches_whole, expanded, is_readable, anchored};
 ghost use Rattle.pr_match.specs.Matcher.{LabelTest, label_test, is_met, meets, passes, places_from};
 ghost use Rattle.pr_match.specs.declared.op.MatchOp.TheVariants.{Equal, NotEqual, Like, NotLike};
 
@@ -43,6 +43,9 @@ pub fn patterns_by_example()
     ensures no_match { expanded (codes "a") (codes "b") (codes "x") ≡ None }
     ensures pattern { is_pattern (codes "a(b)") ≡ true }
     ensures open_group { is_pattern (codes "a(") ≡ false }
-    ensures only_wrapped { is_pattern (codes ")(?:") ≡ false }
+    ensures only_anchored { is_pattern (codes ")(?:") ≡ false }
+    ensures anchored_reads { is_readable (anchored (codes ")(?:")) ≡ true }
     ensures only_alone { is_pattern (codes "(?x)a #") ≡ false }
+    ensures alone_reads { is_readable (codes "(?x)a #") ≡ true }
+    ensures last_line_feed { matches_whole (codes "a") (codes "a\n") ≡ false }
 {}

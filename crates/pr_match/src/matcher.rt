@@ -27,8 +27,8 @@ impl Model for Matcher {
 }
 
 impl Matcher {
-    /// The matcher of a name, an operator and a text. It is `BadPattern` exactly where the operator is `Like` or
-    /// `NotLike` and the text is no pattern (`Pattern::build`). Any text may be the name.
+    /// The matcher of a name, an operator and a text. Unless memory runs out, it is `BadPattern` exactly where the
+    /// operator is `Like` or `NotLike` and the text is no pattern (`Pattern::build`). Any text may be the name.
     pub fn build(alloc: Global, name: &str, op: MatchOp, text: &str) -> Result<Matcher, MatchError>
         ensures made { IfOk result (λ m. m ≡ label_test name.now op text.now) }
         ensures good { OnOk result (may_follow op text.now ≡ true) }

@@ -30,7 +30,7 @@ impl Model for Pattern {
 }
 
 impl Pattern {
-    /// The pattern of a text. It is `BadPattern` exactly where the text, alone or anchored as `^(?s:text)$`, is no
+    /// The pattern of a text. Unless memory runs out, it is `BadPattern` exactly where the text, alone or anchored as `^(?s:text)$`, is no
     /// regular expression of the crate `regex`, or is nested in more than 250 levels. A pattern that is too large
     /// to compile wants memory. (Own choice: Prometheus reads RE2's syntax.)
     #[tactic(auto, unfolding(crate::specs::Pattern::is_pattern))]

@@ -37,7 +37,7 @@ impl<'m> Selection<'m> {
 
     /// Whether a label set meets all of the matchers.
     #[tactic(auto, unfolding(crate::specs::Matcher::meets_all))]
-    pub fn takes(&mut self, labels: &Labels) -> bool
+    pub fn matches(&mut self, labels: &Labels) -> bool
         ensures found { result ≡ meets_all self.old labels.now }
         ensures same { self.new ≡ self.old }
     {
@@ -62,7 +62,7 @@ pub fn select(
     let mut selection = Selection::of(alloc, matchers)?;
     let mut places = Vec::new(alloc);
     for (place, labels) in sets.iter().enumerate() {
-        if selection.takes(labels) {
+        if selection.matches(labels) {
             places.push(place)?;
         }
     }

@@ -8,7 +8,7 @@ mod tests;
 ghost use Rattle.std.specs.Prelude.{◌≡◌, ◌&&◌, true, false, IfOk, OnOk};
 ghost use Rattle.std.specs.List.{slice_get};
 ghost use Rattle.pr_match.specs.Pattern.{is_pattern, expanded};
-ghost use Rattle.pr_match.specs.Matcher.{label_test, meets, meets_all, places_from};
+ghost use Rattle.pr_match.specs.Matcher.{label_test, may_follow, meets, meets_all, places_from};
 ghost use Rattle.pr_match.specs.declared.op.MatchOp.TheVariants.{Like};
 
 use pr_labels::Labels;
@@ -38,8 +38,8 @@ pub fn both_meet(
     ensures { IfOk result (λ both. both ≡ meets_all matchers.now one.now && meets_all matchers.now other.now) }
 {
     let mut selection = Selection::of(alloc, matchers)?;
-    let first = selection.takes(one);
-    let second = selection.takes(other);
+    let first = selection.matches(one);
+    let second = selection.matches(other);
     Ok(first && second)
 }
 
@@ -51,6 +51,8 @@ pub fn is_like(
     pattern: &str,
 ) -> Result<bool, MatchError>
     ensures found { IfOk result (λ found. found ≡ meets (label_test name.now Like pattern.now) labels.now) }
+    ensures good { OnOk result (may_follow Like pattern.now ≡ true) }
+    ensures bad { result ≡ Err MatchError.BadPattern → may_follow Like pattern.now ≡ false }
 {
     let matcher = Matcher::build(alloc, name, MatchOp::Like, pattern)?;
     Ok(matcher.matches(alloc, labels)?)

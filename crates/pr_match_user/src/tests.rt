@@ -1,5 +1,6 @@
 //! Each function once.
 use super::*;
+use pr_labels::read_series_text;
 use std::test::Fail;
 
 fn matcher_of(alloc: Global, name: &str, op: MatchOp, text: &str) -> Result<Matcher, Fail> {
@@ -14,7 +15,7 @@ fn callers_get_what_matchers_say(rt: HostRuntime) -> Result<(), Fail> {
     let alloc = rt.alloc();
     let mut sets = Vec::new(alloc);
     for name in ["up", "down", "uptime"] {
-        sets.push(Labels::of_metric(alloc, name)?)?;
+        sets.push(read_series_text(alloc, name).map_err(|_| "no label set")?)?;
     }
     let mut matchers = Vec::new(alloc);
     matchers.push(matcher_of(alloc, "__name__", MatchOp::NotEqual, "up")?)?;

@@ -5,7 +5,7 @@ use Rattle.pr_forms.specs.Form.{Form, token, nothing, pair, either, turns, fold,
 use Rattle.pr_forms.specs.Table.{Table, empty_of, starts_of, more_of, is_next, negation, parts_at, is_solid, Binds, Decides}
 use Rattle.pr_forms.specs.Run.{Outcome, good, bad, Runs, run_token, run_other, run_end, run_nothing, run_pair, run_first, run_second, run_left, run_right, run_stop, run_turn, run_in_turn, run_fold, run_base, run_chosen, run_chosen_bad, run_unchosen, run_chosen_end, run_rule}
 use Rattle.pr_forms.specs.Reading.{EndsIn, after_part}
-use Rattle.pr_strings.specs.Within.{Place, on_option, join_inner, lifted, within, outcome_within}
+use Rattle.pr_strings.specs.Within.{Embedding, on_option, join_inner, lifted, within, outcome_within}
 
 some_within : {X Y : Type 0} (f : X → Y) (o : Option X) → is_some (on_option f o) ≡ is_some o
 some_within f None = refl
@@ -23,7 +23,7 @@ both_or e h = rw (e, h) refl
 both_and : {a b c d : Bool} → a ≡ c → b ≡ d → (a && b) ≡ (c && d)
 both_and e h = rw (e, h) refl
 
-module _ {T N V M W : Type 0} (p : Place N V M W) (S : Table T N) (Z : Table T M)
+module _ {T N V M W : Type 0} (p : Embedding N V M W) (S : Table T N) (Z : Table T M)
     (same_empty : (n : N) → Z.empty (p.rule_of n) ≡ S.empty n) (same_starts : (n : N) (t : T) → Z.starts (p.rule_of n) t ≡ S.starts n t)
     (same_more : (n : N) (t : T) → Z.more (p.rule_of n) t ≡ S.more n t) where
   pub empty_within : (f : Form T N V) → empty_of Z (within p f) ≡ empty_of S f

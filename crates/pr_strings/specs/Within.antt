@@ -4,7 +4,7 @@ use Rattle.pr_forms.specs.Form.{Form, token, nothing, pair, either, turns, fold,
 use Rattle.pr_forms.specs.Run.{Outcome, good, bad}
 
 -- How the rules and the values of a grammar stand in another one.
-pub record Place (N V M W : Type 0) : Type 0 where
+pub record Embedding (N V M W : Type 0) : Type 0 where
   -- the rule and the value that stand for one of the grammar
   pub rule_of : N → M
   pub value_of : V → W
@@ -22,11 +22,11 @@ join_inner up other c (Some v) (Some w) = up (c v w)
 join_inner up other c _ _ = other
 
 -- how values are joined, on what stands for them
-abbrev pub lifted : {N V M W : Type 0} → Place N V M W → (V → V → V) → W → W → W
+abbrev pub lifted : {N V M W : Type 0} → Embedding N V M W → (V → V → V) → W → W → W
 lifted p c v w = join_inner p.value_of p.mark_of c (p.inner v) (p.inner w)
 
 -- a form of the grammar, in the other one
-abbrev pub within : {T N V M W : Type 0} → Place N V M W → Form T N V → Form T M W
+abbrev pub within : {T N V M W : Type 0} → Embedding N V M W → Form T N V → Form T M W
 within p (token f) = token (λ t. on_option p.value_of (f t))
 within p (nothing v) = nothing (p.value_of v)
 within p (pair c f g) = pair (lifted p c) (within p f) (within p g)
@@ -37,6 +37,6 @@ within p (chosen q m) = chosen (λ t. on_option p.rule_of (q t)) m
 within p (rule n) = rule (p.rule_of n)
 
 -- what a reader of the other grammar gives, where one of the grammar gives an outcome
-abbrev pub outcome_within : {T N V M W : Type 0} → Place N V M W → Outcome T V → Outcome T W
+abbrev pub outcome_within : {T N V M W : Type 0} → Embedding N V M W → Outcome T V → Outcome T W
 outcome_within p (good v rest) = good (p.value_of v) rest
 outcome_within p (bad rest) = bad rest

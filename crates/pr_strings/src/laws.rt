@@ -1,12 +1,15 @@
 //! The laws of strings, each as the contract of a function that does nothing.
 ghost use Rattle.std.specs.Prelude.{ℕ, List, ◌++◌};
 ghost use Rattle.pr_forms.specs.Table.{IsDecided};
+ghost use Rattle.pr_forms.specs.Reading.{Ends};
 ghost use Rattle.pr_strings.specs.Quoted.{quoted_text};
-ghost use Rattle.pr_strings.specs.Strings.{production, table, IsString};
+ghost use Rattle.pr_strings.specs.Strings.{production, table, rank, steps, IsString};
 
-/// One byte ahead decides the grammar of strings: so a string is read in one way, and without going back.
+/// One byte ahead decides the grammar of strings: so a string is read in one way, and without going back. The grammar ends:
+/// so its reading is a function of the text.
 pub fn one_byte_decides()
-    ensures { IsDecided production table }
+    ensures decided { IsDecided production table }
+    ensures ends { Ends production table rank steps }
 {}
 
 /// Bytes that are written in double quotes are read as those bytes, whatever follows.

@@ -4,10 +4,11 @@ use Rattle.std.specs.Prelude.{cond, ◌&&◌}
 use Rattle.std.specs.Str.{bytes_eq, is_utf8}
 use Rattle.pr_labels.specs.declared.pair.Pair.{Pair}
 use Rattle.pr_labels.specs.LabelSet.{IsLabelSet}
+use Rattle.pr_labels.specs.SeriesGrammar.{ReadsLabels}
 use Rattle.pr_labels.specs.SeriesText.{series_text}
 use Rattle.pr_labels.specs.SeriesReading.{series_labels}
 use Rattle.pr_labels.proofs.LabelLaws.{same_names, alike}
-use Rattle.pr_labels.proofs.SeriesEnds.{labels_given, labels_are_set}
+use Rattle.pr_labels.proofs.SeriesEnds.{labels_given, labels_read, labels_are_set, reading_given}
 use Rattle.pr_labels.proofs.SeriesWritten.{written_reads}
 use Rattle.pr_top.specs.Script.{can_be_asked, is_selector, selector_by, selector_of, series_of}
 
@@ -53,3 +54,14 @@ is_printed text ls e = same_names (series_text ls) text (made text ls e).printed
 
 pub is_asked : (text : List ℕ) (ls : List Pair) → selector_of text ≡ Some ls → can_be_asked ls ≡ true
 is_asked text ls e = (made text ls e).asked
+
+-- a sample's series is what its text reads as
+of_read : (text : List ℕ) (b : Bool) (ls : List Pair) → cond b (series_labels text) None ≡ Some ls → ReadsLabels text ls
+of_read text true ls e = labels_read text ls e
+of_read text false ls e = absurd (cc)
+
+pub is_series : (text : List ℕ) (ls : List Pair) → series_of text ≡ Some ls → ReadsLabels text ls
+is_series text ls e = of_read text (is_utf8 text) ls e
+
+pub is_sample : (text : List ℕ) (ls : List Pair) → is_utf8 text ≡ true → ReadsLabels text ls → series_of text ≡ Some ls
+is_sample text ls u r = rw u (reading_given text ls r)

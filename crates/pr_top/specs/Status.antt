@@ -1,5 +1,5 @@
 -- What the program ends with.
-use Rattle.std.specs.Prelude.{◌≡◌, ℕ, Bool, true, false, List, [], ◌∷◌, codes}
+use Rattle.std.specs.Prelude.{◌≡◌, ℕ, ◌<◌, ◌≤◌, ◌^◌, Bool, true, false, List, [], ◌∷◌, length, codes, Option, IfSome}
 use Rattle.std.specs.Str.{bytes_eq}
 use Rattle.pr_outside.specs.Causes.{Rose}
 use Rattle.pr_top.specs.declared.status.Status.{Status}
@@ -101,3 +101,10 @@ HasOneCause read_before read_now write_before write_now WriteFault = (read_now �
 HasOneCause read_before read_now write_before write_now StoreFault = (read_now ≡ read_before) × (write_now ≡ write_before)
 HasOneCause read_before read_now write_before write_now Memory = (read_now ≡ read_before) × (write_now ≡ write_before)
 HasOneCause read_before read_now write_before write_now TooLong = (read_now ≡ read_before) × (write_now ≡ write_before)
+
+-- An input has fewer than 2^32 bytes left, and as many or more.
+abbrev pub IsShort : Option (List ℕ) → Type 0
+IsShort left = IfSome left (λ bytes. length bytes < 2 ^ 32)
+
+abbrev pub IsLong : Option (List ℕ) → Type 0
+IsLong left = IfSome left (λ bytes. 2 ^ 32 ≤ length bytes)

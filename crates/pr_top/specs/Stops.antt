@@ -1,9 +1,10 @@
 -- What stops a run, and when.
-use Rattle.std.specs.Prelude.{◌≡◌, ℕ, ◌^◌, ◌≤◌, ◌<◌, List, length, Result, Ok, Err, IfSome}
+use Rattle.std.specs.Prelude.{◌≡◌, ℕ, List, Result, Ok, Err}
 use Rattle.std.specs.declared.option.Option.{Option}
 use Rattle.pr_outside.specs.Causes.{Rose}
 use Rattle.pr_outside.specs.declared.streams.SinkError.{SinkError}
 use Rattle.pr_outside.specs.declared.streams.SinkError.TheVariants as sink
+use Rattle.pr_top.specs.Status.{IsShort, IsLong}
 use Rattle.pr_top.specs.declared.status.Stop.{Stop}
 use Rattle.pr_top.specs.declared.status.Stop.TheVariants.{Read, Write, Memory, TooLong}
 
@@ -29,13 +30,7 @@ StopsRunning read_before read_now write_before write_now (Err Write) = (read_now
 StopsRunning read_before read_now write_before write_now (Err Memory) = (read_now ≡ read_before) × (write_now ≡ write_before)
 StopsRunning read_before read_now write_before write_now (Err TooLong) = (read_now ≡ read_before) × (write_now ≡ write_before)
 
--- A run that met the end of its input took fewer than 2^32 bytes, and one whose input is too long took as many.
-abbrev pub IsShort : Option (List ℕ) → Type 0
-IsShort left = IfSome left (λ bytes. length bytes < 2 ^ 32)
-
-abbrev pub IsLong : Option (List ℕ) → Type 0
-IsLong left = IfSome left (λ bytes. 2 ^ 32 ≤ length bytes)
-
+-- A run that met the end of its input took few enough bytes, and one whose input is too long did not.
 abbrev pub KnowsLength : {T : Type 0} → Option (List ℕ) → Result T Stop → Type 0
 KnowsLength left (Ok done) = IsShort left
 KnowsLength left (Err Read) = Unit {0}

@@ -3,7 +3,8 @@ ghost use Rattle.std.specs.Prelude.{◌≡◌, ◌++◌, ◌&&◌, ◌≤◌, po
 ghost use Rattle.std.specs.Option.{option_copied};
 ghost use Rattle.pr_history.specs.Admission.{admit, is_of, last_entry};
 ghost use Rattle.pr_history.specs.Lookback.{value_at, is_recent};
-ghost use Rattle.pr_history.specs.Series.{text_at, meets, with_labels, chosen, items_of, selected};
+ghost use Rattle.pr_labels.specs.LabelSet.{text_at};
+ghost use Rattle.pr_history.specs.Series.{has_values, with_labels, chosen, items_of, selected};
 
 use pr_history::{Append, Entry};
 use pr_labels::{Item, Labels, Pair};
@@ -89,8 +90,8 @@ fn text_at<'a>(labels: &'a Labels, name: &str) -> &'a str
 }
 
 // Whether a label set has each of the values.
-fn meets(equal: &[Pair], labels: &Labels) -> bool
-    ensures { result ≡ meets equal.now labels.now }
+fn has_values(equal: &[Pair], labels: &Labels) -> bool
+    ensures { result ≡ has_values equal.now labels.now }
 {
     for pair in equal {
         if text_at(labels, pair.name.as_str()) != pair.value.as_str() {
@@ -128,11 +129,11 @@ fn add_labels(alloc: Global, sets: &mut Vec<Labels>, labels: &Labels) -> Result<
 
 // The series that have all these labels, in order, each once.
 fn chosen(alloc: Global, history: &[Entry], equal: &[Pair]) -> Result<Vec<Labels>, AllocError>
-    ensures { IfOk result (λ v. v.items ≡ chosen (meets equal.now) history.now) }
+    ensures { IfOk result (λ v. v.items ≡ chosen (has_values equal.now) history.now) }
 {
     let mut sets = Vec::new(alloc);
     for e in history {
-        if meets(equal, &e.labels) {
+        if has_values(equal, &e.labels) {
             add_labels(alloc, &mut sets, &e.labels)?;
         }
     }

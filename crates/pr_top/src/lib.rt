@@ -14,6 +14,6 @@ mod texts;
 mod top;
 
 pub use examples::a_value_is_told_for_five_minutes;
-pub use laws::questions_are_printed_label_sets;
+pub use laws::samples_and_questions_have_label_sets;
 pub use status::Status;
 pub use top::promtool;

@@ -99,7 +99,7 @@ fn point_of(text: &[u8]) -> Option<Point>
 }
 
 // The label set of a series text.
-fn labels_of(alloc: Global, text: &str) -> Result<Option<Labels>, AllocError>
+fn labels_read(alloc: Global, text: &str) -> Result<Option<Labels>, AllocError>
     ensures { IfOk result (λ o. o ≡ series_labels text.now) }
 {
     match read_series_text(alloc, text) {
@@ -114,7 +114,7 @@ fn series_of(alloc: Global, text: &[u8]) -> Result<Option<Labels>, AllocError>
     ensures { IfOk result (λ o. o ≡ series_of text.now) }
 {
     match str::from_utf8(text) {
-        Ok(text) => labels_of(alloc, text),
+        Ok(text) => labels_read(alloc, text),
         Err(_) => Ok(None),
     }
 }

@@ -4,8 +4,7 @@ ghost use Rattle.std.specs.Io.KnownBytes.{Appends, IsAtEnd};
 ghost use Rattle.pr_outside.specs.Causes.{Rose, IsCalm};
 ghost use Rattle.pr_words.specs.Lines.{lines_of};
 ghost use Rattle.pr_top.specs.Front.{IsFront};
-ghost use Rattle.pr_top.specs.Status.{is_run, IsRun, IsEnded, IsWhole, IsRunStatus, IsUsageStatus, IsStatusSoFar, HasOneCause, verdict};
-ghost use Rattle.pr_top.specs.Stops.{IsLong};
+ghost use Rattle.pr_top.specs.Status.{is_run, IsRun, IsEnded, IsWhole, IsRunStatus, IsUsageStatus, IsStatusSoFar, HasOneCause, IsLong, verdict};
 ghost use Rattle.pr_top.specs.Told.{told, refuses};
 ghost use Rattle.pr_top.specs.Usage.{usage_text};
 

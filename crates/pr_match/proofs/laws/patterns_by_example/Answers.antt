@@ -34,10 +34,22 @@ pub returns-clause-open_group : goal.returns-clause-open_group
 unfolding computing
 returns-clause-open_group c = refl
 
-pub returns-clause-only_wrapped : goal.returns-clause-only_wrapped
+pub returns-clause-only_anchored : goal.returns-clause-only_anchored
 unfolding computing
-returns-clause-only_wrapped c = refl
+returns-clause-only_anchored c = refl
 
 pub returns-clause-only_alone : goal.returns-clause-only_alone
 unfolding computing
 returns-clause-only_alone c = refl
+
+pub returns-clause-anchored_reads : goal.returns-clause-anchored_reads
+unfolding computing
+returns-clause-anchored_reads c = refl
+
+pub returns-clause-alone_reads : goal.returns-clause-alone_reads
+unfolding computing
+returns-clause-alone_reads c = refl
+
+pub returns-clause-last_line_feed : goal.returns-clause-last_line_feed
+unfolding computing
+returns-clause-last_line_feed c = refl

@@ -1,6 +1,6 @@
 use Rattle.std.proofs.Common.{◌≡◌, drop, vec_len}
 use Rattle.pr_match.specs.Matcher.{meets_all}
-use Rattle.pr_match.proofs.selection.Selection.takes.Given as goal
+use Rattle.pr_match.proofs.selection.Selection.matches.Given as goal
 
 -- the searchers stay, and those so far are met
 abbrev pub invariant-loop-at : goal.invariant-loop-at
