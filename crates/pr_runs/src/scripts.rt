@@ -6,7 +6,7 @@ use std::test::Fail;
 #[test]
 fn scripts_are_answered(rt: HostRuntime) -> Result<(), Fail> {
     let alloc = rt.alloc();
-    let cases: [(&[u8], &[u8], Status); 14] = [
+    let cases: [(&[u8], &[u8], Status); 16] = [
         (b"", b"opened 0\n", Status::Done),
         (
             b"add 0 m 1\nquery 299999 m\nquery 300000 m\n",
@@ -60,6 +60,17 @@ fn scripts_are_answered(rt: HostRuntime) -> Result<(), Fail> {
         (
             b"\n# a comment\nx\n",
             b"opened 0\nbad line 3\n",
+            Status::Problem,
+        ),
+        // The scripts of the formats' page.
+        (
+            b"add 0 m 1\nquery 299999 m\nquery 300000 m\nadd 1 m 2\nadd 300000 m 2\nadd 300000 m 2.0\nadd 300000 m 3\nadd 300001 m stale\nadd 300001 m 3\nquery 300001 m\n",
+            b"opened 0\nadded\nvector 1\nvalue m 1\nvector 0\nbackwards last 300000 given 1\nadded\nsame\ndropped Conflict 2\nadded\ndropped Conflict stale\nvector 0\n",
+            Status::Problem,
+        ),
+        (
+            b"add 0 up{job=\"b\", inst='x y'} 1\nadd 0 up {inst=\"z\"} 0\nadd 0 {job=\"b\"} 5\nadd 0 {} 7\nadd 0 {__name__=\"my metric\"} 8\nadd 0 m{path=\"C:\\\\\"} 9\nquery 0 {job=\"b\"}\nquery 0 up\nquery 0 {__name__=\"my metric\"}\nquery 0 m\nquery 0 up{job=\"b\",}\n",
+            b"opened 0\nadded\nadded\nadded\nadded\nadded\nadded\nvector 2\nvalue up{inst=\"x y\",job=\"b\"} 1\nvalue {job=\"b\"} 5\nvector 2\nvalue up{inst=\"x y\",job=\"b\"} 1\nvalue up{inst=\"z\"} 0\nvector 1\nvalue {__name__=\"my metric\"} 8\nvector 1\nvalue m{path=\"C:\\\\\"} 9\nbad line 11\n",
             Status::Problem,
         ),
         // A series is any label set, and a question asks for all that have its labels.
