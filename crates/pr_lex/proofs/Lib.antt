@@ -10,3 +10,4 @@ pub mod Ordered
 pub mod NumberEnds
 pub mod Total
 pub mod LongestSigns
+pub mod FaultPlaces

@@ -1,5 +1,5 @@
 //! The laws of tokens, each as the contract of a function that does nothing.
-ghost use Rattle.std.specs.Prelude.{◌≡◌, ℕ, List, length, ◌⊎◌, Ok, Err};
+ghost use Rattle.std.specs.Prelude.{◌≡◌, ◌≤◌, ℕ, List, length, ◌⊎◌, Ok, Err};
 ghost use Rattle.pr_forms.specs.Table.{IsDecided};
 ghost use Rattle.pr_lex.specs.declared.token.Token.{Token};
 ghost use Rattle.pr_lex.specs.declared.fault.LexKind.{LexKind};
@@ -36,4 +36,9 @@ pub fn every_text_is_answered()
 /// blanks and comments.
 pub fn tokens_lie_in_order()
     ensures { (text : List ℕ) (tokens : List Token) → HasTokens text tokens → AreInOrder text 0 tokens }
+{}
+
+/// The first fault of a text lies in it, or at its end.
+pub fn fault_lies_in_its_text()
+    ensures { (text : List ℕ) (place : ℕ) (kind : LexKind) → HasFault text place kind → place ≤ length text }
 {}

@@ -59,7 +59,7 @@ const WORDS: [Word; 23] = [
 ];
 
 impl Word {
-    /// The word as it is printed, in small letters.
+    /// The word in small letters.
     #[tactic(auto, unfolding(crate::specs::Words::word_text))]
     pub fn text(self) -> &'static str
         ensures { result.now ≡ word_text self }
@@ -110,7 +110,7 @@ fn first_word(text: &str, words: &[Word]) -> Option<Word>
     None
 }
 
-/// The word that a name is, in any case. That a word is never the bare name of a metric, in any case, is an own choice.
+/// The word that a name is, in any case.
 #[tactic(auto, unfolding(crate::specs::Words::word_of, crate::specs::Words::words))]
 pub fn word_of(text: &str) -> Option<Word>
     ensures { result ≡ word_of text.now }

@@ -381,7 +381,7 @@ pub fn read_string(alloc: Global, text: &[u8]) -> Result<(Vec<u8>, &[u8]), Fault
     }
 }
 
-/// Whether a string that begins with the text could end at the place: only whole pieces stand between its first quote and
+/// Whether the string that the text begins with could end at the place: only whole pieces stand between its first quote and
 /// the place. So a reader of other texts tells a string that is left open from one that breaks off inside an escape.
 pub fn is_open_at(text: &[u8], place: usize) -> bool
     requires { place ≤ length text.now }
