@@ -10,3 +10,7 @@ pub mod Ordered
 pub mod NumberEnds
 pub mod Total
 pub mod LongestSigns
+pub mod Untaken
+pub mod SpaceEnds
+pub mod SpacedParts
+pub mod SpacedTokens

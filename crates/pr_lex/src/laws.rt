@@ -8,6 +8,7 @@ ghost use Rattle.pr_lex.specs.Tokens.{sign_at, HasTokens, HasFault};
 ghost use Rattle.pr_lex.specs.declared.token.Sign.{Sign};
 ghost use Rattle.pr_lex.specs.Signs.{sign_text, BeginsWith, IsLongestSign};
 ghost use Rattle.pr_lex.specs.Order.{AreInOrder};
+ghost use Rattle.pr_lex.specs.Spaced.{spaced, kinds};
 
 /// One byte ahead decides the grammar of numbers.
 pub fn one_byte_decides_numbers()
@@ -36,4 +37,10 @@ pub fn every_text_is_answered()
 /// blanks and comments.
 pub fn tokens_lie_in_order()
     ensures { (text : List ℕ) (tokens : List Token) → HasTokens text tokens → AreInOrder text 0 tokens }
+{}
+
+/// The texts of the tokens, with a space after each, have the same tokens again, but for their places.
+pub fn token_texts_have_the_tokens_again()
+    ensures { (text : List ℕ) (tokens : List Token) → HasTokens text tokens →
+        (again : List Token) × HasTokens (spaced text tokens) again × (kinds again ≡ kinds tokens) }
 {}
