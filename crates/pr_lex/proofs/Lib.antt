@@ -11,3 +11,7 @@ pub mod NumberEnds
 pub mod Total
 pub mod LongestSigns
 pub mod FaultPlaces
+pub mod Untaken
+pub mod SpaceEnds
+pub mod SpacedParts
+pub mod SpacedTokens

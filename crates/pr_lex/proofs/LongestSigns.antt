@@ -7,7 +7,7 @@ use Rattle.pr_lex.specs.declared.token.Sign.TheVariants.{LeftBrace, RightBrace, 
 use Rattle.pr_lex.specs.Tokens.{two_byte_sign, one_byte_sign, mark_sign, bracket_sign, arithmetic_sign, or_else, longer_sign, shorter_sign, longest_sign, sign_at}
 use Rattle.pr_lex.specs.Signs.{sign_text, BeginsWith, IsLongestSign}
 
-is_byte : (a k : ℕ) → (a == k) ≡ true → a ≡ k
+pub is_byte : (a k : ℕ) → (a == k) ≡ true → a ≡ k
 is_byte a k h = grind (arith, nat_tests)
 
 branch_by : (x : Bool) (X Y : Option Sign) (s : Sign) → (if x then X else Y) ≡ Some s → ((x ≡ true) × (X ≡ Some s)) ⊎ (Y ≡ Some s)

@@ -31,7 +31,7 @@ pub record IsPart (text : List ℕ) (n : ℕ) : Type 0 where
   pub long : 0 < n
   pub within : n ≤ length text
 
-same_length : (s t : SignName) (n m : ℕ) → ◌≡◌ {A = Result (SignName × ℕ) ℕ} (Ok (s, n)) (Ok (t, m)) → n ≡ m
+pub same_length : (s t : SignName) (n m : ℕ) → ◌≡◌ {A = Result (SignName × ℕ) ℕ} (Ok (s, n)) (Ok (t, m)) → n ≡ m
 same_length s t n m e = let p : ◌≡◌ {A = SignName × ℕ} (s, n) (t, m) = cc in ap (λ x. x.1) p
 
 alone_part : (a : ℕ) (rest : List ℕ) (s : SignName) (n : ℕ) (o : Option SignName) → shorter_sign a o ≡ Ok (s, n) → IsPart (a ∷ rest) n
@@ -66,10 +66,10 @@ blanks_trans no_blank y = y
 blanks_trans (a_blank e x) y = a_blank e (blanks_trans x y)
 blanks_trans (a_comment x) y = a_comment (blanks_trans x y)
 
-drop_one : (n k b : ℕ) (rest : List ℕ) → n ≡ 1 + k → drop n (b ∷ rest) ≡ drop k rest
+pub drop_one : (n k b : ℕ) (rest : List ℕ) → n ≡ 1 + k → drop n (b ∷ rest) ≡ drop k rest
 drop_one n k b rest e = let h : n ≡ suc k = omega (arith, e) in rw h refl
 
-one_longer : (p : ℕ → Bool) (b : ℕ) (rest : List ℕ) → p b ≡ true → prefix_len p (b ∷ rest) ≡ 1 + prefix_len p rest
+pub one_longer : (p : ℕ → Bool) (b : ℕ) (rest : List ℕ) → p b ≡ true → prefix_len p (b ∷ rest) ≡ 1 + prefix_len p rest
 one_longer p b rest e = rw e refl
 
 blanks_from : (b : ℕ) (rest : List ℕ) → AreBlanks rest (drop (front_len Blank rest) rest) → (x : Bool) → is_blank b ≡ x → AreBlanks (b ∷ rest) (drop (front_len Blank (b ∷ rest)) (b ∷ rest))
@@ -105,7 +105,7 @@ ended inside [] e = refl
 ended inside (b ∷ rest) e = absurd (over_past (is_blank b) (b == 35) _ _ _ e)
 
 module _ (whole : List ℕ) where
-  next_text : (at n : ℕ) (text : List ℕ) → text ≡ drop at whole → drop n text ≡ drop (at + n) whole
+  pub next_text : (at n : ℕ) (text : List ℕ) → text ≡ drop at whole → drop n text ≡ drop (at + n) whole
   next_text at n text e = ap (λ t. drop n t) e ∙ drop-drop n at whole
 
   pub in_order : {inside : Bool} {at : ℕ} {text : List ℕ} {tokens : List Token} (from : ℕ) → text ≡ drop at whole → from ≤ at → at ≤ length whole → AreBlanks (drop from whole) text →

@@ -5,3 +5,4 @@ pub mod Reader
 pub mod Words
 pub mod Order
 pub mod Signs
+pub mod Spaced

@@ -8,6 +8,7 @@ ghost use Rattle.pr_lex.specs.Tokens.{sign_at, HasTokens, HasFault};
 ghost use Rattle.pr_lex.specs.declared.token.Sign.{Sign};
 ghost use Rattle.pr_lex.specs.Signs.{sign_text, BeginsWith, IsLongestSign};
 ghost use Rattle.pr_lex.specs.Order.{AreInOrder};
+ghost use Rattle.pr_lex.specs.Spaced.{spaced, kinds};
 
 /// One byte ahead decides the grammar of numbers.
 pub fn one_byte_decides_numbers()
@@ -41,4 +42,10 @@ pub fn tokens_lie_in_order()
 /// The first fault of a text lies in it, or at its end.
 pub fn fault_lies_in_its_text()
     ensures { (text : List ℕ) (place : ℕ) (kind : LexKind) → HasFault text place kind → place ≤ length text }
+{}
+
+/// The texts of the tokens, with a space after each, have the same tokens again, but for their places.
+pub fn token_texts_have_the_tokens_again()
+    ensures { (text : List ℕ) (tokens : List Token) → HasTokens text tokens →
+        (again : List Token) × HasTokens (spaced text tokens) again × (kinds again ≡ kinds tokens) }
 {}
