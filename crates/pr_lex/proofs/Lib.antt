@@ -10,3 +10,5 @@ pub mod Ordered
 pub mod NumberEnds
 pub mod Total
 pub mod LongestSigns
+pub mod NumberForms
+pub mod NumberKnown
