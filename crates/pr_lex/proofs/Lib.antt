@@ -12,3 +12,4 @@ pub mod Total
 pub mod LongestSigns
 pub mod NumberForms
 pub mod NumberKnown
+pub mod UnitLetters

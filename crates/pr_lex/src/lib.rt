@@ -14,6 +14,6 @@ mod words;
 
 pub use fault::{LexError, LexKind};
 pub use reader::tokens;
-pub use ties::numbers_are_the_unsigned_forms;
+pub use ties::{numbers_are_the_unsigned_forms, unit_letters_go_on};
 pub use token::{Sign, Token, TokenKind};
 pub use words::{Word, word_of};
