@@ -15,3 +15,6 @@ pub mod Untaken
 pub mod SpaceEnds
 pub mod SpacedParts
 pub mod SpacedTokens
+pub mod NumberForms
+pub mod NumberKnown
+pub mod UnitLetters

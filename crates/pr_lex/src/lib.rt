@@ -8,10 +8,12 @@ mod part;
 mod reader;
 #[cfg(test)]
 mod tests;
+mod ties;
 mod token;
 mod words;
 
 pub use fault::{LexError, LexKind};
 pub use reader::tokens;
+pub use ties::{numbers_are_the_unsigned_forms, unit_letters_go_on};
 pub use token::{Sign, Token, TokenKind};
 pub use words::{Word, word_of};

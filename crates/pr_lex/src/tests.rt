@@ -70,6 +70,10 @@ a . -> BadNumber 3
 5m.5 -> 0-2 ~5m|2-4 #0.5
 5m 5m -> 0-2 ~5m|3-5 ~5m
 5 m -> 0-1 #5|2-3 m
+1w -> 0-2 ~7d
+5d -> 0-2 ~5d
+5h -> 0-2 ~5h
+1y -> 0-2 ~365d
 5m3x -> BadSpan 3
 5m3 -> BadSpan 3
 5m5m -> BadSpan 4
@@ -129,7 +133,7 @@ a#b -> 0-1 a
 "##;
 
 /// Texts with blanks at their ends and line feeds.
-const LINES: [(&str, &str); 16] = [
+const LINES: [(&str, &str); 17] = [
     ("", ""),
     (" ", ""),
     ("#", ""),
@@ -146,11 +150,19 @@ const LINES: [(&str, &str); 16] = [
     ("\"\\u12\n", "BadEscape 5"),
     ("`a\nb`", "0-5 \"a\nb\""),
     ("a\u{b}b", "BadChar 1"),
+    (EXPRESSION, EXPRESSION_TOKENS),
 ];
 
 /// A text with all kinds of tokens.
 const EXPRESSION: &str =
     "sum by (job) (rate(http:x{job=~\"a\\u00e9é\",b!='\\x41'}[5m30s:1h] offset 1w)) # sum\n >= bool 1.5e-3 / on() `c\nd` != .25";
+
+/// Its tokens.
+const EXPRESSION_TOKENS: &str =
+    "0-3 sum|4-6 by|7-8 '(|8-11 job|11-12 ')|13-14 '(|14-18 rate|18-19 '(|19-25 http:x|25-26 '{|26-29 job|\
+     29-31 '=~|31-42 \"aéé\"|42-43 ',|43-44 b|44-46 '!=|46-52 \"A\"|52-53 '}|53-54 '[|54-59 ~5m30s|59-60 ':|\
+     60-62 ~1h|62-63 ']|64-70 offset|71-73 ~7d|73-74 ')|74-75 ')|83-85 '>=|86-90 bool|91-97 #0.0015|\
+     98-99 '/|100-102 on|102-103 '(|103-104 ')|105-110 \"c\nd\"|111-113 '!=|114-117 #0.25";
 
 fn sign_text(sign: Sign) -> &'static str {
     match sign {
@@ -226,7 +238,7 @@ fn rows(rt: HostRuntime) -> Result<(), Fail> {
             count = count.saturating_add(1);
         }
     }
-    assert_eq!(rt; count, 120);
+    assert_eq!(rt; count, 124);
     for (text, want) in LINES {
         assert_eq!(rt; shown(rt.alloc(), text)?.as_str(), want, "{text}");
     }
