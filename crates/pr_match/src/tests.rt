@@ -1,6 +1,6 @@
 //! Patterns, templates and matchers from the documentation of Rust's regular expressions and of Prometheus.
 use super::*;
-use pr_labels::{Labels, read_series_pairs};
+use pr_labels::{Labels, read_series_text};
 use std::alloc::Global;
 use std::test::Fail;
 
@@ -214,11 +214,8 @@ fn nested(alloc: Global, levels: usize) -> Result<String, Fail> {
 
 /// The label set of a series text.
 fn labels_of(alloc: Global, text: &str) -> Result<Labels, Fail> {
-    match read_series_pairs(alloc, text) {
-        Ok(pairs) => match Labels::from_pairs(alloc, &pairs) {
-            Ok(labels) => Ok(labels),
-            Err(_) => Err("no label set")?,
-        },
+    match read_series_text(alloc, text) {
+        Ok(labels) => Ok(labels),
         Err(_) => Err("no series text")?,
     }
 }

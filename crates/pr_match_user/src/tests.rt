@@ -10,12 +10,19 @@ fn matcher_of(alloc: Global, name: &str, op: MatchOp, text: &str) -> Result<Matc
     }
 }
 
+fn labels_of(alloc: Global, text: &str) -> Result<Labels, Fail> {
+    match read_series_text(alloc, text) {
+        Ok(labels) => Ok(labels),
+        Err(_) => Err("no series text")?,
+    }
+}
+
 #[test]
 fn callers_get_what_matchers_say(rt: HostRuntime) -> Result<(), Fail> {
     let alloc = rt.alloc();
     let mut sets = Vec::new(alloc);
     for name in ["up", "down", "uptime"] {
-        sets.push(read_series_text(alloc, name).map_err(|_| "no label set")?)?;
+        sets.push(labels_of(alloc, name)?)?;
     }
     let mut matchers = Vec::new(alloc);
     matchers.push(matcher_of(alloc, "__name__", MatchOp::NotEqual, "up")?)?;
