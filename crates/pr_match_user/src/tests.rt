@@ -20,17 +20,20 @@ fn labels_of(alloc: Global, text: &str) -> Result<Labels, Fail> {
 #[test]
 fn callers_get_what_matchers_say(rt: HostRuntime) -> Result<(), Fail> {
     let alloc = rt.alloc();
-    let mut sets = Vec::new(alloc);
-    for name in ["up", "down", "uptime"] {
-        sets.push(labels_of(alloc, name)?)?;
-    }
+    let up = labels_of(alloc, "up")?;
+    let down = labels_of(alloc, "down")?;
+    let uptime = labels_of(alloc, "uptime")?;
     let mut matchers = Vec::new(alloc);
     matchers.push(matcher_of(alloc, "__name__", MatchOp::NotEqual, "up")?)?;
+    assert_eq!(rt; both_meet(alloc, &matchers, &down, &uptime)?, true);
+    assert_eq!(rt; both_meet(alloc, &matchers, &down, &up)?, false);
+    assert_eq!(rt; is_like(alloc, &uptime, "__name__", "up.*"), Ok(true));
+    assert_eq!(rt; is_like(alloc, &uptime, "__name__", "up"), Ok(false));
+    let mut sets = Vec::new(alloc);
+    sets.push(up)?;
+    sets.push(down)?;
+    sets.push(uptime)?;
     assert_eq!(rt; first_place(alloc, &matchers, &sets)?, Some(1));
-    assert_eq!(rt; both_meet(alloc, &matchers, &sets[1], &sets[2])?, true);
-    assert_eq!(rt; both_meet(alloc, &matchers, &sets[1], &sets[0])?, false);
-    assert_eq!(rt; is_like(alloc, &sets[2], "__name__", "up.*"), Ok(true));
-    assert_eq!(rt; is_like(alloc, &sets[2], "__name__", "up"), Ok(false));
     match rewritten(alloc, "(.*)time", "uptime", "down$1") {
         Ok(Some(text)) => assert_eq!(rt; text.as_str(), "downup"),
         Ok(None) | Err(_) => Err("no match")?,
