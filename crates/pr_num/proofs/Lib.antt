@@ -12,3 +12,5 @@ pub mod Algebra
 pub mod Floors
 pub mod FormTexts
 pub mod FormsOnly
+pub mod Ascii
+mod Computing

@@ -1,23 +1,42 @@
 -- Facts on rounding.
-use Rattle.std.proofs.Common.{◌≡◌, ℕ, ◌+◌, ◌*◌, ◌/◌, ◌%◌, ◌^◌, ◌<◌, ◌≤◌, sym, ◌∙◌, ap, refl, arith}
+use Rattle.std.proofs.Common.{◌≡◌, ℕ, ◌+◌, ◌-◌, ◌*◌, ◌/◌, ◌%◌, ◌^◌, ◌<◌, ◌≤◌, sym, ◌∙◌, ap, refl, arith}
 use Rattle.std.proofs.Math.Nat.{mul-le-mul_right}
 use Rattle.std.proofs.lemmas.Nat.{div-mul-add, mod-mul-add, div-add-mod', mod_below, mul-mod_first}
 use Rattle.std.specs.Ordering.{nat_cmp}
 use Rattle.std.specs.declared.cmp.Ordering.TheVariants.{Less, Equal, Greater}
 use Rattle.pr_num.specs.Half.{half_abs, round_by_rest}
 
--- the whole part of a product, from the whole part and the rest of a factor
-pub product_split : (a b c : ℕ) → 0 < c → a * b ≡ (a / c * b + a % c * b / c) * c + (a % c * b) % c
-product_split a b c h =
-    let e1 : a / c * c + a % c ≡ a = div-add-mod' a c in
-    let e2 : a % c * b / c * c + (a % c * b) % c ≡ a % c * b = div-add-mod' (a % c * b) c in
-    let e3 : a * b ≡ (a / c * c + a % c) * b = ap (λ x. x * b) (sym e1) in
-    omega (arith, e1, e2, e3)
+-- a number less the multiple of its quotient
+pub rest_is : (n d : ℕ) → 0 < d → (n / d * d ≤ n) × (n - n / d * d ≡ n % d) × (n % d < d)
+rest_is n d h = let e = div-add-mod' n d in (omega (arith, e), omega (arith, e), mod_below n d h)
 
-pub product-div : (a b c : ℕ) → 0 < c → a * b / c ≡ a / c * b + a % c * b / c
-product-div a b c h =
-    let lt : (a % c * b) % c < c = mod_below (a % c * b) c h in
-    ap (λ x. x / c) (product_split a b c h) ∙ div-mul-add (a / c * b + a % c * b / c) c ((a % c * b) % c) lt
+-- a quotient and a rest are told by the sum that they make
+pub parts_of : (n q r d : ℕ) → r < d → n ≡ q * d + r → (n / d ≡ q) × (n % d ≡ r)
+parts_of n q r d lt e = (ap (λ x. x / d) e ∙ div-mul-add q d r lt, ap (λ x. x % d) e ∙ mod-mul-add q d r lt)
+
+pub product_is : (a b d : ℕ) → 0 < d → a * b ≡ a * b / d * d + a * b % d
+product_is a b d h = sym (div-add-mod' (a * b) d)
+
+-- a product with an even number, from that with its half
+pub even_step : (a b q r k t d : ℕ) → b % 2 ≡ 0 → a * (b / 2) ≡ q * d + r → r + r ≡ k * d + t → a * b ≡ (2 * q + k) * d + t
+even_step a b q r k t d even e s =
+    let half : b ≡ b / 2 + b / 2 = omega arith in
+    let twice : a * b ≡ a * (b / 2 + b / 2) = ap (λ x. a * x) half in
+    omega (arith, twice, e, s)
+
+-- and with an odd number
+pub odd_step : (a b q r k t m u d : ℕ) → (b % 2 ≡ 0 → ⊥) → a * (b / 2) ≡ q * d + r → r + r ≡ k * d + t → t + a ≡ m * d + u → a * b ≡ (2 * q + k + m) * d + u
+odd_step a b q r k t m u d odd e s v =
+    let half : b ≡ b / 2 + b / 2 + 1 = omega arith in
+    let twice : a * b ≡ a * (b / 2 + b / 2 + 1) = ap (λ x. a * x) half in
+    omega (arith, twice, e, s, v)
+
+-- the whole part and the rest of a product, from those of a factor
+product_split : (a b c q r : ℕ) → a % c * b ≡ q * c + r → a * b ≡ (a / c * b + q) * c + r
+product_split a b c q r e =
+    let e1 : a / c * c + a % c ≡ a = div-add-mod' a c in
+    let e3 : a * b ≡ (a / c * c + a % c) * b = ap (λ x. x * b) (sym e1) in
+    omega (arith, e, e3)
 
 pub round-ge : (q r d : ℕ) → q ≤ round_by_rest q r d
 round-ge q r d = grind arith
@@ -27,13 +46,19 @@ unfolding half_abs
 half_abs-ge n d = round-ge (n / d) (n % d) d
 
 -- what the code computes in two parts
-pub half_abs-split : (a b c : ℕ) → 0 < c → half_abs (a * b) c ≡ round_by_rest (a / c * b + a % c * b / c) ((a % c * b) % c) c
+pub scaled_round : (a b c q r : ℕ) → r < c → a % c * b ≡ q * c + r → half_abs (a * b) c ≡ round_by_rest (a / c * b + q) r c
 unfolding half_abs
-half_abs-split a b c h = simp (product-div a b c h, sym (mul-mod_first a b c))
+scaled_round a b c q r lt e =
+    let p = parts_of (a * b) (a / c * b + q) r c lt (product_split a b c q r e) in
+    rw (p.0, p.1) refl
 
--- where the parts are too large, so is the whole
-pub scaled_far : (a b c m : ℕ) → 0 < c → m ≤ a / c * b + a % c * b / c → m ≤ half_abs (a * b) c
-scaled_far a b c m h far = omega (arith, half_abs-ge (a * b) c, product-div a b c h)
+pub scaled_floor : (a b c q r : ℕ) → r < c → a % c * b ≡ q * c + r → a / c * b + q ≤ half_abs (a * b) c
+scaled_floor a b c q r lt e = rw (scaled_round a b c q r lt e) (round-ge (a / c * b + q) r c)
+
+pub scaled_front : (a b c : ℕ) → 0 < c → a / c * b ≤ half_abs (a * b) c
+scaled_front a b c h =
+    let f = scaled_floor a b c (a % c * b / c) (a % c * b % c) (mod_below (a % c * b) c h) (sym (div-add-mod' (a % c * b) c)) in
+    omega (arith, f)
 
 -- a number in two parts over a small one
 wide_split : (h l n s : ℕ) → h * s + l ≡ (h / n * s + (h % n * s + l) / n) * n + (h % n * s + l) % n
@@ -51,23 +76,6 @@ half_abs-wide h l n s p =
     let m : (h * s + l) % n ≡ (h % n * s + l) % n = ap (λ x. x % n) (wide_split h l n s) ∙ mod-mul-add (h / n * s + (h % n * s + l) / n) n ((h % n * s + l) % n) lt in
     rw (d, m) refl
 
--- comparing a product with a product
-pub scaled-below : (a b c d : ℕ) → 0 < c → a / c * b + a % c * b / c < d → a * b < d * c
-scaled-below a b c d h lt =
-    let e = product_split a b c h in
-    let r = mod_below (a % c * b) c h in
-    let m : (a / c * b + a % c * b / c + 1) * c ≤ d * c = mul-le-mul_right c (omega arith) in
-    omega (arith, e, r, m)
-
-pub scaled-above : (a b c d : ℕ) → 0 < c → d < a / c * b + a % c * b / c → d * c < a * b
-scaled-above a b c d h lt =
-    let e = product_split a b c h in
-    let m : (d + 1) * c ≤ (a / c * b + a % c * b / c) * c = mul-le-mul_right c (omega arith) in
-    omega (arith, e, m)
-
-pub scaled-at : (a b c d : ℕ) → 0 < c → a / c * b + a % c * b / c ≡ d → a * b ≡ d * c + (a % c * b) % c
-scaled-at a b c d h e = product_split a b c h ∙ ap (λ x. x * c + (a % c * b) % c) e
-
 pub wide_round : (h l n : ℕ) → 0 < n → half_abs (h * 2 ^ 64 + l) n ≡ round_by_rest (h / n * 2 ^ 64 + (h % n * 2 ^ 64 + l) / n) ((h % n * 2 ^ 64 + l) % n) n
 wide_round h l n p = half_abs-wide h l n (2 ^ 64) p
 
@@ -83,20 +91,16 @@ cmp_greater x y h = grind arith
 cmp_equal : (x y : ℕ) → x ≡ y → nat_cmp x y ≡ Equal
 cmp_equal x y h = grind arith
 
-pub scaled_less : (a b c d : ℕ) → 0 < c → a / c * b + a % c * b / c < d → nat_cmp (a * b) (d * c) ≡ Less
-scaled_less a b c d h lt = cmp_less (a * b) (d * c) (scaled-below a b c d h lt)
+-- two numbers in two parts
+pub parts_less : (x y h l k m : ℕ) → h * 2 ^ 64 + l ≡ x → k * 2 ^ 64 + m ≡ y → l < 2 ^ 64 → h < k → nat_cmp x y ≡ Less
+parts_less x y h l k m e f lt less = cmp_less x y (omega arith)
 
-pub scaled_greater : (a b c d : ℕ) → 0 < c → d < a / c * b + a % c * b / c → nat_cmp (a * b) (d * c) ≡ Greater
-scaled_greater a b c d h lt = cmp_greater (a * b) (d * c) (scaled-above a b c d h lt)
+pub parts_greater : (x y h l k m : ℕ) → h * 2 ^ 64 + l ≡ x → k * 2 ^ 64 + m ≡ y → m < 2 ^ 64 → k < h → nat_cmp x y ≡ Greater
+parts_greater x y h l k m e f lt more = cmp_greater x y (omega arith)
 
-pub scaled_over : (a b c d : ℕ) → 0 < c → a / c * b + a % c * b / c ≡ d → 0 < (a % c * b) % c → nat_cmp (a * b) (d * c) ≡ Greater
-scaled_over a b c d h e lt = cmp_greater (a * b) (d * c) (omega (arith, scaled-at a b c d h e))
+pub parts_equal : (x y h l k m : ℕ) → h * 2 ^ 64 + l ≡ x → k * 2 ^ 64 + m ≡ y → h ≡ k → nat_cmp l m ≡ nat_cmp x y
+parts_equal x y h l k m e f same = grind arith
 
-pub scaled_equal : (a b c d : ℕ) → 0 < c → a / c * b + a % c * b / c ≡ d → (a % c * b) % c ≡ 0 → nat_cmp (a * b) (d * c) ≡ Equal
-scaled_equal a b c d h e z = cmp_equal (a * b) (d * c) (omega (arith, scaled-at a b c d h e))
-
-pub scaled_round : (a b c : ℕ) → 0 < c → half_abs (a * b) c ≡ round_by_rest (a / c * b + a % c * b / c) ((a % c * b) % c) c
-scaled_round a b c h = half_abs-split a b c h
-
-pub scaled_floor : (a b c : ℕ) → 0 < c → a / c * b + a % c * b / c ≤ half_abs (a * b) c
-scaled_floor a b c h = omega (arith, half_abs-ge (a * b) c, product-div a b c h)
+-- a product in two parts
+pub product_in_parts : (a b : ℕ) → (a / 2 ^ 64 * b + a % 2 ^ 64 * b / 2 ^ 64) * 2 ^ 64 + a % 2 ^ 64 * b % 2 ^ 64 ≡ a * b
+product_in_parts a b = sym (product_split a b (2 ^ 64) (a % 2 ^ 64 * b / 2 ^ 64) (a % 2 ^ 64 * b % 2 ^ 64) (sym (div-add-mod' (a % 2 ^ 64 * b) (2 ^ 64))))

@@ -1,6 +1,9 @@
 -- Rounding of a signed fraction, from its sign and its magnitude.
 use Rattle.std.proofs.Common.{◌+◌, ◌%◌, inl, inr, ◌≤◌, ◌≡◌, ℕ, zero, suc, ◌*◌, ◌/◌, ◌^◌, ◌<◌, ℤ, pos, negsuc, neg_ℤ, ◌*ℤ◌, unsigned_abs, refl, arith, Bool, true, false, ap, ◌∙◌, lit<, nat_lt, Err}
 use Rattle.std.proofs.lemmas.Int.{unsigned_abs-mul}
+use Rattle.std.proofs.Common.{sym}
+use Rattle.std.specs.Ordering.{nat_cmp, int_cmp}
+use Rattle.std.specs.declared.cmp.Ordering.TheVariants.{Less, Greater}
 use Rattle.pr_num.specs.Arithmetic.{fitted, too_wide}
 use Rattle.pr_num.proofs.Rounding.{half_abs-ge}
 use Rattle.std.proofs.Math.Nat.{le-div_iff_mul-le, mul-le-mul_right, le_of_mul-le-mul_right}
@@ -66,12 +69,6 @@ pub product_wide : (a b : ℤ) → 10 ^ 38 ≤ unsigned_abs a * unsigned_abs b �
 product_wide a b h =
     product_fits a b ∙ signed_wide (apart a b) (half_abs (unsigned_abs a * unsigned_abs b) (10 ^ 9)) (half_abs-above (unsigned_abs a * unsigned_abs b) (10 ^ 9) (10 ^ 29) (lit< tt) h)
 
-pub muldiv_fits : (a : ℤ) (b c : ℕ) → 0 < c → fitted (half (a *ℤ pos b) (pos c)) ≡ fitted (signed (below_zero a) (half_abs (unsigned_abs a * b) c))
-muldiv_fits a b c h = ap fitted (half-scaled a b c h)
-
-pub muldiv_wide : (a : ℤ) (b c : ℕ) → 0 < c → 10 ^ 29 ≤ half_abs (unsigned_abs a * b) c → fitted (half (a *ℤ pos b) (pos c)) ≡ Err too_wide
-muldiv_wide a b c h wide = muldiv_fits a b c h ∙ signed_wide (below_zero a) (half_abs (unsigned_abs a * b) c) wide
-
 -- a product, from its sign and its magnitude
 pub product_signed : (a b : ℤ) → fitted (a *ℤ b) ≡ fitted (signed (apart a b) (unsigned_abs a * unsigned_abs b))
 product_signed (pos m) (pos n) = refl
@@ -102,3 +99,45 @@ half_abs_below n d m h le =
           let k : n / d ≤ m = le_of_mul-le-mul_right (let a : n / d * d ≤ m * d = omega (arith, e) in a) h in
           omega (arith, w, k)
     ]
+
+-- the rounded quotient of a product, from signs and magnitudes
+pub half_product_signed : (a b : ℤ) (c : ℕ) → 0 < c → half (a *ℤ b) (pos c) ≡ signed (apart a b) (half_abs (unsigned_abs a * unsigned_abs b) c)
+half_product_signed a b c h = half-product a b c h
+
+pub abs_signed : (negative : Bool) (m : ℕ) → unsigned_abs (signed negative m) ≡ m
+abs_signed true zero = refl
+abs_signed true (suc m) = refl
+abs_signed false m = refl
+
+-- a rounded quotient is at most as far from zero as its dividend
+pub half_abs_small : (n d : ℕ) → 0 < d → half_abs n d ≤ n
+half_abs_small n d h = half_abs_below n d n h (omega (arith, mul-le-mul_right n h))
+
+-- what is 2^127 or more in magnitude is no value
+pub muldiv_units_wide : (z : ℤ) → (unsigned_abs z < 2 ^ 127 → ⊥) → fitted z ≡ Err too_wide
+muldiv_units_wide z h = let f : nat_lt (unsigned_abs z) (10 ^ 29) ≡ false = grind arith in rw f refl
+
+-- how two numbers stand, from their signs and magnitudes
+pub products_up : (a c : ℤ) (b d : ℕ) → below_zero (a *ℤ pos b) ≡ false → below_zero (c *ℤ pos d) ≡ false → nat_cmp (unsigned_abs a * b) (unsigned_abs c * d) ≡ int_cmp (a *ℤ pos b) (c *ℤ pos d)
+products_up a c b d e f = rw (← unsigned_abs-mul a (pos b), ← unsigned_abs-mul c (pos d)) (up (a *ℤ pos b) (c *ℤ pos d) e f) where
+  up : (x y : ℤ) → below_zero x ≡ false → below_zero y ≡ false → nat_cmp (unsigned_abs x) (unsigned_abs y) ≡ int_cmp x y
+  up (pos m) (pos n) e f = grind arith
+  up (negsuc m) y e f = cc
+  up (pos m) (negsuc n) e f = cc
+
+pub products_down : (a c : ℤ) (b d : ℕ) → below_zero (a *ℤ pos b) ≡ true → below_zero (c *ℤ pos d) ≡ true → nat_cmp (unsigned_abs c * d) (unsigned_abs a * b) ≡ int_cmp (a *ℤ pos b) (c *ℤ pos d)
+products_down a c b d e f = rw (← unsigned_abs-mul a (pos b), ← unsigned_abs-mul c (pos d)) (down (a *ℤ pos b) (c *ℤ pos d) e f) where
+  down : (x y : ℤ) → below_zero x ≡ true → below_zero y ≡ true → nat_cmp (unsigned_abs y) (unsigned_abs x) ≡ int_cmp x y
+  down (negsuc m) (negsuc n) e f = grind arith
+  down (pos m) y e f = cc
+  down (negsuc m) (pos n) e f = cc
+
+pub products_fall : (z w : ℤ) → below_zero z ≡ false → below_zero w ≡ true → int_cmp z w ≡ Greater
+products_fall (pos m) (negsuc n) e f = grind arith
+products_fall (negsuc m) w e f = cc
+products_fall (pos m) (pos n) e f = cc
+
+pub products_rise : (z w : ℤ) → below_zero z ≡ true → below_zero w ≡ false → int_cmp z w ≡ Less
+products_rise (negsuc m) (pos n) e f = grind arith
+products_rise (pos m) w e f = cc
+products_rise (negsuc m) (negsuc n) e f = cc

@@ -11,3 +11,4 @@ pub mod Parts
 pub mod Total
 pub mod Quantile
 pub mod Forms
+pub mod Worked

@@ -1,14 +1,13 @@
 //! Whole numbers, signs, sums, products, quotients and remainders.
 ghost use Rattle.std.specs.Prelude.{◌≡◌, ℕ, ◌+◌, ◌*◌, ◌^◌, ◌<◌, ◌≤◌, ◌*ℤ◌, ℤ, pos, unsigned_abs};
-ghost use Rattle.std.specs.Ordering.{int_cmp};
 ghost use Rattle.pr_num.specs.Arithmetic.{fitted, whole_of, negated, absolute, sum_of, difference_of, product_of, quotient_of, remainder_of, muldiv_of, infinite_times, finite_quotient};
 ghost use Rattle.pr_num.specs.Half.{half};
 ghost use Rattle.pr_num.specs.Units.{IsNano};
 
-use crate::round::{half_of, half_scaled, scaled_cmp};
-use crate::sign::{are_apart, infinity, is_below_zero, of_magnitude, of_units};
+use crate::formulas::muldiv_units;
+use crate::round::half_of;
+use crate::sign::{are_apart, infinity, of_magnitude};
 use crate::value::{Nano, Num, TooWide};
-use std::cmp::Ordering;
 
 const ONE: u128 = 1_000_000_000;
 
@@ -18,6 +17,18 @@ impl Num {
         ensures { result ≡ whole_of n }
     {
         Num::Finite(Nano::of(n as i128 * 1_000_000_000))
+    }
+
+    /// The value of this many units of 10^-9.
+    ///
+    /// Answers `TooWide` exactly where they are 10^29 or more in magnitude.
+    pub fn of_units(units: i128) -> Result<Num, TooWide>
+        ensures { result ≡ fitted units }
+    {
+        match Nano::new(units) {
+            Some(value) => Ok(Num::Finite(value)),
+            None => Err(TooWide),
+        }
     }
 
     /// The value with the other sign. NaN stays, and so does zero.
@@ -52,7 +63,7 @@ impl Num {
     {
         match self {
             Num::Finite(x) => match b {
-                Num::Finite(y) => of_units(x.units() + y.units()),
+                Num::Finite(y) => Num::of_units(x.units() + y.units()),
                 other => Ok(other),
             },
             Num::NaN => Ok(Num::NaN),
@@ -211,41 +222,4 @@ fn finite_remainder(a: i128, b: i128) -> Num
         return Num::NaN;
     }
     Num::Finite(Nano::of(a % b))
-}
-
-/// `units * b / c` for a number of units that may be wider than a value, rounded once, half to even. The
-/// formulas over differences of values are made of it.
-///
-/// Answers `TooWide` exactly where the rounded result is 10^20 or more in magnitude.
-#[tactic(auto, using(crate::proofs::Signs::muldiv_fits, crate::proofs::Signs::muldiv_wide))]
-pub fn muldiv_units(units: i128, b: u64, c: u64) -> Result<Num, TooWide>
-    requires room { b * c < 2 ^ 127 }
-    requires over { 0 < c }
-    ensures { result ≡ fitted (half (units *ℤ pos b) (pos c)) }
-{
-    match half_scaled(units.unsigned_abs(), b, c) {
-        Some(magnitude) => of_magnitude(is_below_zero(units), magnitude),
-        None => Err(TooWide),
-    }
-}
-
-impl Nano {
-    /// How `self * b / c` stands to `d`, exactly.
-    pub fn muldiv_cmp(self, b: u64, c: u64, d: Nano) -> Ordering
-        requires times { b < 2 ^ 63 }
-        requires over { (0 < c) × (c < 2 ^ 63) }
-        ensures { result ≡ int_cmp (self *ℤ pos b) (d *ℤ pos c) }
-    {
-        let left = self.units();
-        let right = d.units();
-        match (left < 0, right < 0) {
-            (false, false) => scaled_cmp(left.unsigned_abs(), b, c, right.unsigned_abs()),
-            (true, true) => {
-                scaled_cmp(left.unsigned_abs(), b, c, right.unsigned_abs()).reverse()
-            }
-            (false, true) => Ordering::Greater,
-            (true, false) if b == 0 && right == 0 => Ordering::Equal,
-            (true, false) => Ordering::Less,
-        }
-    }
 }

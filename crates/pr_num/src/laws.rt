@@ -2,7 +2,7 @@
 //! and its contract is the theorem.
 ghost use Rattle.std.specs.Prelude.{◌≡◌, ◌≢◌, ◌<◌, ◌∷◌, ◌++◌, ◌↔◌, ℕ, ℤ, List, [], IfSome, codes, true, unsigned_abs};
 ghost use Rattle.std.specs.Cmp.{IsTotalOrder};
-ghost use Rattle.std.specs.Str.{str_eq_ignore_ascii_case};
+ghost use Rattle.std.specs.Str.{IsAscii, str_eq_ignore_ascii_case};
 ghost use Rattle.std.specs.declared.cmp.Ordering.{Ordering};
 ghost use Rattle.pr_num.specs.Arithmetic.{IsFit, infinity, product_of, sum_of};
 ghost use Rattle.pr_num.specs.Forms.{Exponent, Fraction, IsInfinityWord, IsNumberText, IsUnsignedForm, Sign, decimals, form_text, is_minus, scale_part, sign_text};
@@ -19,6 +19,12 @@ ghost use Rattle.pr_num.specs.declared.value.Num.{Num};
 #[tactic(auto, using(crate::proofs::RoundTrip::reads_shown))]
 pub fn printed_texts_read_back()
     ensures { (v : Num) → IsFit v → reads (shown v) ≡ Ok v }
+{}
+
+/// The printed text of every value is ASCII, and so UTF-8.
+#[tactic(auto, using(crate::proofs::Ascii::shown_ascii))]
+pub fn printed_texts_are_ascii()
+    ensures { (v : Num) → IsFit v → IsAscii (shown v) }
 {}
 
 /// The texts of the form read as their exact fraction, rounded, and the words as what they name. No

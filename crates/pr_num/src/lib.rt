@@ -8,6 +8,8 @@
 #![tactic(auto)]
 
 mod arithmetic;
+mod examples;
+mod formulas;
 mod kept;
 mod laws;
 mod multiples;
@@ -24,10 +26,14 @@ mod totals;
 mod value;
 mod wide;
 
-pub use arithmetic::muldiv_units;
+pub use examples::{
+    lists_by_example, multiples_by_example, products_by_example, quotients_by_example,
+    rounding_by_example, sums_by_example, texts_by_example,
+};
+pub use formulas::{compare_products, half, half_product, muldiv_units};
 pub use laws::{
     floor_is_next_below, number_texts_have_the_form, order_is_total, printed_texts_read_back,
-    rounding_is_half_to_even, sums_and_products_commute, totals_join,
+    printed_texts_are_ascii, rounding_is_half_to_even, sums_and_products_commute, totals_join,
 };
 pub use print::write;
 pub use ranks::quantile;

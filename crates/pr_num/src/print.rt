@@ -1,5 +1,6 @@
 //! The one printed text of a value.
-ghost use Rattle.std.specs.Prelude.{◌≡◌, ℕ, ◌+◌, ◌*◌, ◌/◌, ◌%◌, ◌^◌, ◌<◌, ◌≤◌, ◌++◌, ◌∷◌, [], length, take, decimal};
+ghost use Rattle.std.specs.Prelude.{◌≡◌, ℕ, ◌+◌, ◌*◌, ◌/◌, ◌%◌, ◌^◌, ◌<◌, ◌≤◌, ◌++◌, ◌∷◌, [], length, take, drop, decimal};
+ghost use Rattle.std.specs.Str.{IsAscii};
 ghost use Rattle.pr_num.specs.Shown.{fraction_text, point_text, magnitude_text, shown};
 
 use crate::value::Num;
@@ -10,6 +11,7 @@ fn put_byte(out: &mut [u8; 40], at: usize, byte: u8) -> usize
     requires { at < 40 }
     ensures at { result ≡ at + 1 }
     ensures text { take result out.new ≡ take at out.old ++ byte ∷ [] }
+    ensures rest { drop result out.new ≡ drop result out.old }
 {
     out[at] = byte;
     at + 1
@@ -20,6 +22,7 @@ fn put(out: &mut [u8; 40], at: usize, bytes: &[u8]) -> usize
     requires { at + length bytes.now ≤ 40 }
     ensures at { result ≡ at + length bytes.now }
     ensures text { take result out.new ≡ take at out.old ++ bytes.now }
+    ensures rest { drop result out.new ≡ drop result out.old }
 {
     out[at..at + bytes.len()].copy_from_slice(bytes);
     at + bytes.len()
@@ -29,8 +32,9 @@ fn put(out: &mut [u8; 40], at: usize, bytes: &[u8]) -> usize
 fn put_fraction(out: &mut [u8; 40], start: usize, units: u64) -> usize
     requires room { start + 9 ≤ 40 }
     requires small { units < 10 ^ 9 }
-    ensures at { result ≤ start + 9 }
+    ensures at { (start ≤ result) × (result ≤ start + 9) }
     ensures text { take result out.new ≡ take start out.old ++ fraction_text 9 units }
+    ensures rest { drop result out.new ≡ drop result out.old }
 {
     let mut at = start;
     let mut left = units;
@@ -46,8 +50,9 @@ fn put_fraction(out: &mut [u8; 40], start: usize, units: u64) -> usize
 fn put_whole(out: &mut [u8; 40], start: usize, whole: u128) -> usize
     requires room { start ≤ 1 }
     requires small { whole < 10 ^ 20 }
-    ensures at { result ≤ start + 20 }
+    ensures at { (start ≤ result) × (result ≤ start + 20) }
     ensures text { take result out.new ≡ take start out.old ++ decimal whole }
+    ensures rest { drop result out.new ≡ drop result out.old }
 {
     let mut buffer = Buffer::new();
     if whole <= u64::MAX as u128 {
@@ -58,11 +63,13 @@ fn put_whole(out: &mut [u8; 40], start: usize, whole: u128) -> usize
 }
 
 /// Puts a number of units of 10^-9: its whole part, and a point with the fraction where that is not 0.
+#[tactic(auto, using(crate::proofs::Printing::rest_later))]
 fn put_magnitude(out: &mut [u8; 40], start: usize, magnitude: u128) -> usize
     requires room { start ≤ 1 }
     requires small { magnitude < 10 ^ 29 }
-    ensures at { result ≤ 40 }
+    ensures at { (start ≤ result) × (result ≤ 40) }
     ensures text { take result out.new ≡ take start out.old ++ magnitude_text magnitude }
+    ensures rest { drop result out.new ≡ drop result out.old }
 {
     let at = put_whole(out, start, magnitude / 1_000_000_000);
     let fraction = (magnitude % 1_000_000_000) as u64;
@@ -73,16 +80,18 @@ fn put_magnitude(out: &mut [u8; 40], start: usize, magnitude: u128) -> usize
     put_fraction(out, after_point, fraction)
 }
 
-/// Writes the printed text of a value to the front of the buffer, and says how many bytes it has. Nothing
-/// is said of the bytes after them.
+/// Writes the printed text of a value to the front of the buffer, and says how many bytes it has. The
+/// bytes after them stay.
 ///
 /// The text is `-` where the value is negative, the whole part without leading zeros, and, where the
 /// fraction is not 0, a point and up to nine digits without trailing zeros. The others print as `NaN`,
 /// `+Inf` and `-Inf`, as Prometheus prints them.
-#[tactic(auto, unfolding(crate::specs::Shown::shown))]
+#[tactic(auto, unfolding(crate::specs::Shown::shown), using(crate::proofs::Printing::rest_later, crate::proofs::Ascii::finite_ascii, crate::proofs::Ascii::nan_ascii, crate::proofs::Ascii::above_ascii, crate::proofs::Ascii::below_ascii))]
 pub fn write(v: Num, out: &mut [u8; 40]) -> usize
     ensures bound { result ≤ 40 }
     ensures text { take result out.new ≡ shown v }
+    ensures ascii { IsAscii (shown v) }
+    ensures rest { drop result out.new ≡ drop result out.old }
 {
     match v {
         Num::Finite(value) => {

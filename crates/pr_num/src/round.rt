@@ -1,11 +1,21 @@
 //! Rounding half to even, in 128 bits.
-ghost use Rattle.std.specs.Prelude.{◌≡◌, ℕ, ◌+◌, ◌*◌, ◌/◌, ◌%◌, ◌^◌, ◌<◌, ◌≤◌, IfSome, IfNone};
-ghost use Rattle.std.specs.Ordering.{nat_cmp};
+ghost use Rattle.std.specs.Prelude.{◌≡◌, ℕ, ◌+◌, ◌-◌, ◌*◌, ◌/◌, ◌%◌, ◌^◌, ◌<◌, ◌≤◌, IfSome, IfNone};
 ghost use Rattle.pr_num.specs.Half.{half_abs, round_by_rest};
 
-use std::cmp::Ordering;
+/// The base of a number in two parts.
+pub(crate) const STEP: u128 = 18_446_744_073_709_551_616;
 
-const STEP: u128 = 18_446_744_073_709_551_616;
+/// A number as a multiple of a divisor and a rest, by one division.
+#[tactic(auto, using(crate::proofs::Rounding::rest_is))]
+pub(crate) fn divided(n: u128, divisor: u128) -> (u128, u128)
+    requires { 0 < divisor }
+    ensures quotient { result.0 ≡ n / divisor }
+    ensures rest { result.1 ≡ n % divisor }
+    ensures below { result.1 < divisor }
+{
+    let quotient = n / divisor;
+    (quotient, n - quotient * divisor)
+}
 
 /// The quotient, or the next number where the rest is above half of the divisor; at half, the even
 /// one of both.
@@ -31,53 +41,93 @@ pub(crate) fn half_of(n: u128, d: u128) -> u128
     requires positive { 0 < d }
     ensures { result ≡ half_abs n d }
 {
-    round_rest(n / d, n % d, d)
+    let (quotient, rest) = divided(n, d);
+    round_rest(quotient, rest, d)
 }
 
-/// `a * b / c`, rounded once, or nothing where that is far above all values.
-///
-/// The product may pass 128 bits, so the quotient is put together from `a / c * b` and the rest.
-#[tactic(auto, using(crate::proofs::Rounding::scaled_round, crate::proofs::Rounding::scaled_floor))]
-pub(crate) fn half_scaled(a: u128, b: u64, c: u64) -> Option<u128>
-    requires room { b * c < 2 ^ 127 }
-    requires over { 0 < c }
-    ensures some { IfSome result (λ n. n ≡ half_abs (a * b) c) }
-    ensures none { IfNone result (10 ^ 29 ≤ half_abs (a * b) c) }
+/// The sum of two rests as a multiple of the divisor, 0 or 1 times, and a rest.
+fn rests_added(x: u128, y: u128, divisor: u128) -> (u128, u128)
+    requires { (x < divisor) × (y < divisor) }
+    ensures sum { x + y ≡ result.0 * divisor + result.1 }
+    ensures below { result.1 < divisor }
+    ensures carry { result.0 ≤ 1 }
 {
-    let times = b as u128;
-    let over = c as u128;
-    let whole = (a / over).checked_mul(times)?;
-    let part = a % over * times;
-    let quotient = whole.checked_add(part / over)?;
-    if quotient == u128::MAX {
-        return None;
+    let gap = divisor - y;
+    if x < gap { (0, x + y) } else { (1, x - gap) }
+}
+
+/// `a * b` as a multiple of the divisor and a rest, where the product may pass 128 bits: by b's bits, the
+/// highest first.
+#[tactic(auto, using(crate::proofs::Rounding::even_step, crate::proofs::Rounding::odd_step))]
+fn product_by_bits(a: u128, b: u128, divisor: u128) -> (u128, u128)
+    requires { a < divisor }
+    ensures product { a * b ≡ result.0 * divisor + result.1 }
+    ensures below { result.1 < divisor }
+    ensures small { result.0 ≤ b - 1 }
+{
+    if b == 0 {
+        return (0, 0);
     }
-    Some(round_rest(quotient, part % over, over))
+    if b == 1 {
+        return (0, a);
+    }
+    let (front, rest) = product_by_bits(a, b / 2, divisor);
+    let (carry, doubled) = rests_added(rest, rest, divisor);
+    let quotient = 2 * front + carry;
+    if b % 2 == 0 {
+        return (quotient, doubled);
+    }
+    let (more, last) = rests_added(doubled, a, divisor);
+    (quotient + more, last)
 }
 
-/// How `a * b / c` stands to `d`.
-#[tactic(auto, using(crate::proofs::Rounding::scaled_less, crate::proofs::Rounding::scaled_greater, crate::proofs::Rounding::scaled_over, crate::proofs::Rounding::scaled_equal))]
-pub(crate) fn scaled_cmp(a: u128, b: u64, c: u64, d: u128) -> Ordering
-    requires times { b < 2 ^ 63 }
-    requires over { (0 < c) × (c < 2 ^ 63) }
-    requires value { d < 10 ^ 29 }
-    ensures { result ≡ nat_cmp (a * b) (d * c) }
+/// `a * b` as a multiple of the divisor and a rest.
+#[tactic(auto, using(crate::proofs::Rounding::product_is))]
+fn product_parts(a: u128, b: u128, divisor: u128) -> (u128, u128)
+    requires { a < divisor }
+    ensures product { a * b ≡ result.0 * divisor + result.1 }
+    ensures below { result.1 < divisor }
 {
-    let times = b as u128;
-    let over = c as u128;
-    let Some(whole) = (a / over).checked_mul(times) else {
-        return Ordering::Greater;
-    };
-    let part = a % over * times;
-    let Some(quotient) = whole.checked_add(part / over) else {
-        return Ordering::Greater;
-    };
-    if quotient < d {
-        Ordering::Less
-    } else if quotient > d || part % over > 0 {
-        Ordering::Greater
-    } else {
-        Ordering::Equal
+    match a.checked_mul(b) {
+        Some(product) => divided(product, divisor),
+        None => product_by_bits(a, b, divisor),
+    }
+}
+
+/// The quotient `whole + part` with a rest, rounded, or nothing where that is 2^127 or more.
+fn parts_rounded(whole: u128, part: u128, rest: u128, divisor: u128) -> Option<u128>
+    requires { rest < divisor }
+    ensures some { IfSome result (λ n. n ≡ round_by_rest (whole + part) rest divisor) }
+    ensures none { IfNone result (2 ^ 127 ≤ whole + part) }
+{
+    match whole.checked_add(part) {
+        Some(quotient) if quotient < u128::MAX => Some(round_rest(quotient, rest, divisor)),
+        _ => None,
+    }
+}
+
+/// `a * b / c`, rounded once, or nothing where that is 2^127 or more: put together from `a / c * b` and
+/// the rest, since the product may pass 128 bits.
+#[tactic(auto, using(crate::proofs::Rounding::scaled_round, crate::proofs::Rounding::scaled_floor, crate::proofs::Rounding::scaled_front))]
+fn half_in_parts(a: u128, b: u128, c: u128) -> Option<u128>
+    requires { 0 < c }
+    ensures some { IfSome result (λ n. n ≡ half_abs (a * b) c) }
+    ensures none { IfNone result (2 ^ 127 ≤ half_abs (a * b) c) }
+{
+    let (front, left) = divided(a, c);
+    let (part, rest) = product_parts(left, b, c);
+    parts_rounded(front.checked_mul(b)?, part, rest, c)
+}
+
+/// `a * b / c`, rounded once, or nothing where that is 2^127 or more.
+pub(crate) fn half_scaled(a: u128, b: u128, c: u128) -> Option<u128>
+    requires { 0 < c }
+    ensures some { IfSome result (λ n. n ≡ half_abs (a * b) c) }
+    ensures none { IfNone result (2 ^ 127 ≤ half_abs (a * b) c) }
+{
+    match a.checked_mul(b) {
+        Some(product) if product < u128::MAX => Some(half_of(product, c)),
+        _ => half_in_parts(a, b, c),
     }
 }
 
@@ -90,11 +140,7 @@ pub(crate) fn half_wide(high: u128, low: u128, n: u64) -> Option<u128>
     ensures none { IfNone result (10 ^ 29 ≤ half_abs (high * 2 ^ 64 + low) n) }
 {
     let over = n as u128;
-    let whole = (high / over).checked_mul(STEP)?;
-    let part = high % over * STEP + low;
-    let quotient = whole.checked_add(part / over)?;
-    if quotient == u128::MAX {
-        return None;
-    }
-    Some(round_rest(quotient, part % over, over))
+    let (front, left) = divided(high, over);
+    let (part, rest) = divided(left * STEP + low, over);
+    parts_rounded(front.checked_mul(STEP)?, part, rest, over)
 }

@@ -8,7 +8,7 @@ ghost use Rattle.pr_num.specs.Kept.{Keeps, SameShift};
 ghost use Rattle.pr_num.specs.Reads.{text_magnitude};
 
 use crate::kept::{Kept, keep, nothing};
-use crate::round::round_rest;
+use crate::round::{divided, round_rest};
 use crate::value::WIDE;
 
 /// An exponent from here on is as good as any greater one: lengths of texts are below 2^64.
@@ -57,8 +57,7 @@ fn shrunk(k: Kept, by: u128) -> u128
         return 0;
     }
     let divisor = power_of_ten(by);
-    let quotient = k.front / divisor;
-    let rest = k.front % divisor;
+    let (quotient, rest) = divided(k.front, divisor);
     if k.rest && rest * 2 == divisor {
         quotient + 1
     } else {

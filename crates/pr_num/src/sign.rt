@@ -1,6 +1,8 @@
 //! Signs and magnitudes.
 ghost use Rattle.std.specs.Prelude.{◌≡◌, ◌^◌, ◌<◌};
+ghost use Rattle.std.specs.Option.{SomeIff};
 ghost use Rattle.pr_num.specs.Arithmetic.{fitted, infinity};
+ghost use Rattle.pr_num.specs.declared.value.Num.{Num};
 ghost use Rattle.pr_num.specs.Half.{apart, below_zero, signed};
 
 use crate::value::{Nano, Num, TooWide, WIDE};
@@ -34,23 +36,25 @@ pub(crate) fn infinity(negative: bool) -> Num
     if negative { Num::NegInf } else { Num::PosInf }
 }
 
-/// The value of this many units, where they are not too many.
-pub(crate) fn of_units(units: i128) -> Result<Num, TooWide>
-    ensures { result ≡ fitted units }
+/// The value of this sign and this many units, where they are not too many.
+#[tactic(auto, using(crate::proofs::Signs::abs_signed))]
+pub(crate) fn value_within(negative: bool, magnitude: u128) -> Option<Num>
+    ensures { SomeIff result (magnitude < 10 ^ 29) (Num.Finite (signed negative magnitude)) }
 {
-    match Nano::new(units) {
-        Some(value) => Ok(Num::Finite(value)),
-        None => Err(TooWide),
+    if magnitude < WIDE {
+        Some(Num::Finite(Nano::of(with_sign(negative, magnitude))))
+    } else {
+        None
     }
 }
 
-/// The value of this sign and this many units, where they are not too many.
+/// The same, or the refusal.
+#[tactic(auto, using(crate::proofs::Signs::abs_signed))]
 pub(crate) fn of_magnitude(negative: bool, magnitude: u128) -> Result<Num, TooWide>
     ensures { result ≡ fitted (signed negative magnitude) }
 {
-    if magnitude < WIDE {
-        of_units(with_sign(negative, magnitude))
-    } else {
-        Err(TooWide)
+    match value_within(negative, magnitude) {
+        Some(value) => Ok(value),
+        None => Err(TooWide),
     }
 }

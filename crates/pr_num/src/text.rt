@@ -8,8 +8,8 @@ ghost use Rattle.pr_num.specs.Half.{signed};
 ghost use Rattle.pr_num.specs.Reads.{is_numeral, scale_of, signed_scale, ending, text_magnitude, number_of, reads_number, reads_unsigned, reads, fraction_digits, after_fraction, front_digits, after_digits};
 
 use crate::scale::magnitude_of;
-use crate::sign::{infinity, with_sign};
-use crate::value::{Nano, Num, WIDE};
+use crate::sign::{infinity, value_within};
+use crate::value::Num;
 
 /// Why a text is read as no value.
 #[derive(Clone, Copy, Debug, Drop, PartialEq, Eq)]
@@ -44,11 +44,8 @@ fn front_len(bytes: &[u8]) -> usize
 fn number_of(negative: bool, magnitude: u128) -> Result<Num, NumFault>
     ensures { result ≡ number_of negative magnitude }
 {
-    if magnitude >= WIDE {
-        return Err(NumFault::TooWide);
-    }
-    match Nano::new(with_sign(negative, magnitude)) {
-        Some(value) => Ok(Num::Finite(value)),
+    match value_within(negative, magnitude) {
+        Some(value) => Ok(value),
         None => Err(NumFault::TooWide),
     }
 }

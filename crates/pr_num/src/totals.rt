@@ -1,9 +1,8 @@
 //! Exact sums of up to 2^64 - 1 values.
-ghost use Rattle.std.specs.Prelude.{◌≡◌, ◌+◌, ◌^◌, ◌<◌};
+ghost use Rattle.std.specs.Prelude.{◌≡◌, ◌+◌, ◌-◌, ◌*◌, ◌^◌, ◌<◌, ◌≤◌, unsigned_abs};
 ghost use Rattle.pr_num.specs.Arithmetic.{fitted};
 ghost use Rattle.pr_num.specs.Total.{has_no_sum, joined, mean_of, no_values, one_value, value_of};
 
-use crate::sign::of_units;
 use crate::value::{Num, TooWide};
 use crate::wide::Wide;
 use std::marker::Model;
@@ -111,6 +110,15 @@ impl Total {
         }
     }
 
+    /// The exact sum of the finite values, in units of 10^-9.
+    pub fn units(self) -> i128
+        requires { self.count < 2 ^ 30 }
+        ensures value { result ≡ self.units }
+        ensures small { unsigned_abs result ≤ self.count * (10 ^ 29 - 1) }
+    {
+        self.sum.number()
+    }
+
     fn has_no_sum(&self) -> bool
         ensures { result ≡ has_no_sum self.now }
     {
@@ -158,7 +166,7 @@ fn finite_sum(sum: Wide) -> Result<Num, TooWide>
     ensures { result ≡ fitted sum }
 {
     match sum.small() {
-        Some(units) => of_units(units),
+        Some(units) => Num::of_units(units),
         None => Err(TooWide),
     }
 }

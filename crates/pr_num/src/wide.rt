@@ -4,14 +4,12 @@ ghost use Rattle.std.specs.Option.{SomeIff};
 ghost use Rattle.pr_num.specs.Half.{below_zero, half};
 ghost use Rattle.pr_num.specs.Units.{IsNano};
 
-use crate::round::half_wide;
+use crate::round::{STEP, half_wide};
 use crate::sign::with_sign;
 use crate::value::{Nano, WIDE};
 use std::marker::Model;
 
-const STEP: u128 = 18_446_744_073_709_551_616;
-
-const SIGNED_STEP: i128 = 18_446_744_073_709_551_616;
+const SIGNED_STEP: i128 = STEP as i128;
 
 /// The whole number `high * 2^64 + low`. A contract sees the number.
 #[derive(Clone, Copy, Debug, Drop)]
@@ -78,6 +76,14 @@ impl Wide {
         } else {
             None
         }
+    }
+
+    /// The number, where 128 bits hold it.
+    pub(crate) fn number(self) -> i128
+        requires { unsigned_abs self < 2 ^ 127 }
+        ensures { result ≡ self }
+    {
+        self.high * SIGNED_STEP + self.low as i128
     }
 
     fn is_below_zero(&self) -> bool
