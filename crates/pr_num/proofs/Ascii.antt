@@ -1,5 +1,5 @@
 -- Printed texts are ASCII.
-use Rattle.std.proofs.Common.{◌≡◌, ℕ, zero, suc, ◌+◌, ◌*◌, ◌/◌, ◌%◌, ◌^◌, ◌<◌, List, [], ◌∷◌, ◌++◌, Bool, true, false, codes, decimal, ℤ, pos, negsuc, if◌then◌else◌, nat_eq, arith, lit<}
+use Rattle.std.proofs.Common.{ℕ, zero, suc, ◌+◌, ◌*◌, ◌/◌, ◌%◌, ◌^◌, ◌<◌, List, [], ◌∷◌, Bool, true, false, codes, decimal, ℤ, pos, negsuc, if◌then◌else◌, nat_eq, arith, lit<}
 use Rattle.std.specs.Str.{IsAscii}
 use Rattle.std.proofs.lemmas.Fmt.{IsAscii-decimal_wide}
 use Rattle.std.proofs.lemmas.Str.{IsAscii-append}
@@ -19,12 +19,12 @@ unfolding fraction_text
 fraction_ascii zero u lt = IsAscii-nil
 fraction_ascii (suc n) u lt =
     either (nat_eq u 0) (48 + u * 10 / 10 ^ 9) (fraction_text n (u * 10 % 10 ^ 9))
-      (IsAscii-cons (48 + u * 10 / 10 ^ 9) (fraction_text n (u * 10 % 10 ^ 9)) (omega arith) (fraction_ascii n (u * 10 % 10 ^ 9) (omega arith)))
+    (IsAscii-cons (48 + u * 10 / 10 ^ 9) (fraction_text n (u * 10 % 10 ^ 9)) (omega arith) (fraction_ascii n (u * 10 % 10 ^ 9) (omega arith)))
 
 magnitude_ascii : (n : ℕ) → n < 10 ^ 29 → IsAscii (magnitude_text n)
 magnitude_ascii n lt =
     IsAscii-append (decimal (n / 10 ^ 9)) (point_text (n % 10 ^ 9)) (IsAscii-decimal_wide (n / 10 ^ 9) (omega arith))
-      (either (nat_eq (n % 10 ^ 9) 0) 46 (fraction_text 9 (n % 10 ^ 9)) (IsAscii-cons 46 (fraction_text 9 (n % 10 ^ 9)) (lit< tt) (fraction_ascii 9 (n % 10 ^ 9) (omega arith))))
+    (either (nat_eq (n % 10 ^ 9) 0) 46 (fraction_text 9 (n % 10 ^ 9)) (IsAscii-cons 46 (fraction_text 9 (n % 10 ^ 9)) (lit< tt) (fraction_ascii 9 (n % 10 ^ 9) (omega arith))))
 
 pub finite_ascii : (z : ℤ) → IsNano z → IsAscii (shown (Finite z))
 unfolding shown

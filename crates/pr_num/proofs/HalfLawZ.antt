@@ -5,6 +5,7 @@ use Rattle.std.proofs.Math.Nat.{le_of_mul-le-mul_right}
 use Rattle.std.proofs.lemmas.Int.{ints, unsigned_abs-mul}
 use Rattle.std.proofs.lemmas.Bool.{cases_lt, cases_eq}
 use Rattle.pr_num.specs.Half.{half, half_abs, IsHalf}
+use Rattle.pr_num.proofs.Signs.{half_abs_below, half_abs-above}
 use Rattle.pr_num.proofs.HalfLaw.{IsNearest, half_abs-nearest}
 
 dist-le : (n m : ℕ) → n ≤ m → unsigned_abs (pos n -ℤ pos m) + n ≡ m
@@ -125,3 +126,17 @@ half_one p q m n h a b =
 
 pub half_only : (p q n : ℤ) → 0 < unsigned_abs q → IsHalf p q n → n ≡ half p q
 half_only p q n h is = half_one p q n (half p q) h is (half_is p q h)
+
+-- ---- how far a rounded fraction is from zero
+abs_half : (p q : ℤ) → unsigned_abs (half p q) ≡ half_abs (unsigned_abs p) (unsigned_abs q)
+unfolding half
+abs_half (pos n) (pos d) = refl
+abs_half (pos n) (negsuc d) = even-neg (half_abs n (suc d))
+abs_half (negsuc n) (pos d) = even-neg (half_abs (suc n) d)
+abs_half (negsuc n) (negsuc d) = refl
+
+pub half_within : (p q : ℤ) (m : ℕ) → 0 < unsigned_abs q → unsigned_abs p ≤ m * unsigned_abs q → unsigned_abs (half p q) ≤ m
+half_within p q m h le = rw (abs_half p q) (half_abs_below (unsigned_abs p) (unsigned_abs q) m h le)
+
+pub half_beyond : (p q : ℤ) (m : ℕ) → 0 < unsigned_abs q → m * unsigned_abs q ≤ unsigned_abs p → m ≤ unsigned_abs (half p q)
+half_beyond p q m h le = rw (abs_half p q) (half_abs-above (unsigned_abs p) (unsigned_abs q) m h le)

@@ -1,7 +1,6 @@
 -- Rounding of a signed fraction, from its sign and its magnitude.
 use Rattle.std.proofs.Common.{◌+◌, ◌%◌, inl, inr, ◌≤◌, ◌≡◌, ℕ, zero, suc, ◌*◌, ◌/◌, ◌^◌, ◌<◌, ℤ, pos, negsuc, neg_ℤ, ◌*ℤ◌, unsigned_abs, refl, arith, Bool, true, false, ap, ◌∙◌, lit<, nat_lt, Err}
 use Rattle.std.proofs.lemmas.Int.{unsigned_abs-mul}
-use Rattle.std.proofs.Common.{sym}
 use Rattle.std.specs.Ordering.{nat_cmp, int_cmp}
 use Rattle.std.specs.declared.cmp.Ordering.TheVariants.{Less, Greater}
 use Rattle.pr_num.specs.Arithmetic.{fitted, too_wide}

@@ -33,9 +33,7 @@ pub fn half_product(a: i128, b: i128, c: u128) -> Option<i128>
     ensures { SomeIff result (unsigned_abs (half (a *ℤ b) (pos c)) < 2 ^ 127) (half (a *ℤ b) (pos c)) }
 {
     match half_scaled(a.unsigned_abs(), b.unsigned_abs(), c) {
-        Some(magnitude) if magnitude < SIGNED_END => {
-            Some(with_sign(are_apart(a, b), magnitude))
-        }
+        Some(magnitude) if magnitude < SIGNED_END => { Some(with_sign(are_apart(a, b), magnitude)) }
         _ => None,
     }
 }

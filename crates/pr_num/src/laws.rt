@@ -1,6 +1,6 @@
 //! Laws of the definitions that contracts of this crate cite. A law is a function that does nothing,
 //! and its contract is the theorem.
-ghost use Rattle.std.specs.Prelude.{◌≡◌, ◌≢◌, ◌<◌, ◌∷◌, ◌++◌, ◌↔◌, ℕ, ℤ, List, [], IfSome, codes, true, unsigned_abs};
+ghost use Rattle.std.specs.Prelude.{◌≡◌, ◌≢◌, ◌*◌, ◌<◌, ◌≤◌, ◌∷◌, ◌++◌, ◌↔◌, ℕ, ℤ, List, [], IfSome, codes, true, unsigned_abs};
 ghost use Rattle.std.specs.Cmp.{IsTotalOrder};
 ghost use Rattle.std.specs.Str.{IsAscii, str_eq_ignore_ascii_case};
 ghost use Rattle.std.specs.declared.cmp.Ordering.{Ordering};
@@ -42,11 +42,15 @@ pub fn number_texts_have_the_form()
 {}
 
 /// Rounding gives the whole number next to a fraction and the even one of two, and no other number is
-/// so.
-#[tactic(auto, using(crate::proofs::HalfLawZ::half_is, crate::proofs::HalfLawZ::half_only))]
+/// so. What is at most, or at least, a whole number in magnitude is rounded to no more, or no less.
+#[tactic(auto, using(crate::proofs::HalfLawZ::half_is, crate::proofs::HalfLawZ::half_only, crate::proofs::HalfLawZ::half_within, crate::proofs::HalfLawZ::half_beyond))]
 pub fn rounding_is_half_to_even()
     ensures nearest { (p q : ℤ) → 0 < unsigned_abs q → IsHalf p q (half p q) }
     ensures only { (p q n : ℤ) → 0 < unsigned_abs q → IsHalf p q n → n ≡ half p q }
+    ensures within { (p q : ℤ) (m : ℕ) → 0 < unsigned_abs q →
+        unsigned_abs p ≤ m * unsigned_abs q → unsigned_abs (half p q) ≤ m }
+    ensures beyond { (p q : ℤ) (m : ℕ) → 0 < unsigned_abs q →
+        m * unsigned_abs q ≤ unsigned_abs p → m ≤ unsigned_abs (half p q) }
 {}
 
 /// The floor of a fraction is the greatest whole number that is not above it, and no other number is so.

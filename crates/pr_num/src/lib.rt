@@ -32,8 +32,8 @@ pub use examples::{
 };
 pub use formulas::{compare_products, half, half_product, muldiv_units};
 pub use laws::{
-    floor_is_next_below, number_texts_have_the_form, order_is_total, printed_texts_read_back,
-    printed_texts_are_ascii, rounding_is_half_to_even, sums_and_products_commute, totals_join,
+    floor_is_next_below, number_texts_have_the_form, order_is_total, printed_texts_are_ascii,
+    printed_texts_read_back, rounding_is_half_to_even, sums_and_products_commute, totals_join,
 };
 pub use print::write;
 pub use ranks::quantile;
