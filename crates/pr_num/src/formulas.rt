@@ -11,7 +11,7 @@ use crate::sign::{are_apart, is_below_zero, with_sign};
 use crate::value::{Nano, Num, TooWide};
 use std::cmp::Ordering;
 
-/// The first magnitude that an `i128` holds with neither sign but one.
+/// From this magnitude on, 2^127, a rounded result is not answered.
 const SIGNED_END: u128 = 170_141_183_460_469_231_731_687_303_715_884_105_728;
 
 /// `p / q` for whole numbers, rounded half to even.

@@ -58,7 +58,6 @@ fn rests_added(x: u128, y: u128, divisor: u128) -> (u128, u128)
 
 /// `a * b` as a multiple of the divisor and a rest, where the product may pass 128 bits: by b's bits, the
 /// highest first.
-#[tactic(auto, using(crate::proofs::Rounding::even_step, crate::proofs::Rounding::odd_step))]
 fn product_by_bits(a: u128, b: u128, divisor: u128) -> (u128, u128)
     requires { a < divisor }
     ensures product { a * b ≡ result.0 * divisor + result.1 }
