@@ -18,3 +18,7 @@ pub mod SpacedTokens
 pub mod NumberForms
 pub mod NumberKnown
 pub mod UnitLetters
+pub mod Spelling
+pub mod SpelledTexts
+pub mod SpelledNumbers
+pub mod SpelledSpans

@@ -6,3 +6,4 @@ pub mod Words
 pub mod Order
 pub mod Signs
 pub mod Spaced
+pub mod Spelled
