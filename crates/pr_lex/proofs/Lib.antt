@@ -22,3 +22,4 @@ pub mod Spelling
 pub mod SpelledTexts
 pub mod SpelledNumbers
 pub mod SpelledSpans
+pub mod TakenSigns

@@ -1,9 +1,8 @@
 -- The spelling of numbers: an unsigned number text before anything that does not go on it.
-use Rattle.std.proofs.Common.{rules, ◌≡◌, ℕ, suc, ◌-◌, ◌+◌, ◌*◌, ◌<◌, ◌^◌, Bool, true, false, List, [], ◌∷◌, ◌++◌, Ok, length, take, drop, refl, ap, sym, ◌∙◌, subst, arith, append_assoc, inl, inr, pos}
+use Rattle.std.proofs.Common.{rules, ◌≡◌, ℕ, ◌-◌, ◌+◌, ◌*◌, ◌<◌, ◌^◌, Bool, true, false, List, [], ◌∷◌, ◌++◌, Ok, length, drop, refl, ap, sym, ◌∙◌, subst, arith, append_assoc, inl, inr, pos}
 use Rattle.std.specs.Prelude.{not, ◌==◌, ◌&&◌, ◌||◌, ◌/◌, ◌%◌, ◌⊎◌, if◌then◌else◌, decimal, codes}
 use Rattle.std.specs.List.{list_all, prefix_len}
 use Rattle.std.specs.Char.{is_ascii_digit}
-use Rattle.std.specs.Str.{str_eq_ignore_ascii_case}
 use Rattle.std.proofs.lemmas.List.{length-map, map-append, append-nil}
 use Rattle.std.proofs.lemmas.Fmt.{decimal_is_IsNumeral_wide}
 use Rattle.std.proofs.lemmas.Str.Parse.{IsNumeralModel, numerals_by_fold}

@@ -1,6 +1,6 @@
 -- The spelling of durations: a printed span before anything that does not go on it.
-use Rattle.std.proofs.Common.{◌≡◌, ℕ, ◌-◌, ◌+◌, ◌*◌, ◌/◌, ◌%◌, ◌<◌, ◌≤◌, ◌^◌, Bool, true, false, List, [], ◌∷◌, ◌++◌, length, take, drop, refl, ap, sym, ◌∙◌, subst, arith, append_assoc}
-use Rattle.std.specs.Prelude.{not, ◌==◌, ◌&&◌, ◌||◌, if◌then◌else◌, decimal, codes}
+use Rattle.std.proofs.Common.{◌≡◌, ℕ, ◌-◌, ◌/◌, ◌%◌, ◌<◌, ◌≤◌, ◌^◌, Bool, true, false, List, [], ◌∷◌, ◌++◌, length, refl, ap, sym, subst, arith, append_assoc}
+use Rattle.std.specs.Prelude.{not, ◌==◌, ◌||◌, if◌then◌else◌, decimal, codes}
 use Rattle.std.specs.List.{list_all}
 use Rattle.std.proofs.lemmas.List.{length-map, map-append, append-nil}
 use Rattle.std.proofs.lemmas.Bool.Decides.{nat_tests}
@@ -22,7 +22,7 @@ use Rattle.pr_lex.specs.Bytes.{part_at, is_digit, is_unit_letter, digits_lexeme}
 use Rattle.pr_lex.specs.Spelled.{Spells, a_token, ends_span}
 use Rattle.pr_lex.proofs.Spelling.{both_left, both_right, not_true, take_front, drop_front}
 use Rattle.pr_lex.proofs.SpelledTexts.{longest, front_length}
-use Rattle.pr_lex.proofs.SpelledNumbers.{stops, past_digits, digit_part, decimal_digits, decimal_some}
+use Rattle.pr_lex.proofs.SpelledNumbers.{past_digits, digit_part, decimal_digits, decimal_some}
 
 -- a byte that goes on no duration is seen as any other one
 other_of : {X : Type 0} (g y w d h m s : Bool) (t y' w' d' h' m' s' o : X) → g ≡ false → (y || w || d || h || m || s) ≡ false →

@@ -1,6 +1,6 @@
 -- From spelled texts to tokens, and the spelling of names and signs.
-use Rattle.std.proofs.Common.{◌≡◌, ℕ, zero, suc, ◌+◌, Bool, true, false, List, [], ◌∷◌, ◌++◌, length, take, drop, refl, ap, sym, ◌∙◌, subst, arith}
-use Rattle.std.specs.Prelude.{not, if◌then◌else◌, ◌==◌, ◌&&◌, Ok}
+use Rattle.std.proofs.Common.{◌≡◌, ℕ, ◌+◌, Bool, true, false, List, [], ◌∷◌, ◌++◌, length, take, drop, refl, ap, sym, subst, arith}
+use Rattle.std.specs.Prelude.{not, ◌==◌, ◌&&◌, Ok}
 use Rattle.std.specs.List.{list_all, prefix_len}
 use Rattle.std.proofs.lemmas.Bool.Decides.{nat_tests}
 use Rattle.pr_lex.specs.declared.token.Token.{Token}
@@ -14,8 +14,10 @@ use Rattle.pr_lex.specs.declared.part.Part.TheVariants.{Gap, Token as TokenPart}
 use Rattle.pr_lex.specs.Bytes.{part_at, is_blank, is_of, starts_name, name_class, front_len}
 use Rattle.pr_lex.specs.Signs.{sign_text}
 use Rattle.pr_lex.specs.Spaced.{kinds}
-use Rattle.pr_lex.specs.Tokens.{AreTokens, no_more, past_gap, one_more, IsName, IsSign, sign_at, inside_after}
+use Rattle.pr_lex.specs.Tokens.{AreTokens, no_more, past_gap, one_more, inside_after}
+use Rattle.pr_lex.specs.SignAt.{sign_at}
 use Rattle.pr_lex.specs.Spelled.{Spells, all_spelled, a_blank, a_token, begins_blank, ends_sign, IsNameText, name_text, ends_name}
+use Rattle.pr_lex.proofs.TakenSigns.{sign_is}
 
 no_front : (text : List ℕ) → begins_blank text ≡ false → front_len Blank text ≡ 0
 no_front [] e = refl
@@ -176,4 +178,4 @@ sign_known false Greater (b ∷ rest) e = let k = no_longer (b == 61) (b == 61) 
 pub sign_spelled : (inside : Bool) (sign : Sign) (rest : List ℕ) (ks : List TokenKind) → ends_sign inside sign rest ≡ true → Spells (inside_after inside (SignKind sign)) rest ks → Spells inside (sign_text sign ++ rest) (SignKind sign ∷ ks)
 sign_spelled inside sign rest ks e s =
     let k = sign_known inside sign rest e in
-    a_token (length (sign_text sign)) (SignKind sign) SignLexeme k.part (record { sign = sign; longest = k.taken; is = refl }) (subst (λ t. Spells (inside_after inside (SignKind sign)) t ks) (sym k.left) s)
+    a_token (length (sign_text sign)) (SignKind sign) SignLexeme k.part (sign_is (sign_text sign ++ rest) sign (length (sign_text sign)) k.taken) (subst (λ t. Spells (inside_after inside (SignKind sign)) t ks) (sym k.left) s)

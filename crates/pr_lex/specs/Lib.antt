@@ -7,3 +7,4 @@ pub mod Order
 pub mod Signs
 pub mod Spaced
 pub mod Spelled
+pub mod SignAt
