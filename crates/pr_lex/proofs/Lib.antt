@@ -23,3 +23,5 @@ pub mod SpelledTexts
 pub mod SpelledNumbers
 pub mod SpelledSpans
 pub mod TakenSigns
+pub mod OpenStrings
+pub mod LexedLaws

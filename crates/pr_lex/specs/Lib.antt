@@ -8,3 +8,4 @@ pub mod Signs
 pub mod Spaced
 pub mod Spelled
 pub mod SignAt
+pub mod Lexed

@@ -1,5 +1,5 @@
 //! The laws of tokens, each as the contract of a function that does nothing.
-ghost use Rattle.std.specs.Prelude.{◌≡◌, ◌≤◌, ◌^◌, ℕ, List, ◌∷◌, ◌++◌, length, ◌⊎◌, Ok, Err, Bool, true, false, pos};
+ghost use Rattle.std.specs.Prelude.{◌≡◌, ◌≤◌, ◌^◌, ℕ, List, ◌∷◌, ◌++◌, length, ◌⊎◌, Ok, Err, Bool, true, false, pos, ◌↔◌};
 ghost use Rattle.pr_forms.specs.Table.{IsDecided};
 ghost use Rattle.pr_lex.specs.declared.token.Token.{Token};
 ghost use Rattle.pr_lex.specs.declared.fault.LexKind.{LexKind};
@@ -10,6 +10,7 @@ ghost use Rattle.pr_lex.specs.declared.token.Sign.{Sign};
 ghost use Rattle.pr_lex.specs.Signs.{sign_text, BeginsWith, IsLongestSign};
 ghost use Rattle.pr_lex.specs.Order.{AreInOrder};
 ghost use Rattle.pr_lex.specs.Spaced.{spaced, kinds};
+ghost use Rattle.pr_lex.specs.Lexed.{lexed, gives_tokens, gives_fault};
 ghost use Rattle.pr_lex.specs.Spelled.{Spells, ends_sign, IsNameText, ends_name, ends_number, ends_span};
 ghost use Rattle.pr_lex.specs.declared.token.TokenKind.{TokenKind};
 ghost use Rattle.pr_lex.specs.declared.token.TokenKind.TheVariants.{Name as NameKind, Number as NumberKind, Duration as DurationKind, Sign as SignKind, Text as TextKind};
@@ -43,6 +44,12 @@ pub fn tokens_or_one_fault()
 /// Each text has its tokens or a first fault.
 pub fn every_text_is_answered()
     ensures { (text : List ℕ) → ((tokens : List Token) × HasTokens text tokens) ⊎ ((place : ℕ) × ((kind : LexKind) × HasFault text place kind)) }
+{}
+
+/// What a text gives is a function of it: its tokens, where it has some, and else its first fault.
+pub fn lexed_is_tokens_or_fault()
+    ensures tokens { (text : List ℕ) (tokens : List Token) → (lexed text ≡ gives_tokens tokens) ↔ HasTokens text tokens }
+    ensures fault { (text : List ℕ) (place : ℕ) (kind : LexKind) → (lexed text ≡ gives_fault place kind) ↔ HasFault text place kind }
 {}
 
 /// The tokens of a text lie in it in their order. None is empty, no two of them overlap, and before, between and after them are

@@ -10,3 +10,4 @@ pub mod WrittenUtf8
 pub mod StringOpen
 pub mod StringAnswers
 pub mod WorkedStrings
+pub mod Characters

@@ -3,3 +3,4 @@ pub mod Reader
 pub mod Within
 pub mod Quoted
 pub mod StringAnswer
+pub mod Escapes

@@ -1,5 +1,5 @@
-use Rattle.pr_lexed.proofs.LexedLaws.{tokens_both, fault_both}
-use Rattle.pr_lexed.proofs.laws.lexed_is_tokens_or_fault.Goals as goal
+use Rattle.pr_lex.proofs.LexedLaws.{tokens_both, fault_both}
+use Rattle.pr_lex.proofs.laws.lexed_is_tokens_or_fault.Goals as goal
 
 pub returns-clause-tokens : goal.returns-clause-tokens
 returns-clause-tokens c = λ text ts. tokens_both text ts
