@@ -18,3 +18,10 @@ pub mod SpacedTokens
 pub mod NumberForms
 pub mod NumberKnown
 pub mod UnitLetters
+pub mod Spelling
+pub mod SpelledTexts
+pub mod SpelledNumbers
+pub mod SpelledSpans
+pub mod TakenSigns
+pub mod OpenStrings
+pub mod LexedLaws

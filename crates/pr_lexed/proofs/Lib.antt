@@ -1,1 +1,1 @@
-pub mod LexedLaws
+pub mod WorkedTexts

@@ -1,5 +1,7 @@
-//! What a text of the query language gives, as a function of it: its tokens, or its first fault. It stands above `pr_lex`, whose
-//! proofs make it.
+//! What a text of the query language gives, as a function of it: its tokens, or its first fault. `pr_lex` has the law that says so;
+//! here are worked texts.
 #![tactic(auto)]
 
-pub mod laws;
+pub mod examples;
+
+pub use pr_lex::laws::lexed_is_tokens_or_fault;

@@ -2,3 +2,5 @@ pub mod Strings
 pub mod Reader
 pub mod Within
 pub mod Quoted
+pub mod StringAnswer
+pub mod Escapes
