@@ -1,7 +1,6 @@
 -- The chosen series rise, and are those of the entries that pass the test.
-use Rattle.std.proofs.Common.{◌≡◌, ℕ, Bool, true, false, not, cond, ◌&&◌, ◌||◌, List, [], ◌∷◌, ◌++◌, map, refl, sym, ap, ◌∙◌, subst, filter, fold}
+use Rattle.std.proofs.Common.{◌≡◌, Bool, true, false, cond, ◌&&◌, ◌||◌, List, [], ◌∷◌, map, refl, sym, ap, ◌∙◌, filter, fold}
 use Rattle.std.specs.Bool.{Decides}
-use Rattle.std.specs.List.{list_any}
 use Rattle.std.specs.Str.{bytes_eq}
 use Rattle.std.specs.Cmp.{IsTotalOrder, nat_cmp_total, then_total, on_total}
 use Rattle.std.specs.Cmp.Lexicographic.{lists_total, pointwise_decides, bytes_decides}
@@ -17,7 +16,7 @@ use Rattle.pr_history.specs.Series.{placed, with_labels, chosen}
 pair_total : IsTotalOrder pair_cmp
 pair_total = then_total (on_total (λ p. p.name) (lists_total nat_cmp_total)) (on_total (λ p. p.value) (lists_total nat_cmp_total))
 
-labels_total : IsTotalOrder labels_cmp
+pub labels_total : IsTotalOrder labels_cmp
 labels_total = lists_total pair_total
 
 both : (a b : Bool) → (a && b) ≡ true → (a ≡ true) × (b ≡ true)

@@ -1,5 +1,5 @@
 -- The series that a selector chooses, and what they show.
-use Rattle.std.specs.Prelude.{ℕ, ℤ, Bool, List, [], ◌∷◌, filter, map, fold, unwrap_or}
+use Rattle.std.specs.Prelude.{ℤ, Bool, List, [], ◌∷◌, filter, map, fold}
 use Rattle.std.specs.List.{filter_map, list_all}
 use Rattle.std.specs.Option.{option_map}
 use Rattle.std.specs.Str.{bytes_eq}
