@@ -7,7 +7,7 @@ use Rattle.std.proofs.lemmas.List.Elements.{filter-append}
 use Rattle.pr_num.specs.declared.value.Point.{Point}
 use Rattle.pr_num.specs.Same.{same_point}
 use Rattle.pr_labels.specs.declared.pair.Pair.{Pair}
-use Rattle.pr_history.proofs.Choosing.{labels_decide}
+use Rattle.pr_labels.proofs.LabelOrder.{labels_decide}
 use Rattle.pr_history.specs.declared.entry.Entry.{Entry}
 use Rattle.pr_history.specs.declared.append.Append.{Append}
 use Rattle.pr_history.specs.declared.append.Append.TheVariants.{Added, Same, OutOfOrder, Conflict}

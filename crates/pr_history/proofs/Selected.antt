@@ -6,10 +6,11 @@ use Rattle.pr_num.specs.declared.value.Num.{Num}
 use Rattle.pr_labels.specs.declared.pair.Pair.{Pair}
 use Rattle.pr_labels.specs.declared.item.Item.{Item}
 use Rattle.pr_history.specs.declared.entry.Entry.{Entry}
-use Rattle.pr_history.specs.Chosen.{IsBelowFirstSet, IsRising}
+use Rattle.pr_labels.specs.Rising.{IsBelowFirstSet, IsRising}
 use Rattle.pr_history.specs.Lookback.{value_at}
 use Rattle.pr_history.specs.Series.{has_values, item_of, items_of, chosen, selected}
-use Rattle.pr_history.proofs.Choosing.{chosen_rising, labels_total}
+use Rattle.pr_history.proofs.Choosing.{chosen_rising}
+use Rattle.pr_labels.proofs.LabelOrder.{labels_total}
 
 abbrev sets_in : List (Item Num) → List (List Pair)
 sets_in items = map (λ i. i.labels) items

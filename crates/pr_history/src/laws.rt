@@ -3,7 +3,7 @@ ghost use Rattle.std.specs.Prelude.{◌≡◌, ℤ, ◌&&◌, ◌++◌, Bool, Li
 ghost use Rattle.std.specs.List.Sorted.{IsStrictlyIncreasing};
 ghost use Rattle.pr_labels.specs.declared.pair.Pair.{Pair};
 ghost use Rattle.pr_history.specs.Admission.{put, put_all, times_of, IsLawful, IsLawfulAfter};
-ghost use Rattle.pr_history.specs.Chosen.{IsRising, is_among};
+ghost use Rattle.pr_labels.specs.Rising.{IsRising, is_among};
 ghost use Rattle.pr_history.specs.Series.{chosen, selected};
 ghost use Rattle.pr_history.specs.declared.entry.Entry.{Entry};
 
