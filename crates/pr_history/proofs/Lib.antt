@@ -1,2 +1,3 @@
-pub mod Lawful
 pub mod Choosing
+pub mod Lawful
+pub mod Selected

@@ -1,5 +1,5 @@
 -- The history is one list of entries in order of arrival. What becomes of a point, and what it adds.
-use Rattle.std.specs.Prelude.{◌≡◌, ℕ, Bool, cond, ◌==◌, nat_lt, List, [], ◌∷◌, ◌++◌, find, reverse, Option, Some, None}
+use Rattle.std.specs.Prelude.{◌≡◌, ℕ, Bool, cond, ◌==◌, nat_lt, List, [], ◌∷◌, ◌++◌, filter, map, fold, find, reverse, Option, Some, None}
 use Rattle.pr_num.specs.Same.{same_point}
 use Rattle.pr_num.specs.declared.value.Point.{Point}
 use Rattle.pr_labels.specs.Order.{labels_eq}
@@ -11,6 +11,13 @@ use Rattle.pr_history.specs.declared.append.Append.TheVariants.{Added, Same, Out
 -- whether an entry is one of the series
 abbrev pub is_of : List Pair → Entry → Bool
 is_of labels e = labels_eq e.labels labels
+
+-- the entries of a series, in order of arrival, and their times
+abbrev pub entries_of : List Pair → List Entry → List Entry
+entries_of labels history = filter (is_of labels) history
+
+abbrev pub times_of : List Pair → List Entry → List ℕ
+times_of labels history = map (λ e. e.time) (entries_of labels history)
 
 -- the last entry that passes a test
 abbrev pub last_entry : (Entry → Bool) → List Entry → Option Entry
@@ -35,6 +42,10 @@ put_by (Conflict kept) history e = history
 
 abbrev pub put : List Entry → Entry → List Entry
 put history e = put_by (admit history e.labels e.time e.point) history e
+
+-- the history after entries that come one after another
+abbrev pub put_all : List Entry → List Entry → List Entry
+put_all history entries = fold put history entries
 
 -- each entry is added to those before it
 abbrev pub IsLawfulAfter : List Entry → List Entry → Type 0

@@ -29,3 +29,7 @@ one = entry_at 0 (whole 1) ∷ []
 -- and then a marker a minute later
 abbrev pub marked : List Entry
 marked = entry_at 0 (whole 1) ∷ entry_at 60000 Stale ∷ []
+
+-- m is 1, 2 and 3, a minute after one another
+abbrev pub three : List Entry
+three = entry_at 0 (whole 1) ∷ entry_at 60000 (whole 2) ∷ entry_at 120000 (whole 3) ∷ []

@@ -1,11 +1,13 @@
 -- What a series shows at a moment, and in a range.
-use Rattle.std.specs.Prelude.{ℕ, ℤ, pos, negsuc, ◌+◌, Bool, true, false, ◌&&◌, nat_lt, nat_le, List, filter, Option, Some, None, option_and_then}
+use Rattle.std.specs.Prelude.{ℕ, ℤ, pos, negsuc, ◌+◌, Bool, true, false, ◌&&◌, nat_lt, nat_le, List, length, filter, map, Option, Some, None, option_and_then}
 use Rattle.std.specs.List.{filter_map}
+use Rattle.std.specs.Option.{option_map}
 use Rattle.pr_num.specs.declared.value.Num.{Num}
 use Rattle.pr_num.specs.declared.value.Point.{Point}
 use Rattle.pr_num.specs.declared.value.Point.TheVariants.{Value, Stale}
 use Rattle.pr_labels.specs.declared.pair.Pair.{Pair}
 use Rattle.pr_history.specs.declared.entry.Entry.{Entry}
+use Rattle.pr_history.specs.declared.spot.Spot.{Spot}
 use Rattle.pr_history.specs.Admission.{is_of, last_entry}
 
 -- five minutes, in milliseconds
@@ -31,10 +33,33 @@ abbrev pub number_in : Point → Option Num
 number_in (Value v) = Some v
 number_in Stale = None
 
--- the value of a series at a moment: that of its newest recent entry, unless this is a marker
-abbrev pub value_at : List Entry → ℤ → List Pair → Option Num
-value_at history x labels = option_and_then (λ e. number_in e.point) (last_entry (λ e. is_of labels e && is_recent x e.time) history)
+-- the value of an entry with its time; a marker has none
+abbrev pub spot_of : ℕ → Num → Spot
+spot_of time value = record { time = time; value = value }
 
--- the values of a series with times above a and at most b, without the markers
+abbrev pub spot_in : Entry → Option Spot
+spot_in e = option_map (spot_of e.time) (number_in e.point)
+
+-- the newest recent entry of a series at a moment, be it a marker
+abbrev pub recent_entry : List Entry → ℤ → List Pair → Option Entry
+recent_entry history x labels = last_entry (λ e. is_of labels e && is_recent x e.time) history
+
+-- what a series shows at a moment: its newest recent value with its time; nothing behind a marker
+abbrev pub spot_at : List Entry → ℤ → List Pair → Option Spot
+spot_at history x labels = option_and_then spot_in (recent_entry history x labels)
+
+-- the value of a series at a moment
+abbrev pub value_at : List Entry → ℤ → List Pair → Option Num
+value_at history x labels = option_map (λ s. s.value) (spot_at history x labels)
+
+-- the values of a series with times above a and at most b, without the markers, each with its time
+abbrev pub spots_within : List Entry → List Pair → ℤ → ℤ → List Spot
+spots_within history labels a b = filter_map spot_in (filter (λ e. is_of labels e && is_after a e.time && is_until b e.time) history)
+
+-- the values alone
 abbrev pub values_within : List Entry → List Pair → ℤ → ℤ → List Num
-values_within history labels a b = filter_map (λ e. number_in e.point) (filter (λ e. is_of labels e && is_after a e.time && is_until b e.time) history)
+values_within history labels a b = map (λ s. s.value) (spots_within history labels a b)
+
+-- how many entries a series has until a moment, markers among them
+abbrev pub entries_until : List Entry → List Pair → ℤ → ℕ
+entries_until history labels x = length (filter (λ e. is_of labels e && is_until x e.time) history)

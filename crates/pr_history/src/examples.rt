@@ -1,9 +1,9 @@
 // What the definitions say of small histories.
 ghost use Rattle.std.specs.Prelude.{◌≡◌, pos, negsuc, [], ◌∷◌, Some, None};
 ghost use Rattle.pr_history.specs.Admission.{admit, put};
-ghost use Rattle.pr_history.specs.Lookback.{value_at, values_within};
+ghost use Rattle.pr_history.specs.Lookback.{entries_until, recent_entry, spot_at, spot_of, spots_within, value_at, values_within};
 ghost use Rattle.pr_history.specs.Series.{selected, item_of};
-ghost use Rattle.pr_history.specs.Examples.{m, number, whole, entry_at, one, marked};
+ghost use Rattle.pr_history.specs.Examples.{m, number, whole, entry_at, one, marked, three};
 ghost use Rattle.pr_history.specs.declared.append.Append.TheVariants.{Added, Same, OutOfOrder, Conflict};
 ghost use Rattle.pr_num.specs.declared.value.Point.TheVariants.{Stale};
 
@@ -12,6 +12,28 @@ pub fn lookback_is_five_minutes()
     ensures seen { selected one m (pos 299999) ≡ item_of m (number 1) ∷ [] }
     ensures gone { selected one m (pos 300000) ≡ [] }
     ensures before { value_at marked (negsuc 0) m ≡ None }
+{}
+
+/// A series shows the newest value at or before a moment, with the time of that value.
+pub fn a_value_has_its_time()
+    ensures newest { spot_at three (pos 60000) m ≡ Some (spot_of 60000 (number 2)) }
+    ensures older { spot_at three (pos 59999) m ≡ Some (spot_of 0 (number 1)) }
+    ensures last { spot_at three (pos 419999) m ≡ Some (spot_of 120000 (number 3)) }
+    ensures gone { spot_at three (pos 420000) m ≡ None }
+    ensures entry { recent_entry marked (pos 60000) m ≡ Some (entry_at 60000 Stale) }
+    ensures hidden { spot_at marked (pos 60000) m ≡ None }
+{}
+
+/// A range has the values above its start and at most its end, in order of time.
+pub fn a_range_is_open_below_and_closed_above()
+    ensures whole { spots_within three m (negsuc 0) (pos 120000)
+        ≡ spot_of 0 (number 1) ∷ spot_of 60000 (number 2) ∷ spot_of 120000 (number 3) ∷ [] }
+    ensures start { spots_within three m (pos 0) (pos 60000) ≡ spot_of 60000 (number 2) ∷ [] }
+    ensures end { spots_within three m (negsuc 0) (pos 59999) ≡ spot_of 0 (number 1) ∷ [] }
+    ensures alone { values_within three m (pos 59999) (pos 60000) ≡ number 2 ∷ [] }
+    ensures other { spots_within three [] (negsuc 0) (pos 120000) ≡ [] }
+    ensures counted { entries_until marked m (pos 60000) ≡ 2 }
+    ensures counted_before { entries_until marked m (pos 59999) ≡ 1 }
 {}
 
 /// At the last time of a series an equal point is the same, and another one is a conflict with it.
