@@ -1,5 +1,6 @@
 // Runs whose reads or writes fail.
-use crate::runner::run_failing;
+use crate::fakes::{Comments, Refusing};
+use crate::runner::{run_failing, run_over};
 use pr_top::Status;
 use std::test::Fail;
 
@@ -50,5 +51,25 @@ fn a_failed_write_ends_the_run(rt: HostRuntime) -> Result<(), Fail> {
     let (status, text) = run_failing(alloc, SCRIPT, &[], &[7])?;
     assert_eq!(rt; status, Status::Problem);
     assert_eq!(rt; text.as_slice(), ANSWERS);
+    Ok(())
+}
+
+// After a refused read there is no other.
+#[test]
+fn a_refused_read_is_the_last(rt: HostRuntime) -> Result<(), Fail> {
+    let mut input = Refusing { calls: 0 };
+    let (status, text) = run_over(rt.alloc(), &mut input)?;
+    assert_eq!(rt; status, Status::ReadFault);
+    assert_eq!(rt; text.as_slice(), b"opened 0\n".as_slice());
+    assert_eq!(rt; input.calls, 1);
+    Ok(())
+}
+
+// An input of 2^32 bytes is too long, and is not kept.
+#[test]
+fn too_long_an_input_is_no_want_of_memory(rt: HostRuntime) -> Result<(), Fail> {
+    let (status, text) = run_over(rt.alloc(), &mut Comments)?;
+    assert_eq!(rt; status, Status::TooLong);
+    assert_eq!(rt; text.as_slice(), b"opened 0\n".as_slice());
     Ok(())
 }

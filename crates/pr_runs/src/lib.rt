@@ -4,6 +4,8 @@
 #[cfg(test)]
 mod failing;
 #[cfg(test)]
+mod fakes;
+#[cfg(test)]
 mod runner;
 #[cfg(test)]
 mod scripts;

@@ -1,7 +1,8 @@
 // Runs of the program over the forms in memory.
-use pr_outside::{MemSink, MemSource, SureFiles, SureKeeper, SureSink, SureSource};
+use pr_outside::{MemSink, MemSource, Source, SureFiles, SureKeeper, SureSink, SureSource};
 use pr_top::{Status, promtool};
 use std::alloc::{AllocError, Global};
+use std::str;
 
 fn words_of(alloc: Global, words: &[&str]) -> Result<Vec<String>, AllocError> {
     let mut owned = Vec::new(alloc);
@@ -26,6 +27,13 @@ pub(crate) fn run(
     Ok((status, out.bytes().to_vec(alloc)?))
 }
 
+/// The same of the words `run` over a text. What is written is a text.
+pub(crate) fn run_text(alloc: Global, script: &str) -> Result<(Status, String), AllocError> {
+    let (status, bytes) = run(alloc, &["run"], script.as_bytes())?;
+    let text = str::from_utf8(&bytes).unwrap_or("no text");
+    Ok((status, String::from_str(alloc, text)?))
+}
+
 /// The same of the words `run`, where the reads and the writes of these numbers fail.
 pub(crate) fn run_failing(
     alloc: Global,
@@ -39,5 +47,18 @@ pub(crate) fn run_failing(
     let mut files = SureFiles::new(Vec::new(alloc));
     let mut keeper = SureKeeper::new(Vec::new(alloc));
     let status = promtool(alloc, &words, &mut input, &mut files, &mut keeper, &mut out);
+    Ok((status, out.bytes().to_vec(alloc)?))
+}
+
+/// The same of the words `run` over this source.
+pub(crate) fn run_over<I: Source>(
+    alloc: Global,
+    input: &mut I,
+) -> Result<(Status, Vec<u8>), AllocError> {
+    let words = words_of(alloc, &["run"])?;
+    let mut out = SureSink::new(alloc);
+    let mut files = SureFiles::new(Vec::new(alloc));
+    let mut keeper = SureKeeper::new(Vec::new(alloc));
+    let status = promtool(alloc, &words, input, &mut files, &mut keeper, &mut out);
     Ok((status, out.bytes().to_vec(alloc)?))
 }

@@ -1,100 +1,145 @@
-// What scripts are answered.
-use crate::runner::run;
+// What scripts are answered: rows of a name, a script, its answers and the status.
+use crate::runner::{run, run_text};
 use pr_top::Status;
 use std::test::Fail;
 
+// Samples, questions and their times.
 #[test]
-fn scripts_are_answered(rt: HostRuntime) -> Result<(), Fail> {
+fn events_are_answered(rt: HostRuntime) -> Result<(), Fail> {
     let alloc = rt.alloc();
-    let cases: [(&[u8], &[u8], Status); 16] = [
-        (b"", b"opened 0\n", Status::Done),
+    let rows: [(&str, &str, &str, Status); 8] = [
         (
-            b"add 0 m 1\nquery 299999 m\nquery 300000 m\n",
-            b"opened 0\nadded\nvector 1\nvalue m 1\nvector 0\n",
+            "no line",
+            "",
+            "opened 0\n",
             Status::Done,
         ),
         (
-            b"add 4398046511103 m 1\n",
-            b"opened 0\nadded\n",
+            "five minutes",
+            "add 0 m 1\nquery 299999 m\nquery 300000 m\n",
+            "opened 0\nadded\nvector 1\nvalue m 1\nvector 0\n",
             Status::Done,
         ),
         (
-            b"add 4398046511104 m 1\n",
-            b"opened 0\nbad line 1\n",
+            "greatest time",
+            "add 4398046511103 m 1\n",
+            "opened 0\nadded\n",
+            Status::Done,
+        ),
+        (
+            "time beyond",
+            "add 4398046511104 m 1\n",
+            "opened 0\nbad line 1\n",
             Status::Problem,
         ),
         (
-            b"add 5000 m 1\nadd 4000 n 1\n",
-            b"opened 0\nadded\nbackwards last 5000 given 4000\n",
+            "backwards",
+            "add 5000 m 1\nadd 4000 n 1\n",
+            "opened 0\nadded\nbackwards last 5000 given 4000\n",
             Status::Problem,
         ),
         (
-            b"add 0 m 1\nadd 60000 m stale\nquery 60000 m\nquery 60000 n\n",
-            b"opened 0\nadded\nadded\nvector 0\nvector 0\n",
+            "marker",
+            "add 0 m 1\nadd 60000 m stale\nquery 60000 m\nquery 60000 n\n",
+            "opened 0\nadded\nadded\nvector 0\nvector 0\n",
             Status::Done,
         ),
         (
-            b"add 0 m 1\nadd 0 m 1\nadd 0 m 2\nadd 0 m stale\nquery 0 m\n",
-            b"opened 0\nadded\nsame\ndropped Conflict 1\ndropped Conflict 1\nvector 1\nvalue m 1\n",
+            "same and conflict",
+            "add 0 m 1\nadd 0 m 1\nadd 0 m 2\nadd 0 m stale\nquery 0 m\n",
+            "opened 0\nadded\nsame\ndropped Conflict 1\ndropped Conflict 1\nvector 1\nvalue m 1\n",
             Status::Done,
         ),
-        // A question moves the time, and a refused event does not.
         (
-            b"query 7 m\nadd 6 m 1\nadd 7 m 1\n",
-            b"opened 0\nvector 0\nbackwards last 7 given 6\nadded\n",
+            "a question moves the time, a refused event does not",
+            "query 7 m\nadd 6 m 1\nadd 7 m 1\n",
+            "opened 0\nvector 0\nbackwards last 7 given 6\nadded\n",
             Status::Problem,
         ),
-        // Blanks between fields and at the end say nothing, and the last line feed may be missing.
+    ];
+    for (name, script, answers, ends) in rows {
+        let (status, text) = run_text(alloc, script)?;
+        assert_eq!(rt; (name, text.as_str(), status), (name, answers, ends));
+    }
+    Ok(())
+}
+
+// Fields, lines and label sets.
+#[test]
+fn lines_are_read(rt: HostRuntime) -> Result<(), Fail> {
+    let alloc = rt.alloc();
+    let rows: [(&str, &str, &str, Status); 7] = [
         (
-            b"add \t 0   m \t 007  \t\nquery\t0\tm \n\n \t \n# add 0 m 1\nquery 0 m",
-            b"opened 0\nadded\nvector 1\nvalue m 7\nvector 1\nvalue m 7\n",
+            "blanks, empty lines, a comment, no last line feed",
+            "add \t 0   m \t 007  \t\nquery\t0\tm \n\n \t \n# add 0 m 1\nquery 0 m",
+            "opened 0\nadded\nvector 1\nvalue m 7\nvector 1\nvalue m 7\n",
             Status::Done,
         ),
-        // Names may have colons, capitals and digits; each metric is a series of its own.
         (
-            b"add 0 job:m_1 1\nadd 0 _A 2\nquery 0 _A\nquery 0 job:m_1\n",
-            b"opened 0\nadded\nadded\nvector 1\nvalue _A 2\nvector 1\nvalue job:m_1 1\n",
-            Status::Done,
-        ),
-        // Lines that ask for nothing are counted.
-        (
-            b"\n# a comment\nx\n",
-            b"opened 0\nbad line 3\n",
+            "lines that ask for nothing are counted",
+            "\n# a comment\nx\n",
+            "opened 0\nbad line 3\n",
             Status::Problem,
         ),
-        // The scripts of the formats' page.
         (
-            b"add 0 m 1\nquery 299999 m\nquery 300000 m\nadd 1 m 2\nadd 300000 m 2\nadd 300000 m 2.0\nadd 300000 m 3\nadd 300001 m stale\nadd 300001 m 3\nquery 300001 m\n",
-            b"opened 0\nadded\nvector 1\nvalue m 1\nvector 0\nbackwards last 300000 given 1\nadded\nsame\ndropped Conflict 2\nadded\ndropped Conflict stale\nvector 0\n",
+            "a scrape and its body are bad lines so far",
+            "scrape 0 {job=\"a\"}\n|m 1\n\n|m 2\nadd 0 m 1\n",
+            "opened 0\nbad line 1\nbad line 2\nbad line 4\nadded\n",
             Status::Problem,
         ),
         (
-            b"add 0 up{job=\"b\", inst='x y'} 1\nadd 0 up {inst=\"z\"} 0\nadd 0 {job=\"b\"} 5\nadd 0 {} 7\nadd 0 {__name__=\"my metric\"} 8\nadd 0 m{path=\"C:\\\\\"} 9\nquery 0 {job=\"b\"}\nquery 0 up\nquery 0 {__name__=\"my metric\"}\nquery 0 m\nquery 0 up{job=\"b\",}\n",
-            b"opened 0\nadded\nadded\nadded\nadded\nadded\nadded\nvector 2\nvalue up{inst=\"x y\",job=\"b\"} 1\nvalue {job=\"b\"} 5\nvector 2\nvalue up{inst=\"x y\",job=\"b\"} 1\nvalue up{inst=\"z\"} 0\nvector 1\nvalue {__name__=\"my metric\"} 8\nvector 1\nvalue m{path=\"C:\\\\\"} 9\nbad line 11\n",
-            Status::Problem,
-        ),
-        // A series is any label set, and a question asks for all that have its labels.
-        (
-            b"add 0 {} 1\nadd 0 sum 2\nadd 0 m { b = 'x y' , a=\"\" , } 3\nadd 0 {b=`x y`,c=\"\"} 4\nquery 0 {b=\"x y\"}\nquery 0 m{b=\"x y\"}\n",
-            b"opened 0\nadded\nadded\nadded\nadded\nvector 2\nvalue m{b=\"x y\"} 3\nvalue {b=\"x y\"} 4\nvector 1\nvalue m{b=\"x y\"} 3\n",
-            Status::Done,
-        ),
-        // What is printed can be asked for: with escapes, and with a name that is not classic.
-        (
-            b"add 0 {__name__='my \"m\"',a='\\\\\\n\\u0041'} 1\nquery 0 {__name__=\"my \\\"m\\\"\",a=\"\\\\\\nA\"}\n",
-            b"opened 0\nadded\nvector 1\nvalue {__name__=\"my \\\"m\\\"\",a=\"\\\\\\nA\"} 1\n",
+            "colons, capitals and digits in names",
+            "add 0 job:m_1 1\nadd 0 _A 2\nquery 0 _A\nquery 0 job:m_1\n",
+            "opened 0\nadded\nadded\nvector 1\nvalue _A 2\nvector 1\nvalue job:m_1 1\n",
             Status::Done,
         ),
         (
-            b"add 0 m 1.5\nquery 0 m\nadd 1 m -2e1\nquery 1 m\nadd 2 m NaN\nadd 2 m nan\n",
-            b"opened 0\nadded\nvector 1\nvalue m 1.5\nadded\nvector 1\nvalue m -20\nadded\nsame\n",
+            "numbers",
+            "add 0 m 1.5\nquery 0 m\nadd 1 m -2e1\nquery 1 m\nadd 2 m NaN\nadd 2 m nan\n",
+            "opened 0\nadded\nvector 1\nvalue m 1.5\nadded\nvector 1\nvalue m -20\nadded\nsame\n",
+            Status::Done,
+        ),
+        (
+            "any label set is a series",
+            "add 0 {} 1\nadd 0 sum 2\nadd 0 m { b = 'x y' , a=\"\" , } 3\nadd 0 {b=`x y`,c=\"\"} 4\nquery 0 {b=\"x y\"}\nquery 0 m{b=\"x y\"}\n",
+            "opened 0\nadded\nadded\nadded\nadded\nvector 2\nvalue m{b=\"x y\"} 3\nvalue {b=\"x y\"} 4\nvector 1\nvalue m{b=\"x y\"} 3\n",
+            Status::Done,
+        ),
+        (
+            "what is printed can be asked for",
+            "add 0 {__name__='my \"m\"',a='\\\\\\n\\u0041'} 1\nquery 0 {__name__=\"my \\\"m\\\"\",a=\"\\\\\\nA\"}\n",
+            "opened 0\nadded\nvector 1\nvalue {__name__=\"my \\\"m\\\"\",a=\"\\\\\\nA\"} 1\n",
             Status::Done,
         ),
     ];
-    for (script, answers, ends) in cases {
-        let (status, text) = run(alloc, &["run"], script)?;
-        assert_eq!(rt; text.as_slice(), answers);
-        assert_eq!(rt; status, ends);
+    for (name, script, answers, ends) in rows {
+        let (status, text) = run_text(alloc, script)?;
+        assert_eq!(rt; (name, text.as_str(), status), (name, answers, ends));
+    }
+    Ok(())
+}
+
+// The scripts of the formats' page.
+#[test]
+fn the_scripts_of_the_formats_page_are_answered(rt: HostRuntime) -> Result<(), Fail> {
+    let alloc = rt.alloc();
+    let rows: [(&str, &str, &str, Status); 2] = [
+        (
+            "times and admission",
+            "add 0 m 1\nquery 299999 m\nquery 300000 m\nadd 1 m 2\nadd 300000 m 2\nadd 300000 m 2.0\nadd 300000 m 3\nadd 300001 m stale\nadd 300001 m 3\nquery 300001 m\n",
+            "opened 0\nadded\nvector 1\nvalue m 1\nvector 0\nbackwards last 300000 given 1\nadded\nsame\ndropped Conflict 2\nadded\ndropped Conflict stale\nvector 0\n",
+            Status::Problem,
+        ),
+        (
+            "labels",
+            "add 0 up{job=\"b\", inst='x y'} 1\nadd 0 up {inst=\"z\"} 0\nadd 0 {job=\"b\"} 5\nadd 0 {} 7\nadd 0 {__name__=\"my metric\"} 8\nadd 0 m{path=\"C:\\\\\"} 9\nquery 0 {job=\"b\"}\nquery 0 up\nquery 0 {__name__=\"my metric\"}\nquery 0 m\nquery 0 up{job=\"b\",}\n",
+            "opened 0\nadded\nadded\nadded\nadded\nadded\nadded\nvector 2\nvalue up{inst=\"x y\",job=\"b\"} 1\nvalue {job=\"b\"} 5\nvector 2\nvalue up{inst=\"x y\",job=\"b\"} 1\nvalue up{inst=\"z\"} 0\nvector 1\nvalue {__name__=\"my metric\"} 8\nvector 1\nvalue m{path=\"C:\\\\\"} 9\nbad line 11\n",
+            Status::Problem,
+        ),
+    ];
+    for (name, script, answers, ends) in rows {
+        let (status, text) = run_text(alloc, script)?;
+        assert_eq!(rt; (name, text.as_str(), status), (name, answers, ends));
     }
     Ok(())
 }

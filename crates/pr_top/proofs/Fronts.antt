@@ -1,80 +1,244 @@
--- How a run's writing may stop.
-use Rattle.std.proofs.Common.{◌≡◌, ℕ, ◌+◌, ◌≤◌, List, [], ◌∷◌, ◌++◌, refl, sym, ap, ◌∙◌, subst, append-nil, length, length-append, zero, suc, take, take_all, arith}
+-- Where a run stands between two orders, and what it has written when it is cut short.
+use Rattle.std.proofs.Common.{◌≡◌, ℕ, ◌+◌, ◌≤◌, ◌<◌, ◌^◌, Bool, true, false, true≢false, ◌||◌, List, [], ◌∷◌, ◌++◌, None, Some, IfSome, Result, Ok, Err, IsErrAnd, refl, sym, ap, ◌∙◌, subst, append_assoc, append-nil, length, length-append, zero, suc, take, take_all, arith}
 use Rattle.std.proofs.Math.Seq.{take-append-add}
 use Rattle.std.proofs.lemmas.List.{take-append-le}
 use Rattle.std.specs.declared.option.Option.{Option}
 use Rattle.std.specs.Io.KnownBytes.{Appends}
+use Rattle.pr_words.specs.Lines.{lines_of}
+use Rattle.pr_history.specs.declared.entry.Entry.{Entry}
+use Rattle.pr_text.specs.declared.order.Numbered.{Numbered}
+use Rattle.pr_text.specs.Orders.{orders_of, orders_after}
 use Rattle.pr_top.specs.Front.{IsFront}
-use Rattle.pr_top.specs.Printed.{opened_text}
-use Rattle.pr_top.specs.Told.{Progress, begun, answer, after, answers, progress_after, told_lines}
+use Rattle.pr_top.specs.Reading.{ahead, HandsOrder, IsCutAt, Counts}
+use Rattle.pr_top.specs.Status.{IsShort}
+use Rattle.pr_top.specs.Standing.{Progress, Splits, Stands, begun}
+use Rattle.pr_top.specs.Stops.{AtInput, StopsWriting, stopped_at_input}
+use Rattle.pr_top.specs.Told.{Answer, answers, told_of, turn, any_refused, Content, answers_to, told, refuses}
+use Rattle.pr_top.specs.declared.status.Stop.{Stop}
+use Rattle.pr_top.specs.declared.status.Stop.TheVariants.{Read, Write, Memory, TooLong}
 use Rattle.pr_top.proofs.Streams.{appends_on, appends_none}
-use Rattle.pr_top.proofs.Turns.{told_more}
+use Rattle.pr_top.proofs.Turns.{told_none, told_more, refused_more, answer_count}
+use Rattle.pr_world.specs.World.{World, start}
 
-no_line : (P : ℕ → Type 0) (k : ℕ) → k + 1 ≡ 0 → P k
-no_line P k h = absurd (omega arith)
+-- no order was answered yet
+pub stands_start : (rows : List Entry) (left old new : Option (List ℕ)) → Appends old new (told_of rows []) → Stands rows left left old new 0 (begun rows)
+stands_start rows left old new p = record { done = []; split = start_of left; told = p; refused = refl }
+  where
+    start_of : (a : Option (List ℕ)) → Splits rows a a [] (start rows) 0
+    start_of None = tt
+    start_of (Some bytes) = refl
 
--- a part of the first line was written, or nothing
-pub front_opening : (from now : Option (List ℕ)) (lines : List (List ℕ)) (n : ℕ) → Appends from now (take n (opened_text 0)) → IsFront from now lines
-front_opening from now lines n p = record {
-  answered = 0;
-  count = n;
-  within = omega arith;
-  front = subst (λ (t : List ℕ). Appends from now (take n t)) (sym (append-nil (opened_text 0))) p;
-  whole = λ k h. no_line (λ k. length (told_lines [] (take k lines)) ≤ n) k h;
+-- the answers to an order that is handed out, and to the others
+split_more : (rows : List Entry) (a b c : Option (List ℕ)) (done : List Answer) (w : World) (m n : ℕ) (o : Numbered)
+    → Splits rows a b done w m → HandsOrder b c m n (Some o) → Splits rows a c (done ++ (turn w o).answer ∷ []) (turn w o).world n
+split_more rows None b c done w m n o s h = tt
+split_more rows (Some x) None c done w m n o s h = absurd s
+split_more rows (Some x) (Some y) None done w m n o s h = absurd h
+split_more rows (Some x) (Some y) (Some z) done w m n o s h =
+    s ∙ ap (λ (os : List Numbered). done ++ answers w os) h
+    ∙ sym (append_assoc done ((turn w o).answer ∷ []) (answers (turn w o).world (orders_after n (lines_of z))))
+
+-- one more order was answered whole
+pub stands_more : (rows : List Entry) (a b c old mid new : Option (List ℕ)) (m n : ℕ) (p q : Progress) (o : Numbered)
+    → Stands rows a b old mid m p → HandsOrder b c m n (Some o) → Appends mid new (turn p.world o).answer.text
+    → q.world ≡ (turn p.world o).world → q.refused ≡ (p.refused || (turn p.world o).answer.refused) → Stands rows a c old new n q
+stands_more rows a b c old mid new m n p q o s h t world refused = record {
+  done = s.done ++ (turn p.world o).answer ∷ [];
+  split = subst (λ (w : World). Splits rows a c (s.done ++ (turn p.world o).answer ∷ []) w n) (sym world)
+      (split_more rows a b c s.done p.world m n o s.split h);
+  told = subst (Appends old new) (sym (told_more rows s.done (turn p.world o).answer))
+      (appends_on old mid new (told_of rows s.done) (turn p.world o).answer.text s.told t);
+  refused = refused ∙ ap (λ (r : Bool). r || (turn p.world o).answer.refused) s.refused ∙ sym (refused_more s.done (turn p.world o).answer);
 }
 
-pub front_none : (from : Option (List ℕ)) (lines : List (List ℕ)) → IsFront from from lines
-front_none from lines = front_opening from from lines 0 (appends_none from)
+-- the last order was answered
+all_done : (rows : List Entry) (bytes : List ℕ) (b c : Option (List ℕ)) (done : List Answer) (w : World) (m n : ℕ)
+    → Splits rows (Some bytes) b done w m → HandsOrder b c m n None → answers (start rows) (orders_of (lines_of bytes)) ≡ done
+all_done rows bytes None c done w m n s h = absurd s
+all_done rows bytes (Some y) None done w m n s h = absurd h
+all_done rows bytes (Some y) (Some z) done w m n s h = s ∙ ap (λ (os : List Numbered). done ++ answers w os) h.0 ∙ append-nil done
 
--- what is told of a front of the lines is no longer
-shorter : (p : Progress) (k : ℕ) (lines : List (List ℕ)) → length (answers p (take k lines)) ≤ length (answers p lines)
-shorter p zero lines = omega arith
-shorter p (suc k) [] = omega arith
-shorter p (suc k) (x ∷ lines) =
-    omega (arith, shorter (after p x) k lines, length-append (answer p x) (answers (after p x) (take k lines)), length-append (answer p x) (answers (after p x) lines))
+none_left : (bytes held : List ℕ) (b left : Option (List ℕ)) (rows : List Entry) (done : List Answer) (w : World) (m n : ℕ)
+    → Splits rows (Some bytes) b done w m → HandsOrder b (ahead held left) m n None → left ≡ Some []
+none_left bytes held None left rows done w m n s h = absurd s
+none_left bytes held (Some y) None rows done w m n s h = absurd h
+none_left bytes held (Some y) (Some z) rows done w m n s h = ap Some (no_rest held z h.1)
+  where
+    no_rest : (xs ys : List ℕ) → xs ++ ys ≡ [] → ys ≡ []
+    no_rest [] ys e = e
+    no_rest (x ∷ xs) ys e = absurd (cc)
 
-told_shorter : (k : ℕ) (lines : List (List ℕ)) → length (told_lines [] (take k lines)) ≤ length (told_lines [] lines)
-told_shorter k lines = omega (arith, shorter (begun []) k lines, length-append (opened_text 0) (answers (begun []) (take k lines)), length-append (opened_text 0) (answers (begun []) lines))
+pub told_all : (rows : List Entry) (content : Content) (bytes held : List ℕ) (b left old new : Option (List ℕ)) (m n : ℕ) (p : Progress)
+    → Stands rows (Some bytes) b old new m p → HandsOrder b (ahead held left) m n None
+    → Appends old new (told content rows bytes) × (p.refused ≡ refuses content rows bytes) × (left ≡ Some [])
+told_all rows content bytes held b left old new m n p s h =
+    let all : answers (start rows) (orders_of (lines_of bytes)) ≡ s.done = all_done rows bytes b (ahead held left) s.done p.world m n s.split h in
+    (subst (λ (l : List Answer). Appends old new (told_of rows l)) (sym all) s.told,
+    s.refused ∙ ap any_refused (sym all),
+    none_left bytes held b left rows s.done p.world m n s.split h)
 
-front_of : (done rest : List (List ℕ)) → take (length done) (done ++ rest) ≡ done
+-- fronts of lists
+front_of : (done rest : List Answer) → take (length done) (done ++ rest) ≡ done
 front_of [] rest = refl
-front_of (x ∷ done) rest = ap (λ (l : List (List ℕ)). x ∷ l) (front_of done rest)
+front_of (x ∷ done) rest = ap (λ (l : List Answer). x ∷ l) (front_of done rest)
 
-front_below : (k : ℕ) (done rest : List (List ℕ)) → k ≤ length done → take k (done ++ rest) ≡ take k done
-front_below k done rest le = take-append-le k done rest le
+shorter_texts : (rows : List Entry) (before done : List Answer) → length (told_of rows before) ≤ length (told_of rows (before ++ done))
+shorter_texts rows before [] = omega (arith, ap (λ (l : List Answer). length (told_of rows l)) (append-nil before))
+shorter_texts rows before (a ∷ done) =
+    omega (arith, shorter_texts rows (before ++ a ∷ []) done, ap length (told_more rows before a), length-append (told_of rows before) a.text,
+    ap (λ (l : List Answer). length (told_of rows l)) (append_assoc before (a ∷ []) done))
 
--- the lines so far were answered whole
-pub front_at : (from now : Option (List ℕ)) (done rest : List (List ℕ)) → Appends from now (told_lines [] done) → IsFront from now (done ++ rest)
-front_at from now done rest p =
-    let all : List ℕ = told_lines [] done in
-    let e : all ≡ take (length all) (told_lines [] (take (length done) (done ++ rest))) =
-    sym (take_all (length all) all (omega arith)) ∙ ap (λ (ys : List (List ℕ)). take (length all) (told_lines [] ys)) (sym (front_of done rest)) in
+drop_of : (k : ℕ) (done : List Answer) → (rest : List Answer) × (take k done ++ rest ≡ done)
+drop_of zero done = (done, refl)
+drop_of (suc k) [] = ([], refl)
+drop_of (suc k) (x ∷ done) = let on = drop_of k done in (on.0, ap (λ (l : List Answer). x ∷ l) on.1)
+
+told_shorter : (rows : List Entry) (k : ℕ) (done : List Answer) → length (told_of rows (take k done)) ≤ length (told_of rows done)
+told_shorter rows k done =
+    let on = drop_of k done in
+    omega (arith, shorter_texts rows (take k done) on.0, ap (λ (l : List Answer). length (told_of rows l)) on.1)
+
+no_order : (P : ℕ → Type 0) (k : ℕ) → k + 1 ≡ 0 → P k
+no_order P k h = absurd (omega arith)
+
+-- the output does not stop a run at its input
+pub no_write : (e : Stop) (before now : ℕ) → StopsWriting {T = Bool} before now (Err e) → stopped_at_input {T = Bool} (Err e) ≡ true → ⊥
+no_write Read before now cause at = cause
+no_write Write before now cause at = true≢false (sym at)
+no_write Memory before now cause at = true≢false (sym at)
+no_write TooLong before now cause at = cause
+
+-- a part of the first line was written, or nothing
+pub front_opening : (rows : List Entry) (all : List Answer) (old new left : Option (List ℕ)) (e : Stop) (before now : ℕ) (n : ℕ)
+    → Appends old new (take n (told_of rows [])) → StopsWriting {T = Bool} before now (Err e) → IsFront old new None left (stopped_at_input {T = Bool} (Err e)) rows all
+front_opening rows all old new left e before now n p cause = record {
+  answered = 0;
+  within = omega arith;
+  count = n;
+  text = p;
+  whole = λ k h. no_order (λ k. length (told_of rows (take k all)) ≤ n) k h;
+  kept = tt;
+  prompt = λ at. absurd (no_write e before now cause at);
+}
+
+-- these answers were written whole
+front_at : (rows : List Entry) (done rest : List Answer) (old new left : Option (List ℕ)) (stopped : Bool) → Appends old new (told_of rows done)
+    → (stopped ≡ true → IfSome left (λ bytes. length (done ++ rest) ≤ length done + 1 + length (orders_of (lines_of bytes))))
+    → IsFront old new None left stopped rows (done ++ rest)
+front_at rows done rest old new left stopped p prompt =
+    let text : List ℕ = told_of rows done in
+    let e : text ≡ take (length text) (told_of rows (take (length done) (done ++ rest))) =
+    sym (take_all (length text) text (omega arith)) ∙ ap (λ (ys : List Answer). take (length text) (told_of rows ys)) (sym (front_of done rest)) in
     record {
       answered = length done;
-      count = length all;
       within = omega (arith, length-append done rest);
-      front = subst (Appends from now) e p;
+      count = length text;
+      text = subst (Appends old new) e p;
       whole = λ k h. let le : k ≤ length done = omega arith in
-          subst (λ (ys : List (List ℕ)). length (told_lines [] ys) ≤ length all) (sym (front_below k done rest le)) (told_shorter k done);
+          subst (λ (ys : List Answer). length (told_of rows ys) ≤ length text) (sym (take-append-le k done rest le)) (told_shorter rows k done);
+      kept = tt;
+      prompt = prompt;
     }
 
--- one more line was answered in part
-pub front_in : (from mid now : Option (List ℕ)) (done rest : List (List ℕ)) (line : List ℕ) (n : ℕ)
-    → Appends from mid (told_lines [] done) → Appends mid now (take n (answer (progress_after (begun []) done) line))
-    → IsFront from now (done ++ line ∷ rest)
-front_in from mid now done rest line n p q =
-    let old : List ℕ = told_lines [] done in
-    let new : List ℕ = answer (progress_after (begun []) done) line in
-    let here : take (length done + 1) (done ++ line ∷ rest) ≡ done ++ line ∷ [] = take-append-add done (line ∷ rest) 1 in
-    let e : old ++ take n new ≡ take (length old + n) (told_lines [] (take (length done + 1) (done ++ line ∷ rest))) =
-    sym (take-append-add old new n) ∙ ap (take (length old + n)) (sym (told_more done line))
-    ∙ ap (λ (ys : List (List ℕ)). take (length old + n) (told_lines [] ys)) (sym here) in
+-- and of one more a part
+front_in : (rows : List Entry) (done rest : List Answer) (a : Answer) (old mid new left : Option (List ℕ)) (stopped : Bool) (n : ℕ)
+    → Appends old mid (told_of rows done) → Appends mid new (take n a.text) → (stopped ≡ true → ⊥)
+    → IsFront old new None left stopped rows (done ++ a ∷ rest)
+front_in rows done rest a old mid new left stopped n p q never =
+    let text : List ℕ = told_of rows done in
+    let here : take (length done + 1) (done ++ a ∷ rest) ≡ done ++ a ∷ [] = take-append-add done (a ∷ rest) 1 in
+    let e : text ++ take n a.text ≡ take (length text + n) (told_of rows (take (length done + 1) (done ++ a ∷ rest))) =
+    sym (take-append-add text a.text n) ∙ ap (take (length text + n)) (sym (told_more rows done a))
+    ∙ ap (λ (ys : List Answer). take (length text + n) (told_of rows ys)) (sym here) in
     record {
       answered = length done + 1;
-      count = length old + n;
-      within = omega (arith, length-append done (line ∷ rest));
-      front = subst (Appends from now) e (appends_on from mid now old (take n new) p q);
+      within = omega (arith, length-append done (a ∷ rest));
+      count = length text + n;
+      text = subst (Appends old new) e (appends_on old mid new text (take n a.text) p q);
       whole = λ k h. let le : k ≤ length done = omega arith in
-          let short : length (told_lines [] (take k done)) ≤ length old + n = omega (arith, told_shorter k done) in
-          subst (λ (ys : List (List ℕ)). length (told_lines [] ys) ≤ length old + n) (sym (front_below k done (line ∷ rest) le)) short;
+          let short : length (told_of rows (take k done)) ≤ length text + n = omega (arith, told_shorter rows k done) in
+          subst (λ (ys : List Answer). length (told_of rows ys) ≤ length text + n) (sym (take-append-le k done (a ∷ rest) le)) short;
+      kept = tt;
+      prompt = λ at. absurd (never at);
     }
+
+-- at each input that is told
+pub fronts : (a old new left : Option (List ℕ)) (stopped : Bool)
+    → ((bytes : List ℕ) (content : Content) → a ≡ Some bytes → IsFront old new None left stopped [] (answers_to content [] bytes))
+    → IfSome a (λ bytes. (content : Content) → IsFront old new None left stopped [] (answers_to content [] bytes))
+fronts None old new left stopped f = tt
+fronts (Some bytes) old new left stopped f = λ content. f bytes content refl
+
+pub tolds : (a old new left : Option (List ℕ)) (refused : Bool)
+    → ((bytes : List ℕ) (content : Content) → a ≡ Some bytes → Appends old new (told content [] bytes) × (refused ≡ refuses content [] bytes) × (left ≡ Some []))
+    → IfSome a (λ bytes. (content : Content) → Appends old new (told content [] bytes) × (refused ≡ refuses content [] bytes) × (left ≡ Some []))
+tolds None old new left refused f = tt
+tolds (Some bytes) old new left refused f = λ content. f bytes content refl
+
+-- what stopped a run, handed on
+pub exit : (P : Bool → Type 0) (r : Result Bool Stop) (e : Stop) → IsErrAnd r (λ y. y ≡ e) → P (stopped_at_input {T = Bool} (Err e)) → P (stopped_at_input r)
+exit P (Ok x) e h p = absurd h
+exit P (Err y) e h p = subst (λ (s : Stop). P (stopped_at_input {T = Bool} (Err s))) (sym h) p
+
+-- how many answers are to come
+to_come : (a left : Option (List ℕ)) (done : List Answer) (w : World) (m : ℕ) (e : Stop) (y : List ℕ) → AtInput {T = Bool} (Err e) (IsCutAt (Some y) left m)
+    → stopped_at_input {T = Bool} (Err e) ≡ true
+    → IfSome left (λ bytes. length (done ++ answers w (orders_after m (lines_of y))) ≤ length done + 1 + length (orders_of (lines_of bytes)))
+to_come a None done w m e y cut at = tt
+to_come a (Some rest) done w m Read y cut at =
+    omega (arith, length-append done (answers w (orders_after m (lines_of y))), answer_count w (orders_after m (lines_of y)), cut)
+to_come a (Some rest) done w m Write y cut at = absurd (true≢false (sym at))
+to_come a (Some rest) done w m Memory y cut at = absurd (true≢false (sym at))
+to_come a (Some rest) done w m TooLong y cut at =
+    omega (arith, length-append done (answers w (orders_after m (lines_of y))), answer_count w (orders_after m (lines_of y)), cut)
+
+-- the next order could not be had
+pub front_before : (rows : List Entry) (content : Content) (bytes : List ℕ) (b old new left : Option (List ℕ)) (m : ℕ) (p : Progress) (e : Stop)
+    → Stands rows (Some bytes) b old new m p → AtInput {T = Bool} (Err e) (IsCutAt b left m)
+    → IsFront old new None left (stopped_at_input {T = Bool} (Err e)) rows (answers_to content rows bytes)
+front_before rows content bytes None old new left m p e s cut = absurd s.split
+front_before rows content bytes (Some y) old new left m p e s cut =
+    subst (IsFront old new None left (stopped_at_input {T = Bool} (Err e)) rows) (sym s.split)
+    (front_at rows s.done (answers p.world (orders_after m (lines_of y))) old new left (stopped_at_input {T = Bool} (Err e)) s.told
+    (to_come (Some bytes) left s.done p.world m e y cut))
+
+-- an order was answered in part
+pub front_within : (rows : List Entry) (content : Content) (bytes : List ℕ) (b c old mid new left : Option (List ℕ)) (m n : ℕ) (p : Progress) (o : Numbered)
+    (e : Stop) (before now : ℕ) (count : ℕ)
+    → Stands rows (Some bytes) b old mid m p → HandsOrder b c m n (Some o) → Appends mid new (take count (turn p.world o).answer.text)
+    → StopsWriting {T = Bool} before now (Err e) → IsFront old new None left (stopped_at_input {T = Bool} (Err e)) rows (answers_to content rows bytes)
+front_within rows content bytes None c old mid new left m n p o e before now count s h t cause = absurd s.split
+front_within rows content bytes (Some y) None old mid new left m n p o e before now count s h t cause = absurd h
+front_within rows content bytes (Some y) (Some z) old mid new left m n p o e before now count s h t cause =
+    let split : answers (start rows) (orders_of (lines_of bytes)) ≡ s.done ++ (turn p.world o).answer ∷ answers (turn p.world o).world (orders_after n (lines_of z)) =
+    s.split ∙ ap (λ (os : List Numbered). s.done ++ answers p.world os) h in
+    subst (IsFront old new None left (stopped_at_input {T = Bool} (Err e)) rows) (sym split)
+    (front_in rows s.done (answers (turn p.world o).world (orders_after n (lines_of z))) (turn p.world o).answer old mid new left (stopped_at_input {T = Bool} (Err e)) count
+    s.told t (no_write e before now cause))
+
+-- all was answered
+pub front_ended : (rows : List Entry) (content : Content) (bytes held : List ℕ) (b left old new : Option (List ℕ)) (m n : ℕ) (p : Progress)
+    → Stands rows (Some bytes) b old new m p → HandsOrder b (ahead held left) m n None
+    → IsFront old new None left true rows (answers_to content rows bytes)
+front_ended rows content bytes held b left old new m n p s h =
+    let all : answers (start rows) (orders_of (lines_of bytes)) ≡ s.done = all_done rows bytes b (ahead held left) s.done p.world m n s.split h in
+    subst (IsFront old new None left true rows) (sym all)
+    (subst (IsFront old new None left true rows) (append-nil s.done) (front_at rows s.done [] old new left true s.told (λ at. count_all s.done left)))
+  where
+    count_all : (done : List Answer) (a : Option (List ℕ)) → IfSome a (λ rest. length (done ++ []) ≤ length done + 1 + length (orders_of (lines_of rest)))
+    count_all done None = tt
+    count_all done (Some rest) = omega (arith, ap length (append-nil done))
+
+-- an input that was read to its end is short
+pub known_short : (rows : List Entry) (a b left old new : Option (List ℕ)) (held : List ℕ) (m n count : ℕ) (p : Progress)
+    → Stands rows a b old new m p → HandsOrder b (ahead held left) m n None → Counts a left 0 count → count < 2 ^ 32 → IsShort a
+known_short rows None b left old new held m n count p s h c lt = tt
+known_short rows (Some bytes) b left old new held m n count p s h c lt =
+    let ended : Counts (Some bytes) (Some []) 0 count =
+    subst (λ (l : Option (List ℕ)). Counts (Some bytes) l 0 count) (none_left bytes held b left rows s.done p.world m n s.split h) c in
+    omega (arith, ended, lt)
+
+-- no order is to come
+pub no_more : (o : Option Numbered) → ((x : Numbered) → o ≡ Some x → ⊥) → o ≡ None
+no_more None f = refl
+no_more (Some x) f = absurd (f x refl)

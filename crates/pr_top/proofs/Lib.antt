@@ -1,12 +1,9 @@
-pub mod Utf8
-pub mod Digits
+pub mod Entries
+pub mod Words
 pub mod Streams
 pub mod Feeds
+pub mod Orders
+pub mod Ahead
 pub mod Turns
 pub mod Fronts
-pub mod Stands
-pub mod Results
-pub mod Pieces
-pub mod Reading
-pub mod RunWords
-pub mod Selectors
+pub mod Commands

@@ -1,31 +1,41 @@
--- One more line.
-use Rattle.std.proofs.Common.{◌≡◌, ℕ, ◌+◌, Bool, true, false, cond, List, [], ◌∷◌, ◌++◌, Option, Some, None, refl, ap, ◌∙◌, append_assoc, append-nil, sym}
-use Rattle.pr_top.specs.Script.{event_of, is_passed_over}
-use Rattle.pr_top.specs.Printed.{opened_text}
-use Rattle.pr_top.specs.Told.{Progress, begun, answer, after, after_event, answers, progress_after, told_lines}
-use Rattle.pr_world.specs.declared.event.Event.{Event}
+-- One more answer.
+use Rattle.std.proofs.Common.{◌≡◌, ℕ, Bool, true, false, ◌||◌, List, [], ◌∷◌, ◌++◌, refl, sym, ap, ◌∙◌, append_assoc, append-nil, length, arith}
+use Rattle.std.specs.Prelude.{flat_map}
+use Rattle.pr_history.specs.declared.entry.Entry.{Entry}
+use Rattle.pr_text.specs.declared.order.Numbered.{Numbered}
+use Rattle.pr_text.specs.Printed.{shown_report}
+use Rattle.pr_top.specs.Told.{Answer, answers, any_refused, told_of, turn}
+use Rattle.pr_world.specs.declared.report.Report.TheVariants.{Opened}
+use Rattle.pr_world.specs.World.{World}
 
-pub progress_more : (p : Progress) (lines : List (List ℕ)) (line : List ℕ) → progress_after p (lines ++ line ∷ []) ≡ after (progress_after p lines) line
-progress_more p [] line = refl
-progress_more p (x ∷ lines) line = progress_more (after p x) lines line
+pub told_none : (rows : List Entry) → told_of rows [] ≡ shown_report (Opened (length rows))
+unfolding told_of
+told_none rows = append-nil (shown_report (Opened (length rows)))
 
-pub answers_more : (p : Progress) (lines : List (List ℕ)) (line : List ℕ) → answers p (lines ++ line ∷ []) ≡ answers p lines ++ answer (progress_after p lines) line
-answers_more p [] line = append-nil (answer p line)
-answers_more p (x ∷ lines) line = ap (λ l. answer p x ++ l) (answers_more (after p x) lines line) ∙ sym (append_assoc (answer p x) (answers (after p x) lines) _)
+text_more : (done : List Answer) (a : Answer) → flat_map (λ (x : Answer). x.text) (done ++ a ∷ []) ≡ flat_map (λ (x : Answer). x.text) done ++ a.text
+text_more [] a = append-nil a.text
+text_more (x ∷ done) a =
+    ap (λ (l : List ℕ). x.text ++ l) (text_more done a) ∙ sym (append_assoc x.text (flat_map (λ (y : Answer). y.text) done) a.text)
 
-pub told_more : (lines : List (List ℕ)) (line : List ℕ) → told_lines [] (lines ++ line ∷ []) ≡ told_lines [] lines ++ answer (progress_after (begun []) lines) line
-told_more lines line =
-    ap (λ (l : List ℕ). opened_text 0 ++ l) (answers_more (begun []) lines line)
-    ∙ sym (append_assoc (opened_text 0) (answers (begun []) lines) (answer (progress_after (begun []) lines) line))
+pub told_more : (rows : List Entry) (done : List Answer) (a : Answer) → told_of rows (done ++ a ∷ []) ≡ told_of rows done ++ a.text
+unfolding told_of
+told_more rows done a =
+    ap (λ (l : List ℕ). shown_report (Opened (length rows)) ++ l) (text_more done a)
+    ∙ sym (append_assoc (shown_report (Opened (length rows))) (flat_map (λ (x : Answer). x.text) done) a.text)
 
--- both sides of a choice have counted the line
-either : (b : Bool) (v w : Progress) (n : ℕ) → v.lines ≡ n → w.lines ≡ n → (cond b v w).lines ≡ n
-either true v w n p q = p
-either false v w n p q = q
+or_none : (b : Bool) → (b || false) ≡ b
+or_none true = refl
+or_none false = refl
 
-counts_event : (p : Progress) (o : Option Event) → (after_event p o).lines ≡ p.lines + 1
-counts_event p None = refl
-counts_event p (Some e) = refl
+or_on : (a b c : Bool) → (a || (b || c)) ≡ ((a || b) || c)
+or_on true b c = refl
+or_on false b c = refl
 
-pub lines_more : (p : Progress) (line : List ℕ) → (after p line).lines ≡ p.lines + 1
-lines_more p line = either (is_passed_over line) _ _ _ refl (counts_event p (event_of line))
+pub refused_more : (done : List Answer) (a : Answer) → any_refused (done ++ a ∷ []) ≡ (any_refused done || a.refused)
+refused_more [] a = or_none a.refused
+refused_more (x ∷ done) a = ap (λ (b : Bool). x.refused || b) (refused_more done a) ∙ or_on x.refused (any_refused done) a.refused
+
+-- each order has its answer
+pub answer_count : (w : World) (orders : List Numbered) → length (answers w orders) ≡ length orders
+answer_count w [] = refl
+answer_count w (o ∷ orders) = omega (arith, answer_count (turn w o).world orders)

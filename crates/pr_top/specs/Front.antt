@@ -1,14 +1,22 @@
--- What was written when a run is cut short.
-use Rattle.std.specs.Prelude.{◌≡◌, ℕ, ◌+◌, ◌≤◌, List, [], length, take}
+-- What was written and kept when a run is cut short.
+use Rattle.std.specs.Prelude.{◌≡◌, ℕ, ◌+◌, ◌≤◌, Bool, true, List, ◌++◌, length, take, flat_map, IfSome}
 use Rattle.std.specs.declared.option.Option.{Option}
 use Rattle.std.specs.Io.KnownBytes.{Appends}
-use Rattle.pr_top.specs.Told.{told_lines}
+use Rattle.pr_words.specs.Lines.{lines_of}
+use Rattle.pr_history.specs.declared.entry.Entry.{Entry}
+use Rattle.pr_text.specs.Orders.{orders_of}
+use Rattle.pr_top.specs.Told.{Answer, told_of}
 
--- Some of the lines were answered, the last of them maybe in part: what was written is a front of what is
--- told of them, and holds all that is told of those before the last.
-pub record IsFront (old new : Option (List ℕ)) (lines : List (List ℕ)) : Type 0 where
+-- A number of orders was answered, the last of them maybe in part. What was written is a front of what is told of them,
+-- and holds all that is told of those before the last. The rows that are kept, where they are told, are those at the
+-- start and then those of the same orders. Where the run stopped at its input, it answered what had come: of the orders
+-- that are not answered all but one are still to be read.
+pub record IsFront (old new : Option (List ℕ)) (keeps : Option (List Entry)) (left : Option (List ℕ)) (stopped_at_input : Bool)
+    (rows : List Entry) (answers : List Answer) : Type 0 where
   pub answered : ℕ
+  pub within : answered ≤ length answers
   pub count : ℕ
-  pub within : answered ≤ length lines
-  pub front : Appends old new (take count (told_lines [] (take answered lines)))
-  pub whole : (before : ℕ) → before + 1 ≡ answered → length (told_lines [] (take before lines)) ≤ count
+  pub text : Appends old new (take count (told_of rows (take answered answers)))
+  pub whole : (before : ℕ) → before + 1 ≡ answered → length (told_of rows (take before answers)) ≤ count
+  pub kept : IfSome keeps (λ now. now ≡ rows ++ flat_map (λ a. a.rows) (take answered answers))
+  pub prompt : stopped_at_input ≡ true → IfSome left (λ rest. length answers ≤ answered + 1 + length (orders_of (lines_of rest)))

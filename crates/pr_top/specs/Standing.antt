@@ -1,36 +1,30 @@
--- Where a run stands that has seen a part of its input.
-use Rattle.std.specs.Prelude.{◌≡◌, ℕ, Bool, true, not, ◌==◌, List, [], ◌++◌, length}
-use Rattle.std.specs.declared.option.Option.{Option}
-use Rattle.std.specs.List.{list_all}
-use Rattle.std.specs.Io.KnownBytes.{Appends, Consumes}
+-- Where a run stands between two orders.
+use Rattle.std.specs.Prelude.{◌≡◌, ℕ, Bool, false, List, ◌++◌, Option, Some, None}
+use Rattle.std.specs.Io.KnownBytes.{Appends}
 use Rattle.pr_words.specs.Lines.{lines_of}
-use Rattle.pr_top.specs.Told.{Progress, begun, progress_after, told_lines, told, refuses}
-use Rattle.pr_top.specs.Front.{IsFront}
+use Rattle.pr_history.specs.declared.entry.Entry.{Entry}
+use Rattle.pr_text.specs.Orders.{orders_of, orders_after}
+use Rattle.pr_top.specs.Told.{Answer, answers, told_of, any_refused}
+use Rattle.pr_world.specs.World.{World, start}
 
-abbrev pub is_no_feed : ℕ → Bool
-is_no_feed b = not (b == 10)
+-- what a run keeps in mind: the world, and whether an order was refused
+pub record Progress : Type 0 where
+  pub world : World
+  pub refused : Bool
 
--- Some lines of the bytes seen are done, each of them answered whole; what follows them is pending, and
--- holds no line feed.
-pub record Stands (from now : Option (List ℕ)) (seen : List ℕ) (progress : Progress) (pending : List ℕ) : Type 0 where
-  pub done : List (List ℕ)
-  pub split : (more : List ℕ) → lines_of (seen ++ more) ≡ done ++ lines_of (pending ++ more)
-  pub unended : list_all is_no_feed pending ≡ true
-  pub here : progress ≡ progress_after (begun []) done
-  pub told : Appends from now (told_lines [] done)
+abbrev pub begun : List Entry → Progress
+begun rows = record { world = start rows; refused = false }
 
--- However the bytes seen go on, what was written is a front of what is told of them all.
-pub record IsCut (from now : Option (List ℕ)) (seen : List ℕ) : Type 0 where
-  pub front : (more : List ℕ) → IsFront from now (lines_of (seen ++ more))
+-- the answers to all are those so far, and those to what is still to come
+abbrev pub Splits : List Entry → Option (List ℕ) → Option (List ℕ) → List Answer → World → ℕ → Type 0
+Splits rows None now done w lines = Unit {0}
+Splits rows (Some bytes) None done w lines = ⊥
+Splits rows (Some bytes) (Some rest) done w lines =
+    answers (start rows) (orders_of (lines_of bytes)) ≡ done ++ answers w (orders_after lines (lines_of rest))
 
--- What a run has told that has read these bytes, and no more.
-pub record HasTold (from now : Option (List ℕ)) (seen : List ℕ) (progress : Progress) : Type 0 where
-  pub text : Appends from now (told [] seen)
-  pub refused : progress.refused ≡ refuses [] seen
-
--- What was read so far, and where the run stands with it, wherever it began to write.
-pub record HasSeen (left_old left_now taken_old taken_now : Option (List ℕ)) (first progress : Progress) (count : ℕ) (pending : List ℕ) : Type 0 where
-  pub seen : List ℕ
-  pub length_is : length seen ≡ count
-  pub consumed : Consumes left_old left_now seen
-  pub stands : (from : Option (List ℕ)) → Stands from taken_old [] first [] → Stands from taken_now seen progress pending
+-- Some orders are answered whole, and what was written is what is told of them.
+pub record Stands (rows : List Entry) (before now old new : Option (List ℕ)) (lines : ℕ) (progress : Progress) : Type 0 where
+  pub done : List Answer
+  pub split : Splits rows before now done progress.world lines
+  pub told : Appends old new (told_of rows done)
+  pub refused : progress.refused ≡ any_refused done

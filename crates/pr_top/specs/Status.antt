@@ -1,7 +1,6 @@
 -- What the program ends with.
-use Rattle.std.specs.Prelude.{◌≡◌, ℕ, ◌<◌, ◌≤◌, ◌^◌, Bool, true, false, List, [], ◌∷◌, length, codes, Option, IfSome}
-use Rattle.std.specs.Str.{bytes_eq}
-use Rattle.pr_outside.specs.Causes.{Rose}
+use Rattle.std.specs.Prelude.{◌≡◌, ℕ, ◌<◌, ◌≤◌, ◌^◌, Bool, true, false, List, length, Option, IfSome}
+use Rattle.pr_outside.specs.Causes.{Rose, IsCalm}
 use Rattle.pr_top.specs.declared.status.Status.{Status}
 use Rattle.pr_top.specs.declared.status.Status.TheVariants.{Done, Problem, Usage, Lint, ReadFault, WriteFault, StoreFault, Memory, TooLong}
 
@@ -16,42 +15,10 @@ number_of StoreFault = 6
 number_of Memory = 7
 number_of TooLong = 8
 
--- whether the words are those of a run
-abbrev pub is_run : List (List ℕ) → Bool
-is_run (word ∷ []) = bytes_eq word (codes "run")
-is_run words = false
-
-abbrev pub IsRun : List (List ℕ) → Type 0
-IsRun words = is_run words ≡ true
-
 -- how a run ends that was not cut short, by whether it refused a line
 abbrev pub verdict : Bool → Status
 verdict true = Problem
 verdict false = Done
-
--- the status says that nothing outside was refused
-abbrev pub IsWhole : Status → Type 0
-IsWhole Done = Unit {0}
-IsWhole Problem = Unit {0}
-IsWhole Usage = Unit {0}
-IsWhole Lint = Unit {0}
-IsWhole ReadFault = ⊥
-IsWhole WriteFault = ⊥
-IsWhole StoreFault = ⊥
-IsWhole Memory = ⊥
-IsWhole TooLong = Unit {0}
-
--- how the program may end so far: no exposition is checked, and no store is opened
-abbrev pub IsStatusSoFar : Status → Type 0
-IsStatusSoFar Done = Unit {0}
-IsStatusSoFar Problem = Unit {0}
-IsStatusSoFar Usage = Unit {0}
-IsStatusSoFar Lint = ⊥
-IsStatusSoFar ReadFault = Unit {0}
-IsStatusSoFar WriteFault = Unit {0}
-IsStatusSoFar StoreFault = ⊥
-IsStatusSoFar Memory = Unit {0}
-IsStatusSoFar TooLong = Unit {0}
 
 -- a run was not cut short
 abbrev pub IsEnded : Status → Type 0
@@ -65,42 +32,55 @@ IsEnded StoreFault = ⊥
 IsEnded Memory = ⊥
 IsEnded TooLong = ⊥
 
--- how a run may end
-abbrev pub IsRunStatus : Status → Type 0
-IsRunStatus Done = Unit {0}
-IsRunStatus Problem = Unit {0}
-IsRunStatus Usage = ⊥
-IsRunStatus Lint = ⊥
-IsRunStatus ReadFault = Unit {0}
-IsRunStatus WriteFault = Unit {0}
-IsRunStatus StoreFault = ⊥
-IsRunStatus Memory = Unit {0}
-IsRunStatus TooLong = Unit {0}
+-- the run stopped for its input: at its end, at a refused read, or since it is too long
+abbrev pub is_at_input : Status → Bool
+is_at_input Done = true
+is_at_input Problem = true
+is_at_input Usage = false
+is_at_input Lint = false
+is_at_input ReadFault = true
+is_at_input WriteFault = false
+is_at_input StoreFault = false
+is_at_input Memory = false
+is_at_input TooLong = true
 
--- how it may end where the words are refused
-abbrev pub IsUsageStatus : Status → Type 0
-IsUsageStatus Done = ⊥
-IsUsageStatus Problem = ⊥
-IsUsageStatus Usage = Unit {0}
-IsUsageStatus Lint = ⊥
-IsUsageStatus ReadFault = ⊥
-IsUsageStatus WriteFault = Unit {0}
-IsUsageStatus StoreFault = ⊥
-IsUsageStatus Memory = Unit {0}
-IsUsageStatus TooLong = ⊥
+-- how often a call of each of the four objects was refused
+pub record Faults : Type 0 where
+  pub input : ℕ
+  pub files : ℕ
+  pub keeper : ℕ
+  pub out : ℕ
 
--- The first call of the outside that was refused ends the run, with its status: no other count rose, and want of
--- memory is no refused call.
-abbrev pub HasOneCause : ℕ → ℕ → ℕ → ℕ → Status → Type 0
-HasOneCause read_before read_now write_before write_now Done = (read_now ≡ read_before) × (write_now ≡ write_before)
-HasOneCause read_before read_now write_before write_now Problem = (read_now ≡ read_before) × (write_now ≡ write_before)
-HasOneCause read_before read_now write_before write_now Usage = (read_now ≡ read_before) × (write_now ≡ write_before)
-HasOneCause read_before read_now write_before write_now Lint = (read_now ≡ read_before) × (write_now ≡ write_before)
-HasOneCause read_before read_now write_before write_now ReadFault = Rose read_before read_now × (write_now ≡ write_before)
-HasOneCause read_before read_now write_before write_now WriteFault = (read_now ≡ read_before) × Rose write_before write_now
-HasOneCause read_before read_now write_before write_now StoreFault = (read_now ≡ read_before) × (write_now ≡ write_before)
-HasOneCause read_before read_now write_before write_now Memory = (read_now ≡ read_before) × (write_now ≡ write_before)
-HasOneCause read_before read_now write_before write_now TooLong = (read_now ≡ read_before) × (write_now ≡ write_before)
+-- none was refused in between
+pub record AreCalm (before now : Faults) : Type 0 where
+  pub input : IsCalm before.input now.input
+  pub files : IsCalm before.files now.files
+  pub keeper : IsCalm before.keeper now.keeper
+  pub out : IsCalm before.out now.out
+
+-- no count rose
+abbrev pub NoneRose : Faults → Faults → Type 0
+NoneRose before now = (now.input ≡ before.input) × (now.files ≡ before.files) × (now.keeper ≡ before.keeper) × (now.out ≡ before.out)
+
+-- the input's count alone rose, or the output's
+abbrev pub InputRose : Faults → Faults → Type 0
+InputRose before now = Rose before.input now.input × (now.files ≡ before.files) × (now.keeper ≡ before.keeper) × (now.out ≡ before.out)
+
+abbrev pub OutRose : Faults → Faults → Type 0
+OutRose before now = (now.input ≡ before.input) × (now.files ≡ before.files) × (now.keeper ≡ before.keeper) × Rose before.out now.out
+
+-- The table of statuses: the first call of the outside that is refused ends the program with its object's status, and
+-- want of memory is no refused call. So far no exposition is checked, no file read, and no store opened.
+abbrev pub HasCause : Faults → Faults → Status → Type 0
+HasCause before now Done = NoneRose before now
+HasCause before now Problem = NoneRose before now
+HasCause before now Usage = NoneRose before now
+HasCause before now Lint = ⊥
+HasCause before now ReadFault = InputRose before now
+HasCause before now WriteFault = OutRose before now
+HasCause before now StoreFault = ⊥
+HasCause before now Memory = NoneRose before now
+HasCause before now TooLong = NoneRose before now
 
 -- An input has fewer than 2^32 bytes left, and as many or more.
 abbrev pub IsShort : Option (List ℕ) → Type 0

@@ -1,74 +1,70 @@
--- What a run of the script writes.
-use Rattle.std.specs.Prelude.{ℕ, ◌+◌, Bool, true, false, ◌||◌, cond, List, [], ◌∷◌, ◌++◌, length, Option, Some, None}
+-- What a run of the script writes, keeps and refuses.
+use Rattle.std.specs.Prelude.{ℕ, Bool, true, false, List, [], ◌∷◌, ◌++◌, length, flat_map, Option}
+use Rattle.std.specs.List.{list_any}
 use Rattle.pr_words.specs.Lines.{lines_of}
 use Rattle.pr_history.specs.declared.entry.Entry.{Entry}
-use Rattle.pr_world.specs.declared.event.Event.{Event}
-use Rattle.pr_world.specs.declared.report.Report.{Report}
-use Rattle.pr_world.specs.declared.report.Report.TheVariants.{Opened, Added, Same, OutOfOrder, Conflict, Vector, Backwards}
+use Rattle.pr_text.specs.declared.order.Order.{Order}
+use Rattle.pr_text.specs.declared.order.Order.TheVariants as order
+use Rattle.pr_text.specs.declared.order.Numbered.{Numbered}
+use Rattle.pr_text.specs.Orders.{orders_of}
+use Rattle.pr_text.specs.Printed.{shown_report, bad_line_text}
+use Rattle.pr_world.specs.declared.report.Report.TheVariants.{Opened}
+use Rattle.pr_world.specs.Settings.{of_a_run}
+use Rattle.pr_world.specs.Step.{Step, next}
 use Rattle.pr_world.specs.World.{World, start}
-use Rattle.pr_world.specs.Step.{next}
-use Rattle.pr_top.specs.Script.{event_of, is_passed_over}
-use Rattle.pr_top.specs.Printed.{shown_report, bad_line_text}
 
--- how far a run has come: its world, how many lines came, and whether one of them was refused
-pub record Progress : Type 0 where
-  pub world : World
-  pub lines : ℕ
+-- what is told of a name: nothing, or that no file has it, or the bytes of its file
+abbrev pub Content : Type 0
+Content = List ℕ → Option (Option (List ℕ))
+
+-- what is told of an order: its text, the rows that are kept for it, and whether it is refused
+pub record Answer : Type 0 where
+  pub text : List ℕ
+  pub rows : List Entry
   pub refused : Bool
 
--- a run that begins over a history
-abbrev pub begun : List Entry → Progress
-begun history = record { world = start history; lines = 0; refused = false }
+-- an order's answer, and the world after it
+pub record Turn : Type 0 where
+  pub answer : Answer
+  pub world : World
 
--- whether the answer refuses the line
-abbrev pub is_refusal : Report → Bool
-is_refusal (Opened rows) = false
-is_refusal Added = false
-is_refusal Same = false
-is_refusal (OutOfOrder last) = false
-is_refusal (Conflict kept) = false
-is_refusal (Vector items) = false
-is_refusal (Backwards last given) = true
+-- an event is answered by its report
+abbrev pub turn_by : Step → Turn
+turn_by step = record { answer = record { text = shown_report step.report; rows = step.rows; refused = step.refused }; world = step.world }
 
--- what is answered to a line that asks for something, by the event that it spells
-abbrev pub answer_to : Progress → Option Event → List ℕ
-answer_to p None = bad_line_text (p.lines + 1)
-answer_to p (Some e) = shown_report (next p.world e).report
+-- what spells no order is refused with the number of its line, and changes nothing
+abbrev pub bad_turn : World → ℕ → Turn
+bad_turn w number = record { answer = record { text = bad_line_text number; rows = []; refused = true }; world = w }
 
-abbrev pub after_event : Progress → Option Event → Progress
-after_event p None = record { world = p.world; lines = p.lines + 1; refused = true }
-after_event p (Some e) = record {
-  world = (next p.world e).world;
-  lines = p.lines + 1;
-  refused = p.refused || is_refusal (next p.world e).report;
-}
+abbrev pub turn_of : World → ℕ → Order → Turn
+turn_of w number (order.Event e) = turn_by (next of_a_run w e)
+turn_of w number order.Bad = bad_turn w number
 
--- one line: what is answered to it, and how far the run has come after it
-abbrev pub answer : Progress → List ℕ → List ℕ
-answer p line = cond (is_passed_over line) [] (answer_to p (event_of line))
+unfoldable pub turn : World → Numbered → Turn
+turn w o = turn_of w o.number o.order
 
-abbrev pub counted : Progress → Progress
-counted p = record { world = p.world; lines = p.lines + 1; refused = p.refused }
+-- the answers to orders, one after another
+abbrev pub answers : World → List Numbered → List Answer
+answers w [] = []
+answers w (o ∷ orders) = (turn w o).answer ∷ answers (turn w o).world orders
 
-abbrev pub after : Progress → List ℕ → Progress
-after p line = cond (is_passed_over line) (counted p) (after_event p (event_of line))
+-- The answers to all orders of an input, over these rows at the start. So far no order asks for a file.
+abbrev pub answers_to : Content → List Entry → List ℕ → List Answer
+answers_to content rows bytes = answers (start rows) (orders_of (lines_of bytes))
 
--- lines, one after another
-abbrev pub answers : Progress → List (List ℕ) → List ℕ
-answers p [] = []
-answers p (line ∷ lines) = answer p line ++ answers (after p line) lines
+-- the line that a run begins with, and then the texts of answers
+unfoldable pub told_of : List Entry → List Answer → List ℕ
+told_of rows answered = shown_report (Opened (length rows)) ++ flat_map (λ a. a.text) answered
 
-abbrev pub progress_after : Progress → List (List ℕ) → Progress
-progress_after p [] = p
-progress_after p (line ∷ lines) = progress_after (after p line) lines
+-- what a run writes that reads these bytes, the rows that it keeps, and whether it refuses an order
+abbrev pub told : Content → List Entry → List ℕ → List ℕ
+told content rows bytes = told_of rows (answers_to content rows bytes)
 
--- the line that a run begins with, and the answers to lines
-abbrev pub told_lines : List Entry → List (List ℕ) → List ℕ
-told_lines history lines = shown_report (Opened (length history)) ++ answers (begun history) lines
+abbrev pub kept : Content → List Entry → List ℕ → List Entry
+kept content rows bytes = flat_map (λ a. a.rows) (answers_to content rows bytes)
 
--- what a run writes that reads these bytes, and whether it refuses a line
-abbrev pub told : List Entry → List ℕ → List ℕ
-told history bytes = told_lines history (lines_of bytes)
+abbrev pub any_refused : List Answer → Bool
+any_refused answered = list_any (λ a. a.refused) answered
 
-abbrev pub refuses : List Entry → List ℕ → Bool
-refuses history bytes = (progress_after (begun history) (lines_of bytes)).refused
+abbrev pub refuses : Content → List Entry → List ℕ → Bool
+refuses content rows bytes = any_refused (answers_to content rows bytes)

@@ -1,11 +1,11 @@
-// A run of the script, line by line.
-ghost use Rattle.std.specs.Prelude.{◌≡◌, ◌+◌, ◌^◌, ◌<◌, ◌++◌, [], OnOk};
-ghost use Rattle.pr_top.specs.Told.{begun, is_refusal, answer_to, after_event, answer, after};
+// A run of the script, order by order.
+ghost use Rattle.std.specs.Prelude.{◌≡◌, ◌++◌, ◌||◌, [], OnOk};
+ghost use Rattle.pr_top.specs.Standing.{begun};
+ghost use Rattle.pr_top.specs.Told.{turn, turn_of};
 
 use super::engine::Engine;
-use super::script::{event_of, is_passed_over};
-use super::texts::{push_bad_line, push_report};
-use pr_world::{Event, Report};
+use pr_text::{Numbered, Order, push_bad_line, push_report};
+use pr_world::Event;
 use std::alloc::{AllocError, Global};
 use std::marker::Model;
 
@@ -13,84 +13,71 @@ use std::marker::Model;
 #[derive(Drop)]
 pub(crate) struct Session {
     engine: Engine,
-    lines: u64,
     refused: bool,
 }
 
 impl Model for Session {
-    ghost use Rattle.pr_top.specs.Told.{Progress};
+    ghost use Rattle.pr_top.specs.Standing.{Progress};
 
     ghost Value = { Progress };
 
-    ghost view = { λ s. record { world = s.engine; lines = s.lines; refused = s.refused } };
-}
-
-fn is_refusal(report: &Report) -> bool
-    ensures { result ≡ is_refusal report.now }
-{
-    matches!(report, Report::Backwards { .. })
+    ghost view = { λ s. record { world = s.engine; refused = s.refused } };
 }
 
 impl Session {
-    /// No line has come yet.
+    /// No order has come yet.
     pub(crate) fn start(alloc: Global) -> Session
         ensures { result ≡ begun [] }
     {
         Session {
             engine: Engine::start(alloc),
-            lines: 0,
             refused: false,
         }
     }
 
-    /// Whether a line was refused.
+    /// Whether an order was refused.
     pub(crate) fn has_refused(&self) -> bool
         ensures { result ≡ self.now.refused }
     {
         self.refused
     }
 
-    // Takes the event that a line spells, if it spells one.
+    // Takes an event, and appends its report.
     fn take_event(
         &mut self,
         alloc: Global,
         text: &mut Vec<u8>,
-        event: Option<Event>,
+        number: u64,
+        event: Event,
     ) -> Result<(), AllocError>
-        requires { self.old.lines + 1 < 2 ^ 64 }
-        ensures text { OnOk result (text.new.items ≡ text.old.items ++ answer_to self.old event) }
-        ensures after { OnOk result (self.new ≡ after_event self.old event) }
+        ensures text { OnOk result (text.new.items ≡ text.old.items ++ (turn_of self.old.world number (Order.Event event)).answer.text) }
+        ensures world { OnOk result (self.new.world ≡ (turn_of self.old.world number (Order.Event event)).world) }
+        ensures refused { OnOk result (self.new.refused ≡ (self.old.refused || (turn_of self.old.world number (Order.Event event)).answer.refused)) }
     {
-        self.lines += 1;
-        match event {
-            None => {
-                self.refused = true;
-                push_bad_line(text, self.lines)
-            }
-            Some(event) => {
-                let report = self.engine.apply(alloc, event)?;
-                self.refused = self.refused || is_refusal(&report);
-                push_report(alloc, text, &report)
-            }
-        }
+        let answered = self.engine.apply(alloc, event)?;
+        self.refused = self.refused || answered.refused;
+        push_report(alloc, text, &answered.report)
     }
 
-    /// Takes a line without its line feed, and appends the answer to it.
-    pub(crate) fn take_line(
+    /// Takes an order, and appends the answer to it.
+    #[tactic(auto, unfolding(crate::specs::Told::turn))]
+    pub(crate) fn take_order(
         &mut self,
         alloc: Global,
         text: &mut Vec<u8>,
-        line: &[u8],
+        order: Numbered,
     ) -> Result<(), AllocError>
-        requires { self.old.lines + 1 < 2 ^ 64 }
-        ensures text { OnOk result (text.new.items ≡ text.old.items ++ answer self.old line.now) }
-        ensures after { OnOk result (self.new ≡ after self.old line.now) }
+        ensures text { OnOk result (text.new.items ≡ text.old.items ++ (turn self.old.world order).answer.text) }
+        ensures world { OnOk result (self.new.world ≡ (turn self.old.world order).world) }
+        ensures refused { OnOk result (self.new.refused ≡ (self.old.refused || (turn self.old.world order).answer.refused)) }
     {
-        if is_passed_over(line) {
-            self.lines += 1;
-            return Ok(());
+        let number = order.number;
+        match order.order {
+            Order::Event { event } => self.take_event(alloc, text, number, event),
+            Order::Bad => {
+                self.refused = true;
+                push_bad_line(text, number)
+            }
         }
-        let event = event_of(alloc, line)?;
-        self.take_event(alloc, text, event)
     }
 }

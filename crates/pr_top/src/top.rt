@@ -1,13 +1,15 @@
 // The program as one call.
-ghost use Rattle.std.specs.Prelude.{◌≡◌, ◌≢◌, ℕ, ◌^◌, ◌<◌, ◌≤◌, [], map, take, length, string_bytes, IfSome};
-ghost use Rattle.std.specs.Io.KnownBytes.{Appends, IsAtEnd};
-ghost use Rattle.pr_outside.specs.Causes.{Rose, IsCalm};
-ghost use Rattle.pr_words.specs.Lines.{lines_of};
-ghost use Rattle.pr_top.specs.Front.{IsFront};
-ghost use Rattle.pr_top.specs.Status.{is_run, IsRun, IsEnded, IsWhole, IsRunStatus, IsUsageStatus, IsStatusSoFar, HasOneCause, IsLong, verdict};
-ghost use Rattle.pr_top.specs.Told.{told, refuses};
+ghost use Rattle.std.specs.Prelude.{◌≡◌, ◌≢◌, ℕ, None, Some, [], map, take, string_bytes};
+ghost use Rattle.std.specs.Io.KnownBytes.{Appends};
+ghost use Rattle.pr_outside.specs.Causes.{IsCalm};
+ghost use Rattle.pr_top.specs.Command.{command_of, MeansRun, MeansUsage};
+ghost use Rattle.pr_top.specs.Status.{HasCause};
+ghost use Rattle.pr_top.specs.Stops.{status_of};
+ghost use Rattle.pr_top.specs.Told.{Content};
 ghost use Rattle.pr_top.specs.Usage.{usage_text};
+ghost use Rattle.pr_top.specs.declared.command.Command.TheVariants.{Run};
 
+use super::command::{Command, command_of};
 use super::output::send;
 use super::run::run;
 use super::status::{Status, Stop};
@@ -24,35 +26,11 @@ fn usage() -> &'static [u8]
     USAGE
 }
 
-#[tactic(auto, using(crate::proofs::RunWords::is_run_one, crate::proofs::RunWords::is_run_other))]
-fn is_run(words: &[String]) -> bool
-    ensures { result ≡ is_run (map string_bytes words.now) }
+// The status of a run, by whether it refused an order, or what stopped it.
+fn status_of(ended: Result<bool, Stop>) -> Status
+    ensures { result ≡ status_of ended }
 {
-    words.len() == 1 && words[0].as_str() == "run"
-}
-
-// Does what the words `run` ask for.
-fn run_script<I: Source, O: Sink>(alloc: Global, input: &mut I, out: &mut O) -> Status
-    ensures told { IfSome (I.left input.old) (λ bytes. length bytes < 2 ^ 32
-        → IsCalm (I.faults input.old) (I.faults input.new) → IsCalm (O.faults out.old) (O.faults out.new)
-        → result ≢ Status.Memory
-        → Appends (O.taken out.old) (O.taken out.new) (told [] bytes)
-        × (result ≡ verdict (refuses [] bytes)) × IsAtEnd (I.left input.new)) }
-    ensures ended { IsEnded result → IfSome (I.left input.old) (λ bytes.
-        Appends (O.taken out.old) (O.taken out.new) (told [] bytes)
-        × (result ≡ verdict (refuses [] bytes)) × IsAtEnd (I.left input.new)) }
-    ensures front { IfSome (I.left input.old) (λ bytes. IsFront (O.taken out.old) (O.taken out.new) (lines_of bytes)) }
-    ensures whole { IsWhole result → (I.faults input.new ≡ I.faults input.old) × (O.faults out.new ≡ O.faults out.old) }
-    ensures read { result ≡ Status.ReadFault → Rose (I.faults input.old) (I.faults input.new) }
-    ensures write { result ≡ Status.WriteFault → Rose (O.faults out.old) (O.faults out.new) }
-    ensures one { HasOneCause (I.faults input.old) (I.faults input.new) (O.faults out.old) (O.faults out.new) result }
-    ensures long { result ≡ Status.TooLong → IsLong (I.left input.old) }
-    ensures long_exactly { IfSome (I.left input.old) (λ bytes. 2 ^ 32 ≤ length bytes
-        → IsCalm (I.faults input.old) (I.faults input.new) → IsCalm (O.faults out.old) (O.faults out.new)
-        → result ≢ Status.Memory → result ≡ Status.TooLong) }
-    ensures some { IsRunStatus result }
-{
-    match run(alloc, input, out) {
+    match ended {
         Ok(true) => Status::Problem,
         Ok(false) => Status::Done,
         Err(Stop::Read) => Status::ReadFault,
@@ -62,14 +40,24 @@ fn run_script<I: Source, O: Sink>(alloc: Global, input: &mut I, out: &mut O) -> 
     }
 }
 
+// Does what the command `run` asks for. The counts of the files and of the keeper stay.
+fn run_script<I: Source, O: Sink>(alloc: Global, input: &mut I, out: &mut O) -> Status
+    ensures { (content : Content) (files : ℕ) (keeper : ℕ)
+        → MeansRun content [] None (I.left input.old) (I.left input.new) (O.taken out.old) (O.taken out.new)
+        (record { input = I.faults input.old; files = files; keeper = keeper; out = O.faults out.old })
+        (record { input = I.faults input.new; files = files; keeper = keeper; out = O.faults out.new }) result }
+{
+    status_of(run(alloc, input, out))
+}
+
 // Refuses words that are none of the forms.
 fn refuse_words<O: Sink>(out: &mut O) -> Status
+    ensures exactly { IsCalm (O.faults out.old) (O.faults out.new) → result ≢ Status.Memory → result ≡ Status.Usage }
     ensures text { result ≡ Status.Usage → Appends (O.taken out.old) (O.taken out.new) usage_text }
     ensures front { (n : ℕ) × Appends (O.taken out.old) (O.taken out.new) (take n usage_text) }
-    ensures whole { IsWhole result → O.faults out.new ≡ O.faults out.old }
-    ensures write { result ≡ Status.WriteFault → Rose (O.faults out.old) (O.faults out.new) }
-    ensures memory { result ≡ Status.Memory → O.faults out.new ≡ O.faults out.old }
-    ensures some { IsUsageStatus result }
+    ensures cause { (input : ℕ) (files : ℕ) (keeper : ℕ) → HasCause
+        (record { input = input; files = files; keeper = keeper; out = O.faults out.old })
+        (record { input = input; files = files; keeper = keeper; out = O.faults out.new }) result }
 {
     match send(out, usage()) {
         Ok(()) => Status::Usage,
@@ -89,49 +77,23 @@ pub fn promtool<I: Source, F: Files, K: Keeper, O: Sink>(
     keeper: &mut K,
     out: &mut O,
 ) -> Status
-    // What `run` writes is the meaning of its script, whole and nothing else, and the status says whether a
-    // line was refused: where the input is told and shorter than 2^32 bytes, and nothing outside was refused.
-    ensures told { IsRun (map string_bytes words.now) → IfSome (I.left input.old) (λ bytes. length bytes < 2 ^ 32
-        → IsCalm (I.faults input.old) (I.faults input.new) → IsCalm (O.faults out.old) (O.faults out.new)
-        → result ≢ Status.Memory
-        → Appends (O.taken out.old) (O.taken out.new) (told [] bytes)
-        × (result ≡ verdict (refuses [] bytes)) × IsAtEnd (I.left input.new)) }
-    // A status that says so is enough.
-    ensures ended { IsEnded result → IfSome (I.left input.old) (λ bytes.
-        Appends (O.taken out.old) (O.taken out.new) (told [] bytes)
-        × (result ≡ verdict (refuses [] bytes)) × IsAtEnd (I.left input.new)) }
-    // However a run ends, what was written is a front of the whole.
-    ensures front { IsRun (map string_bytes words.now)
-        → IfSome (I.left input.old) (λ bytes. IsFront (O.taken out.old) (O.taken out.new) (lines_of bytes)) }
-
-    // Other words are refused, with their text, and touch nothing else.
-    ensures usage { result ≡ Status.Usage → IsRun (map string_bytes words.now) → ⊥ }
-    ensures usage_exactly { (IsRun (map string_bytes words.now) → ⊥) → IsCalm (O.faults out.old) (O.faults out.new)
-        → result ≢ Status.Memory → result ≡ Status.Usage }
-    ensures usage_text { result ≡ Status.Usage → Appends (O.taken out.old) (O.taken out.new) usage_text }
-    ensures usage_front { (IsRun (map string_bytes words.now) → ⊥)
-        → (n : ℕ) × Appends (O.taken out.old) (O.taken out.new) (take n usage_text) }
-    ensures usage_input { (IsRun (map string_bytes words.now) → ⊥) → input.new ≡ input.old }
-
-    // Each other answer has its cause.
-    ensures whole { IsWhole result → (I.faults input.new ≡ I.faults input.old) × (O.faults out.new ≡ O.faults out.old)
-        × (F.faults files.new ≡ F.faults files.old) × (K.faults keeper.new ≡ K.faults keeper.old) }
-    ensures read { result ≡ Status.ReadFault → Rose (I.faults input.old) (I.faults input.new) }
-    ensures write { result ≡ Status.WriteFault → Rose (O.faults out.old) (O.faults out.new) }
-    ensures one { HasOneCause (I.faults input.old) (I.faults input.new) (O.faults out.old) (O.faults out.new) result }
-    ensures long { result ≡ Status.TooLong → IsRun (map string_bytes words.now) × IsLong (I.left input.old) }
-    ensures long_exactly { IsRun (map string_bytes words.now) → IfSome (I.left input.old) (λ bytes. 2 ^ 32 ≤ length bytes
-        → IsCalm (I.faults input.old) (I.faults input.new) → IsCalm (O.faults out.old) (O.faults out.new)
-        → result ≢ Status.Memory → result ≡ Status.TooLong) }
-    ensures so_far { IsStatusSoFar result }
-
-    // No file is read, and no row kept, so far.
+    // The command `run`, over no rows; so far it keeps none.
+    ensures run { command_of (map string_bytes words.now) ≡ Some Run
+        → MeansRun (F.content files.old) [] None (I.left input.old) (I.left input.new) (O.taken out.old) (O.taken out.new)
+        (record { input = I.faults input.old; files = F.faults files.old; keeper = K.faults keeper.old; out = O.faults out.old })
+        (record { input = I.faults input.new; files = F.faults files.new; keeper = K.faults keeper.new; out = O.faults out.new }) result }
+    // Words that are none of the forms.
+    ensures usage { command_of (map string_bytes words.now) ≡ None
+        → MeansUsage (O.taken out.old) (O.taken out.new)
+        (record { input = I.faults input.old; files = F.faults files.old; keeper = K.faults keeper.old; out = O.faults out.old })
+        (record { input = I.faults input.new; files = F.faults files.new; keeper = K.faults keeper.new; out = O.faults out.new }) result }
+    // What a command leaves unchanged.
+    ensures input { command_of (map string_bytes words.now) ≡ None → input.new ≡ input.old }
     ensures files { files.new ≡ files.old }
     ensures keeper { keeper.new ≡ keeper.old }
 {
-    if is_run(words) {
-        run_script(alloc, input, out)
-    } else {
-        refuse_words(out)
+    match command_of(words) {
+        Some(Command::Run) => run_script(alloc, input, out),
+        None => refuse_words(out),
     }
 }

@@ -1,23 +1,24 @@
 -- One step of the world, and the fold of it.
-use Rattle.std.specs.Prelude.{ℕ, pos, cond, nat_lt, List, [], ◌∷◌, ◌++◌, Option, Some, None}
+use Rattle.std.specs.Prelude.{ℕ, pos, Bool, true, false, cond, nat_lt, List, [], ◌∷◌, ◌++◌, Option, Some, None}
 use Rattle.pr_num.specs.declared.value.Point.{Point}
 use Rattle.pr_history.specs.declared.entry.Entry.{Entry}
 use Rattle.pr_history.specs.declared.append.Append.{Append}
 use Rattle.pr_history.specs.declared.append.Append.TheVariants as append
-use Rattle.pr_history.specs.Admission.{admit, put_by}
+use Rattle.pr_history.specs.Admission.{admit}
 use Rattle.pr_history.specs.Series.{selected}
 use Rattle.pr_labels.specs.declared.pair.Pair.{Pair}
 use Rattle.pr_world.specs.declared.event.Event.{Event}
 use Rattle.pr_world.specs.declared.event.Event.TheVariants.{Add, Query}
 use Rattle.pr_world.specs.declared.report.Report.{Report}
 use Rattle.pr_world.specs.declared.report.Report.TheVariants as report
+use Rattle.pr_world.specs.Settings.{Settings}
 use Rattle.pr_world.specs.World.{World}
 
--- what an event leads to: the world after it, what is answered, and the entries that are kept for it
-pub record Step : Type 0 where
-  pub world : World
-  pub report : Report
-  pub rows : List Entry
+-- What an event comes to: it is refused, with its report; or it is accepted, with its report and the entries that it
+-- adds to the history.
+pub data Outcome : Type 0 where
+  refuse : Report → Outcome
+  accept : Report → List Entry → Outcome
 
 abbrev pub time_of : Event → ℕ
 time_of (Add time labels point) = time
@@ -40,40 +41,50 @@ rows_by (append.Conflict kept) e = []
 abbrev pub entry_of : ℕ → List Pair → Point → Entry
 entry_of time labels point = record { labels = labels; time = time; point = point }
 
--- a sample is put into the history as its admission says
-abbrev pub added : Append → World → Entry → Step
-added answer w e = record {
-  world = record { history = put_by answer w.history e; last = Some e.time };
-  report = report_of answer;
-  rows = rows_by answer e;
-}
+-- a sample is added as its admission says
+abbrev pub outcome_by : Append → Entry → Outcome
+outcome_by answer e = accept (report_of answer) (rows_by answer e)
 
--- an event that is accepted becomes the last one
-abbrev pub accepted : World → Event → Step
-accepted w (Add time labels point) = added (admit w.history labels time point) w (entry_of time labels point)
-accepted w (Query time equal) = record {
-  world = record { history = w.history; last = Some time };
-  report = report.Vector (selected w.history equal (pos time));
-  rows = [];
-}
-
--- a refused event changes nothing
-abbrev pub refused : World → ℕ → ℕ → Step
-refused w last given = record { world = w; report = report.Backwards last given; rows = [] }
+-- an event that is not before the last one
+abbrev pub outcome_in_time : Settings → World → Event → Outcome
+outcome_in_time s w (Add time labels point) = outcome_by (admit w.history labels time point) (entry_of time labels point)
+outcome_in_time s w (Query time equal) = accept (report.Vector (selected w.history equal (pos time))) []
 
 -- an event before the last one is refused
-abbrev pub next_after : Option ℕ → World → Event → Step
-next_after None w e = accepted w e
-next_after (Some last) w e = cond (nat_lt (time_of e) last) (refused w last (time_of e)) (accepted w e)
+abbrev pub outcome_after : Option ℕ → Settings → World → Event → Outcome
+outcome_after None s w e = outcome_in_time s w e
+outcome_after (Some last) s w e = cond (nat_lt (time_of e) last) (refuse (report.Backwards last (time_of e))) (outcome_in_time s w e)
 
-abbrev pub next : World → Event → Step
-next w e = next_after w.last w e
+abbrev pub outcome : Settings → World → Event → Outcome
+outcome s w e = outcome_after w.last s w e
+
+-- What an event leads to: the world after it, what is answered, the entries that are kept for it, and whether it was
+-- refused.
+pub record Step : Type 0 where
+  pub world : World
+  pub report : Report
+  pub rows : List Entry
+  pub refused : Bool
+
+-- A refused event changes nothing. An accepted one becomes the last one, and its entries come behind the history; nothing
+-- else sets the last time or adds to the history.
+abbrev pub step_by : World → ℕ → Outcome → Step
+step_by w time (refuse report) = record { world = w; report = report; rows = []; refused = true }
+step_by w time (accept report entries) = record {
+  world = record { history = w.history ++ entries; last = Some time };
+  report = report;
+  rows = entries;
+  refused = false;
+}
+
+unfoldable pub next : Settings → World → Event → Step
+next s w e = step_by w (time_of e) (outcome s w e)
 
 -- the world after events, one after another, and the entries that are kept for them
-abbrev pub world_after : World → List Event → World
-world_after w [] = w
-world_after w (e ∷ events) = world_after (next w e).world events
+abbrev pub world_after : Settings → World → List Event → World
+world_after s w [] = w
+world_after s w (e ∷ events) = world_after s (next s w e).world events
 
-abbrev pub rows_of : World → List Event → List Entry
-rows_of w [] = []
-rows_of w (e ∷ events) = (next w e).rows ++ rows_of (next w e).world events
+abbrev pub rows_of : Settings → World → List Event → List Entry
+rows_of s w [] = []
+rows_of s w (e ∷ events) = (next s w e).rows ++ rows_of s (next s w e).world events

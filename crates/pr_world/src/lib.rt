@@ -3,8 +3,12 @@
 
 mod event;
 mod examples;
+mod laws;
 mod report;
 
 pub use event::Event;
-pub use examples::{a_later_event_moves_the_time, an_event_before_the_last_is_refused};
+pub use examples::{
+    a_later_event_moves_the_time, a_sample_adds_its_entry, an_event_before_the_last_is_refused,
+};
+pub use laws::{a_history_is_its_rows, a_step_appends_or_changes_nothing};
 pub use report::Report;

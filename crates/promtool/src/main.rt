@@ -1,5 +1,8 @@
 //! The program: it makes the real objects, hands the words to `pr_top::promtool`, and ends with its status.
 #![tactic(auto)]
+ghost use Rattle.std.specs.Prelude.{◌≡◌};
+ghost use Rattle.std.specs.Process.{exit_status};
+ghost use Rattle.pr_top.specs.Status.{number_of};
 
 #[cfg(test)]
 mod tests;
@@ -19,11 +22,17 @@ fn run(alloc: Global, rt: &HostRuntime, words: &[String]) -> Status {
     promtool(alloc, words, &mut input, &mut files, &mut keeper, &mut out)
 }
 
+// The number of a status, as the process hands it on.
+fn exit_of(status: Status) -> ExitCode
+    ensures { exit_status result ≡ number_of status }
+{
+    ExitCode::from(status.number())
+}
+
 fn main(rt: HostRuntime) -> ExitCode {
     let alloc = rt.alloc();
-    let status = match words_of(alloc, &rt) {
-        Ok(words) => run(alloc, &rt, &words),
-        Err(_) => Status::Memory,
-    };
-    ExitCode::from(status.number())
+    match words_of(alloc, &rt) {
+        Ok(words) => exit_of(run(alloc, &rt, &words)),
+        Err(_) => exit_of(Status::Memory),
+    }
 }

@@ -1,0 +1,4 @@
+pub mod Answers
+pub mod Orders
+pub mod Printed
+pub mod Script

@@ -1,0 +1,57 @@
+-- The orders of an input: what its lines ask for, each with the number of its line.
+use Rattle.std.specs.Prelude.{ℕ, ◌+◌, Bool, true, false, cond, ◌==◌, List, [], ◌∷◌, filter_map, Option, Some, None}
+use Rattle.pr_text.specs.Script.{is_passed_over, event_of}
+use Rattle.pr_text.specs.declared.order.Order.{Order}
+use Rattle.pr_text.specs.declared.order.Order.TheVariants as order
+use Rattle.pr_text.specs.declared.order.Numbered.{Numbered}
+use Rattle.pr_world.specs.declared.event.Event.{Event}
+
+-- a line with its number, from 1, and the body lines that belong to it
+pub record Block : Type 0 where
+  pub number : ℕ
+  pub line : List ℕ
+  pub body : List (List ℕ)
+
+-- a body line begins with '|'
+abbrev pub is_body_line : List ℕ → Bool
+is_body_line [] = false
+is_body_line (b ∷ bytes) = b == 124
+
+-- the body lines at the front of blocks, and the blocks behind them
+abbrev pub body_at : List Block → List (List ℕ)
+body_at [] = []
+body_at (b ∷ blocks) = cond (is_body_line b.line) (b.line ∷ body_at blocks) []
+
+abbrev pub behind_body : List Block → List Block
+behind_body [] = []
+behind_body (b ∷ blocks) = cond (is_body_line b.line) (behind_body blocks) (b ∷ blocks)
+
+-- a line that takes a body has the body lines that directly follow it; any other line stands alone
+abbrev pub with_line : Bool → ℕ → List ℕ → List Block → List Block
+with_line true number line blocks = record { number = number; line = line; body = body_at blocks } ∷ behind_body blocks
+with_line false number line blocks = record { number = number; line = line; body = [] } ∷ blocks
+
+-- the blocks of lines that follow so many others, where a test says which lines take a body
+abbrev pub blocks_by : (List ℕ → Bool) → ℕ → List (List ℕ) → List Block
+blocks_by takes before [] = []
+blocks_by takes before (line ∷ lines) = with_line (takes line) (before + 1) line (blocks_by takes (before + 1) lines)
+
+-- So far no order takes a body: what begins with '|' is a line that spells no order.
+abbrev pub takes_body : List ℕ → Bool
+takes_body line = false
+
+-- what spells no event is refused
+abbrev pub order_by : Option Event → Order
+order_by None = order.Bad
+order_by (Some e) = order.Event e
+
+-- a line that is passed over is no order
+abbrev pub order_of : Block → Option Numbered
+order_of b = cond (is_passed_over b.line) None (Some (record { number = b.number; order = order_by (event_of b.line) }))
+
+-- the orders of lines that follow so many others
+unfoldable pub orders_after : ℕ → List (List ℕ) → List Numbered
+orders_after before lines = filter_map order_of (blocks_by takes_body before lines)
+
+abbrev pub orders_of : List (List ℕ) → List Numbered
+orders_of lines = orders_after 0 lines

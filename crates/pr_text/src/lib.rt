@@ -1,0 +1,14 @@
+//! The texts of a run: what the lines of a script ask for, and how answers are printed.
+#![tactic(auto)]
+
+mod examples;
+mod laws;
+mod order;
+mod printed;
+mod script;
+
+pub use examples::{a_body_belongs_to_its_line, lines_that_ask_for_nothing_are_counted};
+pub use laws::samples_and_questions_have_label_sets;
+pub use order::{Numbered, Order, read_order};
+pub use printed::{push_bad_line, push_report};
+pub use script::is_passed_over;

@@ -1,0 +1,149 @@
+// The printed lines of answers.
+ghost use Rattle.std.specs.Prelude.{◌≡◌, ◌++◌, OnOk, decimal, flat_map};
+ghost use Rattle.pr_num.specs.Shown.{shown};
+ghost use Rattle.pr_labels.specs.SeriesText.{series_text};
+ghost use Rattle.pr_text.specs.Answers.{dropped_conflict, dropped_out_of_order, backwards_last};
+ghost use Rattle.pr_text.specs.Printed.{shown_point, opened_text, out_of_order_text, conflict_text, item_text, vector_text, backwards_text, shown_report, bad_line_text};
+
+use itoa::Buffer;
+use pr_labels::Item;
+use pr_num::{Num, Point};
+use pr_time::Ms;
+use pr_world::Report;
+use std::alloc::{AllocError, Global};
+
+#[tactic(auto, unfolding(crate::specs::Answers::dropped_conflict))]
+fn push_dropped_conflict(text: &mut Vec<u8>) -> Result<(), AllocError>
+    ensures { OnOk result (text.new.items ≡ text.old.items ++ dropped_conflict) }
+{
+    text.extend_from_slice(b"dropped Conflict ")
+}
+
+#[tactic(auto, unfolding(crate::specs::Answers::dropped_out_of_order))]
+fn push_dropped_out_of_order(text: &mut Vec<u8>) -> Result<(), AllocError>
+    ensures { OnOk result (text.new.items ≡ text.old.items ++ dropped_out_of_order) }
+{
+    text.extend_from_slice(b"dropped OutOfOrder ")
+}
+
+#[tactic(auto, unfolding(crate::specs::Answers::backwards_last))]
+fn push_backwards_last(text: &mut Vec<u8>) -> Result<(), AllocError>
+    ensures { OnOk result (text.new.items ≡ text.old.items ++ backwards_last) }
+{
+    text.extend_from_slice(b"backwards last ")
+}
+
+fn push_number(text: &mut Vec<u8>, n: u64) -> Result<(), AllocError>
+    ensures { OnOk result (text.new.items ≡ text.old.items ++ decimal n) }
+{
+    let mut buffer = Buffer::new();
+    text.extend_from_slice(buffer.format(n).as_bytes())
+}
+
+fn push_value(text: &mut Vec<u8>, v: Num) -> Result<(), AllocError>
+    ensures { OnOk result (text.new.items ≡ text.old.items ++ shown v) }
+{
+    let mut buffer = [0u8; 40];
+    let count = pr_num::write(v, &mut buffer);
+    text.extend_from_slice(&buffer[..count])
+}
+
+fn push_point(text: &mut Vec<u8>, p: Point) -> Result<(), AllocError>
+    ensures { OnOk result (text.new.items ≡ text.old.items ++ shown_point p) }
+{
+    match p {
+        Point::Value(v) => push_value(text, v),
+        Point::Stale => text.extend_from_slice(b"stale"),
+    }
+}
+
+fn push_opened(text: &mut Vec<u8>, rows: u64) -> Result<(), AllocError>
+    ensures { OnOk result (text.new.items ≡ text.old.items ++ opened_text rows) }
+{
+    text.extend_from_slice(b"opened ")?;
+    push_number(text, rows)?;
+    text.extend_from_slice(b"\n")
+}
+
+fn push_out_of_order(text: &mut Vec<u8>, last: Ms) -> Result<(), AllocError>
+    ensures { OnOk result (text.new.items ≡ text.old.items ++ out_of_order_text last) }
+{
+    push_dropped_out_of_order(text)?;
+    push_number(text, last.get())?;
+    text.extend_from_slice(b"\n")
+}
+
+fn push_conflict(text: &mut Vec<u8>, kept: Point) -> Result<(), AllocError>
+    ensures { OnOk result (text.new.items ≡ text.old.items ++ conflict_text kept) }
+{
+    push_dropped_conflict(text)?;
+    push_point(text, kept)?;
+    text.extend_from_slice(b"\n")
+}
+
+fn push_item(alloc: Global, text: &mut Vec<u8>, item: &Item<Num>) -> Result<(), AllocError>
+    ensures { OnOk result (text.new.items ≡ text.old.items ++ item_text item.now) }
+{
+    text.extend_from_slice(b"value ")?;
+    item.labels.write(text)?;
+    text.extend_from_slice(b" ")?;
+    push_value(text, item.value)?;
+    text.extend_from_slice(b"\n")
+}
+
+fn push_items(alloc: Global, text: &mut Vec<u8>, items: &[Item<Num>]) -> Result<(), AllocError>
+    ensures { OnOk result (text.new.items ≡ text.old.items ++ flat_map item_text items.now) }
+{
+    for item in items {
+        push_item(alloc, text, item)?;
+    }
+    Ok(())
+}
+
+fn push_vector(alloc: Global, text: &mut Vec<u8>, items: &[Item<Num>]) -> Result<(), AllocError>
+    ensures { OnOk result (text.new.items ≡ text.old.items ++ vector_text items.now) }
+{
+    text.extend_from_slice(b"vector ")?;
+    push_number(text, items.len() as u64)?;
+    text.extend_from_slice(b"\n")?;
+    push_items(alloc, text, items)
+}
+
+fn push_backwards(text: &mut Vec<u8>, last: Ms, given: Ms) -> Result<(), AllocError>
+    ensures { OnOk result (text.new.items ≡ text.old.items ++ backwards_text last given) }
+{
+    push_backwards_last(text)?;
+    push_number(text, last.get())?;
+    text.extend_from_slice(b" given ")?;
+    push_number(text, given.get())?;
+    text.extend_from_slice(b"\n")
+}
+
+/// Appends the lines of a report. Want of memory alone is an error.
+#[tactic(auto, unfolding(crate::specs::Printed::shown_report))]
+pub fn push_report(
+    alloc: Global,
+    text: &mut Vec<u8>,
+    report: &Report,
+) -> Result<(), AllocError>
+    ensures { OnOk result (text.new.items ≡ text.old.items ++ shown_report report.now) }
+{
+    match report {
+        Report::Opened { rows } => push_opened(text, *rows),
+        Report::Added => text.extend_from_slice(b"added\n"),
+        Report::Same => text.extend_from_slice(b"same\n"),
+        Report::OutOfOrder { last } => push_out_of_order(text, *last),
+        Report::Conflict { kept } => push_conflict(text, *kept),
+        Report::Vector { items } => push_vector(alloc, text, items.as_slice()),
+        Report::Backwards { last, given } => push_backwards(text, *last, *given),
+    }
+}
+
+/// Appends the line that says that the line of this number spells no order. Want of memory alone is an error.
+pub fn push_bad_line(text: &mut Vec<u8>, n: u64) -> Result<(), AllocError>
+    ensures { OnOk result (text.new.items ≡ text.old.items ++ bad_line_text n) }
+{
+    text.extend_from_slice(b"bad line ")?;
+    push_number(text, n)?;
+    text.extend_from_slice(b"\n")
+}

@@ -1,0 +1,221 @@
+// The lines of a script, and the events that they spell.
+ghost use Rattle.std.specs.Prelude.{◌≡◌, ◌^◌, ◌<◌, ◌≤◌, IfOk, Some, None, min, true};
+ghost use Rattle.std.specs.List.{list_all};
+ghost use Rattle.std.specs.Char.{is_ascii_digit};
+ghost use Rattle.std.specs.Str.{bytes_eq, is_utf8};
+ghost use Rattle.std.specs.Str.Parse.{digits_value};
+ghost use Rattle.pr_labels.specs.LabelSet.{metric_label, value_of};
+ghost use Rattle.pr_series.specs.SeriesReading.{series_labels};
+ghost use Rattle.pr_labels.specs.SeriesText.{series_text};
+ghost use Rattle.pr_text.specs.Script.{is_comment, is_passed_over, begins_with_zero, is_decimal, time_of, point_of, series_of, is_reserved, can_be_asked, is_selector, selector_of, add_of, query_of, add_in, query_in, event_by, event_of};
+
+use pr_labels::Labels;
+use pr_lex::word_of;
+use pr_num::Point;
+use pr_series::{TextFault, read_series_text};
+use pr_time::Ms;
+use pr_words::{split_first, split_last, without_trailing};
+use pr_world::Event;
+use std::alloc::{AllocError, Global};
+use std::str;
+
+fn is_comment(line: &[u8]) -> bool
+    ensures { result ≡ is_comment line.now }
+{
+    match line {
+        [] => false,
+        [first, ..] => *first == b'#',
+    }
+}
+
+#[tactic(auto, using(crate::proofs::Utf8::not_text, crate::proofs::Utf8::is_text))]
+fn is_text(line: &[u8]) -> bool
+    ensures { result ≡ is_utf8 line.now }
+{
+    str::from_utf8(line).is_ok()
+}
+
+/// Whether a line asks for nothing.
+pub fn is_passed_over(line: &[u8]) -> bool
+    ensures { result ≡ is_passed_over line.now }
+{
+    without_trailing(line).is_empty() || (is_comment(line) && is_text(line))
+}
+
+fn are_digits(text: &[u8]) -> bool
+    ensures { result ≡ list_all is_ascii_digit text.now }
+{
+    text.iter().all(|b| b.is_ascii_digit())
+}
+
+fn begins_with_zero(text: &[u8]) -> bool
+    ensures { result ≡ begins_with_zero text.now }
+{
+    match text {
+        [] => false,
+        [first, ..] => *first == b'0',
+    }
+}
+
+fn is_decimal(text: &[u8]) -> bool
+    ensures { result ≡ is_decimal text.now }
+{
+    !text.is_empty() && are_digits(text) && (text.len() == 1 || !begins_with_zero(text))
+}
+
+// Times are below this.
+const TIME_LIMIT: u64 = 1 << 42;
+
+// The number of the digits, and at most the limit of times.
+fn capped(digits: &[u8]) -> u64
+    requires { list_all is_ascii_digit digits.now ≡ true }
+    ensures { result ≡ min (digits_value 10 digits.now) (2 ^ 42) }
+{
+    let mut value: u64 = 0;
+    for digit in digits {
+        value = (value * 10 + (*digit - b'0') as u64).min(TIME_LIMIT);
+    }
+    value
+}
+
+fn time_of(text: &[u8]) -> Option<Ms>
+    ensures { result ≡ time_of text.now }
+{
+    if !is_decimal(text) {
+        return None;
+    }
+    Ms::new(capped(text))
+}
+
+fn point_of(text: &[u8]) -> Option<Point>
+    ensures { result ≡ point_of text.now }
+{
+    if text == b"stale".as_slice() {
+        return Some(Point::Stale);
+    }
+    match pr_num::read(text) {
+        Ok(v) => Some(Point::Value(v)),
+        Err(_) => None,
+    }
+}
+
+// The label set of a series text.
+fn labels_read(alloc: Global, text: &str) -> Result<Option<Labels>, AllocError>
+    ensures { IfOk result (λ o. o ≡ series_labels text.now) }
+{
+    match read_series_text(alloc, text) {
+        Ok(labels) => Ok(Some(labels)),
+        Err(TextFault::BadLabels { .. }) => Ok(None),
+        Err(TextFault::Memory) => Err(AllocError),
+    }
+}
+
+#[tactic(auto, using(crate::proofs::Utf8::text_series, crate::proofs::Utf8::no_text_series))]
+fn series_of(alloc: Global, text: &[u8]) -> Result<Option<Labels>, AllocError>
+    ensures { IfOk result (λ o. o ≡ series_of text.now) }
+{
+    match str::from_utf8(text) {
+        Ok(text) => labels_read(alloc, text),
+        Err(_) => Ok(None),
+    }
+}
+
+fn is_printed(alloc: Global, labels: &Labels, text: &[u8]) -> Result<bool, AllocError>
+    ensures { IfOk result (λ b. b ≡ bytes_eq (series_text labels.now) text.now) }
+{
+    let mut printed = Vec::new(alloc);
+    labels.write(&mut printed)?;
+    Ok(printed.as_slice() == text)
+}
+
+/// Whether the metric's name, where there is one, is a word of the query language.
+fn is_reserved(labels: &Labels) -> bool
+    ensures { result ≡ is_reserved (value_of labels.now metric_label) }
+{
+    match labels.get("__name__") {
+        Some(name) => word_of(name).is_some(),
+        None => false,
+    }
+}
+
+fn can_be_asked(labels: &Labels) -> bool
+    ensures { result ≡ can_be_asked labels.now }
+{
+    !labels.pairs().is_empty() && !is_reserved(labels)
+}
+
+fn is_selector(alloc: Global, text: &[u8], labels: &Labels) -> Result<bool, AllocError>
+    ensures { IfOk result (λ b. b ≡ is_selector text.now labels.now) }
+{
+    if !can_be_asked(labels) {
+        return Ok(false);
+    }
+    is_printed(alloc, labels, text)
+}
+
+fn selector_of(alloc: Global, text: &[u8]) -> Result<Option<Labels>, AllocError>
+    ensures { IfOk result (λ o. o ≡ selector_of text.now) }
+{
+    let Some(labels) = series_of(alloc, text)? else {
+        return Ok(None);
+    };
+    if is_selector(alloc, text, &labels)? {
+        Ok(Some(labels))
+    } else {
+        Ok(None)
+    }
+}
+
+fn add_in(alloc: Global, text: &[u8]) -> Result<Option<Event>, AllocError>
+    ensures { IfOk result (λ o. o ≡ add_in text.now) }
+{
+    let (time, rest) = split_first(text);
+    let (series, value) = split_last(rest);
+    let Some(time) = time_of(time) else {
+        return Ok(None);
+    };
+    let Some(labels) = series_of(alloc, series)? else {
+        return Ok(None);
+    };
+    match point_of(value) {
+        Some(point) => Ok(Some(Event::Add {
+            time,
+            labels,
+            point,
+        })),
+        None => Ok(None),
+    }
+}
+
+fn query_in(alloc: Global, text: &[u8]) -> Result<Option<Event>, AllocError>
+    ensures { IfOk result (λ o. o ≡ query_in text.now) }
+{
+    let (time, selector) = split_first(text);
+    let Some(time) = time_of(time) else {
+        return Ok(None);
+    };
+    match selector_of(alloc, selector)? {
+        Some(equal) => Ok(Some(Event::Query { time, equal })),
+        None => Ok(None),
+    }
+}
+
+fn event_by(alloc: Global, word: &[u8], text: &[u8]) -> Result<Option<Event>, AllocError>
+    ensures { IfOk result (λ o. o ≡ event_by word.now text.now) }
+{
+    if word == b"add".as_slice() {
+        add_in(alloc, text)
+    } else if word == b"query".as_slice() {
+        query_in(alloc, text)
+    } else {
+        Ok(None)
+    }
+}
+
+/// The event that a line spells, if it spells one.
+pub(crate) fn event_of(alloc: Global, line: &[u8]) -> Result<Option<Event>, AllocError>
+    ensures { IfOk result (λ o. o ≡ event_of line.now) }
+{
+    let (word, rest) = split_first(without_trailing(line));
+    event_by(alloc, word, rest)
+}

@@ -1,7 +1,0 @@
-use Rattle.std.proofs.Common.{◌≡◌, ◌++◌, drop, flat_map}
-use Rattle.pr_top.specs.Printed.{item_text}
-use Rattle.pr_top.proofs.texts.push_items.Given as goal
-
--- what is written, and what is to come
-abbrev pub invariant-loop-item : goal.invariant-loop-item
-invariant-loop-item l = l.text.items ++ flat_map item_text (drop l.item-index l.items) ≡ l.fn.text.items ++ flat_map item_text l.items

@@ -1,0 +1,7 @@
+use Rattle.std.proofs.Common.{refl}
+use Rattle.pr_world.specs.Step.{next}
+use Rattle.pr_world.proofs.examples.a_later_event_moves_the_time.Goals as goal
+
+pub returns-clause-moved : goal.returns-clause-moved
+unfolding next
+returns-clause-moved c = refl

@@ -1,0 +1,8 @@
+use Rattle.pr_world.proofs.Steps.{step_refused, step_accepted}
+use Rattle.pr_world.proofs.laws.a_step_appends_or_changes_nothing.Goals as goal
+
+pub returns-clause-refused : goal.returns-clause-refused
+returns-clause-refused c = step_refused
+
+pub returns-clause-accepted : goal.returns-clause-accepted
+returns-clause-accepted c = step_accepted
