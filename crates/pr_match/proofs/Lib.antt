@@ -1,3 +1,4 @@
 pub mod Computing
+pub mod Equalities
 pub mod Reading
 pub mod Selected

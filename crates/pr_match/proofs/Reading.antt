@@ -17,6 +17,7 @@ use Rattle.regex.proofs.OnLiterals.{IsReadAs, same_refl}
 use Rattle.regex.proofs.ForCallers.{alike_as_written, names_as_written, is_match_alike, found_alike, span_alike, IsNamedAs}
 use Rattle.regex_syntax.specs.Brackets.{Nested}
 use Rattle.regex_syntax.specs.Grammar.{Names, read}
+use Rattle.regex_hir.specs.declared.hir.Hir.{Hir}
 use Rattle.regex.specs.declared.error.Error.{Error}
 use Rattle.regex.specs.declared.error.Error.TheVariants.{Syntax, CompiledTooBig, Internal, OutOfMemory}
 use Rattle.regex.specs.Sources.{IsRefusal}
@@ -24,7 +25,7 @@ use Rattle.regex.specs.Failures.{IsRightKind}
 use Rattle.regex_syntax.specs.declared.error.ErrorKind.{ErrorKind}
 use Rattle.regex_syntax.specs.declared.error.ErrorKind.TheVariants as kind
 use Rattle.pr_match.specs.Pattern.{is_readable, is_within, anchored, first_match, matches_whole}
-use Rattle.pr_match.specs.Compiled.{IsFrom, Decides, fault_of}
+use Rattle.pr_match.specs.Compiled.{IsFrom, Decides, fault_of, syntax_fault}
 use Rattle.pr_match.specs.declared.fault.MatchError.{MatchError}
 use Rattle.pr_match.specs.declared.fault.MatchError.TheVariants.{BadPattern, Memory}
 
@@ -54,6 +55,11 @@ pub readable_of_read : (source : List ℕ) (r : Regex) → IsFrom source r → i
 unfolding is_readable Reads
 readable_of_read source r h = passes (read default_config (chars source)) _ (λ q p. p.0) (rw (h.is_source, h.is_default) at h.is_read)
 
+-- what was read can be read
+pub readable_of_parse : (source : List ℕ) (hir : Hir) (names : Names) → Reads default_config source hir names → is_readable source ≡ true
+unfolding is_readable Reads
+readable_of_parse source hir names h = passes (read default_config (chars source)) _ (λ q p. p.0) h
+
 -- an error of syntax means that the text cannot be read
 pub unreadable_of_refusal : (source : List ℕ) (k : ErrorKind) → k ≢ kind.OutOfMemory → Refuses default_config source k → is_readable source ≡ false
 unfolding is_readable Refuses
@@ -64,6 +70,10 @@ unreadable_of_refusal source k real refused =
 
 apart : Memory ≢ BadPattern
 apart e = cc
+
+-- where reading was refused for the text's fault, it cannot be read
+pub unreadable_of_syntax : (source : List ℕ) (k : ErrorKind) (fault : MatchError) → Refuses default_config source k → fault ≡ syntax_fault k → fault ≡ BadPattern → is_readable source ≡ false
+unreadable_of_syntax source k fault refused f b = unreadable_of_refusal source k (λ e. apart (ap syntax_fault (sym e) ∙ sym f ∙ b)) refused
 
 -- where the fault is the text's, it cannot be read
 pub unreadable_of_fault : (source : List ℕ) (error : Error) (fault : MatchError) → IsRefusal default_config source error → IsRightKind default_config source error →

@@ -6,6 +6,8 @@ use Rattle.regex.specs.declared.string.regex.Regex.{Regex}
 use Rattle.regex.specs.declared.string.matcher.Matcher.{Matcher}
 use Rattle.regex.specs.declared.error.Error.{Error}
 use Rattle.regex.specs.declared.error.Error.TheVariants.{Syntax}
+use Rattle.regex_syntax.specs.declared.error.ErrorKind.{ErrorKind}
+use Rattle.regex_syntax.specs.declared.error.ErrorKind.TheVariants.{OutOfMemory}
 use Rattle.pr_match.specs.Pattern.{matches_whole}
 use Rattle.pr_match.specs.declared.fault.MatchError.{MatchError}
 use Rattle.pr_match.specs.declared.fault.MatchError.TheVariants.{BadPattern, Memory}
@@ -25,3 +27,8 @@ Decides pattern searcher =
 abbrev pub fault_of : Error → MatchError
 fault_of (Syntax e) = BadPattern
 fault_of _ = Memory
+
+-- what a refusal to read means
+abbrev pub syntax_fault : ErrorKind → MatchError
+syntax_fault OutOfMemory = Memory
+syntax_fault _ = BadPattern

@@ -17,6 +17,10 @@ pub record LabelTest : Type 0 where
 abbrev pub label_test : List ℕ → MatchOp → List ℕ → LabelTest
 label_test name op text = record { name = name; op = op; text = text }
 
+-- the matcher that asks for a pair
+abbrev pub equality : Pair → LabelTest
+equality pair = label_test pair.name Equal pair.value
+
 -- whether the text may stand after the operator
 unfoldable pub may_follow : MatchOp → List ℕ → Bool
 may_follow Equal text = true

@@ -1,11 +1,12 @@
 //! Laws of the definitions that contracts of this crate cite. A law is a function that does nothing,
 //! and its contract is the theorem.
-ghost use Rattle.std.specs.Prelude.{◌≡◌, ℕ, List, [], codes, nat_eq, not, true, false, None, Some};
-ghost use Rattle.std.specs.List.{list_any, slice_get};
+ghost use Rattle.std.specs.Prelude.{◌≡◌, ℕ, List, [], map, codes, nat_eq, not, true, false, None, Some};
+ghost use Rattle.std.specs.List.{list_all, list_any, slice_get};
+ghost use Rattle.std.specs.Str.{bytes_eq};
 ghost use Rattle.pr_labels.specs.declared.pair.Pair.{Pair};
-ghost use Rattle.pr_labels.specs.LabelSet.{value_of};
+ghost use Rattle.pr_labels.specs.LabelSet.{text_at, value_of};
 ghost use Rattle.pr_match.specs.Pattern.{is_pattern, matches_whole, expanded, is_readable, anchored};
-ghost use Rattle.pr_match.specs.Matcher.{LabelTest, label_test, is_met, meets, passes, places_from};
+ghost use Rattle.pr_match.specs.Matcher.{LabelTest, label_test, equality, is_met, meets, meets_all, passes, places_from};
 ghost use Rattle.pr_match.specs.declared.op.MatchOp.TheVariants.{Equal, NotEqual, Like, NotLike};
 
 /// `!=` lets through exactly those label sets that `=` does not, and `!~` those that `=~` does not.
@@ -31,6 +32,12 @@ pub fn an_absent_label_is_empty()
 pub fn selected_sets_meet_all()
     ensures { (tests : List LabelTest) (sets : List (List Pair)) (place : ℕ)
         → list_any (nat_eq place) (places_from 0 tests sets) ≡ is_met tests (slice_get sets place) }
+{}
+
+/// Matchers with `=` ask for pairs: a label set meets them where it has each of the values.
+pub fn equalities_ask_for_pairs()
+    ensures { (pairs labels : List Pair)
+        → meets_all (map equality pairs) labels ≡ list_all (λ q. bytes_eq (text_at labels q.name) q.value) pairs }
 {}
 
 /// Worked examples of which texts are patterns, of what they match, and of what a template makes.

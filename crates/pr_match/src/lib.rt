@@ -13,7 +13,8 @@ mod tests;
 
 pub use fault::MatchError;
 pub use laws::{
-    an_absent_label_is_empty, operators_are_opposite, patterns_by_example, selected_sets_meet_all,
+    an_absent_label_is_empty, equalities_ask_for_pairs, operators_are_opposite,
+    patterns_by_example, selected_sets_meet_all,
 };
 pub use matcher::{LabelSearcher, Matcher};
 pub use op::MatchOp;

@@ -1,11 +1,12 @@
 // Patterns, and searchers for them.
 ghost use Rattle.std.specs.Prelude.{◌≡◌, true, false, IfOk, OnOk};
 ghost use Rattle.pr_match.specs.Pattern.{is_readable, is_pattern, anchored, matches_whole, expanded};
-ghost use Rattle.pr_match.specs.Compiled.{IsFrom, fault_of};
+ghost use Rattle.pr_match.specs.Compiled.{IsFrom, fault_of, syntax_fault};
 
 use crate::fault::MatchError;
 use pr_words::Text;
 use regex::{Error, Matcher, Regex, Template};
+use regex_syntax::{Config, ErrorKind, parse};
 use std::alloc::{AllocError, Global};
 use std::marker::Model;
 
@@ -30,16 +31,16 @@ impl Model for Pattern {
 }
 
 impl Pattern {
-    /// The pattern of a text. Unless memory runs out, it is `BadPattern` exactly where the text, alone or anchored as `^(?s:text)$`, is no
-    /// regular expression of the crate `regex`, or is nested in more than 250 levels. A pattern that is too large
-    /// to compile wants memory. (Own choice: Prometheus reads RE2's syntax.)
+    /// The pattern of a text. Unless memory runs out, it is `BadPattern` exactly where the text, alone or anchored
+    /// as `^(?s:text)$`, is no regular expression of the crate `regex`, or is nested in more than 250 levels. A
+    /// pattern that is too large to compile wants memory. (Own choice: Prometheus reads RE2's syntax.)
     #[tactic(auto, unfolding(crate::specs::Pattern::is_pattern))]
     pub fn build(alloc: Global, text: &str) -> Result<Pattern, MatchError>
         ensures text { IfOk result (λ p. p ≡ text.now) }
         ensures good { OnOk result (is_pattern text.now ≡ true) }
         ensures bad { result ≡ Err MatchError.BadPattern → is_pattern text.now ≡ false }
     {
-        compile(alloc, text)?;
+        read(alloc, text)?;
         let source = format!(in alloc; "^(?s:{text})$")?;
         Ok(Pattern {
             regex: compile(alloc, source.as_str())?,
@@ -114,6 +115,28 @@ impl<'p> Searcher<'p> {
         ensures same { self.new ≡ self.old }
     {
         self.matcher.is_match(text)
+    }
+}
+
+// Reads a source, to see that it can be read: that takes a small part of the time that compiling takes.
+fn read(alloc: Global, source: &str) -> Result<(), MatchError>
+    ensures good { OnOk result (is_readable source.now ≡ true) }
+    ensures bad { result ≡ Err MatchError.BadPattern → is_readable source.now ≡ false }
+{
+    let _parsed = match parse(alloc, source, &Config::default()) {
+        Ok(parsed) => parsed,
+        Err(error) => return Err(syntax_fault(error.kind)),
+    };
+    Ok(())
+}
+
+// What a refusal to read means.
+fn syntax_fault(kind: ErrorKind) -> MatchError
+    ensures { result ≡ syntax_fault kind }
+{
+    match kind {
+        ErrorKind::OutOfMemory => MatchError::Memory,
+        _ => MatchError::BadPattern,
     }
 }
 

@@ -1,14 +1,17 @@
 //! A small caller of pr_match, so that a change of what callers rest on is felt. It names no other crate's words for
-//! patterns, and has no proofs of its own.
+//! patterns. It stands on the model of the history too, and says which series matchers choose from it.
 #![tactic(auto)]
 
 #[cfg(test)]
 mod tests;
 
-ghost use Rattle.std.specs.Prelude.{◌≡◌, ◌&&◌, true, false, IfOk, OnOk};
+ghost use Rattle.std.specs.Prelude.{◌≡◌, ◌&&◌, true, false, List, map, IfOk, OnOk};
 ghost use Rattle.std.specs.List.{slice_get};
 ghost use Rattle.pr_match.specs.Pattern.{is_pattern, expanded};
-ghost use Rattle.pr_match.specs.Matcher.{label_test, may_follow, meets, meets_all, places_from};
+ghost use Rattle.pr_history.specs.Series.{chosen, has_values};
+ghost use Rattle.pr_history.specs.declared.entry.Entry.{Entry};
+ghost use Rattle.pr_labels.specs.declared.pair.Pair.{Pair};
+ghost use Rattle.pr_match.specs.Matcher.{label_test, equality, may_follow, meets, meets_all, places_from};
 ghost use Rattle.pr_match.specs.declared.op.MatchOp.TheVariants.{Like};
 
 use pr_labels::Labels;
@@ -72,3 +75,9 @@ pub fn rewritten(
     let pattern = Pattern::build(alloc, pattern)?;
     Ok(pattern.expand(alloc, value, template)?)
 }
+
+/// The series of a history that matchers with `=` choose are those that have the pairs.
+pub fn equalities_choose_series_with_pairs()
+    ensures { (pairs : List Pair) (history : List Entry)
+        → chosen (meets_all (map equality pairs)) history ≡ chosen (has_values pairs) history }
+{}

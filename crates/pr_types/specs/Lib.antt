@@ -1,0 +1,10 @@
+pub mod Signatures
+pub mod Selectors
+pub mod Operations
+pub mod Typed
+pub mod Answered
+pub mod Built
+pub mod Numbers
+pub mod Checking
+pub mod Parts
+pub mod Examples

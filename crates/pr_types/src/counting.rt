@@ -1,0 +1,85 @@
+//! How many selectors, range selectors and patterns expressions have.
+ghost use Rattle.std.specs.Prelude.{◌≡◌, if◌then◌else◌};
+ghost use Rattle.pr_ast.specs.Tree.{tree_of, trees_of};
+ghost use Rattle.pr_types.specs.Typed.{replaces};
+ghost use Rattle.pr_types.specs.Numbers.{counts_in, joined};
+
+use crate::texts::replaces;
+use pr_ast::{Expr, ExprKind, Func};
+
+/// How many selectors an expression has, ranges among them, how many range selectors, and how often it calls
+/// `label_replace`. Each of the three is numbered from 0 on its own.
+#[derive(Clone, Copy, PartialEq, Eq, Debug)]
+pub struct Counts {
+    pub selectors: usize,
+    pub ranges: usize,
+    pub patterns: usize,
+}
+
+const NONE: Counts = Counts {
+    selectors: 0,
+    ranges: 0,
+    patterns: 0,
+};
+
+fn joined(one: Counts, other: Counts) -> Counts
+    ensures { result ≡ joined one other }
+{
+    Counts {
+        selectors: one.selectors.saturating_add(other.selectors),
+        ranges: one.ranges.saturating_add(other.ranges),
+        patterns: one.patterns.saturating_add(other.patterns),
+    }
+}
+
+// What a call has of its own.
+fn own(func: Func) -> Counts
+    ensures { result ≡ record { selectors = 0; ranges = 0; patterns = if replaces func then 1 else 0 } }
+{
+    if replaces(func) {
+        Counts {
+            patterns: 1,
+            ..NONE
+        }
+    } else {
+        NONE
+    }
+}
+
+/// The counts of an expression or of a part of one; each is 2^64 - 1 where there are more. They tell how far the numbers
+/// go on over a part that is not visited.
+#[cycle(counting)]
+pub fn counts_in(e: &Expr) -> Counts
+    ensures { result ≡ counts_in (tree_of e.now) }
+{
+    match &e.kind {
+        ExprKind::Number { .. } | ExprKind::Text { .. } => NONE,
+        ExprKind::Select { .. } => Counts {
+            selectors: 1,
+            ..NONE
+        },
+        ExprKind::Range { .. } => Counts {
+            selectors: 1,
+            ranges: 1,
+            ..NONE
+        },
+        ExprKind::Sub { inner, .. } | ExprKind::Neg { inner } => counts_in(inner),
+        ExprKind::Binary { left, right, .. } => joined(counts_in(left), counts_in(right)),
+        ExprKind::Call { func, args } => joined(counts_of(args), own(*func)),
+        ExprKind::Aggregate { param, inner, .. } => match param {
+            Some(first) => joined(counts_in(first), counts_in(inner)),
+            None => counts_in(inner),
+        },
+    }
+}
+
+#[cycle(counting)]
+fn counts_of(args: &[Expr]) -> Counts
+    ensures { result ≡ counts_in (trees_of args.now) }
+{
+    let mut found = NONE;
+    for arg in args {
+        found = joined(found, counts_in(arg));
+    }
+    found
+}
