@@ -1,0 +1,5 @@
+pub mod Arrivals
+pub mod Newest
+pub mod Places
+pub mod Selecting
+pub mod Simulation

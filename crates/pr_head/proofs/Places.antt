@@ -1,0 +1,66 @@
+-- Places among samples whose times rise.
+use Rattle.std.proofs.Common.{◌≡◌, ◌≢◌, ◌-◌, ℕ, zero, suc, ℤ, pos, negsuc, ◌+◌, ◌≤◌, ◌<◌, Bool, true, false, cond, List, [], ◌∷◌, ◌++◌, length, find, reverse, slice_get, Option, Some, None, refl, sym, ap, ◌∙◌, arith}
+use Rattle.std.specs.List.{position_or_len, AllWithin}
+use Rattle.std.specs.List.Sorted.{IsNonDecreasingBy, IsPartitionedBy, IsPartitionPoint}
+use Rattle.std.specs.Option.{option_or}
+use Rattle.std.proofs.lemmas.List.{reverse-append}
+use Rattle.std.proofs.lemmas.List.Folds.{find-append}
+use Rattle.std.proofs.lemmas.List.Sorted.{IsPartitionedBy-leb}
+use Rattle.std.proofs.lemmas.List.Sums.{position_or_len_is}
+use Rattle.std.proofs.lemmas.Grind.{common_steps}
+use Rattle.pr_history.specs.Lookback.{is_after, is_until}
+use Rattle.pr_head.specs.declared.timed.Timed.{Timed}
+use Rattle.pr_head.specs.Stored.{held_before}
+
+-- the samples until a time come before the others
+pub until_parted : (time : ℤ) (xs : List Timed) → IsNonDecreasingBy (λ x. x.time) xs → IsPartitionedBy (λ x. is_until time x.time) xs
+until_parted (pos t) xs rising = IsPartitionedBy-leb (λ x. x.time) xs t rising
+until_parted (negsuc t) xs rising = λ i j d h k e. e
+
+-- what is not until a time is after it
+after_not_until : (time : ℤ) (at : ℕ) → is_until time at ≡ true → is_after time at ≡ false
+after_not_until (pos t) at h = grind (arith, common_steps)
+after_not_until (negsuc t) at h = cc
+
+after_else : (time : ℤ) (at : ℕ) → is_until time at ≡ false → is_after time at ≡ true
+after_else (pos t) at h = grind (arith, common_steps)
+after_else (negsuc t) at h = refl
+
+-- so the place where they are parted is that of the first sample after the time
+pub parted_place : (time : ℤ) (xs : List Timed) (i : ℕ) → i ≤ length xs → IsPartitionPoint (λ x. is_until time x.time ≡ true) (λ x. is_until time x.time ≡ false) xs i
+    → position_or_len (λ x. is_after time x.time) xs ≡ i
+parted_place time xs i within point = by xs refl where
+  by : (ys : List Timed) → xs ≡ ys → position_or_len (λ x. is_after time x.time) xs ≡ i
+  by [] e = ap (position_or_len (λ x. is_after time x.time)) e ∙ omega (arith, ap length e)
+  by (y ∷ ys) e = position_or_len_is (λ x. is_after time x.time) xs i y within
+      (λ k below. after_not_until time _ (point.0 k y (omega arith) below))
+      (λ below. after_else time _ (point.1 i y (omega arith) below))
+
+-- where none passes, none is found from the end
+none_passes : (p : Timed → Bool) (xs : List Timed) → AllWithin (λ x. p x ≡ false) xs 0 (length xs) → find p (reverse xs) ≡ None
+none_passes p [] h = refl
+none_passes p (x ∷ xs) h =
+    ap (find p) (reverse-append (x ∷ []) xs) ∙ find-append p (reverse xs) (x ∷ [])
+    ∙ (λ i. option_or (none_passes p xs (λ k d low below. h (suc k) d (omega arith) (omega arith)) i) (cond (h 0 x (omega arith) (omega arith) i) (Some x) None))
+
+some_at : (xs : List Timed) (n : ℕ) (x : Timed) → n < length xs → option_or (slice_get xs n) (Some x) ≡ slice_get xs n
+some_at [] n x h = absurd (omega arith)
+some_at (y ∷ xs) zero x h = refl
+some_at (y ∷ xs) (suc n) x h = some_at xs n x (omega arith)
+
+-- where those that pass come first, the last of them stands before the place at which they end
+pub last_passing : (p : Timed → Bool) (xs : List Timed) (n : ℕ) → n ≤ length xs → IsPartitionPoint (λ x. p x ≡ true) (λ x. p x ≡ false) xs n
+    → find p (reverse xs) ≡ held_before xs n
+last_passing p xs zero h parted = none_passes p xs parted.1
+last_passing p [] (suc n) h parted = absurd (omega arith)
+last_passing p (x ∷ xs) (suc n) h parted =
+    let rest = last_passing p xs n (omega arith) (λ k d low below. parted.0 (suc k) d (omega arith) (omega arith), λ k d low below. parted.1 (suc k) d (omega arith) (omega arith)) in
+    ap (find p) (reverse-append (x ∷ []) xs) ∙ find-append p (reverse xs) (x ∷ [])
+    ∙ (λ i. option_or (rest i) (cond (parted.0 0 x (omega arith) (omega arith) i) (Some x) None)) ∙ by n h where
+      by : (n : ℕ) → suc n ≤ length (x ∷ xs) → option_or (held_before xs n) (Some x) ≡ held_before (x ∷ xs) (suc n)
+      by zero h = refl
+      by (suc n) h = some_at xs n x (omega arith)
+
+pub before_at : (held : List Timed) (n : ℕ) → n ≢ 0 → slice_get held (n - 1) ≡ held_before held n
+before_at held zero h = absurd (h refl)
+before_at held (suc n) h = let same : suc n - 1 ≡ n = omega arith in ap (slice_get held) same

@@ -1,0 +1,14 @@
+//! The samples that are held: series in order of arrival, each with its newest samples in order of time.
+#![tactic(auto)]
+
+mod head;
+mod laws;
+mod series;
+#[cfg(test)]
+mod tests;
+mod timed;
+
+pub use head::Head;
+pub use laws::{places_are_those_of_the_history, the_newest_sample_is_what_is_shown};
+pub use pr_history::Append;
+pub use timed::Timed;

@@ -1,0 +1,154 @@
+// The samples of one series.
+ghost use Rattle.std.specs.Prelude.{◌≡◌, ◌+◌, ◌<◌, ◌≤◌, length, slice_get, IfOk, OnOk, OnErr};
+ghost use Rattle.pr_history.specs.Lookback.{is_until};
+ghost use Rattle.pr_head.specs.Stored.{admitted, after_push, begun, count_of, held_before, newest_at, position_of, sample_at};
+
+use crate::timed::Timed;
+use pr_history::Append;
+use pr_num::{Num, Point};
+use pr_time::Ms;
+use pr_words::Items;
+use std::alloc::{AllocError, Global};
+use std::marker::Model;
+
+/// The samples of a series that are held, how many came before them, and the last of all. Contracts see these three.
+#[derive(Drop)]
+pub(crate) struct Series {
+    first: u64,
+    samples: Items<Timed>,
+    last_time: Ms,
+    last_point: Point,
+}
+
+impl Model for Series {
+    ghost use Rattle.pr_head.specs.Stored.{Stored, IsStored, stored, timed_at};
+
+    ghost Value = { Stored };
+
+    ghost view = { λ s. stored s.first s.samples (timed_at s.last_time s.last_point) };
+
+    ghost invariant = { λ s. IsStored (stored s.first s.samples (timed_at s.last_time s.last_point)) };
+}
+
+fn is_until(time: i64, at: Ms) -> bool
+    ensures { result ≡ is_until time at }
+{
+    time >= 0 && at.get() <= time as u64
+}
+
+impl Series {
+    /// A series with its first sample.
+    pub(crate) fn begin(alloc: Global, sample: &Timed) -> Result<Series, AllocError>
+        ensures { IfOk result (λ s. s ≡ begun sample.now) }
+    {
+        let mut samples = Items::empty(alloc);
+        samples.push(sample.copy())?;
+        Ok(Series {
+            first: 0,
+            samples,
+            last_time: sample.time,
+            last_point: sample.point,
+        })
+    }
+
+    /// How many samples there ever were.
+    pub(crate) fn count(&self) -> u64
+        ensures { result ≡ count_of self.now }
+    {
+        let _newest = self.last_time.get();
+        self.first + self.samples.as_slice().len() as u64
+    }
+
+    /// How many came before those that are held.
+    pub(crate) fn first(&self) -> u64
+        ensures { result ≡ self.now.first }
+    {
+        self.first
+    }
+
+    /// The held sample at a place.
+    pub(crate) fn sample(&self, place: u64) -> Option<Timed>
+        ensures { result ≡ sample_at self.now place }
+    {
+        if place < self.first {
+            return None;
+        }
+        self.held((place - self.first) as usize)
+    }
+
+    // The held sample with so many before it.
+    fn held(&self, index: usize) -> Option<Timed>
+        ensures { result ≡ slice_get self.now.held index }
+    {
+        match self.samples.as_slice().get(index) {
+            Some(sample) => Some(sample.copy()),
+            None => None,
+        }
+    }
+
+    /// What becomes of a sample.
+    pub(crate) fn admit(&self, sample: &Timed) -> Append
+        ensures { result ≡ admitted self.now sample.now }
+    {
+        let last = self.last_time.get();
+        let time = sample.time.get();
+        if last < time {
+            Append::Added
+        } else if last == time {
+            if self.last_point == sample.point {
+                Append::Same
+            } else {
+                Append::Conflict {
+                    kept: self.last_point,
+                }
+            }
+        } else {
+            Append::OutOfOrder {
+                last: self.last_time,
+            }
+        }
+    }
+
+    /// One more sample, later than the last.
+    pub(crate) fn push(&mut self, sample: &Timed) -> Result<(), AllocError>
+        requires { self.old.last.time < sample.now.time }
+        ensures ok { OnOk result (self.new ≡ after_push self.old sample.now) }
+        ensures err { OnErr result (self.new ≡ self.old) }
+    {
+        let _value: Option<Num> = sample.number();
+        self.samples.push(sample.copy())?;
+        self.last_time = sample.time;
+        self.last_point = sample.point;
+        Ok(())
+    }
+
+    // How many of the held samples are at or before a time: they come before the others.
+    fn until(&self, time: i64) -> usize
+        ensures place { self.now.first + result ≡ position_of self.now time }
+        ensures held { result ≤ length self.now.held }
+        ensures newest { newest_at self.now time ≡ held_before self.now.held result }
+    {
+        self.samples
+            .as_slice()
+            .partition_point(|s| is_until(time, s.time))
+    }
+
+    /// The place of the first held sample above a time, or the count.
+    pub(crate) fn position(&self, time: i64) -> u64
+        ensures { result ≡ position_of self.now time }
+    {
+        let _newest = self.last_time.get();
+        self.first + self.until(time) as u64
+    }
+
+    /// The newest held sample at or before a time.
+    pub(crate) fn newest_at(&self, time: i64) -> Option<Timed>
+        ensures { result ≡ newest_at self.now time }
+    {
+        let until = self.until(time);
+        if until == 0 {
+            return None;
+        }
+        self.held(until - 1)
+    }
+}

@@ -1,0 +1,154 @@
+//! Each call over a small head.
+ghost use Rattle.std.specs.Prelude.{◌≡◌, ◌<◌};
+
+use crate::{Append, Head, Timed};
+use pr_labels::{Labels, Pair};
+use pr_num::{Nano, Num, Point};
+use pr_time::Ms;
+use pr_words::{Steps, Text};
+use std::alloc::{AllocError, Global};
+use std::marker::Brand;
+use std::sync::ledger::{Blank, Ledger};
+use std::test::Fail;
+
+/// What comes in one after another: the metric and the value of its label x, minutes, a whole value, and what becomes
+/// of it.
+const COMING: [((&str, &str), u64, i128, &str); 8] = [
+    (("b", "1"), 0, 1, "added"),
+    (("a", "2"), 0, 2, "added"),
+    (("a", "1"), 0, 3, "added"),
+    (("b", "1"), 0, 1, "same"),
+    (("b", "1"), 1, 5, "added"),
+    (("b", "1"), 1, 6, "conflict"),
+    (("b", "1"), 0, 1, "out of order"),
+    (("a", "1"), 2, 7, "added"),
+];
+
+/// The labels that are asked for, and the series, numbered in order of arrival, in label order.
+const CHOSEN: [((&str, &str), &[usize]); 5] = [
+    (("__name__", "a"), &[2, 1]),
+    (("x", "1"), &[2, 0]),
+    (("__name__", "c"), &[]),
+    (("y", ""), &[2, 1, 0]),
+    (("x", ""), &[]),
+];
+
+fn pair(alloc: Global, name: &str, value: &str) -> Result<Pair, AllocError> {
+    Ok(Pair {
+        name: Text::from_str(alloc, name)?,
+        value: Text::from_str(alloc, value)?,
+    })
+}
+
+fn series(alloc: Global, (name, x): (&str, &str)) -> Result<Labels, Fail> {
+    let mut pairs = Vec::new(alloc);
+    pairs.push(pair(alloc, "__name__", name)?)?;
+    pairs.push(pair(alloc, "x", x)?)?;
+    Ok(Labels::from_pairs(alloc, &pairs)?)
+}
+
+fn whole(value: i128) -> Result<Point, Fail> {
+    Ok(Point::Value(Num::Finite(Nano::new(value).ok_or("no value")?)))
+}
+
+fn filled(alloc: Global) -> Result<Head, Fail> {
+    let mut head = Head::new(alloc);
+    for (labels, minutes, value, _) in COMING {
+        let time = Ms::new(minutes * 60_000).ok_or("no time")?;
+        head.append(&series(alloc, labels)?, time, whole(value)?)?;
+    }
+    Ok(head)
+}
+
+fn name_of(answer: &Append) -> &'static str {
+    match answer {
+        Append::Added => "added",
+        Append::Same => "same",
+        Append::OutOfOrder { .. } => "out of order",
+        Append::Conflict { .. } => "conflict",
+    }
+}
+
+#[test]
+fn samples_are_admitted(rt: HostRuntime) -> Result<(), Fail> {
+    let alloc = rt.alloc();
+    let mut head = Head::new(alloc);
+    for (labels, minutes, value, want) in COMING {
+        let time = Ms::new(minutes * 60_000).ok_or("no time")?;
+        let answer = head.append(&series(alloc, labels)?, time, whole(value)?)?;
+        assert_eq!(rt; name_of(&answer), want, "{value}");
+    }
+    assert_eq!(rt; head.series_count(), 3);
+    assert!(rt; head.labels(1) == Some(&series(alloc, ("a", "2"))?));
+    assert!(rt; head.labels(3).is_none());
+    Ok(())
+}
+
+#[test]
+fn series_are_chosen_in_label_order(rt: HostRuntime) -> Result<(), Fail> {
+    let alloc = rt.alloc();
+    let head = filled(alloc)?;
+    for ((name, value), want) in CHOSEN {
+        let mut equal = Vec::new(alloc);
+        equal.push(pair(alloc, name, value)?)?;
+        assert_eq!(rt; head.select(&equal)?.as_slice(), want, "{name}={value}");
+    }
+    assert_eq!(rt; head.select(&[])?.as_slice(), [2, 1, 0].as_slice());
+    Ok(())
+}
+
+#[test]
+fn places_are_found(rt: HostRuntime) -> Result<(), Fail> {
+    let head = filled(rt.alloc())?;
+    for (series, count) in [(0, Some(2)), (1, Some(1)), (2, Some(2)), (3, None)] {
+        assert_eq!(rt; head.count(series), count, "{series}");
+    }
+    assert_eq!(rt; head.first(0), Some(0));
+    assert_eq!(rt; head.first(3), None);
+    for (time, place) in [(-1, 0), (0, 1), (59_999, 1), (60_000, 2), (90_000, 2)] {
+        assert_eq!(rt; head.position(0, time), Some(place), "{time}");
+    }
+    assert_eq!(rt; head.position(3, 0), None);
+    Ok(())
+}
+
+/// The minute of a sample, where there is one.
+fn minute_of(sample: Option<Timed>) -> Option<u64> {
+    match sample {
+        Some(sample) => Some(sample.time.get() / 60_000),
+        None => None,
+    }
+}
+
+/// The minutes of the samples at three places of a series, and of the newest until four times.
+fn minutes_read<G: Ledger>(
+    alloc: Global,
+    blank: Blank,
+    series: usize,
+) -> Result<Vec<Option<u64>>, Fail>
+    requires name { blank.name ≡ G.name }
+    requires parts { blank.parts ≡ G.parts }
+    requires some { 0 < G.parts }
+{
+    let head = filled(alloc)?;
+    let mut steps: Steps<G> = Steps::new(blank);
+    let mut minutes = Vec::new(alloc);
+    for index in 0..3 {
+        minutes.push(minute_of(head.sample(series, index, &mut steps)))?;
+    }
+    for time in [-1, 0, 119_999, 120_000] {
+        minutes.push(minute_of(head.newest_at(series, time, &mut steps)))?;
+    }
+    Ok(minutes)
+}
+
+#[test]
+fn samples_are_read(rt: HostRuntime) -> Result<(), Fail> {
+    let alloc = rt.alloc();
+    let minutes = minutes_read::<Brand>(alloc, Blank::new(1), 2)?;
+    let want = [Some(0), Some(2), None, None, Some(0), Some(0), Some(2)];
+    assert_eq!(rt; minutes.as_slice(), want.as_slice());
+    let none = minutes_read::<Brand>(alloc, Blank::new(1), 3)?;
+    assert_eq!(rt; none.as_slice(), [None; 7].as_slice());
+    Ok(())
+}
