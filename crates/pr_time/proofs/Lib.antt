@@ -8,3 +8,4 @@ pub mod SpanParts
 pub mod SpanKnown
 pub mod SpanTotal
 pub mod WorkedSpans
+pub mod NoSpan

@@ -1,5 +1,5 @@
 //! The laws of span texts, each as the contract of a function that does nothing.
-ghost use Rattle.std.specs.Prelude.{◌≡◌, ℕ, List, ◌≤◌, ◌^◌, ◌⊎◌, ◌↔◌, Some};
+ghost use Rattle.std.specs.Prelude.{◌≡◌, ℕ, List, ◌≤◌, ◌^◌, ◌++◌, ◌⊎◌, ◌↔◌, Some, codes};
 ghost use Rattle.pr_forms.specs.Table.{IsDecided};
 ghost use Rattle.pr_time.specs.SpanText.{production, table, seen, ReadsSpan, IsBadPlace};
 ghost use Rattle.pr_time.specs.SpanParts.{IsSpanText};
@@ -38,4 +38,9 @@ pub fn span_text_is_zero_or_parts()
 pub fn spans_are_functions_of_their_texts()
     ensures span { (text : List ℕ) (ms : ℕ) → (span_of text ≡ Some ms) ↔ ReadsSpan text ms }
     ensures place { (text : List ℕ) (n : ℕ) → (n ≡ bad_span_place text) ↔ IsBadPlace text n }
+{}
+
+/// No span text begins with `5ms5`, whatever follows: a place up to which bytes go on is not one up to which some span begins.
+pub fn no_span_begins_with_a_number_after_milliseconds()
+    ensures { (rest : List ℕ) (ms : ℕ) → ReadsSpan (codes "5ms5" ++ rest) ms → ⊥ }
 {}
