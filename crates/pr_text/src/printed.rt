@@ -121,11 +121,7 @@ fn push_backwards(text: &mut Vec<u8>, last: Ms, given: Ms) -> Result<(), AllocEr
 
 /// Appends the lines of a report. Want of memory alone is an error.
 #[tactic(auto, unfolding(crate::specs::Printed::shown_report))]
-pub fn push_report(
-    alloc: Global,
-    text: &mut Vec<u8>,
-    report: &Report,
-) -> Result<(), AllocError>
+pub fn push_report(alloc: Global, text: &mut Vec<u8>, report: &Report) -> Result<(), AllocError>
     ensures { OnOk result (text.new.items ≡ text.old.items ++ shown_report report.now) }
 {
     match report {

@@ -1,5 +1,5 @@
 -- What a run promises, by how it ended.
-use Rattle.std.proofs.Common.{◌≡◌, ◌≢◌, ℕ, ◌<◌, ◌≤◌, ◌^◌, Bool, true, false, List, [], Option, Some, None, IfSome, Result, Ok, Err, IfOk, refl, sym, ap, subst, length, arith}
+use Rattle.std.proofs.Common.{◌≡◌, ◌≢◌, ℕ, ◌<◌, ◌≤◌, ◌^◌, Bool, true, false, List, [], Option, Some, None, IfSome, Result, Ok, Err, IfOk, refl, ap, subst, length, arith}
 use Rattle.std.specs.Io.KnownBytes.{Appends}
 use Rattle.pr_outside.specs.Causes.{Rose, IsCalm}
 use Rattle.pr_top.specs.Command.{MeansRun, IsWholeRun}
@@ -7,7 +7,6 @@ use Rattle.pr_top.specs.Front.{IsFront}
 use Rattle.pr_top.specs.Status.{Faults, AreCalm, verdict, IsLong}
 use Rattle.pr_top.specs.Stops.{StopsRunning, KnowsLength, stopped_at_input, status_of}
 use Rattle.pr_top.specs.Told.{Content, told, refuses, answers_to}
-use Rattle.pr_top.specs.declared.status.Status.{Status}
 use Rattle.pr_top.specs.declared.status.Status.TheVariants as status
 use Rattle.pr_top.specs.declared.status.Stop.{Stop}
 use Rattle.pr_top.specs.declared.status.Stop.TheVariants.{Read, Write, Memory, TooLong}

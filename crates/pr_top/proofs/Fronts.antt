@@ -1,5 +1,5 @@
 -- Where a run stands between two orders, and what it has written when it is cut short.
-use Rattle.std.proofs.Common.{◌≡◌, ℕ, ◌+◌, ◌≤◌, ◌<◌, ◌^◌, Bool, true, false, true≢false, ◌||◌, List, [], ◌∷◌, ◌++◌, None, Some, IfSome, Result, Ok, Err, IsErrAnd, refl, sym, ap, ◌∙◌, subst, append_assoc, append-nil, length, length-append, zero, suc, take, take_all, arith}
+use Rattle.std.proofs.Common.{◌≡◌, ℕ, ◌+◌, ◌≤◌, ◌<◌, ◌^◌, Bool, true, true≢false, ◌||◌, List, [], ◌∷◌, ◌++◌, None, Some, IfSome, Result, Ok, Err, IsErrAnd, refl, sym, ap, ◌∙◌, subst, append_assoc, append-nil, length, length-append, zero, suc, take, take_all, arith}
 use Rattle.std.proofs.Math.Seq.{take-append-add}
 use Rattle.std.proofs.lemmas.List.{take-append-le}
 use Rattle.std.specs.declared.option.Option.{Option}
@@ -16,8 +16,8 @@ use Rattle.pr_top.specs.Stops.{AtInput, StopsWriting, stopped_at_input}
 use Rattle.pr_top.specs.Told.{Answer, answers, told_of, turn, any_refused, Content, answers_to, told, refuses}
 use Rattle.pr_top.specs.declared.status.Stop.{Stop}
 use Rattle.pr_top.specs.declared.status.Stop.TheVariants.{Read, Write, Memory, TooLong}
-use Rattle.pr_top.proofs.Streams.{appends_on, appends_none}
-use Rattle.pr_top.proofs.Turns.{told_none, told_more, refused_more, answer_count}
+use Rattle.pr_top.proofs.Streams.{appends_on}
+use Rattle.pr_top.proofs.Turns.{told_more, refused_more, answer_count}
 use Rattle.pr_world.specs.World.{World, start}
 
 -- no order was answered yet
@@ -72,10 +72,11 @@ pub told_all : (rows : List Entry) (content : Content) (bytes held : List ℕ) (
     → Stands rows (Some bytes) b old new m p → HandsOrder b (ahead held left) m n None
     → Appends old new (told content rows bytes) × (p.refused ≡ refuses content rows bytes) × (left ≡ Some [])
 told_all rows content bytes held b left old new m n p s h =
-    let all : answers (start rows) (orders_of (lines_of bytes)) ≡ s.done = all_done rows bytes b (ahead held left) s.done p.world m n s.split h in
-    (subst (λ (l : List Answer). Appends old new (told_of rows l)) (sym all) s.told,
-    s.refused ∙ ap any_refused (sym all),
-    none_left bytes held b left rows s.done p.world m n s.split h)
+    let all : answers (start rows) (orders_of (lines_of bytes)) ≡ s.done = all_done rows bytes b (ahead held left) s.done p.world m n s.split h in (
+      subst (λ (l : List Answer). Appends old new (told_of rows l)) (sym all) s.told,
+      s.refused ∙ ap any_refused (sym all),
+      none_left bytes held b left rows s.done p.world m n s.split h,
+    )
 
 -- fronts of lists
 front_of : (done rest : List Answer) → take (length done) (done ++ rest) ≡ done
@@ -85,8 +86,13 @@ front_of (x ∷ done) rest = ap (λ (l : List Answer). x ∷ l) (front_of done r
 shorter_texts : (rows : List Entry) (before done : List Answer) → length (told_of rows before) ≤ length (told_of rows (before ++ done))
 shorter_texts rows before [] = omega (arith, ap (λ (l : List Answer). length (told_of rows l)) (append-nil before))
 shorter_texts rows before (a ∷ done) =
-    omega (arith, shorter_texts rows (before ++ a ∷ []) done, ap length (told_more rows before a), length-append (told_of rows before) a.text,
-    ap (λ (l : List Answer). length (told_of rows l)) (append_assoc before (a ∷ []) done))
+    omega (
+      arith,
+      shorter_texts rows (before ++ a ∷ []) done,
+      ap length (told_more rows before a),
+      length-append (told_of rows before) a.text,
+      ap (λ (l : List Answer). length (told_of rows l)) (append_assoc before (a ∷ []) done),
+    )
 
 drop_of : (k : ℕ) (done : List Answer) → (rest : List Answer) × (take k done ++ rest ≡ done)
 drop_of zero done = (done, refl)

@@ -1,5 +1,5 @@
 -- What a run of the script writes, keeps and refuses.
-use Rattle.std.specs.Prelude.{ℕ, Bool, true, false, List, [], ◌∷◌, ◌++◌, length, flat_map, Option}
+use Rattle.std.specs.Prelude.{ℕ, Bool, true, List, [], ◌∷◌, ◌++◌, length, flat_map, Option}
 use Rattle.std.specs.List.{list_any}
 use Rattle.pr_words.specs.Lines.{lines_of}
 use Rattle.pr_history.specs.declared.entry.Entry.{Entry}

@@ -110,11 +110,7 @@ impl Reader {
     }
 
     // Hands out the next line without its line feed, and says whether there is one.
-    fn next_line<I: Source>(
-        &mut self,
-        input: &mut I,
-        line: &mut Vec<u8>,
-    ) -> Result<bool, Stop>
+    fn next_line<I: Source>(&mut self, input: &mut I, line: &mut Vec<u8>) -> Result<bool, Stop>
         requires { HasRoom 0 self.old }
         ensures line { IfOk result (λ more. HandsLine (ahead (held self.old) (I.left input.old)) (ahead (held self.new) (I.left input.new)) more line.new.items) }
         ensures room { IfOk result (λ more. HasRoom (line_count more) self.new) }

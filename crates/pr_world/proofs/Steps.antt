@@ -1,8 +1,7 @@
 -- What each step does to the history.
 use Rattle.std.proofs.Common.{◌≡◌, ℕ, Bool, true, false, List, [], ◌∷◌, ◌++◌, Option, Some, None, refl, sym, ap, ◌∙◌, subst, append_assoc, append-nil}
-use Rattle.std.specs.Prelude.{cond, nat_lt, pos}
-use Rattle.pr_history.specs.Admission.{admit, put, put_by, IsLawful}
-use Rattle.pr_history.specs.Series.{selected}
+use Rattle.std.specs.Prelude.{cond, nat_lt}
+use Rattle.pr_history.specs.Admission.{admit, put_by, IsLawful}
 use Rattle.pr_history.specs.declared.append.Append.{Append}
 use Rattle.pr_history.specs.declared.append.Append.TheVariants as append
 use Rattle.pr_history.specs.declared.entry.Entry.{Entry}
@@ -10,7 +9,7 @@ use Rattle.pr_history.proofs.Lawful.{put_lawful}
 use Rattle.pr_world.specs.declared.event.Event.{Event}
 use Rattle.pr_world.specs.declared.event.Event.TheVariants.{Add, Query}
 use Rattle.pr_world.specs.Settings.{Settings}
-use Rattle.pr_world.specs.Step.{Outcome, refuse, accept, outcome, outcome_after, outcome_in_time, outcome_by, rows_by, entry_of, step_by, next, time_of, world_after, rows_of}
+use Rattle.pr_world.specs.Step.{Outcome, refuse, accept, outcome, outcome_after, outcome_in_time, rows_by, entry_of, step_by, next, time_of, world_after, rows_of}
 use Rattle.pr_world.specs.World.{World}
 
 refused_by : (w : World) (time : ℕ) (o : Outcome) → (step_by w time o).refused ≡ true
