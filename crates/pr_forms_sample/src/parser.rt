@@ -39,7 +39,8 @@ ghost use Rattle.pr_forms_sample.specs.Grammar.{
   Refuses,
   Misses,
 };
-ghost use Rattle.pr_forms_sample.specs.Reader.{Gives, FailsAt, Takes, Lacks, value_of, group, argument_starts};
+ghost use Rattle.pr_forms.specs.Language.{Gives, FailsAt, Takes, Lacks};
+ghost use Rattle.pr_forms_sample.specs.Reader.{sums, value_of, group, argument_starts};
 
 use crate::tree::{Expr, ExprKind, Operator, Place, Sign, Token, TokenKind};
 use pr_forms::{Fault, place_of, take};
@@ -106,7 +107,7 @@ fn operator_by(level: Level, sign: Sign) -> Option<Operator>
 
 /// The operator of the level at the front, and what follows it.
 fn operator_in(level: Level, tokens: &[Token]) -> Option<(Operator, &[Token])>
-    ensures read { MatchOption result (Lacks (operator level) tokens.now) (λ x. Takes (operator level) tokens.now (operation x.0) x.1.now) }
+    ensures read { MatchOption result (Lacks sums (operator level) tokens.now) (λ x. Takes sums (operator level) tokens.now (operation x.0) x.1.now) }
     ensures shorter { IfSome result (λ x. length x.1.now < length tokens.now) }
 {
     take(
@@ -124,7 +125,7 @@ fn operator_in(level: Level, tokens: &[Token]) -> Option<(Operator, &[Token])>
 
 /// The place of the sign at the front, and what follows it.
 fn after(wanted: Sign, tokens: &[Token]) -> Option<(Place, &[Token])>
-    ensures read { MatchOption result (Lacks (sign wanted) tokens.now) (λ x. Takes (sign wanted) tokens.now (at x.0) x.1.now) }
+    ensures read { MatchOption result (Lacks sums (sign wanted) tokens.now) (λ x. Takes sums (sign wanted) tokens.now (at x.0) x.1.now) }
     ensures shorter { IfSome result (λ x. length x.1.now < length tokens.now) }
 {
     take(
@@ -231,14 +232,14 @@ fn operation_made(
 }
 
 #[cycle(parser)]
-#[tactic(auto, using(pr_forms::proofs::Ways::ways))]
+#[tactic(auto, using(pr_forms::proofs::Ways::ways, pr_forms::proofs::Carrying::carrying))]
 fn binary_at(
     alloc: Global,
     level: Level,
     tokens: &[Token],
 ) -> Result<(Part, &[Token]), Fault<'_, Token>>
-    ensures read { MatchResult result (λ x. Gives (rule (Binary level)) tokens.now (good (value_of x.0) (seen x.1.now)))
-        (FailsAt (rule (Binary level)) tokens.now) }
+    ensures read { MatchResult result (λ x. Gives sums (rule (Binary level)) tokens.now (good (value_of x.0) (seen x.1.now)))
+        (FailsAt sums (rule (Binary level)) tokens.now) }
     ensures shorter { IfOk result (λ x. length x.1.now < length tokens.now) }
 {
     let (mut left, mut rest) = tighter_at(alloc, level, tokens)?;
@@ -251,14 +252,14 @@ fn binary_at(
 }
 
 #[cycle(parser)]
-#[tactic(auto, using(pr_forms::proofs::Ways::ways))]
+#[tactic(auto, using(pr_forms::proofs::Ways::ways, pr_forms::proofs::Carrying::carrying))]
 fn tighter_at(
     alloc: Global,
     level: Level,
     tokens: &[Token],
 ) -> Result<(Part, &[Token]), Fault<'_, Token>>
-    ensures read { MatchResult result (λ x. Gives (rule (tighter level)) tokens.now (good (value_of x.0) (seen x.1.now)))
-        (FailsAt (rule (tighter level)) tokens.now) }
+    ensures read { MatchResult result (λ x. Gives sums (rule (tighter level)) tokens.now (good (value_of x.0) (seen x.1.now)))
+        (FailsAt sums (rule (tighter level)) tokens.now) }
     ensures shorter { IfOk result (λ x. length x.1.now < length tokens.now) }
 {
     match level {
@@ -268,9 +269,9 @@ fn tighter_at(
 }
 
 #[cycle(parser)]
-#[tactic(auto, using(pr_forms::proofs::Ways::ways))]
+#[tactic(auto, using(pr_forms::proofs::Ways::ways, pr_forms::proofs::Carrying::carrying))]
 fn unary_at(alloc: Global, tokens: &[Token]) -> Result<(Part, &[Token]), Fault<'_, Token>>
-    ensures read { MatchResult result (λ x. Gives (rule Unary) tokens.now (good (value_of x.0) (seen x.1.now))) (FailsAt (rule Unary) tokens.now) }
+    ensures read { MatchResult result (λ x. Gives sums (rule Unary) tokens.now (good (value_of x.0) (seen x.1.now))) (FailsAt sums (rule Unary) tokens.now) }
     ensures shorter { IfOk result (λ x. length x.1.now < length tokens.now) }
 {
     match after(Sign::Minus, tokens) {
@@ -283,9 +284,9 @@ fn unary_at(alloc: Global, tokens: &[Token]) -> Result<(Part, &[Token]), Fault<'
 }
 
 #[cycle(parser)]
-#[tactic(auto, using(pr_forms::proofs::Ways::ways))]
+#[tactic(auto, using(pr_forms::proofs::Ways::ways, pr_forms::proofs::Carrying::carrying))]
 fn primary_at(alloc: Global, tokens: &[Token]) -> Result<(Part, &[Token]), Fault<'_, Token>>
-    ensures read { MatchResult result (λ x. Gives (rule Primary) tokens.now (good (value_of x.0) (seen x.1.now))) (FailsAt (rule Primary) tokens.now) }
+    ensures read { MatchResult result (λ x. Gives sums (rule Primary) tokens.now (good (value_of x.0) (seen x.1.now))) (FailsAt sums (rule Primary) tokens.now) }
     ensures shorter { IfOk result (λ x. length x.1.now < length tokens.now) }
 {
     if let Some((opening, following)) = after(Sign::Open, tokens) {
@@ -303,14 +304,14 @@ fn primary_at(alloc: Global, tokens: &[Token]) -> Result<(Part, &[Token]), Fault
 
 /// What stands in parentheses, after the first of them.
 #[cycle(parser)]
-#[tactic(auto, using(pr_forms::proofs::Ways::ways))]
+#[tactic(auto, using(pr_forms::proofs::Ways::ways, pr_forms::proofs::Carrying::carrying))]
 fn group_at(
     alloc: Global,
     opening: Place,
     tokens: &[Token],
 ) -> Result<(Part, &[Token]), Fault<'_, Token>>
-    ensures read { MatchResult result (λ x. (v : Value) × Gives group tokens.now (good v (seen x.1.now)) × (value_of x.0 ≡ opened_by (at opening) v))
-        (FailsAt group tokens.now) }
+    ensures read { MatchResult result (λ x. (v : Value) × Gives sums group tokens.now (good v (seen x.1.now)) × (value_of x.0 ≡ opened_by (at opening) v))
+        (FailsAt sums group tokens.now) }
     ensures shorter { IfOk result (λ x. length x.1.now < length tokens.now) }
 {
     let (inner, following) = binary_at(alloc, Level::Sum, tokens)?;
@@ -331,15 +332,15 @@ fn group_at(
 
 /// What a name is, by what follows it.
 #[cycle(parser)]
-#[tactic(auto, using(pr_forms::proofs::Ways::ways))]
+#[tactic(auto, using(pr_forms::proofs::Ways::ways, pr_forms::proofs::Carrying::carrying))]
 fn name_at<'a>(
     alloc: Global,
     place: Place,
     text: &str,
     tokens: &'a [Token],
 ) -> Result<(Part, &'a [Token]), Fault<'a, Token>>
-    ensures read { MatchResult result (λ x. (v : Value) × Gives (rule Tail) tokens.now (good v (seen x.1.now)) × (value_of x.0 ≡ called (word place text.now) v))
-        (FailsAt (rule Tail) tokens.now) }
+    ensures read { MatchResult result (λ x. (v : Value) × Gives sums (rule Tail) tokens.now (good v (seen x.1.now)) × (value_of x.0 ≡ called (word place text.now) v))
+        (FailsAt sums (rule Tail) tokens.now) }
     ensures shorter { IfOk result (λ x. length x.1.now ≤ length tokens.now) }
 {
     let Some((_opening, following)) = after(Sign::Open, tokens) else {
@@ -353,10 +354,10 @@ fn name_at<'a>(
 }
 
 #[cycle(parser)]
-#[tactic(auto, using(pr_forms::proofs::Ways::ways))]
+#[tactic(auto, using(pr_forms::proofs::Ways::ways, pr_forms::proofs::Carrying::carrying))]
 fn arguments_at(alloc: Global, tokens: &[Token]) -> Result<(Vec<Expr>, &[Token]), Fault<'_, Token>>
-    ensures read { MatchResult result (λ x. Gives (rule Arguments) tokens.now (good (arguments (trees_of x.0.items)) (seen x.1.now)))
-        (FailsAt (rule Arguments) tokens.now) }
+    ensures read { MatchResult result (λ x. Gives sums (rule Arguments) tokens.now (good (arguments (trees_of x.0.items)) (seen x.1.now)))
+        (FailsAt sums (rule Arguments) tokens.now) }
     ensures shorter { IfOk result (λ x. length x.1.now ≤ length tokens.now) }
 {
     let mut list = Vec::new(alloc);
