@@ -115,5 +115,10 @@ module _ {A T N V X : Type 0} (seen : List A → List T) (G : N → Form T N V) 
       step (Bad rest) j = c.fails _ j
       step Memory j = tt
 
+-- an exit by `?` with a fault of which anything is known
+pub exit_with : {A Y : Type 0} (P : Y → Type 0) (Q : Fault A → Type 0) (r : Result Y (Fault A)) (e : Fault A) → IsErrAnd r (λ y. y ≡ e) → Q e → MatchResult r P Q
+exit_with P Q (Ok x) e h k = absurd h
+exit_with P Q (Err y) e h k = subst Q (sym h) k
+
 -- What closes goals by these, for `using(..)`.
 pub ruleset carrying = (carry_start, carry_on, carry_rule, carry_second, carry_left, carry_right, carry_base, carry_turn, carry_side, carry_other, turns_go_on, turn_fails, turns_end, turn_taken, tokens_over)

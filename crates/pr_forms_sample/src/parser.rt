@@ -1,5 +1,5 @@
 //! The parser.
-ghost use Rattle.std.specs.Prelude.{◌≡◌, ◌<◌, ◌≤◌, length, IfOk, IfSome, MatchOption, MatchResult, [], List, option_map};
+ghost use Rattle.std.specs.Prelude.{◌≡◌, ◌<◌, ◌≤◌, length, IfOk, IfSome, MatchOption, MatchResult, IfErr, None, [], List, option_map};
 ghost use Rattle.pr_forms.specs.Form.{rule, Reads};
 ghost use Rattle.pr_forms.specs.Run.{good};
 ghost use Rattle.pr_forms_sample.specs.declared.tree.Sign.TheVariants.{Minus, Open, Close, Comma};
@@ -36,12 +36,12 @@ ghost use Rattle.pr_forms_sample.specs.Grammar.{
   Derives,
   HasTree,
   IsBadPlace,
-  Refuses,
-  Misses,
 };
+ghost use Rattle.pr_forms_sample.specs.Depth.{limit, first_too_deep, IsReading, Refuses, Misses};
 ghost use Rattle.pr_forms.specs.Language.{Gives, FailsAt, Takes, Lacks};
 ghost use Rattle.pr_forms_sample.specs.Reader.{sums, value_of, group, argument_starts};
 
+use crate::depth::first_too_deep;
 use crate::tree::{Expr, ExprKind, Operator, Place, Sign, Token, TokenKind};
 use pr_forms::{Fault, place_of, take};
 use std::alloc::{AllocError, Global};
@@ -65,6 +65,8 @@ pub enum ParseError {
     /// The tokens before this index begin some text, and with the one there they begin none. The number of tokens, where
     /// they end too early.
     Bad { index: usize },
+    /// The tokens before this index can go on with the one there, but it is an operator or an opening parenthesis too many.
+    TooDeep { index: usize },
     Memory,
 }
 
@@ -374,28 +376,73 @@ fn arguments_at(alloc: Global, tokens: &[Token]) -> Result<(Vec<Expr>, &[Token])
     Ok((list, rest))
 }
 
-/// The tree of the tokens, or the first bad place.
-pub fn parse(alloc: Global, tokens: &[Token]) -> Result<Expr, ParseError>
-    // A tree that is answered is derived.
-    ensures tree { IfOk result (λ e. Derives (seen tokens.now) (tree_of e)) }
-    // Where one is derived, it is answered, unless memory runs out.
-    ensures only { (v : Value) → Reads production (rule (Binary Sum)) (seen tokens.now) v [] → MatchResult result (λ e. HasTree v (tree_of e)) Misses }
-    // Else the fault says which token is the first bad one.
-    ensures place { MatchResult result (λ _. IsBadPlace (seen tokens.now) (length tokens.now)) (Refuses (seen tokens.now)) }
+/// What the reading of tokens comes to: the tree of all of them, or the first bad place of them.
+#[derive(Drop, Debug)]
+enum Reading {
+    Whole { tree: Expr },
+    Bad { place: usize },
+    Memory,
+}
+
+/// The tree of tokens that have no sign too many.
+fn read(alloc: Global, tokens: &[Token]) -> Reading
+    ensures { IsReading tokens.now result }
 {
     match binary_at(alloc, Level::Sum, tokens) {
         Ok((whole, left)) => {
             if left.is_empty() {
-                Ok(whole.expr)
+                Reading::Whole { tree: whole.expr }
             } else {
-                Err(ParseError::Bad {
-                    index: place_of(tokens, left),
-                })
+                Reading::Bad {
+                    place: place_of(tokens, left),
+                }
             }
         }
-        Err(Fault::Bad(rest)) => Err(ParseError::Bad {
-            index: place_of(tokens, rest),
-        }),
-        Err(Fault::Memory) => Err(ParseError::Memory),
+        Err(Fault::Bad(rest)) => Reading::Bad {
+            place: place_of(tokens, rest),
+        },
+        Err(Fault::Memory) => Reading::Memory,
+    }
+}
+
+/// The first bad place of tokens that have one sign too many at most, unless memory runs out.
+fn bad_place_of(alloc: Global, tokens: &[Token]) -> Option<usize>
+    ensures { IfSome result (IsBadPlace (seen tokens.now)) }
+{
+    let reading = read(alloc, tokens);
+    match &reading {
+        Reading::Whole { .. } => Some(tokens.len()),
+        Reading::Bad { place } => Some(*place),
+        Reading::Memory => None,
+    }
+}
+
+/// The tree of the tokens, or the first bad place. A text with more signs than `LIMIT` is read up to the first one too
+/// many.
+pub fn parse(alloc: Global, tokens: &[Token]) -> Result<Expr, ParseError>
+    // A tree that is answered is derived, and has no sign too many.
+    ensures tree { IfOk result (λ e. Derives (seen tokens.now) (tree_of e)) }
+    ensures shallow { IfOk result (λ e. first_too_deep limit (seen tokens.now) ≡ None) }
+    // Where one is derived, it is answered, unless there is a sign too many or memory runs out.
+    ensures only { (v : Value) → Reads production (rule (Binary Sum)) (seen tokens.now) v [] → MatchResult result (λ e. HasTree v (tree_of e)) (Misses (seen tokens.now)) }
+    // Else the fault says which token is the first bad one, or one too many.
+    ensures fault { IfErr result (Refuses (seen tokens.now)) }
+{
+    let Some(index) = first_too_deep(tokens) else {
+        return match read(alloc, tokens) {
+            Reading::Whole { tree } => Ok(tree),
+            Reading::Bad { place } => Err(ParseError::Bad { index: place }),
+            Reading::Memory => Err(ParseError::Memory),
+        };
+    };
+    match bad_place_of(alloc, &tokens[..=index]) {
+        Some(place) => {
+            if place <= index {
+                Err(ParseError::Bad { index: place })
+            } else {
+                Err(ParseError::TooDeep { index })
+            }
+        }
+        None => Err(ParseError::Memory),
     }
 }

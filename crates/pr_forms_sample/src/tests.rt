@@ -118,3 +118,38 @@ fn finds_bad_places(rt: HostRuntime) -> Result<(), Fail> {
     }
     Ok(())
 }
+
+#[test]
+fn refuses_a_text_that_is_too_deep(rt: HostRuntime) -> Result<(), Fail> {
+    let alloc = rt.alloc();
+    for sign in [Sign::Minus, Sign::Open] {
+        let mut tokens = Vec::new(alloc);
+        for start in 0..20_000_usize {
+            let end = start.saturating_add(1);
+            tokens.push(Token {
+                place: Place { start, end },
+                kind: TokenKind::Sign { sign },
+            })?;
+        }
+        match parse(alloc, &tokens) {
+            Ok(_) => assert_eq!(rt; 0, 1, "a tree"),
+            Err(error) => assert_eq!(rt; error, ParseError::TooDeep { index: LIMIT }, "{sign:?}"),
+        }
+    }
+    Ok(())
+}
+
+#[test]
+fn tells_what_is_wrong(rt: HostRuntime) -> Result<(), Fail> {
+    let alloc = rt.alloc();
+    for (text, place, want) in [
+        ("1+", 2, FaultKind::End),
+        ("1+)", 2, FaultKind::NoOperand),
+        ("1x", 1, FaultKind::NoOperator),
+        ("(1)2", 3, FaultKind::NoOperator),
+    ] {
+        let tokens = tokens_of(alloc, text)?;
+        assert_eq!(rt; kind_at(&tokens, place), want, "{text}");
+    }
+    Ok(())
+}
