@@ -1,12 +1,12 @@
 -- What a front of the tokens says of all of them.
-use Rattle.std.proofs.Common.{◌≡◌, ℕ, zero, suc, ◌+◌, ◌-◌, ◌<◌, ◌≤◌, List, [], ◌∷◌, length, map, take, drop, Some, refl, ap, sym, ◌∙◌, subst, arith}
+use Rattle.std.proofs.Common.{◌≡◌, ℕ, zero, suc, ◌-◌, ◌<◌, ◌≤◌, List, [], ◌∷◌, length, take, drop, refl, ap, sym, subst, arith}
 use Rattle.std.proofs.lemmas.List.{length-map}
 use Rattle.pr_forms.specs.Form.{rule, Reads, Begins, at_whole}
 use Rattle.pr_forms.proofs.Parts.{part_place, part_begins}
 use Rattle.pr_forms.proofs.Suffixes.{reads_suffix, suffix_drop}
 use Rattle.pr_forms_sample.specs.declared.tree.Token.{Token}
 use Rattle.pr_forms_sample.specs.declared.parser.Level.TheVariants.{Sum}
-use Rattle.pr_forms_sample.specs.Tree.{Seen, seen, seen_token}
+use Rattle.pr_forms_sample.specs.Tree.{seen, seen_token}
 use Rattle.pr_forms_sample.specs.Grammar.{production, Value, Binary, IsBadPlace}
 
 take_seen : (m : ℕ) (ts : List Token) → seen (take m ts) ≡ take m (seen ts)

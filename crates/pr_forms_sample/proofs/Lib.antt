@@ -3,3 +3,4 @@ pub mod Ways
 pub mod Depths
 pub mod WordsTable
 pub mod TextWays
+pub mod WordsWritten

@@ -1,8 +1,8 @@
 -- The ways of the functions that read strings and words.
-use Rattle.std.proofs.Common.{◌≡◌, ℕ, List, [], ◌∷◌, ◌++◌, Option, Some, None, true, false, refl, ap, sym, subst, arith, map}
+use Rattle.std.proofs.Common.{◌≡◌, ℕ, List, [], ◌∷◌, ◌++◌, Option, Some, None, true, false, refl, ap, sym, subst, arith}
 use Rattle.std.specs.Borrow.{Bor}
 use Rattle.std.specs.Prelude.{MatchOption}
-use Rattle.pr_forms.specs.Form.{token, pair, turns, chosen, nothing, rule}
+use Rattle.pr_forms.specs.Form.{token, pair, turns, rule}
 use Rattle.pr_forms.specs.Run.{good, bad, run_rule, run_pair, run_first, run_right, run_nothing, run_in_turn}
 use Rattle.pr_forms.specs.Language.{seen, Gives, Takes, Lacks, Chooses, ChoosesNone, Leads, FailsAt}
 use Rattle.pr_forms.specs.declared.reader.Fault.{Fault}
@@ -14,7 +14,7 @@ use Rattle.pr_forms.proofs.Choosing.{carry_chosen, chosen_next, none_next}
 use Rattle.pr_forms.proofs.Within.{gives_good, gives_bad}
 use Rattle.pr_forms_sample.specs.Quoted as quoted
 use Rattle.pr_forms_sample.specs.Quoted.{strings, content, byte_value, quote_at, backslash_at, plain_at, any_at, joined, piece}
-use Rattle.pr_forms_sample.specs.Words.{production, table, lists, Rule, Words, Word, Letters, Rest, InQuotes, Value, word, in_quotes, mark, letter_at, letters_with, is_letter_glyph, unquoted}
+use Rattle.pr_forms_sample.specs.Words.{table, lists, Word, Rest, Value, word, letter_at, letters_with, is_letter_glyph}
 use Rattle.pr_forms_sample.specs.TextReader.{HasPiece, BreaksOff, bytes_of}
 use Rattle.pr_forms_sample.specs.declared.words.Word.{Word as WordOf}
 use Rattle.pr_forms_sample.proofs.WordsTable.{strings_within}

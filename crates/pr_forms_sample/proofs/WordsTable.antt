@@ -1,5 +1,5 @@
 -- One byte ahead decides the grammars of strings and of words, and each rule of theirs comes to a byte.
-use Rattle.std.proofs.Common.{◌≡◌, ℕ, suc, nat_le, List, [], ◌∷◌, ◌++◌, Option, Some, None, Bool, true, false, refl, ap, ◌∙◌, subst}
+use Rattle.std.proofs.Common.{◌≡◌, ℕ, suc, nat_le, List, [], ◌∷◌, ◌++◌, Some, Bool, true, false, refl, ap, ◌∙◌, subst}
 use Prim.Native.Char.{code}
 use Rattle.std.specs.Prelude.{◌==◌, if◌then◌else◌}
 use Rattle.pr_forms.specs.Table.{empty_of, starts_of, more_of, parts_at, is_solid, Binds, Decides, IsDecided}
@@ -10,10 +10,10 @@ use Rattle.pr_forms.proofs.Within.{empty_within, starts_within, more_within, dec
 use Rattle.pr_forms_sample.specs.declared.glyph.Kind.TheVariants.{Comma, Letter, Text}
 use Rattle.pr_forms_sample.specs.declared.glyph.Sort.{Sort}
 use Rattle.pr_forms_sample.specs.declared.glyph.Sort.TheVariants.{Quote, Backslash, Plain}
-use Rattle.pr_forms_sample.specs.Glyphs.{Part, part, Glyph, glyph, glyph_of, part_of, part_in, sort_in, sort_of, kind_by, is_letter}
+use Rattle.pr_forms_sample.specs.Glyphs.{Part, part, Glyph, glyph, part_in, sort_in, sort_of, kind_by, is_letter}
 use Rattle.pr_forms_sample.specs.Quoted as quoted
 use Rattle.pr_forms_sample.specs.Quoted.{strings}
-use Rattle.pr_forms_sample.specs.Words.{production, table, rank, steps, embedding, lists, Rule, Words, Word, Letters, Rest, InQuotes, Value, letter_at, is_letter_glyph}
+use Rattle.pr_forms_sample.specs.Words.{production, table, rank, steps, embedding, lists, Rule, Words, Word, Letters, Rest, InQuotes, letter_at, is_letter_glyph}
 
 starts_strings : (n : quoted.Rule) (t : Part) → starts_of quoted.table (quoted.production n) t ≡ quoted.table.starts n t
 starts_strings quoted.Text (part Quote b) = refl

@@ -1,6 +1,6 @@
 -- A text in quotes: the language of strings that stands within the language of words.
-use Rattle.std.specs.Prelude.{◌≡◌, ℕ, Option, Some, None, List, [], ◌∷◌, ◌++◌, Bool, true, false}
-use Rattle.pr_forms.specs.Form.{Form, token, turns, nothing, pair, either, rule}
+use Rattle.std.specs.Prelude.{ℕ, Option, Some, None, List, [], ◌∷◌, ◌++◌, Bool, true, false}
+use Rattle.pr_forms.specs.Form.{Form, token, turns, pair, either, rule}
 use Rattle.pr_forms.specs.Table.{Table}
 use Rattle.pr_forms.specs.Language.{Language}
 use Rattle.pr_forms_sample.specs.declared.glyph.Sort.TheVariants.{Quote, Backslash, Plain}

@@ -1,5 +1,5 @@
 -- What the functions that read strings and words say of themselves.
-use Rattle.std.specs.Prelude.{◌≡◌, ℕ, List, [], ◌∷◌, ◌++◌, map, Option, Some, None, true}
+use Rattle.std.specs.Prelude.{◌≡◌, ℕ, List, map, Option, Some, None, true}
 use Rattle.std.specs.Borrow.{Bor}
 use Rattle.pr_forms.specs.Run.{bad}
 use Rattle.pr_forms.specs.Language.{seen, Gives, Takes, Lacks, is_started, IsFirstBad}

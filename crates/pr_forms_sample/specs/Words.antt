@@ -1,11 +1,10 @@
 -- Lists of words with commas between them. A word is letters, or a string, whose language stands within this one.
 use Prim.Native.Char.{code}
-use Rattle.std.specs.Prelude.{◌≡◌, ℕ, Option, Some, None, option_map, List, [], ◌∷◌, ◌++◌, Bool, true, false}
+use Rattle.std.specs.Prelude.{ℕ, Option, Some, None, option_map, List, [], ◌∷◌, ◌++◌, Bool, true, false}
 use Rattle.pr_forms.specs.Form.{Form, token, nothing, pair, either, fold, chosen, rule}
 use Rattle.pr_forms.specs.Table.{Table}
 use Rattle.pr_forms.specs.Language.{Language, ReadsWhole, value_in, first_bad_in}
 use Rattle.pr_forms.specs.Within.{Embedding, within}
-use Rattle.pr_forms_sample.specs.declared.glyph.Kind.{Kind}
 use Rattle.pr_forms_sample.specs.declared.glyph.Kind.TheVariants.{Comma, Letter, Text}
 use Rattle.pr_forms_sample.specs.declared.glyph.Sort.{Sort}
 use Rattle.pr_forms_sample.specs.declared.glyph.Sort.TheVariants.{Quote, Plain}
@@ -159,5 +158,6 @@ abbrev pub written_after : List (List ℕ) → List ℕ
 written_after [] = []
 written_after (w ∷ ws) = code "," ∷ (written_word w ++ written_after ws)
 
-abbrev pub written : List ℕ → List (List ℕ) → List ℕ
-written w ws = written_word w ++ written_after ws
+abbrev pub written : List (List ℕ) → List ℕ
+written [] = []
+written (w ∷ ws) = written_word w ++ written_after ws

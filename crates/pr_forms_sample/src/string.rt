@@ -74,9 +74,7 @@ fn any_in(text: &[u8]) -> Option<(u8, &[u8])>
         text,
         |byte: &u8| -> Option<u8>
             ensures { option_map byte_value result ≡ any_at (part_of byte.now) }
-        {
-            Some(*byte)
-        },
+        { Some(*byte) },
     )
 }
 

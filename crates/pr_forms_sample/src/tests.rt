@@ -153,3 +153,35 @@ fn tells_what_is_wrong(rt: HostRuntime) -> Result<(), Fail> {
     }
     Ok(())
 }
+
+#[test]
+fn reads_words_and_writes_them(rt: HostRuntime) -> Result<(), Fail> {
+    let alloc = rt.alloc();
+    for (text, written) in [
+        ("ab,c", "\"ab\",\"c\""),
+        ("\"a b\",c", "\"a b\",\"c\""),
+        ("\"\\\"\",\"\"", "\"\\\"\",\"\""),
+    ] {
+        match read_words(alloc, text.as_bytes()) {
+            Ok(list) => {
+                let again = write_words(alloc, &list)?;
+                assert_eq!(rt; again.as_slice(), written.as_bytes(), "{text}");
+            }
+            Err(error) => assert_eq!(rt; error, WordsError::Memory, "{text}"),
+        }
+    }
+    for (text, place) in [
+        ("", 0),
+        ("a,", 2),
+        ("A", 0),
+        ("\"a", 2),
+        ("a\"b\"", 1),
+        ("\"\\", 2),
+    ] {
+        match read_words(alloc, text.as_bytes()) {
+            Ok(_) => assert_eq!(rt; text, "", "words"),
+            Err(error) => assert_eq!(rt; error, WordsError::Bad { place }, "{text}"),
+        }
+    }
+    Ok(())
+}

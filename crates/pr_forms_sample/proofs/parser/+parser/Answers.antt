@@ -1,7 +1,7 @@
 use Rattle.std.proofs.Common.{◌≡◌, sym, ◌∙◌, ap, arith, [], ◌∷◌, ◌++◌}
 use Rattle.std.proofs.lemmas.Result.{MatchResult-weaker}
 use Rattle.pr_forms.specs.Form.{rule}
-use Rattle.pr_forms.specs.Run.{run_rule, run_fold, run_base, run_pair, run_first, run_second, run_right, run_left, run_nothing}
+use Rattle.pr_forms.specs.Run.{run_rule, run_base, run_pair, run_first, run_second, run_right, run_left, run_nothing}
 use Rattle.pr_forms.proofs.Ways.{exit, fails, value_is, take_side, take_side_bad, other_side}
 use Rattle.pr_forms.proofs.Carrying.{carry_on, carry_rule, carry_left, carry_base, turns_value, turns_go_on, turn_fails}
 use Rattle.pr_forms_sample.specs.Tree.{seen, tree_of, trees_of, more, none, number}

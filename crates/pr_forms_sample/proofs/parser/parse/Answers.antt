@@ -1,4 +1,4 @@
-use Rattle.std.proofs.Common.{◌≡◌, ◌<◌, ◌≤◌, ◌+◌, length, suc, drop, sym, subst, arith}
+use Rattle.std.proofs.Common.{◌≡◌, ◌+◌, suc, drop, sym, subst, arith}
 use Rattle.pr_forms.specs.Form.{rule, Begins}
 use Rattle.pr_forms_sample.specs.declared.parser.Level.TheVariants.{Sum}
 use Rattle.pr_forms_sample.specs.Tree.{seen}
@@ -15,6 +15,8 @@ returns-then-place-index-clause-only c = λ v d. no_tree c.args.tokens.now c.in-
 
 pub returns-else-place-index-clause-fault : goal.returns-else-place-index-clause-fault
 returns-else-place-index-clause-fault c =
-    let one : c.in-Some.index + 1 ≡ suc c.in-Some.index = omega arith in
-    (sym c.in-Some.ensures.is, subst (λ k. Begins production (rule (Binary Sum)) (seen c.args.tokens.now) (drop k (seen c.args.tokens.now))) one
-    (front_goes_on c.args.tokens.now (c.in-Some.index + 1) c.in-Some-bad_place_of.place (omega (arith, c.in-Some.ensures.within)) c.in-Some-bad_place_of.ensures (omega arith)))
+    let one : c.in-Some.index + 1 ≡ suc c.in-Some.index = omega arith in (
+      sym c.in-Some.ensures.is,
+      subst (λ k. Begins production (rule (Binary Sum)) (seen c.args.tokens.now) (drop k (seen c.args.tokens.now))) one
+          (front_goes_on c.args.tokens.now (c.in-Some.index + 1) c.in-Some-bad_place_of.place (omega (arith, c.in-Some.ensures.within)) c.in-Some-bad_place_of.ensures (omega arith)),
+    )

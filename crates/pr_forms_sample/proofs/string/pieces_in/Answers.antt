@@ -1,8 +1,4 @@
-use Rattle.std.proofs.Common.{sym, subst, []}
-use Rattle.pr_forms.specs.Form.{turns}
-use Rattle.pr_forms.specs.Language.{Leads}
-use Rattle.pr_forms.proofs.Carrying.{carry_start, turns_over}
-use Rattle.pr_forms_sample.specs.Quoted.{strings, content, joined, piece}
+use Rattle.pr_forms.proofs.Carrying.{turns_over}
 use Rattle.pr_forms_sample.proofs.TextWays.{pieces_more, pieces_broken}
 use Rattle.pr_forms_sample.proofs.string.pieces_in.Goals as goal
 

@@ -1,4 +1,4 @@
-use Rattle.std.proofs.Common.{◌≡◌, refl, [], ap, ◌∙◌, ◌∷◌, ◌++◌, arith}
+use Rattle.std.proofs.Common.{refl, [], ap, ◌∙◌, ◌∷◌, ◌++◌, arith}
 use Rattle.pr_forms.specs.Form.{rule}
 use Rattle.pr_forms.specs.Run.{run_rule, run_base, run_pair, run_second, run_nothing}
 use Rattle.pr_forms.specs.Language.{seen}
