@@ -13,9 +13,11 @@ use Rattle.pr_lex.specs.declared.fault.LexKind.TheVariants.{BadChar, OpenText, B
 use Rattle.pr_lex.specs.declared.part.Lexeme.{Lexeme}
 use Rattle.pr_lex.specs.declared.part.Lexeme.TheVariants.{Name, Number, Duration, Text, Sign}
 use Rattle.pr_lex.specs.Number as numbers
-use Rattle.pr_lex.specs.Tokens.{NumberFault, DurationFault, TextFault, IsFaultOf, IsFirstFault, fault_here, fault_past_gap, fault_past_token, sign_at, longest_sign, longer_sign, shorter_sign, one_byte_sign}
+use Rattle.pr_lex.specs.Tokens.{NumberFault, DurationFault, TextFault, IsFaultOf, IsFirstFault, fault_here, fault_past_gap, fault_past_token}
+use Rattle.pr_lex.specs.SignAt.{sign_at, longest_sign, longer_sign, shorter_sign, one_byte_sign}
 use Rattle.pr_lex.proofs.Firsts.{gap_within}
 use Rattle.pr_lex.proofs.Ordered.{token_part}
+use Rattle.pr_lex.proofs.TakenSigns.{fault_known}
 
 number_in : (r : Result Num NumFault) (end size place : ℕ) (kind : LexKind) → end ≤ size → NumberFault r end place kind → place ≤ size
 number_in (Ok v) end size place kind h f = absurd f
@@ -62,7 +64,7 @@ fault_in Name text place kind x = absurd x
 fault_in Number text place kind x = let w = x.longest.within in number_in _ x.end (length text) place kind (omega (arith, w, length-map text numbers.letter_of)) x.fault
 fault_in Duration text place kind x = let w = x.longest.within in duration_in kind text x.end place (omega (arith, w, length-map text spans.letter_of)) x.fault
 fault_in Text text place kind x = let w = x.longest.within in string_in kind text x.end place (omega (arith, w, length-map text letter_of)) x.fault
-fault_in Sign text place kind x = sign_in text place x.0
+fault_in Sign text place kind x = sign_in text place (fault_known text place kind x)
 
 pub fault_lies_in : {inside : Bool} {at place : ℕ} {text : List ℕ} {kind : LexKind} → IsFirstFault inside at text place kind → place ≤ at + length text
 fault_lies_in {text = text} {kind = kind} (fault_here place lexeme e x) = let h = fault_in lexeme text place kind x in omega (arith, h)

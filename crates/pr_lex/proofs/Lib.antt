@@ -18,3 +18,8 @@ pub mod SpacedTokens
 pub mod NumberForms
 pub mod NumberKnown
 pub mod UnitLetters
+pub mod Spelling
+pub mod SpelledTexts
+pub mod SpelledNumbers
+pub mod SpelledSpans
+pub mod TakenSigns

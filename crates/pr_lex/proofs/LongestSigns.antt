@@ -4,7 +4,7 @@ use Rattle.std.specs.Prelude.{◌⊎◌, ◌==◌, if◌then◌else◌}
 use Rattle.std.proofs.lemmas.Bool.Decides.{nat_tests}
 use Rattle.pr_lex.specs.declared.token.Sign.{Sign}
 use Rattle.pr_lex.specs.declared.token.Sign.TheVariants.{LeftBrace, RightBrace, LeftParen, RightParen, LeftBracket, RightBracket, Comma, Colon, Assign, NotEqual, Like, NotLike, Equal, Less, LessEqual, Greater, GreaterEqual, Plus, Minus, Star, Slash, Percent}
-use Rattle.pr_lex.specs.Tokens.{two_byte_sign, one_byte_sign, mark_sign, bracket_sign, arithmetic_sign, or_else, longer_sign, shorter_sign, longest_sign, sign_at}
+use Rattle.pr_lex.specs.SignAt.{two_byte_sign, one_byte_sign, mark_sign, bracket_sign, arithmetic_sign, or_else, longer_sign, shorter_sign, longest_sign, sign_at}
 use Rattle.pr_lex.specs.Signs.{sign_text, BeginsWith, IsLongestSign}
 
 pub is_byte : (a k : ℕ) → (a == k) ≡ true → a ≡ k

@@ -18,9 +18,11 @@ use Rattle.pr_lex.specs.declared.part.Lexeme.{Lexeme}
 use Rattle.pr_lex.specs.declared.part.Lexeme.TheVariants.{Name, Number, Duration, Text, Sign}
 use Rattle.pr_lex.specs.declared.part.Part.TheVariants.{End, Gap, Token as TokenPart}
 use Rattle.pr_lex.specs.Bytes.{part_at, is_of, is_blank, front_len, name_class}
-use Rattle.pr_lex.specs.Tokens.{IsTokenOf, AreTokens, no_more, past_gap, one_more, sign_at, longer_sign, longest_sign, shorter_sign, one_byte_sign}
+use Rattle.pr_lex.specs.Tokens.{IsTokenOf, AreTokens, no_more, past_gap, one_more}
+use Rattle.pr_lex.specs.SignAt.{sign_at, longer_sign, longest_sign, shorter_sign, one_byte_sign}
 use Rattle.pr_lex.specs.Order.{AreBlanks, no_blank, a_blank, a_comment, AreInOrder, none_left, next_token}
 use Rattle.pr_lex.proofs.Firsts.{name_long, number_long, span_long, gap_is, gap_within}
+use Rattle.pr_lex.proofs.TakenSigns.{sign_known}
 
 no_empty_string : (ts rest : List Letter) (v : Value) → Reads production (rule StringText) ts v rest → length rest < length ts
 no_empty_string ts rest v (is_rule (is_left (is_pair (is_token e) d))) = let s = suffix_length (reads_suffix d) in omega arith
@@ -58,7 +60,7 @@ token_part Text inside text n token e x = record {
   long = let h = no_empty_string (seen text) (seen (drop n text)) _ x.whole in omega (arith, h, length-map text letter_of, length-map (drop n text) letter_of, length-drop n text);
   within = let w = x.longest.within in omega (arith, w, length-map text letter_of);
 }
-token_part Sign inside text n token e x = sign_part text x.sign n x.longest
+token_part Sign inside text n token e x = sign_part text x.sign n (sign_known text x.sign n x.longest x.whole)
 
 -- what is passed over between tokens
 blanks_trans : {a b c : List ℕ} → AreBlanks a b → AreBlanks b c → AreBlanks a c

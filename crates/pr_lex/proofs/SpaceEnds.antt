@@ -22,10 +22,13 @@ use Rattle.pr_lex.specs.declared.token.TokenKind.TheVariants.{Name as NameKind}
 use Rattle.pr_lex.specs.declared.token.Sign.{Sign as SignName}
 use Rattle.pr_lex.specs.Number as numbers
 use Rattle.pr_lex.specs.Bytes.{is_of, name_class}
-use Rattle.pr_lex.specs.Tokens.{two_byte_sign, longer_sign, longest_sign, sign_at, IsTokenOf}
+use Rattle.pr_lex.specs.Tokens.{IsTokenOf}
+use Rattle.pr_lex.specs.SignAt.{two_byte_sign, longer_sign, longest_sign, sign_at}
 use Rattle.pr_lex.proofs.Unique.{no_longer_string}
 use Rattle.pr_lex.proofs.Ordered.{same_length}
 use Rattle.pr_lex.proofs.Untaken.{Untaken, drop_front, bytes_end_before}
+use Rattle.pr_lex.proofs.LongestSigns.{taken}
+use Rattle.pr_lex.proofs.TakenSigns.{sign_known}
 
 -- no test of numbers and of durations takes a space
 number_tests : (n : numbers.Rule) → Untaken (numbers.letter_of 32) (numbers.production n)
@@ -130,4 +133,6 @@ module _ (inside : Bool) (front r more : List ℕ) (token : TokenKind) (pos : 0 
     whole = subst (λ t. strings.IsString (front ++ 32 ∷ more) x.content t) (sym (drop_front front (32 ∷ more))) (string_again x.content front r (32 ∷ more) x.whole);
     is = x.is;
   }
-  token_again Sign x = record { sign = x.sign; longest = same_sign front r more x.sign pos x.longest; is = x.is }
+  token_again Sign x =
+      let k = taken (front ++ 32 ∷ more) x.sign (length front) (same_sign front r more x.sign pos (sign_known (front ++ r) x.sign (length front) x.longest x.whole)) in
+      record { sign = x.sign; longest = k.1; whole = k.0; is = x.is }

@@ -35,12 +35,14 @@ use Rattle.pr_lex.specs.declared.part.Part.{Part}
 use Rattle.pr_lex.specs.declared.part.Part.TheVariants.{End, Gap, Token as TokenPart}
 use Rattle.pr_lex.specs.Bytes.{part_at, front_len, name_class}
 use Rattle.pr_lex.specs.Number as numbers
-use Rattle.pr_lex.specs.Tokens.{sign_at, IsTokenOf, IsFaultOf, AreTokens, no_more, past_gap, one_more, inside_after, IsFirstFault, fault_here, fault_past_gap, fault_past_token}
+use Rattle.pr_lex.specs.Tokens.{IsTokenOf, IsFaultOf, AreTokens, no_more, past_gap, one_more, inside_after, IsFirstFault, fault_here, fault_past_gap, fault_past_token}
+use Rattle.pr_lex.specs.SignAt.{sign_at}
 use Rattle.pr_lex.proofs.NumberTable.{known}
 use Rattle.pr_lex.proofs.NumberEnds as number_ends
 use Rattle.pr_lex.proofs.Firsts.{gap_long, gap_within}
 use Rattle.pr_lex.proofs.Ordered.{token_part}
 use Rattle.pr_lex.proofs.Unique.{no_longer_string}
+use Rattle.pr_lex.proofs.TakenSigns.{sign_is, fault_is}
 
 -- A token, or a fault.
 pub data IsReadable (l : Lexeme) (inside : Bool) (text : List ℕ) : Type 0 where
@@ -180,8 +182,8 @@ text_readable inside text = let a = rule_answered strings.production strings.tab
         })
 
 sign_readable : (inside : Bool) (text : List ℕ) (r : Result (SignName × ℕ) ℕ) → sign_at text ≡ r → IsReadable Sign inside text
-sign_readable inside text (Ok x) e = has_token x.1 (SignKind x.0) (record { sign = x.0; longest = e; is = refl })
-sign_readable inside text (Err place) e = has_fault place BadChar (e, refl)
+sign_readable inside text (Ok x) e = has_token x.1 (SignKind x.0) (sign_is text x.0 x.1 e)
+sign_readable inside text (Err place) e = has_fault place BadChar (fault_is text place e)
 
 readable : (l : Lexeme) (inside : Bool) (text : List ℕ) → IsReadable l inside text
 readable Name inside text = has_token (front_len (name_class inside) text) (NameKind (take (front_len (name_class inside) text) text)) (record { longest = refl; is = refl })

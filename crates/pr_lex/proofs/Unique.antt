@@ -24,7 +24,9 @@ use Rattle.pr_lex.specs.declared.part.Lexeme.TheVariants.{Name, Number, Duration
 use Rattle.pr_lex.specs.declared.part.Part.{Part}
 use Rattle.pr_lex.specs.declared.part.Part.TheVariants.{End, Gap, Token as TokenPart}
 use Rattle.pr_lex.specs.Number as numbers
-use Rattle.pr_lex.specs.Tokens.{sign_at, IsTokenOf, IsFaultOf, IsNumber, IsDuration, IsText, IsNumberFault, IsTextFault, NumberFault, DurationFault, TextFault, AreTokens, no_more, past_gap, one_more, inside_after, IsFirstFault, fault_here, fault_past_gap, fault_past_token}
+use Rattle.pr_lex.specs.Tokens.{IsTokenOf, IsFaultOf, IsNumber, IsDuration, IsText, IsNumberFault, IsTextFault, NumberFault, DurationFault, TextFault, AreTokens, no_more, past_gap, one_more, inside_after, IsFirstFault, fault_here, fault_past_gap, fault_past_token}
+use Rattle.pr_lex.specs.SignAt.{sign_at}
+use Rattle.pr_lex.proofs.TakenSigns.{sign_known}
 
 -- where each kind ends
 number_end : (text : List ℕ) (n m : ℕ) → numbers.IsNumberEnd text n → numbers.IsNumberEnd text m → n ≡ m
@@ -58,12 +60,6 @@ same_sign r s t n m e h =
     let p : ◌≡◌ {A = SignName × ℕ} (s, n) (t, m) = cc in
     (ap (λ x. x.0) p, ap (λ x. x.1) p)
 
-no_sign : (r : Result (SignName × ℕ) ℕ) (x : SignName × ℕ) (place : ℕ) → r ≡ Ok x → r ≡ Err place → ⊥
-no_sign r x place e h = cc
-
-same_bad : (r : Result (SignName × ℕ) ℕ) (p q : ℕ) → r ≡ Err p → r ≡ Err q → p ≡ q
-same_bad r p q e h = cc
-
 module _ (inside : Bool) (text : List ℕ) (n m : ℕ) (k j : TokenKind) where
   one_number : IsNumber text n k → IsNumber text m j → (n ≡ m) × (k ≡ j)
   one_number x y =
@@ -90,7 +86,7 @@ module _ (inside : Bool) (text : List ℕ) (n m : ℕ) (k j : TokenKind) where
   one_token Duration x y = one_duration x y
   one_token Text x y = one_text x y
   one_token Sign x y =
-      let s = same_sign (sign_at text) x.sign y.sign n m x.longest y.longest in
+      let s = same_sign (sign_at text) x.sign y.sign n m (sign_known text x.sign n x.longest x.whole) (sign_known text y.sign m y.longest y.whole) in
       (s.1, x.is ∙ (ap SignKind s.0 ∙ sym y.is))
 
 module _ (inside : Bool) (text : List ℕ) (n place : ℕ) (token : TokenKind) (kind : LexKind) where
@@ -119,7 +115,7 @@ module _ (inside : Bool) (text : List ℕ) (n place : ℕ) (token : TokenKind) (
   token_excludes_fault Number x y = number_excludes x y
   token_excludes_fault Duration x y = duration_excludes kind y.end x y.longest y.fault
   token_excludes_fault Text x y = text_excludes x y
-  token_excludes_fault Sign x y = no_sign (sign_at text) (x.sign, n) place x.longest y.0
+  token_excludes_fault Sign x y = let b = x.longest in y.none x.sign b.begins
 
 module _ (text : List ℕ) (p q : ℕ) where
   same_number_fault : (r : Result Num NumFault) (end : ℕ) (k j : LexKind) → NumberFault r end p k → NumberFault r end q j → (p ≡ q) × (k ≡ j)
@@ -150,7 +146,7 @@ module _ (text : List ℕ) (p q : ℕ) where
   one_fault_of Number k j x y = same_number_fault (reads (take y.end text)) y.end k j (subst (λ i. NumberFault (reads (take i text)) i p k) (number_end text x.end y.end x.longest y.longest) x.fault) y.fault
   one_fault_of Duration k j x y = same_duration_fault y.end k j (subst (λ i. DurationFault k text i p) (span_end text x.end y.end x.longest y.longest) x.fault) y.fault
   one_fault_of Text k j x y = same_text_fault y.end k j (subst (λ i. TextFault k text i p) (string_end text x.end y.end x.longest y.longest) x.fault) y.fault
-  one_fault_of Sign k j x y = (same_bad (sign_at text) p q x.0 y.0, x.1 ∙ sym y.1)
+  one_fault_of Sign k j x y = (x.after ∙ sym y.after, x.is ∙ sym y.is)
 
 same_gap : (a : Part) (n m : ℕ) → a ≡ Gap n → a ≡ Gap m → m ≡ n
 same_gap a n m e h = cc

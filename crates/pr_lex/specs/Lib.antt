@@ -6,3 +6,5 @@ pub mod Words
 pub mod Order
 pub mod Signs
 pub mod Spaced
+pub mod Spelled
+pub mod SignAt

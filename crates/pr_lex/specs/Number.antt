@@ -1,6 +1,7 @@
 -- The texts of numbers as far as they go on: digits with a point among them or before them, and an exponent. What a whole one
 -- is worth is a definition of pr_num.
 use Rattle.std.specs.Prelude.{ℕ, ◌==◌, nat_le, ◌&&◌, ◌||◌, Bool, true, false, Option, Some, None, List, map, if◌then◌else◌}
+use Prim.Native.Char.{code}
 use Rattle.pr_forms.specs.Form.{Form, token, nothing, pair, either, turns, rule, IsFirstBad}
 use Rattle.pr_forms.specs.Table.{Table}
 use Rattle.pr_lex.specs.declared.number.Letter.{Letter}
@@ -9,7 +10,7 @@ use Rattle.pr_lex.specs.declared.number.Letter.TheVariants.{Digit, Point, E, Plu
 -- what a byte is to a number
 abbrev pub letter_of : ℕ → Letter
 letter_of b =
-    if nat_le 48 b && nat_le b 57 then Digit else (if b == 46 then Point else (if b == 101 || b == 69 then E else (if b == 43 || b == 45 then PlusMinus else Other)))
+    if nat_le (code "0") b && nat_le b (code "9") then Digit else (if b == code "." then Point else (if b == code "e" || b == code "E" then E else (if b == code "+" || b == code "-" then PlusMinus else Other)))
 
 -- the bytes as the grammar sees them
 abbrev pub seen : List ℕ → List Letter

@@ -1,5 +1,6 @@
 -- How tokens lie in a text.
 use Rattle.std.specs.Prelude.{◌≡◌, ℕ, ◌<◌, ◌≤◌, true, List, [], ◌∷◌, length, drop}
+use Prim.Native.Char.{code}
 use Rattle.pr_lex.specs.declared.token.Token.{Token}
 use Rattle.pr_lex.specs.declared.part.Class.TheVariants.{Line}
 use Rattle.pr_lex.specs.Bytes.{is_blank, front_len}
@@ -8,7 +9,7 @@ use Rattle.pr_lex.specs.Bytes.{is_blank, front_len}
 pub data AreBlanks : List ℕ → List ℕ → Type 0 where
   no_blank : {rest : List ℕ} → AreBlanks rest rest
   a_blank : {b : ℕ} {text rest : List ℕ} → is_blank b ≡ true → AreBlanks text rest → AreBlanks (b ∷ text) rest
-  a_comment : {text rest : List ℕ} → AreBlanks (drop (front_len Line text) text) rest → AreBlanks (35 ∷ text) rest
+  a_comment : {text rest : List ℕ} → AreBlanks (drop (front_len Line text) text) rest → AreBlanks (code "#" ∷ text) rest
 
 -- From a place of the text up to its end lie these tokens, each with a byte at least, in their order, none over another, and with
 -- nothing but blanks and comments before, between and after them.

@@ -1,5 +1,6 @@
 -- How the signs are written, and the longest one that a text begins with.
-use Rattle.std.specs.Prelude.{◌≡◌, ℕ, ◌≤◌, List, length, take, codes}
+use Rattle.std.specs.Prelude.{◌≡◌, ℕ, ◌≤◌, ◌==◌, List, [], ◌∷◌, length, take, codes, if◌then◌else◌}
+use Prim.Native.Char.{code}
 use Rattle.pr_lex.specs.declared.token.Sign.{Sign}
 use Rattle.pr_lex.specs.declared.token.Sign.TheVariants.{LeftBrace, RightBrace, LeftParen, RightParen, LeftBracket, RightBracket, Comma, Colon, Assign, NotEqual, Like, NotLike, Equal, Less, LessEqual, Greater, GreaterEqual, Plus, Minus, Star, Slash, Percent}
 
@@ -26,6 +27,11 @@ sign_text Minus = codes "-"
 sign_text Star = codes "*"
 sign_text Slash = codes "/"
 sign_text Percent = codes "%"
+
+-- how many bytes of a text that begins with no sign begin one: the first, where it is `!`
+abbrev pub begun_sign : List ℕ → ℕ
+begun_sign [] = 0
+begun_sign (b ∷ rest) = if b == code "!" then 1 else 0
 
 -- The text begins with the sign.
 abbrev pub BeginsWith : List ℕ → Sign → Type 0

@@ -1,5 +1,5 @@
 -- The texts of tokens, each with a space after it, and what the tokens are without their places.
-use Rattle.std.specs.Prelude.{ℕ, ◌-◌, List, [], ◌∷◌, ◌++◌, take, drop, map, flat_map}
+use Rattle.std.specs.Prelude.{ℕ, ◌-◌, List, ◌++◌, take, drop, map, flat_map, codes}
 use Rattle.pr_lex.specs.declared.token.Token.{Token}
 use Rattle.pr_lex.specs.declared.token.TokenKind.{TokenKind}
 
@@ -9,7 +9,7 @@ slice text token = take (token.end - token.start) (drop token.start text)
 
 -- the bytes of all tokens, each with a space after them
 abbrev pub spaced : List ℕ → List Token → List ℕ
-spaced text tokens = flat_map (λ token. slice text token ++ 32 ∷ []) tokens
+spaced text tokens = flat_map (λ token. slice text token ++ codes " ") tokens
 
 abbrev pub kinds : List Token → List TokenKind
 kinds = map (λ (token : Token). token.kind)

@@ -1,5 +1,5 @@
 -- The tokens of a text of the query language, and its first fault.
-use Rattle.std.specs.Prelude.{◌≡◌, ℕ, ◌+◌, ◌<◌, ◌≤◌, ◌^◌, ◌==◌, Bool, true, false, Option, Some, None, List, [], ◌∷◌, length, take, drop, if◌then◌else◌, ◌⊎◌, Result, Ok, Err}
+use Rattle.std.specs.Prelude.{◌≡◌, ℕ, ◌+◌, ◌<◌, ◌≤◌, ◌^◌, Bool, true, false, List, [], ◌∷◌, length, take, drop, ◌⊎◌, Result, Ok, Err}
 use Rattle.pr_num.specs.declared.value.Num.{Num}
 use Rattle.pr_num.specs.declared.text.NumFault.{NumFault}
 use Rattle.pr_num.specs.declared.text.NumFault.TheVariants.{NotNumber, TooWide as WideNumber}
@@ -7,7 +7,7 @@ use Rattle.pr_num.specs.Reads.{reads}
 use Rattle.pr_time.specs.SpanText.{ReadsSpan, IsBadPlace as IsSpanEnd}
 use Rattle.pr_strings.specs.Strings.{IsString, IsBadPlace as IsStringEnd, IsOpenAt}
 use Rattle.pr_lex.specs.declared.token.Sign.{Sign}
-use Rattle.pr_lex.specs.declared.token.Sign.TheVariants.{LeftBrace, RightBrace, LeftParen, RightParen, LeftBracket, RightBracket, Comma, Colon, Assign, NotEqual, Like, NotLike, Equal, Less, LessEqual, Greater, GreaterEqual, Plus, Minus, Star, Slash, Percent}
+use Rattle.pr_lex.specs.declared.token.Sign.TheVariants.{LeftBracket, RightBracket}
 use Rattle.pr_lex.specs.declared.token.TokenKind.{TokenKind}
 use Rattle.pr_lex.specs.declared.token.TokenKind.TheVariants.{Name as NameKind, Number as NumberKind, Duration as DurationKind, Text as TextKind, Sign as SignKind}
 use Rattle.pr_lex.specs.declared.token.Token.{Token}
@@ -18,53 +18,7 @@ use Rattle.pr_lex.specs.declared.part.Lexeme.TheVariants.{Name, Number, Duration
 use Rattle.pr_lex.specs.declared.part.Part.TheVariants.{End, Gap, Token as TokenPart}
 use Rattle.pr_lex.specs.Bytes.{name_class, front_len, part_at}
 use Rattle.pr_lex.specs.Number.{IsNumberEnd}
-
--- the signs of two bytes: != =~ !~ == <= >=
-abbrev pub two_byte_sign : ℕ → ℕ → Option Sign
-two_byte_sign a b =
-    if a == 33 then (if b == 61 then Some NotEqual else (if b == 126 then Some NotLike else None)) else
-    (if a == 61 then (if b == 61 then Some Equal else (if b == 126 then Some Like else None)) else
-    (if a == 60 then (if b == 61 then Some LessEqual else None) else
-    (if a == 62 then (if b == 61 then Some GreaterEqual else None) else None)))
-
--- the signs of one byte: brackets and marks, = < >, and those of arithmetic
-abbrev pub bracket_sign : ℕ → Option Sign
-bracket_sign b =
-    if b == 123 then Some LeftBrace else (if b == 125 then Some RightBrace else (if b == 40 then Some LeftParen else (if b == 41 then Some RightParen else
-    (if b == 91 then Some LeftBracket else (if b == 93 then Some RightBracket else None)))))
-
-abbrev pub arithmetic_sign : ℕ → Option Sign
-arithmetic_sign b =
-    if b == 43 then Some Plus else (if b == 45 then Some Minus else (if b == 42 then Some Star else (if b == 47 then Some Slash else (if b == 37 then Some Percent else None))))
-
-abbrev pub mark_sign : ℕ → Option Sign
-mark_sign b =
-    if b == 44 then Some Comma else (if b == 58 then Some Colon else (if b == 61 then Some Assign else (if b == 60 then Some Less else (if b == 62 then Some Greater else None))))
-
-abbrev pub or_else : Option Sign → Option Sign → Option Sign
-or_else None o = o
-or_else (Some s) o = Some s
-
-abbrev pub one_byte_sign : ℕ → Option Sign
-one_byte_sign b = or_else (mark_sign b) (or_else (bracket_sign b) (arithmetic_sign b))
-
-abbrev pub longer_sign : ℕ → List ℕ → Option Sign
-longer_sign a [] = None
-longer_sign a (b ∷ rest) = two_byte_sign a b
-
--- The sign of two bytes where there is one, else that of one byte, with its length; else the place of the byte that is bad: with `!`
--- two signs begin, and none is whole.
-abbrev pub shorter_sign : ℕ → Option Sign → Result (Sign × ℕ) ℕ
-shorter_sign a (Some s) = Ok (s, 1)
-shorter_sign a None = Err (if a == 33 then 1 else 0)
-
-abbrev pub longest_sign : ℕ → Option Sign → Result (Sign × ℕ) ℕ
-longest_sign a (Some s) = Ok (s, 2)
-longest_sign a None = shorter_sign a (one_byte_sign a)
-
-abbrev pub sign_at : List ℕ → Result (Sign × ℕ) ℕ
-sign_at [] = Err 0
-sign_at (a ∷ rest) = longest_sign a (longer_sign a rest)
+use Rattle.pr_lex.specs.Signs.{sign_text, BeginsWith, IsLongestSign, begun_sign}
 
 -- A name is all the bytes of names that the text begins with.
 pub record IsName (inside : Bool) (text : List ℕ) (n : ℕ) (token : TokenKind) : Type 0 where
@@ -95,7 +49,8 @@ pub record IsText (text : List ℕ) (n : ℕ) (token : TokenKind) : Type 0 where
 -- Of the signs that the text begins with, the longest is taken.
 pub record IsSign (text : List ℕ) (n : ℕ) (token : TokenKind) : Type 0 where
   pub sign : Sign
-  pub longest : sign_at text ≡ Ok (sign, n)
+  pub longest : IsLongestSign text sign
+  pub whole : n ≡ length (sign_text sign)
   pub is : token ≡ SignKind sign
 
 -- The first so many bytes of the text are the token.
@@ -144,13 +99,19 @@ pub record IsTextFault (text : List ℕ) (place : ℕ) (kind : LexKind) : Type 0
   pub broken : (content : List ℕ) → IsString text content (drop end text) → ⊥
   pub fault : TextFault kind text end place
 
+-- The text begins with no sign. With `!` two signs begin, and none is whole: then the byte after it is the bad one.
+pub record IsSignFault (text : List ℕ) (place : ℕ) (kind : LexKind) : Type 0 where
+  pub none : (sign : Sign) → BeginsWith text sign → ⊥
+  pub after : place ≡ begun_sign text
+  pub is : kind ≡ BadChar
+
 -- The text begins with no token: the place of the fault in it, and its kind.
 abbrev pub IsFaultOf : Lexeme → List ℕ → ℕ → LexKind → Type 0
 IsFaultOf Name text place kind = ⊥
 IsFaultOf Number text place kind = IsNumberFault text place kind
 IsFaultOf Duration text place kind = IsDurationFault text place kind
 IsFaultOf Text text place kind = IsTextFault text place kind
-IsFaultOf SignLexeme text place kind = (sign_at text ≡ Err place) × (kind ≡ BadChar)
+IsFaultOf SignLexeme text place kind = IsSignFault text place kind
 
 -- After a `[` a text stands between brackets, until the next `]`.
 abbrev pub inside_after : Bool → TokenKind → Bool

@@ -1,14 +1,26 @@
 //! The laws of tokens, each as the contract of a function that does nothing.
-ghost use Rattle.std.specs.Prelude.{◌≡◌, ◌≤◌, ℕ, List, length, ◌⊎◌, Ok, Err};
+ghost use Rattle.std.specs.Prelude.{◌≡◌, ◌≤◌, ◌^◌, ℕ, List, ◌∷◌, ◌++◌, length, ◌⊎◌, Ok, Err, Bool, true, false, pos};
 ghost use Rattle.pr_forms.specs.Table.{IsDecided};
 ghost use Rattle.pr_lex.specs.declared.token.Token.{Token};
 ghost use Rattle.pr_lex.specs.declared.fault.LexKind.{LexKind};
 ghost use Rattle.pr_lex.specs.Number.{production, table};
-ghost use Rattle.pr_lex.specs.Tokens.{sign_at, HasTokens, HasFault};
+ghost use Rattle.pr_lex.specs.Tokens.{inside_after, HasTokens, HasFault};
+ghost use Rattle.pr_lex.specs.SignAt.{sign_at};
 ghost use Rattle.pr_lex.specs.declared.token.Sign.{Sign};
 ghost use Rattle.pr_lex.specs.Signs.{sign_text, BeginsWith, IsLongestSign};
 ghost use Rattle.pr_lex.specs.Order.{AreInOrder};
 ghost use Rattle.pr_lex.specs.Spaced.{spaced, kinds};
+ghost use Rattle.pr_lex.specs.Spelled.{Spells, ends_sign, IsNameText, ends_name, ends_number, ends_span};
+ghost use Rattle.pr_lex.specs.declared.token.TokenKind.{TokenKind};
+ghost use Rattle.pr_lex.specs.declared.token.TokenKind.TheVariants.{Name as NameKind, Number as NumberKind, Duration as DurationKind, Sign as SignKind, Text as TextKind};
+ghost use Rattle.pr_num.specs.declared.value.Num.{Num};
+ghost use Rattle.pr_num.specs.declared.value.Num.TheVariants.{Finite};
+ghost use Rattle.pr_num.specs.Arithmetic.{IsFit};
+ghost use Rattle.pr_num.specs.Forms.{HasUnsignedForm};
+ghost use Rattle.pr_num.specs.Reads.{reads};
+ghost use Rattle.pr_num.specs.Shown.{shown};
+ghost use Rattle.pr_time.specs.SpanShown.{shown_span};
+ghost use Rattle.pr_strings.specs.Quoted.{quoted_text};
 
 /// One byte ahead decides the grammar of numbers.
 pub fn one_byte_decides_numbers()
@@ -48,4 +60,39 @@ pub fn fault_lies_in_its_text()
 pub fn token_texts_have_the_tokens_again()
     ensures { (text : List ℕ) (tokens : List Token) → HasTokens text tokens →
         (again : List Token) × HasTokens (spaced text tokens) again × (kinds again ≡ kinds tokens) }
+{}
+
+/// A text that spells tokens has these tokens, wherever they stand in it.
+pub fn spelled_texts_have_their_tokens()
+    ensures { (text : List ℕ) (ks : List TokenKind) → Spells false text ks → (tokens : List Token) × HasTokens text tokens × (kinds tokens ≡ ks) }
+{}
+
+/// A name before anything that does not go on a name is spelled by its bytes.
+pub fn names_are_spelled()
+    ensures { (inside : Bool) (name rest : List ℕ) (ks : List TokenKind) → IsNameText inside name → ends_name inside rest ≡ true → Spells inside rest ks → Spells inside (name ++ rest) (NameKind name ∷ ks) }
+{}
+
+/// A sign is spelled by its bytes, before anything that makes no longer one.
+pub fn signs_are_spelled()
+    ensures { (inside : Bool) (sign : Sign) (rest : List ℕ) (ks : List TokenKind) → ends_sign inside sign rest ≡ true → Spells (inside_after inside (SignKind sign)) rest ks → Spells inside (sign_text sign ++ rest) (SignKind sign ∷ ks) }
+{}
+
+/// A string before anything is spelled by its quoted text.
+pub fn strings_are_spelled()
+    ensures { (inside : Bool) (bytes rest : List ℕ) (ks : List TokenKind) → Spells inside rest ks → Spells inside (quoted_text bytes ++ rest) (TextKind bytes ∷ ks) }
+{}
+
+/// A number text without a sign is spelled by its bytes, before anything that goes on no number, and makes no duration of it; so is
+/// a number that is not negative, as it is printed.
+pub fn numbers_are_spelled()
+    ensures text { (inside : Bool) (text rest : List ℕ) (value : Num) (ks : List TokenKind) → HasUnsignedForm text → reads text ≡ Ok value →
+        ends_number rest ≡ true → Spells inside rest ks → Spells inside (text ++ rest) (NumberKind value ∷ ks) }
+    ensures printed { (inside : Bool) (n : ℕ) (rest : List ℕ) (ks : List TokenKind) → IsFit (Finite (pos n)) →
+        ends_number rest ≡ true → Spells inside rest ks → Spells inside (shown (Finite (pos n)) ++ rest) (NumberKind (Finite (pos n)) ∷ ks) }
+{}
+
+/// A duration is spelled as it is printed, before anything that goes on no duration.
+pub fn spans_are_spelled()
+    ensures { (inside : Bool) (ms : ℕ) (rest : List ℕ) (ks : List TokenKind) → ms ≤ 2 ^ 40 →
+        ends_span rest ≡ true → Spells inside rest ks → Spells inside (shown_span ms ++ rest) (DurationKind ms ∷ ks) }
 {}

@@ -4,7 +4,8 @@ ghost use Rattle.pr_lex.specs.declared.token.Token.{Token as TokenValue};
 ghost use Rattle.pr_lex.specs.declared.part.Lexeme.TheVariants.{Name, Number, Duration, Text as TextLexeme, Sign as SignLexeme};
 ghost use Rattle.pr_lex.specs.declared.part.Part.TheVariants.{Token as TokenPart};
 ghost use Rattle.pr_lex.specs.Bytes.{part_at};
-ghost use Rattle.pr_lex.specs.Tokens.{two_byte_sign, one_byte_sign, mark_sign, bracket_sign, arithmetic_sign, longer_sign, sign_at, inside_after, HasTokens};
+ghost use Rattle.pr_lex.specs.Tokens.{inside_after, HasTokens};
+ghost use Rattle.pr_lex.specs.SignAt.{two_byte_sign, one_byte_sign, mark_sign, bracket_sign, arithmetic_sign, longer_sign, sign_at};
 ghost use Rattle.pr_lex.specs.Reader.{IsRead, Refuses, Misses, HasText, IsFaulty, IsWithin, Fits, moved};
 ghost use Rattle.std.specs.Str.{IsUtf8};
 
@@ -174,6 +175,7 @@ fn sign_at(text: &[u8]) -> Result<(Sign, usize), usize>
 }
 
 /// The sign at the front, and its length.
+#[tactic(auto, using(crate::proofs::TakenSigns::sign_is, crate::proofs::TakenSigns::fault_is))]
 fn sign_in(text: &[u8]) -> Result<(TokenKind, usize), LexError>
     ensures read { IsRead SignLexeme false text.now result }
     ensures long { IfOk result (λ x. 0 < x.1) }

@@ -8,3 +8,5 @@ pub mod Written
 pub mod Fronts
 pub mod WrittenUtf8
 pub mod StringOpen
+pub mod StringAnswers
+pub mod WorkedStrings

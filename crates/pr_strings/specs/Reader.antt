@@ -43,7 +43,7 @@ HasNoOpening text = (quote : Mark) (rest : List ℕ) → IsOpening text quote re
 
 -- a limit of characters and a number of digits, as escapes have them
 pub record IsNumbering (limit digits : ℕ) : Type 0 where
-  pub limited : limit ≤ 1114111
+  pub limited : limit ≤ 0x10FFFF
   pub few : digits ≤ 8
 
 -- the bytes that a piece means

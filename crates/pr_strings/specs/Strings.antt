@@ -1,5 +1,6 @@
 -- The strings of the query language: what they read, and where they are bad.
 use Rattle.std.specs.Prelude.{◌≡◌, ℕ, zero, suc, ◌+◌, ◌-◌, ◌*◌, ◌^◌, ◌==◌, nat_le, ◌&&◌, ◌||◌, not, Bool, true, false, Option, Some, None, is_some, List, [], ◌∷◌, ◌++◌, drop, map, encode_utf8, if◌then◌else◌}
+use Prim.Native.Char.{code}
 use Rattle.pr_forms.specs.Form.{Form, token, nothing, pair, either, turns, chosen, rule, Reads, IsFirstBad}
 use Rattle.pr_forms.specs.Table.{Table}
 use Rattle.pr_strings.specs.declared.kind.Mark.{Mark}
@@ -9,29 +10,29 @@ use Rattle.pr_strings.specs.declared.kind.Kind.TheVariants.{Quote, Backslash, Fe
 
 -- what a byte is to the texts that have strings
 abbrev pub is_hex_letter : ℕ → Bool
-is_hex_letter b = (nat_le 65 b && nat_le b 70) || (nat_le 99 b && nat_le b 101)
+is_hex_letter b = (nat_le (code "A") b && nat_le b (code "F")) || (nat_le (code "c") b && nat_le b (code "e"))
 
 abbrev pub is_other_letter : ℕ → Bool
-is_other_letter b = (nat_le 71 b && nat_le b 90) || (nat_le 103 b && nat_le b 122) || b == 95
+is_other_letter b = (nat_le (code "G") b && nat_le b (code "Z")) || (nat_le (code "g") b && nat_le b (code "z")) || b == code "_"
 
 -- the signs and the blanks, and all else
 abbrev pub sign_of : ℕ → Kind
-sign_of b = if b == 58 then Colon else (if b == 123 then Open else (if b == 125 then Close else (if b == 44 then Comma else (if b == 61 then Equal else
-    (if b == 32 || b == 9 then Blank else Other)))))
+sign_of b = if b == code ":" then Colon else (if b == code "{" then Open else (if b == code "}" then Close else (if b == code "," then Comma else (if b == code "=" then Equal else
+    (if b == code " " || b == code "\t" then Blank else Other)))))
 
 -- the digits and the letters without a meaning after a backslash
 abbrev pub word_of : ℕ → Kind
-word_of b = if nat_le 48 b && nat_le b 57 then Digit else (if is_hex_letter b then HexLetter else (if is_other_letter b then OtherLetter else sign_of b))
+word_of b = if nat_le (code "0") b && nat_le b (code "9") then Digit else (if is_hex_letter b then HexLetter else (if is_other_letter b then OtherLetter else sign_of b))
 
 -- the letters that stand after a backslash
 abbrev pub escape_of : ℕ → Kind
-escape_of b = if b == 97 then A else (if b == 98 then B else (if b == 102 then F else (if b == 110 then N else (if b == 114 then R else
-    (if b == 116 then T else (if b == 118 then V else (if b == 120 then X else (if b == 117 then Short else (if b == 85 then Long else word_of b)))))))))
+escape_of b = if b == code "a" then A else (if b == code "b" then B else (if b == code "f" then F else (if b == code "n" then N else (if b == code "r" then R else
+    (if b == code "t" then T else (if b == code "v" then V else (if b == code "x" then X else (if b == code "u" then Short else (if b == code "U" then Long else word_of b)))))))))
 
 -- the quotes, the backslash and the line feed
 abbrev pub kind_of : ℕ → Kind
-kind_of b = if b == 34 then Quote Double else (if b == 39 then Quote Single else (if b == 96 then Quote Back else
-    (if b == 92 then Backslash else (if b == 10 then Feed else escape_of b))))
+kind_of b = if b == code "\"" then Quote Double else (if b == code "'" then Quote Single else (if b == code "`" then Quote Back else
+    (if b == code "\\" then Backslash else (if b == code "\n" then Feed else escape_of b))))
 
 -- A byte as the grammar sees it.
 pub data Letter : Type 0 where
@@ -98,15 +99,15 @@ escape_at m (letter k b) = if is_escape m k then Some mark else None
 
 -- the byte that a letter after a backslash stands for; of the quotes, only the string's own one does
 abbrev pub named_byte : Mark → Kind → Option ℕ
-named_byte m (Quote n) = if same_mark m n then Some (if same_mark m Double then 34 else (if same_mark m Single then 39 else 96)) else None
-named_byte m Backslash = Some 92
-named_byte m A = Some 7
-named_byte m B = Some 8
-named_byte m F = Some 12
-named_byte m N = Some 10
-named_byte m R = Some 13
-named_byte m T = Some 9
-named_byte m V = Some 11
+named_byte m (Quote n) = if same_mark m n then Some (if same_mark m Double then code "\"" else (if same_mark m Single then code "'" else code "`")) else None
+named_byte m Backslash = Some (code "\\")
+named_byte m A = Some (code "\u{7}")
+named_byte m B = Some (code "\u{8}")
+named_byte m F = Some (code "\u{c}")
+named_byte m N = Some (code "\n")
+named_byte m R = Some (code "\r")
+named_byte m T = Some (code "\t")
+named_byte m V = Some (code "\u{b}")
 named_byte m k = None
 
 abbrev pub as_content : Option ℕ → Option Value
@@ -121,16 +122,16 @@ abbrev pub numbering : ℕ → ℕ → Rule
 numbering limit digits = Then limit digits 0
 
 abbrev pub numbered_by : Kind → Option Rule
-numbered_by X = Some (numbering 127 2)
-numbered_by Short = Some (numbering 1114111 4)
-numbered_by Long = Some (numbering 1114111 8)
+numbered_by X = Some (numbering 0x7F 2)
+numbered_by Short = Some (numbering 0x10FFFF 4)
+numbered_by Long = Some (numbering 0x10FFFF 8)
 numbered_by k = None
 
 abbrev pub numbered : Letter → Option Rule
 numbered (letter k b) = numbered_by k
 
 abbrev pub digit_value : ℕ → ℕ
-digit_value b = if nat_le b 57 then b - 48 else (if nat_le b 70 then b - 55 else b - 87)
+digit_value b = if nat_le b (code "9") then b - code "0" else (if nat_le b (code "F") then b - (code "A" - 10) else b - (code "a" - 10))
 
 -- the value of a digit of base 16
 abbrev pub digit_of : Letter → Option ℕ
@@ -144,7 +145,7 @@ digit_of _ = None
 -- Whether a number can become that of a character with so many digits more: the least number that it can become is not above the
 -- limit, and not all that it can become are surrogates, which are no characters.
 abbrev pub fits : ℕ → ℕ → ℕ → Bool
-fits limit left n = nat_le (n * 16 ^ left) limit && not (nat_le 55296 (n * 16 ^ left) && nat_le (n * 16 ^ left + 16 ^ left) 57344)
+fits limit left n = nat_le (n * 16 ^ left) limit && not (nat_le 0xD800 (n * 16 ^ left) && nat_le (n * 16 ^ left + 16 ^ left) 0xE000)
 
 abbrev pub reached : ℕ → ℕ → ℕ → Option ℕ → Option Rule
 reached limit left n None = None

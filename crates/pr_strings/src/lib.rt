@@ -2,6 +2,7 @@
 //! from here.
 #![tactic(auto)]
 
+pub mod examples;
 mod kind;
 mod laws;
 mod reader;
@@ -10,6 +11,6 @@ mod tests;
 mod writer;
 
 pub use kind::{Kind, Mark, kind_of};
-pub use laws::{one_byte_decides, quoted_texts_read_back};
+pub use laws::{one_byte_decides, quoted_texts_read_back, strings_are_functions_of_their_texts};
 pub use reader::{is_open_at, read_string};
 pub use writer::write_string;

@@ -7,3 +7,4 @@ pub mod SpanRead
 pub mod SpanParts
 pub mod SpanKnown
 pub mod SpanTotal
+pub mod WorkedSpans

@@ -1,39 +1,20 @@
 -- The grammar of spans ends, and so every text is a span or none, and has a first bad place.
-use Rattle.std.proofs.Common.{◌≡◌, ℕ, suc, ◌-◌, nat_le, List, [], ◌∷◌, true, length, refl, inl, inr}
-use Rattle.std.specs.Prelude.{◌⊎◌}
+use Rattle.std.proofs.Common.{◌≡◌, ℕ, suc, ◌-◌, nat_le, List, [], ◌∷◌, true, length, refl, inl, inr, ap, ◌∙◌, Some, None}
+use Rattle.std.specs.Prelude.{◌⊎◌, Option}
 use Rattle.pr_forms.specs.Form.{rule}
 use Rattle.pr_forms.specs.Run.{Runs, Outcome, good, bad, left_of}
-use Rattle.pr_forms.specs.Reading.{EndsIn, Ends}
-use Rattle.pr_forms.proofs.Ending.{Answered, rule_answered}
+use Rattle.pr_forms.specs.Reading.{EndsIn, Ends, reading}
+use Rattle.pr_forms.proofs.Ending.{Answered, rule_answered, given_reads, reads_given, given_place}
 use Rattle.pr_forms.proofs.Places.{run_place, only_reading}
 use Rattle.pr_forms.proofs.Sound.{meets, reads}
 use Rattle.pr_time.specs.declared.text.Letter.{Letter}
 use Rattle.pr_time.specs.declared.text.Unit.{Unit as TimeUnit}
 use Rattle.pr_time.specs.declared.text.Unit.TheVariants.{Year, Week, Day, Hour, Minute, Second, Millisecond}
 use Rattle.pr_time.specs.SpanText.{production, table, seen, below, Rule, Text, AfterZero, After, From, AfterM, NoUnit, Value, count, scaled, span, mark, ReadsSpan, IsBadPlace}
+use Rattle.pr_time.specs.SpanAnswer.{from_rank, step_rank, steps, span_in, span_of, bad_span_place}
 use Rattle.pr_time.proofs.SpanTable.{known}
 
-abbrev from_rank : TimeUnit → ℕ
-from_rank Year = 11
-from_rank Week = 9
-from_rank Day = 7
-from_rank Hour = 5
-from_rank Minute = 3
-from_rank Second = 4
-from_rank Millisecond = 2
-
-abbrev rank : Rule → ℕ
-rank Text = 4
-rank AfterZero = 14
-rank (After u) = 4
-rank (From u) = from_rank u
-rank AfterM = 7
-rank NoUnit = 1
-
-abbrev steps : ℕ
-steps = 16
-
-below_low : (u : TimeUnit) → nat_le (rank (below u)) 15 ≡ true
+below_low : (u : TimeUnit) → nat_le (step_rank (below u)) 15 ≡ true
 below_low Year = refl
 below_low Week = refl
 below_low Day = refl
@@ -42,7 +23,7 @@ below_low Minute = refl
 below_low Second = refl
 below_low Millisecond = refl
 
-ends_known : (n : Rule) → EndsIn table rank steps (rank n) (production n)
+ends_known : (n : Rule) → EndsIn table step_rank steps (step_rank n) (production n)
 ends_known Text = ((tt, refl), ((tt, tt), refl))
 ends_known AfterZero = ((tt, refl), tt)
 ends_known (After u) = (((tt, tt), below_low u), tt)
@@ -65,7 +46,7 @@ unit_below Minute = refl
 unit_below Second = refl
 unit_below Millisecond = refl
 
-below_known : (n : Rule) → nat_le (suc (rank n)) steps ≡ true
+below_known : (n : Rule) → nat_le (suc (step_rank n)) steps ≡ true
 below_known Text = refl
 below_known AfterZero = refl
 below_known (After u) = refl
@@ -73,7 +54,7 @@ below_known (From u) = unit_below u
 below_known AfterM = refl
 below_known NoUnit = refl
 
-ends : Ends production table rank steps
+pub ends : Ends production table step_rank steps
 ends = record { some = refl; below = below_known; ends = ends_known }
 
 -- whether a whole text is a span
@@ -81,7 +62,7 @@ pub span_or_none : (text : List ℕ) → ((ms : ℕ) × ReadsSpan text ms) ⊎ (
 span_or_none text = by_outcome a.outcome a.runs
   where
     a : Answered production table (rule Text) (seen text)
-    a = rule_answered production table known rank steps ends Text (seen text)
+    a = rule_answered production table known step_rank steps ends Text (seen text)
 
     only : (o : Outcome Letter Value) → Runs production table (rule Text) (seen text) o → (ms : ℕ) → ReadsSpan text ms → o ≡ good (span ms) []
     only o q ms d = only_reading production table known Text (seen text) o (span ms) q d
@@ -96,5 +77,25 @@ span_or_none text = by_outcome a.outcome a.runs
 
 pub span_place : (text : List ℕ) → (n : ℕ) × IsBadPlace text n
 span_place text =
-    let a = rule_answered production table known rank steps ends Text (seen text) in
+    let a = rule_answered production table known step_rank steps ends Text (seen text) in
     (length (seen text) - length (left_of a.outcome), run_place production table known Text (seen text) a.outcome a.runs)
+
+-- the functions say what is read, and where the first bad byte stands
+pub span_of_reading : (text : List ℕ) (ms : ℕ) → ReadsSpan text ms → span_of text ≡ Some ms
+unfolding span_of
+span_of_reading text ms d = rw (reads_given production table known step_rank steps ends Text (seen text) (span ms) d) refl
+
+pub reading_of_span : (text : List ℕ) (ms : ℕ) → span_of text ≡ Some ms → ReadsSpan text ms
+unfolding span_of
+reading_of_span text ms e = by_value (reading production table steps (rule Text) (seen text)) refl e
+  where
+    by_value : (o : Option Value) → reading production table steps (rule Text) (seen text) ≡ o → span_in o ≡ Some ms → ReadsSpan text ms
+    by_value (Some (span n)) h i = let k : n ≡ ms = cc in given_reads production table known step_rank steps ends Text (seen text) (span ms) (h ∙ ap (λ m. Some (span m)) k)
+    by_value (Some (count n)) h i = cc
+    by_value (Some (scaled n s)) h i = cc
+    by_value (Some mark) h i = cc
+    by_value None h i = cc
+
+pub place_of_text : (text : List ℕ) → IsBadPlace text (bad_span_place text)
+unfolding bad_span_place
+place_of_text text = given_place production table known step_rank steps ends Text (seen text)

@@ -1,4 +1,5 @@
 -- The texts of spans: what they read, and where they are bad.
+use Prim.Native.Char.{code}
 use Rattle.std.specs.Prelude.{ℕ, zero, suc, ◌+◌, ◌-◌, ◌*◌, ◌<◌, ◌^◌, ◌==◌, nat_le, ◌&&◌, ◌||◌, Bool, true, false, Option, Some, None, List, [], map, if◌then◌else◌}
 use Rattle.pr_forms.specs.Form.{Form, token, nothing, pair, either, turns, fold, rule, Reads, IsFirstBad}
 use Rattle.pr_forms.specs.Table.{Table}
@@ -12,8 +13,8 @@ use Rattle.pr_time.specs.declared.text.SpanFault.TheVariants.{BadSpan, SpanTooLo
 -- what a byte is to a span text
 abbrev pub letter_of : ℕ → Letter
 letter_of b =
-    if nat_le 48 b && nat_le b 57 then Digit (b - 48) else
-    (if b == 121 then Y else (if b == 119 then W else (if b == 100 then D else (if b == 104 then H else (if b == 109 then M else (if b == 115 then S else Other))))))
+    if nat_le (code "0") b && nat_le b (code "9") then Digit (b - code "0") else
+    (if b == code "y" then Y else (if b == code "w" then W else (if b == code "d" then D else (if b == code "h" then H else (if b == code "m" then M else (if b == code "s" then S else Other))))))
 
 -- the bytes as the grammar sees them
 abbrev pub seen : List ℕ → List Letter
@@ -214,11 +215,13 @@ table = record { empty = empty_rule; starts = starts_rule; more = more_rule }
 abbrev pub ReadsSpan : List ℕ → ℕ → Type 0
 ReadsSpan text ms = Reads production (rule Text) (seen text) (span ms) []
 
--- The place of the first bad byte: those before it begin some span text, and with it they begin none.
+-- The place of the first bad byte: those before it go on by the grammar, and with it they do not. Going on is less than beginning
+-- some span: after milliseconds digits go on, as those of one more part, though no unit is left for it. So `5ms5s` is bad at 4, and
+-- no span begins with `5ms5`.
 abbrev pub IsBadPlace : List ℕ → ℕ → Type 0
 IsBadPlace text place = IsFirstBad production (rule Text) (seen text) place
 
--- Why a text gives no span.
+-- Why a text gives no span: it is not of the form, and so bad at a place; or it is, and writes too many milliseconds.
 abbrev pub Refuses : List ℕ → SpanFault → Type 0
 Refuses text (BadSpan at) = IsBadPlace text at
 Refuses text SpanTooLong = (ms : ℕ) × ReadsSpan text ms × (2 ^ 40 < ms)

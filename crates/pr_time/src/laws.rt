@@ -1,8 +1,9 @@
 //! The laws of span texts, each as the contract of a function that does nothing.
-ghost use Rattle.std.specs.Prelude.{◌≡◌, ℕ, List, ◌≤◌, ◌^◌, ◌⊎◌};
+ghost use Rattle.std.specs.Prelude.{◌≡◌, ℕ, List, ◌≤◌, ◌^◌, ◌⊎◌, ◌↔◌, Some};
 ghost use Rattle.pr_forms.specs.Table.{IsDecided};
 ghost use Rattle.pr_time.specs.SpanText.{production, table, seen, ReadsSpan, IsBadPlace};
 ghost use Rattle.pr_time.specs.SpanParts.{IsSpanText};
+ghost use Rattle.pr_time.specs.SpanAnswer.{span_of, bad_span_place};
 ghost use Rattle.pr_time.specs.SpanShown.{shown_span};
 
 /// One byte ahead decides the grammar of span texts: so a text is read in one way, and without going back.
@@ -31,4 +32,10 @@ pub fn shown_span_reads()
 pub fn span_text_is_zero_or_parts()
     ensures read { (text : List ℕ) (ms : ℕ) → IsSpanText (seen text) ms → ReadsSpan text ms }
     ensures only { (text : List ℕ) (ms : ℕ) → ReadsSpan text ms → IsSpanText (seen text) ms }
+{}
+
+/// What a text gives is a function of it: its milliseconds where it is a span text, and the place of its first bad byte.
+pub fn spans_are_functions_of_their_texts()
+    ensures span { (text : List ℕ) (ms : ℕ) → (span_of text ≡ Some ms) ↔ ReadsSpan text ms }
+    ensures place { (text : List ℕ) (n : ℕ) → (n ≡ bad_span_place text) ↔ IsBadPlace text n }
 {}

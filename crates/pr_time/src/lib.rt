@@ -1,6 +1,7 @@
 //! Times and spans in whole milliseconds, and the texts of spans.
 #![tactic(auto)]
 
+pub mod examples;
 pub mod laws;
 mod print;
 #[cfg(test)]

@@ -43,10 +43,11 @@ const MANY: u64 = (1 << 40) + 1;
 /// Why a text gives no span.
 #[derive(Clone, Copy, PartialEq, Eq, Debug)]
 pub enum SpanFault {
-    /// The bytes before this one begin some span text, and with it they begin none. The text's length, where it ends too
-    /// early.
+    /// The place of the first byte with which the text does not go on as a span text: before it stand whole parts, and digits
+    /// or a letter that begin one more. Whether what stands there can still become a span is not asked: `5ms5s` is bad at 4,
+    /// though no span begins with `5ms5`. The text's length, where all of it goes on and it is no span.
     BadSpan { at: usize },
-    /// A span text of more than 2^40 milliseconds.
+    /// The text is a span text, of more than 2^40 milliseconds.
     SpanTooLong,
 }
 
@@ -326,8 +327,8 @@ fn span_in(text: &[u8]) -> Result<(u64, &[u8]), &[u8]>
     }
 }
 
-/// The place of the first byte with which the span text at the front of a text cannot go on: so a reader of other texts finds
-/// where one ends.
+/// The place of the first byte with which the span text at the front of a text does not go on, as `SpanFault::BadSpan` tells
+/// it: so a reader of other texts finds where one ends.
 pub fn span_end(text: &[u8]) -> usize
     ensures place { IsBadPlace text.now result }
     ensures within { result ≤ length text.now }
@@ -339,8 +340,9 @@ pub fn span_end(text: &[u8]) -> usize
 }
 
 /// The span that a text writes: `0`, or numbers with a unit each, from the greatest unit down and none twice, out of
-/// `y w d h m s ms`. A year has 365 days (the form of durations in the Prometheus documentation, "Querying basics"; that a
-/// span ends at 2^40 ms is our own choice).
+/// `y w d h m s ms`. A year has 365 days, and a week seven (the form of durations in the Prometheus documentation, "Querying
+/// basics"; that a span ends at 2^40 ms, and that the first bad byte is told, are own choices). A text of another form is
+/// `BadSpan`, with its place; one of the form, of more than 2^40 ms, is `SpanTooLong`.
 pub fn read_span(text: &[u8]) -> Result<Span, SpanFault>
     // A span that is answered is what the text reads as.
     ensures span { IfOk result (ReadsSpan text.now) }

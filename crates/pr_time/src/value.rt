@@ -1,5 +1,5 @@
 //! Times and spans.
-ghost use Rattle.std.specs.Prelude.{◌≡◌, ◌<◌, ◌≤◌, ◌^◌, SomeIff, pos, ◌-ℤ◌};
+ghost use Rattle.std.specs.Prelude.{◌≡◌, ◌<◌, ◌≤◌, ◌^◌, SomeIff, pos, ◌-ℤ◌, ◌≤ℤ◌, ◌<ℤ◌, neg_ℤ};
 
 use std::marker::Model;
 
@@ -55,9 +55,13 @@ impl Ms {
         self.ms
     }
 
-    /// The milliseconds of the time a span earlier, which may lie below 0.
+    /// The milliseconds of the time a span earlier: from -2^40 on, since the span may be longer than the time, and below 2^42.
     pub fn minus(self, s: Span) -> i64
-        ensures { result ≡ pos self -ℤ pos s }
+        ensures value { result ≡ pos self -ℤ pos s }
+        ensures low { neg_ℤ (pos (2 ^ 40)) ≤ℤ result }
+        ensures high { result <ℤ pos (2 ^ 42) }
+        ensures time { self < 2 ^ 42 }
+        ensures span { s ≤ 2 ^ 40 }
     {
         self.ms as i64 - s.ms as i64
     }

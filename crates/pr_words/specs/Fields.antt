@@ -1,10 +1,11 @@
 -- The fields of a line: what stands between blanks.
 use Rattle.std.specs.Prelude.{ℕ, ◌-◌, Bool, not, ◌||◌, ◌==◌, List, length, take, drop, reverse}
+use Prim.Native.Char.{code}
 use Rattle.std.specs.List.{position_or_len}
 
 -- a space, or a tab
 abbrev pub is_blank : ℕ → Bool
-is_blank b = b == 32 || b == 9
+is_blank b = b == code " " || b == code "\t"
 
 abbrev pub is_field_byte : ℕ → Bool
 is_field_byte b = not (is_blank b)

@@ -1,13 +1,16 @@
 //! Small types that contracts see as plain values, and words on lists of bytes that several crates share.
 #![tactic(auto)]
 
+mod decimal;
 mod fields;
 mod items;
+pub mod laws;
 mod steps;
 #[cfg(test)]
 mod tests;
 mod text;
 
+pub use decimal::{is_plain_decimal, plain_decimal};
 pub use fields::{is_blank, split_first, split_last, without_leading, without_trailing};
 pub use items::Items;
 pub use steps::Steps;

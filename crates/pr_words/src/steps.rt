@@ -2,9 +2,10 @@
 ghost use Rattle.std.specs.Prelude.{◌≡◌, ◌+◌, ◌<◌};
 
 use std::marker::Model;
+use std::mem::size_of;
 use std::sync::ledger::{Blank, Book, Ledger, Share};
 
-/// How many steps were taken: contracts see the number. It takes no bytes, and only `tick` changes it, so
+/// How many steps were taken: contracts see the number. It takes no bytes (`size` says so), and only `tick` changes it, so
 /// a bound on it is a bound on how often the work was done that ticks.
 #[derive(Drop)]
 pub struct Steps<L: Ledger> {
@@ -23,6 +24,13 @@ impl<L: Ledger> Model for Steps<L> {
 }
 
 impl<L: Ledger> Steps<L> {
+    /// How many bytes a count of steps takes: none, so that counting costs nothing when a program runs.
+    pub fn size() -> usize
+        ensures { result ≡ 0 }
+    {
+        size_of::<Steps<L>>()
+    }
+
     /// No steps yet. The ledger is the one that `L` stands for.
     pub fn new(blank: Blank) -> Steps<L>
         requires name { blank.name ≡ L.name }
