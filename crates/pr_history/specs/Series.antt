@@ -1,31 +1,19 @@
 -- The series that a selector chooses, and what they show.
-use Rattle.std.specs.Prelude.{ℕ, ℤ, Bool, List, [], ◌∷◌, filter, map, fold, unwrap_or}
+use Rattle.std.specs.Prelude.{ℕ, ℤ, Bool, List, [], filter, map, fold, unwrap_or}
 use Rattle.std.specs.List.{filter_map, list_all}
 use Rattle.std.specs.Option.{option_map}
 use Rattle.std.specs.Str.{bytes_eq}
-use Rattle.std.specs.declared.cmp.Ordering.{Ordering}
-use Rattle.std.specs.declared.cmp.Ordering.TheVariants.{Less, Equal, Greater}
 use Rattle.pr_num.specs.declared.value.Num.{Num}
 use Rattle.pr_labels.specs.declared.pair.Pair.{Pair}
 use Rattle.pr_labels.specs.declared.item.Item.{Item}
 use Rattle.pr_labels.specs.LabelSet.{text_at}
-use Rattle.pr_labels.specs.Order.{labels_cmp}
+use Rattle.pr_labels.specs.Rising.{with_labels}
 use Rattle.pr_history.specs.declared.entry.Entry.{Entry}
 use Rattle.pr_history.specs.Lookback.{value_at}
 
 -- whether a label set has each of the values that are asked for; an absent label is the empty text
 abbrev pub has_values : List Pair → List Pair → Bool
 has_values equal labels = list_all (λ q. bytes_eq (text_at labels q.name) q.value) equal
-
--- one label set put into those in label order, unless it is among them
-abbrev pub placed : Ordering → List Pair → List Pair → List (List Pair) → List (List Pair) → List (List Pair)
-placed Less labels first rest more = labels ∷ first ∷ rest
-placed Equal labels first rest more = first ∷ rest
-placed Greater labels first rest more = first ∷ more
-
-abbrev pub with_labels : List (List Pair) → List Pair → List (List Pair)
-with_labels [] labels = labels ∷ []
-with_labels (first ∷ rest) labels = placed (labels_cmp labels first) labels first rest (with_labels rest labels)
 
 -- the label sets of the history that pass a test, in label order, each once
 abbrev pub chosen : (List Pair → Bool) → List Entry → List (List Pair)

@@ -2,7 +2,7 @@
 ghost use Rattle.std.specs.Prelude.{◌≡◌, ◌&&◌, Bool, List, map};
 ghost use Rattle.pr_labels.specs.declared.pair.Pair.{Pair};
 ghost use Rattle.pr_history.specs.Admission.{put, IsLawful};
-ghost use Rattle.pr_history.specs.Chosen.{IsRising, is_among};
+ghost use Rattle.pr_labels.specs.Rising.{IsRising, is_among};
 ghost use Rattle.pr_history.specs.Series.{chosen};
 ghost use Rattle.pr_history.specs.declared.entry.Entry.{Entry};
 

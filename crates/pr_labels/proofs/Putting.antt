@@ -199,7 +199,7 @@ pub put_over : (ps : List Pair) (x y : Pair) (n : ℕ) → IsLabelSet ps → IsL
 put_over ps x y n s l e lt is found =
     rw e (replaced x y ps (rw e at lt) (rw e at is) found ∙ set_pair_is_put x ps s l)
 
-not_zero : (n : ℕ) (test : Bool) → test ≡ true → test ≡ (suc n == 0) → ⊥
+pub not_zero : (n : ℕ) (test : Bool) → test ≡ true → test ≡ (suc n == 0) → ⊥
 not_zero n test h e = grind (arith, nat_tests)
 
 empty_value : (value : List ℕ) (test : Bool) → test ≡ true → test ≡ (length value == 0) → value ≡ []

@@ -2,7 +2,5 @@ pub mod Names
 pub mod LabelSet
 pub mod Edits
 pub mod Order
+pub mod Rising
 pub mod SeriesText
-pub mod SeriesGrammar
-pub mod SeriesReading
-pub mod SeriesReader

@@ -1,11 +1,12 @@
 -- Names: of labels, and of metrics.
-use Rattle.std.specs.Prelude.{ℕ, Bool, false, ◌&&◌, ◌||◌, ◌==◌, nat_le, List, [], ◌∷◌}
+use Rattle.std.specs.Prelude.{ℕ, Bool, false, ◌&&◌, ◌||◌, List, [], ◌∷◌, codes}
 use Rattle.std.specs.List.{list_all}
-use Rattle.std.specs.Char.{is_ascii_digit}
+use Rattle.std.specs.Char.{is_ascii_alphabetic, is_ascii_digit}
+use Rattle.std.specs.Str.{bytes_eq}
 
 -- a letter, or an underscore
 abbrev pub is_letter : ℕ → Bool
-is_letter b = (nat_le 97 b && nat_le b 122) || (nat_le 65 b && nat_le b 90) || b == 95
+is_letter b = is_ascii_alphabetic b || bytes_eq (b ∷ []) (codes "_")
 
 abbrev pub is_label_byte : ℕ → Bool
 is_label_byte b = is_letter b || is_ascii_digit b
@@ -17,7 +18,7 @@ is_label_name (b ∷ bs) = is_letter b && list_all is_label_byte bs
 
 -- the name of a metric may have colons too
 abbrev pub is_metric_letter : ℕ → Bool
-is_metric_letter b = is_letter b || b == 58
+is_metric_letter b = is_letter b || bytes_eq (b ∷ []) (codes ":")
 
 abbrev pub is_metric_byte : ℕ → Bool
 is_metric_byte b = is_metric_letter b || is_ascii_digit b

@@ -39,7 +39,8 @@ both_tie Less b = refl
 both_tie Equal b = refl
 both_tie Greater b = refl
 
-pair_ties : (x y : Pair) → pair_eq x y ≡ eq_by_cmp pair_cmp x y
+-- the order of pairs ties exactly equal pairs
+pub pair_ties : (x y : Pair) → pair_eq x y ≡ eq_by_cmp pair_cmp x y
 pair_ties x y =
     (λ i. texts_ties x.name y.name i && texts_ties x.value y.value i)
     ∙ both_tie (slice_cmp nat_cmp x.name y.name) (slice_cmp nat_cmp x.value y.value)

@@ -1,5 +1,5 @@
 -- The printed text of a label set.
-use Rattle.std.specs.Prelude.{ℕ, cond, List, [], ◌∷◌, ◌++◌, codes, flat_map, Option, Some, None}
+use Rattle.std.specs.Prelude.{ℕ, Bool, true, false, cond, List, [], ◌∷◌, ◌++◌, codes, flat_map, Option, Some, None}
 use Rattle.pr_strings.specs.Quoted.{quoted_text}
 use Rattle.pr_labels.specs.declared.pair.Pair.{Pair}
 use Rattle.pr_labels.specs.Edits.{without_name}
@@ -26,9 +26,19 @@ abbrev pub rest_text : List Pair → List ℕ
 rest_text [] = []
 rest_text (p ∷ ps) = list_text (p ∷ ps)
 
+-- what stands before a pair of a list that is open, or of one that is not
+abbrev pub opening : Bool → List ℕ
+opening true = codes ","
+opening false = codes "{"
+
 -- the pairs but that of the metric's name
 abbrev pub unnamed : List Pair → List Pair
 unnamed labels = without_name labels metric_label
+
+-- what is still to be written of a list that has started, or not, and has these pairs left
+abbrev pub left_text : Bool → List Pair → List ℕ
+left_text true pairs = flat_map following_text (unnamed pairs) ++ codes "}"
+left_text false pairs = rest_text (unnamed pairs)
 
 -- the metric's name stands first where it is a classic name, and else among the pairs
 abbrev pub text_by_name : Option (List ℕ) → List Pair → List ℕ

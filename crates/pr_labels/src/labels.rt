@@ -10,6 +10,9 @@ use std::cmp::Ordering;
 use std::hash::{Hash, Hasher};
 use std::marker::Model;
 
+/// The name under which a metric's name stands in a label set. (Prometheus: Data model.)
+pub const METRIC_LABEL: &str = "__name__";
+
 /// A label set. Contracts see the list of its pairs: names rise, and no value is empty.
 #[derive(Debug, Drop)]
 pub struct Labels {

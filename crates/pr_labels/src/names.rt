@@ -8,7 +8,7 @@ ghost use Rattle.pr_labels.specs.Names.{is_letter, is_label_byte, is_label_name,
 fn is_letter(b: u8) -> bool
     ensures { result ≡ is_letter b }
 {
-    (b >= b'a' && b <= b'z') || (b >= b'A' && b <= b'Z') || b == b'_'
+    b.is_ascii_alphabetic() || b == b'_'
 }
 
 fn is_label_byte(b: u8) -> bool

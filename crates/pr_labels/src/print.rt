@@ -1,114 +1,129 @@
 // The printed text of a label set.
-ghost use Rattle.std.specs.Prelude.{◌≡◌, ◌++◌, OnOk, OnErr, IfOk, map, flat_map};
-ghost use Rattle.std.specs.Str.{IsUtf8};
+ghost use Rattle.std.specs.Prelude.{◌≡◌, ◌++◌, ◌∷◌, List, IfOk, OnOk, flat_map};
 ghost use Rattle.pr_strings.specs.Reader.{KeepsText};
 ghost use Rattle.pr_labels.specs.LabelSet.{has_name, metric_label};
-ghost use Rattle.pr_labels.specs.SeriesText.{pair_text, following_text, pairs_text, list_text, rest_text, unnamed, series_text};
+ghost use Rattle.pr_labels.specs.SeriesText.{pair_text, following_text, pairs_text, list_text, rest_text, opening, left_text, unnamed, series_text};
+ghost use Rattle.pr_labels.specs.declared.pair.Pair.{Pair};
 
-use crate::labels::Labels;
+use crate::labels::{Labels, METRIC_LABEL};
 use crate::names::is_metric_name;
 use crate::pair::Pair;
 use pr_strings::write_string;
-use std::alloc::{AllocError, Global};
+use std::alloc::AllocError;
 
-fn push_pair(text: &mut Vec<u8>, pair: &Pair) -> Result<(), AllocError>
-    ensures ok { OnOk result (text.new.items ≡ text.old.items ++ pair_text pair.now) }
-    ensures text { OnOk result (KeepsText text.old.items text.new.items) }
+// Each function appends; without memory what it appended so far stands, and is a text.
+
+fn push_pair(out: &mut Vec<u8>, pair: &Pair) -> Result<(), AllocError>
+    ensures ok { OnOk result (out.new.items ≡ out.old.items ++ pair_text pair.now) }
+    ensures text { KeepsText out.old.items out.new.items }
 {
-    text.extend_from_slice(pair.name.as_str().as_bytes())?;
-    text.extend_from_slice(b"=")?;
-    write_string(pair.value.as_str().as_bytes(), text)
+    out.extend_from_slice(pair.name.as_str().as_bytes())?;
+    out.extend_from_slice(b"=")?;
+    write_string(pair.value.as_str().as_bytes(), out)
 }
 
-fn push_following(text: &mut Vec<u8>, pairs: &[&Pair]) -> Result<(), AllocError>
-    ensures ok { OnOk result (text.new.items ≡ text.old.items ++ flat_map following_text (map (λ p. p.now) pairs.now)) }
-    ensures text { OnOk result (KeepsText text.old.items text.new.items) }
+fn push_following(out: &mut Vec<u8>, pairs: &[Pair]) -> Result<(), AllocError>
+    ensures ok { OnOk result (out.new.items ≡ out.old.items ++ flat_map following_text pairs.now) }
+    ensures text { KeepsText out.old.items out.new.items }
 {
     for pair in pairs {
-        text.extend_from_slice(b",")?;
-        push_pair(text, pair)?;
+        out.extend_from_slice(b",")?;
+        push_pair(out, pair)?;
     }
     Ok(())
 }
 
-fn push_pairs(text: &mut Vec<u8>, pairs: &[&Pair]) -> Result<(), AllocError>
-    ensures ok { OnOk result (text.new.items ≡ text.old.items ++ pairs_text (map (λ p. p.now) pairs.now)) }
-    ensures text { OnOk result (KeepsText text.old.items text.new.items) }
+fn push_pairs(out: &mut Vec<u8>, pairs: &[Pair]) -> Result<(), AllocError>
+    ensures ok { OnOk result (out.new.items ≡ out.old.items ++ pairs_text pairs.now) }
+    ensures text { KeepsText out.old.items out.new.items }
 {
     match pairs {
         [] => Ok(()),
         [first, rest @ ..] => {
-            push_pair(text, first)?;
-            push_following(text, rest)
+            push_pair(out, first)?;
+            push_following(out, rest)
         }
     }
 }
 
-fn push_list(text: &mut Vec<u8>, pairs: &[&Pair]) -> Result<(), AllocError>
-    ensures ok { OnOk result (text.new.items ≡ text.old.items ++ list_text (map (λ p. p.now) pairs.now)) }
-    ensures text { OnOk result (KeepsText text.old.items text.new.items) }
+// The pairs in braces.
+fn push_list(out: &mut Vec<u8>, pairs: &[Pair]) -> Result<(), AllocError>
+    ensures ok { OnOk result (out.new.items ≡ out.old.items ++ list_text pairs.now) }
+    ensures text { KeepsText out.old.items out.new.items }
 {
-    text.extend_from_slice(b"{")?;
-    push_pairs(text, pairs)?;
-    text.extend_from_slice(b"}")
-}
-
-fn push_rest(text: &mut Vec<u8>, pairs: &[&Pair]) -> Result<(), AllocError>
-    ensures ok { OnOk result (text.new.items ≡ text.old.items ++ rest_text (map (λ p. p.now) pairs.now)) }
-    ensures text { OnOk result (KeepsText text.old.items text.new.items) }
-{
-    if pairs.is_empty() {
-        return Ok(());
-    }
-    push_list(text, pairs)
+    out.extend_from_slice(b"{")?;
+    push_pairs(out, pairs)?;
+    out.extend_from_slice(b"}")
 }
 
 fn is_metric_pair(pair: &Pair) -> bool
     ensures { result ≡ has_name metric_label pair.now }
 {
-    pair.name.as_str() == "__name__"
+    pair.name.as_str() == METRIC_LABEL
 }
 
-// The pairs but that of the metric's name.
-fn unnamed<'a>(alloc: Global, pairs: &'a [Pair]) -> Result<Vec<&'a Pair>, AllocError>
-    ensures { IfOk result (λ v. map (λ p. p.now) v.items ≡ unnamed pairs.now) }
+// What stands before a pair: a comma, or the brace of the list that it starts.
+fn push_separator(out: &mut Vec<u8>, started: bool) -> Result<(), AllocError>
+    ensures ok { OnOk result (out.new.items ≡ out.old.items ++ opening started) }
+    ensures text { KeepsText out.old.items out.new.items }
 {
-    pairs.iter().filter(|p| !is_metric_pair(p)).collect(alloc)
-}
-
-// All the pairs.
-fn borrowed<'a>(alloc: Global, pairs: &'a [Pair]) -> Result<Vec<&'a Pair>, AllocError>
-    ensures { IfOk result (λ v. map (λ p. p.now) v.items ≡ pairs.now) }
-{
-    pairs.iter().collect(alloc)
-}
-
-#[tactic(auto, unfolding(crate::specs::SeriesText::series_text))]
-fn text_of(alloc: Global, labels: &Labels) -> Result<Vec<u8>, AllocError>
-    ensures ok { IfOk result (λ text. text.items ≡ series_text labels.now) }
-    ensures text { IfOk result (λ text. IsUtf8 text.items) }
-{
-    let mut text = Vec::new(alloc);
-    match labels.get("__name__") {
-        Some(name) if is_metric_name(name.as_bytes()) => {
-            text.extend_from_slice(name.as_bytes())?;
-            push_rest(&mut text, &unnamed(alloc, labels.pairs())?)?;
-        }
-        _ => push_list(&mut text, &borrowed(alloc, labels.pairs())?)?,
+    if started {
+        out.extend_from_slice(b",")
+    } else {
+        out.extend_from_slice(b"{")
     }
-    Ok(text)
+}
+
+// One more pair of a list, unless it is that of the metric's name. Answers whether the list has started.
+fn push_other(out: &mut Vec<u8>, started: bool, pair: &Pair) -> Result<bool, AllocError>
+    ensures ok { IfOk result (λ s. (ps : List Pair) → out.new.items ++ left_text s ps ≡ out.old.items ++ left_text started (pair.now ∷ ps)) }
+    ensures text { KeepsText out.old.items out.new.items }
+{
+    if is_metric_pair(pair) {
+        return Ok(started);
+    }
+    push_separator(out, started)?;
+    push_pair(out, pair)?;
+    Ok(true)
+}
+
+// The pairs but that of the metric's name, in braces where there are any.
+fn push_rest(out: &mut Vec<u8>, pairs: &[Pair]) -> Result<(), AllocError>
+    ensures ok { OnOk result (out.new.items ≡ out.old.items ++ rest_text (unnamed pairs.now)) }
+    ensures text { KeepsText out.old.items out.new.items }
+{
+    let mut started = false;
+    for pair in pairs {
+        started = push_other(out, started, pair)?;
+    }
+    if started {
+        out.extend_from_slice(b"}")
+    } else {
+        Ok(())
+    }
+}
+
+// The metric's name, and then the other pairs.
+fn push_named(out: &mut Vec<u8>, name: &str, pairs: &[Pair]) -> Result<(), AllocError>
+    ensures ok { OnOk result (out.new.items ≡ out.old.items ++ (name.now ++ rest_text (unnamed pairs.now))) }
+    ensures text { KeepsText out.old.items out.new.items }
+{
+    out.extend_from_slice(name.as_bytes())?;
+    push_rest(out, pairs)
 }
 
 impl Labels {
     /// Appends the printed text: the metric's name first where it is a classic name, and the other labels
-    /// in braces, in order of name. Without memory nothing is appended.
-    pub fn write(&self, alloc: Global, out: &mut Vec<u8>) -> Result<(), AllocError>
+    /// in braces, in order of name. Without memory a part of it may be appended.
+    #[tactic(auto, unfolding(crate::specs::SeriesText::series_text))]
+    pub fn write(&self, out: &mut Vec<u8>) -> Result<(), AllocError>
         ensures ok { OnOk result (out.new.items ≡ out.old.items ++ series_text self.now) }
-        ensures err { OnErr result (out.new.items ≡ out.old.items) }
-        // A text goes on as a text.
+        // A text goes on as a text, also where memory runs out.
         ensures text { KeepsText out.old.items out.new.items }
     {
-        let text = text_of(alloc, self)?;
-        out.extend_from_slice(&text)
+        match self.get(METRIC_LABEL) {
+            Some(name) if is_metric_name(name.as_bytes()) => push_named(out, name, self.pairs()),
+            _ => push_list(out, self.pairs()),
+        }
     }
 }

@@ -63,7 +63,7 @@ fn names_of(alloc: Global, names: &[&str]) -> Result<Vec<Text>, AllocError> {
 
 fn prints(alloc: Global, labels: &Labels, want: &str) -> Result<bool, AllocError> {
     let mut text = Vec::new(alloc);
-    labels.write(alloc, &mut text)?;
+    labels.write(&mut text)?;
     Ok(text.as_slice() == want.as_bytes())
 }
 

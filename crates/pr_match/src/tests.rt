@@ -1,6 +1,7 @@
 //! Patterns, templates and matchers from the documentation of Rust's regular expressions and of Prometheus.
 use super::*;
-use pr_labels::{Labels, read_series_text};
+use pr_labels::Labels;
+use pr_series::read_series_text;
 use std::alloc::Global;
 use std::test::Fail;
 

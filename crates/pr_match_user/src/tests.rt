@@ -1,6 +1,6 @@
 //! Each function once.
 use super::*;
-use pr_labels::read_series_text;
+use pr_series::read_series_text;
 use std::test::Fail;
 
 fn matcher_of(alloc: Global, name: &str, op: MatchOp, text: &str) -> Result<Matcher, Fail> {

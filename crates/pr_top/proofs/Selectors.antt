@@ -4,12 +4,12 @@ use Rattle.std.specs.Prelude.{cond, ◌&&◌}
 use Rattle.std.specs.Str.{bytes_eq, is_utf8}
 use Rattle.pr_labels.specs.declared.pair.Pair.{Pair}
 use Rattle.pr_labels.specs.LabelSet.{IsLabelSet}
-use Rattle.pr_labels.specs.SeriesGrammar.{ReadsLabels}
+use Rattle.pr_series.specs.SeriesGrammar.{ReadsLabels}
 use Rattle.pr_labels.specs.SeriesText.{series_text}
-use Rattle.pr_labels.specs.SeriesReading.{series_labels}
+use Rattle.pr_series.specs.SeriesReading.{series_labels}
 use Rattle.pr_labels.proofs.LabelLaws.{same_names, alike}
-use Rattle.pr_labels.proofs.SeriesEnds.{labels_given, labels_read, labels_are_set, reading_given}
-use Rattle.pr_labels.proofs.SeriesWritten.{written_reads}
+use Rattle.pr_series.proofs.SeriesEnds.{labels_given, labels_read, labels_are_set, reading_given}
+use Rattle.pr_series.proofs.SeriesWritten.{written_reads}
 use Rattle.pr_top.specs.Script.{can_be_asked, is_selector, selector_by, selector_of, series_of}
 
 pub selects : (ls : List Pair) → IsLabelSet ls → is_utf8 (series_text ls) ≡ true → can_be_asked ls ≡ true → selector_of (series_text ls) ≡ Some ls

@@ -12,7 +12,7 @@ use Rattle.pr_num.specs.Reads.{reads}
 use Rattle.pr_labels.specs.declared.pair.Pair.{Pair}
 use Rattle.pr_lex.specs.Words.{word_of}
 use Rattle.pr_labels.specs.LabelSet.{metric_label, value_of}
-use Rattle.pr_labels.specs.SeriesReading.{series_labels}
+use Rattle.pr_series.specs.SeriesReading.{series_labels}
 use Rattle.pr_labels.specs.SeriesText.{series_text}
 use Rattle.pr_words.specs.Fields.{without_trailing, first_field, after_field, last_field, before_last_field}
 use Rattle.pr_world.specs.declared.event.Event.{Event}

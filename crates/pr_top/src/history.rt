@@ -4,7 +4,8 @@ ghost use Rattle.std.specs.Option.{option_copied};
 ghost use Rattle.pr_history.specs.Admission.{admit, is_of, last_entry};
 ghost use Rattle.pr_history.specs.Lookback.{value_at, is_recent};
 ghost use Rattle.pr_labels.specs.LabelSet.{text_at};
-ghost use Rattle.pr_history.specs.Series.{has_values, with_labels, chosen, items_of, selected};
+ghost use Rattle.pr_history.specs.Series.{has_values, chosen, items_of, selected};
+ghost use Rattle.pr_labels.specs.Rising.{with_labels};
 
 use pr_history::{Append, Entry};
 use pr_labels::{Item, Labels, Pair};

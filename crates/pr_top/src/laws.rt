@@ -2,7 +2,7 @@
 ghost use Rattle.std.specs.Prelude.{◌≡◌, ℕ, List, Some, true};
 ghost use Rattle.std.specs.Str.{is_utf8};
 ghost use Rattle.pr_labels.specs.LabelSet.{IsLabelSet};
-ghost use Rattle.pr_labels.specs.SeriesGrammar.{ReadsLabels};
+ghost use Rattle.pr_series.specs.SeriesGrammar.{ReadsLabels};
 ghost use Rattle.pr_labels.specs.SeriesText.{series_text};
 ghost use Rattle.pr_labels.specs.declared.pair.Pair.{Pair};
 ghost use Rattle.pr_top.specs.Script.{can_be_asked, selector_of, series_of};

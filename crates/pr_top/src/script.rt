@@ -5,13 +5,14 @@ ghost use Rattle.std.specs.Char.{is_ascii_digit};
 ghost use Rattle.std.specs.Str.{bytes_eq, is_utf8};
 ghost use Rattle.std.specs.Str.Parse.{digits_value};
 ghost use Rattle.pr_labels.specs.LabelSet.{metric_label, value_of};
-ghost use Rattle.pr_labels.specs.SeriesReading.{series_labels};
+ghost use Rattle.pr_series.specs.SeriesReading.{series_labels};
 ghost use Rattle.pr_labels.specs.SeriesText.{series_text};
 ghost use Rattle.pr_top.specs.Script.{is_comment, is_passed_over, begins_with_zero, is_decimal, time_of, point_of, series_of, is_reserved, can_be_asked, is_selector, selector_of, add_of, query_of, add_in, query_in, event_by, event_of};
 
-use pr_labels::{Labels, TextFault, read_series_text};
+use pr_labels::Labels;
 use pr_lex::word_of;
 use pr_num::Point;
+use pr_series::{TextFault, read_series_text};
 use pr_time::Ms;
 use pr_words::{split_first, split_last, without_trailing};
 use pr_world::Event;
@@ -123,7 +124,7 @@ fn is_printed(alloc: Global, labels: &Labels, text: &[u8]) -> Result<bool, Alloc
     ensures { IfOk result (λ b. b ≡ bytes_eq (series_text labels.now) text.now) }
 {
     let mut printed = Vec::new(alloc);
-    labels.write(alloc, &mut printed)?;
+    labels.write(&mut printed)?;
     Ok(printed.as_slice() == text)
 }
 

@@ -85,7 +85,7 @@ fn push_item(alloc: Global, text: &mut Vec<u8>, item: &Item<Num>) -> Result<(), 
     ensures { OnOk result (text.new.items ≡ text.old.items ++ item_text item.now) }
 {
     text.extend_from_slice(b"value ")?;
-    item.labels.write(alloc, text)?;
+    item.labels.write(text)?;
     text.extend_from_slice(b" ")?;
     push_value(text, item.value)?;
     text.extend_from_slice(b"\n")

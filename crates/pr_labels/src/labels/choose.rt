@@ -2,7 +2,7 @@
 ghost use Rattle.std.specs.Prelude.{◌≡◌, IfOk};
 ghost use Rattle.pr_labels.specs.Edits.{is_listed, listed_labels, unlisted_labels, key_labels};
 
-use super::Labels;
+use super::{Labels, METRIC_LABEL};
 use crate::pair::Pair;
 use pr_words::Text;
 use std::alloc::{AllocError, Global};
@@ -61,7 +61,7 @@ impl Labels {
             return self.keep(alloc, names);
         }
         let mut key = self.without(alloc, names)?;
-        key.remove("__name__");
+        key.remove(METRIC_LABEL);
         Ok(key)
     }
 }

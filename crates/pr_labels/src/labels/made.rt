@@ -1,8 +1,8 @@
 // Label sets of pairs, and of two label sets.
-ghost use Rattle.std.specs.Prelude.{◌≡◌, ◌≢◌, IfOk, IfErr, OnOk, MatchResult};
+ghost use Rattle.std.specs.Prelude.{◌≡◌, ◌≢◌, filter, IfOk, IfErr, OnOk, MatchResult, None};
 ghost use Rattle.std.specs.List.{list_any};
 ghost use Rattle.pr_labels.specs.LabelSet.{has_name};
-ghost use Rattle.pr_labels.specs.Edits.{first_fault, labels_of, pair_fault, union_labels};
+ghost use Rattle.pr_labels.specs.Edits.{first_fault, has_value, labels_of, pair_fault, union_labels};
 
 use super::Labels;
 use crate::fault::LabelFault;
@@ -34,6 +34,19 @@ fn check_pair(before: &[Pair], pair: &Pair) -> Result<(), LabelFault>
     Ok(())
 }
 
+fn has_value(pair: &Pair) -> bool
+    ensures { result ≡ has_value pair.now }
+{
+    !pair.value.as_str().is_empty()
+}
+
+// Drops the pairs whose values are empty.
+fn drop_empty(pairs: &mut Vec<Pair>)
+    ensures { pairs.new.items ≡ filter has_value pairs.old.items }
+{
+    pairs.retain(has_value);
+}
+
 impl Labels {
     /// The label set of pairs in any order. A pair whose value is empty is no label, but its name counts.
     ///
@@ -50,6 +63,18 @@ impl Labels {
             labels.assign(alloc, pair.name.as_str(), pair.value.as_str())?;
         }
         Ok(labels)
+    }
+
+    /// The label set of pairs in any order, where each name is a label name and stands once. A pair whose value is empty
+    /// is no label. The pairs are moved and sorted, so that many take little longer than their sorting.
+    pub fn from_distinct(pairs: Vec<Pair>) -> Result<Labels, AllocError>
+        requires { first_fault pairs.items ≡ None }
+        ensures { IfOk result (λ l. l ≡ labels_of pairs.items) }
+    {
+        let mut pairs = pairs;
+        drop_empty(&mut pairs);
+        pairs.sort()?;
+        Ok(Labels { pairs })
     }
 
     /// The labels of both sets, with the values of `over` where both have a name.

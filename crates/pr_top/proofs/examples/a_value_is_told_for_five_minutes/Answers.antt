@@ -7,7 +7,7 @@ use Rattle.pr_num.specs.Half.{half_abs}
 use Rattle.pr_num.specs.Reads.{reads}
 use Rattle.pr_num.specs.Shown.{shown}
 use Rattle.pr_labels.specs.SeriesText.{series_text}
-use Rattle.pr_labels.proofs.SeriesExamples.{metric}
+use Rattle.pr_series.proofs.SeriesExamples.{metric}
 use Rattle.pr_lex.specs.Words.{is_word, word_of, word_text, words}
 use Rattle.pr_top.proofs.examples.a_value_is_told_for_five_minutes.Goals as goal
 

@@ -1,5 +1,5 @@
 use Rattle.std.proofs.Common.{◌≡◌, ◌++◌, take, drop}
-use Rattle.pr_history.specs.Series.{with_labels}
+use Rattle.pr_labels.specs.Rising.{with_labels}
 use Rattle.pr_top.proofs.history.place_of.Given as goal
 
 -- the label set goes behind those so far

@@ -1,0 +1,11 @@
+pub mod SeriesTable
+pub mod SeriesEnds
+pub mod SeriesReading
+pub mod ByRules
+pub mod SeriesNames
+pub mod KnownNames
+pub mod SeriesExamples
+pub mod SeriesWritten
+pub mod PartsRead
+pub mod ByParts
+pub mod PartsKnown

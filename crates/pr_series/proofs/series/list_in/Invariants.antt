@@ -1,0 +1,16 @@
+use Rattle.std.proofs.Common.{ℕ, List, length}
+use Rattle.std.specs.Str.{IsUtf8}
+use Rattle.pr_forms.specs.Form.{Form, rule}
+use Rattle.pr_strings.specs.Strings.{Letter}
+use Rattle.pr_series.specs.SeriesGrammar.{Rule, Value, Items, Item}
+use Rattle.pr_series.specs.SeriesReader.{Reaches, names_of}
+use Rattle.pr_series.proofs.series.list_in.Given as goal
+
+abbrev pub invariant-loop-found : goal.invariant-loop-found
+invariant-loop-found l = record {
+  read : (f : Form Letter Rule Value) (whole : List ℕ) → Reaches f whole l.fn.before.pairs.items (rule (Items (names_of l.fn.before.pairs.items))) l.text → Reaches f whole l.found.pairs.items (rule (Item (names_of l.found.pairs.items))) l.rest;
+  text : IsUtf8 l.rest;
+}
+
+abbrev pub decreases-loop-found : goal.decreases-loop-found
+decreases-loop-found l = length l.rest

@@ -1,0 +1,4 @@
+pub mod SeriesGrammar
+pub mod SeriesParts
+pub mod SeriesReading
+pub mod SeriesReader

@@ -1,0 +1,247 @@
+-- Series texts: what they read, and where they are bad.
+use Rattle.std.specs.Prelude.{◌≡◌, ℕ, ◌||◌, Bool, true, false, Option, Some, None, List, [], ◌∷◌, ◌++◌, if◌then◌else◌}
+use Rattle.std.specs.List.{list_any}
+use Rattle.std.specs.Str.{bytes_eq}
+use Rattle.pr_forms.specs.Form.{Form, token, nothing, pair, either, turns, chosen, rule, Reads, IsFirstBad}
+use Rattle.pr_forms.specs.Table.{Table}
+use Rattle.pr_strings.specs.declared.kind.Kind.{Kind}
+use Rattle.pr_strings.specs.declared.kind.Kind.TheVariants.{A, B, F, N, R, T, V, X, Short, Long, HexLetter, OtherLetter, Digit, Colon, Open, Close, Comma, Equal, Blank}
+use Rattle.pr_strings.specs.Strings as strings
+use Rattle.pr_strings.specs.Strings.{Letter, letter, seen}
+use Rattle.pr_strings.specs.Within.{Embedding, within}
+use Rattle.pr_labels.specs.declared.pair.Pair.{Pair}
+use Rattle.pr_series.specs.declared.series.TextFault.{TextFault}
+use Rattle.pr_series.specs.declared.series.TextFault.TheVariants.{BadLabels, Memory}
+use Rattle.pr_labels.specs.Edits.{labels_of}
+use Rattle.pr_labels.specs.LabelSet.{metric_label, pair_of}
+
+-- What stands for a part of a series text.
+pub data Value : Type 0 where
+  -- labels, in the order of the text, the metric's name among them as the first
+  listed : List Pair → Value
+  -- a part of a string
+  quoted : strings.Value → Value
+  -- a byte that has no value alone
+  mark : Value
+
+-- The rules. A list of names has those that stand before: a name stands once.
+pub data Rule : Type 0 where
+  -- a series text
+  Series : Rule
+  -- a byte of a metric's name, with which the name is this so far, and the rest of the text; and that rest
+  MetricByte : List ℕ → Rule
+  MetricRest : List ℕ → Rule
+  -- what may stand after a metric's name
+  Tail : Rule
+  -- a label list after a metric's name, with the blanks before it
+  Listed : Rule
+  -- a label list from its brace on
+  Braces : List (List ℕ) → Rule
+  -- what stands after a brace or a comma, with blanks before it and without them
+  Items : List (List ℕ) → Rule
+  Item : List (List ℕ) → Rule
+  -- a byte of a label's name, with which the name is this so far, and the rest of the list; and that rest
+  NameByte : List (List ℕ) → List ℕ → Rule
+  NameRest : List (List ℕ) → List ℕ → Rule
+  -- what stands after a whole name, which may stand before too
+  Named : Bool → List (List ℕ) → List ℕ → Rule
+  -- what stands after a value, with blanks before it and without them
+  After : List (List ℕ) → Rule
+  Next : List (List ℕ) → Rule
+  -- a rule of strings
+  InString : strings.Rule → Rule
+
+-- letters and underscores, of which names begin
+abbrev pub is_letter_kind : Kind → Bool
+is_letter_kind A = true
+is_letter_kind B = true
+is_letter_kind F = true
+is_letter_kind N = true
+is_letter_kind R = true
+is_letter_kind T = true
+is_letter_kind V = true
+is_letter_kind X = true
+is_letter_kind Short = true
+is_letter_kind Long = true
+is_letter_kind HexLetter = true
+is_letter_kind OtherLetter = true
+is_letter_kind _ = false
+
+-- names go on with digits too, and a metric's name may have colons
+abbrev pub is_label_kind : Kind → Bool
+is_label_kind Digit = true
+is_label_kind k = is_letter_kind k
+
+abbrev pub is_metric_letter_kind : Kind → Bool
+is_metric_letter_kind Colon = true
+is_metric_letter_kind k = is_letter_kind k
+
+abbrev pub is_metric_kind : Kind → Bool
+is_metric_kind Digit = true
+is_metric_kind k = is_metric_letter_kind k
+
+abbrev pub same_sign : Kind → Kind → Bool
+same_sign Open Open = true
+same_sign Close Close = true
+same_sign Comma Comma = true
+same_sign Equal Equal = true
+same_sign Blank Blank = true
+same_sign _ _ = false
+
+abbrev pub sign_at : Kind → Letter → Option Value
+sign_at sign (letter k b) = if same_sign sign k then Some mark else None
+
+abbrev pub sign : Kind → Form Letter Rule Value
+sign k = token (sign_at k)
+
+abbrev pub none_at : Letter → Option Value
+none_at t = None
+
+abbrev pub any_at : Letter → Option Value
+any_at t = Some mark
+
+abbrev pub metric_start : Letter → Option Rule
+metric_start (letter k b) = if is_metric_letter_kind k then Some (MetricByte (b ∷ [])) else None
+
+abbrev pub metric_byte : List ℕ → Letter → Option Rule
+metric_byte name (letter k b) = if is_metric_kind k then Some (MetricByte (name ++ b ∷ [])) else None
+
+abbrev pub name_start : List (List ℕ) → Letter → Option Rule
+name_start names (letter k b) = if is_letter_kind k then Some (NameByte names (b ∷ [])) else None
+
+abbrev pub name_byte : List (List ℕ) → List ℕ → Letter → Option Rule
+name_byte names name (letter k b) = if is_label_kind k then Some (NameByte names (name ++ b ∷ [])) else None
+
+-- whether a name stands among those before
+abbrev pub is_named : List ℕ → List (List ℕ) → Bool
+is_named name names = list_any (λ n. bytes_eq n name) names
+
+-- how the values of parts are joined
+abbrev pub second_of : Value → Value → Value
+second_of v w = w
+
+abbrev pub headed : List ℕ → Value → Value → Value
+headed name v (listed pairs) = listed (pair_of metric_label name ∷ pairs)
+headed name v w = mark
+
+abbrev pub labelled : List ℕ → Value → Value → Value
+labelled name (quoted (strings.content bytes)) (listed pairs) = listed (pair_of name bytes ∷ pairs)
+labelled name v w = mark
+
+-- the strings among the rules and the values
+abbrev pub inner_value : Value → Option strings.Value
+inner_value (quoted v) = Some v
+inner_value v = None
+
+abbrev pub embedding : Embedding strings.Rule strings.Value Rule Value
+embedding = record { rule_of = InString; value_of = quoted; inner = inner_value; mark_of = mark }
+
+abbrev pub nothing_follows : Letter → Bool
+nothing_follows t = false
+
+-- what may go on after a whole text: its metric's name, or the list after it
+abbrev pub is_tail_kind : Kind → Bool
+is_tail_kind Blank = true
+is_tail_kind Open = true
+is_tail_kind _ = false
+
+abbrev pub is_tail : Letter → Bool
+is_tail (letter k b) = is_tail_kind k
+
+abbrev pub goes_on : Letter → Bool
+goes_on (letter k b) = is_metric_kind k || is_tail_kind k
+
+abbrev pub blanks : Form Letter Rule Value
+blanks = turns second_of mark (sign Blank)
+
+-- The productions:
+--   series        = metric-name tail | braces
+--   tail          = blanks braces |
+--   braces        = "{" items
+--   items         = blanks item
+--   item          = "}" | label-name blanks "=" blanks string after
+--   after         = blanks ( "," items | "}" )
+-- A label's name that stands before cannot be followed by anything. `__name__` stands before where a metric's name does.
+abbrev pub production : Rule → Form Letter Rule Value
+production Series = either (chosen metric_start goes_on) (rule (Braces []))
+production (MetricByte name) = pair second_of (token any_at) (rule (MetricRest name))
+production (MetricRest name) = either (chosen (metric_byte name) goes_on) (pair (headed name) (nothing mark) (rule Tail))
+production Tail = either (rule Listed) (nothing (listed []))
+production Listed = pair second_of blanks (rule (Braces (metric_label ∷ [])))
+production (Braces names) = pair second_of (sign Open) (rule (Items names))
+production (Items names) = pair second_of blanks (rule (Item names))
+production (Item names) = either (pair second_of (sign Close) (nothing (listed []))) (chosen (name_start names) nothing_follows)
+production (NameByte names name) = pair second_of (token any_at) (rule (NameRest names name))
+production (NameRest names name) = either (chosen (name_byte names name) nothing_follows) (rule (Named (is_named name names) names name))
+production (Named true names name) = token none_at
+production (Named false names name) = pair second_of blanks (pair second_of (sign Equal) (pair second_of blanks
+    (pair (labelled name) (rule (InString strings.Text)) (rule (After (names ++ name ∷ []))))))
+production (After names) = pair second_of blanks (rule (Next names))
+production (Next names) = either (pair second_of (sign Comma) (rule (Items names))) (pair second_of (sign Close) (nothing (listed [])))
+production (InString n) = within embedding (strings.production n)
+
+-- What one byte ahead tells of the rules.
+abbrev pub starts_named : Bool → Kind → Bool
+starts_named true k = false
+starts_named false k = same_sign Blank k || same_sign Equal k
+
+abbrev pub starts_kind : Rule → Kind → Bool
+starts_kind Series k = is_metric_letter_kind k || same_sign Open k
+starts_kind (MetricByte name) k = true
+starts_kind (MetricRest name) k = is_metric_kind k || is_tail_kind k
+starts_kind Tail k = is_tail_kind k
+starts_kind Listed k = is_tail_kind k
+starts_kind (Braces names) k = same_sign Open k
+starts_kind (Items names) k = same_sign Blank k || (same_sign Close k || is_letter_kind k)
+starts_kind (Item names) k = same_sign Close k || is_letter_kind k
+starts_kind (NameByte names name) k = true
+starts_kind (NameRest names name) k = is_label_kind k || starts_named (is_named name names) k
+starts_kind (Named twice names name) k = starts_named twice k
+starts_kind (After names) k = same_sign Blank k || (same_sign Comma k || same_sign Close k)
+starts_kind (Next names) k = same_sign Comma k || same_sign Close k
+starts_kind (InString n) k = false
+
+abbrev pub starts_rule : Rule → Letter → Bool
+starts_rule (InString n) t = strings.table.starts n t
+starts_rule n (letter k b) = starts_kind n k
+
+abbrev pub empty_rule : Rule → Bool
+empty_rule (MetricRest name) = true
+empty_rule Tail = true
+empty_rule (InString n) = strings.table.empty n
+empty_rule _ = false
+
+-- only a metric's name can go on, and the list after it can come
+abbrev pub more_rule : Rule → Letter → Bool
+more_rule Series t = goes_on t
+more_rule (MetricByte name) t = goes_on t
+more_rule (MetricRest name) t = goes_on t
+more_rule Tail t = is_tail t
+more_rule _ t = false
+
+abbrev pub table : Table Letter Rule
+table = record { empty = empty_rule; starts = starts_rule; more = more_rule }
+
+-- The text is a series text, with these labels in its order; values may be empty.
+abbrev pub ReadsSeries : List ℕ → List Pair → Type 0
+ReadsSeries text pairs = Reads production (rule Series) (seen text) (listed pairs) []
+
+-- The text is a series text, and its label set is this one: the set of the pairs that it reads.
+pub record ReadsLabels (text : List ℕ) (labels : List Pair) : Type 0 where
+  pub pairs : List Pair
+  pub reads : ReadsSeries text pairs
+  pub are : labels ≡ labels_of pairs
+
+-- The place is the first one at which no series text can go on.
+abbrev pub IsBadPlace : List ℕ → ℕ → Type 0
+IsBadPlace text place = IsFirstBad production (rule Series) (seen text) place
+
+-- A text is refused at the first place at which no series text can go on.
+abbrev pub Refuses : List ℕ → TextFault → Type 0
+Refuses text (BadLabels at) = IsBadPlace text at
+Refuses text Memory = Unit {0}
+
+-- Only want of memory keeps a series text from being read.
+abbrev pub Misses : TextFault → Type 0
+Misses (BadLabels at) = ⊥
+Misses Memory = Unit {0}

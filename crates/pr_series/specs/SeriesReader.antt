@@ -1,0 +1,85 @@
+-- What the functions that read a series text say of themselves.
+use Rattle.std.specs.Prelude.{◌≡◌, ℕ, List, [], ◌∷◌, ◌++◌, Bool, true, false, map}
+use Rattle.std.specs.BTreeSet.{BTreeSet, contains_by}
+use Rattle.std.specs.Borrow.{Bor}
+use Rattle.std.specs.Cmp.Lexicographic.{slice_cmp}
+use Rattle.std.specs.Ordering.{nat_cmp}
+use Rattle.pr_forms.specs.Form.{Form, pair, rule}
+use Rattle.pr_forms.specs.Table.{is_next}
+use Rattle.pr_forms.specs.Run.{Outcome, good, bad, Runs, Takes as TakesBy, Lacks as LacksBy, Leads as LeadsBy}
+use Rattle.pr_forms.specs.Reader.{FailsBy}
+use Rattle.pr_forms.specs.declared.reader.Fault.{Fault}
+use Rattle.pr_strings.specs.declared.kind.Kind.{Kind}
+use Rattle.pr_strings.specs.declared.kind.Kind.TheVariants.{Equal, Close}
+use Rattle.pr_strings.specs.Strings.{Letter, kind_of, seen}
+use Rattle.pr_labels.specs.declared.pair.Pair.{Pair}
+use Rattle.pr_series.specs.declared.series.Part.{Part}
+use Rattle.pr_series.specs.declared.series.Part.TheVariants.{MetricFirst, MetricNext, LabelFirst, LabelNext}
+use Rattle.pr_series.specs.SeriesGrammar.{production, table, Rule, Value, listed, mark, Listed, blanks, sign, second_of, is_letter_kind, is_label_kind, is_metric_letter_kind, is_metric_kind}
+
+abbrev pub Gives : Form Letter Rule Value → List ℕ → Outcome Letter Value → Type 0
+Gives f text o = Runs production table f (seen text) o
+
+abbrev pub Takes : Form Letter Rule Value → List ℕ → Value → List ℕ → Type 0
+Takes f text v rest = TakesBy production table f (seen text) v (seen rest)
+
+abbrev pub Lacks : Form Letter Rule Value → List ℕ → Type 0
+Lacks f text = LacksBy production table f (seen text)
+
+abbrev pub Leads : Form Letter Rule Value → List ℕ → Form Letter Rule Value → List ℕ → Type 0
+Leads f text g rest = LeadsBy production table f (seen text) g (seen rest)
+
+abbrev pub FailsAt : Form Letter Rule Value → List ℕ → Fault ℕ → Type 0
+FailsAt f text fault = FailsBy seen production table f (seen text) fault
+
+abbrev pub names_of : List Pair → List (List ℕ)
+names_of = map (λ p. p.name)
+
+-- whether a set of names has a name
+abbrev pub knows : BTreeSet (Bor (List ℕ)) → List ℕ → Bool
+knows names name = contains_by (λ n. slice_cmp nat_cmp name n.now) names
+
+-- The text begins with the name.
+pub record BeginsWith (text : List ℕ) (name : List ℕ) : Type 0 where
+  pub more : List ℕ
+  pub is : text ≡ name ++ more
+
+-- After these labels comes what the second form reads, and it decides.
+pub record Reaches (f : Form Letter Rule Value) (text : List ℕ) (done : List Pair) (g : Form Letter Rule Value) (rest : List ℕ) : Type 0 where
+  pub reads : (ps : List Pair) (end : List Letter) → Gives g rest (good (listed ps) end) → Gives f text (good (listed (done ++ ps)) end)
+  pub fails : (end : List Letter) → Gives g rest (bad end) → Gives f text (bad end)
+
+-- The form ends with a closing brace, or fails where there is none.
+pub record CanClose (g : Form Letter Rule Value) (text : List ℕ) : Type 0 where
+  pub closes : (rest : List ℕ) → Takes (sign Close) text mark rest → Gives g text (good (listed []) (seen rest))
+  pub fails : Lacks (sign Close) text → Gives g text (bad (seen text))
+
+-- whether a label list, or blanks before one, come next
+abbrev pub starts_listed : List ℕ → Bool
+starts_listed text = is_next {V = Value} table (rule Listed) (seen text)
+
+-- the bytes of a part of a name
+abbrev pub in_part : Part → Kind → Bool
+in_part MetricFirst k = is_metric_letter_kind k
+in_part MetricNext k = is_metric_kind k
+in_part LabelFirst k = is_letter_kind k
+in_part LabelNext k = is_label_kind k
+
+-- No byte of the part is at the front.
+pub data IsOver (part : Part) : List ℕ → Type 0 where
+  over_end : IsOver part []
+  over_byte : {b : ℕ} {bytes : List ℕ} → in_part part (kind_of b) ≡ false → IsOver part (b ∷ bytes)
+
+-- A byte of the part is at the front.
+pub record IsPart (part : Part) (text : List ℕ) (b : ℕ) (rest : List ℕ) : Type 0 where
+  pub is : text ≡ b ∷ rest
+  pub has : in_part part (kind_of b) ≡ true
+
+-- The bytes at the front that are of the part go on a name.
+pub data GoesOn (part : Part) : List ℕ → List ℕ → List ℕ → List ℕ → Type 0 where
+  name_over : {name text : List ℕ} → IsOver part text → GoesOn part name text name text
+  name_more : {start text whole rest mid : List ℕ} {b : ℕ} → IsPart part text b mid → GoesOn part (start ++ b ∷ []) mid whole rest → GoesOn part start text whole rest
+
+-- the sign between a name and a value, before what reads the value
+abbrev pub equals : Form Letter Rule Value → Form Letter Rule Value
+equals h = pair second_of blanks (pair second_of (sign Equal) (pair second_of blanks h))
