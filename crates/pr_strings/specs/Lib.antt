@@ -1,5 +1,5 @@
 pub mod Strings
 pub mod Reader
-pub mod Within
+pub mod Language
 pub mod Quoted
 pub mod StringAnswer
