@@ -1,14 +1,13 @@
 -- Every text has a run, where one token ahead decides the grammar and the grammar ends: so the reading is a function of the text.
-use Rattle.std.proofs.Common.{◌≡◌, ℕ, zero, suc, ◌+◌, ◌*◌, ◌-◌, ◌≤◌, ◌<◌, nat_le, List, [], ◌∷◌, length, Option, Some, None, Bool, true, false, refl, sym, ap, subst, ◌∙◌, arith, inl, inr, pred, mul-le-mul_left, mul-suc}
+use Rattle.std.proofs.Common.{◌≡◌, ℕ, zero, suc, ◌+◌, ◌*◌, ◌-◌, ◌≤◌, ◌<◌, List, [], ◌∷◌, length, Option, Some, None, Bool, true, false, refl, sym, ap, subst, ◌∙◌, arith, inl, inr, pred, mul-le-mul_left, mul-suc}
 use Rattle.std.specs.Prelude.{◌&&◌, ◌||◌, ◌⊎◌}
 use Rattle.std.proofs.lemmas.Bool.{leb-true, le-leb}
 use Rattle.pr_forms.specs.Form.{Form, token, nothing, pair, either, turns, fold, rule, chosen, Reads, is_chosen, is_token, is_nothing, is_pair, is_left, is_right, is_stop, is_turn, is_fold, is_rule, IsFirstBad}
 use Rattle.pr_forms.specs.Table.{Table, empty_of, is_next, IsDecided, Decides}
 use Rattle.pr_forms.specs.Run.{Runs, Outcome, good, bad, left_of, run_chosen, run_chosen_bad, run_unchosen, run_chosen_end, run_token, run_other, run_end, run_nothing, run_pair, run_first, run_second, run_left, run_right, run_stop, run_turn, run_in_turn, run_fold, run_base, run_rule}
-use Rattle.pr_forms.specs.Reading.{then_of, joining, token_outcome, chosen_outcome, run_in, whole_value, tokens_left, reading, bad_place, after_part, EndsIn, Ends}
+use Rattle.pr_forms.specs.Reading.{run_in, whole_value, tokens_left, reading, bad_place, after_part, EndsIn, Ends}
 use Rattle.pr_forms.proofs.Suffixes.{suffix_length, reads_suffix}
 use Rattle.pr_forms.proofs.Sound.{meets, reads}
-use Rattle.pr_forms.proofs.Heads.{Empty}
 use Rattle.pr_forms.proofs.Decided.{rule_decides, decides_first, decides_second, decides_left, decides_right, decides_turn, decides_again, decides_full_turn, decides_base, decides_turns}
 use Rattle.pr_forms.proofs.Places.{run_place, only_reading}
 

@@ -12,3 +12,9 @@ pub mod Public
 pub mod Longer
 pub mod Taking
 pub mod Ending
+pub mod Carrying
+pub mod Nested
+pub mod Choosing
+pub mod Fronts
+pub mod ByRules
+pub mod Within

@@ -46,8 +46,9 @@ module _ {T N V : Type 0} (G : N → Form T N V) (f : Form T N V) where
   pub begins_other_rest : (front r s : List T) → Begins G f (front ++ r) r → Begins G f (front ++ s) s
   begins_other_rest front r s b = let x = resume s b in subst (λ us. Begins G f us s) (same_unique x.same (same_front front r s)) x.begins
 
-  to_whole : (j m : ℕ) (ts : List T) → j ≤ m → Begins G f (take m ts) (drop j (take m ts)) → Begins G f ts (drop j ts)
-  to_whole j m ts h b = let x = resume (drop j ts) b in subst (λ us. Begins G f us (drop j ts)) (same_unique x.same (same_part j m ts h)) x.begins
+  -- a beginning within a front of the tokens is one of all
+  pub part_begins : (j m : ℕ) (ts : List T) → j ≤ m → Begins G f (take m ts) (drop j (take m ts)) → Begins G f ts (drop j ts)
+  part_begins j m ts h b = let x = resume (drop j ts) b in subst (λ us. Begins G f us (drop j ts)) (same_unique x.same (same_part j m ts h)) x.begins
 
   to_part : (j m : ℕ) (ts : List T) → j ≤ m → Begins G f ts (drop j ts) → Begins G f (take m ts) (drop j (take m ts))
   to_part j m ts h b = let x = resume (drop j (take m ts)) b in
@@ -65,7 +66,7 @@ module _ {T N V : Type 0} (G : N → Form T N V) (f : Form T N V) where
   pub part_place : (ts : List T) (m k : ℕ) → k < m → m ≤ length ts → IsFirstBad G f (take m ts) k → IsFirstBad G f ts k
   part_place ts m k h l p = record {
     within = omega arith;
-    before = λ j i. to_whole j m ts (omega arith) (p.before j i);
+    before = λ j i. part_begins j m ts (omega arith) (p.before j i);
     after = λ j a b x. past j a x (le_or_lt j m);
   }
     where

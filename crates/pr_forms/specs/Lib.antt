@@ -4,3 +4,6 @@ pub mod Run
 pub mod Reader
 pub mod Take
 pub mod Reading
+pub mod Carries
+pub mod Language
+pub mod Within

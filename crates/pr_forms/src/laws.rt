@@ -1,10 +1,12 @@
 //! The laws of grammars. Each stands as the contract of a function that does nothing, at any tokens `T`, rule
 //! names `N` and values `V`; callers' proofs cite the lemmas of `proofs/` that prove them.
-ghost use Rattle.std.specs.Prelude.{◌≡◌, Some, ℕ, List, [], ◌++◌, ◌<◌, ◌≤◌, ◌-◌, length, take, drop};
+ghost use Rattle.std.specs.Prelude.{◌≡◌, Some, ℕ, List, [], ◌++◌, ◌<◌, ◌≤◌, ◌-◌, length, take, drop, map, false};
 ghost use Rattle.pr_forms.specs.Form.{Form, rule, Reads, Begins, IsFirstBad};
-ghost use Rattle.pr_forms.specs.Table.{Table, IsDecided};
+ghost use Rattle.pr_forms.specs.Table.{Table, more_of, Decides, IsDecided};
 ghost use Rattle.pr_forms.specs.Run.{Runs, Outcome, good, bad, left_of};
 ghost use Rattle.pr_forms.specs.Reading.{Ends, reading, bad_place};
+ghost use Rattle.pr_forms.specs.Language.{Language, seen};
+ghost use Rattle.pr_forms.specs.Within.{Embedding, within, Holds, HoldsTable, IsWithin};
 
 /// Two readings of a text have the same value, where one token ahead decides the grammar.
 pub fn two_readings_agree<T, N, V>()
@@ -91,4 +93,31 @@ pub fn reading_is_a_function<T, N, V>()
 pub fn bad_place_is_a_function<T, N, V>()
     ensures { (G : N → Form T N V) (S : Table T N) (rank : N → ℕ) (limit : ℕ) (n : N) (ts : List T) →
         IsDecided G S → Ends G S rank limit → IsFirstBad G (rule n) ts (bad_place G S limit (rule n) ts) }
+{}
+
+/// The front of a text is read in one way at most, where nothing may go on after the form.
+pub fn front_is_read_in_one_way<T, N, V>()
+    ensures one { (G : N → Form T N V) (S : Table T N) (f : Form T N V) (ts r s : List T) (v w : V) → IsDecided G S → Decides S f →
+        ((t : T) → more_of S f t ≡ false) → Runs G S f ts (good v r) → Reads G f ts w s → (w ≡ v) × (s ≡ r) }
+    ensures none { (G : N → Form T N V) (S : Table T N) (f : Form T N V) (ts r s : List T) (w : V) → IsDecided G S → Decides S f →
+        ((t : T) → more_of S f t ≡ false) → Runs G S f ts (bad r) → Reads G f ts w s → ⊥ }
+{}
+
+/// A language within another one reads there what it reads alone.
+pub fn reading_within_another<A, T, N, V, U, M, W>()
+    ensures { (p : Embedding T N V U M W) (L : Language A T N V) (K : Language A U M W) (f : Form T N V) (ts rest : List A) (v : V) → IsWithin p L K →
+        Reads L.production f (seen L ts) v (seen L rest) → Reads K.production (within p f) (seen K ts) (p.value_of v) (seen K rest) }
+{}
+
+/// What begins a text of the language begins one within the other.
+pub fn beginning_within_another<A, T, N, V, U, M, W>()
+    ensures { (p : Embedding T N V U M W) (L : Language A T N V) (K : Language A U M W) (f : Form T N V) (ts rest : List A) → IsWithin p L K →
+        Begins L.production f (seen L ts) (seen L rest) → Begins K.production (within p f) (seen K ts) (seen K rest) }
+{}
+
+/// The first bad place is the same one, where both grammars are decided and the one within ends.
+pub fn bad_place_within_another<T, N, V, U, M, W>()
+    ensures { (p : Embedding T N V U M W) (G : N → Form T N V) (S : Table T N) (H : M → Form U M W) (Z : Table U M) (rank : N → ℕ) (limit : ℕ) (us : List U) (n : N) (k : ℕ) →
+        Holds p G H → HoldsTable p S Z → IsDecided G S → IsDecided H Z → Ends G S rank limit →
+        IsFirstBad G (rule n) (map p.token_of us) k → IsFirstBad H (rule (p.rule_of n)) us k }
 {}

@@ -9,8 +9,6 @@ use Rattle.pr_forms_sample.specs.declared.tree.Operator.{Operator}
 use Rattle.pr_forms_sample.specs.declared.tree.Operator.TheVariants.{Add, Subtract, Multiply}
 use Rattle.pr_forms_sample.specs.declared.parser.Level.{Level}
 use Rattle.pr_forms_sample.specs.declared.parser.Level.TheVariants.{Sum, Product}
-use Rattle.pr_forms_sample.specs.declared.parser.ParseError.{ParseError}
-use Rattle.pr_forms_sample.specs.declared.parser.ParseError.TheVariants.{Bad, Memory}
 use Rattle.pr_forms_sample.specs.Tree.{Seen, number_token, name_token, sign_token, Tree, number, name, negated, binary, call, none, more}
 
 -- What stands for a part of a text.
@@ -208,13 +206,3 @@ HasTree _ _ = ⊥
 
 abbrev pub IsBadPlace : List Seen → ℕ → Type 0
 IsBadPlace ts place = IsFirstBad production (rule (Binary Sum)) ts place
-
--- Why there is no tree: the first bad place, or want of memory.
-abbrev pub Refuses : List Seen → ParseError → Type 0
-Refuses ts (Bad place) = IsBadPlace ts place
-Refuses ts Memory = Unit {0}
-
--- A text that has a tree is refused so: only where memory runs out.
-abbrev pub Misses : ParseError → Type 0
-Misses (Bad place) = ⊥
-Misses Memory = Unit {0}

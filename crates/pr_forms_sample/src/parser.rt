@@ -1,5 +1,5 @@
 //! The parser.
-ghost use Rattle.std.specs.Prelude.{◌≡◌, ◌<◌, ◌≤◌, length, IfOk, IfSome, MatchOption, MatchResult, [], List, option_map};
+ghost use Rattle.std.specs.Prelude.{◌≡◌, ◌<◌, ◌≤◌, length, IfOk, IfSome, MatchOption, MatchResult, IfErr, None, [], List, option_map};
 ghost use Rattle.pr_forms.specs.Form.{rule, Reads};
 ghost use Rattle.pr_forms.specs.Run.{good};
 ghost use Rattle.pr_forms_sample.specs.declared.tree.Sign.TheVariants.{Minus, Open, Close, Comma};
@@ -36,11 +36,12 @@ ghost use Rattle.pr_forms_sample.specs.Grammar.{
   Derives,
   HasTree,
   IsBadPlace,
-  Refuses,
-  Misses,
 };
-ghost use Rattle.pr_forms_sample.specs.Reader.{Gives, FailsAt, Takes, Lacks, value_of, group, argument_starts};
+ghost use Rattle.pr_forms_sample.specs.Depth.{limit, first_too_deep, IsReading, Refuses, Misses};
+ghost use Rattle.pr_forms.specs.Language.{Gives, FailsAt, Takes, Lacks};
+ghost use Rattle.pr_forms_sample.specs.Reader.{sums, value_of, group, argument_starts};
 
+use crate::depth::first_too_deep;
 use crate::tree::{Expr, ExprKind, Operator, Place, Sign, Token, TokenKind};
 use pr_forms::{Fault, place_of, take};
 use std::alloc::{AllocError, Global};
@@ -64,6 +65,8 @@ pub enum ParseError {
     /// The tokens before this index begin some text, and with the one there they begin none. The number of tokens, where
     /// they end too early.
     Bad { index: usize },
+    /// The tokens before this index can go on with the one there, but it is an operator or an opening parenthesis too many.
+    TooDeep { index: usize },
     Memory,
 }
 
@@ -106,7 +109,7 @@ fn operator_by(level: Level, sign: Sign) -> Option<Operator>
 
 /// The operator of the level at the front, and what follows it.
 fn operator_in(level: Level, tokens: &[Token]) -> Option<(Operator, &[Token])>
-    ensures read { MatchOption result (Lacks (operator level) tokens.now) (λ x. Takes (operator level) tokens.now (operation x.0) x.1.now) }
+    ensures read { MatchOption result (Lacks sums (operator level) tokens.now) (λ x. Takes sums (operator level) tokens.now (operation x.0) x.1.now) }
     ensures shorter { IfSome result (λ x. length x.1.now < length tokens.now) }
 {
     take(
@@ -124,7 +127,7 @@ fn operator_in(level: Level, tokens: &[Token]) -> Option<(Operator, &[Token])>
 
 /// The place of the sign at the front, and what follows it.
 fn after(wanted: Sign, tokens: &[Token]) -> Option<(Place, &[Token])>
-    ensures read { MatchOption result (Lacks (sign wanted) tokens.now) (λ x. Takes (sign wanted) tokens.now (at x.0) x.1.now) }
+    ensures read { MatchOption result (Lacks sums (sign wanted) tokens.now) (λ x. Takes sums (sign wanted) tokens.now (at x.0) x.1.now) }
     ensures shorter { IfSome result (λ x. length x.1.now < length tokens.now) }
 {
     take(
@@ -231,14 +234,14 @@ fn operation_made(
 }
 
 #[cycle(parser)]
-#[tactic(auto, using(pr_forms::proofs::Ways::ways))]
+#[tactic(auto, using(pr_forms::proofs::Ways::ways, pr_forms::proofs::Carrying::carrying))]
 fn binary_at(
     alloc: Global,
     level: Level,
     tokens: &[Token],
 ) -> Result<(Part, &[Token]), Fault<'_, Token>>
-    ensures read { MatchResult result (λ x. Gives (rule (Binary level)) tokens.now (good (value_of x.0) (seen x.1.now)))
-        (FailsAt (rule (Binary level)) tokens.now) }
+    ensures read { MatchResult result (λ x. Gives sums (rule (Binary level)) tokens.now (good (value_of x.0) (seen x.1.now)))
+        (FailsAt sums (rule (Binary level)) tokens.now) }
     ensures shorter { IfOk result (λ x. length x.1.now < length tokens.now) }
 {
     let (mut left, mut rest) = tighter_at(alloc, level, tokens)?;
@@ -251,14 +254,14 @@ fn binary_at(
 }
 
 #[cycle(parser)]
-#[tactic(auto, using(pr_forms::proofs::Ways::ways))]
+#[tactic(auto, using(pr_forms::proofs::Ways::ways, pr_forms::proofs::Carrying::carrying))]
 fn tighter_at(
     alloc: Global,
     level: Level,
     tokens: &[Token],
 ) -> Result<(Part, &[Token]), Fault<'_, Token>>
-    ensures read { MatchResult result (λ x. Gives (rule (tighter level)) tokens.now (good (value_of x.0) (seen x.1.now)))
-        (FailsAt (rule (tighter level)) tokens.now) }
+    ensures read { MatchResult result (λ x. Gives sums (rule (tighter level)) tokens.now (good (value_of x.0) (seen x.1.now)))
+        (FailsAt sums (rule (tighter level)) tokens.now) }
     ensures shorter { IfOk result (λ x. length x.1.now < length tokens.now) }
 {
     match level {
@@ -268,9 +271,9 @@ fn tighter_at(
 }
 
 #[cycle(parser)]
-#[tactic(auto, using(pr_forms::proofs::Ways::ways))]
+#[tactic(auto, using(pr_forms::proofs::Ways::ways, pr_forms::proofs::Carrying::carrying))]
 fn unary_at(alloc: Global, tokens: &[Token]) -> Result<(Part, &[Token]), Fault<'_, Token>>
-    ensures read { MatchResult result (λ x. Gives (rule Unary) tokens.now (good (value_of x.0) (seen x.1.now))) (FailsAt (rule Unary) tokens.now) }
+    ensures read { MatchResult result (λ x. Gives sums (rule Unary) tokens.now (good (value_of x.0) (seen x.1.now))) (FailsAt sums (rule Unary) tokens.now) }
     ensures shorter { IfOk result (λ x. length x.1.now < length tokens.now) }
 {
     match after(Sign::Minus, tokens) {
@@ -283,9 +286,9 @@ fn unary_at(alloc: Global, tokens: &[Token]) -> Result<(Part, &[Token]), Fault<'
 }
 
 #[cycle(parser)]
-#[tactic(auto, using(pr_forms::proofs::Ways::ways))]
+#[tactic(auto, using(pr_forms::proofs::Ways::ways, pr_forms::proofs::Carrying::carrying))]
 fn primary_at(alloc: Global, tokens: &[Token]) -> Result<(Part, &[Token]), Fault<'_, Token>>
-    ensures read { MatchResult result (λ x. Gives (rule Primary) tokens.now (good (value_of x.0) (seen x.1.now))) (FailsAt (rule Primary) tokens.now) }
+    ensures read { MatchResult result (λ x. Gives sums (rule Primary) tokens.now (good (value_of x.0) (seen x.1.now))) (FailsAt sums (rule Primary) tokens.now) }
     ensures shorter { IfOk result (λ x. length x.1.now < length tokens.now) }
 {
     if let Some((opening, following)) = after(Sign::Open, tokens) {
@@ -303,14 +306,14 @@ fn primary_at(alloc: Global, tokens: &[Token]) -> Result<(Part, &[Token]), Fault
 
 /// What stands in parentheses, after the first of them.
 #[cycle(parser)]
-#[tactic(auto, using(pr_forms::proofs::Ways::ways))]
+#[tactic(auto, using(pr_forms::proofs::Ways::ways, pr_forms::proofs::Carrying::carrying))]
 fn group_at(
     alloc: Global,
     opening: Place,
     tokens: &[Token],
 ) -> Result<(Part, &[Token]), Fault<'_, Token>>
-    ensures read { MatchResult result (λ x. (v : Value) × Gives group tokens.now (good v (seen x.1.now)) × (value_of x.0 ≡ opened_by (at opening) v))
-        (FailsAt group tokens.now) }
+    ensures read { MatchResult result (λ x. (v : Value) × Gives sums group tokens.now (good v (seen x.1.now)) × (value_of x.0 ≡ opened_by (at opening) v))
+        (FailsAt sums group tokens.now) }
     ensures shorter { IfOk result (λ x. length x.1.now < length tokens.now) }
 {
     let (inner, following) = binary_at(alloc, Level::Sum, tokens)?;
@@ -331,15 +334,15 @@ fn group_at(
 
 /// What a name is, by what follows it.
 #[cycle(parser)]
-#[tactic(auto, using(pr_forms::proofs::Ways::ways))]
+#[tactic(auto, using(pr_forms::proofs::Ways::ways, pr_forms::proofs::Carrying::carrying))]
 fn name_at<'a>(
     alloc: Global,
     place: Place,
     text: &str,
     tokens: &'a [Token],
 ) -> Result<(Part, &'a [Token]), Fault<'a, Token>>
-    ensures read { MatchResult result (λ x. (v : Value) × Gives (rule Tail) tokens.now (good v (seen x.1.now)) × (value_of x.0 ≡ called (word place text.now) v))
-        (FailsAt (rule Tail) tokens.now) }
+    ensures read { MatchResult result (λ x. (v : Value) × Gives sums (rule Tail) tokens.now (good v (seen x.1.now)) × (value_of x.0 ≡ called (word place text.now) v))
+        (FailsAt sums (rule Tail) tokens.now) }
     ensures shorter { IfOk result (λ x. length x.1.now ≤ length tokens.now) }
 {
     let Some((_opening, following)) = after(Sign::Open, tokens) else {
@@ -353,10 +356,10 @@ fn name_at<'a>(
 }
 
 #[cycle(parser)]
-#[tactic(auto, using(pr_forms::proofs::Ways::ways))]
+#[tactic(auto, using(pr_forms::proofs::Ways::ways, pr_forms::proofs::Carrying::carrying))]
 fn arguments_at(alloc: Global, tokens: &[Token]) -> Result<(Vec<Expr>, &[Token]), Fault<'_, Token>>
-    ensures read { MatchResult result (λ x. Gives (rule Arguments) tokens.now (good (arguments (trees_of x.0.items)) (seen x.1.now)))
-        (FailsAt (rule Arguments) tokens.now) }
+    ensures read { MatchResult result (λ x. Gives sums (rule Arguments) tokens.now (good (arguments (trees_of x.0.items)) (seen x.1.now)))
+        (FailsAt sums (rule Arguments) tokens.now) }
     ensures shorter { IfOk result (λ x. length x.1.now ≤ length tokens.now) }
 {
     let mut list = Vec::new(alloc);
@@ -373,28 +376,73 @@ fn arguments_at(alloc: Global, tokens: &[Token]) -> Result<(Vec<Expr>, &[Token])
     Ok((list, rest))
 }
 
-/// The tree of the tokens, or the first bad place.
-pub fn parse(alloc: Global, tokens: &[Token]) -> Result<Expr, ParseError>
-    // A tree that is answered is derived.
-    ensures tree { IfOk result (λ e. Derives (seen tokens.now) (tree_of e)) }
-    // Where one is derived, it is answered, unless memory runs out.
-    ensures only { (v : Value) → Reads production (rule (Binary Sum)) (seen tokens.now) v [] → MatchResult result (λ e. HasTree v (tree_of e)) Misses }
-    // Else the fault says which token is the first bad one.
-    ensures place { MatchResult result (λ _. IsBadPlace (seen tokens.now) (length tokens.now)) (Refuses (seen tokens.now)) }
+/// What the reading of tokens comes to: the tree of all of them, or the first bad place of them.
+#[derive(Drop, Debug)]
+enum Reading {
+    Whole { tree: Expr },
+    Bad { place: usize },
+    Memory,
+}
+
+/// The tree of tokens that have no sign too many.
+fn read(alloc: Global, tokens: &[Token]) -> Reading
+    ensures { IsReading tokens.now result }
 {
     match binary_at(alloc, Level::Sum, tokens) {
         Ok((whole, left)) => {
             if left.is_empty() {
-                Ok(whole.expr)
+                Reading::Whole { tree: whole.expr }
             } else {
-                Err(ParseError::Bad {
-                    index: place_of(tokens, left),
-                })
+                Reading::Bad {
+                    place: place_of(tokens, left),
+                }
             }
         }
-        Err(Fault::Bad(rest)) => Err(ParseError::Bad {
-            index: place_of(tokens, rest),
-        }),
-        Err(Fault::Memory) => Err(ParseError::Memory),
+        Err(Fault::Bad(rest)) => Reading::Bad {
+            place: place_of(tokens, rest),
+        },
+        Err(Fault::Memory) => Reading::Memory,
+    }
+}
+
+/// The first bad place of tokens that have one sign too many at most, unless memory runs out.
+fn bad_place_of(alloc: Global, tokens: &[Token]) -> Option<usize>
+    ensures { IfSome result (IsBadPlace (seen tokens.now)) }
+{
+    let reading = read(alloc, tokens);
+    match &reading {
+        Reading::Whole { .. } => Some(tokens.len()),
+        Reading::Bad { place } => Some(*place),
+        Reading::Memory => None,
+    }
+}
+
+/// The tree of the tokens, or the first bad place. A text with more signs than `LIMIT` is read up to the first one too
+/// many.
+pub fn parse(alloc: Global, tokens: &[Token]) -> Result<Expr, ParseError>
+    // A tree that is answered is derived, and has no sign too many.
+    ensures tree { IfOk result (λ e. Derives (seen tokens.now) (tree_of e)) }
+    ensures shallow { IfOk result (λ e. first_too_deep limit (seen tokens.now) ≡ None) }
+    // Where one is derived, it is answered, unless there is a sign too many or memory runs out.
+    ensures only { (v : Value) → Reads production (rule (Binary Sum)) (seen tokens.now) v [] → MatchResult result (λ e. HasTree v (tree_of e)) (Misses (seen tokens.now)) }
+    // Else the fault says which token is the first bad one, or one too many.
+    ensures fault { IfErr result (Refuses (seen tokens.now)) }
+{
+    let Some(index) = first_too_deep(tokens) else {
+        return match read(alloc, tokens) {
+            Reading::Whole { tree } => Ok(tree),
+            Reading::Bad { place } => Err(ParseError::Bad { index: place }),
+            Reading::Memory => Err(ParseError::Memory),
+        };
+    };
+    match bad_place_of(alloc, &tokens[..=index]) {
+        Some(place) => {
+            if place <= index {
+                Err(ParseError::Bad { index: place })
+            } else {
+                Err(ParseError::TooDeep { index })
+            }
+        }
+        None => Err(ParseError::Memory),
     }
 }

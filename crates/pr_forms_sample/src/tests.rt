@@ -118,3 +118,70 @@ fn finds_bad_places(rt: HostRuntime) -> Result<(), Fail> {
     }
     Ok(())
 }
+
+#[test]
+fn refuses_a_text_that_is_too_deep(rt: HostRuntime) -> Result<(), Fail> {
+    let alloc = rt.alloc();
+    for sign in [Sign::Minus, Sign::Open] {
+        let mut tokens = Vec::new(alloc);
+        for start in 0..20_000_usize {
+            let end = start.saturating_add(1);
+            tokens.push(Token {
+                place: Place { start, end },
+                kind: TokenKind::Sign { sign },
+            })?;
+        }
+        match parse(alloc, &tokens) {
+            Ok(_) => assert_eq!(rt; 0, 1, "a tree"),
+            Err(error) => assert_eq!(rt; error, ParseError::TooDeep { index: LIMIT }, "{sign:?}"),
+        }
+    }
+    Ok(())
+}
+
+#[test]
+fn tells_what_is_wrong(rt: HostRuntime) -> Result<(), Fail> {
+    let alloc = rt.alloc();
+    for (text, place, want) in [
+        ("1+", 2, FaultKind::End),
+        ("1+)", 2, FaultKind::NoOperand),
+        ("1x", 1, FaultKind::NoOperator),
+        ("(1)2", 3, FaultKind::NoOperator),
+    ] {
+        let tokens = tokens_of(alloc, text)?;
+        assert_eq!(rt; kind_at(&tokens, place), want, "{text}");
+    }
+    Ok(())
+}
+
+#[test]
+fn reads_words_and_writes_them(rt: HostRuntime) -> Result<(), Fail> {
+    let alloc = rt.alloc();
+    for (text, written) in [
+        ("ab,c", "\"ab\",\"c\""),
+        ("\"a b\",c", "\"a b\",\"c\""),
+        ("\"\\\"\",\"\"", "\"\\\"\",\"\""),
+    ] {
+        match read_words(alloc, text.as_bytes()) {
+            Ok(list) => {
+                let again = write_words(alloc, &list)?;
+                assert_eq!(rt; again.as_slice(), written.as_bytes(), "{text}");
+            }
+            Err(error) => assert_eq!(rt; error, WordsError::Memory, "{text}"),
+        }
+    }
+    for (text, place) in [
+        ("", 0),
+        ("a,", 2),
+        ("A", 0),
+        ("\"a", 2),
+        ("a\"b\"", 1),
+        ("\"\\", 2),
+    ] {
+        match read_words(alloc, text.as_bytes()) {
+            Ok(_) => assert_eq!(rt; text, "", "words"),
+            Err(error) => assert_eq!(rt; error, WordsError::Bad { place }, "{text}"),
+        }
+    }
+    Ok(())
+}

@@ -1,7 +1,6 @@
 pub mod SeriesTable
 pub mod SeriesEnds
 pub mod SeriesReading
-pub mod ByRules
 pub mod SeriesNames
 pub mod KnownNames
 pub mod SeriesExamples

@@ -10,14 +10,14 @@ use Rattle.pr_strings.specs.declared.kind.Kind.{Kind}
 use Rattle.pr_strings.specs.declared.kind.Kind.TheVariants.{Open, Close, Comma, Equal, Blank}
 use Rattle.pr_strings.specs.Strings as strings
 use Rattle.pr_strings.specs.Strings.{Letter, letter, kind_of, letter_of, seen, IsString}
-use Rattle.pr_strings.specs.Within.{within, on_option, lifted}
+use Rattle.pr_forms.specs.Within.{within, on_option, lifted}
 use Rattle.pr_labels.specs.declared.pair.Pair.{Pair}
 use Rattle.pr_labels.specs.LabelSet.{metric_label, pair_of}
 use Rattle.pr_labels.specs.Names as byte_names
 use Rattle.pr_labels.specs.Names.{is_label_name, is_metric_name}
 use Rattle.pr_series.specs.SeriesGrammar.{production, Rule, Value, listed, quoted, mark, headed, labelled, same_sign, sign, sign_at, second_of, is_letter_kind, is_label_kind, is_metric_letter_kind, is_metric_kind, embedding, ReadsSeries, Series, MetricByte, MetricRest, Tail, Listed, Braces, Items, Item, NameByte, NameRest, Named, After, Next, InString}
 use Rattle.pr_series.specs.SeriesParts.{AreBlanks, IsPair, AreListed, no_pair, last_pair, one_pair, HasParts, name_alone, list_alone, name_and_list, IsSeriesText}
-use Rattle.pr_series.proofs.ByRules.{Each}
+use Rattle.pr_forms.proofs.ByRules.{Each}
 use Rattle.pr_series.proofs.ByParts.{Built, of_token, of_nothing, of_pair, of_left, of_right, of_stop, of_turn, of_fold, of_choice, of_rule, built}
 use Rattle.pr_series.proofs.SeriesNames.{IsSeen, each_seen, letter_kind, label_kind, series_faultless}
 

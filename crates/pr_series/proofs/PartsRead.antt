@@ -9,11 +9,12 @@ use Rattle.pr_words.specs.Fields.{is_blank}
 use Rattle.pr_forms.specs.Form.{rule, is_token, is_nothing, is_pair, is_left, is_right, is_stop, is_turn, is_rule}
 use Rattle.pr_strings.specs.Strings as strings
 use Rattle.pr_strings.specs.Strings.{kind_of, letter_of, IsString}
-use Rattle.pr_strings.proofs.Within.{reads_within}
+use Rattle.pr_forms.proofs.Within.{reads_good}
+use Rattle.pr_series.proofs.SeriesTable.{strings_within}
 use Rattle.pr_labels.specs.declared.pair.Pair.{Pair}
 use Rattle.pr_labels.specs.Edits.{fault_after, first_fault}
 use Rattle.pr_labels.specs.LabelSet.{metric_label, pair_of}
-use Rattle.pr_series.specs.SeriesGrammar.{production, table, listed, quoted, mark, same_sign, sign_at, blanks, is_named, embedding, ReadsSeries, Braces, Items, Item, After, InString}
+use Rattle.pr_series.specs.SeriesGrammar.{listed, quoted, mark, same_sign, sign_at, blanks, is_named, ReadsSeries, Braces, Items, Item, After, InString}
 use Rattle.pr_strings.specs.declared.kind.Kind.TheVariants.{Blank}
 use Rattle.pr_series.specs.SeriesReader.{names_of}
 use Rattle.pr_series.specs.SeriesParts.{AreBlanks, IsPair, AreListed, no_pair, last_pair, one_pair, HasParts, name_alone, list_alone, name_and_list, IsSeriesText}
@@ -37,7 +38,7 @@ blanks_read (b ∷ bs) rest h =
     is_turn {w = mark} (is_token (blank_sign b (sym (blank_kind b) ∙ k.0))) (blanks_read bs rest k.1)
 
 value_read : (text bytes rest : List ℕ) → IsString text bytes rest → Reading (rule (InString strings.Text)) text (quoted (strings.content bytes)) rest
-value_read text bytes rest d = reads_within embedding strings.table table (λ n. refl) (λ n t. refl) (λ n t. refl) strings.production production (λ n. refl) (λ v. refl) d
+value_read text bytes rest d = reads_good strings_within text rest d
 
 pair_read : (names : List (List ℕ)) (p : Pair) (ps : List Pair) (text rest end : List ℕ) → IsPair text p rest → is_named p.name names ≡ false →
     Reading (rule (After (names ++ p.name ∷ []))) rest (listed ps) end → Reading (rule (Item names)) text (listed (p ∷ ps)) end

@@ -17,7 +17,7 @@ use Rattle.pr_labels.specs.Names.{is_label_name}
 use Rattle.pr_series.specs.SeriesGrammar.{production, Rule, Value, listed, quoted, mark, headed, labelled, is_named, is_letter_kind, is_label_kind, is_metric_letter_kind, is_metric_kind, ReadsSeries, ReadsLabels, Series, MetricByte, MetricRest, Tail, Listed, Braces, Items, Item, NameByte, NameRest, Named, After, Next, InString}
 use Rattle.pr_series.specs.SeriesReader.{names_of}
 use Rattle.pr_labels.proofs.LabelLaws.{made_is_set}
-use Rattle.pr_series.proofs.ByRules.{Each, Meets, by_token, by_nothing, by_pair, by_left, by_right, by_choice, by_rule, by_rules}
+use Rattle.pr_forms.proofs.ByRules.{Each, Meets, by_token, by_nothing, by_pair, by_left, by_right, by_choice, by_rule, by_rules}
 
 -- the letters and the bytes of names are those of the grammar
 pub letter_kind : (b : ℕ) → is_letter_kind (kind_of b) ≡ byte_names.is_letter b

@@ -9,14 +9,15 @@ use Rattle.pr_forms.proofs.Suffixes.{reads_suffix, suffix_length}
 use Rattle.pr_strings.specs.Strings as strings
 use Rattle.pr_strings.specs.Strings.{Letter, letter_of, kind_of, seen}
 use Rattle.pr_strings.specs.Quoted.{quoted_text}
-use Rattle.pr_strings.proofs.Within.{reads_within}
+use Rattle.pr_forms.proofs.Within.{reads_good}
+use Rattle.pr_series.proofs.SeriesTable.{strings_within}
 use Rattle.pr_strings.proofs.Written.{quoted_reads}
 use Rattle.pr_labels.specs.declared.pair.Pair.{Pair}
 use Rattle.pr_labels.specs.Edits.{fault_after, pair_fault}
 use Rattle.pr_labels.specs.LabelSet.{IsLabelSet, has_name, metric_label, pair_of, value_of}
 use Rattle.pr_labels.specs.Names as byte_names
 use Rattle.pr_labels.specs.Names.{is_label_name, is_metric_name}
-use Rattle.pr_series.specs.SeriesGrammar.{production, table, Rule, Value, listed, quoted, mark, is_named, is_letter_kind, is_label_kind, is_metric_letter_kind, is_metric_kind, embedding, ReadsSeries, ReadsLabels, MetricByte, MetricRest, Tail, Braces, Item, NameByte, NameRest, Named, After, InString}
+use Rattle.pr_series.specs.SeriesGrammar.{production, Rule, Value, listed, quoted, mark, is_named, is_letter_kind, is_label_kind, is_metric_letter_kind, is_metric_kind, ReadsSeries, ReadsLabels, MetricByte, MetricRest, Tail, Braces, Item, NameByte, NameRest, Named, After, InString}
 use Rattle.pr_series.specs.SeriesReader.{names_of}
 use Rattle.pr_labels.specs.SeriesText.{pair_text, following_text, list_text, rest_text, unnamed, text_by_name, series_text}
 use Rattle.pr_labels.proofs.LabelLaws.{first_none}
@@ -66,7 +67,7 @@ label_name names (b ∷ more) rest v end h once d =
     is_rule (is_right (is_chosen {n = NameByte names (b ∷ [])} (chosen_by (is_letter_kind (kind_of b)) (NameByte names (b ∷ [])) (letter_kind b ∙ k.0)) (short next) (is_pair (is_token {v = mark} refl) next)))
 
 value_reads : (value rest : List ℕ) → Reading (rule (InString strings.Text)) (quoted_text value ++ rest) (quoted (strings.content value)) rest
-value_reads value rest = reads_within embedding strings.table table (λ n. refl) (λ n t. refl) (λ n t. refl) strings.production production (λ n. refl) (λ v. refl) (quoted_reads value rest)
+value_reads value rest = reads_good strings_within (quoted_text value ++ rest) rest (quoted_reads value rest)
 
 pair_reads : (names : List (List ℕ)) (p : Pair) (ps : List Pair) (rest end : List ℕ) → is_label_name p.name ≡ true → is_named p.name names ≡ false →
     Reading (rule (After (names ++ p.name ∷ []))) rest (listed ps) end → Reading (rule (Item names)) (pair_text p ++ rest) (listed (p ∷ ps)) end

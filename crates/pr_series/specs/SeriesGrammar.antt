@@ -8,7 +8,7 @@ use Rattle.pr_strings.specs.declared.kind.Kind.{Kind}
 use Rattle.pr_strings.specs.declared.kind.Kind.TheVariants.{A, B, F, N, R, T, V, X, Short, Long, HexLetter, OtherLetter, Digit, Colon, Open, Close, Comma, Equal, Blank}
 use Rattle.pr_strings.specs.Strings as strings
 use Rattle.pr_strings.specs.Strings.{Letter, letter, seen}
-use Rattle.pr_strings.specs.Within.{Embedding, within}
+use Rattle.pr_forms.specs.Within.{Embedding, within}
 use Rattle.pr_labels.specs.declared.pair.Pair.{Pair}
 use Rattle.pr_series.specs.declared.series.TextFault.{TextFault}
 use Rattle.pr_series.specs.declared.series.TextFault.TheVariants.{BadLabels, Memory}
@@ -133,8 +133,8 @@ abbrev pub inner_value : Value → Option strings.Value
 inner_value (quoted v) = Some v
 inner_value v = None
 
-abbrev pub embedding : Embedding strings.Rule strings.Value Rule Value
-embedding = record { rule_of = InString; value_of = quoted; inner = inner_value; mark_of = mark }
+abbrev pub embedding : Embedding Letter strings.Rule strings.Value Letter Rule Value
+embedding = record { token_of = λ t. t; rule_of = InString; value_of = quoted; inner = inner_value; mark_of = mark }
 
 abbrev pub nothing_follows : Letter → Bool
 nothing_follows t = false

@@ -6,31 +6,19 @@ use Rattle.std.specs.Cmp.Lexicographic.{slice_cmp}
 use Rattle.std.specs.Ordering.{nat_cmp}
 use Rattle.pr_forms.specs.Form.{Form, pair, rule}
 use Rattle.pr_forms.specs.Table.{is_next}
-use Rattle.pr_forms.specs.Run.{Outcome, good, bad, Runs, Takes as TakesBy, Lacks as LacksBy, Leads as LeadsBy}
-use Rattle.pr_forms.specs.Reader.{FailsBy}
-use Rattle.pr_forms.specs.declared.reader.Fault.{Fault}
+use Rattle.pr_forms.specs.Run.{good, bad}
+use Rattle.pr_forms.specs.Language.{Language, Gives, Takes, Lacks, Carries}
 use Rattle.pr_strings.specs.declared.kind.Kind.{Kind}
 use Rattle.pr_strings.specs.declared.kind.Kind.TheVariants.{Equal, Close}
-use Rattle.pr_strings.specs.Strings.{Letter, kind_of, seen}
+use Rattle.pr_strings.specs.Strings.{Letter, kind_of, letter_of, seen}
 use Rattle.pr_labels.specs.declared.pair.Pair.{Pair}
 use Rattle.pr_series.specs.declared.series.Part.{Part}
 use Rattle.pr_series.specs.declared.series.Part.TheVariants.{MetricFirst, MetricNext, LabelFirst, LabelNext}
 use Rattle.pr_series.specs.SeriesGrammar.{production, table, Rule, Value, listed, mark, Listed, blanks, sign, second_of, is_letter_kind, is_label_kind, is_metric_letter_kind, is_metric_kind}
 
-abbrev pub Gives : Form Letter Rule Value → List ℕ → Outcome Letter Value → Type 0
-Gives f text o = Runs production table f (seen text) o
-
-abbrev pub Takes : Form Letter Rule Value → List ℕ → Value → List ℕ → Type 0
-Takes f text v rest = TakesBy production table f (seen text) v (seen rest)
-
-abbrev pub Lacks : Form Letter Rule Value → List ℕ → Type 0
-Lacks f text = LacksBy production table f (seen text)
-
-abbrev pub Leads : Form Letter Rule Value → List ℕ → Form Letter Rule Value → List ℕ → Type 0
-Leads f text g rest = LeadsBy production table f (seen text) g (seen rest)
-
-abbrev pub FailsAt : Form Letter Rule Value → List ℕ → Fault ℕ → Type 0
-FailsAt f text fault = FailsBy seen production table f (seen text) fault
+-- the language of series texts
+abbrev pub series : Language ℕ Letter Rule Value
+series = record { production = production; table = table; see = letter_of }
 
 abbrev pub names_of : List Pair → List (List ℕ)
 names_of = map (λ p. p.name)
@@ -45,14 +33,13 @@ pub record BeginsWith (text : List ℕ) (name : List ℕ) : Type 0 where
   pub is : text ≡ name ++ more
 
 -- After these labels comes what the second form reads, and it decides.
-pub record Reaches (f : Form Letter Rule Value) (text : List ℕ) (done : List Pair) (g : Form Letter Rule Value) (rest : List ℕ) : Type 0 where
-  pub reads : (ps : List Pair) (end : List Letter) → Gives g rest (good (listed ps) end) → Gives f text (good (listed (done ++ ps)) end)
-  pub fails : (end : List Letter) → Gives g rest (bad end) → Gives f text (bad end)
+abbrev pub Reaches : Form Letter Rule Value → List ℕ → List Pair → Form Letter Rule Value → List ℕ → Type 0
+Reaches f text done g rest = Carries series f text (λ ps. listed (done ++ ps)) g rest listed
 
 -- The form ends with a closing brace, or fails where there is none.
 pub record CanClose (g : Form Letter Rule Value) (text : List ℕ) : Type 0 where
-  pub closes : (rest : List ℕ) → Takes (sign Close) text mark rest → Gives g text (good (listed []) (seen rest))
-  pub fails : Lacks (sign Close) text → Gives g text (bad (seen text))
+  pub closes : (rest : List ℕ) → Takes series (sign Close) text mark rest → Gives series g text (good (listed []) (seen rest))
+  pub fails : Lacks series (sign Close) text → Gives series g text (bad (seen text))
 
 -- whether a label list, or blanks before one, come next
 abbrev pub starts_listed : List ℕ → Bool

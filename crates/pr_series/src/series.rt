@@ -29,7 +29,8 @@ ghost use Rattle.pr_series.specs.SeriesGrammar.{
   IsBadPlace,
 };
 ghost use Rattle.pr_labels.specs.LabelSet.{metric_label, pair_of};
-ghost use Rattle.pr_series.specs.SeriesReader.{Gives, Takes, Lacks, Leads, FailsAt, names_of, BeginsWith, Reaches, CanClose, starts_listed, in_part, IsOver, IsPart, GoesOn, equals};
+ghost use Rattle.pr_forms.specs.Language.{Gives, Takes, Lacks, Leads, FailsAt};
+ghost use Rattle.pr_series.specs.SeriesReader.{series, names_of, BeginsWith, Reaches, CanClose, starts_listed, in_part, IsOver, IsPart, GoesOn, equals};
 
 use crate::found::Found;
 use pr_forms::{Fault, place_of, take};
@@ -128,7 +129,7 @@ fn is_sign(wanted: Kind, kind: Kind) -> bool
 
 /// What follows the sign at the front, where it is this one.
 fn sign_in(wanted: Kind, text: &[u8]) -> Option<((), &[u8])>
-    ensures read { MatchOption result (Lacks (sign wanted) text.now) (λ x. Takes (sign wanted) text.now mark x.1.now) }
+    ensures read { MatchOption result (Lacks series (sign wanted) text.now) (λ x. Takes series (sign wanted) text.now mark x.1.now) }
     ensures shorter { IfSome result (λ x. length x.1.now < length text.now) }
     ensures text { IfSome result (λ x. KeepsText text.now x.1.now) }
 {
@@ -148,7 +149,7 @@ fn sign_in(wanted: Kind, text: &[u8]) -> Option<((), &[u8])>
 
 /// What follows the blanks at the front.
 fn blanks_in(text: &[u8]) -> &[u8]
-    ensures read { Gives blanks text.now (good mark (seen result.now)) }
+    ensures read { Gives series blanks text.now (good mark (seen result.now)) }
     ensures shorter { length result.now ≤ length text.now }
     ensures text { KeepsText text.now result.now }
 {
@@ -161,8 +162,8 @@ fn blanks_in(text: &[u8]) -> &[u8]
 
 /// What follows the sign between a name and a value, with the blanks around it.
 fn equals_in(text: &[u8]) -> Result<&[u8], &[u8]>
-    ensures read { MatchResult result (λ rest. (h : Form Letter Rule Value) → Leads (equals h) text.now h rest.now)
-        (λ rest. (h : Form Letter Rule Value) → Gives (equals h) text.now (bad (seen rest.now))) }
+    ensures read { MatchResult result (λ rest. (h : Form Letter Rule Value) → Leads series (equals h) text.now h rest.now)
+        (λ rest. (h : Form Letter Rule Value) → Gives series (equals h) text.now (bad (seen rest.now))) }
     ensures shorter { IfOk result (λ rest. length rest.now ≤ length text.now) }
     ensures text { IfOk result (λ rest. KeepsText text.now rest.now) }
 {
@@ -193,8 +194,8 @@ fn name_in(alloc: Global, part: Part, first: u8, text: &[u8]) -> Result<(String,
 /// The value that a string at the front writes, and what follows it.
 fn value_in(alloc: Global, text: &[u8]) -> Result<(Text, &[u8]), Fault<'_, u8>>
     requires { IsUtf8 text.now }
-    ensures read { MatchResult result (λ x. Gives (rule (InString StringText)) text.now (good (quoted (content x.0)) (seen x.1.now)))
-        (FailsAt (rule (InString StringText)) text.now) }
+    ensures read { MatchResult result (λ x. Gives series (rule (InString StringText)) text.now (good (quoted (content x.0)) (seen x.1.now)))
+        (FailsAt series (rule (InString StringText)) text.now) }
     ensures shorter { IfOk result (λ x. length x.1.now < length text.now) }
     ensures text { IfOk result (λ x. IsUtf8 x.1.now) }
 {
@@ -215,7 +216,7 @@ fn label_in<'a>(
     ensures read { MatchResult result
         (λ o. MatchOption o (IsOver LabelFirst text.now) (λ x. Reaches (rule (Item (names_of before.now.pairs.items))) text.now (x.0 ∷ [])
         (rule (After (names_of before.now.pairs.items ++ x.0.name ∷ []))) x.1.now))
-        (FailsAt (rule (Item (names_of before.now.pairs.items))) text.now) }
+        (FailsAt series (rule (Item (names_of before.now.pairs.items))) text.now) }
     ensures name { IfOk result (λ o. IfSome o (λ x. BeginsWith text.now x.0.name)) }
     ensures shorter { IfOk result (λ o. IfSome o (λ x. length x.1.now < length text.now)) }
     ensures text { IfOk result (λ o. IfSome o (λ x. IsUtf8 x.1.now)) }
@@ -240,7 +241,7 @@ fn label_in<'a>(
 /// The pairs, where the list closes here, and what follows it.
 fn closed<'a>(pairs: Vec<Pair>, text: &'a [u8]) -> Result<(Vec<Pair>, &'a [u8]), Fault<'a, u8>>
     ensures { (f g : Form Letter Rule Value) (whole : List ℕ) → Reaches f whole pairs.items g text.now → CanClose g text.now →
-        MatchResult result (λ x. Gives f whole (good (listed x.0.items) (seen x.1.now))) (FailsAt f whole) }
+        MatchResult result (λ x. Gives series f whole (good (listed x.0.items) (seen x.1.now))) (FailsAt series f whole) }
 {
     match sign_in(Kind::Close, text) {
         Some((_close, rest)) => Ok((pairs, rest)),
@@ -256,7 +257,7 @@ fn list_in<'a>(
 ) -> Result<(Vec<Pair>, &'a [u8]), Fault<'a, u8>>
     requires { IsUtf8 text.now }
     ensures { (f : Form Letter Rule Value) (whole : List ℕ) → Reaches f whole before.entry.pairs.items (rule (Items (names_of before.entry.pairs.items))) text.now →
-        MatchResult result (λ x. Gives f whole (good (listed x.0.items) (seen x.1.now))) (FailsAt f whole) }
+        MatchResult result (λ x. Gives series f whole (good (listed x.0.items) (seen x.1.now))) (FailsAt series f whole) }
 {
     let mut found = before;
     let mut rest = blanks_in(text);
@@ -280,7 +281,7 @@ fn braces_in<'a>(
 ) -> Result<(Vec<Pair>, &'a [u8]), Fault<'a, u8>>
     requires { IsUtf8 text.now }
     ensures { (f : Form Letter Rule Value) (whole : List ℕ) → Reaches f whole before.entry.pairs.items (rule (Braces (names_of before.entry.pairs.items))) text.now →
-        MatchResult result (λ x. Gives f whole (good (listed x.0.items) (seen x.1.now))) (FailsAt f whole) }
+        MatchResult result (λ x. Gives series f whole (good (listed x.0.items) (seen x.1.now))) (FailsAt series f whole) }
 {
     match sign_in(Kind::Open, text) {
         Some((_open, after)) => list_in(alloc, before, after),
@@ -311,7 +312,7 @@ fn metric_pair(alloc: Global, name: String) -> Result<Pair, AllocError>
 /// The labels of the series text at the front, and what follows it.
 fn series_in(alloc: Global, text: &[u8]) -> Result<(Vec<Pair>, &[u8]), Fault<'_, u8>>
     requires { IsUtf8 text.now }
-    ensures { MatchResult result (λ x. Gives (rule Series) text.now (good (listed x.0.items) (seen x.1.now))) (FailsAt (rule Series) text.now) }
+    ensures { MatchResult result (λ x. Gives series (rule Series) text.now (good (listed x.0.items) (seen x.1.now))) (FailsAt series (rule Series) text.now) }
 {
     let none = Found::empty(alloc);
     let Some((first, after_first)) = part_in(Part::MetricFirst, text) else {

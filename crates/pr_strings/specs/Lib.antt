@@ -1,6 +1,6 @@
 pub mod Strings
 pub mod Reader
-pub mod Within
+pub mod Language
 pub mod Quoted
 pub mod StringAnswer
 pub mod Escapes

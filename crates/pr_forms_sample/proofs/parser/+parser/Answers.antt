@@ -1,8 +1,9 @@
 use Rattle.std.proofs.Common.{◌≡◌, sym, ◌∙◌, ap, arith, [], ◌∷◌, ◌++◌}
 use Rattle.std.proofs.lemmas.Result.{MatchResult-weaker}
 use Rattle.pr_forms.specs.Form.{rule}
-use Rattle.pr_forms.specs.Run.{run_rule, run_fold, run_base, run_pair, run_first, run_second, run_right, run_left, run_nothing}
-use Rattle.pr_forms.proofs.Ways.{exit, fails, value_is, leads_value, take_side, take_side_bad, other_side, loop_goes_on, loop_fails}
+use Rattle.pr_forms.specs.Run.{run_rule, run_base, run_pair, run_first, run_second, run_right, run_left, run_nothing}
+use Rattle.pr_forms.proofs.Ways.{exit, fails, value_is, take_side, take_side_bad, other_side}
+use Rattle.pr_forms.proofs.Carrying.{carry_on, carry_rule, carry_left, carry_base, turns_value, turns_go_on, turn_fails}
 use Rattle.pr_forms_sample.specs.Tree.{seen, tree_of, trees_of, more, none, number}
 use Rattle.pr_forms_sample.specs.Grammar.{production, table, part, at, word, turn, arguments, closed, alone, joined, negated_by, opened_by, closed_by, called, tighter, Binary, Unary, Primary, Tail, Arguments}
 use Rattle.pr_forms_sample.specs.Reader.{value_of, group}
@@ -13,12 +14,12 @@ use Rattle.pr_forms_sample.proofs.parser.+parser.Goals as goal
 pub binary_at-returns-in_err-right-clause-read : goal.binary_at-returns-in_err-right-clause-read
 binary_at-returns-in_err-right-clause-read t c =
     exit seen production table _ (rule (tighter c.args.level)) (rule (Binary c.args.level)) (seen c.in-Some.following.now) _ _ c.in_err-right.field-0.0 c.from_residual-in_err-right.ensures.1
-    (λ r h. loop_fails c.loop-operator.invariant.leads c.in-Some.ensures.read h) c.in_err-right.ensures.read
+    (λ r h. turn_fails c.loop-operator.invariant.leads c.in-Some.ensures.read h) c.in_err-right.ensures.read
 
 pub binary_at-loop-operator-preserved : goal.binary_at-loop-operator-preserved
 binary_at-loop-operator-preserved t c = record {
-  leads = leads_value (joined (value_of c.loop-operator.left) (turn c.in-Some.operator c.in_ok-right.right.place (tree_of c.in_ok-right.right.expr))) (value_of c.in_ok-left-2.left) c.in_ok-left-2.ensures
-      (loop_goes_on c.loop-operator.invariant.leads c.in-Some.ensures.read c.in_ok-right.ensures.read);
+  leads = turns_value (joined (value_of c.loop-operator.left) (turn c.in-Some.operator c.in_ok-right.right.place (tree_of c.in_ok-right.right.expr))) (value_of c.in_ok-left-2.left) c.in_ok-left-2.ensures
+      (turns_go_on c.loop-operator.invariant.leads c.in-Some.ensures.read c.in_ok-right.ensures.read);
   shorter = omega (arith, c.in_ok-right.ensures.shorter, c.in-Some.ensures.shorter, c.loop-operator.invariant.shorter);
 }
 
@@ -61,22 +62,22 @@ pub arguments_at-loop-comma-init : goal.arguments_at-loop-comma-init
 arguments_at-loop-comma-init t c =
     let grown : trees_of c.push.new.self.items ≡ more none (tree_of c.in_ok-first.first.expr) = ap trees_of (c.in_ok-push.ensures.items ∙ ap (λ xs. xs ++ c.in_ok-first.first.expr ∷ []) c.new-list.ensures.items) in
     record {
-      leads = leads_value (arguments (more none (tree_of c.in_ok-first.first.expr))) (arguments (trees_of c.push.new.self.items)) (ap arguments grown)
-          (record { gives = λ o h. run_rule (run_left (sym c.starts_argument.ensures ∙ c.if-not-starts_argument.false) (run_fold (run_pair run_nothing c.in_ok-first.ensures.read) h)) });
+      leads = turns_value (arguments (more none (tree_of c.in_ok-first.first.expr))) (arguments (trees_of c.push.new.self.items)) (ap arguments grown)
+          (carry_on carry_rule (carry_on (carry_left (sym c.starts_argument.ensures ∙ c.if-not-starts_argument.false)) (carry_base (run_pair run_nothing c.in_ok-first.ensures.read))));
       shorter = c.in_ok-first.ensures.shorter;
     }
 
 pub arguments_at-returns-in_err-next-clause-read : goal.arguments_at-returns-in_err-next-clause-read
 arguments_at-returns-in_err-next-clause-read t c =
     exit seen production table _ (rule (Binary Sum)) (rule Arguments) (seen c.in-Some.following.now) _ _ c.in_err-next.field-0.0 c.from_residual-in_err-next.ensures.1
-    (λ r h. loop_fails c.loop-comma.invariant.leads c.in-Some.ensures.read h) c.in_err-next.ensures.read
+    (λ r h. turn_fails c.loop-comma.invariant.leads c.in-Some.ensures.read h) c.in_err-next.ensures.read
 
 pub arguments_at-loop-comma-preserved : goal.arguments_at-loop-comma-preserved
 arguments_at-loop-comma-preserved t c =
     let grown : trees_of c.push-in-Some.new.self.items ≡ more (trees_of c.loop-comma.list.items) (tree_of c.in_ok-next.next.expr) = ap trees_of c.in_ok-push-2.ensures.items ∙ trees_of-push c.loop-comma.list.items c.in_ok-next.next.expr in
     record {
-      leads = leads_value (arguments (more (trees_of c.loop-comma.list.items) (tree_of c.in_ok-next.next.expr))) (arguments (trees_of c.push-in-Some.new.self.items)) (ap arguments grown)
-          (loop_goes_on c.loop-comma.invariant.leads c.in-Some.ensures.read c.in_ok-next.ensures.read);
+      leads = turns_value (arguments (more (trees_of c.loop-comma.list.items) (tree_of c.in_ok-next.next.expr))) (arguments (trees_of c.push-in-Some.new.self.items)) (ap arguments grown)
+          (turns_go_on c.loop-comma.invariant.leads c.in-Some.ensures.read c.in_ok-next.ensures.read);
       shorter = omega (arith, c.in_ok-next.ensures.shorter, c.in-Some.ensures.shorter, c.loop-comma.invariant.shorter);
     }
 

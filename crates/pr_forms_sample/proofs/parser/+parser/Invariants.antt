@@ -2,7 +2,8 @@ use Rattle.std.proofs.Common.{◌<◌, length, ◌+◌, ◌*◌}
 use Rattle.pr_forms.specs.Form.{rule, turns}
 use Rattle.pr_forms_sample.specs.Tree.{trees_of}
 use Rattle.pr_forms_sample.specs.Grammar.{Binary, Arguments, joined, argument, arguments, operand, next_argument}
-use Rattle.pr_forms_sample.specs.Reader.{Leads, value_of, rank_of}
+use Rattle.pr_forms.specs.Language.{Leads}
+use Rattle.pr_forms_sample.specs.Reader.{sums, value_of, rank_of}
 use Rattle.pr_forms_sample.proofs.parser.+parser.Given as goal
 
 abbrev pub decreases-arguments_at : goal.decreases-arguments_at
@@ -28,7 +29,7 @@ decreases-unary_at l = 8 * length l.tokens.now + 2
 
 abbrev pub invariant-arguments_at-loop-comma : goal.invariant-arguments_at-loop-comma
 invariant-arguments_at-loop-comma l = record {
-  leads : Leads (rule Arguments) l.tokens (turns argument (arguments (trees_of l.list.items)) next_argument) l.rest;
+  leads : Leads sums (rule Arguments) l.tokens (turns argument (arguments (trees_of l.list.items)) next_argument) l.rest;
   shorter : length l.rest < length l.tokens;
 }
 
@@ -37,7 +38,7 @@ decreases-arguments_at-loop-comma l = length l.rest
 
 abbrev pub invariant-binary_at-loop-operator : goal.invariant-binary_at-loop-operator
 invariant-binary_at-loop-operator l = record {
-  leads : Leads (rule (Binary l.level)) l.tokens (turns joined (value_of l.left) (operand l.level)) l.rest;
+  leads : Leads sums (rule (Binary l.level)) l.tokens (turns joined (value_of l.left) (operand l.level)) l.rest;
   shorter : length l.rest < length l.tokens;
 }
 

@@ -1,33 +1,22 @@
-use Rattle.std.proofs.Common.{rules, refl}
-use Rattle.pr_forms.proofs.Public.{read_whole, only_value, not_whole, no_reading, rest_place, bad_place, end_place, left_short}
-use Rattle.pr_forms_sample.specs.Tree.{seen_token}
-use Rattle.pr_forms_sample.specs.Grammar.{production, table, Binary}
+use Rattle.std.proofs.Common.{◌≡◌, ◌+◌, suc, drop, sym, subst, arith}
+use Rattle.pr_forms.specs.Form.{rule, Begins}
 use Rattle.pr_forms_sample.specs.declared.parser.Level.TheVariants.{Sum}
-use Rattle.pr_forms_sample.specs.Reader.{value_of}
-use Rattle.pr_forms_sample.proofs.Table.{known}
-use Rattle.pr_forms_sample.proofs.Ways.{has_tree}
+use Rattle.pr_forms_sample.specs.Tree.{seen}
+use Rattle.pr_forms_sample.specs.Grammar.{production, Binary}
+use Rattle.pr_forms_sample.proofs.Depths.{bad_in_front, front_goes_on, no_tree}
 use Rattle.pr_forms_sample.proofs.parser.parse.Goals as goal
 
-pub returns-then-is_empty-clause-tree : goal.returns-then-is_empty-clause-tree
-returns-then-is_empty-clause-tree c = (c.in-Ok.whole.place, read_whole seen_token production table known (Binary Sum) _ c.in-Ok.left.now (value_of c.in-Ok.whole) c.in-Ok.ensures.read (search rules))
+pub returns-then-place-index-clause-fault : goal.returns-then-place-index-clause-fault
+returns-then-place-index-clause-fault c = bad_in_front c.args.tokens.now (c.in-Some.index + 1) c.in-Some-bad_place_of.place (omega (arith, c.in-Some.ensures.within)) c.in-Some-bad_place_of.ensures (omega arith)
 
-pub returns-then-is_empty-clause-only : goal.returns-then-is_empty-clause-only
-returns-then-is_empty-clause-only c = λ v d. has_tree v c.in-Ok.whole (only_value seen_token production table known (Binary Sum) _ c.in-Ok.left.now (value_of c.in-Ok.whole) v c.in-Ok.ensures.read d)
+pub returns-then-place-index-clause-only : goal.returns-then-place-index-clause-only
+returns-then-place-index-clause-only c = λ v d. no_tree c.args.tokens.now c.in-Some-bad_place_of.place v (omega (arith, c.in-Some.ensures.within))
+    (bad_in_front c.args.tokens.now (c.in-Some.index + 1) c.in-Some-bad_place_of.place (omega (arith, c.in-Some.ensures.within)) c.in-Some-bad_place_of.ensures (omega arith)) d
 
-pub returns-then-is_empty-clause-place : goal.returns-then-is_empty-clause-place
-returns-then-is_empty-clause-place c = end_place seen_token production table known (Binary Sum) _ c.in-Ok.left.now (value_of c.in-Ok.whole) c.in-Ok.ensures.read (search rules)
-
-pub returns-else-is_empty-clause-only : goal.returns-else-is_empty-clause-only
-returns-else-is_empty-clause-only c = λ v d. not_whole seen_token production table known (Binary Sum) _ c.in-Ok.left.now (value_of c.in-Ok.whole) v c.is_empty.result c.in-Ok.ensures.read c.is_empty.ensures c.if-is_empty.false d
-
-pub returns-else-is_empty-clause-place : goal.returns-else-is_empty-clause-place
-returns-else-is_empty-clause-place c = rw c.place_of.ensures (rest_place seen_token production table known (Binary Sum) _ c.in-Ok.left.now (value_of c.in-Ok.whole) c.in-Ok.ensures.read)
-
-pub place_of-requires-in-Err-Bad : goal.place_of-requires-in-Err-Bad
-place_of-requires-in-Err-Bad c = left_short seen_token production table known (Binary Sum) _ c.in-Err-Bad.rest.now _ (rw c.in-Err-Bad.field-0-is at c.in-Err-Bad.ensures.read) refl
-
-pub returns-in-Err-Bad-clause-only : goal.returns-in-Err-Bad-clause-only
-returns-in-Err-Bad-clause-only c = λ v d. no_reading seen_token production table known (Binary Sum) _ c.in-Err-Bad.rest.now v (rw c.in-Err-Bad.field-0-is at c.in-Err-Bad.ensures.read) d
-
-pub returns-in-Err-Bad-clause-place : goal.returns-in-Err-Bad-clause-place
-returns-in-Err-Bad-clause-place c = rw c.place_of-in-Err-Bad.ensures (bad_place seen_token production table known (Binary Sum) _ c.in-Err-Bad.rest.now (rw c.in-Err-Bad.field-0-is at c.in-Err-Bad.ensures.read))
+pub returns-else-place-index-clause-fault : goal.returns-else-place-index-clause-fault
+returns-else-place-index-clause-fault c =
+    let one : c.in-Some.index + 1 ≡ suc c.in-Some.index = omega arith in (
+      sym c.in-Some.ensures.is,
+      subst (λ k. Begins production (rule (Binary Sum)) (seen c.args.tokens.now) (drop k (seen c.args.tokens.now))) one
+          (front_goes_on c.args.tokens.now (c.in-Some.index + 1) c.in-Some-bad_place_of.place (omega (arith, c.in-Some.ensures.within)) c.in-Some-bad_place_of.ensures (omega arith)),
+    )

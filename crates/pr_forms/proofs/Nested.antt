@@ -1,0 +1,45 @@
+-- The ways through a side of a choice that begins with a token and is a sequence in a sequence, as parentheses with what follows them.
+use Rattle.std.proofs.Common.{Option, List, true, false, refl}
+use Rattle.pr_forms.specs.Form.{Form, token, pair, either}
+use Rattle.pr_forms.specs.Table.{Table}
+use Rattle.pr_forms.specs.Run.{Runs, Outcome, good, bad, run_pair, run_first, run_second, run_left, run_right, Takes, Lacks}
+use Rattle.pr_forms.specs.Carries.{Carries}
+use Rattle.pr_forms.proofs.Steps.{next_pair}
+
+module _ {T N V : Type 0} {G : N → Form T N V} {S : Table T N} where
+  pub take_nested : {c d : V → V → V} {p : T → Option V} {f k g : Form T N V} {ts mid next rest : List T} {v w x : V} →
+      Takes G S (token p) ts v mid → Runs G S f mid (good w next) → Runs G S k next (good x rest) → Runs G S (either (pair d (pair c (token p) f) k) g) ts (good (d (c v w) x) rest)
+  take_nested {c} {d} {p} {f} {k} {ts = ts} h a b = run_left (next_pair S d (pair c (token p) f) k ts true refl (next_pair S c (token p) f ts true refl h.next)) (run_pair (run_pair h.gives a) b)
+
+  pub nested_first_bad : {c d : V → V → V} {p : T → Option V} {f k g : Form T N V} {ts mid rest : List T} {v : V} →
+      Takes G S (token p) ts v mid → Runs G S f mid (bad rest) → Runs G S (either (pair d (pair c (token p) f) k) g) ts (bad rest)
+  nested_first_bad {c} {d} {p} {f} {k} {ts = ts} h a = run_left (next_pair S d (pair c (token p) f) k ts true refl (next_pair S c (token p) f ts true refl h.next)) (run_first (run_second h.gives a))
+
+  pub nested_bad : {c d : V → V → V} {p : T → Option V} {f k g : Form T N V} {ts mid next rest : List T} {v w : V} →
+      Takes G S (token p) ts v mid → Runs G S f mid (good w next) → Runs G S k next (bad rest) → Runs G S (either (pair d (pair c (token p) f) k) g) ts (bad rest)
+  nested_bad {c} {d} {p} {f} {k} {ts = ts} h a b = run_left (next_pair S d (pair c (token p) f) k ts true refl (next_pair S c (token p) f ts true refl h.next)) (run_second (run_pair h.gives a) b)
+
+  pub skip_nested : {c d : V → V → V} {p : T → Option V} {f k g : Form T N V} {ts : List T} {o : Outcome T V} →
+      Lacks G S (token p) ts → Runs G S g ts o → Runs G S (either (pair d (pair c (token p) f) k) g) ts o
+  skip_nested {c} {d} {p} {f} {k} {ts = ts} h q = run_right (next_pair S d (pair c (token p) f) k ts false refl (next_pair S c (token p) f ts false refl h.next)) q
+
+  -- after what stands in the parentheses the rest decides
+  pub carry_nested : {c d : V → V → V} {p : T → Option V} {f k g : Form T N V} {ts mid next : List T} {v w : V} →
+      Takes G S (token p) ts v mid → Runs G S f mid (good w next) → Carries G S (either (pair d (pair c (token p) f) k) g) ts (d (c v w)) k next (λ x. x)
+  carry_nested h a = record { reads = λ x end b. take_nested h a b; fails = λ end b. nested_bad h a b }
+
+  -- a sequence that begins with a token and has two parts more, as what an opening sign, a form and a closing sign are
+  pub take_closed : {c d : V → V → V} {p : T → Option V} {f k : Form T N V} {ts mid next rest : List T} {v w x : V} →
+      Takes G S (token p) ts v mid → Runs G S f mid (good w next) → Runs G S k next (good x rest) → Runs G S (pair c (token p) (pair d f k)) ts (good (c v (d w x)) rest)
+  take_closed h a b = run_pair h.gives (run_pair a b)
+
+  pub closed_first_bad : {c d : V → V → V} {p : T → Option V} {f k : Form T N V} {ts mid rest : List T} {v : V} →
+      Takes G S (token p) ts v mid → Runs G S f mid (bad rest) → Runs G S (pair c (token p) (pair d f k)) ts (bad rest)
+  closed_first_bad h a = run_second h.gives (run_first a)
+
+  pub closed_bad : {c d : V → V → V} {p : T → Option V} {f k : Form T N V} {ts mid next rest : List T} {v w : V} →
+      Takes G S (token p) ts v mid → Runs G S f mid (good w next) → Runs G S k next (bad rest) → Runs G S (pair c (token p) (pair d f k)) ts (bad rest)
+  closed_bad h a b = run_second h.gives (run_second a b)
+
+-- What closes goals by these, for `using(..)`.
+pub ruleset nested = (take_nested, nested_first_bad, nested_bad, skip_nested, carry_nested, take_closed, closed_first_bad, closed_bad)
