@@ -1,6 +1,6 @@
 -- Worked spans.
 use Rattle.std.proofs.Common.{◌≡◌, refl, arith, Some, None}
-use Rattle.std.specs.Prelude.{codes, decimal, ◌*◌, ◌+◌}
+use Rattle.std.specs.Prelude.{codes, ◌*◌, ◌+◌}
 use Rattle.std.proofs.lemmas.Fmt.{decimal_digit}
 use Rattle.pr_forms.specs.Reading.{reading, bad_place}
 use Rattle.pr_time.specs.declared.text.Unit.TheVariants.{Week, Hour, Minute}

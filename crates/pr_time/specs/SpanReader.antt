@@ -2,7 +2,8 @@
 use Rattle.std.specs.Prelude.{◌≡◌, ℕ, ◌+◌, ◌<◌, ◌^◌, min, nat_le, List, ◌∷◌, Bool, Option, Some, None, length, if◌then◌else◌}
 use Rattle.pr_forms.specs.Form.{Form, turns, rule}
 use Rattle.pr_forms.specs.Table.{is_next}
-use Rattle.pr_forms.specs.Run.{Outcome, good, bad, Runs, Takes as TakesBy, Lacks as LacksBy, Leads as LeadsBy}
+use Rattle.pr_forms.specs.Carries.{Carries}
+use Rattle.pr_forms.specs.Run.{Outcome, good, Runs, Takes as TakesBy, Lacks as LacksBy, Leads as LeadsBy}
 use Rattle.pr_time.specs.declared.text.Letter.{Letter}
 use Rattle.pr_time.specs.declared.text.Letter.TheVariants.{Y, W, D, H, M, S}
 use Rattle.pr_time.specs.declared.text.Unit.{Unit as TimeUnit}
@@ -47,9 +48,8 @@ pub record Measures (f : Form Letter Rule Value) (ts : List Letter) (ms : ℕ) (
   pub is_kept : ms ≡ kept exact
 
 -- After the unit there come the parts after it, and they decide.
-pub record Enters (greatest : TimeUnit) (ts : List Letter) (unit : TimeUnit) (rest : List Letter) : Type 0 where
-  pub reads : (ms : ℕ) (end : List Letter) → Gives (rule (After unit)) rest (good (span ms) end) → Gives (rule (From greatest)) ts (good (scaled (ms_of unit) ms) end)
-  pub fails : (end : List Letter) → Gives (rule (After unit)) rest (bad end) → Gives (rule (From greatest)) ts (bad end)
+abbrev pub Enters : TimeUnit → List Letter → TimeUnit → List Letter → Type 0
+Enters greatest ts unit rest = Carries production table (rule (From greatest)) ts (scaled (ms_of unit)) (rule (After unit)) rest span
 
 abbrev pub starts_amount : List Letter → Bool
 starts_amount ts = is_next {V = Value} table (rule AfterZero) ts

@@ -1,4 +1,4 @@
-use Rattle.std.proofs.Common.{◌≡◌, subst, sym}
+use Rattle.std.proofs.Common.{subst, sym}
 use Rattle.pr_forms.specs.Form.{rule}
 use Rattle.pr_forms.proofs.Places.{one_place}
 use Rattle.pr_time.specs.SpanText.{production, seen, Text, IsBadPlace}
