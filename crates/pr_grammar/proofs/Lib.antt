@@ -1,0 +1,6 @@
+pub mod Table
+pub mod Worth
+pub mod Ways
+pub mod Reading
+pub mod GrammarEnds
+pub mod StepsLaw

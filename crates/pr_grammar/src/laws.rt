@@ -1,0 +1,26 @@
+//! The laws of the grammar, each as the contract of a function that does nothing.
+ghost use Rattle.std.specs.Prelude.{◌≡◌, List, true};
+ghost use Rattle.pr_forms.specs.Table.{IsDecided};
+ghost use Rattle.pr_forms.specs.Reading.{Ends};
+ghost use Rattle.pr_lex.specs.declared.token.Token.{Token};
+ghost use Rattle.pr_ast.specs.Tree.{Tree};
+ghost use Rattle.pr_ast.specs.Steps.{has_steps};
+ghost use Rattle.pr_grammar.specs.Grammar.{production, table};
+ghost use Rattle.pr_grammar.specs.Ranks.{rank, steps};
+ghost use Rattle.pr_grammar.specs.Seen.{seen_tokens};
+ghost use Rattle.pr_grammar.specs.Whole.{Derives};
+
+/// One token ahead decides the grammar.
+pub fn one_token_decides()
+    ensures { IsDecided production table }
+{}
+
+/// The grammar ends: so readings and first bad places are functions of the tokens.
+pub fn the_grammar_ends()
+    ensures { Ends production table rank steps }
+{}
+
+/// No tree that is read from tokens has a subquery with a given step of 0.
+pub fn trees_have_steps()
+    ensures { (tokens : List Token) (tree : Tree) → Derives (seen_tokens tokens) tree → has_steps tree ≡ true }
+{}

@@ -1,0 +1,552 @@
+// Taking single tokens.
+ghost use Rattle.std.specs.Prelude.{◌≡◌, ◌<◌, length, IfOk, IfSome, MatchOption, option_map, Some, None, true};
+ghost use Rattle.pr_forms.specs.Form.{token};
+ghost use Rattle.pr_grammar.specs.Seen.{see, place_of};
+ghost use Rattle.pr_grammar.specs.Grammar.{
+  same_sign,
+  same_word,
+  is_sign,
+  is_word,
+  text_of,
+  span_of,
+  number_of,
+  operator_of,
+  word_operator,
+  sign_operator,
+  matching_of,
+  grouping_of,
+  minus_of,
+  side_of,
+  match_of,
+  aggregate_of,
+  function_of,
+  is_label,
+  is_metric,
+  is_text,
+  is_span,
+  is_shift,
+  sign,
+  the_word,
+  operator,
+  at,
+  word,
+  lasting,
+  quoted,
+  operation,
+  matches,
+  sided,
+  signed,
+  match_sign,
+  grouper,
+  aggregator,
+  function,
+  sign_at,
+  word_at,
+  operator_at,
+  matching_at,
+  grouping_at,
+  minus_at,
+  side_at,
+  match_at,
+  aggregate_at,
+  function_at,
+  label_at,
+  metric_at,
+  text_at,
+  span_at,
+  shift_at,
+  starts_unary,
+};
+ghost use Rattle.pr_grammar.specs.Reader.{Takes, Lacks, argument_starts};
+
+use crate::kind::{Kind, Level, Lexed, place_of};
+use pr_ast::{AggOp, BinOp, Func, MatchSign, Place};
+use pr_forms::take;
+use pr_labels::Card;
+use pr_lex::{Sign, TokenKind, Word};
+use pr_num::Num;
+use pr_time::Span;
+
+/// A span with its place.
+#[derive(Clone, Copy, PartialEq, Eq, Debug)]
+pub struct Lasting {
+    pub place: Place,
+    pub span: Span,
+}
+
+fn same_sign(wanted: Sign, sign: Sign) -> bool
+    ensures { result ≡ same_sign wanted sign }
+{
+    wanted == sign
+}
+
+fn same_word(wanted: Word, word: Word) -> bool
+    ensures { result ≡ same_word wanted word }
+{
+    wanted == word
+}
+
+fn is_sign(wanted: Sign, kind: Kind) -> bool
+    ensures { result ≡ is_sign wanted kind }
+{
+    match kind {
+        Kind::Sign(sign) => same_sign(wanted, sign),
+        _ => false,
+    }
+}
+
+fn is_word(wanted: Word, kind: Kind) -> bool
+    ensures { result ≡ is_word wanted kind }
+{
+    match kind {
+        Kind::Word(word) => same_word(wanted, word),
+        _ => false,
+    }
+}
+
+/// The bytes of a name or a string.
+pub fn text_of(token: &TokenKind) -> &str
+    ensures { result.now ≡ text_of token.now }
+{
+    match token {
+        TokenKind::Name { text } | TokenKind::Text { text } => text.as_str(),
+        _ => "",
+    }
+}
+
+/// The span of no length.
+pub fn no_span() -> Span
+    ensures { result ≡ 0 }
+{
+    Span::new(0).unwrap()
+}
+
+fn span_of(token: &TokenKind) -> Span
+    ensures { result ≡ span_of token.now }
+{
+    match token {
+        TokenKind::Duration { span } => *span,
+        _ => no_span(),
+    }
+}
+
+/// The value of a number.
+pub fn number_of(token: &TokenKind) -> Num
+    ensures { result ≡ number_of token.now }
+{
+    match token {
+        TokenKind::Number { value } => *value,
+        _ => Num::NaN,
+    }
+}
+
+fn word_operator(level: Level, word: Word) -> Option<BinOp>
+    ensures { result ≡ word_operator level word }
+{
+    match (level, word) {
+        (Level::Or, Word::Or) => Some(BinOp::Or),
+        (Level::And, Word::And) => Some(BinOp::And),
+        (Level::And, Word::Unless) => Some(BinOp::Unless),
+        _ => None,
+    }
+}
+
+fn sign_operator(level: Level, sign: Sign) -> Option<BinOp>
+    ensures { result ≡ sign_operator level sign }
+{
+    match (level, sign) {
+        (Level::Comparison, Sign::Equal) => Some(BinOp::Equal),
+        (Level::Comparison, Sign::NotEqual) => Some(BinOp::NotEqual),
+        (Level::Comparison, Sign::LessEqual) => Some(BinOp::LessEqual),
+        (Level::Comparison, Sign::Less) => Some(BinOp::Less),
+        (Level::Comparison, Sign::GreaterEqual) => Some(BinOp::GreaterEqual),
+        (Level::Comparison, Sign::Greater) => Some(BinOp::Greater),
+        (Level::Sum, Sign::Plus) => Some(BinOp::Add),
+        (Level::Sum, Sign::Minus) => Some(BinOp::Sub),
+        (Level::Product, Sign::Star) => Some(BinOp::Mul),
+        (Level::Product, Sign::Slash) => Some(BinOp::Div),
+        (Level::Product, Sign::Percent) => Some(BinOp::Rem),
+        _ => None,
+    }
+}
+
+fn operator_of(level: Level, kind: Kind) -> Option<BinOp>
+    ensures { result ≡ operator_of level kind }
+{
+    match kind {
+        Kind::Word(word) => word_operator(level, word),
+        Kind::Sign(sign) => sign_operator(level, sign),
+        _ => None,
+    }
+}
+
+fn matching_of(kind: Kind) -> Option<bool>
+    ensures { result ≡ matching_of kind }
+{
+    match kind {
+        Kind::Word(Word::On) => Some(true),
+        Kind::Word(Word::Ignoring) => Some(false),
+        _ => None,
+    }
+}
+
+fn grouping_of(kind: Kind) -> Option<bool>
+    ensures { result ≡ grouping_of kind }
+{
+    match kind {
+        Kind::Word(Word::By) => Some(true),
+        Kind::Word(Word::Without) => Some(false),
+        _ => None,
+    }
+}
+
+fn minus_of(kind: Kind) -> Option<bool>
+    ensures { result ≡ minus_of kind }
+{
+    match kind {
+        Kind::Sign(Sign::Minus) => Some(true),
+        Kind::Sign(Sign::Plus) => Some(false),
+        _ => None,
+    }
+}
+
+fn side_of(kind: Kind) -> Option<Card>
+    ensures { result ≡ side_of kind }
+{
+    match kind {
+        Kind::Word(Word::GroupLeft) => Some(Card::ManyToOne),
+        Kind::Word(Word::GroupRight) => Some(Card::OneToMany),
+        _ => None,
+    }
+}
+
+fn match_of(kind: Kind) -> Option<MatchSign>
+    ensures { result ≡ match_of kind }
+{
+    match kind {
+        Kind::Sign(Sign::Assign) => Some(MatchSign::Equal),
+        Kind::Sign(Sign::NotEqual) => Some(MatchSign::NotEqual),
+        Kind::Sign(Sign::Like) => Some(MatchSign::Like),
+        Kind::Sign(Sign::NotLike) => Some(MatchSign::NotLike),
+        _ => None,
+    }
+}
+
+fn aggregate_of(kind: Kind) -> Option<AggOp>
+    ensures { result ≡ aggregate_of kind }
+{
+    match kind {
+        Kind::Word(word) => AggOp::of(word),
+        _ => None,
+    }
+}
+
+fn function_of(kind: Kind) -> Option<Func>
+    ensures { result ≡ function_of kind }
+{
+    match kind {
+        Kind::Function(func) => Some(func),
+        _ => None,
+    }
+}
+
+fn is_label(named: bool, kind: Kind) -> bool
+    ensures { result ≡ is_label named kind }
+{
+    match kind {
+        Kind::Word(_) | Kind::Function(_) | Kind::Plain => true,
+        Kind::OwnName => !named,
+        _ => false,
+    }
+}
+
+fn is_metric(kind: Kind) -> bool
+    ensures { result ≡ is_metric kind }
+{
+    matches!(kind, Kind::Plain | Kind::WithColon | Kind::OwnName)
+}
+
+fn is_text(kind: Kind) -> bool
+    ensures { result ≡ is_text kind }
+{
+    matches!(kind, Kind::Text)
+}
+
+fn is_span(kind: Kind) -> bool
+    ensures { result ≡ is_span kind }
+{
+    matches!(kind, Kind::Span)
+}
+
+fn is_shift(kind: Kind) -> bool
+    ensures { result ≡ is_shift kind }
+{
+    matches!(kind, Kind::ZeroSpan | Kind::Span)
+}
+
+/// The place of the sign at the front, where it is this one, and what follows it.
+pub fn after(wanted: Sign, tokens: &[Lexed]) -> Option<(Place, &[Lexed])>
+    ensures read { MatchOption result (Lacks (sign wanted) tokens.now) (λ x. Takes (sign wanted) tokens.now (at x.0) x.1.now) }
+    ensures shorter { IfSome result (λ x. length x.1.now < length tokens.now) }
+{
+    take(
+        tokens,
+        |next: &Lexed| -> Option<Place>
+            ensures { option_map at result ≡ sign_at wanted (see next.now) }
+        {
+            if is_sign(wanted, next.kind) {
+                Some(place_of(&next.token))
+            } else {
+                None
+            }
+        },
+    )
+}
+
+/// The place of the word at the front, where it is this one, and what follows it.
+pub fn after_word(wanted: Word, tokens: &[Lexed]) -> Option<(Place, &[Lexed])>
+    ensures read { MatchOption result (Lacks (the_word wanted) tokens.now) (λ x. Takes (the_word wanted) tokens.now (at x.0) x.1.now) }
+    ensures shorter { IfSome result (λ x. length x.1.now < length tokens.now) }
+{
+    take(
+        tokens,
+        |next: &Lexed| -> Option<Place>
+            ensures { option_map at result ≡ word_at wanted (see next.now) }
+        {
+            if is_word(wanted, next.kind) {
+                Some(place_of(&next.token))
+            } else {
+                None
+            }
+        },
+    )
+}
+
+/// The operator of the level at the front, and what follows it.
+pub fn operator_in(level: Level, tokens: &[Lexed]) -> Option<(BinOp, &[Lexed])>
+    ensures read { MatchOption result (Lacks (operator level) tokens.now) (λ x. Takes (operator level) tokens.now (operation x.0) x.1.now) }
+    ensures shorter { IfSome result (λ x. length x.1.now < length tokens.now) }
+{
+    take(
+        tokens,
+        |next: &Lexed| -> Option<BinOp>
+            ensures { option_map operation result ≡ operator_at level (see next.now) }
+        { operator_of(level, next.kind) },
+    )
+}
+
+/// Whether `on` or `ignoring` is at the front, and what follows it.
+pub fn matching_in(tokens: &[Lexed]) -> Option<(bool, &[Lexed])>
+    ensures read { MatchOption result (Lacks (token matching_at) tokens.now) (λ x. Takes (token matching_at) tokens.now (matches x.0) x.1.now) }
+    ensures shorter { IfSome result (λ x. length x.1.now < length tokens.now) }
+{
+    take(
+        tokens,
+        |next: &Lexed| -> Option<bool>
+            ensures { option_map matches result ≡ matching_at (see next.now) }
+        { matching_of(next.kind) },
+    )
+}
+
+/// Whether `by` or `without` is at the front, and what follows it.
+pub fn grouping_in(tokens: &[Lexed]) -> Option<(bool, &[Lexed])>
+    ensures read { MatchOption result (Lacks (token grouping_at) tokens.now) (λ x. Takes (token grouping_at) tokens.now (grouper x.0) x.1.now) }
+    ensures shorter { IfSome result (λ x. length x.1.now < length tokens.now) }
+{
+    take(
+        tokens,
+        |next: &Lexed| -> Option<bool>
+            ensures { option_map grouper result ≡ grouping_at (see next.now) }
+        { grouping_of(next.kind) },
+    )
+}
+
+/// The side that `group_left` or `group_right` at the front names, and what follows it.
+pub fn side_in(tokens: &[Lexed]) -> Option<(Card, &[Lexed])>
+    ensures read { MatchOption result (Lacks (token side_at) tokens.now) (λ x. Takes (token side_at) tokens.now (sided x.0) x.1.now) }
+    ensures shorter { IfSome result (λ x. length x.1.now < length tokens.now) }
+{
+    take(
+        tokens,
+        |next: &Lexed| -> Option<Card>
+            ensures { option_map sided result ≡ side_at (see next.now) }
+        { side_of(next.kind) },
+    )
+}
+
+/// The sign of a matcher at the front, and what follows it.
+pub fn match_in(tokens: &[Lexed]) -> Option<(MatchSign, &[Lexed])>
+    ensures read { MatchOption result (Lacks (token match_at) tokens.now) (λ x. Takes (token match_at) tokens.now (match_sign x.0) x.1.now) }
+    ensures shorter { IfSome result (λ x. length x.1.now < length tokens.now) }
+{
+    take(
+        tokens,
+        |next: &Lexed| -> Option<MatchSign>
+            ensures { option_map match_sign result ≡ match_at (see next.now) }
+        { match_of(next.kind) },
+    )
+}
+
+/// Whether the unary sign at the front is a minus, with its place, and what follows it.
+pub fn minus_in(tokens: &[Lexed]) -> Option<((bool, Place), &[Lexed])>
+    ensures read { MatchOption result (Lacks (token minus_at) tokens.now) (λ x. Takes (token minus_at) tokens.now (signed x.0.0 x.0.1) x.1.now) }
+    ensures shorter { IfSome result (λ x. length x.1.now < length tokens.now) }
+{
+    take(
+        tokens,
+        |next: &Lexed| -> Option<(bool, Place)>
+            ensures { option_map (λ x. signed x.0 x.1) result ≡ minus_at (see next.now) }
+        {
+            let minus = minus_of(next.kind)?;
+            Some((minus, place_of(&next.token)))
+        },
+    )
+}
+
+/// The aggregation at the front with its place, and what follows it.
+pub fn aggregate_in(tokens: &[Lexed]) -> Option<((AggOp, Place), &[Lexed])>
+    ensures read { MatchOption result (Lacks (token aggregate_at) tokens.now) (λ x. Takes (token aggregate_at) tokens.now (aggregator x.0.0 x.0.1) x.1.now) }
+    ensures shorter { IfSome result (λ x. length x.1.now < length tokens.now) }
+{
+    take(
+        tokens,
+        |next: &Lexed| -> Option<(AggOp, Place)>
+            ensures { option_map (λ x. aggregator x.0 x.1) result ≡ aggregate_at (see next.now) }
+        {
+            let op = aggregate_of(next.kind)?;
+            Some((op, place_of(&next.token)))
+        },
+    )
+}
+
+/// The span at the front, which is not 0, with its place, and what follows it.
+pub fn span_in(tokens: &[Lexed]) -> Option<(Lasting, &[Lexed])>
+    ensures read { MatchOption result (Lacks (token span_at) tokens.now) (λ x. Takes (token span_at) tokens.now (lasting x.0.place x.0.span) x.1.now) }
+    ensures shorter { IfSome result (λ x. length x.1.now < length tokens.now) }
+{
+    take(
+        tokens,
+        |next: &Lexed| -> Option<Lasting>
+            ensures { option_map (λ x. lasting x.place x.span) result ≡ span_at (see next.now) }
+        {
+            if is_span(next.kind) {
+                Some(Lasting {
+                    place: place_of(&next.token),
+                    span: span_of(&next.token.kind),
+                })
+            } else {
+                None
+            }
+        },
+    )
+}
+
+/// The span at the front with its place, and what follows it.
+pub fn shift_in(tokens: &[Lexed]) -> Option<(Lasting, &[Lexed])>
+    ensures read { MatchOption result (Lacks (token shift_at) tokens.now) (λ x. Takes (token shift_at) tokens.now (lasting x.0.place x.0.span) x.1.now) }
+    ensures shorter { IfSome result (λ x. length x.1.now < length tokens.now) }
+{
+    take(
+        tokens,
+        |next: &Lexed| -> Option<Lasting>
+            ensures { option_map (λ x. lasting x.place x.span) result ≡ shift_at (see next.now) }
+        {
+            if is_shift(next.kind) {
+                Some(Lasting {
+                    place: place_of(&next.token),
+                    span: span_of(&next.token.kind),
+                })
+            } else {
+                None
+            }
+        },
+    )
+}
+
+/// The label at the front with its place, and what follows it.
+pub fn label_in(named: bool, tokens: &[Lexed]) -> Option<((Place, &str), &[Lexed])>
+    ensures read { MatchOption result (Lacks (token (label_at named)) tokens.now) (λ x. Takes (token (label_at named)) tokens.now (word x.0.0 x.0.1.now) x.1.now) }
+    ensures shorter { IfSome result (λ x. length x.1.now < length tokens.now) }
+{
+    let Some((first, rest)) = tokens.split_first() else {
+        return None;
+    };
+    if is_label(named, first.kind) {
+        Some(((place_of(&first.token), text_of(&first.token.kind)), rest))
+    } else {
+        None
+    }
+}
+
+/// The metric's name at the front, where it is no function's, with its place, and what follows it.
+pub fn metric_in(tokens: &[Lexed]) -> Option<((Place, &str), &[Lexed])>
+    ensures read { MatchOption result (Lacks (token metric_at) tokens.now) (λ x. Takes (token metric_at) tokens.now (word x.0.0 x.0.1.now) x.1.now) }
+    ensures shorter { IfSome result (λ x. length x.1.now < length tokens.now) }
+{
+    let Some((first, rest)) = tokens.split_first() else {
+        return None;
+    };
+    if is_metric(first.kind) {
+        Some(((place_of(&first.token), text_of(&first.token.kind)), rest))
+    } else {
+        None
+    }
+}
+
+/// The string at the front with its place, and what follows it.
+pub fn text_in(tokens: &[Lexed]) -> Option<((Place, &str), &[Lexed])>
+    ensures read { MatchOption result (Lacks (token text_at) tokens.now) (λ x. Takes (token text_at) tokens.now (quoted x.0.1.now) x.1.now) }
+    ensures shorter { IfSome result (λ x. length x.1.now < length tokens.now) }
+{
+    let Some((first, rest)) = tokens.split_first() else {
+        return None;
+    };
+    if is_text(first.kind) {
+        Some(((place_of(&first.token), text_of(&first.token.kind)), rest))
+    } else {
+        None
+    }
+}
+
+/// The name of a function at the front, with the function and its place, and what follows it.
+pub fn function_in(tokens: &[Lexed]) -> Option<((Func, Place, &str), &[Lexed])>
+    ensures read { MatchOption result (Lacks (token function_at) tokens.now) (λ x. Takes (token function_at) tokens.now (function x.0.0 x.0.1 x.0.2.now) x.1.now) }
+    ensures shorter { IfSome result (λ x. length x.1.now < length tokens.now) }
+{
+    let Some((first, rest)) = tokens.split_first() else {
+        return None;
+    };
+    match function_of(first.kind) {
+        Some(func) => Some((
+            (func, place_of(&first.token), text_of(&first.token.kind)),
+            rest,
+        )),
+        None => None,
+    }
+}
+
+fn starts_unary(kind: Kind) -> bool
+    ensures { result ≡ starts_unary true kind }
+{
+    match kind {
+        Kind::Number | Kind::Text | Kind::Function(_) => true,
+        Kind::Plain | Kind::WithColon | Kind::OwnName => true,
+        Kind::Word(Word::Inf | Word::NaN) => true,
+        Kind::Word(word) => AggOp::of(word).is_some(),
+        Kind::Sign(sign) => matches!(
+            sign,
+            Sign::LeftBrace | Sign::LeftParen | Sign::Plus | Sign::Minus
+        ),
+        _ => false,
+    }
+}
+
+/// Whether an argument can begin with the next token.
+pub fn starts_argument(tokens: &[Lexed]) -> bool
+    ensures { result ≡ argument_starts tokens.now }
+{
+    match tokens.split_first() {
+        Some((first, _rest)) => starts_unary(first.kind),
+        None => false,
+    }
+}

@@ -1,0 +1,19 @@
+//! The parser of the query language.
+#![tactic(auto)]
+
+mod depth;
+pub mod examples;
+mod fault;
+mod kinds;
+pub mod laws;
+mod made;
+mod parser;
+mod parsing;
+mod selection;
+mod suffix;
+#[cfg(test)]
+mod tests;
+mod whole;
+
+pub use fault::{ParseError, ParseKind};
+pub use parsing::parse;
