@@ -1,5 +1,5 @@
 -- Small trees, for worked examples. Each has its start; where it ends is of no account.
-use Rattle.std.specs.Prelude.{ℕ, Bool, true, false, List, [], ◌∷◌, codes, Option, None, Some}
+use Rattle.std.specs.Prelude.{ℕ, Bool, true, false, List, [], codes, Option, None, Some}
 use Rattle.pr_num.specs.declared.value.Num.TheVariants.{NaN}
 use Rattle.pr_labels.specs.declared.matching.Card.{Card}
 use Rattle.pr_labels.specs.declared.matching.Matching.{Matching}
