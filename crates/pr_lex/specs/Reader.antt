@@ -2,7 +2,7 @@
 use Rattle.std.specs.Prelude.{ℕ, ◌+◌, ◌^◌, ◌<◌, ◌≤◌, List, length, Bool, Result, Ok, Err}
 use Rattle.std.specs.Borrow.{Bor}
 use Rattle.std.specs.Str.{IsUtf8}
-use Rattle.pr_forms.specs.Form.{Form, rule}
+use Rattle.pr_forms.specs.Form.{rule}
 use Rattle.pr_forms.specs.Run.{good, bad}
 use Rattle.pr_forms.specs.Language.{Language, Gives}
 use Rattle.pr_lex.specs.declared.number.Letter.{Letter}
