@@ -2,33 +2,26 @@
 use Rattle.std.specs.Prelude.{ℕ, ◌+◌, ◌^◌, ◌<◌, ◌≤◌, List, length, Bool, Result, Ok, Err}
 use Rattle.std.specs.Borrow.{Bor}
 use Rattle.std.specs.Str.{IsUtf8}
-use Rattle.pr_forms.specs.Form.{Form, rule}
-use Rattle.pr_forms.specs.Run.{Outcome, good, bad, Runs, Takes as TakesBy, Lacks as LacksBy, Leads as LeadsBy}
+use Rattle.pr_forms.specs.Form.{rule}
+use Rattle.pr_forms.specs.Run.{good, bad}
+use Rattle.pr_forms.specs.Language.{Language, Gives}
 use Rattle.pr_lex.specs.declared.number.Letter.{Letter}
 use Rattle.pr_lex.specs.declared.token.TokenKind.{TokenKind}
 use Rattle.pr_lex.specs.declared.fault.LexError.{LexError}
 use Rattle.pr_lex.specs.declared.fault.LexError.TheVariants.{Fault, Memory}
 use Rattle.pr_lex.specs.declared.part.Lexeme.{Lexeme}
 use Rattle.pr_lex.specs.declared.part.Lexeme.TheVariants.{Text as TextLexeme}
-use Rattle.pr_lex.specs.Number.{production, table, seen, Value, mark, Rule}
+use Rattle.pr_lex.specs.Number.{production, table, letter_of, seen, Value, mark, Rule}
 use Rattle.pr_lex.specs.Tokens.{IsTokenOf, IsFaultOf, TextFault, HasFault}
 
-abbrev pub Gives : Form Letter Rule Value → List ℕ → Outcome Letter Value → Type 0
-Gives f text o = Runs production table f (seen text) o
-
-abbrev pub Takes : Form Letter Rule Value → List ℕ → List ℕ → Type 0
-Takes f text rest = TakesBy production table f (seen text) mark (seen rest)
-
-abbrev pub Lacks : Form Letter Rule Value → List ℕ → Type 0
-Lacks f text = LacksBy production table f (seen text)
-
-abbrev pub Leads : Form Letter Rule Value → List ℕ → Form Letter Rule Value → List ℕ → Type 0
-Leads f text g rest = LeadsBy production table f (seen text) g (seen rest)
+-- the language of numbers, over bytes
+abbrev pub numbers : Language ℕ Letter Rule Value
+numbers = record { production = production; table = table; see = letter_of }
 
 -- The reader of a rule gives what follows it, or fails at the rest.
 abbrev pub Ends : Rule → List ℕ → Result (Bor (List ℕ)) (Bor (List ℕ)) → Type 0
-Ends n text (Ok rest) = Gives (rule n) text (good mark (seen rest.now))
-Ends n text (Err rest) = Gives (rule n) text (bad (seen rest.now))
+Ends n text (Ok rest) = Gives numbers (rule n) text (good mark (seen rest.now))
+Ends n text (Err rest) = Gives numbers (rule n) text (bad (seen rest.now))
 
 -- The token that the text begins with, or its fault in the text, unless memory runs out.
 abbrev pub IsRead : Lexeme → Bool → List ℕ → Result (TokenKind × ℕ) LexError → Type 0

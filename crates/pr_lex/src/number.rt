@@ -3,7 +3,8 @@ ghost use Rattle.std.specs.Prelude.{◌≡◌, ◌<◌, ◌≤◌, length, IfOk,
 ghost use Rattle.pr_forms.specs.Form.{Form, token, rule};
 ghost use Rattle.pr_forms.specs.Run.{good, bad};
 ghost use Rattle.pr_lex.specs.Number.{letter_of, seen, mark, Value, Rule, digit_at, point_at, e_at, plus_minus_at, digits, Number, Fraction, Power, Exponent, Digits, Tail, IsNumberEnd};
-ghost use Rattle.pr_lex.specs.Reader.{Gives, Takes, Lacks, Ends};
+ghost use Rattle.pr_forms.specs.Language.{Gives, Takes, Lacks};
+ghost use Rattle.pr_lex.specs.Reader.{numbers, Ends};
 
 use pr_forms::{place_of, take};
 
@@ -33,7 +34,7 @@ fn letter_of(byte: u8) -> Letter
 
 /// What follows the digit at the front.
 fn digit_in(text: &[u8]) -> Option<((), &[u8])>
-    ensures read { MatchOption result (Lacks (token digit_at) text.now) (λ x. Takes (token digit_at) text.now x.1.now) }
+    ensures read { MatchOption result (Lacks numbers (token digit_at) text.now) (λ x. Takes numbers (token digit_at) text.now mark x.1.now) }
     ensures shorter { IfSome result (λ x. length x.1.now < length text.now) }
 {
     take(
@@ -51,7 +52,7 @@ fn digit_in(text: &[u8]) -> Option<((), &[u8])>
 
 /// What follows the point at the front.
 fn point_in(text: &[u8]) -> Option<((), &[u8])>
-    ensures { MatchOption result (Lacks (token point_at) text.now) (λ x. Takes (token point_at) text.now x.1.now) }
+    ensures { MatchOption result (Lacks numbers (token point_at) text.now) (λ x. Takes numbers (token point_at) text.now mark x.1.now) }
 {
     take(
         text,
@@ -68,7 +69,7 @@ fn point_in(text: &[u8]) -> Option<((), &[u8])>
 
 /// What follows the letter of an exponent at the front.
 fn e_in(text: &[u8]) -> Option<((), &[u8])>
-    ensures { MatchOption result (Lacks (token e_at) text.now) (λ x. Takes (token e_at) text.now x.1.now) }
+    ensures { MatchOption result (Lacks numbers (token e_at) text.now) (λ x. Takes numbers (token e_at) text.now mark x.1.now) }
 {
     take(
         text,
@@ -85,7 +86,7 @@ fn e_in(text: &[u8]) -> Option<((), &[u8])>
 
 /// What follows the sign of an exponent at the front.
 fn plus_minus_in(text: &[u8]) -> Option<((), &[u8])>
-    ensures { MatchOption result (Lacks (token plus_minus_at) text.now) (λ x. Takes (token plus_minus_at) text.now x.1.now) }
+    ensures { MatchOption result (Lacks numbers (token plus_minus_at) text.now) (λ x. Takes numbers (token plus_minus_at) text.now mark x.1.now) }
 {
     take(
         text,
@@ -102,7 +103,7 @@ fn plus_minus_in(text: &[u8]) -> Option<((), &[u8])>
 
 /// What follows the digits at the front.
 fn more_digits_in(text: &[u8]) -> &[u8]
-    ensures { Gives digits text.now (good mark (seen result.now)) }
+    ensures { Gives numbers digits text.now (good mark (seen result.now)) }
 {
     let mut rest = text;
     while let Some((_digit, after)) = digit_in(rest) {
