@@ -8,12 +8,7 @@ use std::test::Fail;
 fn events_are_answered(rt: HostRuntime) -> Result<(), Fail> {
     let alloc = rt.alloc();
     let rows: [(&str, &str, &str, Status); 8] = [
-        (
-            "no line",
-            "",
-            "opened 0\n",
-            Status::Done,
-        ),
+        ("no line", "", "opened 0\n", Status::Done),
         (
             "five minutes",
             "add 0 m 1\nquery 299999 m\nquery 300000 m\n",

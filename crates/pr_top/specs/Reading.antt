@@ -1,6 +1,7 @@
 -- Where the reader of the input stands.
 use Rattle.std.specs.Prelude.{◌≡◌, ℕ, ◌+◌, ◌<◌, ◌≤◌, ◌^◌, Bool, true, false, not, ◌==◌, List, [], ◌∷◌, ◌++◌, length, drop, Option, Some, None, IfSome}
 use Rattle.std.specs.List.{list_all}
+use Rattle.std.specs.Io.KnownBytes.{IsAtEnd}
 use Rattle.pr_words.specs.Lines.{lines_of}
 use Rattle.pr_text.specs.declared.order.Numbered.{Numbered}
 use Rattle.pr_text.specs.Orders.{orders_after, orders_of}
@@ -19,6 +20,10 @@ pub record HasRoom (more : ℕ) (r : Reader) : Type 0 where
   pub within : r.at ≤ length r.piece.items
   pub lines : r.lines + more + length (held r) ≤ r.count
   pub count : r.count < 2 ^ 32 + 4096
+
+-- where the end was met, nothing is left, and the input was short
+abbrev pub KnowsEnd : Reader → Option (List ℕ) → Type 0
+KnowsEnd r left = r.ended ≡ true → IsAtEnd left × (r.count < 2 ^ 32)
 
 -- what is still to come, where it is told: what is held, and what is left of the input
 abbrev pub ahead : List ℕ → Option (List ℕ) → Option (List ℕ)

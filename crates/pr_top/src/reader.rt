@@ -2,7 +2,7 @@
 ghost use Rattle.std.specs.Prelude.{◌≡◌, ◌+◌, ◌^◌, ◌<◌, ◌≤◌, ◌∷◌, ◌==◌, not, [], take, drop, length, None, IfOk, IfSome, IfNone, OnOk, true, false};
 ghost use Rattle.std.specs.List.{list_all};
 ghost use Rattle.std.specs.Io.KnownBytes.{Consumes, Keeps, IsAtEnd};
-ghost use Rattle.pr_top.specs.Reading.{is_no_feed, held, HasRoom, ahead, TakesPart, HandsLine, HandsOrder, Advances, Counts, IsCutLine, IsCutAt, IsBeyond, line_count};
+ghost use Rattle.pr_top.specs.Reading.{is_no_feed, held, HasRoom, KnowsEnd, ahead, TakesPart, HandsLine, HandsOrder, Advances, Counts, IsCutLine, IsCutAt, IsBeyond, line_count};
 ghost use Rattle.pr_top.specs.Stops.{StopsReading, AtInput, OnTooLong};
 
 use super::status::Stop;
@@ -17,13 +17,14 @@ const INPUT_LIMIT: u64 = 0x1_0000_0000;
 const PIECE: usize = 4096;
 
 /// What was read of the input and not yet handed out, which stands in the last piece from a place on; and how many bytes
-/// were read, and lines handed out.
+/// were read, and lines handed out; and whether the input's end was met.
 #[derive(Drop)]
 pub(crate) struct Reader {
     piece: Vec<u8>,
     at: usize,
     count: u64,
     lines: u64,
+    ended: bool,
 }
 
 // Where the first line feed stands.
@@ -52,12 +53,14 @@ impl Reader {
         ensures empty { held result ≡ [] }
         ensures room { HasRoom 0 result }
         ensures counts { (result.count ≡ 0) × (result.lines ≡ 0) }
+        ensures end { result.ended ≡ false }
     {
         Reader {
             piece: Vec::new(alloc),
             at: 0,
             count: 0,
             lines: 0,
+            ended: false,
         }
     }
 
@@ -67,6 +70,7 @@ impl Reader {
         ensures part { IfOk result (λ ended. TakesPart ended (held self.old) (held self.new) line.old.items line.new.items) }
         ensures within { OnOk result (self.new.at ≤ length self.new.piece.items) }
         ensures same { OnOk result ((self.new.count ≡ self.old.count) × (self.new.lines ≡ self.old.lines)) }
+        ensures end { OnOk result (self.new.ended ≡ self.old.ended) }
     {
         let held = &self.piece[self.at..];
         match line_end(held) {
@@ -83,10 +87,12 @@ impl Reader {
         }
     }
 
-    // Reads the next piece, and says whether there is one.
-    #[tactic(auto, using(crate::proofs::Ahead::kept))]
+    // Reads the next piece, and says whether there is one. After the end there is no other read.
+    #[tactic(auto, using(crate::proofs::Ahead::kept, crate::proofs::Ahead::joined_none))]
     fn fill<I: Source>(&mut self, input: &mut I) -> Result<bool, Stop>
-        requires { self.old.count < 2 ^ 32 + 4096 }
+        requires count { self.old.count < 2 ^ 32 + 4096 }
+        requires end { KnowsEnd self.old (I.left input.old) }
+        ensures end { OnOk result (KnowsEnd self.new (I.left input.new)) }
         ensures taken { OnOk result (Consumes (I.left input.old) (I.left input.new) (held self.new)) }
         ensures within { OnOk result (self.new.at ≤ length self.new.piece.items) }
         ensures count { OnOk result ((self.new.count ≡ self.old.count + length (held self.new)) × (self.new.count < 2 ^ 32 + 4096)) }
@@ -97,6 +103,11 @@ impl Reader {
         ensures long { OnTooLong result (2 ^ 32 ≤ self.old.count) }
         ensures cause { StopsReading (I.faults input.old) (I.faults input.new) result }
     {
+        if self.ended {
+            self.piece.clear();
+            self.at = 0;
+            return Ok(false);
+        }
         if self.count >= INPUT_LIMIT {
             return Err(Stop::TooLong);
         }
@@ -106,12 +117,15 @@ impl Reader {
         self.at = 0;
         self.piece.extend_from_slice(&buffer[..read])?;
         self.count += read as u64;
+        self.ended = read == 0;
         Ok(read > 0)
     }
 
     // Hands out the next line without its line feed, and says whether there is one.
     fn next_line<I: Source>(&mut self, input: &mut I, line: &mut Vec<u8>) -> Result<bool, Stop>
-        requires { HasRoom 0 self.old }
+        requires room { HasRoom 0 self.old }
+        requires end { KnowsEnd self.old (I.left input.old) }
+        ensures end { OnOk result (KnowsEnd self.new (I.left input.new)) }
         ensures line { IfOk result (λ more. HandsLine (ahead (held self.old) (I.left input.old)) (ahead (held self.new) (I.left input.new)) more line.new.items) }
         ensures room { IfOk result (λ more. HasRoom (line_count more) self.new) }
         ensures lines { OnOk result (self.new.lines ≡ self.old.lines) }
@@ -136,7 +150,9 @@ impl Reader {
         alloc: Global,
         input: &mut I,
     ) -> Result<Option<Numbered>, Stop>
-        requires { HasRoom 0 self.old }
+        requires room { HasRoom 0 self.old }
+        requires end { KnowsEnd self.old (I.left input.old) }
+        ensures end { OnOk result (KnowsEnd self.new (I.left input.new)) }
         ensures order { IfOk result (HandsOrder (ahead (held self.old) (I.left input.old)) (ahead (held self.new) (I.left input.new)) self.old.lines self.new.lines) }
         ensures advances { IfOk result (λ o. Advances o self.old.lines self.new.lines) }
         ensures room { OnOk result (HasRoom 0 self.new) }

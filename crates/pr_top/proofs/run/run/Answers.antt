@@ -51,6 +51,7 @@ answering-preserved g c =
       stands = stands_more [] (left c.args.input.now) before after (taken c.args.out.now) (taken c.answering.out) (taken c.answer_order.new.out) r.lines next.lines
           c.answering.session c.answer_order.new.session c.in-Some.order here.stands hands told.text told.world told.refused;
       room = read.room;
+      end = read.end;
       counts = counts_on (left c.args.input.now) (left c.answering.input) (left c.next_order.new.input) 0 r.count next.count here.counts read.counts;
       read_calm = read.cause ∙ here.read_calm;
       write_calm = told.cause ∙ here.write_calm;

@@ -1,5 +1,5 @@
 use Rattle.std.proofs.Common.{◌≡◌, ◌+◌, ◌-◌, ◌^◌, []}
-use Rattle.pr_top.specs.Reading.{held, HasRoom, ahead, Counts}
+use Rattle.pr_top.specs.Reading.{held, HasRoom, KnowsEnd, ahead, Counts}
 use Rattle.pr_top.specs.Standing.{Stands}
 use Rattle.pr_top.proofs.run.run.Given as goal
 
@@ -8,6 +8,7 @@ invariant-answering g l = record {
   stands : Stands [] (g.I.Source.left l.fn.input) (ahead (held l.reader) (g.I.Source.left l.input)) (g.O.Sink.taken l.fn.out) (g.O.Sink.taken l.out)
       l.reader.lines l.session;
   room : HasRoom 0 l.reader;
+  end : KnowsEnd l.reader (g.I.Source.left l.input);
   counts : Counts (g.I.Source.left l.fn.input) (g.I.Source.left l.input) 0 l.reader.count;
   read_calm : g.I.Source.faults l.input ≡ g.I.Source.faults l.fn.input;
   write_calm : g.O.Sink.faults l.out ≡ g.O.Sink.faults l.fn.out;

@@ -1,7 +1,7 @@
 use Rattle.std.proofs.Common.{◌≡◌, ◌+◌, ◌-◌, ◌^◌, ◌≤◌, ◌<◌, true, length}
 use Rattle.std.specs.List.{list_all}
 use Rattle.std.specs.Io.KnownBytes.{Consumes}
-use Rattle.pr_top.specs.Reading.{is_no_feed, held, ahead, Counts}
+use Rattle.pr_top.specs.Reading.{is_no_feed, held, KnowsEnd, ahead, Counts}
 use Rattle.pr_top.proofs.reader.Reader.next_line.Given as goal
 
 -- the line so far, and what is still to come, are what was to come
@@ -13,6 +13,7 @@ invariant-joining g l = record {
   lines : l.self.lines ≡ l.fn.self.lines;
   unended : list_all is_no_feed l.line.items ≡ true;
   joined : Consumes (ahead (held l.fn.self) (g.I.Source.left l.fn.input)) (ahead (held l.self) (g.I.Source.left l.input)) l.line.items;
+  end : KnowsEnd l.self (g.I.Source.left l.input);
   counts : Counts (g.I.Source.left l.fn.input) (g.I.Source.left l.input) l.fn.self.count l.self.count;
   calm : g.I.Source.faults l.input ≡ g.I.Source.faults l.fn.input;
 }

@@ -41,6 +41,7 @@ passing-preserved g c =
       passed = subst (λ (k : ℕ). PassesOver all after c.args.self.now.lines (k + 1)) (sym next.lines)
           (passed_line all before after c.args.self.now.lines c.passing.self.lines line here.passed hands over);
       lines = omega (arith, here.lines, next.lines);
+      end = next.end;
       counts = counts_on (left c.args.input.now) (left c.passing.input) (left c.next_line.new.input) c.args.self.now.count c.passing.self.count c.next_line.new.self.count
           here.counts next.counts;
       calm = next.cause ∙ here.calm;
