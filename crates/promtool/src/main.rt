@@ -1,5 +1,6 @@
 //! The program: it makes the real objects, hands the words to `pr_top::promtool`, and ends with its status.
 #![tactic(auto)]
+
 ghost use Rattle.std.specs.Prelude.{◌≡◌};
 ghost use Rattle.std.specs.Process.{exit_status};
 ghost use Rattle.pr_top.specs.Status.{number_of};
