@@ -1,5 +1,5 @@
 -- What is said of a tree does not speak of its places.
-use Rattle.std.proofs.Common.{◌≡◌, refl, Bool}
+use Rattle.std.proofs.Common.{◌≡◌, refl}
 use Rattle.pr_ast.specs.Tree.{Tree, number, text, select, range, sub, neg, binary, call, aggregate, none, more}
 use Rattle.pr_ast.specs.Places.{forget}
 use Rattle.pr_ast.specs.Print.{tree_text, is_operation, comma_text}

@@ -1,5 +1,5 @@
 -- Small trees for worked examples.
-use Rattle.std.specs.Prelude.{ℕ, ◌*◌, ◌^◌, true, Some, List, [], ◌∷◌, pos}
+use Rattle.std.specs.Prelude.{ℕ, ◌*◌, ◌^◌, true, Some, List, [], pos}
 use Rattle.pr_num.specs.declared.value.Num.TheVariants.{Finite}
 use Rattle.pr_labels.specs.declared.grouping.Grouping.{Grouping}
 use Rattle.pr_labels.specs.declared.matching.Matching.{Matching}

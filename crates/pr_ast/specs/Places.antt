@@ -1,5 +1,5 @@
 -- Trees without their places.
-use Rattle.std.specs.Prelude.{◌≡◌, ℕ}
+use Rattle.std.specs.Prelude.{◌≡◌}
 use Rattle.pr_ast.specs.declared.place.Place.{Place}
 use Rattle.pr_ast.specs.Tree.{Tree, number, text, select, range, sub, neg, binary, call, aggregate, none, more}
 

@@ -1,5 +1,5 @@
 -- The grammar ends: so what a text is, is a function of it.
-use Rattle.std.proofs.Common.{◌≡◌, ℕ, suc, nat_le, Bool, true, false, refl}
+use Rattle.std.proofs.Common.{◌≡◌, suc, nat_le, Bool, true, false, refl}
 use Rattle.pr_forms.specs.Reading.{EndsIn, Ends}
 use Rattle.pr_grammar.specs.declared.kind.Level.{Level}
 use Rattle.pr_grammar.specs.declared.kind.Level.TheVariants.{Or, And, Comparison, Sum, Product}

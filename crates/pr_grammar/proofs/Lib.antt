@@ -4,3 +4,4 @@ pub mod Ways
 pub mod Reading
 pub mod GrammarEnds
 pub mod StepsLaw
+pub mod PlacesLaw

@@ -1,5 +1,5 @@
 -- The ways through lists and through what stands between an operator and its right side.
-use Rattle.std.proofs.Common.{◌≡◌, ℕ, List, [], ◌∷◌, ◌++◌, Bool, true, false, Option, Some, None, refl, sym, ap, ◌∙◌, subst}
+use Rattle.std.proofs.Common.{◌≡◌, ℕ, List, [], ◌∷◌, ◌++◌, Bool, true, false, Option, Some, None, refl, sym, ap, subst}
 use Rattle.pr_forms.specs.Form.{token, pair, rule}
 use Rattle.pr_forms.specs.Run.{good, bad, run_rule, run_left, run_pair, run_first, run_second, run_nothing}
 use Rattle.pr_forms.proofs.Steps.{next_pair}
@@ -11,11 +11,10 @@ use Rattle.pr_labels.specs.declared.matching.Card.TheVariants.{OneToOne}
 use Rattle.pr_labels.specs.declared.matching.Matching.{Matching}
 use Rattle.pr_ast.specs.declared.place.Place.{Place}
 use Rattle.pr_ast.specs.declared.selector.MatchText.{MatchText}
-use Rattle.pr_ast.specs.Tree.{Tree}
 use Rattle.pr_grammar.specs.declared.kind.Lexed.{Lexed}
 use Rattle.pr_grammar.specs.declared.kind.Level.{Level}
 use Rattle.pr_grammar.specs.Seen.{Seen, seen}
-use Rattle.pr_grammar.specs.Grammar.{production, table, F, Rule, Value, Labels, MoreLabels, Matchers, MoreMatchers, Included, Grouped, Matched, Modified, names, labels, matchers, match_text, word, at, sided, matches, included, grouped, operand, part, second_of, including, sign, the_word, label_at, side_at, matching_at, label_list, sign_and_text, tighter, names_closed}
+use Rattle.pr_grammar.specs.Grammar.{table, F, Labels, MoreLabels, Matchers, MoreMatchers, Included, Grouped, Matched, Modified, names, labels, matchers, match_text, word, at, sided, matches, included, grouped, operand, second_of, including, sign, the_word, label_at, side_at, matching_at, label_list, sign_and_text, tighter, names_closed}
 use Rattle.pr_grammar.specs.Reader.{Gives, Takes, Lacks, Lists, Matches, Carries}
 use Rattle.pr_grammar.proofs.Ways.{skip_nested}
 

@@ -1,8 +1,8 @@
 -- What the grammar reads has no step of 0.
 use Rattle.std.proofs.Common.{◌≡◌, ◌&&◌, ℕ, List, [], ◌∷◌, Option, Some, None, Bool, true, false, refl, ap, sym, ◌∙◌}
-use Rattle.std.specs.Prelude.{◌==◌, not, if◌then◌else◌, map}
+use Rattle.std.specs.Prelude.{◌==◌, not, if◌then◌else◌}
 use Rattle.std.specs.Str.{bytes_eq}
-use Rattle.pr_forms.specs.Form.{Form, token, nothing, pair, either, turns, fold, chosen, rule, Reads}
+use Rattle.pr_forms.specs.Form.{token, nothing, pair, either, turns, fold, chosen, rule, Reads}
 use Rattle.pr_labels.proofs.ByRules.{Each, Meets, by_token, by_nothing, by_pair, by_left, by_right, by_stop, by_turn, by_fold, by_choice, by_rule, by_rules}
 use Rattle.pr_lex.specs.declared.token.Token.{Token}
 use Rattle.pr_lex.specs.declared.token.TokenKind.{TokenKind}
@@ -12,7 +12,7 @@ use Rattle.pr_lex.specs.Words.{word_of}
 use Rattle.pr_ast.specs.declared.names.Func.{Func}
 use Rattle.pr_ast.specs.Names.{func_of}
 use Rattle.pr_ast.specs.declared.place.Place.{Place}
-use Rattle.pr_ast.specs.Tree.{Tree, number, text, select, range, sub, neg, binary, call, aggregate, none, more}
+use Rattle.pr_ast.specs.Tree.{Tree, number, text, select, range, sub, call}
 use Rattle.pr_ast.specs.Steps.{is_step, has_steps}
 use Rattle.std.specs.Prelude.{option_map, codes}
 use Rattle.pr_num.specs.declared.value.Num.TheVariants.{NaN as NaNValue, PosInf}
@@ -20,11 +20,11 @@ use Rattle.pr_lex.specs.declared.token.Sign.{Sign as SignKind}
 use Rattle.pr_lex.specs.declared.token.Sign.TheVariants.{LeftBrace, RightBrace, LeftParen, RightParen, LeftBracket, RightBracket, Comma, Colon}
 use Rattle.pr_lex.specs.declared.words.Word.TheVariants.{Bool as BoolWord, Offset, Inf, NaN}
 use Rattle.pr_grammar.specs.declared.kind.Kind.{Kind}
-use Rattle.pr_grammar.specs.declared.kind.Kind.TheVariants.{Number, Text, Span, ZeroSpan, Word, Function, OwnName, WithColon, Plain, Sign}
+use Rattle.pr_grammar.specs.declared.kind.Kind.TheVariants.{Number, Text, Span, ZeroSpan, Word, OwnName, WithColon, Plain}
 use Rattle.pr_grammar.specs.declared.kind.Level.{Level}
 use Rattle.pr_grammar.specs.declared.kind.Before.TheVariants.{Selector as Selectors, Range as Ranges, Other as Others}
-use Rattle.pr_grammar.specs.Seen.{Seen, lexed, seen_token, seen_tokens, kind_of, name_kind, word_kind, function_kind, other_name, has_colon, place_of}
-use Rattle.pr_grammar.specs.Grammar.{production, expression, Rule, F, Value, Suffix, in_range, in_subquery, by_offset, part, at, word, lasting, quoted, operation, operand, turn, matches, sided, included, grouped, paired, signed, names, labels, match_sign, match_text, matching, matchers, ended, braced, bare, suffixes, ranged, stepped, selection, function, arguments, closed, called, aggregator, grouper, grouping, aggregation, mark, through, range_made, offset_set, applied_to, selector_of, Binary, Modified, Matched, Grouped, Included, Unary, Postfix, Operand, Labels, MoreLabels, Matchers, MoreMatchers, Braced, Selection, Tail, Arguments, Aggregation, Parameters, After, InSelector, SelectorSpan, InOther, Step, Closing, Shift, sign_at, word_at, is_sign, is_word, operator_at, operator_of, matching_at, matching_of, grouping_at, grouping_of, minus_at, minus_of, side_at, side_of, match_at, match_of, aggregate_at, aggregate_of, function_at, function_of, is_label, label_at, is_metric, metric_at, literal_of, literal_at, is_text, text_at, is_span, span_at, shift_at, span_of, text_of, shifted, second_of, joined, turned, with_bool, unmatched, matched, named_by, ungrouped, grouped_by, including, including_none, signed_by, opened_by, closed_by, name_first, names_closed, match_of_text, match_before, match_first, matchers_closed, matchers_opened, applied, bracketed, range_closed, step_closed, with_step, selecting, named, unnamed, function_called, argument, arguments_closed, arguments_followed, grouping_made, grouped_before, grouped_after, aggregated, parameter, number_of}
+use Rattle.pr_grammar.specs.Seen.{Seen, lexed, seen_tokens, kind_of, word_kind, function_kind, has_colon, place_of}
+use Rattle.pr_grammar.specs.Grammar.{production, expression, Rule, F, Value, Suffix, in_range, in_subquery, by_offset, part, at, word, lasting, quoted, operation, operand, turn, matches, sided, included, grouped, paired, signed, names, labels, match_sign, match_text, matching, matchers, ended, braced, bare, suffixes, ranged, stepped, selection, function, arguments, closed, called, aggregator, grouper, grouping, aggregation, through, range_made, offset_set, applied_to, selector_of, Binary, Modified, Matched, Grouped, Included, Unary, Postfix, Operand, Labels, MoreLabels, Matchers, MoreMatchers, Braced, Selection, Tail, Arguments, Aggregation, Parameters, After, InSelector, SelectorSpan, InOther, Step, Closing, Shift, sign_at, word_at, is_sign, is_word, operator_at, operator_of, matching_at, matching_of, grouping_at, grouping_of, minus_at, minus_of, side_at, side_of, match_at, match_of, aggregate_at, aggregate_of, function_at, function_of, is_label, label_at, is_metric, metric_at, literal_of, literal_at, is_text, text_at, span_at, span_of, text_of, shifted, second_of, joined, turned, with_bool, unmatched, matched, named_by, ungrouped, grouped_by, including, including_none, signed_by, opened_by, closed_by, name_first, names_closed, match_of_text, match_before, match_first, matchers_closed, matchers_opened, applied, bracketed, range_closed, step_closed, with_step, selecting, named, unnamed, function_called, argument, arguments_closed, arguments_followed, grouping_made, grouped_before, grouped_after, aggregated, parameter, number_of}
 
 -- A token is seen with its own kind.
 abbrev IsOwn : Seen → Type 0

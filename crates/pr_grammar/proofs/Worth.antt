@@ -3,8 +3,6 @@ use Rattle.std.proofs.Common.{◌≡◌, ℕ, List, Bool, true, false, Option, S
 use Rattle.pr_ast.specs.declared.place.Place.{Place}
 use Rattle.pr_ast.specs.declared.names.Func.{Func}
 use Rattle.pr_grammar.specs.declared.kind.Lexed.{Lexed}
-use Rattle.pr_grammar.specs.declared.kind.Kind.{Kind}
-use Rattle.pr_grammar.specs.declared.kind.Kind.TheVariants.{Function}
 use Rattle.pr_grammar.specs.Seen.{see, place_of}
 use Rattle.pr_grammar.specs.Grammar.{is_label, is_metric, is_text, text_of, label_at, metric_at, text_at, function_of, function_at, word, quoted, function}
 

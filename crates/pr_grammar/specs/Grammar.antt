@@ -1,11 +1,11 @@
 -- The grammar of the query language.
-use Rattle.std.specs.Prelude.{◌≡◌, ℕ, ◌||◌, ◌&&◌, Bool, true, false, Option, Some, None, is_some, List, [], ◌∷◌, option_map, if◌then◌else◌}
+use Rattle.std.specs.Prelude.{ℕ, ◌||◌, ◌&&◌, Bool, true, false, Option, Some, None, is_some, List, [], ◌∷◌, option_map, if◌then◌else◌}
 use Rattle.pr_num.specs.declared.value.Num.{Num}
 use Rattle.pr_num.specs.declared.value.Num.TheVariants.{NaN as NaNValue, PosInf}
-use Rattle.pr_forms.specs.Form.{Form, token, nothing, pair, either, fold, rule, Reads, IsFirstBad}
+use Rattle.pr_forms.specs.Form.{Form, token, nothing, pair, either, fold, rule}
 use Rattle.pr_forms.specs.Table.{Table}
 use Rattle.pr_lex.specs.declared.token.TokenKind.{TokenKind}
-use Rattle.pr_lex.specs.declared.token.TokenKind.TheVariants.{Name as NameToken, Number as NumberToken, Duration as DurationToken, Text as TextToken, Sign as SignToken}
+use Rattle.pr_lex.specs.declared.token.TokenKind.TheVariants.{Name as NameToken, Number as NumberToken, Duration as DurationToken, Text as TextToken}
 use Rattle.pr_lex.specs.declared.token.Sign.{Sign as SignKind}
 use Rattle.pr_lex.specs.declared.token.Sign.TheVariants.{LeftBrace, RightBrace, LeftParen, RightParen, LeftBracket, RightBracket, Comma, Colon, Assign, NotEqual as NotEqualSign, Like as LikeSign, NotLike as NotLikeSign, Equal as EqualSign, Less as LessSign, LessEqual as LessEqualSign, Greater as GreaterSign, GreaterEqual as GreaterEqualSign, Plus, Minus, Star, Slash, Percent}
 use Rattle.pr_lex.specs.declared.words.Word.{Word as WordKind}

@@ -1,5 +1,5 @@
 -- That the grammar ends: each rule comes to a token or to its end within so many steps.
-use Rattle.std.specs.Prelude.{ℕ, Bool, true, false}
+use Rattle.std.specs.Prelude.{ℕ}
 use Rattle.pr_grammar.specs.declared.kind.Level.TheVariants.{Or, And, Comparison, Sum, Product}
 use Rattle.pr_grammar.specs.declared.kind.Before.TheVariants.{Selector as Selectors, Range as Ranges, Other as Others}
 use Rattle.pr_grammar.specs.Grammar.{Rule, Binary, Modified, Matched, Grouped, Included, Unary, Postfix, Operand, Labels, MoreLabels, Matchers, MoreMatchers, Braced, Selection, Tail, Arguments, Aggregation, Parameters, After, InSelector, SelectorSpan, InOther, Step, Closing, Shift}

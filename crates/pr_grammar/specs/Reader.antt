@@ -1,5 +1,5 @@
 -- What the functions that read tokens say of themselves.
-use Rattle.std.specs.Prelude.{◌≡◌, ℕ, List, [], ◌∷◌, ◌++◌, Bool}
+use Rattle.std.specs.Prelude.{ℕ, List, ◌++◌, Bool}
 use Rattle.pr_forms.specs.Table.{is_next}
 use Rattle.pr_forms.specs.Run.{Outcome, good, bad, Runs, Takes as TakesBy, Lacks as LacksBy, Leads as LeadsBy}
 use Rattle.pr_forms.specs.Reader.{FailsBy}

@@ -3,7 +3,9 @@ ghost use Rattle.std.specs.Prelude.{◌≡◌, List, true};
 ghost use Rattle.pr_forms.specs.Table.{IsDecided};
 ghost use Rattle.pr_forms.specs.Reading.{Ends};
 ghost use Rattle.pr_lex.specs.declared.token.Token.{Token};
+ghost use Rattle.pr_lex.specs.Spaced.{kinds};
 ghost use Rattle.pr_ast.specs.Tree.{Tree};
+ghost use Rattle.pr_ast.specs.Places.{IsSameButPlaces};
 ghost use Rattle.pr_ast.specs.Steps.{has_steps};
 ghost use Rattle.pr_grammar.specs.Grammar.{production, table};
 ghost use Rattle.pr_grammar.specs.Ranks.{rank, steps};
@@ -23,4 +25,9 @@ pub fn the_grammar_ends()
 /// No tree that is read from tokens has a subquery with a given step of 0.
 pub fn trees_have_steps()
     ensures { (tokens : List Token) (tree : Tree) → Derives (seen_tokens tokens) tree → has_steps tree ≡ true }
+{}
+
+/// Where tokens stand matters to nothing but the places of nodes: tokens of the same kinds have the same tree, but for places.
+pub fn places_of_tokens_do_not_matter()
+    ensures { (ts us : List Token) (t : Tree) → kinds ts ≡ kinds us → Derives (seen_tokens ts) t → (u : Tree) × (Derives (seen_tokens us) u × IsSameButPlaces u t) }
 {}

@@ -1,4 +1,4 @@
-use Rattle.std.proofs.Common.{◌≡◌, ◌++◌}
+use Rattle.std.proofs.Common.{◌≡◌}
 use Rattle.pr_grammar.specs.Seen.{seen, seen_tokens}
 use Rattle.pr_grammar.proofs.kind.with_kinds.Given as goal
 

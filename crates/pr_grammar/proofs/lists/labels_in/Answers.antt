@@ -1,4 +1,4 @@
-use Rattle.std.proofs.Common.{◌≡◌, ap}
+use Rattle.std.proofs.Common.{ap}
 use Rattle.pr_forms.specs.Run.{run_pair, run_second}
 use Rattle.pr_forms.proofs.Ways.{value_is}
 use Rattle.pr_grammar.specs.Grammar.{labels}

@@ -1,4 +1,4 @@
-use Rattle.std.proofs.Common.{◌≡◌, arith}
+use Rattle.std.proofs.Common.{arith}
 use Rattle.pr_forms.specs.Form.{rule}
 use Rattle.pr_forms.proofs.Ways.{exit}
 use Rattle.pr_grammar.specs.Seen.{seen}

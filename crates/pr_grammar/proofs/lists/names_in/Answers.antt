@@ -1,4 +1,4 @@
-use Rattle.std.proofs.Common.{◌≡◌, [], ◌∷◌, ◌++◌, ap, ◌∙◌, arith}
+use Rattle.std.proofs.Common.{[], ◌∷◌, ◌++◌, ap, ◌∙◌, arith}
 use Rattle.pr_forms.specs.Form.{rule}
 use Rattle.pr_grammar.specs.Grammar.{Labels, MoreLabels}
 use Rattle.pr_grammar.proofs.Reading.{names_stop, names_step, names_comma, no_label, no_comma}

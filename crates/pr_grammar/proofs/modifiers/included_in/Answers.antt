@@ -1,4 +1,4 @@
-use Rattle.pr_grammar.proofs.Reading.{included_none, included_some, included_bad}
+use Rattle.pr_grammar.proofs.Reading.{included_none, included_some}
 use Rattle.pr_grammar.proofs.modifiers.included_in.Goals as goal
 
 pub returns-in_default-clause-read : goal.returns-in_default-clause-read
