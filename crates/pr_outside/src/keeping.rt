@@ -2,7 +2,7 @@
 ghost use Rattle.std.specs.Prelude.{◌≡◌, ℕ, ◌<◌, ◌+◌, List, length, OnOk, OnErr, IfOk, IfSome, Some, slice_get};
 ghost use Rattle.std.specs.declared.option.Option.{Option};
 ghost use Rattle.pr_outside.specs.Causes.{HasKeepCause};
-ghost use Rattle.pr_outside.specs.Kept.{KeepsRows, MayForget, AppendsRows};
+ghost use Rattle.pr_outside.specs.Kept.{KeepsRows, KeepsRefused, MayForget, AppendsRows};
 
 use pr_words::Text;
 use std::alloc::AllocError;
@@ -59,20 +59,20 @@ pub trait Keeper {
         ensures count { result ≡ count self.now }
         ensures rows { IfSome (rows self.now) (λ rows. result ≡ length rows) };
 
-    /// Appends all the rows. A refused call appends none, and leaves the rows as they were, or untold.
+    /// Appends all the rows. A refused call appends none; one that failed may leave the rows untold.
     fn commit(&mut self, added: &[Row]) -> Result<(), KeepError>
         ensures ok { OnOk result (AppendsRows (rows self.old) (rows self.new) added.now) }
         ensures ok_count { OnOk result (count self.new ≡ count self.old + length added.now) }
-        ensures err { OnErr result (MayForget (rows self.old) (rows self.new)) }
+        ensures err { KeepsRefused result (rows self.old) (rows self.new) }
         ensures err_count { OnErr result (count self.new ≡ count self.old) }
         ensures cause { HasKeepCause (faults self.old) (faults self.new) result };
 
-    /// The row of this index. It changes no rows; a refused call may leave them untold.
+    /// The row of this index. It changes no rows; a call that failed may leave them untold.
     fn load(&mut self, index: u64) -> Result<Row, KeepError>
         requires { index < count self.old }
         ensures row { IfOk result (λ row. IfSome (rows self.old) (λ rows. slice_get rows index ≡ Some row)) }
         ensures ok { OnOk result (KeepsRows (rows self.old) (rows self.new)) }
-        ensures err { OnErr result (MayForget (rows self.old) (rows self.new)) }
+        ensures err { KeepsRefused result (rows self.old) (rows self.new) }
         ensures count { count self.new ≡ count self.old }
         ensures cause { HasKeepCause (faults self.old) (faults self.new) result };
 }

@@ -5,7 +5,7 @@ ghost use Rattle.std.specs.Io.KnownBytes.{ReadConsumes, WriteAppends};
 ghost use Rattle.pr_outside.specs.Causes.{HasReadCause, HasWriteCause, HasFilesCause, HasKeepCause};
 ghost use Rattle.pr_outside.specs.Contents.{IsFound, IsWithinLimit};
 ghost use Rattle.pr_outside.specs.HeldFiles.{content_of, files_of};
-ghost use Rattle.pr_outside.specs.Kept.{KeepsRows, MayForget, AppendsRows};
+ghost use Rattle.pr_outside.specs.Kept.{KeepsRows, KeepsRefused, MayForget, AppendsRows};
 ghost use Rattle.pr_outside.specs.Schedule.{after_call, fails_next, schedule_of};
 
 use super::schedule::Schedule;
@@ -241,7 +241,7 @@ impl Keeper for MemKeeper {
     fn commit(&mut self, added: &[Row]) -> Result<(), KeepError>
         ensures ok { OnOk result (AppendsRows (Some self.old.rows) (Some self.new.rows) added.now) }
         ensures ok_count { OnOk result (length self.new.rows ≡ length self.old.rows + length added.now) }
-        ensures err { OnErr result (MayForget (Some self.old.rows) (Some self.new.rows)) }
+        ensures err { KeepsRefused result (Some self.old.rows) (Some self.new.rows) }
         ensures err_count { OnErr result (length self.new.rows ≡ length self.old.rows) }
         ensures cause { HasKeepCause self.old.schedule.faults self.new.schedule.faults result }
         ensures failed { (result ≡ Err KeepError.Failed) ↔ IsTrue (fails_next self.old.schedule) }
@@ -258,7 +258,7 @@ impl Keeper for MemKeeper {
         requires { index < length self.old.rows }
         ensures row { IfOk result (λ row. IfSome (Some self.old.rows) (λ rows. slice_get rows index ≡ Some row)) }
         ensures ok { OnOk result (KeepsRows (Some self.old.rows) (Some self.new.rows)) }
-        ensures err { OnErr result (MayForget (Some self.old.rows) (Some self.new.rows)) }
+        ensures err { KeepsRefused result (Some self.old.rows) (Some self.new.rows) }
         ensures count { length self.new.rows ≡ length self.old.rows }
         ensures cause { HasKeepCause self.old.schedule.faults self.new.schedule.faults result }
         ensures unchanged { self.new ≡ self.old }

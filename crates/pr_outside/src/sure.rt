@@ -5,7 +5,7 @@ ghost use Rattle.std.specs.Io.KnownBytes.{ReadConsumes, WriteAppends};
 ghost use Rattle.pr_outside.specs.Causes.{HasReadCause, HasWriteCause, HasFilesCause, HasKeepCause};
 ghost use Rattle.pr_outside.specs.Contents.{IsFound, IsWithinLimit};
 ghost use Rattle.pr_outside.specs.HeldFiles.{content_of, files_of};
-ghost use Rattle.pr_outside.specs.Kept.{KeepsRows, MayForget, AppendsRows};
+ghost use Rattle.pr_outside.specs.Kept.{KeepsRows, KeepsRefused, MayForget, AppendsRows};
 
 use super::{
     FILE_LIMIT, Failed, Files, FilesError, Found, HeldFile, KeepError, Keeper, Row, Sink,
@@ -273,7 +273,7 @@ impl Keeper for SureKeeper {
     fn commit(&mut self, added: &[Row]) -> Result<(), KeepError>
         ensures ok { OnOk result (AppendsRows (Some self.old) (Some self.new) added.now) }
         ensures ok_count { OnOk result (length self.new ≡ length self.old + length added.now) }
-        ensures err { OnErr result (MayForget (Some self.old) (Some self.new)) }
+        ensures err { KeepsRefused result (Some self.old) (Some self.new) }
         ensures err_count { OnErr result (length self.new ≡ length self.old) }
         ensures cause { HasKeepCause 0 0 result }
         ensures sure { result ≢ Err KeepError.Failed }
@@ -288,7 +288,7 @@ impl Keeper for SureKeeper {
         requires { index < length self.old }
         ensures row { IfOk result (λ row. IfSome (Some self.old) (λ rows. slice_get rows index ≡ Some row)) }
         ensures ok { OnOk result (KeepsRows (Some self.old) (Some self.new)) }
-        ensures err { OnErr result (MayForget (Some self.old) (Some self.new)) }
+        ensures err { KeepsRefused result (Some self.old) (Some self.new) }
         ensures count { length self.new ≡ length self.old }
         ensures cause { HasKeepCause 0 0 result }
         ensures unchanged { self.new ≡ self.old }
