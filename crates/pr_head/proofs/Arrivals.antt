@@ -1,9 +1,6 @@
 -- The series of a history, in order of first arrival.
-use Rattle.std.proofs.Common.{◌≡◌, ◌≢◌, ℕ, zero, suc, ◌+◌, ◌<◌, ◌≤◌, Bool, true, false, not, cond, ◌&&◌, ◌||◌, ◌⊎◌, inl, inr, List, [], ◌∷◌, ◌++◌, length, map, filter, fold, find, reverse, slice_get, position, Option, Some, None, refl, sym, ap, subst, ◌∙◌, arith, append_assoc, append-nil, true≢false}
-use Rattle.std.specs.List.{list_any, position_or_len}
-use Rattle.std.specs.Map.{lookup}
-use Rattle.std.proofs.lemmas.List.{map-append, reverse-append, length-append}
-use Rattle.std.proofs.lemmas.List.Elements.{filter-append}
+use Rattle.std.proofs.Common.{◌≡◌, ◌≢◌, ℕ, zero, suc, ◌≤◌, Bool, true, false, cond, ◌||◌, ◌⊎◌, inl, inr, List, [], ◌∷◌, ◌++◌, length, map, filter, fold, slice_get, Some, None, refl, sym, ap, subst, ◌∙◌, arith, append-nil, true≢false}
+use Rattle.std.proofs.lemmas.List.{map-append, length-append}
 use Rattle.std.proofs.lemmas.List.Folds.{list_any-append}
 use Rattle.std.proofs.lemmas.List.Sums.{fold-append}
 use Rattle.pr_labels.specs.declared.pair.Pair.{Pair}
@@ -14,8 +11,7 @@ use Rattle.pr_labels.specs.Rising.{is_among}
 use Rattle.pr_labels.proofs.LabelOrder.{labels_decide}
 use Rattle.pr_history.proofs.Lawful.{of_entries, entries_more, last_more as history_last}
 use Rattle.pr_head.specs.declared.timed.Timed.{Timed}
-use Rattle.pr_head.specs.Stored.{Stored}
-use Rattle.pr_head.specs.Holds.{timed, samples_of, arrived, arrivals, sets_of}
+use Rattle.pr_head.specs.Holds.{timed, samples_of, arrived, arrivals}
 
 pub eq_same : (l : List Pair) → labels_eq l l ≡ true
 eq_same l = (labels_decide l l).1 refl

@@ -1,5 +1,5 @@
 -- Places among samples whose times rise.
-use Rattle.std.proofs.Common.{◌≡◌, ◌≢◌, ◌-◌, ℕ, zero, suc, ℤ, pos, negsuc, ◌+◌, ◌≤◌, ◌<◌, Bool, true, false, cond, List, [], ◌∷◌, ◌++◌, length, find, reverse, slice_get, Option, Some, None, refl, sym, ap, ◌∙◌, arith}
+use Rattle.std.proofs.Common.{◌≡◌, ◌≢◌, ◌-◌, ℕ, zero, suc, ℤ, pos, negsuc, ◌≤◌, ◌<◌, Bool, true, false, cond, List, [], ◌∷◌, length, find, reverse, slice_get, Some, None, refl, ap, ◌∙◌, arith}
 use Rattle.std.specs.List.{position_or_len, AllWithin}
 use Rattle.std.specs.List.Sorted.{IsNonDecreasingBy, IsPartitionedBy, IsPartitionPoint}
 use Rattle.std.specs.Option.{option_or}

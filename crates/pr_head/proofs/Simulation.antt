@@ -1,6 +1,6 @@
 -- One more sample of a head is one more entry of the history that it stands for.
-use Rattle.std.proofs.Common.{◌≡◌, ◌≢◌, ◌&&◌, ℤ, ℕ, zero, suc, ◌+◌, ◌-◌, ◌==◌, nat_lt, ◌<◌, ◌≤◌, Bool, true, false, cond, ◌||◌, ◌⊎◌, inl, inr, List, [], ◌∷◌, ◌++◌, length, map, filter, drop, slice_get, position, IfSome, Option, Some, None, refl, sym, ap, subst, ◌∙◌, arith, append_assoc, append-nil}
-use Rattle.std.specs.List.{list_any, position_from}
+use Rattle.std.proofs.Common.{◌≡◌, ◌≢◌, ◌&&◌, ℤ, ℕ, zero, suc, ◌+◌, ◌-◌, ◌==◌, nat_lt, ◌<◌, ◌≤◌, Bool, true, false, cond, ◌||◌, ◌⊎◌, inl, inr, List, [], ◌∷◌, ◌++◌, length, map, filter, drop, slice_get, position, IfSome, Option, Some, None, refl, sym, ap, subst, ◌∙◌, arith}
+use Rattle.std.specs.List.{position_from}
 use Rattle.std.proofs.lemmas.Iterator.Adapters.{position_from-zero}
 use Rattle.std.proofs.lemmas.Grind.{common_steps}
 use Rattle.pr_num.specs.Same.{same_point}
@@ -20,8 +20,8 @@ use Rattle.pr_history.specs.Admission.{is_of, last_entry, admit, admit_after, pu
 use Rattle.pr_labels.specs.Rising.{is_among}
 use Rattle.pr_head.specs.declared.timed.Timed.{Timed}
 use Rattle.pr_head.specs.Stored.{Stored, admitted, after_push, begun, stored}
-use Rattle.pr_head.specs.Holds.{timed, samples_of, arrived, arrivals, sets_of, IsKept, Holds, IsWhole}
-use Rattle.pr_head.proofs.Arrivals.{arrivals_more, arrivals_apart, among_arrivals, among_at, samples_more, samples_other, last_more, last_other, filter_none, last_none, eq_same, eq_from, apart_from}
+use Rattle.pr_head.specs.Holds.{timed, samples_of, arrivals, sets_of, IsKept, Holds, IsWhole}
+use Rattle.pr_head.proofs.Arrivals.{arrivals_more, arrivals_apart, among_arrivals, among_at, samples_more, samples_other, last_more, last_other, filter_none, last_none, eq_from}
 
 abbrev Series : Type 0
 Series = List Pair × Stored

@@ -1,5 +1,5 @@
 -- What a head stands for: the history, of which it may have forgotten the oldest samples of each series.
-use Rattle.std.specs.Prelude.{◌≡◌, ℕ, ◌≤◌, Bool, cond, ℤ, List, [], ◌∷◌, ◌++◌, length, get_or, map, filter, fold, drop, slice_get, Option, Some}
+use Rattle.std.specs.Prelude.{◌≡◌, ℕ, ◌≤◌, Bool, cond, ℤ, List, [], ◌∷◌, ◌++◌, length, get_or, map, filter, fold, drop, slice_get, Some}
 use Rattle.std.specs.Option.{option_map}
 use Rattle.pr_num.specs.declared.value.Point.{Point}
 use Rattle.pr_labels.specs.declared.pair.Pair.{Pair}

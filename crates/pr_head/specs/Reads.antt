@@ -1,5 +1,5 @@
 -- What one read of a head tells of a series.
-use Rattle.std.specs.Prelude.{◌≡◌, ℕ, ℤ, Bool, true, false, cond, Option, None, option_and_then}
+use Rattle.std.specs.Prelude.{◌≡◌, ℕ, ℤ, true, false, cond, Option, None, option_and_then}
 use Rattle.std.specs.Option.{option_map}
 use Rattle.pr_history.specs.declared.spot.Spot.{Spot}
 use Rattle.pr_history.specs.Lookback.{is_recent, is_until, number_in, spot_of}

@@ -1,5 +1,5 @@
 -- What is held of a series.
-use Rattle.std.specs.Prelude.{◌≡◌, ℕ, zero, suc, ℤ, ◌+◌, ◌-◌, ◌≤◌, ◌<◌, Bool, not, nat_lt, cond, ◌==◌, List, [], ◌∷◌, ◌++◌, length, slice_get, find, reverse, Option, Some, None}
+use Rattle.std.specs.Prelude.{ℕ, zero, suc, ℤ, ◌+◌, ◌-◌, ◌≤◌, nat_lt, cond, ◌==◌, List, [], ◌∷◌, ◌++◌, length, slice_get, find, reverse, Option, None}
 use Rattle.std.specs.List.{position_or_len, All}
 use Rattle.std.specs.List.Sorted.{IsNonDecreasingBy}
 use Rattle.pr_num.specs.declared.value.Point.{Point}

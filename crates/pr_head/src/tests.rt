@@ -11,17 +11,16 @@ use std::marker::Brand;
 use std::sync::ledger::{Blank, Ledger};
 use std::test::Fail;
 
-/// What comes in one after another: the metric and the value of its label x, minutes, a whole value, and what becomes
-/// of it.
+/// What comes in one after another: the metric and the value of its label x, the time, a value, and what becomes of it.
 const COMING: [((&str, &str), u64, i128, &str); 8] = [
     (("b", "1"), 0, 1, "added"),
     (("a", "2"), 0, 2, "added"),
     (("a", "1"), 0, 3, "added"),
     (("b", "1"), 0, 1, "same"),
-    (("b", "1"), 1, 5, "added"),
-    (("b", "1"), 1, 6, "conflict"),
+    (("b", "1"), 60_000, 5, "added"),
+    (("b", "1"), 60_000, 6, "conflict"),
     (("b", "1"), 0, 1, "out of order"),
-    (("a", "1"), 2, 7, "added"),
+    (("a", "1"), 120_000, 7, "added"),
 ];
 
 /// The labels that are asked for, and the series, numbered in order of arrival, in label order.
@@ -47,19 +46,6 @@ fn series(alloc: Global, (name, x): (&str, &str)) -> Result<Labels, Fail> {
     Ok(Labels::from_pairs(alloc, &pairs)?)
 }
 
-fn whole(value: i128) -> Result<Point, Fail> {
-    Ok(Point::Value(Num::Finite(Nano::new(value).ok_or("no value")?)))
-}
-
-fn filled(alloc: Global) -> Result<Head, Fail> {
-    let mut head = Head::new(alloc);
-    for (labels, minutes, value, _) in COMING {
-        let time = Ms::new(minutes * 60_000).ok_or("no time")?;
-        head.append(&series(alloc, labels)?, time, whole(value)?)?;
-    }
-    Ok(head)
-}
-
 fn name_of(answer: &Append) -> &'static str {
     match answer {
         Append::Added => "added",
@@ -69,14 +55,36 @@ fn name_of(answer: &Append) -> &'static str {
     }
 }
 
+// What becomes of a value.
+fn added(
+    alloc: Global,
+    head: &mut Head,
+    labels: (&str, &str),
+    ms: u64,
+    units: i128,
+) -> Result<&'static str, Fail> {
+    let labels = series(alloc, labels)?;
+    let time = Ms::new(ms).ok_or("no time")?;
+    let value: Num = Num::Finite(Nano::new(units).ok_or("no value")?);
+    let answer = head.append(&labels, time, Point::Value(value))?;
+    Ok(name_of(&answer))
+}
+
+fn filled(alloc: Global) -> Result<Head, Fail> {
+    let mut head = Head::new(alloc);
+    for (labels, ms, units, _) in COMING {
+        added(alloc, &mut head, labels, ms, units)?;
+    }
+    Ok(head)
+}
+
 #[test]
 fn samples_are_admitted(rt: HostRuntime) -> Result<(), Fail> {
     let alloc = rt.alloc();
     let mut head = Head::new(alloc);
-    for (labels, minutes, value, want) in COMING {
-        let time = Ms::new(minutes * 60_000).ok_or("no time")?;
-        let answer = head.append(&series(alloc, labels)?, time, whole(value)?)?;
-        assert_eq!(rt; name_of(&answer), want, "{value}");
+    for (labels, ms, units, want) in COMING {
+        let answer = added(alloc, &mut head, labels, ms, units)?;
+        assert_eq!(rt; answer, want, "{units}");
     }
     assert_eq!(rt; head.series_count(), 3);
     assert!(rt; head.labels(1) == Some(&series(alloc, ("a", "2"))?));
@@ -142,13 +150,17 @@ fn minutes_read<G: Ledger>(
     Ok(minutes)
 }
 
+fn all_minutes(alloc: Global, series: usize) -> Result<Vec<Option<u64>>, Fail> {
+    minutes_read::<Brand>(alloc, Blank::new(1), series)
+}
+
 #[test]
 fn samples_are_read(rt: HostRuntime) -> Result<(), Fail> {
     let alloc = rt.alloc();
-    let minutes = minutes_read::<Brand>(alloc, Blank::new(1), 2)?;
+    let minutes = all_minutes(alloc, 2)?;
     let want = [Some(0), Some(2), None, None, Some(0), Some(0), Some(2)];
     assert_eq!(rt; minutes.as_slice(), want.as_slice());
-    let none = minutes_read::<Brand>(alloc, Blank::new(1), 3)?;
+    let none = all_minutes(alloc, 3)?;
     assert_eq!(rt; none.as_slice(), [None; 7].as_slice());
     Ok(())
 }

@@ -1,9 +1,7 @@
-use Rattle.std.proofs.Common.{◌≡◌, ◌≢◌, ap, sym, subst, ◌∙◌, rules, List, [], ◌∷◌, ◌++◌}
-use Rattle.pr_labels.specs.declared.pair.Pair.{Pair}
-use Rattle.pr_history.specs.declared.entry.Entry.{Entry}
+use Rattle.std.proofs.Common.{◌≡◌, sym, subst, ◌∙◌, [], ◌∷◌, ◌++◌}
 use Rattle.pr_history.specs.declared.append.Append.TheVariants.{Added}
-use Rattle.pr_history.specs.Admission.{admit, put}
-use Rattle.pr_head.specs.Holds.{entry_of, sets_of, Holds, IsWhole}
+use Rattle.pr_history.specs.Admission.{admit}
+use Rattle.pr_head.specs.Holds.{entry_of, Holds, IsWhole}
 use Rattle.pr_head.proofs.Simulation.{entry_at, added_later, admitted_as, put_added, put_refused, holds_more, whole_more}
 use Rattle.pr_head.proofs.head.Head.append_to.Goals as goal
 

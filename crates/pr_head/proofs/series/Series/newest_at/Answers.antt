@@ -1,4 +1,4 @@
-use Rattle.std.proofs.Common.{◌≡◌, ap, sym, ◌∙◌, w64}
+use Rattle.std.proofs.Common.{ap, sym, ◌∙◌, w64}
 use Rattle.std.proofs.lemmas.Int.{to_z-of_z}
 use Rattle.pr_head.specs.Stored.{newest_at, held_before}
 use Rattle.pr_head.proofs.Places.{before_at}
