@@ -5,12 +5,16 @@ use Rattle.pr_num.specs.declared.value.Num.TheVariants.{Finite}
 use Rattle.pr_num.specs.declared.value.Point.{Point}
 use Rattle.pr_num.specs.declared.value.Point.TheVariants.{Value, Stale}
 use Rattle.pr_labels.specs.declared.pair.Pair.{Pair}
-use Rattle.pr_labels.specs.LabelSet.{named}
+use Rattle.pr_labels.specs.LabelSet.{named, pair_of}
 use Rattle.pr_history.specs.declared.entry.Entry.{Entry}
 
 -- the series of the metric m
 abbrev pub m : List Pair
 m = named (codes "m")
+
+-- a job and no metric name
+abbrev pub job : List ℕ → List Pair
+job name = pair_of (codes "job") name ∷ []
 
 -- a whole number, and a point that holds it
 abbrev pub number : ℕ → Num

@@ -1,9 +1,9 @@
 // What the definitions say of small histories.
-ghost use Rattle.std.specs.Prelude.{◌≡◌, pos, negsuc, [], ◌∷◌, Some, None};
+ghost use Rattle.std.specs.Prelude.{◌≡◌, pos, negsuc, [], ◌∷◌, Some, None, true, false, codes};
 ghost use Rattle.pr_history.specs.Admission.{admit, put};
 ghost use Rattle.pr_history.specs.Lookback.{entries_until, recent_entry, spot_at, spot_of, spots_within, value_at, values_within};
-ghost use Rattle.pr_history.specs.Series.{selected, item_of};
-ghost use Rattle.pr_history.specs.Examples.{m, number, whole, entry_at, one, marked, three};
+ghost use Rattle.pr_history.specs.Series.{has_values, selected, item_of};
+ghost use Rattle.pr_history.specs.Examples.{m, job, number, whole, entry_at, one, marked, three};
 ghost use Rattle.pr_history.specs.declared.append.Append.TheVariants.{Added, Same, OutOfOrder, Conflict};
 ghost use Rattle.pr_num.specs.declared.value.Point.TheVariants.{Stale};
 
@@ -32,8 +32,10 @@ pub fn a_range_is_open_below_and_closed_above()
     ensures end { spots_within three m (negsuc 0) (pos 59999) ≡ spot_of 0 (number 1) ∷ [] }
     ensures alone { values_within three m (pos 59999) (pos 60000) ≡ number 2 ∷ [] }
     ensures other { spots_within three [] (negsuc 0) (pos 120000) ≡ [] }
+    ensures below { spots_within three m (negsuc 9) (negsuc 0) ≡ [] }
     ensures counted { entries_until marked m (pos 60000) ≡ 2 }
     ensures counted_before { entries_until marked m (pos 59999) ≡ 1 }
+    ensures counted_below { entries_until marked m (negsuc 0) ≡ 0 }
 {}
 
 /// At the last time of a series an equal point is the same, and another one is a conflict with it.
@@ -59,4 +61,14 @@ pub fn a_marker_hides()
     ensures before { value_at marked (pos 59999) m ≡ Some (number 1) }
     ensures range { values_within marked m (negsuc 0) (pos 60000) ≡ number 1 ∷ [] }
     ensures open_below { values_within marked m (pos 0) (pos 60000) ≡ [] }
+{}
+
+/// A label set has a value where its label of that name has it; an absent label is the empty text.
+pub fn an_absent_label_is_the_empty_text()
+    ensures same { has_values (job (codes "a")) (job (codes "a")) ≡ true }
+    ensures other_value { has_values (job (codes "b")) (job (codes "a")) ≡ false }
+    ensures other_name { has_values (job (codes "m")) m ≡ false }
+    ensures absent { has_values (job []) m ≡ true }
+    ensures present { has_values (job []) (job (codes "a")) ≡ false }
+    ensures nothing { has_values [] m ≡ true }
 {}

@@ -12,7 +12,8 @@ pub use append::Append;
 pub use entry::Entry;
 pub use examples::{
     a_marker_hides, a_range_is_open_below_and_closed_above, a_value_has_its_time,
-    an_equal_point_is_the_same, an_older_point_is_out_of_order, lookback_is_five_minutes,
+    an_absent_label_is_the_empty_text, an_equal_point_is_the_same, an_older_point_is_out_of_order,
+    lookback_is_five_minutes,
 };
 pub use laws::{
     chosen_are_those_that_pass, more_entries_keep_lawful, put_keeps_lawful, selected_series_rise,

@@ -25,8 +25,10 @@ pub record IsName (inside : Bool) (text : List ℕ) (n : ℕ) (token : TokenKind
   pub longest : n ≡ front_len (name_class inside) text
   pub is : token ≡ NameKind (take n text)
 
--- A number, a duration and a string go on as long as the bytes before some place begin one of their form, and no further; what goes
--- on so is whole.
+-- A number and a string go on as long as the bytes before some place begin one of their form, and no further. A duration goes on up
+-- to the first byte with which it does not go on as a span text: before it stand whole parts, and digits or a letter that begin one
+-- more. Whether what stands there can still become a span is not asked: `5ms5` goes on, though no span begins with it. What goes on
+-- so is whole.
 pub record IsNumber (text : List ℕ) (n : ℕ) (token : TokenKind) : Type 0 where
   pub longest : IsNumberEnd text n
   pub value : Num

@@ -1,5 +1,6 @@
 -- The number texts, and what they read as: a sign, digits with a point among them, and an exponent.
 use Rattle.std.specs.Prelude.{ℕ, ◌+◌, ◌*◌, ◌^◌, ◌==◌, ◌&&◌, ◌||◌, Bool, true, false, List, [], ◌∷◌, ◌++◌, length, take, drop, codes, Option, Some, None, nat_lt, if◌then◌else◌, Result, Ok, Err}
+use Prim.Native.Char.{code}
 use Rattle.std.specs.List.{prefix_len, list_all}
 use Rattle.std.specs.Char.{is_ascii_digit}
 use Rattle.std.specs.Str.{str_eq_ignore_ascii_case}
@@ -21,11 +22,11 @@ after_digits bs = drop (prefix_len is_ascii_digit bs) bs
 -- the digits after a point, and what stands after them; both where the digits before it end
 abbrev pub fraction_digits : List ℕ → List ℕ
 fraction_digits [] = []
-fraction_digits (c ∷ bs) = if c == 46 then front_digits bs else []
+fraction_digits (c ∷ bs) = if c == code "." then front_digits bs else []
 
 abbrev pub after_fraction : List ℕ → List ℕ
 after_fraction [] = []
-after_fraction (c ∷ bs) = if c == 46 then after_digits bs else c ∷ bs
+after_fraction (c ∷ bs) = if c == code "." then after_digits bs else c ∷ bs
 
 -- a power of ten: whether it divides, and the digits of its exponent
 pub record Scale : Type 0 where
@@ -42,12 +43,12 @@ scale_of divides bs = if is_numeral bs then Some (record { divides = divides; di
 -- an exponent after its letter
 abbrev pub signed_scale : List ℕ → Option Scale
 signed_scale [] = None
-signed_scale (c ∷ bs) = if c == 45 then scale_of true bs else (if c == 43 then scale_of false bs else scale_of false (c ∷ bs))
+signed_scale (c ∷ bs) = if c == code "-" then scale_of true bs else (if c == code "+" then scale_of false bs else scale_of false (c ∷ bs))
 
 -- the end of a number text
 abbrev pub ending : List ℕ → Option Scale
 ending [] = Some (record { divides = false; digits = [] })
-ending (c ∷ bs) = if (c == 101) || (c == 69) then signed_scale bs else None
+ending (c ∷ bs) = if (c == code "e") || (c == code "E") then signed_scale bs else None
 
 -- the powers of ten that an exponent multiplies with and divides by
 abbrev pub up : Scale → ℕ
@@ -88,6 +89,6 @@ reads_unsigned negative bs =
 unfoldable pub reads : List ℕ → Result Num NumFault
 reads [] = Err NotNumber
 reads (c ∷ bs) =
-    if c == 45 then reads_unsigned true bs
-    else (if c == 43 then reads_unsigned false bs
+    if c == code "-" then reads_unsigned true bs
+    else (if c == code "+" then reads_unsigned false bs
     else (if str_eq_ignore_ascii_case (c ∷ bs) (codes "nan") then Ok NaN else reads_unsigned false (c ∷ bs)))

@@ -1,5 +1,6 @@
 -- The orders of an input: what its lines ask for, each with the number of its line.
 use Rattle.std.specs.Prelude.{ℕ, ◌+◌, Bool, true, false, cond, ◌==◌, List, [], ◌∷◌, filter_map, Option, Some, None}
+use Prim.Native.Char.{code}
 use Rattle.pr_text.specs.Script.{is_passed_over, event_of}
 use Rattle.pr_text.specs.declared.order.Order.{Order}
 use Rattle.pr_text.specs.declared.order.Order.TheVariants as order
@@ -12,10 +13,10 @@ pub record Block : Type 0 where
   pub line : List ℕ
   pub body : List (List ℕ)
 
--- a body line begins with '|'
+-- a body line begins with `|`
 abbrev pub is_body_line : List ℕ → Bool
 is_body_line [] = false
-is_body_line (b ∷ bytes) = b == 124
+is_body_line (b ∷ bytes) = b == code "|"
 
 -- the body lines at the front of blocks, and the blocks behind them
 abbrev pub body_at : List Block → List (List ℕ)

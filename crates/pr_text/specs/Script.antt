@@ -1,9 +1,7 @@
 -- The lines of a script, and the events that they spell.
 use Rattle.std.specs.Prelude.{ℕ, ◌^◌, Bool, false, not, ◌&&◌, ◌||◌, cond, ◌==◌, nat_lt, List, [], ◌∷◌, length, codes, Option, Some, None, is_some, Result, Ok, Err}
-use Rattle.std.specs.List.{list_all}
+use Prim.Native.Char.{code}
 use Rattle.std.specs.Str.{bytes_eq, is_utf8}
-use Rattle.std.specs.Str.Parse.{digits_value}
-use Rattle.std.specs.Char.{is_ascii_digit}
 use Rattle.pr_num.specs.declared.value.Num.{Num}
 use Rattle.pr_num.specs.declared.value.Point.{Point}
 use Rattle.pr_num.specs.declared.value.Point.TheVariants.{Value, Stale}
@@ -14,6 +12,7 @@ use Rattle.pr_lex.specs.Words.{word_of}
 use Rattle.pr_labels.specs.LabelSet.{metric_label, value_of}
 use Rattle.pr_series.specs.SeriesReading.{series_labels}
 use Rattle.pr_labels.specs.SeriesText.{series_text}
+use Rattle.pr_words.specs.Decimals.{plain_decimal}
 use Rattle.pr_words.specs.Fields.{without_trailing, first_field, after_field, last_field, before_last_field}
 use Rattle.pr_world.specs.declared.event.Event.{Event}
 use Rattle.pr_world.specs.declared.event.Event.TheVariants.{Add, Query}
@@ -21,23 +20,15 @@ use Rattle.pr_world.specs.declared.event.Event.TheVariants.{Add, Query}
 -- a line that begins so is a comment
 abbrev pub is_comment : List ℕ → Bool
 is_comment [] = false
-is_comment (b ∷ bytes) = b == 35
+is_comment (b ∷ bytes) = b == code "#"
 
 -- Nothing is asked by a line of blanks alone, and by a comment that is a text.
 abbrev pub is_passed_over : List ℕ → Bool
 is_passed_over line = length (without_trailing line) == 0 || (is_comment line && is_utf8 line)
 
--- decimal digits, of which the first is no zero unless it is the only one
-abbrev pub begins_with_zero : List ℕ → Bool
-begins_with_zero [] = false
-begins_with_zero (b ∷ bytes) = b == 48
-
-abbrev pub is_decimal : List ℕ → Bool
-is_decimal text = nat_lt 0 (length text) && list_all is_ascii_digit text && (length text == 1 || not (begins_with_zero text))
-
--- a time in milliseconds: a decimal below 2^42
+-- a time in milliseconds: a plain decimal below 2^42
 abbrev pub time_of : List ℕ → Option ℕ
-time_of text = cond (is_decimal text && nat_lt (digits_value 10 text) (2 ^ 42)) (Some (digits_value 10 text)) None
+time_of text = plain_decimal (2 ^ 42) text
 
 -- a point: the word for a marker, or the text of a number
 abbrev pub point_read : Result Num NumFault → Option Point

@@ -81,7 +81,7 @@ fn push_conflict(text: &mut Vec<u8>, kept: Point) -> Result<(), AllocError>
     text.extend_from_slice(b"\n")
 }
 
-fn push_item(alloc: Global, text: &mut Vec<u8>, item: &Item<Num>) -> Result<(), AllocError>
+fn push_item(text: &mut Vec<u8>, item: &Item<Num>) -> Result<(), AllocError>
     ensures { OnOk result (text.new.items ≡ text.old.items ++ item_text item.now) }
 {
     text.extend_from_slice(b"value ")?;
@@ -91,22 +91,22 @@ fn push_item(alloc: Global, text: &mut Vec<u8>, item: &Item<Num>) -> Result<(), 
     text.extend_from_slice(b"\n")
 }
 
-fn push_items(alloc: Global, text: &mut Vec<u8>, items: &[Item<Num>]) -> Result<(), AllocError>
+fn push_items(text: &mut Vec<u8>, items: &[Item<Num>]) -> Result<(), AllocError>
     ensures { OnOk result (text.new.items ≡ text.old.items ++ flat_map item_text items.now) }
 {
     for item in items {
-        push_item(alloc, text, item)?;
+        push_item(text, item)?;
     }
     Ok(())
 }
 
-fn push_vector(alloc: Global, text: &mut Vec<u8>, items: &[Item<Num>]) -> Result<(), AllocError>
+fn push_vector(text: &mut Vec<u8>, items: &[Item<Num>]) -> Result<(), AllocError>
     ensures { OnOk result (text.new.items ≡ text.old.items ++ vector_text items.now) }
 {
     text.extend_from_slice(b"vector ")?;
     push_number(text, items.len() as u64)?;
     text.extend_from_slice(b"\n")?;
-    push_items(alloc, text, items)
+    push_items(text, items)
 }
 
 fn push_backwards(text: &mut Vec<u8>, last: Ms, given: Ms) -> Result<(), AllocError>
@@ -130,7 +130,7 @@ pub fn push_report(alloc: Global, text: &mut Vec<u8>, report: &Report) -> Result
         Report::Same => text.extend_from_slice(b"same\n"),
         Report::OutOfOrder { last } => push_out_of_order(text, *last),
         Report::Conflict { kept } => push_conflict(text, *kept),
-        Report::Vector { items } => push_vector(alloc, text, items.as_slice()),
+        Report::Vector { items } => push_vector(text, items.as_slice()),
         Report::Backwards { last, given } => push_backwards(text, *last, *given),
     }
 }

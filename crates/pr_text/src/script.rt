@@ -1,20 +1,17 @@
 // The lines of a script, and the events that they spell.
-ghost use Rattle.std.specs.Prelude.{◌≡◌, ◌^◌, ◌<◌, ◌≤◌, IfOk, Some, None, min, true};
-ghost use Rattle.std.specs.List.{list_all};
-ghost use Rattle.std.specs.Char.{is_ascii_digit};
+ghost use Rattle.std.specs.Prelude.{◌≡◌, IfOk};
 ghost use Rattle.std.specs.Str.{bytes_eq, is_utf8};
-ghost use Rattle.std.specs.Str.Parse.{digits_value};
 ghost use Rattle.pr_labels.specs.LabelSet.{metric_label, value_of};
 ghost use Rattle.pr_series.specs.SeriesReading.{series_labels};
 ghost use Rattle.pr_labels.specs.SeriesText.{series_text};
-ghost use Rattle.pr_text.specs.Script.{is_comment, is_passed_over, begins_with_zero, is_decimal, time_of, point_of, series_of, is_reserved, can_be_asked, is_selector, selector_of, add_of, query_of, add_in, query_in, event_by, event_of};
+ghost use Rattle.pr_text.specs.Script.{is_comment, is_passed_over, time_of, point_of, series_of, is_reserved, can_be_asked, is_selector, selector_of, add_of, query_of, add_in, query_in, event_by, event_of};
 
-use pr_labels::Labels;
+use pr_labels::{Labels, METRIC_LABEL};
 use pr_lex::word_of;
 use pr_num::Point;
 use pr_series::{TextFault, read_series_text};
 use pr_time::Ms;
-use pr_words::{split_first, split_last, without_trailing};
+use pr_words::{plain_decimal, split_first, split_last, without_trailing};
 use pr_world::Event;
 use std::alloc::{AllocError, Global};
 use std::str;
@@ -42,49 +39,10 @@ pub fn is_passed_over(line: &[u8]) -> bool
     without_trailing(line).is_empty() || (is_comment(line) && is_text(line))
 }
 
-fn are_digits(text: &[u8]) -> bool
-    ensures { result ≡ list_all is_ascii_digit text.now }
-{
-    text.iter().all(|b| b.is_ascii_digit())
-}
-
-fn begins_with_zero(text: &[u8]) -> bool
-    ensures { result ≡ begins_with_zero text.now }
-{
-    match text {
-        [] => false,
-        [first, ..] => *first == b'0',
-    }
-}
-
-fn is_decimal(text: &[u8]) -> bool
-    ensures { result ≡ is_decimal text.now }
-{
-    !text.is_empty() && are_digits(text) && (text.len() == 1 || !begins_with_zero(text))
-}
-
-// Times are below this.
-const TIME_LIMIT: u64 = 1 << 42;
-
-// The number of the digits, and at most the limit of times.
-fn capped(digits: &[u8]) -> u64
-    requires { list_all is_ascii_digit digits.now ≡ true }
-    ensures { result ≡ min (digits_value 10 digits.now) (2 ^ 42) }
-{
-    let mut value: u64 = 0;
-    for digit in digits {
-        value = (value * 10 + (*digit - b'0') as u64).min(TIME_LIMIT);
-    }
-    value
-}
-
 fn time_of(text: &[u8]) -> Option<Ms>
     ensures { result ≡ time_of text.now }
 {
-    if !is_decimal(text) {
-        return None;
-    }
-    Ms::new(capped(text))
+    Ms::new(plain_decimal(text, 1 << 42)?)
 }
 
 fn point_of(text: &[u8]) -> Option<Point>
@@ -132,7 +90,7 @@ fn is_printed(alloc: Global, labels: &Labels, text: &[u8]) -> Result<bool, Alloc
 fn is_reserved(labels: &Labels) -> bool
     ensures { result ≡ is_reserved (value_of labels.now metric_label) }
 {
-    match labels.get("__name__") {
+    match labels.get(METRIC_LABEL) {
         Some(name) => word_of(name).is_some(),
         None => false,
     }

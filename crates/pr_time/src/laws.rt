@@ -16,7 +16,8 @@ pub fn text_reads_as_one_span()
     ensures { (text : List ℕ) (m n : ℕ) → ReadsSpan text m → ReadsSpan text n → m ≡ n }
 {}
 
-/// Each text is a span text or none, and has a first place at which no span text can go on.
+/// Each text is a span text or none, and has a first byte with which it does not go on as a span text (or ends there). Whether
+/// what stands before it can still become a span is not asked, as `SpanFault::BadSpan` says.
 pub fn text_is_a_span_or_none()
     ensures whole { (text : List ℕ) → ((ms : ℕ) × ReadsSpan text ms) ⊎ ((ms : ℕ) → ReadsSpan text ms → ⊥) }
     ensures place { (text : List ℕ) → (n : ℕ) × IsBadPlace text n }

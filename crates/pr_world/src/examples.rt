@@ -11,6 +11,7 @@ ghost use Rattle.pr_world.specs.declared.report.Report.TheVariants.{Added, Same,
 /// A sample adds its entry where it is admitted, and nothing where it is the same or in conflict.
 pub fn a_sample_adds_its_entry()
     ensures added { outcome of_a_run (start []) (Add 0 m (whole 1)) ≡ accept Added (entry_at 0 (whole 1) ∷ []) }
+    ensures later { outcome of_a_run (start []) (Add 5 m (whole 1)) ≡ accept Added (entry_at 5 (whole 1) ∷ []) }
     ensures same { outcome of_a_run (start one) (Add 0 m (whole 1)) ≡ accept Same [] }
     ensures conflict { outcome of_a_run (start one) (Add 0 m (whole 2)) ≡ accept (Conflict (whole 1)) [] }
     ensures kept { rows_of of_a_run (start []) (Add 0 m (whole 1) ∷ Add 0 m (whole 1) ∷ []) ≡ entry_at 0 (whole 1) ∷ [] }
@@ -19,6 +20,7 @@ pub fn a_sample_adds_its_entry()
 /// An accepted event becomes the last one, be it a question.
 pub fn a_later_event_moves_the_time()
     ensures asked { outcome of_a_run (start one) (Query 299999 m) ≡ accept (Vector (item_of m (number 1) ∷ [])) [] }
+    ensures added { (next of_a_run (start []) (Add 5 m (whole 1))).world ≡ record { history = entry_at 5 (whole 1) ∷ []; last = Some 5 } }
     ensures moved { (next of_a_run (start one) (Query 299999 m)).world ≡ record { history = one; last = Some 299999 } }
 {}
 

@@ -5,3 +5,7 @@ use Rattle.pr_world.proofs.examples.a_later_event_moves_the_time.Goals as goal
 pub returns-clause-moved : goal.returns-clause-moved
 unfolding next
 returns-clause-moved c = refl
+
+pub returns-clause-added : goal.returns-clause-added
+unfolding next
+returns-clause-added c = refl

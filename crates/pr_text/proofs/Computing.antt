@@ -1,0 +1,11 @@
+-- What computes the printed lines of values that are written out.
+use Rattle.std.specs.Prelude.{⊤}
+use Rattle.std.specs.Fmt.{digits}
+use Rattle.pr_num.specs.Shown.{fraction_text, shown}
+use Rattle.pr_labels.specs.SeriesText.{series_text}
+use Rattle.pr_text.specs.Answers.{dropped_conflict, dropped_out_of_order, backwards_last}
+use Rattle.pr_text.specs.Printed.{shown_report}
+
+unfoldable pub computing : ⊤
+unfolding digits fraction_text shown series_text dropped_conflict dropped_out_of_order backwards_last shown_report
+computing = tt
