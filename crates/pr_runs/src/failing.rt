@@ -29,6 +29,15 @@ fn a_failed_read_ends_the_run(rt: HostRuntime) -> Result<(), Fail> {
     Ok(())
 }
 
+// An order is answered at its line feed, though that is the last byte that was read, and before there is another read.
+#[test]
+fn an_order_is_answered_at_its_line_feed(rt: HostRuntime) -> Result<(), Fail> {
+    let (status, text) = run_failing(rt.alloc(), b"add 0 m 1\n", &[2], &[])?;
+    assert_eq!(rt; status, Status::ReadFault);
+    assert_eq!(rt; text.as_slice(), b"opened 0\nadded\n".as_slice());
+    Ok(())
+}
+
 // Each answer is one write. Where the write of a number fails, what was written are the answers before it.
 #[test]
 fn a_failed_write_ends_the_run(rt: HostRuntime) -> Result<(), Fail> {

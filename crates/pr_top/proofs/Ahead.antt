@@ -1,5 +1,5 @@
 -- What the reader hands out, step by step.
-use Rattle.std.proofs.Common.{◌≡◌, ℕ, ◌+◌, ◌≤◌, ◌^◌, Bool, true, false, not, ◌==◌, List, [], ◌∷◌, ◌++◌, None, Some, Result, Ok, Err, IsErrAnd, suc, refl, sym, ap, ◌∙◌, subst, append_assoc, append-nil, length, length-append, arith}
+use Rattle.std.proofs.Common.{◌≡◌, ◌≢◌, ℕ, ◌+◌, ◌≤◌, ◌^◌, Bool, true, false, not, ◌==◌, List, [], ◌∷◌, ◌++◌, None, Some, Result, Ok, Err, IsErrAnd, suc, refl, sym, ap, ◌∙◌, subst, append_assoc, append-nil, length, length-append, arith}
 use Rattle.std.specs.declared.option.Option.{Option}
 use Rattle.std.specs.List.{list_all}
 use Rattle.std.specs.Io.KnownBytes.{Consumes, Keeps, IsAtEnd}
@@ -7,12 +7,14 @@ use Rattle.pr_words.specs.Lines.{lines_of}
 use Rattle.pr_text.specs.declared.order.Order.{Order}
 use Rattle.pr_text.specs.Orders.{orders_after, order_by}
 use Rattle.pr_text.specs.Script.{is_passed_over, event_of}
-use Rattle.pr_top.specs.Reading.{is_no_feed, ahead, TakesPart, HandsLine, HandsOrder, PassesOver, Counts, IsCutLine, IsCutAt, IsBeyond}
+use Rattle.pr_top.specs.Taken.{is_no_feed}
+use Rattle.pr_top.specs.Reading.{ahead, TakesPart, HandsLine, HandsOrder, PassesOver, TakesLines, Counts, IsCutLine, IsCutAt, IsBeyond}
 use Rattle.pr_top.specs.Stops.{AtInput}
 use Rattle.pr_top.specs.declared.status.Stop.{Stop}
 use Rattle.pr_top.specs.declared.status.Stop.TheVariants.{Read, Write, Memory, TooLong}
 use Rattle.pr_top.proofs.Feeds.{lines_of-feed, lines_of-last, unended-append}
-use Rattle.pr_top.proofs.Orders.{numbered, orders_none, orders_pass, orders_take, orders_cut}
+use Rattle.pr_top.proofs.Orders.{numbered, orders_none, orders_pass, orders_take}
+use Rattle.pr_top.proofs.Whole.{whole_fed, whole_append, prompt_line, prompt_on}
 
 -- what holds where the input stopped a run, handed on
 pub at_exit : {T : Type 0} (P Q : Type 0) (r : Result T Stop) (e : Stop) → IsErrAnd r (λ y. y ≡ e) → AtInput {T = T} (Err e) P → (P → Q) → AtInput r Q
@@ -60,16 +62,18 @@ joined_fill (Some bytes) (Some left0) (Some left1) h0 h1 line p none c =
     p ∙ ap (λ (h : List ℕ). line ++ (h ++ left0)) none ∙ ap (λ (l : List ℕ). line ++ l) c
 
 -- a line feed came
+fed_bytes : (bytes left h0 h1 line0 line1 : List ℕ) → bytes ≡ line0 ++ (h0 ++ left) → TakesPart true h0 h1 line0 line1
+    → bytes ≡ line1 ++ 10 ∷ (h1 ++ left)
+fed_bytes bytes left h0 h1 line0 line1 p t =
+    p ∙ ap (λ (h : List ℕ). line0 ++ (h ++ left)) (t.feed refl) ∙ ap (λ (l : List ℕ). line0 ++ l) (append_assoc t.part (10 ∷ h1) left)
+    ∙ sym (append_assoc line0 t.part (10 ∷ (h1 ++ left))) ∙ ap (λ (l : List ℕ). l ++ 10 ∷ (h1 ++ left)) (sym t.joined)
+
 pub line_fed : (a left : Option (List ℕ)) (h0 h1 line0 line1 : List ℕ) → Consumes a (ahead h0 left) line0 → list_all is_no_feed line0 ≡ true
     → TakesPart true h0 h1 line0 line1 → HandsLine a (ahead h1 left) true line1
 line_fed None left h0 h1 line0 line1 p u t = tt
 line_fed (Some bytes) None h0 h1 line0 line1 p u t = absurd p
 line_fed (Some bytes) (Some left) h0 h1 line0 line1 p u t =
-    let feed : h0 ≡ t.part ++ 10 ∷ h1 = t.feed refl in
-    let e : bytes ≡ line1 ++ 10 ∷ (h1 ++ left) =
-    p ∙ ap (λ (h : List ℕ). line0 ++ (h ++ left)) feed ∙ ap (λ (l : List ℕ). line0 ++ l) (append_assoc t.part (10 ∷ h1) left)
-    ∙ sym (append_assoc line0 t.part (10 ∷ (h1 ++ left))) ∙ ap (λ (l : List ℕ). l ++ 10 ∷ (h1 ++ left)) (sym t.joined) in
-    ap lines_of e ∙ lines_of-feed line1 (h1 ++ left) (unended_part true h0 h1 line0 line1 u t)
+    ap lines_of (fed_bytes bytes left h0 h1 line0 line1 p t) ∙ lines_of-feed line1 (h1 ++ left) (unended_part true h0 h1 line0 line1 u t)
 
 -- the end of the input came
 some_bytes : (n : ℕ) → not (suc n == 0) ≡ true
@@ -157,9 +161,41 @@ none_handed (Some x) None c m n lines line p h = absurd p
 none_handed (Some x) (Some y) None m n lines line p h = absurd h
 none_handed (Some x) (Some y) (Some z) m n lines line p h = (p ∙ ap (orders_after n) h.0 ∙ orders_none n, h.1)
 
-pub order_cut : (a b left : Option (List ℕ)) (m n : ℕ) → PassesOver a b m n → IsCutLine b left → IsCutAt a left m
-order_cut None b left m n p c = tt
-order_cut (Some x) None left m n p c = absurd p
-order_cut (Some x) (Some y) None m n p c = absurd c
-order_cut (Some x) (Some y) (Some left) m n p c =
-    omega (arith, ap length p, ap (λ (l : List ℕ). length (orders_after n (lines_of l))) c.2, orders_cut n c.0 left c.1)
+pub order_cut : (a b left : Option (List ℕ)) (m n : ℕ) → TakesLines a b → PassesOver a b m n → IsCutLine b left → IsCutAt a left m
+order_cut None b left m n t p c = tt
+order_cut (Some x) None left m n t p c = absurd p
+order_cut (Some x) (Some y) None m n t p c = absurd c
+order_cut (Some x) (Some y) (Some left) m n t p c =
+    prompt_on m n x t.0 y left 0 0 t.1 t.2 (omega (arith, ap length p)) (prompt_line n y c.0 left c.1 c.2)
+
+-- the lines that were taken
+pub takes_none : (a : Option (List ℕ)) → TakesLines a a
+takes_none None = tt
+takes_none (Some bytes) = ([], refl, λ some. refl)
+
+more_left : (xs ys : List ℕ) → ys ≢ [] → xs ++ ys ≢ []
+more_left [] ys some e = some e
+more_left (x ∷ xs) ys some e = absurd (cc)
+
+pub takes_on : (a b c : Option (List ℕ)) → TakesLines a b → TakesLines b c → TakesLines a c
+takes_on None b c p q = tt
+takes_on (Some x) None c p q = absurd p
+takes_on (Some x) (Some y) None p q = absurd q
+takes_on (Some x) (Some y) (Some z) p q = (
+  p.0 ++ q.0,
+  p.1 ∙ ap (λ (l : List ℕ). p.0 ++ l) q.1 ∙ sym (append_assoc p.0 q.0 z),
+  λ some. whole_append p.0 q.0 (p.2 (subst (λ (l : List ℕ). l ≢ []) (sym q.1) (more_left q.0 z some))) (q.2 some),
+)
+
+pub takes_fed : (a left : Option (List ℕ)) (h0 h1 line0 line1 : List ℕ) → Consumes a (ahead h0 left) line0
+    → TakesPart true h0 h1 line0 line1 → TakesLines a (ahead h1 left)
+takes_fed None left h0 h1 line0 line1 p t = tt
+takes_fed (Some bytes) None h0 h1 line0 line1 p t = absurd p
+takes_fed (Some bytes) (Some left) h0 h1 line0 line1 p t =
+    (line1 ++ 10 ∷ [], fed_bytes bytes left h0 h1 line0 line1 p t ∙ sym (append_assoc line1 (10 ∷ []) (h1 ++ left)), λ some. whole_fed line1)
+
+pub takes_last : (a left : Option (List ℕ)) (h line : List ℕ) → Consumes a (ahead h left) line → h ≡ [] → IsAtEnd left → TakesLines a (ahead h left)
+takes_last None left h line p none end = tt
+takes_last (Some bytes) None h line p none end = absurd p
+takes_last (Some bytes) (Some left) h line p none end =
+    (line, p, λ some. absurd (some (ap (λ (l : List ℕ). l ++ left) none ∙ end)))

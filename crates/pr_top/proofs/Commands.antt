@@ -26,7 +26,7 @@ abbrev IsTold : Bool → Option (List ℕ) → Option (List ℕ) → Option (Lis
 IsTold refused left old new bytes = (content : Content) → Appends old new (told content [] bytes) × (refused ≡ refuses content [] bytes) × (left ≡ Some [])
 
 abbrev HasFront : Bool → Option (List ℕ) → Option (List ℕ) → Option (List ℕ) → List ℕ → Type 0
-HasFront stopped left old new bytes = (content : Content) → IsFront old new None left stopped [] (answers_to content [] bytes)
+HasFront stopped left old new bytes = (content : Content) → IsFront bytes old new None left stopped [] (answers_to content [] bytes)
 
 whole : (content : Content) (a left old new : Option (List ℕ)) (refused : Bool) (bytes : List ℕ) → a ≡ Some bytes → IfSome a (IsTold refused left old new)
     → IsWholeRun content [] bytes left old new (verdict refused)
@@ -39,9 +39,9 @@ abbrev pub counts : ℕ → ℕ → ℕ → ℕ → Faults
 counts input files keeper out = record { input = input; files = files; keeper = keeper; out = out }
 
 fronted : (content : Content) (a left old new : Option (List ℕ)) (stopped : Bool) → IfSome a (HasFront stopped left old new)
-    → IfSome a (λ bytes. IsFront old new None left stopped [] (answers_to content [] bytes))
+    → IfSome a (λ bytes. IsFront bytes old new None left stopped [] (answers_to content [] bytes))
 fronted content a left old new stopped f =
-    on_told a (λ bytes. IsFront old new None left stopped [] (answers_to content [] bytes)) (λ bytes is. at_told a (HasFront stopped left old new) bytes is f content)
+    on_told a (λ bytes. IsFront bytes old new None left stopped [] (answers_to content [] bytes)) (λ bytes is. at_told a (HasFront stopped left old new) bytes is f content)
 
 -- the run was not cut short
 ended : (content : Content) (files keeper : ℕ) (a left old new : Option (List ℕ)) (i0 i1 o0 o1 : ℕ) (refused : Bool)

@@ -2,7 +2,7 @@
 use Rattle.std.proofs.Common.{◌≡◌, ℕ, Bool, true, false, not, ◌&&◌, eqb, List, [], ◌∷◌, ◌++◌, refl, sym, ap, ◌∙◌, append-nil}
 use Rattle.std.specs.List.{list_all, onto_first}
 use Rattle.pr_words.specs.Lines.{lines_of}
-use Rattle.pr_top.specs.Reading.{is_no_feed}
+use Rattle.pr_top.specs.Taken.{is_no_feed}
 
 -- a first byte that is no line feed
 head : (b : Bool) (rest : Bool) → (not b && rest) ≡ true → b ≡ false

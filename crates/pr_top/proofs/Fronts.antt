@@ -9,20 +9,23 @@ use Rattle.pr_history.specs.declared.entry.Entry.{Entry}
 use Rattle.pr_text.specs.declared.order.Numbered.{Numbered}
 use Rattle.pr_text.specs.Orders.{orders_of, orders_after}
 use Rattle.pr_top.specs.Front.{IsFront}
-use Rattle.pr_top.specs.Reading.{ahead, HandsOrder, IsCutAt, Counts}
+use Rattle.pr_top.specs.Reading.{ahead, HandsOrder, TakesLines, IsCutAt, Counts}
 use Rattle.pr_top.specs.Status.{IsShort}
 use Rattle.pr_top.specs.Standing.{Progress, Splits, Stands, begun}
 use Rattle.pr_top.specs.Stops.{AtInput, StopsWriting, stopped_at_input}
+use Rattle.pr_top.specs.Taken.{IsPrompt}
 use Rattle.pr_top.specs.Told.{Answer, answers, told_of, turn, any_refused, Content, answers_to, told, refuses}
 use Rattle.pr_top.specs.declared.status.Stop.{Stop}
 use Rattle.pr_top.specs.declared.status.Stop.TheVariants.{Read, Write, Memory, TooLong}
 use Rattle.pr_top.proofs.Streams.{appends_on}
+use Rattle.pr_top.proofs.Whole.{prompt_all, prompt_on}
+use Rattle.pr_top.proofs.Ahead.{takes_none, takes_on}
 use Rattle.pr_top.proofs.Turns.{told_more, refused_more, answer_count}
 use Rattle.pr_world.specs.World.{World, start}
 
 -- no order was answered yet
 pub stands_start : (rows : List Entry) (left old new : Option (List ℕ)) → Appends old new (told_of rows []) → Stands rows left left old new 0 (begun rows)
-stands_start rows left old new p = record { done = []; split = start_of left; told = p; refused = refl }
+stands_start rows left old new p = record { done = []; split = start_of left; taken = takes_none left; told = p; refused = refl }
   where
     start_of : (a : Option (List ℕ)) → Splits rows a a [] (start rows) 0
     start_of None = tt
@@ -40,12 +43,13 @@ split_more rows (Some x) (Some y) (Some z) done w m n o s h =
 
 -- one more order was answered whole
 pub stands_more : (rows : List Entry) (a b c old mid new : Option (List ℕ)) (m n : ℕ) (p q : Progress) (o : Numbered)
-    → Stands rows a b old mid m p → HandsOrder b c m n (Some o) → Appends mid new (turn p.world o).answer.text
+    → Stands rows a b old mid m p → HandsOrder b c m n (Some o) → TakesLines b c → Appends mid new (turn p.world o).answer.text
     → q.world ≡ (turn p.world o).world → q.refused ≡ (p.refused || (turn p.world o).answer.refused) → Stands rows a c old new n q
-stands_more rows a b c old mid new m n p q o s h t world refused = record {
+stands_more rows a b c old mid new m n p q o s h lines t world refused = record {
   done = s.done ++ (turn p.world o).answer ∷ [];
   split = subst (λ (w : World). Splits rows a c (s.done ++ (turn p.world o).answer ∷ []) w n) (sym world)
       (split_more rows a b c s.done p.world m n o s.split h);
+  taken = takes_on a b c s.taken lines;
   told = subst (Appends old new) (sym (told_more rows s.done (turn p.world o).answer))
       (appends_on old mid new (told_of rows s.done) (turn p.world o).answer.text s.told t);
   refused = refused ∙ ap (λ (r : Bool). r || (turn p.world o).answer.refused) s.refused ∙ sym (refused_more s.done (turn p.world o).answer);
@@ -115,23 +119,24 @@ no_write Memory before now cause at = true≢false (sym at)
 no_write TooLong before now cause at = cause
 
 -- a part of the first line was written, or nothing
-pub front_opening : (rows : List Entry) (all : List Answer) (old new left : Option (List ℕ)) (e : Stop) (before now : ℕ) (n : ℕ)
-    → Appends old new (take n (told_of rows [])) → StopsWriting {T = Bool} before now (Err e) → IsFront old new None left (stopped_at_input {T = Bool} (Err e)) rows all
-front_opening rows all old new left e before now n p cause = record {
+pub front_opening : (bytes : List ℕ) (rows : List Entry) (all : List Answer) (old new left : Option (List ℕ)) (e : Stop) (before now : ℕ) (n : ℕ)
+    → Appends old new (take n (told_of rows [])) → StopsWriting {T = Bool} before now (Err e) → IsFront bytes old new None left (stopped_at_input {T = Bool} (Err e)) rows all
+front_opening bytes rows all old new left e before now n p cause = record {
   answered = 0;
   within = omega arith;
   count = n;
   text = p;
   whole = λ k h. no_order (λ k. length (told_of rows (take k all)) ≤ n) k h;
+  complete = λ at. absurd (no_write e before now cause at);
   kept = tt;
   prompt = λ at. absurd (no_write e before now cause at);
 }
 
 -- these answers were written whole
-front_at : (rows : List Entry) (done rest : List Answer) (old new left : Option (List ℕ)) (stopped : Bool) → Appends old new (told_of rows done)
-    → (stopped ≡ true → IfSome left (λ bytes. length (done ++ rest) ≤ length done + 1 + length (orders_of (lines_of bytes))))
-    → IsFront old new None left stopped rows (done ++ rest)
-front_at rows done rest old new left stopped p prompt =
+front_at : (bytes : List ℕ) (rows : List Entry) (done rest : List Answer) (old new left : Option (List ℕ)) (stopped : Bool) → Appends old new (told_of rows done)
+    → (stopped ≡ true → IfSome left (λ now. IsPrompt 0 bytes now (length done)))
+    → IsFront bytes old new None left stopped rows (done ++ rest)
+front_at bytes rows done rest old new left stopped p prompt =
     let text : List ℕ = told_of rows done in
     let e : text ≡ take (length text) (told_of rows (take (length done) (done ++ rest))) =
     sym (take_all (length text) text (omega arith)) ∙ ap (λ (ys : List Answer). take (length text) (told_of rows ys)) (sym (front_of done rest)) in
@@ -142,15 +147,16 @@ front_at rows done rest old new left stopped p prompt =
       text = subst (Appends old new) e p;
       whole = λ k h. let le : k ≤ length done = omega arith in
           subst (λ (ys : List Answer). length (told_of rows ys) ≤ length text) (sym (take-append-le k done rest le)) (told_shorter rows k done);
+      complete = λ at. omega (arith, ap (λ (ys : List Answer). length (told_of rows ys)) (front_of done rest));
       kept = tt;
       prompt = prompt;
     }
 
 -- and of one more a part
-front_in : (rows : List Entry) (done rest : List Answer) (a : Answer) (old mid new left : Option (List ℕ)) (stopped : Bool) (n : ℕ)
+front_in : (bytes : List ℕ) (rows : List Entry) (done rest : List Answer) (a : Answer) (old mid new left : Option (List ℕ)) (stopped : Bool) (n : ℕ)
     → Appends old mid (told_of rows done) → Appends mid new (take n a.text) → (stopped ≡ true → ⊥)
-    → IsFront old new None left stopped rows (done ++ a ∷ rest)
-front_in rows done rest a old mid new left stopped n p q never =
+    → IsFront bytes old new None left stopped rows (done ++ a ∷ rest)
+front_in bytes rows done rest a old mid new left stopped n p q never =
     let text : List ℕ = told_of rows done in
     let here : take (length done + 1) (done ++ a ∷ rest) ≡ done ++ a ∷ [] = take-append-add done (a ∷ rest) 1 in
     let e : text ++ take n a.text ≡ take (length text + n) (told_of rows (take (length done + 1) (done ++ a ∷ rest))) =
@@ -164,14 +170,15 @@ front_in rows done rest a old mid new left stopped n p q never =
       whole = λ k h. let le : k ≤ length done = omega arith in
           let short : length (told_of rows (take k done)) ≤ length text + n = omega (arith, told_shorter rows k done) in
           subst (λ (ys : List Answer). length (told_of rows ys) ≤ length text + n) (sym (take-append-le k done (a ∷ rest) le)) short;
+      complete = λ at. absurd (never at);
       kept = tt;
       prompt = λ at. absurd (never at);
     }
 
 -- at each input that is told
 pub fronts : (a old new left : Option (List ℕ)) (stopped : Bool)
-    → ((bytes : List ℕ) (content : Content) → a ≡ Some bytes → IsFront old new None left stopped [] (answers_to content [] bytes))
-    → IfSome a (λ bytes. (content : Content) → IsFront old new None left stopped [] (answers_to content [] bytes))
+    → ((bytes : List ℕ) (content : Content) → a ≡ Some bytes → IsFront bytes old new None left stopped [] (answers_to content [] bytes))
+    → IfSome a (λ bytes. (content : Content) → IsFront bytes old new None left stopped [] (answers_to content [] bytes))
 fronts None old new left stopped f = tt
 fronts (Some bytes) old new left stopped f = λ content. f bytes content refl
 
@@ -186,54 +193,71 @@ pub exit : (P : Bool → Type 0) (r : Result Bool Stop) (e : Stop) → IsErrAnd 
 exit P (Ok x) e h p = absurd h
 exit P (Err y) e h p = subst (λ (s : Stop). P (stopped_at_input {T = Bool} (Err s))) (sym h) p
 
--- how many answers are to come
-to_come : (a left : Option (List ℕ)) (done : List Answer) (w : World) (m : ℕ) (e : Stop) (y : List ℕ) → AtInput {T = Bool} (Err e) (IsCutAt (Some y) left m)
-    → stopped_at_input {T = Bool} (Err e) ≡ true
-    → IfSome left (λ bytes. length (done ++ answers w (orders_after m (lines_of y))) ≤ length done + 1 + length (orders_of (lines_of bytes)))
-to_come a None done w m e y cut at = tt
-to_come a (Some rest) done w m Read y cut at =
-    omega (arith, length-append done (answers w (orders_after m (lines_of y))), answer_count w (orders_after m (lines_of y)), cut)
-to_come a (Some rest) done w m Write y cut at = absurd (true≢false (sym at))
-to_come a (Some rest) done w m Memory y cut at = absurd (true≢false (sym at))
-to_come a (Some rest) done w m TooLong y cut at =
-    omega (arith, length-append done (answers w (orders_after m (lines_of y))), answer_count w (orders_after m (lines_of y)), cut)
+-- so many orders are answered, and no order was taken whole since
+answered_prompt : (rows : List Entry) (bytes y : List ℕ) (left : Option (List ℕ)) (done : List Answer) (w : World) (m : ℕ) (e : Stop)
+    → TakesLines (Some bytes) (Some y) → Splits rows (Some bytes) (Some y) done w m → AtInput {T = Bool} (Err e) (IsCutAt (Some y) left m)
+    → stopped_at_input {T = Bool} (Err e) ≡ true → IfSome left (λ rest. IsPrompt 0 bytes rest (length done))
+answered_prompt rows bytes y None done w m e t s cut at = tt
+answered_prompt rows bytes y (Some rest) done w m e t s cut at = by e cut at
+  where
+    count : length (orders_after 0 (lines_of bytes)) ≤ length done + length (orders_after m (lines_of y))
+    count = omega (
+      arith,
+      ap length s,
+      answer_count (start rows) (orders_of (lines_of bytes)),
+      answer_count w (orders_after m (lines_of y)),
+      length-append done (answers w (orders_after m (lines_of y))),
+    )
+
+    on : IsPrompt m y rest 0 → IsPrompt 0 bytes rest (length done)
+    on p = subst (IsPrompt 0 bytes rest) (omega arith) (prompt_on 0 m bytes t.0 y rest (length done) 0 t.1 t.2 count p)
+
+    by : (e : Stop) → AtInput {T = Bool} (Err e) (IsCutAt (Some y) (Some rest) m) → stopped_at_input {T = Bool} (Err e) ≡ true
+        → IsPrompt 0 bytes rest (length done)
+    by Read cut at = on cut
+    by Write cut at = absurd (true≢false (sym at))
+    by Memory cut at = absurd (true≢false (sym at))
+    by TooLong cut at = on cut
 
 -- the next order could not be had
 pub front_before : (rows : List Entry) (content : Content) (bytes : List ℕ) (b old new left : Option (List ℕ)) (m : ℕ) (p : Progress) (e : Stop)
     → Stands rows (Some bytes) b old new m p → AtInput {T = Bool} (Err e) (IsCutAt b left m)
-    → IsFront old new None left (stopped_at_input {T = Bool} (Err e)) rows (answers_to content rows bytes)
+    → IsFront bytes old new None left (stopped_at_input {T = Bool} (Err e)) rows (answers_to content rows bytes)
 front_before rows content bytes None old new left m p e s cut = absurd s.split
 front_before rows content bytes (Some y) old new left m p e s cut =
-    subst (IsFront old new None left (stopped_at_input {T = Bool} (Err e)) rows) (sym s.split)
-    (front_at rows s.done (answers p.world (orders_after m (lines_of y))) old new left (stopped_at_input {T = Bool} (Err e)) s.told
-    (to_come (Some bytes) left s.done p.world m e y cut))
+    subst (IsFront bytes old new None left (stopped_at_input {T = Bool} (Err e)) rows) (sym s.split)
+    (front_at bytes rows s.done (answers p.world (orders_after m (lines_of y))) old new left (stopped_at_input {T = Bool} (Err e)) s.told
+    (answered_prompt rows bytes y left s.done p.world m e s.taken s.split cut))
 
 -- an order was answered in part
 pub front_within : (rows : List Entry) (content : Content) (bytes : List ℕ) (b c old mid new left : Option (List ℕ)) (m n : ℕ) (p : Progress) (o : Numbered)
     (e : Stop) (before now : ℕ) (count : ℕ)
     → Stands rows (Some bytes) b old mid m p → HandsOrder b c m n (Some o) → Appends mid new (take count (turn p.world o).answer.text)
-    → StopsWriting {T = Bool} before now (Err e) → IsFront old new None left (stopped_at_input {T = Bool} (Err e)) rows (answers_to content rows bytes)
+    → StopsWriting {T = Bool} before now (Err e) → IsFront bytes old new None left (stopped_at_input {T = Bool} (Err e)) rows (answers_to content rows bytes)
 front_within rows content bytes None c old mid new left m n p o e before now count s h t cause = absurd s.split
 front_within rows content bytes (Some y) None old mid new left m n p o e before now count s h t cause = absurd h
 front_within rows content bytes (Some y) (Some z) old mid new left m n p o e before now count s h t cause =
     let split : answers (start rows) (orders_of (lines_of bytes)) ≡ s.done ++ (turn p.world o).answer ∷ answers (turn p.world o).world (orders_after n (lines_of z)) =
     s.split ∙ ap (λ (os : List Numbered). s.done ++ answers p.world os) h in
-    subst (IsFront old new None left (stopped_at_input {T = Bool} (Err e)) rows) (sym split)
-    (front_in rows s.done (answers (turn p.world o).world (orders_after n (lines_of z))) (turn p.world o).answer old mid new left (stopped_at_input {T = Bool} (Err e)) count
+    subst (IsFront bytes old new None left (stopped_at_input {T = Bool} (Err e)) rows) (sym split)
+    (front_in bytes rows s.done (answers (turn p.world o).world (orders_after n (lines_of z))) (turn p.world o).answer old mid new left (stopped_at_input {T = Bool} (Err e)) count
     s.told t (no_write e before now cause))
 
 -- all was answered
 pub front_ended : (rows : List Entry) (content : Content) (bytes held : List ℕ) (b left old new : Option (List ℕ)) (m n : ℕ) (p : Progress)
     → Stands rows (Some bytes) b old new m p → HandsOrder b (ahead held left) m n None
-    → IsFront old new None left true rows (answers_to content rows bytes)
+    → IsFront bytes old new None left true rows (answers_to content rows bytes)
 front_ended rows content bytes held b left old new m n p s h =
     let all : answers (start rows) (orders_of (lines_of bytes)) ≡ s.done = all_done rows bytes b (ahead held left) s.done p.world m n s.split h in
-    subst (IsFront old new None left true rows) (sym all)
-    (subst (IsFront old new None left true rows) (append-nil s.done) (front_at rows s.done [] old new left true s.told (λ at. count_all s.done left)))
+    subst (IsFront bytes old new None left true rows) (sym all)
+    (subst (IsFront bytes old new None left true rows) (append-nil s.done)
+    (front_at bytes rows s.done [] old new left true s.told (λ at. prompt_ended left (none_left bytes held b left rows s.done p.world m n s.split h) (ap length all))))
   where
-    count_all : (done : List Answer) (a : Option (List ℕ)) → IfSome a (λ rest. length (done ++ []) ≤ length done + 1 + length (orders_of (lines_of rest)))
-    count_all done None = tt
-    count_all done (Some rest) = omega (arith, ap length (append-nil done))
+    prompt_ended : (a : Option (List ℕ)) → a ≡ Some [] → length (answers (start rows) (orders_of (lines_of bytes))) ≡ length s.done
+        → IfSome a (λ rest. IsPrompt 0 bytes rest (length s.done))
+    prompt_ended None none all = tt
+    prompt_ended (Some rest) none all =
+        prompt_all 0 bytes rest (length s.done) (cc) (omega (arith, all, answer_count (start rows) (orders_of (lines_of bytes))))
 
 -- an input that was read to its end is short
 pub known_short : (rows : List Entry) (a b left old new : Option (List ℕ)) (held : List ℕ) (m n count : ℕ) (p : Progress)

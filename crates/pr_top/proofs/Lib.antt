@@ -3,6 +3,7 @@ pub mod Words
 pub mod Streams
 pub mod Feeds
 pub mod Orders
+pub mod Whole
 pub mod Ahead
 pub mod Turns
 pub mod Fronts

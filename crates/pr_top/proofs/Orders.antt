@@ -1,13 +1,10 @@
 -- The orders of lines, line by line.
-use Rattle.std.proofs.Common.{◌≡◌, ℕ, ◌+◌, ◌≤◌, Bool, true, false, cond, List, [], ◌∷◌, ◌++◌, Some, None, refl, sym, ap, ◌∙◌, length, arith}
+use Rattle.std.proofs.Common.{◌≡◌, ℕ, ◌+◌, Bool, true, false, cond, List, [], ◌∷◌, ◌++◌, Some, None, refl, sym, ap, ◌∙◌, length, arith}
 use Rattle.std.specs.Prelude.{filter_map}
-use Rattle.std.specs.List.{list_all, cons_option}
-use Rattle.pr_words.specs.Lines.{lines_of}
+use Rattle.std.specs.List.{cons_option}
 use Rattle.pr_text.specs.declared.order.Numbered.{Numbered}
 use Rattle.pr_text.specs.Orders.{orders_after, blocks_by, takes_body, order_of, order_by}
 use Rattle.pr_text.specs.Script.{is_passed_over, event_of}
-use Rattle.pr_top.specs.Reading.{is_no_feed}
-use Rattle.pr_top.proofs.Feeds.{joined, lines_of-joined}
 
 -- the order of a line
 abbrev pub numbered : ℕ → List ℕ → Numbered
@@ -41,37 +38,22 @@ same_either : (b : Bool) (o p : Numbered) (os ps : List Numbered) → length os 
 same_either true o p os ps h = h
 same_either false o p os ps h = omega (arith, h)
 
-same_count : (m n : ℕ) (lines : List (List ℕ)) → length (orders_after m lines) ≡ length (orders_after n lines)
+pub same_count : (m n : ℕ) (lines : List (List ℕ)) → length (orders_after m lines) ≡ length (orders_after n lines)
 same_count m n [] = ap length (orders_none m) ∙ sym (ap length (orders_none n))
 same_count m n (line ∷ lines) =
     ap length (orders_one m line lines)
     ∙ same_either (is_passed_over line) (numbered (m + 1) line) (numbered (n + 1) line) (orders_after (m + 1) lines) (orders_after (n + 1) lines) (same_count (m + 1) (n + 1) lines)
     ∙ sym (ap length (orders_one n line lines))
 
-most : (b : Bool) (o : Numbered) (os : List Numbered) → length (cond b os (o ∷ os)) ≤ 1 + length os
-most true o os = omega arith
-most false o os = omega arith
+count_either : (b : Bool) (o : Numbered) (os : List Numbered) → length (cond b os (o ∷ os)) ≡ cond b 0 1 + length os
+count_either true o os = omega arith
+count_either false o os = omega arith
 
-least : (b : Bool) (o : Numbered) (os : List Numbered) → length os ≤ length (cond b os (o ∷ os))
-least true o os = omega arith
-least false o os = omega arith
+count_one : (n : ℕ) (line : List ℕ) (lines : List (List ℕ)) → length (orders_after n (line ∷ lines)) ≡ cond (is_passed_over line) 0 1 + length (orders_after (n + 1) lines)
+count_one n line lines =
+    ap length (orders_one n line lines) ∙ count_either (is_passed_over line) (numbered (n + 1) line) (orders_after (n + 1) lines)
 
-one_at_most : (n : ℕ) (line : List ℕ) (lines : List (List ℕ)) → length (orders_after n (line ∷ lines)) ≤ 1 + length (orders_after (n + 1) lines)
-one_at_most n line lines =
-    omega (arith, ap length (orders_one n line lines), most (is_passed_over line) (numbered (n + 1) line) (orders_after (n + 1) lines))
-
-none_at_least : (n : ℕ) (line : List ℕ) (lines : List (List ℕ)) → length (orders_after (n + 1) lines) ≤ length (orders_after n (line ∷ lines))
-none_at_least n line lines =
-    omega (arith, ap length (orders_one n line lines), least (is_passed_over line) (numbered (n + 1) line) (orders_after (n + 1) lines))
-
-cut_joined : (n : ℕ) (line : List ℕ) (lines : List (List ℕ)) → length (orders_after n (joined line lines)) ≤ 1 + length (orders_after 0 lines)
-cut_joined n line [] = omega (arith, one_at_most n line [], ap length (orders_none (n + 1)))
-cut_joined n line (first ∷ more) =
-    omega (arith, one_at_most n (line ++ first) more, same_count (n + 1) (0 + 1) more, none_at_least 0 first more)
-
--- a line that is cut within has at most one order more than what follows
-pub orders_cut : (n : ℕ) (line rest : List ℕ) → list_all is_no_feed line ≡ true
-    → length (orders_after n (lines_of (line ++ rest))) ≤ 1 + length (orders_after 0 (lines_of rest))
-orders_cut n [] rest h = omega (arith, same_count n 0 (lines_of rest))
-orders_cut n (b ∷ bytes) rest h =
-    omega (arith, ap (λ (l : List (List ℕ)). length (orders_after n l)) (lines_of-joined b bytes rest h), cut_joined n (b ∷ bytes) (lines_of rest))
+pub count_append : (n : ℕ) (xs ys : List (List ℕ)) → length (orders_after n (xs ++ ys)) ≡ length (orders_after n xs) + length (orders_after n ys)
+count_append n [] ys = omega (arith, ap length (orders_none n))
+count_append n (line ∷ xs) ys =
+    omega (arith, count_one n line (xs ++ ys), count_one n line xs, count_append (n + 1) xs ys, same_count (n + 1) n ys)

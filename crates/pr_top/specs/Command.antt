@@ -34,7 +34,7 @@ pub record MeansRun (content : Content) (rows : List Entry) (keeps : Option (Lis
   -- a status of 0 or 1 says as much
   pub ended : IsEnded result → IfSome left_old (λ bytes. IsWholeRun content rows bytes left_new old new result)
   -- however it ends
-  pub front : IfSome left_old (λ bytes. IsFront old new keeps left_new (is_at_input result) rows (answers_to content rows bytes))
+  pub front : IfSome left_old (λ bytes. IsFront bytes old new keeps left_new (is_at_input result) rows (answers_to content rows bytes))
   -- each status has its cause
   pub cause : HasCause before now result
   pub not_usage : result ≢ status.Usage

@@ -1,5 +1,6 @@
 pub mod Told
 pub mod Front
+pub mod Taken
 pub mod Reading
 pub mod Standing
 pub mod Stops

@@ -1,14 +1,12 @@
 -- Where the reader of the input stands.
-use Rattle.std.specs.Prelude.{◌≡◌, ℕ, ◌+◌, ◌<◌, ◌≤◌, ◌^◌, Bool, true, false, not, ◌==◌, List, [], ◌∷◌, ◌++◌, length, drop, Option, Some, None, IfSome}
+use Rattle.std.specs.Prelude.{◌≡◌, ◌≢◌, ℕ, ◌+◌, ◌<◌, ◌≤◌, ◌^◌, Bool, true, false, List, [], ◌∷◌, ◌++◌, length, drop, Option, Some, None, IfSome}
 use Rattle.std.specs.List.{list_all}
 use Rattle.std.specs.Io.KnownBytes.{IsAtEnd}
 use Rattle.pr_words.specs.Lines.{lines_of}
 use Rattle.pr_text.specs.declared.order.Numbered.{Numbered}
-use Rattle.pr_text.specs.Orders.{orders_after, orders_of}
+use Rattle.pr_text.specs.Orders.{orders_after}
+use Rattle.pr_top.specs.Taken.{is_no_feed, are_whole_lines, IsPrompt}
 use Rattle.pr_top.specs.declared.reader.Reader.{Reader}
-
-abbrev pub is_no_feed : ℕ → Bool
-is_no_feed b = not (b == 10)
 
 -- what was read and not yet handed out
 abbrev pub held : Reader → List ℕ
@@ -58,6 +56,12 @@ PassesOver None now before after = Unit {0}
 PassesOver (Some bytes) None before after = ⊥
 PassesOver (Some bytes) (Some rest) before after = orders_after before (lines_of bytes) ≡ orders_after after (lines_of rest)
 
+-- Lines were taken of what was to come. Each ended with a line feed, but for one behind which nothing is left.
+abbrev pub TakesLines : Option (List ℕ) → Option (List ℕ) → Type 0
+TakesLines None now = Unit {0}
+TakesLines (Some bytes) None = ⊥
+TakesLines (Some bytes) (Some rest) = (lines : List ℕ) × (bytes ≡ lines ++ rest) × (rest ≢ [] → are_whole_lines lines ≡ true)
+
 -- Whether a number of lines grew with an order.
 abbrev pub Advances : Option Numbered → ℕ → ℕ → Type 0
 Advances None before after = before ≤ after
@@ -69,11 +73,11 @@ Counts None now before after = Unit {0}
 Counts (Some bytes) None before after = ⊥
 Counts (Some bytes) (Some rest) before after = before + length bytes ≡ after + length rest
 
--- the reader stopped at its input with at most one order that was begun
+-- the reader stopped at its input, and no line that it took whole holds an order
 abbrev pub IsCutAt : Option (List ℕ) → Option (List ℕ) → ℕ → Type 0
 IsCutAt None left before = Unit {0}
 IsCutAt (Some bytes) None before = ⊥
-IsCutAt (Some bytes) (Some rest) before = length (orders_after before (lines_of bytes)) ≤ 1 + length (orders_of (lines_of rest))
+IsCutAt (Some bytes) (Some rest) before = IsPrompt before bytes rest 0
 
 -- the reader stopped at its input within a line
 abbrev pub IsCutLine : Option (List ℕ) → Option (List ℕ) → Type 0

@@ -4,6 +4,7 @@ use Rattle.std.specs.Io.KnownBytes.{Appends}
 use Rattle.pr_words.specs.Lines.{lines_of}
 use Rattle.pr_history.specs.declared.entry.Entry.{Entry}
 use Rattle.pr_text.specs.Orders.{orders_of, orders_after}
+use Rattle.pr_top.specs.Reading.{TakesLines}
 use Rattle.pr_top.specs.Told.{Answer, answers, told_of, any_refused}
 use Rattle.pr_world.specs.World.{World, start}
 
@@ -22,9 +23,10 @@ Splits rows (Some bytes) None done w lines = ⊥
 Splits rows (Some bytes) (Some rest) done w lines =
     answers (start rows) (orders_of (lines_of bytes)) ≡ done ++ answers w (orders_after lines (lines_of rest))
 
--- Some orders are answered whole, and what was written is what is told of them.
+-- Some orders are answered whole, what was written is what is told of them, and their lines were taken of the input.
 pub record Stands (rows : List Entry) (before now old new : Option (List ℕ)) (lines : ℕ) (progress : Progress) : Type 0 where
   pub done : List Answer
   pub split : Splits rows before now done progress.world lines
+  pub taken : TakesLines before now
   pub told : Appends old new (told_of rows done)
   pub refused : progress.refused ≡ any_refused done

@@ -2,7 +2,8 @@
 ghost use Rattle.std.specs.Prelude.{◌≡◌, ◌+◌, ◌^◌, ◌<◌, ◌≤◌, ◌∷◌, ◌==◌, not, [], take, drop, length, None, IfOk, IfSome, IfNone, OnOk, true, false};
 ghost use Rattle.std.specs.List.{list_all};
 ghost use Rattle.std.specs.Io.KnownBytes.{Consumes, Keeps, IsAtEnd};
-ghost use Rattle.pr_top.specs.Reading.{is_no_feed, held, HasRoom, KnowsEnd, ahead, TakesPart, HandsLine, HandsOrder, Advances, Counts, IsCutLine, IsCutAt, IsBeyond, line_count};
+ghost use Rattle.pr_top.specs.Reading.{held, HasRoom, KnowsEnd, ahead, TakesPart, HandsLine, HandsOrder, TakesLines, Advances, Counts, IsCutLine, IsCutAt, IsBeyond, line_count};
+ghost use Rattle.pr_top.specs.Taken.{is_no_feed};
 ghost use Rattle.pr_top.specs.Stops.{StopsReading, AtInput, OnTooLong};
 
 use super::status::Stop;
@@ -127,6 +128,7 @@ impl Reader {
         requires end { KnowsEnd self.old (I.left input.old) }
         ensures end { OnOk result (KnowsEnd self.new (I.left input.new)) }
         ensures line { IfOk result (λ more. HandsLine (ahead (held self.old) (I.left input.old)) (ahead (held self.new) (I.left input.new)) more line.new.items) }
+        ensures taken { OnOk result (TakesLines (ahead (held self.old) (I.left input.old)) (ahead (held self.new) (I.left input.new))) }
         ensures room { IfOk result (λ more. HasRoom (line_count more) self.new) }
         ensures lines { OnOk result (self.new.lines ≡ self.old.lines) }
         ensures counts { OnOk result (Counts (I.left input.old) (I.left input.new) self.old.count self.new.count) }
@@ -154,6 +156,7 @@ impl Reader {
         requires end { KnowsEnd self.old (I.left input.old) }
         ensures end { OnOk result (KnowsEnd self.new (I.left input.new)) }
         ensures order { IfOk result (HandsOrder (ahead (held self.old) (I.left input.old)) (ahead (held self.new) (I.left input.new)) self.old.lines self.new.lines) }
+        ensures taken { OnOk result (TakesLines (ahead (held self.old) (I.left input.old)) (ahead (held self.new) (I.left input.new))) }
         ensures advances { IfOk result (λ o. Advances o self.old.lines self.new.lines) }
         ensures room { OnOk result (HasRoom 0 self.new) }
         ensures counts { OnOk result (Counts (I.left input.old) (I.left input.new) self.old.count self.new.count) }

@@ -58,7 +58,7 @@ pub(crate) fn run<I: Source, O: Sink>(
         × (refused ≡ refuses content [] bytes) × (I.left input.new ≡ Some []))) }
     // However it ends, one number of orders is answered.
     ensures front { IfSome (I.left input.old) (λ bytes. (content : Content)
-        → IsFront (O.taken out.old) (O.taken out.new) None (I.left input.new) (stopped_at_input result) [] (answers_to content [] bytes)) }
+        → IsFront bytes (O.taken out.old) (O.taken out.new) None (I.left input.new) (stopped_at_input result) [] (answers_to content [] bytes)) }
     ensures long { KnowsLength (I.left input.old) result }
     ensures cause { StopsRunning (I.faults input.old) (I.faults input.new) (O.faults out.old) (O.faults out.new) result }
 {

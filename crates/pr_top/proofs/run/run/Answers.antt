@@ -15,9 +15,9 @@ returns-in_err-open-clause-front g c =
     let taken = g.O.Sink.taken in
     let e = c.in_err-open.field-0.0 in
     fronts (left c.args.input.now) (taken c.args.out.now) (taken c.open.new.out) (left c.args.input.now) (stopped_at_input c.from_residual.result)
-    (λ bytes content is. exit (λ (b : Bool). IsFront (taken c.args.out.now) (taken c.open.new.out) None (left c.args.input.now) b [] (answers_to content [] bytes))
+    (λ bytes content is. exit (λ (b : Bool). IsFront bytes (taken c.args.out.now) (taken c.open.new.out) None (left c.args.input.now) b [] (answers_to content [] bytes))
     c.from_residual.result e c.from_residual.ensures.1
-    (front_opening [] (answers_to content [] bytes) (taken c.args.out.now) (taken c.open.new.out) (left c.args.input.now) e
+    (front_opening bytes [] (answers_to content [] bytes) (taken c.args.out.now) (taken c.open.new.out) (left c.args.input.now) e
     (g.O.Sink.faults c.args.out.now) (g.O.Sink.faults c.open.new.out) c.in_err-open.ensures.front.0 c.in_err-open.ensures.front.1 c.in_err-open.ensures.cause))
 
 pub returns-in_err-order-clause-front : goal.returns-in_err-order-clause-front
@@ -28,7 +28,7 @@ returns-in_err-order-clause-front g c =
     let r = c.answering.reader in
     let before = ahead (held r) (left c.answering.input) in
     fronts (left c.args.input.now) (taken c.args.out.now) (taken c.answering.out) (left c.next_order.new.input) (stopped_at_input c.from_residual-in_err-order.result)
-    (λ bytes content is. exit (λ (b : Bool). IsFront (taken c.args.out.now) (taken c.answering.out) None (left c.next_order.new.input) b [] (answers_to content [] bytes))
+    (λ bytes content is. exit (λ (b : Bool). IsFront bytes (taken c.args.out.now) (taken c.answering.out) None (left c.next_order.new.input) b [] (answers_to content [] bytes))
     c.from_residual-in_err-order.result e c.from_residual-in_err-order.ensures.1
     (front_before [] content bytes before (taken c.args.out.now) (taken c.answering.out) (left c.next_order.new.input) r.lines c.answering.session e
     (subst (λ (a : Option (List ℕ)). Stands [] a before (taken c.args.out.now) (taken c.answering.out) r.lines c.answering.session) is c.answering.invariant.stands)
@@ -49,7 +49,7 @@ answering-preserved g c =
     subst (λ (o : Option Numbered). HandsOrder before after r.lines next.lines o) c.in-Some.is read.order in
     record {
       stands = stands_more [] (left c.args.input.now) before after (taken c.args.out.now) (taken c.answering.out) (taken c.answer_order.new.out) r.lines next.lines
-          c.answering.session c.answer_order.new.session c.in-Some.order here.stands hands told.text told.world told.refused;
+          c.answering.session c.answer_order.new.session c.in-Some.order here.stands hands read.taken told.text told.world told.refused;
       room = read.room;
       end = read.end;
       counts = counts_on (left c.args.input.now) (left c.answering.input) (left c.next_order.new.input) 0 r.count next.count here.counts read.counts;
@@ -70,7 +70,7 @@ returns-in_err-answer_order-clause-front g c =
     let hands : HandsOrder before after r.lines next.lines (Some c.in-Some.order) =
     subst (λ (o : Option Numbered). HandsOrder before after r.lines next.lines o) c.in-Some.is c.in_ok-order.ensures.order in
     fronts (left c.args.input.now) (taken c.args.out.now) (taken c.answer_order.new.out) (left c.next_order.new.input) (stopped_at_input c.from_residual-in_err-answer_order.result)
-    (λ bytes content is. exit (λ (b : Bool). IsFront (taken c.args.out.now) (taken c.answer_order.new.out) None (left c.next_order.new.input) b [] (answers_to content [] bytes))
+    (λ bytes content is. exit (λ (b : Bool). IsFront bytes (taken c.args.out.now) (taken c.answer_order.new.out) None (left c.next_order.new.input) b [] (answers_to content [] bytes))
     c.from_residual-in_err-answer_order.result e c.from_residual-in_err-answer_order.ensures.1
     (front_within [] content bytes before after (taken c.args.out.now) (taken c.answering.out) (taken c.answer_order.new.out) (left c.next_order.new.input) r.lines next.lines
     c.answering.session c.in-Some.order e (g.O.Sink.faults c.answering.out) (g.O.Sink.faults c.answer_order.new.out) part.0

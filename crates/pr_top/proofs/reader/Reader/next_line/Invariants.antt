@@ -1,7 +1,8 @@
 use Rattle.std.proofs.Common.{◌≡◌, ◌+◌, ◌-◌, ◌^◌, ◌≤◌, ◌<◌, true, length}
 use Rattle.std.specs.List.{list_all}
 use Rattle.std.specs.Io.KnownBytes.{Consumes}
-use Rattle.pr_top.specs.Reading.{is_no_feed, held, KnowsEnd, ahead, Counts}
+use Rattle.pr_top.specs.Taken.{is_no_feed}
+use Rattle.pr_top.specs.Reading.{held, KnowsEnd, ahead, Counts}
 use Rattle.pr_top.proofs.reader.Reader.next_line.Given as goal
 
 -- the line so far, and what is still to come, are what was to come
