@@ -3,7 +3,7 @@ use Rattle.std.proofs.Common.{◌≡◌, ◌&&◌, ℕ, List, [], ◌∷◌, Opt
 use Rattle.std.specs.Prelude.{◌==◌, not, if◌then◌else◌}
 use Rattle.std.specs.Str.{bytes_eq}
 use Rattle.pr_forms.specs.Form.{token, nothing, pair, either, turns, fold, chosen, rule, Reads}
-use Rattle.pr_labels.proofs.ByRules.{Each, Meets, by_token, by_nothing, by_pair, by_left, by_right, by_stop, by_turn, by_fold, by_choice, by_rule, by_rules}
+use Rattle.pr_forms.proofs.ByRules.{Each, Meets, by_token, by_nothing, by_pair, by_left, by_right, by_stop, by_turn, by_fold, by_choice, by_rule, by_rules}
 use Rattle.pr_lex.specs.declared.token.Token.{Token}
 use Rattle.pr_lex.specs.declared.token.TokenKind.{TokenKind}
 use Rattle.pr_lex.specs.declared.token.TokenKind.TheVariants.{Name as NameToken, Number as NumberToken, Duration as DurationToken, Text as TextToken, Sign as SignToken}
