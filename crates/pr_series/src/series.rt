@@ -202,7 +202,7 @@ fn value_in(alloc: Global, text: &[u8]) -> Result<(Text, &[u8]), Fault<'_, u8>>
     let (bytes, rest) = read_string(alloc, text)?;
     match String::from_utf8(bytes) {
         Ok(value) => Ok((Text::new(value), rest)),
-        Err(_) => Err(Fault::Bad(text)),
+        Err(_) => unreachable!(),
     }
 }
 
