@@ -1,11 +1,10 @@
 -- A carriage return before each line feed changes no line.
-use Rattle.std.proofs.Common.{◌≡◌, ℕ, zero, suc, ◌+◌, ◌-◌, ◌<◌, ◌==◌, Bool, true, false, cond, ◌||◌, if◌then◌else◌, List, [], ◌∷◌, ◌++◌, length, take, get_or, refl, sym, ap, ◌∙◌, arith, length-append}
+use Rattle.std.proofs.Common.{◌≡◌, ℕ, zero, suc, ◌+◌, ◌-◌, ◌<◌, Bool, true, false, cond, ◌||◌, if◌then◌else◌, List, [], ◌∷◌, ◌++◌, length, get_or, refl, sym, ap, ◌∙◌, arith, length-append}
 use Prim.Native.Char.{code}
-use Rattle.std.specs.List.{slice_split, onto_first, list_any}
+use Rattle.std.specs.List.{slice_split, onto_first}
 use Rattle.std.proofs.Math.Seq.{take-append_seam, get_or-append_seam}
 use Rattle.pr_yaml_scan.specs.Lines.{is_feed, without_return, ended, lines_of}
 use Rattle.pr_yaml_scan.specs.Worked.{tokens_of, is_return, has_return, with_returns}
-use Rattle.pr_yaml_scan.specs.Tokens.{first_state}
 use Rattle.pr_yaml_scan.proofs.Lines.{split_some, ended_some}
 
 -- the lines but the last one with a carriage return at their end
