@@ -11,7 +11,7 @@ use Rattle.pr_forms.proofs.Places.{one_place, cut_short}
 use Rattle.pr_lex.specs.declared.fault.LexKind.{LexKind}
 use Rattle.pr_lex.specs.Tokens.{HasFault}
 use Rattle.pr_lexed.specs.Lexed.{Lexed, gives_tokens, gives_fault as gives_first_fault, lexed}
-use Rattle.pr_lexed.proofs.LexedLaws.{tokens_both, fault_both}
+use Rattle.pr_lex.proofs.LexedLaws.{tokens_both, fault_both}
 use Rattle.pr_ast.specs.declared.place.Place.{Place}
 use Rattle.pr_ast.specs.declared.tree.Expr.{Expr}
 use Rattle.pr_ast.specs.Tree.{Tree, tree_of}
