@@ -20,7 +20,8 @@ use Rattle.pr_strings.specs.declared.kind.Kind.{Kind}
 use Rattle.pr_strings.specs.declared.kind.Kind.TheVariants.{Open, Close, Comma, Equal, Blank, Other}
 use Rattle.pr_strings.specs.Strings as strings
 use Rattle.pr_strings.specs.Strings.{Letter, letter, kind_of, letter_of, seen}
-use Rattle.pr_strings.specs.Reader.{KeepsText, FailsAt as StringFails}
+use Rattle.pr_strings.specs.Language.{text_strings}
+use Rattle.pr_strings.specs.Reader.{KeepsText}
 use Rattle.pr_strings.proofs.StringUtf8.{small_byte, keeps_after}
 use Rattle.pr_labels.specs.LabelSet.{pair_of, metric_label}
 use Rattle.std.proofs.lemmas.List.{map-append, append-nil}
@@ -117,11 +118,11 @@ pub value_read : (text rest bytes value : List ℕ) → value ≡ bytes → Runs
     Gives series (rule (InString strings.Text)) text (good (quoted (strings.content value)) (seen rest))
 value_read text rest bytes value e k = subst (λ x. Gives series (rule (InString strings.Text)) text (good (quoted (strings.content x)) (seen rest))) (sym e) (gives_good strings_within text rest k)
 
-value_fault : (text : List ℕ) (e : Fault ℕ) → StringFails (rule strings.Text) text e → FailsAt series (rule (InString strings.Text)) text e
+value_fault : (text : List ℕ) (e : Fault ℕ) → FailsAt text_strings (rule strings.Text) text e → FailsAt series (rule (InString strings.Text)) text e
 value_fault text (Bad rest) k = gives_bad strings_within text rest.now k
 value_fault text Memory k = tt
 
-pub value_exit : {X : Type 0} (P : X → Type 0) (text : List ℕ) (r : Result X (Fault ℕ)) (e : Fault ℕ) → IsErrAnd r (λ y. y ≡ e) → StringFails (rule strings.Text) text e →
+pub value_exit : {X : Type 0} (P : X → Type 0) (text : List ℕ) (r : Result X (Fault ℕ)) (e : Fault ℕ) → IsErrAnd r (λ y. y ≡ e) → FailsAt text_strings (rule strings.Text) text e →
     MatchResult r P (FailsAt series (rule (InString strings.Text)) text)
 value_exit P text (Ok x) e h k = absurd h
 value_exit P text (Err y) e h k = subst (FailsAt series (rule (InString strings.Text)) text) (sym h) (value_fault text e k)

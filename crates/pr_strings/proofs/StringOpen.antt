@@ -3,16 +3,19 @@ use Rattle.std.proofs.Common.{◌≡◌, ℕ, ◌-◌, ◌<◌, ◌≤◌, List,
 use Rattle.std.proofs.lemmas.List.{length-map}
 use Rattle.std.specs.Prelude.{MatchBool, nat_eq}
 use Rattle.pr_forms.specs.Form.{Form, turns, Reads, is_stop, is_turn}
-use Rattle.pr_forms.specs.Table.{is_more, Decides}
+use Rattle.pr_forms.specs.Table.{Decides}
 use Rattle.pr_forms.specs.Run.{Runs, good, bad}
 use Rattle.pr_forms.proofs.Sound.{meets, reads}
-use Rattle.pr_forms.proofs.Decided.{Agrees, same, goes_on, agrees, decides_first, decides_turn}
+use Rattle.pr_forms.proofs.Decided.{decides_first, decides_turn}
+use Rattle.pr_forms.proofs.Fronts.{same_good, none_good}
 use Rattle.pr_forms.proofs.Suffixes.{Suffix, there, reads_suffix, suffix_drop, suffix_length}
 use Rattle.pr_strings.specs.declared.kind.Mark.{Mark}
 use Rattle.pr_strings.specs.declared.kind.Kind.{Kind}
 use Rattle.pr_strings.specs.declared.kind.Kind.TheVariants.{Quote}
 use Rattle.pr_strings.specs.Strings.{production, table, kind_of, letter_of, seen, Letter, Value, content, Rule, Quoted, piece, joined, IsOpening, IsOpenAt}
-use Rattle.pr_strings.specs.Reader.{Takes, Lacks, BreaksAt, HasNoOpening}
+use Rattle.pr_forms.specs.Language.{Takes, Lacks}
+use Rattle.pr_strings.specs.Language.{text_strings}
+use Rattle.pr_strings.specs.Reader.{BreaksAt, HasNoOpening}
 use Rattle.pr_forms.specs.declared.reader.Fault.{Fault}
 use Rattle.pr_forms.specs.declared.reader.Fault.TheVariants.{Bad, Memory}
 use Rattle.std.proofs.lemmas.Bool.Decides.{nat_tests}
@@ -24,25 +27,17 @@ pieces_after m w = turns joined w (piece m)
 decided : (m : Mark) → Decides table (piece m)
 decided m = decides_turn table (decides_first table (known.decides (Quoted m)))
 
-no_more : (m : Mark) (ts : List Letter) → is_more {V = Value} table (piece m) ts ≡ true → ⊥
-no_more m [] h = cc
-no_more m (t ∷ ts) h = cc
-
-same_turn : (m : Mark) (w x y v : Value) (next mid r : List Letter) → Agrees table (piece m) (good x next) y mid → Reads production (pieces_after m (joined w y)) mid v r → Reads production (pieces_after m (joined w x)) next v r
-same_turn m w x y v next mid r same e = e
-same_turn m w x y v next mid r (goes_on i) e = absurd (no_more m mid i.is)
-
-no_turn : (m : Mark) (y : Value) (at mid : List Letter) → Agrees table (piece m) (bad at) y mid → ⊥
-no_turn m y at mid (goes_on i) = no_more m mid i.is
+same_turn : (m : Mark) (w x y v : Value) (next mid r : List Letter) → (y ≡ x) × (mid ≡ next) → Reads production (pieces_after m (joined w y)) mid v r → Reads production (pieces_after m (joined w x)) next v r
+same_turn m w x y v next mid r s e = subst (λ z. Reads production (pieces_after m (joined w z)) next v r) s.0 (subst (λ ts. Reads production (pieces_after m (joined w y)) ts v r) s.1 e)
 
 pub step_on : (m : Mark) (w x v : Value) (rest next r : List Letter) → Runs production table (piece m) rest (good x next) → length r < length rest →
     Reads production (pieces_after m w) rest v r → Reads production (pieces_after m (joined w x)) next v r
 step_on m w x v rest next r q lt is_stop = absurd (omega arith)
-step_on m w x v rest next r q lt (is_turn d e) = same_turn m w x _ v next _ r (agrees production table known (decided m) q d) e
+step_on m w x v rest next r q lt (is_turn d e) = same_turn m w x _ v next _ r (same_good production table known (decided m) (λ t. refl) q d) e
 
 pub no_step : (m : Mark) (w v : Value) (rest at r : List Letter) → Runs production table (piece m) rest (bad at) → length r < length rest → Reads production (pieces_after m w) rest v r → ⊥
 no_step m w v rest at r q lt is_stop = omega arith
-no_step m w v rest at r q lt (is_turn d e) = no_turn m _ at _ (agrees production table known (decided m) q d)
+no_step m w v rest at r q lt (is_turn d e) = none_good production table known (decided m) (λ t. refl) q d
 
 pub no_opening : (text rest : List ℕ) (b : ℕ) (k : Kind) → text ≡ b ∷ rest → k ≡ kind_of b → ((m : Mark) → k ≡ Quote m → ⊥) → HasNoOpening text
 no_opening text rest b k e h n = λ m after x.
@@ -65,7 +60,7 @@ seen_length xs = length-map xs letter_of
 below : (rest : List ℕ) (target : List Letter) (n : ℕ) → length target ≡ n → n < length rest → length target < length (seen rest)
 below rest target n e lt = omega (arith, seen_length rest)
 
-pub along_step : (m : Mark) (body rest next : List ℕ) (target : List Letter) (n : ℕ) (x : Value) → length target ≡ n → n < length rest → Along m body rest target → Takes (piece m) rest x next → Along m body next target
+pub along_step : (m : Mark) (body rest next : List ℕ) (target : List Letter) (n : ℕ) (x : Value) → length target ≡ n → n < length rest → Along m body rest target → Takes text_strings (piece m) rest x next → Along m body next target
 along_step m body rest next target n x e lt a t = record {
   value = joined a.value x;
   back = λ v r d. a.back v r (is_turn (reads (meets t.gives)) d);
@@ -103,7 +98,7 @@ module _ (text : List ℕ) (place : ℕ) (short : place ≤ length text) where
       let d = open_on m body o x in
       no_step m a.value d.0 (seen rest) at target q (below rest target _ target_length lt) (a.on d.0 d.1)
 
-  pub not_past_none : (m : Mark) (body rest : List ℕ) → IsOpening text m body → Along m body rest target → length text - place < length rest → Lacks (piece m) rest → IsOpenAt text place → ⊥
+  pub not_past_none : (m : Mark) (body rest : List ℕ) → IsOpening text m body → Along m body rest target → length text - place < length rest → Lacks text_strings (piece m) rest → IsOpenAt text place → ⊥
   not_past_none m body rest o a lt q = not_past_bad m body rest (seen rest) o a lt q.gives
 
   pub not_past_break : (m : Mark) (body rest : List ℕ) (e : Fault ℕ) → IsOpening text m body → Along m body rest target → length text - place < length rest → BreaksAt (piece m) rest e → IsOpenAt text place → ⊥

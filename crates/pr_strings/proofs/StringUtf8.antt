@@ -16,7 +16,9 @@ use Rattle.pr_strings.specs.declared.kind.Mark.TheVariants.{Double, Single, Back
 use Rattle.pr_strings.specs.declared.kind.Kind.{Kind}
 use Rattle.pr_strings.specs.declared.kind.Kind.TheVariants.{Quote, Backslash, A, B, F, N, R, T, V, Other}
 use Rattle.pr_strings.specs.Strings.{production, table, kind_of, Letter, letter, letter_of, seen, Value, mark, byte_value, quote_at, plain_at, escape_at, named_at, named_byte, is_plain, as_content, numbered_by, numbering, digit_of, Rule}
-use Rattle.pr_strings.specs.Reader.{Takes, KeepsText, KeepsFront, SplitsText}
+use Rattle.pr_forms.specs.Language.{Takes}
+use Rattle.pr_strings.specs.Language.{text_strings}
+use Rattle.pr_strings.specs.Reader.{KeepsText, KeepsFront, SplitsText}
 
 -- a text may be cut around an ASCII byte
 module _ (front rest : List ℕ) (b : ℕ) (small : b < 128) (u : IsUtf8 (front ++ b ∷ rest)) where
@@ -58,7 +60,7 @@ seen_same (x ∷ xs) (y ∷ ys) e =
 token_inv : {p : Letter → Option Value} {ts rest : List Letter} {v : Value} → Runs production table (token p) ts (good v rest) → (t : Letter) × (ts ≡ t ∷ rest) × (p t ≡ Some v)
 token_inv (run_token {t = t} e) = (t, refl, e)
 
-pub taken : (p : Letter → Option Value) (text rest : List ℕ) (v : Value) → Takes (token p) text v rest → (b : ℕ) × (text ≡ b ∷ rest) × (p (letter_of b) ≡ Some v)
+pub taken : (p : Letter → Option Value) (text rest : List ℕ) (v : Value) → Takes text_strings (token p) text v rest → (b : ℕ) × (text ≡ b ∷ rest) × (p (letter_of b) ≡ Some v)
 taken p text rest v x = let i = token_inv x.gives in front text i.0 i.1 i.2
   where
     front : (bs : List ℕ) (t : Letter) → seen bs ≡ t ∷ seen rest → p t ≡ Some v → (b : ℕ) × (bs ≡ b ∷ rest) × (p (letter_of b) ≡ Some v)
@@ -143,7 +145,7 @@ itself : (plain : Bool) (a b : ℕ) → (if plain then Some (byte_value a) else 
 itself true a b e = cc
 itself false a b e = cc
 
-pub named_text : (m : Mark) (text rest : List ℕ) (c : ℕ) → Takes (token (named_at m)) text (byte_value c) rest → KeepsText text ((c ∷ []) ++ rest)
+pub named_text : (m : Mark) (text rest : List ℕ) (c : ℕ) → Takes text_strings (token (named_at m)) text (byte_value c) rest → KeepsText text ((c ∷ []) ++ rest)
 named_text m text rest c x u =
     let t = taken (named_at m) text rest (byte_value c) x in
     IsUtf8-append (c ∷ []) rest (byte_text c (meant m (kind_of t.0) t.0 c t.2)) (keeps_after text rest t.0 t.1 (small_byte t.0 (named_kind m (kind_of t.0) t.0 (byte_value c) t.2)) u)
@@ -152,13 +154,13 @@ pub digits_text : (text after rest : List ℕ) (c : ℕ) → KeepsText text afte
 digits_text text after rest c h k s u = IsUtf8-append (encode_utf8 c) rest (IsUtf8-encode c s) (k (h u))
 
 -- the pieces
-pub plain_text : (m : Mark) (text rest : List ℕ) (b : ℕ) → Takes (token (plain_at m)) text (byte_value b) rest → KeepsFront text (b ∷ []) rest
+pub plain_text : (m : Mark) (text rest : List ℕ) (b : ℕ) → Takes text_strings (token (plain_at m)) text (byte_value b) rest → KeepsFront text (b ∷ []) rest
 plain_text m text rest b x front u =
     let t = taken (plain_at m) text rest (byte_value b) x in
     let same : t.0 ≡ b = itself (is_plain m (kind_of t.0)) t.0 b t.2 in
     subst (λ y. IsUtf8 (front ++ y)) (t.1 ∙ ap (λ y. y ∷ rest) same) u
 
-pub escape_text : (m : Mark) (text after bytes rest : List ℕ) → Takes (token (escape_at m)) text mark after → KeepsText after (bytes ++ rest) → KeepsFront text bytes rest
+pub escape_text : (m : Mark) (text after bytes rest : List ℕ) → Takes text_strings (token (escape_at m)) text mark after → KeepsText after (bytes ++ rest) → KeepsFront text bytes rest
 escape_text m text after bytes rest x k front u =
     let t = taken (escape_at m) text after mark x in
     let small = small_byte t.0 (escape_kind m (kind_of t.0) t.0 mark t.2) in
@@ -168,7 +170,7 @@ escape_text m text after bytes rest x k front u =
 pub more_text : (text bytes at more rest new : List ℕ) → KeepsText text (bytes ++ at) → KeepsFront at more rest → new ≡ bytes ++ more → KeepsText text (new ++ rest)
 more_text text bytes at more rest new h k e u = subst IsUtf8 (sym (append_assoc bytes more rest) ∙ ap (λ x. x ++ rest) (sym e)) (k bytes (h u))
 
-pub last_text : (m : Mark) (text bytes at rest : List ℕ) → KeepsText text (bytes ++ at) → Takes (token (quote_at m)) at mark rest → SplitsText text bytes rest
+pub last_text : (m : Mark) (text bytes at rest : List ℕ) → KeepsText text (bytes ++ at) → Takes text_strings (token (quote_at m)) at mark rest → SplitsText text bytes rest
 last_text m text bytes at rest h x u =
     let t = taken (quote_at m) at rest mark x in
     let small = small_byte t.0 (quote_kind m (kind_of t.0) t.0 mark t.2) in

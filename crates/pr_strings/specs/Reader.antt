@@ -2,35 +2,20 @@
 use Rattle.std.specs.Prelude.{◌≡◌, ℕ, ◌-◌, ◌≤◌, List, [], ◌∷◌, ◌++◌, true, length, encode_utf8}
 use Rattle.std.specs.Str.{IsUtf8}
 use Rattle.pr_forms.specs.Form.{Form}
-use Rattle.pr_forms.specs.Table.{is_next}
-use Rattle.pr_forms.specs.Run.{Outcome, bad, Runs, Takes as TakesBy, Lacks as LacksBy, Leads as LeadsBy}
-use Rattle.pr_forms.specs.Reader.{FailsBy}
+use Rattle.pr_forms.specs.Run.{bad}
+use Rattle.pr_forms.specs.Language.{Gives, is_started}
 use Rattle.pr_forms.specs.declared.reader.Fault.{Fault}
 use Rattle.pr_forms.specs.declared.reader.Fault.TheVariants.{Bad, Memory}
 use Rattle.pr_strings.specs.declared.reader.Piece.{Piece}
 use Rattle.pr_strings.specs.declared.reader.Piece.TheVariants.{Byte, Character}
-use Rattle.pr_strings.specs.Strings.{production, table, seen, Letter, Rule, Value, content, IsBadPlace, IsOpening}
+use Rattle.pr_strings.specs.Strings.{seen, Letter, Rule, Value, content, IsBadPlace, IsOpening}
+use Rattle.pr_strings.specs.Language.{text_strings}
 use Rattle.pr_strings.specs.declared.kind.Mark.{Mark}
-
-abbrev pub Gives : Form Letter Rule Value → List ℕ → Outcome Letter Value → Type 0
-Gives f text o = Runs production table f (seen text) o
-
-abbrev pub Takes : Form Letter Rule Value → List ℕ → Value → List ℕ → Type 0
-Takes f text v rest = TakesBy production table f (seen text) v (seen rest)
-
-abbrev pub Lacks : Form Letter Rule Value → List ℕ → Type 0
-Lacks f text = LacksBy production table f (seen text)
-
-abbrev pub Leads : Form Letter Rule Value → List ℕ → Form Letter Rule Value → List ℕ → Type 0
-Leads f text g rest = LeadsBy production table f (seen text) g (seen rest)
 
 -- The form begins at the front, and fails where the rest begins.
 pub record Breaks (f : Form Letter Rule Value) (text rest : List ℕ) : Type 0 where
-  pub gives : Runs production table f (seen text) (bad (seen rest))
-  pub next : is_next table f (seen text) ≡ true
-
-abbrev pub FailsAt : Form Letter Rule Value → List ℕ → Fault ℕ → Type 0
-FailsAt f text fault = FailsBy seen production table f (seen text) fault
+  pub gives : Gives text_strings f text (bad (seen rest))
+  pub next : is_started text_strings f text ≡ true
 
 -- A reader that takes no memory breaks off at the fault's text.
 abbrev pub BreaksAt : Form Letter Rule Value → List ℕ → Fault ℕ → Type 0

@@ -2,6 +2,8 @@
 ghost use Rattle.std.specs.Prelude.{◌≡◌, ℕ, suc, ◌-◌, List, [], ◌++◌, ◌<◌, ◌≤◌, ◌^◌, true, length, IfOk, IfErr, IfSome, OnOk, MatchBool, MatchOption, MatchResult, option_map, encode_utf8};
 ghost use Rattle.pr_forms.specs.Form.{rule, Reads};
 ghost use Rattle.pr_forms.specs.Run.{good, bad};
+ghost use Rattle.pr_forms.specs.Language.{Gives, Takes, Lacks, Leads, FailsAt};
+ghost use Rattle.pr_strings.specs.Language.{text_strings};
 ghost use Rattle.pr_strings.specs.Strings.{
   letter_of,
   seen,
@@ -36,7 +38,7 @@ ghost use Rattle.pr_strings.specs.Strings.{
   numbered,
   nothing_follows,
 };
-ghost use Rattle.pr_strings.specs.Reader.{HasNoOpening, Gives, Takes, Lacks, Leads, BreaksAt, FailsAt, IsNumbering, bytes_of, Refuses, IsMemory, IsNoLonger, IsOnly, KeepsText, KeepsFront, SplitsText};
+ghost use Rattle.pr_strings.specs.Reader.{HasNoOpening, BreaksAt, IsNumbering, bytes_of, Refuses, IsMemory, IsNoLonger, IsOnly, KeepsText, KeepsFront, SplitsText};
 ghost use Rattle.std.specs.Char.{IsScalar};
 ghost use Rattle.pr_forms.specs.Form.{token, chosen};
 
@@ -62,7 +64,7 @@ fn is_mark(wanted: Mark, mark: Mark) -> bool
 
 /// The quote at the front, where it is this one, and what follows it.
 fn quote_in(mark: Mark, text: &[u8]) -> Option<((), &[u8])>
-    ensures read { MatchOption result (Lacks (token (quote_at mark)) text.now) (λ x. Takes (token (quote_at mark)) text.now mark_value x.1.now) }
+    ensures read { MatchOption result (Lacks text_strings (token (quote_at mark)) text.now) (λ x. Takes text_strings (token (quote_at mark)) text.now mark_value x.1.now) }
     ensures shorter { IfSome result (λ x. length x.1.now < length text.now) }
 {
     take(
@@ -91,7 +93,7 @@ fn is_plain(mark: Mark, kind: Kind) -> bool
 
 /// The byte at the front, where it stands for itself, and what follows it.
 fn plain_in(mark: Mark, text: &[u8]) -> Option<(u8, &[u8])>
-    ensures read { MatchOption result (Lacks (token (plain_at mark)) text.now) (λ x. Takes (token (plain_at mark)) text.now (byte_value x.0) x.1.now) }
+    ensures read { MatchOption result (Lacks text_strings (token (plain_at mark)) text.now) (λ x. Takes text_strings (token (plain_at mark)) text.now (byte_value x.0) x.1.now) }
     ensures shorter { IfSome result (λ x. length x.1.now < length text.now) }
 {
     take(
@@ -110,7 +112,7 @@ fn plain_in(mark: Mark, text: &[u8]) -> Option<(u8, &[u8])>
 
 /// What follows a backslash at the front, where one begins an escape.
 fn backslash_in(mark: Mark, text: &[u8]) -> Option<((), &[u8])>
-    ensures read { MatchOption result (Lacks (token (escape_at mark)) text.now) (λ x. Takes (token (escape_at mark)) text.now mark_value x.1.now) }
+    ensures read { MatchOption result (Lacks text_strings (token (escape_at mark)) text.now) (λ x. Takes text_strings (token (escape_at mark)) text.now mark_value x.1.now) }
     ensures shorter { IfSome result (λ x. length x.1.now < length text.now) }
 {
     take(
@@ -150,7 +152,7 @@ fn named_byte(mark: Mark, kind: Kind) -> Option<u8>
 
 /// The byte that the letter at the front stands for after a backslash, and what follows the letter.
 fn named_in(mark: Mark, text: &[u8]) -> Option<(u8, &[u8])>
-    ensures read { MatchOption result (Lacks (token (named_at mark)) text.now) (λ x. Takes (token (named_at mark)) text.now (byte_value x.0) x.1.now) }
+    ensures read { MatchOption result (Lacks text_strings (token (named_at mark)) text.now) (λ x. Takes text_strings (token (named_at mark)) text.now (byte_value x.0) x.1.now) }
     ensures shorter { IfSome result (λ x. length x.1.now < length text.now) }
 {
     take(
@@ -199,8 +201,8 @@ fn numbering_of(kind: Kind) -> Option<(u32, u32)>
 
 /// The limit and the number of digits that the letter at the front tells, and what follows it.
 fn numbering_in(text: &[u8]) -> Option<((u32, u32), &[u8])>
-    ensures read { MatchOption result (Gives (chosen numbered nothing_follows) text.now (bad (seen text.now)))
-        (λ x. Leads (chosen numbered nothing_follows) text.now (rule (Digits x.0.0 x.0.1 0)) x.1.now) }
+    ensures read { MatchOption result (Gives text_strings (chosen numbered nothing_follows) text.now (bad (seen text.now)))
+        (λ x. Leads text_strings (chosen numbered nothing_follows) text.now (rule (Digits x.0.0 x.0.1 0)) x.1.now) }
     ensures known { IfSome result (λ x. IsNumbering x.0.0 x.0.1) }
     ensures shorter { IfSome result (λ x. length x.1.now < length text.now) }
     ensures text { IfSome result (λ x. KeepsText text.now x.1.now) }
@@ -220,8 +222,8 @@ fn digit_in(limit: u32, left: u32, number: u32, text: &[u8]) -> Option<(u32, &[u
     requires limited { limit ≤ 1114111 }
     requires few { left ≤ 7 }
     requires able { number ≤ limit }
-    ensures read { MatchOption result (Gives (rule (Digits limit (suc left) number)) text.now (bad (seen text.now)))
-        (λ x. Leads (rule (Digits limit (suc left) number)) text.now (rule (Digits limit left x.0)) x.1.now) }
+    ensures read { MatchOption result (Gives text_strings (rule (Digits limit (suc left) number)) text.now (bad (seen text.now)))
+        (λ x. Leads text_strings (rule (Digits limit (suc left) number)) text.now (rule (Digits limit left x.0)) x.1.now) }
     ensures able { IfSome result (λ x. fits limit left x.0 ≡ true) }
     ensures shorter { IfSome result (λ x. length x.1.now < length text.now) }
     ensures text { IfSome result (λ x. KeepsText text.now x.1.now) }
@@ -243,8 +245,8 @@ fn digit_in(limit: u32, left: u32, number: u32, text: &[u8]) -> Option<(u32, &[u
 /// The character that the digits at the front write, and what follows them.
 fn digits_in(limit: u32, digits: u32, text: &[u8]) -> Result<(char, &[u8]), &[u8]>
     requires { IsNumbering limit digits }
-    ensures read { MatchResult result (λ x. Gives (rule (Digits limit digits 0)) text.now (good (content (encode_utf8 x.0)) (seen x.1.now)))
-        (λ rest. Gives (rule (Digits limit digits 0)) text.now (bad (seen rest.now))) }
+    ensures read { MatchResult result (λ x. Gives text_strings (rule (Digits limit digits 0)) text.now (good (content (encode_utf8 x.0)) (seen x.1.now)))
+        (λ rest. Gives text_strings (rule (Digits limit digits 0)) text.now (bad (seen rest.now))) }
     ensures shorter { IfOk result (λ x. length x.1.now ≤ length text.now) }
     ensures scalar { IfOk result (λ x. IsScalar x.0) }
     ensures text { IfOk result (λ x. KeepsText text.now x.1.now) }
@@ -268,8 +270,8 @@ fn digits_in(limit: u32, digits: u32, text: &[u8]) -> Result<(char, &[u8]), &[u8
 
 /// What the escape at the front means, after its backslash, and what follows it.
 fn escape_in(mark: Mark, text: &[u8]) -> Result<(Piece, &[u8]), &[u8]>
-    ensures read { MatchResult result (λ x. Gives (rule (Escape mark)) text.now (good (content (bytes_of x.0)) (seen x.1.now)))
-        (λ rest. Gives (rule (Escape mark)) text.now (bad (seen rest.now))) }
+    ensures read { MatchResult result (λ x. Gives text_strings (rule (Escape mark)) text.now (good (content (bytes_of x.0)) (seen x.1.now)))
+        (λ rest. Gives text_strings (rule (Escape mark)) text.now (bad (seen rest.now))) }
     ensures shorter { IfOk result (λ x. length x.1.now < length text.now) }
     ensures text { IfOk result (λ x. KeepsText text.now (bytes_of x.0 ++ x.1.now)) }
 {
@@ -287,7 +289,7 @@ fn escape_in(mark: Mark, text: &[u8]) -> Result<(Piece, &[u8]), &[u8]>
 
 /// The piece at the front, and what follows it.
 fn piece_in(mark: Mark, text: &[u8]) -> Result<Option<(Piece, &[u8])>, Fault<'_, u8>>
-    ensures read { MatchResult result (λ o. MatchOption o (Lacks (piece mark) text.now) (λ x. Takes (piece mark) text.now (content (bytes_of x.0)) x.1.now))
+    ensures read { MatchResult result (λ o. MatchOption o (Lacks text_strings (piece mark) text.now) (λ x. Takes text_strings (piece mark) text.now (content (bytes_of x.0)) x.1.now))
         (BreaksAt (piece mark) text.now) }
     ensures shorter { IfOk result (λ o. IfSome o (λ x. length x.1.now < length text.now)) }
     ensures text { IfOk result (λ o. IfSome o (λ x. KeepsFront text.now (bytes_of x.0) x.1.now)) }
@@ -322,7 +324,7 @@ fn push_piece(bytes: &mut Vec<u8>, piece: Piece) -> Result<(), AllocError>
 
 /// What a string means from its first quote on, and what follows it.
 fn quoted_in(alloc: Global, mark: Mark, text: &[u8]) -> Result<(Vec<u8>, &[u8]), Fault<'_, u8>>
-    ensures read { MatchResult result (λ x. Gives (rule (Quoted mark)) text.now (good (content x.0.items) (seen x.1.now))) (FailsAt (rule (Quoted mark)) text.now) }
+    ensures read { MatchResult result (λ x. Gives text_strings (rule (Quoted mark)) text.now (good (content x.0.items) (seen x.1.now))) (FailsAt text_strings (rule (Quoted mark)) text.now) }
     ensures shorter { IfOk result (λ x. length x.1.now < length text.now) }
     ensures text { IfOk result (λ x. SplitsText text.now x.0.items x.1.now) }
 {
@@ -341,7 +343,7 @@ fn quoted_in(alloc: Global, mark: Mark, text: &[u8]) -> Result<(Vec<u8>, &[u8]),
 /// The quote at the front, and what follows it.
 fn opening_in(text: &[u8]) -> Option<(Mark, &[u8])>
     ensures opens { MatchOption result (HasNoOpening text.now) (λ x. IsOpening text.now x.0 x.1.now) }
-    ensures read { MatchOption result (Gives (rule Text) text.now (bad (seen text.now))) (λ x. Leads (rule Text) text.now (rule (Quoted x.0)) x.1.now) }
+    ensures read { MatchOption result (Gives text_strings (rule Text) text.now (bad (seen text.now))) (λ x. Leads text_strings (rule Text) text.now (rule (Quoted x.0)) x.1.now) }
     ensures shorter { IfSome result (λ x. length x.1.now < length text.now) }
     ensures text { IfSome result (λ x. KeepsText text.now x.1.now) }
 {
@@ -369,7 +371,7 @@ pub fn read_string(alloc: Global, text: &[u8]) -> Result<(Vec<u8>, &[u8]), Fault
     // Else the fault has the text from the first place on at which no string can go on.
     ensures place { MatchResult result (λ x. IsBadPlace text.now (length text.now - length x.1.now)) (Refuses text.now) }
     // The same as a step of a reader.
-    ensures read { MatchResult result (λ x. Gives (rule Text) text.now (good (content x.0.items) (seen x.1.now))) (FailsAt (rule Text) text.now) }
+    ensures read { MatchResult result (λ x. Gives text_strings (rule Text) text.now (good (content x.0.items) (seen x.1.now))) (FailsAt text_strings (rule Text) text.now) }
     ensures shorter { IfOk result (λ x. length x.1.now < length text.now) }
     ensures within { IfErr result (IsNoLonger text.now) }
     // Bytes that UTF-8 texts mean are UTF-8, and so is what follows.

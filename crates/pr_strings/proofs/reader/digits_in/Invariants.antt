@@ -1,12 +1,14 @@
 use Rattle.std.proofs.Common.{◌≡◌, ◌≤◌, true, length}
 use Rattle.pr_forms.specs.Form.{rule}
 use Rattle.pr_strings.specs.Strings.{fits, Digits}
-use Rattle.pr_strings.specs.Reader.{Leads, KeepsText}
+use Rattle.pr_forms.specs.Language.{Leads}
+use Rattle.pr_strings.specs.Language.{text_strings}
+use Rattle.pr_strings.specs.Reader.{KeepsText}
 use Rattle.pr_strings.proofs.reader.digits_in.Given as goal
 
 abbrev pub invariant-loop-left : goal.invariant-loop-left
 invariant-loop-left l = record {
-  leads : Leads (rule (Digits l.limit l.digits 0)) l.text (rule (Digits l.limit l.left l.number)) l.rest;
+  leads : Leads text_strings (rule (Digits l.limit l.digits 0)) l.text (rule (Digits l.limit l.left l.number)) l.rest;
   able : fits l.limit l.left l.number ≡ true;
   few : l.left ≤ l.digits;
   text : KeepsText l.text l.rest;

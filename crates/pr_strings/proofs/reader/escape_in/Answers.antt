@@ -9,10 +9,10 @@ pub returns-in_default-numbering_in-clause-read : goal.returns-in_default-number
 returns-in_default-numbering_in-clause-read c = escape_other c.args.mark _ _ c.in_default.ensures.read c.in_default-numbering_in.ensures.read
 
 pub returns-in-Ok-clause-read : goal.returns-in-Ok-clause-read
-returns-in-Ok-clause-read c = escape_other c.args.mark _ _ c.in_default.ensures.read (c.in-Some-numbering_in.ensures.read.gives _ c.in-Ok.ensures.read)
+returns-in-Ok-clause-read c = escape_other c.args.mark _ _ c.in_default.ensures.read (c.in-Some-numbering_in.ensures.read.reads _ _ c.in-Ok.ensures.read)
 
 pub returns-in-Err-clause-read : goal.returns-in-Err-clause-read
-returns-in-Err-clause-read c = escape_other c.args.mark _ _ c.in_default.ensures.read (c.in-Some-numbering_in.ensures.read.gives _ c.in-Err.ensures.read)
+returns-in-Err-clause-read c = escape_other c.args.mark _ _ c.in_default.ensures.read (c.in-Some-numbering_in.ensures.read.fails _ c.in-Err.ensures.read)
 
 pub returns-in-Some-clause-text : goal.returns-in-Some-clause-text
 returns-in-Some-clause-text c = named_text c.args.mark _ _ c.in-Some.byte c.in-Some.ensures.read
