@@ -10,7 +10,8 @@ use Rattle.pr_forms.proofs.Public.{read_whole, only_value, not_whole, no_reading
 use Rattle.pr_time.specs.declared.text.SpanFault.{SpanFault}
 use Rattle.pr_time.specs.declared.text.SpanFault.TheVariants.{BadSpan, SpanTooLong}
 use Rattle.pr_time.specs.SpanText.{production, table, letter_of, seen, Text, Value, span, ReadsSpan, IsBadPlace, Refuses, IsTooLong}
-use Rattle.pr_time.specs.SpanReader.{Gives, Measures, kept}
+use Rattle.pr_forms.specs.Language.{Gives}
+use Rattle.pr_time.specs.SpanReader.{spans, Measures, kept}
 use Rattle.pr_time.proofs.SpanTable.{known}
 
 -- the span, where it is not too long
@@ -29,7 +30,7 @@ too_long v exact e h k = subst (λ x. IsTooLong v x) (sym k.0) (subst (λ x. IsT
 span_same : (v : Value) (exact s : ℕ) → span exact ≡ v → s ≡ exact → v ≡ span s
 span_same v exact s h k = sym h ∙ ap span (sym k)
 
-module _ (text rest : List ℕ) (ms : ℕ) (m : Measures (rule Text) (seen text) ms (seen rest)) where
+module _ (text rest : List ℕ) (ms : ℕ) (m : Measures (rule Text) text ms rest) where
   pub ok_span : (o : Option ℕ) (r : Result ℕ SpanFault) → length rest ≡ 0 → SomeIff o (ms ≤ 2 ^ 40) ms → r ≡ ok_or o SpanTooLong → IfOk r (ReadsSpan text)
   ok_span o r none h e = MatchResult-weaker r (limited o ms m.exact r h e m.is_kept)
       (λ s k. subst (λ x. ReadsSpan text x) (sym k) (read_whole letter_of production table known Text text rest (span m.exact) m.gives none)) (λ x k. tt)
@@ -54,7 +55,7 @@ module _ (text rest : List ℕ) (ms : ℕ) (m : Measures (rule Text) (seen text)
   pub left_is_short : length rest ≤ length text
   left_is_short = left_short letter_of production table known Text text rest _ m.gives refl
 
-module _ (text rest : List ℕ) (q : Gives (rule Text) (seen text) (bad (seen rest))) where
+module _ (text rest : List ℕ) (q : Gives spans (rule Text) text (bad (seen rest))) where
   pub none_read : (v : Value) (place : ℕ) → Reads production (rule Text) (seen text) v [] → IsTooLong v (BadSpan place)
   none_read v place d = absurd (no_reading letter_of production table known Text text rest v q d)
 

@@ -1,26 +1,18 @@
 -- What the functions that read a span text say of themselves.
+use Prim.Native.Char.{code}
 use Rattle.std.specs.Prelude.{◌≡◌, ℕ, ◌+◌, ◌<◌, ◌^◌, min, nat_le, List, ◌∷◌, Bool, Option, Some, None, length, if◌then◌else◌}
 use Rattle.pr_forms.specs.Form.{Form, turns, rule}
-use Rattle.pr_forms.specs.Table.{is_next}
-use Rattle.pr_forms.specs.Carries.{Carries}
-use Rattle.pr_forms.specs.Run.{Outcome, good, Runs, Takes as TakesBy, Lacks as LacksBy, Leads as LeadsBy}
+use Rattle.pr_forms.specs.Run.{good}
+use Rattle.pr_forms.specs.Language.{Language, Gives, Leads, Carries, is_started}
 use Rattle.pr_time.specs.declared.text.Letter.{Letter}
 use Rattle.pr_time.specs.declared.text.Letter.TheVariants.{Y, W, D, H, M, S}
 use Rattle.pr_time.specs.declared.text.Unit.{Unit as TimeUnit}
 use Rattle.pr_time.specs.declared.text.Unit.TheVariants.{Year, Week, Day, Hour, Minute, Second}
-use Rattle.pr_time.specs.SpanText.{production, table, seen, Rule, AfterZero, After, From, Value, count, span, scaled, ms_of, rank, shifted, digit}
+use Rattle.pr_time.specs.SpanText.{production, table, letter_of, seen, Rule, AfterZero, After, From, Value, count, span, scaled, ms_of, rank, shifted, digit}
 
-abbrev pub Gives : Form Letter Rule Value → List Letter → Outcome Letter Value → Type 0
-Gives f ts o = Runs production table f ts o
-
-abbrev pub Takes : Form Letter Rule Value → List Letter → Value → List Letter → Type 0
-Takes f ts v rest = TakesBy production table f ts v rest
-
-abbrev pub Lacks : Form Letter Rule Value → List Letter → Type 0
-Lacks f ts = LacksBy production table f ts
-
-abbrev pub Leads : Form Letter Rule Value → List Letter → Form Letter Rule Value → List Letter → Type 0
-Leads f ts g rest = LeadsBy production table f ts g rest
+-- the language of span texts, over bytes
+abbrev pub spans : Language ℕ Letter Rule Value
+spans = record { production = production; table = table; see = letter_of }
 
 -- The text is this letter and the rest.
 pub record IsFront (text : List ℕ) (letter : Letter) (rest : List ℕ) : Type 0 where
@@ -32,27 +24,31 @@ abbrev pub kept : ℕ → ℕ
 kept n = min n (2 ^ 40 + 1)
 
 -- More digits after a number, with which the form goes on.
-abbrev pub Digits : Form Letter Rule Value → List Letter → ℕ → List Letter → Type 0
-Digits f ts n rest = Leads f ts (turns shifted (count n) digit) rest
+abbrev pub Digits : Form Letter Rule Value → List ℕ → ℕ → List ℕ → Type 0
+Digits f text n rest = Leads spans f text (turns shifted (count n) digit) rest
 
 -- The form is read with a number that is kept so.
-pub record Counts (f : Form Letter Rule Value) (ts : List Letter) (number : ℕ) (rest : List Letter) : Type 0 where
+pub record Counts (f : Form Letter Rule Value) (text : List ℕ) (number : ℕ) (rest : List ℕ) : Type 0 where
   pub exact : ℕ
-  pub gives : Gives f ts (good (count exact) rest)
+  pub gives : Gives spans f text (good (count exact) (seen rest))
   pub is_kept : number ≡ kept exact
 
 -- The form is read with milliseconds that are kept so.
-pub record Measures (f : Form Letter Rule Value) (ts : List Letter) (ms : ℕ) (rest : List Letter) : Type 0 where
+pub record Measures (f : Form Letter Rule Value) (text : List ℕ) (ms : ℕ) (rest : List ℕ) : Type 0 where
   pub exact : ℕ
-  pub gives : Gives f ts (good (span exact) rest)
+  pub gives : Gives spans f text (good (span exact) (seen rest))
   pub is_kept : ms ≡ kept exact
 
 -- After the unit there come the parts after it, and they decide.
-abbrev pub Enters : TimeUnit → List Letter → TimeUnit → List Letter → Type 0
-Enters greatest ts unit rest = Carries production table (rule (From greatest)) ts (scaled (ms_of unit)) (rule (After unit)) rest span
+abbrev pub Enters : TimeUnit → List ℕ → TimeUnit → List ℕ → Type 0
+Enters greatest text unit rest = Carries spans (rule (From greatest)) text (scaled (ms_of unit)) (rule (After unit)) rest span
 
-abbrev pub starts_amount : List Letter → Bool
-starts_amount ts = is_next {V = Value} table (rule AfterZero) ts
+-- the text with an m before it
+abbrev pub with_m : List ℕ → List ℕ
+with_m text = code "m" ∷ text
+
+abbrev pub starts_amount : List ℕ → Bool
+starts_amount text = is_started spans (rule AfterZero) text
 
 -- the unit that a letter writes; an m stands for minutes
 abbrev pub named : Letter → Option TimeUnit
@@ -73,7 +69,7 @@ abbrev pub unit_left : TimeUnit → Letter → Option TimeUnit
 unit_left greatest t = kept_from greatest (named t)
 
 -- A form with a number so far, which more digits go on.
-pub record Going (f : Form Letter Rule Value) (ts : List Letter) (number : ℕ) (rest : List Letter) : Type 0 where
+pub record Going (f : Form Letter Rule Value) (text : List ℕ) (number : ℕ) (rest : List ℕ) : Type 0 where
   pub exact : ℕ
-  pub leads : Digits f ts exact rest
+  pub leads : Digits f text exact rest
   pub is_kept : number ≡ kept exact

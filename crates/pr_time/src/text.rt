@@ -3,7 +3,6 @@ ghost use Rattle.std.specs.Prelude.{◌≡◌, ℕ, List, [], ◌∷◌, ◌<◌
 ghost use Rattle.pr_forms.specs.Form.{Form, rule};
 ghost use Rattle.pr_forms.specs.Run.{good, bad};
 ghost use Rattle.pr_time.specs.declared.text.Letter.{Letter};
-ghost use Rattle.pr_time.specs.declared.text.Letter.TheVariants.{M};
 ghost use Rattle.pr_time.specs.declared.text.Unit.TheVariants.{Millisecond};
 ghost use Rattle.pr_time.specs.SpanText.{
   letter_of,
@@ -31,7 +30,8 @@ ghost use Rattle.pr_time.specs.SpanText.{
   Refuses,
   IsTooLong,
 };
-ghost use Rattle.pr_time.specs.SpanReader.{Gives, Takes, Lacks, IsFront, kept, Digits, Counts, Measures, Enters, starts_amount, named, unit_left};
+ghost use Rattle.pr_forms.specs.Language.{Gives, Takes, Lacks};
+ghost use Rattle.pr_time.specs.SpanReader.{spans, IsFront, kept, Digits, Counts, Measures, Enters, with_m, starts_amount, named, unit_left};
 ghost use Rattle.pr_forms.specs.Form.{Reads};
 
 use crate::value::Span;
@@ -156,7 +156,7 @@ fn next_letter(text: &[u8]) -> Option<(Letter, &[u8])>
 
 /// The digit at the front, and what follows it.
 fn digit_in(text: &[u8]) -> Option<(u8, &[u8])>
-    ensures read { MatchOption result (Lacks digit (seen text.now)) (λ x. Takes digit (seen text.now) (count x.0) (seen x.1.now)) }
+    ensures read { MatchOption result (Lacks spans digit text.now) (λ x. Takes spans digit text.now (count x.0) x.1.now) }
     ensures small { IfSome result (λ x. x.0 < 256) }
     ensures shorter { IfSome result (λ x. length x.1.now < length text.now) }
 {
@@ -175,8 +175,8 @@ fn digit_in(text: &[u8]) -> Option<(u8, &[u8])>
 
 /// What follows the s of milliseconds.
 fn after_s(text: &[u8]) -> Option<((), &[u8])>
-    ensures read { MatchOption result (Lacks (unit Millisecond) (seen text.now))
-        (λ x. Takes (unit Millisecond) (seen text.now) (scaled (ms_of Millisecond) 0) (seen x.1.now)) }
+    ensures read { MatchOption result (Lacks spans (unit Millisecond) text.now)
+        (λ x. Takes spans (unit Millisecond) text.now (scaled (ms_of Millisecond) 0) x.1.now) }
     ensures shorter { IfSome result (λ x. length x.1.now < length text.now) }
 {
     take(
@@ -195,8 +195,8 @@ fn after_s(text: &[u8]) -> Option<((), &[u8])>
 /// The number that the digits at the front write after `first`, and what follows them.
 fn number_in(first: u64, text: &[u8]) -> (u64, &[u8])
     requires { first ≤ 2 ^ 40 + 1 }
-    ensures read { (f : Form Letter Rule Value) (ts : List Letter) (n : ℕ) → first ≡ kept n → Digits f ts n (seen text.now) →
-        Counts f ts result.0 (seen result.1.now) }
+    ensures read { (f : Form Letter Rule Value) (start : List ℕ) (n : ℕ) → first ≡ kept n → Digits f start n text.now →
+        Counts f start result.0 result.1.now }
     ensures small { result.0 ≤ 2 ^ 40 + 1 }
     ensures shorter { length result.1.now ≤ length text.now }
 {
@@ -221,8 +221,8 @@ fn unit_of(greatest: Unit, letter: Letter) -> Option<Unit>
 
 /// The unit after an m: milliseconds where an s follows, else minutes.
 fn minute_in(greatest: Unit, text: &[u8]) -> Result<(Unit, &[u8]), &[u8]>
-    ensures read { MatchResult result (λ x. Enters greatest (M ∷ seen text.now) x.0 (seen x.1.now))
-        (λ rest. Gives (rule (From greatest)) (M ∷ seen text.now) (bad (seen rest.now))) }
+    ensures read { MatchResult result (λ x. Enters greatest (with_m text.now) x.0 x.1.now)
+        (λ rest. Gives spans (rule (From greatest)) (with_m text.now) (bad (seen rest.now))) }
     ensures shorter { IfOk result (λ x. length x.1.now ≤ length text.now) }
 {
     match after_s(text) {
@@ -236,8 +236,8 @@ fn minute_in(greatest: Unit, text: &[u8]) -> Result<(Unit, &[u8]), &[u8]>
 
 /// The unit at the front, `greatest` or a smaller one, and what follows it.
 fn unit_in(greatest: Unit, text: &[u8]) -> Result<(Unit, &[u8]), &[u8]>
-    ensures read { MatchResult result (λ x. Enters greatest (seen text.now) x.0 (seen x.1.now))
-        (λ rest. Gives (rule (From greatest)) (seen text.now) (bad (seen rest.now))) }
+    ensures read { MatchResult result (λ x. Enters greatest text.now x.0 x.1.now)
+        (λ rest. Gives spans (rule (From greatest)) text.now (bad (seen rest.now))) }
     ensures shorter { IfOk result (λ x. length x.1.now < length text.now) }
 {
     let Some((letter, rest)) = next_letter(text) else {
@@ -257,8 +257,8 @@ fn unit_in(greatest: Unit, text: &[u8]) -> Result<(Unit, &[u8]), &[u8]>
 #[cycle(parts)]
 fn amount_in(greatest: Unit, first: u64, text: &[u8]) -> Result<(u64, &[u8]), &[u8]>
     requires { first ≤ 2 ^ 40 + 1 }
-    ensures read { (f : Form Letter Rule Value) (ts : List Letter) (n : ℕ) → first ≡ kept n → Digits f ts n (seen text.now) →
-        MatchResult result (λ x. Measures (amount f (From greatest)) ts x.0 (seen x.1.now)) (λ rest. Gives (amount f (From greatest)) ts (bad (seen rest.now))) }
+    ensures read { (f : Form Letter Rule Value) (start : List ℕ) (n : ℕ) → first ≡ kept n → Digits f start n text.now →
+        MatchResult result (λ x. Measures (amount f (From greatest)) start x.0 x.1.now) (λ rest. Gives spans (amount f (From greatest)) start (bad (seen rest.now))) }
 {
     let (number, after_number) = number_in(first, text);
     let (unit, after_unit) = unit_in(greatest, after_number)?;
@@ -275,8 +275,8 @@ fn amount_in(greatest: Unit, first: u64, text: &[u8]) -> Result<(u64, &[u8]), &[
 /// The parts after one with this unit, in milliseconds, and what follows them.
 #[cycle(parts)]
 fn parts_after(last: Unit, text: &[u8]) -> Result<(u64, &[u8]), &[u8]>
-    ensures read { MatchResult result (λ x. Measures (rule (After last)) (seen text.now) x.0 (seen x.1.now))
-        (λ rest. Gives (rule (After last)) (seen text.now) (bad (seen rest.now))) }
+    ensures read { MatchResult result (λ x. Measures (rule (After last)) text.now x.0 x.1.now)
+        (λ rest. Gives spans (rule (After last)) text.now (bad (seen rest.now))) }
 {
     let Some((first, rest)) = digit_in(text) else {
         return Ok((0, text));
@@ -290,7 +290,7 @@ fn parts_after(last: Unit, text: &[u8]) -> Result<(u64, &[u8]), &[u8]>
 
 /// Whether more digits or a unit come next.
 fn goes_on(text: &[u8]) -> bool
-    ensures { result ≡ starts_amount (seen text.now) }
+    ensures { result ≡ starts_amount text.now }
 {
     match next_letter(text) {
         Some((letter, _)) => letter != Letter::Other,
@@ -300,8 +300,8 @@ fn goes_on(text: &[u8]) -> bool
 
 /// What a zero at the front writes with what follows it: nothing, or a number with its unit and the parts after it.
 fn zero_in(text: &[u8]) -> Result<(u64, &[u8]), &[u8]>
-    ensures read { MatchResult result (λ x. Measures (rule AfterZero) (seen text.now) x.0 (seen x.1.now))
-        (λ rest. Gives (rule AfterZero) (seen text.now) (bad (seen rest.now))) }
+    ensures read { MatchResult result (λ x. Measures (rule AfterZero) text.now x.0 x.1.now)
+        (λ rest. Gives spans (rule AfterZero) text.now (bad (seen rest.now))) }
 {
     if goes_on(text) {
         amount_in(Unit::Year, 0, text)
@@ -312,8 +312,8 @@ fn zero_in(text: &[u8]) -> Result<(u64, &[u8]), &[u8]>
 
 /// The span text at the front, in milliseconds, and what follows it.
 fn span_in(text: &[u8]) -> Result<(u64, &[u8]), &[u8]>
-    ensures read { MatchResult result (λ x. Measures (rule Text) (seen text.now) x.0 (seen x.1.now))
-        (λ rest. Gives (rule Text) (seen text.now) (bad (seen rest.now))) }
+    ensures read { MatchResult result (λ x. Measures (rule Text) text.now x.0 x.1.now)
+        (λ rest. Gives spans (rule Text) text.now (bad (seen rest.now))) }
 {
     match digit_in(text) {
         None => Err(text),
