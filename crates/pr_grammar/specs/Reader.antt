@@ -1,7 +1,8 @@
 -- What the functions that read tokens say of themselves.
 use Rattle.std.specs.Prelude.{ℕ, List, ◌++◌, Bool}
 use Rattle.pr_forms.specs.Table.{is_next}
-use Rattle.pr_forms.specs.Run.{Outcome, good, bad, Runs, Takes as TakesBy, Lacks as LacksBy, Leads as LeadsBy}
+use Rattle.pr_forms.specs.Run.{Outcome, good, bad, Runs, Takes as TakesBy, Lacks as LacksBy}
+use Rattle.pr_forms.specs.Carries.{Carries as CarriesBy}
 use Rattle.pr_forms.specs.Reader.{FailsBy}
 use Rattle.pr_forms.specs.declared.reader.Fault.{Fault}
 use Rattle.pr_ast.specs.declared.place.Place.{Place}
@@ -24,7 +25,7 @@ abbrev pub Lacks : F → List Lexed → Type 0
 Lacks f ts = LacksBy production table f (seen ts)
 
 abbrev pub Leads : F → List Lexed → F → List Lexed → Type 0
-Leads f ts g rest = LeadsBy production table f (seen ts) g (seen rest)
+Leads f ts g rest = CarriesBy production table f (seen ts) (λ v. v) g (seen rest) (λ v. v)
 
 -- After these names come those that the second form reads.
 pub record Lists (f : F) (ts : List Lexed) (done : List (List ℕ)) (g : F) (rest : List Lexed) : Type 0 where

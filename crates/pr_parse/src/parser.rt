@@ -46,7 +46,7 @@ use pr_words::Items;
 use std::alloc::Global;
 
 #[cycle(parser)]
-#[tactic(auto, using(pr_forms::proofs::Ways::ways))]
+#[tactic(auto, using(pr_forms::proofs::Ways::ways, pr_forms::proofs::Carrying::carrying))]
 pub(crate) fn binary_at(
     alloc: Global,
     level: Level,
@@ -202,7 +202,7 @@ fn tail_at<'a>(
 }
 
 #[cycle(parser)]
-#[tactic(auto, using(pr_forms::proofs::Ways::ways))]
+#[tactic(auto, using(pr_forms::proofs::Ways::ways, pr_forms::proofs::Carrying::carrying))]
 fn arguments_at(alloc: Global, tokens: &[Lexed]) -> Result<(Vec<Expr>, &[Lexed]), Fault<'_, Lexed>>
     ensures read { MatchResult result (λ x. Gives (rule Arguments) tokens.now (good (arguments (trees_of x.0.items)) (seen x.1.now))) (FailsAt (rule Arguments) tokens.now) }
     ensures shorter { IfOk result (λ x. length x.1.now ≤ length tokens.now) }

@@ -1,8 +1,9 @@
 use Rattle.std.proofs.Common.{◌≡◌, Some, None, true, false, [], ◌∷◌, ◌++◌, refl, ap, sym, ◌∙◌, arith}
 use Rattle.std.proofs.lemmas.Result.{MatchResult-weaker}
 use Rattle.pr_forms.specs.Form.{rule}
-use Rattle.pr_forms.specs.Run.{run_rule, run_pair, run_first, run_second, run_nothing, run_left, run_right, run_fold, run_base}
-use Rattle.pr_forms.proofs.Ways.{fails, exit, value_is, leads_value, take_side, take_side_bad, other_side, loop_goes_on, loop_fails}
+use Rattle.pr_forms.specs.Run.{run_rule, run_pair, run_first, run_second, run_nothing, run_left, run_right, run_base}
+use Rattle.pr_forms.proofs.Ways.{fails, exit, value_is, take_side, take_side_bad, other_side}
+use Rattle.pr_forms.proofs.Carrying.{carry_on, carry_rule, carry_left, carry_base, turns_value, turns_go_on, turn_fails}
 use Rattle.pr_ast.specs.Tree.{aggregate, more, none, tree_of, trees_of}
 use Rattle.pr_grammar.specs.declared.kind.Before.TheVariants.{Other as Others}
 use Rattle.pr_grammar.specs.Seen.{seen}
@@ -16,18 +17,18 @@ use Rattle.pr_parse.proofs.parser.+parser.Goals as goal
 pub binary_at-returns-in_err-modifiers-clause-read : goal.binary_at-returns-in_err-modifiers-clause-read
 binary_at-returns-in_err-modifiers-clause-read t c =
     exit seen production table _ (rule (Modified c.args.level)) (rule (Binary c.args.level c.args.opens)) (seen c.in-Some.following.now) _ _ c.in_err-modifiers.field-0.0 c.from_residual-in_err-modifiers.ensures.1
-    (λ r h. loop_fails c.loop-op.invariant.leads c.in-Some.ensures.read h) (c.in_err-modifiers.ensures.read c.args.level)
+    (λ r h. turn_fails c.loop-op.invariant.leads c.in-Some.ensures.read h) (c.in_err-modifiers.ensures.read c.args.level)
 
 pub binary_at-returns-in_err-right-clause-read : goal.binary_at-returns-in_err-right-clause-read
 binary_at-returns-in_err-right-clause-read t c =
     exit seen production table _ (rule (tighter c.args.level c.in_ok-modifiers.modifiers.opens)) (rule (Binary c.args.level c.args.opens)) (seen c.in_ok-modifiers.after_modifiers.now) _ _ c.in_err-right.field-0.0 c.from_residual-in_err-right.ensures.1
-    (λ r h. loop_fails c.loop-op.invariant.leads c.in-Some.ensures.read ((c.in_ok-modifiers.ensures.read c.args.level).fails r h)) c.in_err-right.ensures.read
+    (λ r h. turn_fails c.loop-op.invariant.leads c.in-Some.ensures.read ((c.in_ok-modifiers.ensures.read c.args.level).fails r h)) c.in_err-right.ensures.read
 
 pub binary_at-loop-op-preserved : goal.binary_at-loop-op-preserved
 binary_at-loop-op-preserved t c = record {
-  leads = leads_value (joined (value_of c.loop-op.left) (turned (operation c.in-Some.op) (operand c.in_ok-modifiers.modifiers.with_bool c.in_ok-modifiers.modifiers.matching c.in_ok-right.right.place (tree_of c.in_ok-right.right.expr))))
+  leads = turns_value (joined (value_of c.loop-op.left) (turned (operation c.in-Some.op) (operand c.in_ok-modifiers.modifiers.with_bool c.in_ok-modifiers.modifiers.matching c.in_ok-right.right.place (tree_of c.in_ok-right.right.expr))))
       (value_of c.in_ok-left-2.left) c.in_ok-left-2.ensures
-      (loop_goes_on c.loop-op.invariant.leads c.in-Some.ensures.read ((c.in_ok-modifiers.ensures.read c.args.level).reads c.in_ok-right.right.place (tree_of c.in_ok-right.right.expr) _ c.in_ok-right.ensures.read));
+      (turns_go_on c.loop-op.invariant.leads c.in-Some.ensures.read ((c.in_ok-modifiers.ensures.read c.args.level).reads c.in_ok-right.right.place (tree_of c.in_ok-right.right.expr) _ c.in_ok-right.ensures.read));
   shorter = omega (arith, c.in_ok-right.ensures.shorter, c.in_ok-modifiers.ensures.shorter, c.in-Some.ensures.shorter, c.loop-op.invariant.shorter);
 }
 
@@ -161,22 +162,22 @@ pub arguments_at-loop-comma-init : goal.arguments_at-loop-comma-init
 arguments_at-loop-comma-init t c =
     let grown : trees_of c.push.new.self.items ≡ more none (tree_of c.in_ok-first.first.expr) = ap trees_of (c.in_ok-push.ensures.items ∙ ap (λ xs. xs ++ c.in_ok-first.first.expr ∷ []) c.new-args.ensures.items) in
     record {
-      leads = leads_value (arguments (more none (tree_of c.in_ok-first.first.expr))) (arguments (trees_of c.push.new.self.items)) (ap arguments grown)
-          (record { gives = λ o h. run_rule (run_left (sym c.starts_argument.ensures ∙ c.if-not-starts_argument.false) (run_fold (run_pair run_nothing c.in_ok-first.ensures.read) h)) });
+      leads = turns_value (arguments (more none (tree_of c.in_ok-first.first.expr))) (arguments (trees_of c.push.new.self.items)) (ap arguments grown)
+          (carry_on carry_rule (carry_on (carry_left (sym c.starts_argument.ensures ∙ c.if-not-starts_argument.false)) (carry_base (run_pair run_nothing c.in_ok-first.ensures.read))));
       shorter = c.in_ok-first.ensures.shorter;
     }
 
 pub arguments_at-returns-in_err-next-clause-read : goal.arguments_at-returns-in_err-next-clause-read
 arguments_at-returns-in_err-next-clause-read t c =
     exit seen production table _ (rule expression) (rule Arguments) (seen c.in-Some.following.now) _ _ c.in_err-next.field-0.0 c.from_residual-in_err-next.ensures.1
-    (λ r h. loop_fails c.loop-comma.invariant.leads c.in-Some.ensures.read h) c.in_err-next.ensures.read
+    (λ r h. turn_fails c.loop-comma.invariant.leads c.in-Some.ensures.read h) c.in_err-next.ensures.read
 
 pub arguments_at-loop-comma-preserved : goal.arguments_at-loop-comma-preserved
 arguments_at-loop-comma-preserved t c =
     let grown : trees_of c.push-in-Some.new.self.items ≡ more (trees_of c.loop-comma.args.items) (tree_of c.in_ok-next.next.expr) = ap trees_of c.in_ok-push-2.ensures.items ∙ trees_of-push c.loop-comma.args.items c.in_ok-next.next.expr in
     record {
-      leads = leads_value (arguments (more (trees_of c.loop-comma.args.items) (tree_of c.in_ok-next.next.expr))) (arguments (trees_of c.push-in-Some.new.self.items)) (ap arguments grown)
-          (loop_goes_on c.loop-comma.invariant.leads c.in-Some.ensures.read c.in_ok-next.ensures.read);
+      leads = turns_value (arguments (more (trees_of c.loop-comma.args.items) (tree_of c.in_ok-next.next.expr))) (arguments (trees_of c.push-in-Some.new.self.items)) (ap arguments grown)
+          (turns_go_on c.loop-comma.invariant.leads c.in-Some.ensures.read c.in_ok-next.ensures.read);
       shorter = omega (arith, c.in_ok-next.ensures.shorter, c.in-Some.ensures.shorter, c.loop-comma.invariant.shorter);
     }
 
