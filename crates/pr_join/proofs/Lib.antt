@@ -1,0 +1,6 @@
+pub mod LabelMaps
+pub mod Keys
+pub mod Placing
+pub mod Taken
+pub mod Pairing
+pub mod Ordered

@@ -1,0 +1,13 @@
+-- Which fault of the definition a call tells.
+use Rattle.std.specs.Prelude.{Option, Some, None}
+use Rattle.pr_meaning.specs.declared.match_fault.MatchFault.{MatchFault}
+use Rattle.pr_meaning.specs.declared.match_fault.MatchFault.TheVariants as fault
+use Rattle.pr_join.specs.declared.join_fault.JoinFault.{JoinFault}
+use Rattle.pr_join.specs.declared.join_fault.JoinFault.TheVariants.{ManyToMany, NotUnique, TooWide, Memory}
+
+-- want of memory tells nothing of the definition's answer
+abbrev pub fault_told : JoinFault → Option MatchFault
+fault_told (ManyToMany key) = Some (fault.ManyToMany key)
+fault_told (NotUnique labels) = Some (fault.NotUnique labels)
+fault_told TooWide = Some fault.TooWide
+fault_told Memory = None

@@ -1,0 +1,64 @@
+-- What is kept of the pairs so far.
+use Rattle.std.specs.Prelude.{◌≡◌, Bool, true, false, List, [], ◌++◌, map, Option, None, Result}
+use Rattle.std.specs.BTreeMap.{BTreeMap}
+use Rattle.pr_num.specs.declared.value.Num.{Num}
+use Rattle.pr_num.specs.declared.value.TooWide.{TooWide}
+use Rattle.pr_labels.specs.declared.matching.Matching.{Matching}
+use Rattle.pr_labels.specs.declared.pair.Pair.{Pair}
+use Rattle.pr_labels.specs.declared.item.Item.{Item}
+use Rattle.pr_labels.specs.declared.matching.Card.{Card}
+use Rattle.pr_labels.specs.declared.matching.Card.TheVariants.{OneToOne, ManyToOne, OneToMany}
+use Rattle.pr_meaning.specs.Vectors.{element, in_order}
+use Rattle.pr_meaning.specs.Matching.{Kept, Operator, fault_after, items_of, kept, outcome, pairs_with}
+use Rattle.pr_join.specs.Keys.{HasKeys}
+use Rattle.pr_join.specs.declared.rows.Rows.{Rows}
+
+-- the elements of a map
+abbrev pub elements_in : List (List Pair × Num) → List (Item Num)
+elements_in entries = map (λ e. element e.0 e.1) entries
+
+abbrev pub elements : BTreeMap (List Pair) Num → List (Item Num)
+elements m = elements_in m.entries
+
+abbrev pub is_one_to_one : Card → Bool
+is_one_to_one OneToOne = true
+is_one_to_one ManyToOne = false
+is_one_to_one OneToMany = false
+
+-- in one-to-one matching a key may come once
+abbrev pub keyed : Card → List Kept → List Kept
+keyed OneToOne before = before
+keyed ManyToOne before = []
+keyed OneToMany before = []
+
+abbrev pub key_in : Kept → List Pair
+key_in k = k.key
+
+abbrev pub labels_in : Kept → List Pair
+labels_in k = k.item.labels
+
+-- the elements that the pairs before gave, by their labels
+pub record HasItems (before : List Kept) (m : BTreeMap (List Pair) Num) : Type 0 where
+  pub listed : elements m ≡ in_order (items_of before)
+  pub labels : HasKeys labels_in before m
+
+-- the keys of the pairs before, where each may come once
+pub record HasTaken (card : Card) (before : List Kept) (m : BTreeMap (List Pair) (Unit {0})) : Type 0 where
+  pub keys : HasKeys key_in (keyed card before) m
+
+pub record HasKept (card : Card) (before : List Kept) (rows : Rows) : Type 0 where
+  pub items : HasItems before rows.items
+  pub taken : HasTaken card before rows.taken
+
+-- a kept pair by its parts
+abbrev pub kept_with : List Pair → List Pair → Num → Kept
+kept_with key labels value = record { key = key; item = element labels value }
+
+-- what becomes of the pairs of an element of the many side
+abbrev pub outcomes_with : Matching → Bool → Operator → List (Item Num) → Item Num → List (Result (Option Kept) TooWide)
+outcomes_with how keep_name f ones m = map (outcome how keep_name f) (pairs_with how ones m)
+
+-- pairs without a fault after those kept before them, and what is kept then
+pub record IsTaken (card : Card) (before : List Kept) (outcomes : List (Result (Option Kept) TooWide)) (rows : Rows) : Type 0 where
+  pub faultless : fault_after card before outcomes ≡ None
+  pub holds : HasKept card (before ++ kept outcomes) rows

@@ -1,0 +1,169 @@
+// Arithmetic and comparisons between two vectors.
+ghost use Rattle.std.specs.Prelude.{◌≡◌, ◌≢◌, List, [], ◌∷◌, find, Ok, Err, Some, None, IfOk, IfSome, MatchResult};
+ghost use Rattle.pr_join.specs.declared.join_fault.JoinFault.TheVariants.{Memory};
+ghost use Rattle.pr_meaning.specs.Vectors.{IsVector};
+ghost use Rattle.pr_meaning.specs.Matching.{Operator, Kept, worked, paired, outcome, fault_after, key_of, outcomes_of, joined, joined_sides};
+ghost use Rattle.pr_join.specs.Faults.{fault_told};
+ghost use Rattle.pr_join.specs.Operators.{AnswersBy};
+ghost use Rattle.pr_join.specs.Places.{IsIndexOf, is_flagged};
+ghost use Rattle.pr_join.specs.Rows.{HasKept, IsTaken, outcomes_with};
+
+use crate::join_fault::JoinFault;
+use crate::labels::result_labels;
+use crate::places::{Place, first_shared, first_with, key_of, places_of};
+use crate::rows::{Rows, elements_of, no_rows, take};
+use pr_labels::{Card, Item, Labels, Matching};
+use pr_num::{Num, TooWide};
+use std::alloc::Global;
+use std::collections::BTreeMap;
+
+// What the operator answers to a pair; it takes the left value first.
+fn worked<O: Fn(Num, Num) -> Result<Option<Num>, TooWide>>(
+    card: Card,
+    op: &O,
+    many: &Item<Num>,
+    one: &Item<Num>,
+) -> Result<Option<Num>, TooWide>
+    requires { O.IsAlwaysCallable op.now }
+    ensures { (f : Operator) → AnswersBy O.Fn op.now f → result ≡ worked card f (paired many.now one.now) }
+{
+    match card {
+        Card::OneToMany => op(one.value, many.value),
+        Card::OneToOne | Card::ManyToOne => op(many.value, one.value),
+    }
+}
+
+// Takes what a pair gives.
+fn join_pair<O: Fn(Num, Num) -> Result<Option<Num>, TooWide>>(
+    alloc: Global,
+    how: &Matching,
+    keep_name: bool,
+    op: &O,
+    key: Labels,
+    many: &Item<Num>,
+    one: &Item<Num>,
+    rows: &mut Rows,
+) -> Result<(), JoinFault>
+    requires callable { O.IsAlwaysCallable op.now }
+    requires key { key ≡ key_of how.now many.now }
+    ensures { (f : Operator) (before : List Kept) → AnswersBy O.Fn op.now f → HasKept how.now.card before rows.old → MatchResult result
+        (λ _. IsTaken how.now.card before (outcome how.now keep_name f (paired many.now one.now) ∷ []) rows.new)
+        (λ e. e ≢ Memory → fault_after how.now.card before (outcome how.now keep_name f (paired many.now one.now) ∷ []) ≡ fault_told e) }
+{
+    match worked(how.card, op, many, one) {
+        Err(_) => Err(JoinFault::TooWide),
+        Ok(None) => Ok(()),
+        Ok(Some(value)) => {
+            let labels = result_labels(alloc, how, keep_name, many, one)?;
+            take(rows, how.card, key, labels, value)
+        }
+    }
+}
+
+// Takes what an element of the many side gives with the element of its key.
+fn join_one<O: Fn(Num, Num) -> Result<Option<Num>, TooWide>>(
+    alloc: Global,
+    how: &Matching,
+    keep_name: bool,
+    op: &O,
+    ones: &[Item<Num>],
+    places: &BTreeMap<Labels, Place>,
+    many: &Item<Num>,
+    rows: &mut Rows,
+) -> Result<(), JoinFault>
+    requires callable { O.IsAlwaysCallable op.now }
+    requires index { IsIndexOf how.now ones.now ones.now places.now }
+    requires unshared { find is_flagged places.now.entries ≡ None }
+    ensures { (f : Operator) (before : List Kept) → AnswersBy O.Fn op.now f → HasKept how.now.card before rows.old → MatchResult result
+        (λ _. IsTaken how.now.card before (outcomes_with how.now keep_name f ones.now many.now) rows.new)
+        (λ e. e ≢ Memory → fault_after how.now.card before (outcomes_with how.now keep_name f ones.now many.now) ≡ fault_told e) }
+{
+    let key = key_of(alloc, how, many)?;
+    match first_with(how, ones, places, &key) {
+        None => Ok(()),
+        Some(one) => join_pair(alloc, how, keep_name, op, key, many, one, rows),
+    }
+}
+
+// Takes what the elements of the many side give, one after the other.
+fn join_all<O: Fn(Num, Num) -> Result<Option<Num>, TooWide>>(
+    alloc: Global,
+    how: &Matching,
+    keep_name: bool,
+    op: &O,
+    manys: &[Item<Num>],
+    ones: &[Item<Num>],
+    places: &BTreeMap<Labels, Place>,
+) -> Result<Rows, JoinFault>
+    requires callable { O.IsAlwaysCallable op.now }
+    requires index { IsIndexOf how.now ones.now ones.now places.now }
+    requires unshared { find is_flagged places.now.entries ≡ None }
+    ensures { (f : Operator) → AnswersBy O.Fn op.now f → MatchResult result
+        (IsTaken how.now.card [] (outcomes_of how.now keep_name f manys.now ones.now))
+        (λ e. e ≢ Memory → fault_after how.now.card [] (outcomes_of how.now keep_name f manys.now ones.now) ≡ fault_told e) }
+{
+    let mut rows = no_rows(alloc);
+    for many in manys {
+        if let Err(fault) = join_one(alloc, how, keep_name, op, ones, places, many, &mut rows) {
+            return Err(fault);
+        }
+    }
+    Ok(rows)
+}
+
+// The same of the two sides by what they are.
+fn join_sides<O: Fn(Num, Num) -> Result<Option<Num>, TooWide>>(
+    alloc: Global,
+    how: &Matching,
+    keep_name: bool,
+    op: &O,
+    manys: &[Item<Num>],
+    ones: &[Item<Num>],
+) -> Result<Vec<Item<Num>>, JoinFault>
+    requires { O.IsAlwaysCallable op.now }
+    ensures { (f : Operator) → AnswersBy O.Fn op.now f → MatchResult result
+        (λ v. joined_sides how.now keep_name f manys.now ones.now ≡ Ok v.items)
+        (λ e. IfSome (fault_told e) (λ fault. joined_sides how.now keep_name f manys.now ones.now ≡ Err fault)) }
+{
+    if manys.is_empty() {
+        return Ok(Vec::new(alloc));
+    }
+    let places = places_of(alloc, how, ones)?;
+    if let Some(key) = first_shared(alloc, &places)? {
+        return Err(JoinFault::ManyToMany { key });
+    }
+    match join_all(alloc, how, keep_name, op, manys, ones, &places) {
+        Ok(rows) => Ok(elements_of(alloc, rows.items)?),
+        Err(fault) => Err(fault),
+    }
+}
+
+/// What an operator gives of two vectors, in label order: by the key of `how` each element of one side is
+/// paired with the one of the other side that has this key, and the operator is applied to the left and the
+/// right value. It answers a value, none where a filter drops the pair, or that the value is too wide. The
+/// metric's name is kept where `keep_name` says so. (Prometheus: Querying, Operators, Vector matching.)
+///
+/// # Errors
+/// `ManyToMany` with the least key that two elements of the one side have, unless the other side is empty;
+/// else what befalls the first element of the other side that has a fault: `TooWide` where the operator
+/// answers so, `ManyToMany` where in one-to-one matching its key was kept before, `NotUnique` where its
+/// labels were. `Memory` where memory runs out.
+pub fn join<O: Fn(Num, Num) -> Result<Option<Num>, TooWide>>(
+    alloc: Global,
+    left: &[Item<Num>],
+    right: &[Item<Num>],
+    how: &Matching,
+    keep_name: bool,
+    op: &O,
+) -> Result<Vec<Item<Num>>, JoinFault>
+    requires { O.IsAlwaysCallable op.now }
+    ensures joined { (f : Operator) → AnswersBy O.Fn op.now f → MatchResult result
+        (λ v. joined how.now keep_name f left.now right.now ≡ Ok v.items)
+        (λ e. IfSome (fault_told e) (λ fault. joined how.now keep_name f left.now right.now ≡ Err fault)) }
+    ensures vector { (f : Operator) → AnswersBy O.Fn op.now f → IfOk result (λ v. IsVector v.items) }
+{
+    match how.card {
+        Card::OneToMany => join_sides(alloc, how, keep_name, op, right, left),
+        Card::OneToOne | Card::ManyToOne => join_sides(alloc, how, keep_name, op, left, right),
+    }
+}

@@ -1,0 +1,15 @@
+//! Operators between two vectors: arithmetic, comparisons and set operators by matching keys. A call equals
+//! its definition in `pr_meaning`; keys are looked up in ordered maps, so that the work grows with the
+//! elements and not with their pairs.
+#![tactic(auto)]
+
+mod join_fault;
+mod joins;
+mod labels;
+mod places;
+mod rows;
+mod sets;
+
+pub use join_fault::JoinFault;
+pub use joins::join;
+pub use sets::{and, or, unless};
