@@ -9,6 +9,8 @@ mod labels;
 mod places;
 mod rows;
 mod sets;
+#[cfg(test)]
+mod tests;
 
 pub use join_fault::JoinFault;
 pub use joins::join;
