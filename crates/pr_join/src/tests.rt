@@ -9,7 +9,8 @@ use std::test::Fail;
 
 /// The left side, the operator with its matching, the right side, and what they give. The first four are the page's own
 /// example, the errors and requests of methods.
-const TABLE: &str = r#"errors{code="500",method="get"} 24; errors{code="500",method="post"} 6 | / ignoring(code) | requests{method="del"} 34; requests{method="get"} 600; requests{method="post"} 120 | {method="get"} 0.04; {method="post"} 0.05
+const TABLE: &str =
+    r#"errors{code="500",method="get"} 24; errors{code="500",method="post"} 6 | / ignoring(code) | requests{method="del"} 34; requests{method="get"} 600; requests{method="post"} 120 | {method="get"} 0.04; {method="post"} 0.05
 errors{code="404",method="get"} 30; errors{code="404",method="post"} 21; errors{code="500",method="get"} 24; errors{code="500",method="post"} 6; errors{code="501",method="put"} 3 | / ignoring(code) group_left() | requests{method="del"} 34; requests{method="get"} 600; requests{method="post"} 120 | {code="404",method="get"} 0.05; {code="404",method="post"} 0.175; {code="500",method="get"} 0.04; {code="500",method="post"} 0.05
 requests{method="del"} 34; requests{method="get"} 600; requests{method="post"} 120 | / ignoring(code) group_right() | errors{code="404",method="get"} 30; errors{code="500",method="get"} 24; errors{code="501",method="put"} 3 | {code="404",method="get"} 20; {code="500",method="get"} 25
 errors{code="404",method="get"} 30; errors{code="404",method="post"} 21; errors{code="500",method="get"} 24 | / ignoring(code) | requests{method="get"} 600; requests{method="post"} 120 | ManyToMany {method="get"}
@@ -140,11 +141,7 @@ fn value_of(sign: &str, is_bool: bool, left: Num, right: Num) -> Result<Option<N
         "-" => Ok(Some(left.sub(right)?)),
         "*" => Ok(Some(left.mul(right)?)),
         "/" => Ok(Some(left.div(right)?)),
-        _ if is_bool => Ok(Some(Num::whole(if holds(sign, left, right) {
-            1
-        } else {
-            0
-        }))),
+        _ if is_bool => Ok(Some(Num::whole(if holds(sign, left, right) { 1 } else { 0 }))),
         _ if holds(sign, left, right) => Ok(Some(left)),
         _ => Ok(None),
     }
@@ -164,9 +161,14 @@ fn joined(
         "and" => Ok(and(alloc, left, right, how)?),
         "or" => Ok(or(alloc, left, right, how)?),
         "unless" => Ok(unless(alloc, left, right, how)?),
-        _ => join(alloc, left, right, how, keep_name, &|one: Num, other: Num| {
-            value_of(sign, is_bool, one, other)
-        }),
+        _ => join(
+            alloc,
+            left,
+            right,
+            how,
+            keep_name,
+            &|one: Num, other: Num| { value_of(sign, is_bool, one, other) },
+        ),
     }
 }
 
