@@ -1,4 +1,9 @@
 //! Vectors joined by hand, as Prometheus' page on operators says.
+ghost use Rattle.std.specs.Prelude.{◌≡◌, false, Ok, Err, IfSome, MatchResult};
+ghost use Rattle.pr_meaning.specs.Examples.{times};
+ghost use Rattle.pr_meaning.specs.Matching.{joined};
+ghost use Rattle.pr_join.specs.Faults.{fault_told};
+
 use crate::{JoinFault, and, join, or, unless};
 use pr_labels::{Card, Item, Labels, Matching, Pair};
 use pr_num::{Num, TooWide, read, write};
@@ -54,6 +59,49 @@ a{x="1"} 6 | or | b{x="1"} 5; b{x="2"} 4 | a{x="1"} 6; b{x="2"} 4
 b{x="2"} 4 | or | a{x="1"} 6 | a{x="1"} 6; b{x="2"} 4
 a{x="1"} 6 | or on(x) | b{x="1",y="p"} 2; b{x="2",y="p"} 3 | a{x="1"} 6; b{x="2",y="p"} 3
 none | or | b{x="1"} 5 | b{x="1"} 5
+a{x="1"} 6 | >= | b{x="1"} 6 | a{x="1"} 6
+a{x="1"} 6 | <= | b{x="1"} 5 | none
+a{x="1"} 6 | < | b{x="1"} 7 | a{x="1"} 6
+a{x="1"} NaN | == | b{x="1"} NaN | none
+a{x="1"} NaN | != | b{x="1"} NaN | a{x="1"} NaN
+a{x="1"} NaN | == bool | b{x="1"} NaN | {x="1"} 0
+a{x="1"} 6 | == bool | b{x="1"} 6 | {x="1"} 1
+none | > bool | b{x="1"} 6 | none
+none | + | none | none
+a 6 | + | b 2 | {} 8
+a 6 | > | b 2 | a 6
+a{x="1",y="p"} 6 | + ignoring(x) | b{x="2",y="p"} 1 | {y="p"} 7
+a{x="1",y="p"} 6 | + ignoring(x,y) | b 1 | {} 7
+a{x="1",y="p",z="k"} 6 | + on(x,y) | b{x="1",y="p"} 1 | {x="1",y="p"} 7
+a{x="1"} 6 | + on(x) | b{y="q"} 1 | none
+a 6; b 3 | + on(__name__) | a 1; b 2 | NotUnique {}
+a 6 | > on(__name__) | a 1 | a 6
+a{x="1"} 6; b{x="1"} 7 | > on(__name__,x) | a{x="1"} 1; b{x="1"} 1 | a{x="1"} 6; b{x="1"} 7
+a{x="1",y="p"} 6 | > ignoring(y) | b{x="1"} 5 | a{x="1"} 6
+a{x="1",y="p"} 6 | > bool ignoring(y) | b{x="1"} 5 | {x="1"} 1
+b{x="1",y="p"} 7; b{x="1",y="q"} 3 | > on(x) group_left() | a{x="1"} 5 | b{x="1",y="p"} 7
+b{x="1",y="p"} 7; b{x="1",y="q"} 3 | > on(x) group_left(z) | a{x="1",z="k"} 5 | b{x="1",y="p",z="k"} 7
+b{x="1",y="p"} 7; b{x="1",y="q"} 3 | > bool on(x) group_left() | a{x="1"} 5 | {x="1",y="p"} 1; {x="1",y="q"} 0
+a{x="1",z="k"} 6 | - on(x) group_right(z) | b{x="1",y="p"} 2; b{x="1",y="q"} 3 | {x="1",y="p",z="k"} 4; {x="1",y="q",z="k"} 3
+a{x="1",y="p"} 6; a{x="1",y="q"} 7 | - on(x) group_right() | b{x="1"} 2 | ManyToMany {x="1"}
+a{x="1",y="p"} 6; a{x="1",y="q"} 7 | - on(x) group_right() | none | none
+b{x="1"} 2 | - on(x) group_left() | a{x="1",y="p"} 6; a{x="1",y="q"} 7 | ManyToMany {x="1"}
+a{x="1"} 1; b{x="1"} 2 | * on(x) group_left() | c{x="1"} 3 | NotUnique {x="1"}
+a{x="1"} 4; b{x="1"} 5 | > on(x) group_left() | c{x="1"} 3 | a{x="1"} 4; b{x="1"} 5
+a{x="1"} 99999999999999999999 | + | b{x="1"} 1 | TooWide
+a{x="1"} 20000000000; a{x="2"} 3 | * on(x) | b{x="2"} 5 | {x="2"} 15
+a{x="1"} 20000000000 | * on(x) | b{x="1",y="p"} 20000000000; b{x="1",y="q"} 1 | ManyToMany {x="1"}
+a 6 | or | b 5 | a 6
+a{x="1",y="p"} 1; a{x="1",y="q"} 2 | or on(x) | b{x="1"} 5; b{x="2"} 6 | a{x="1",y="p"} 1; a{x="1",y="q"} 2; b{x="2"} 6
+a{x="1",y="p"} 1 | or ignoring(y) | b{x="1"} 5 | a{x="1",y="p"} 1
+a{x="1"} 1 | or on(x) | b{x="2",y="p"} 5; b{x="2",y="q"} 6 | a{x="1"} 1; b{x="2",y="p"} 5; b{x="2",y="q"} 6
+a{x="1",y="p"} 1; a{x="2",y="p"} 2 | and ignoring(y) | b{x="1"} 5 | a{x="1",y="p"} 1
+a{x="1"} 1; a{x="2"} 2 | and on() | b{z="k"} 1 | a{x="1"} 1; a{x="2"} 2
+a{x="1"} 1; a{x="2"} 2 | unless on() | b{z="k"} 1 | none
+none | unless | b{x="1"} 1 | none
+none | and | b{x="1"} 1 | none
+a{x="1"} 1 | and | a{x="2"} 2 | none
+a{x="1"} 6 | and | b{x="1"} NaN | a{x="1"} 6
 "#;
 
 fn labels_of(alloc: Global, text: &str) -> Result<Labels, Fail> {
@@ -130,6 +178,9 @@ fn holds(sign: &str, left: Num, right: Num) -> bool {
     let order = left.compare(right);
     match sign {
         ">" => order == Some(Ordering::Greater),
+        "<" => order == Some(Ordering::Less),
+        ">=" => matches!(order, Some(Ordering::Greater | Ordering::Equal)),
+        "<=" => matches!(order, Some(Ordering::Less | Ordering::Equal)),
         "==" => order == Some(Ordering::Equal),
         _ => order != Some(Ordering::Equal),
     }
@@ -139,7 +190,6 @@ fn value_of(sign: &str, is_bool: bool, left: Num, right: Num) -> Result<Option<N
     match sign {
         "+" => Ok(Some(left.add(right)?)),
         "-" => Ok(Some(left.sub(right)?)),
-        "*" => Ok(Some(left.mul(right)?)),
         "/" => Ok(Some(left.div(right)?)),
         _ if is_bool => Ok(Some(Num::whole(if holds(sign, left, right) { 1 } else { 0 }))),
         _ if holds(sign, left, right) => Ok(Some(left)),
@@ -147,7 +197,28 @@ fn value_of(sign: &str, is_bool: bool, left: Num, right: Num) -> Result<Option<N
     }
 }
 
-fn joined(
+// A caller whose closure is an operator of the definitions.
+fn product(
+    alloc: Global,
+    left: &[Item<Num>],
+    right: &[Item<Num>],
+    how: &Matching,
+) -> Result<Vec<Item<Num>>, JoinFault>
+    ensures { MatchResult result
+        (λ v. joined how.now false times left.now right.now ≡ Ok v.items)
+        (λ e. IfSome (fault_told e) (λ fault. joined how.now false times left.now right.now ≡ Err fault)) }
+{
+    join(
+        alloc,
+        left,
+        right,
+        how,
+        false,
+        &|one: Num, other: Num| { Ok(Some(one.mul(other)?)) },
+    )
+}
+
+fn answered(
     alloc: Global,
     left: &[Item<Num>],
     words: &str,
@@ -156,11 +227,12 @@ fn joined(
 ) -> Result<Vec<Item<Num>>, JoinFault> {
     let (sign, rest) = words.split_once(" ").unwrap_or((words, ""));
     let is_bool = rest.starts_with("bool");
-    let keep_name = !is_bool && matches!(sign, ">" | "==" | "!=");
+    let keep_name = !is_bool && !matches!(sign, "+" | "-" | "*" | "/");
     match sign {
         "and" => Ok(and(alloc, left, right, how)?),
         "or" => Ok(or(alloc, left, right, how)?),
         "unless" => Ok(unless(alloc, left, right, how)?),
+        "*" => product(alloc, left, right, how),
         _ => join(
             alloc,
             left,
@@ -209,7 +281,7 @@ fn write_answer(
 #[test]
 fn vectors_are_joined(rt: HostRuntime) -> Result<(), Fail> {
     let alloc = rt.alloc();
-    assert_eq!(rt; TABLE.lines().count(), 44);
+    assert_eq!(rt; TABLE.lines().count(), 87);
     for line in TABLE.lines() {
         let (left, rest) = line.split_once(" | ").ok_or("no left side")?;
         let (words, rest) = rest.split_once(" | ").ok_or("no operator")?;
@@ -218,7 +290,7 @@ fn vectors_are_joined(rt: HostRuntime) -> Result<(), Fail> {
         let right = vector_of(alloc, right)?;
         let how = matching_of(alloc, words)?;
         let mut text = Vec::new(alloc);
-        write_answer(&mut text, &joined(alloc, &left, words, &right, &how))?;
+        write_answer(&mut text, &answered(alloc, &left, words, &right, &how))?;
         assert!(rt; text.as_slice() == want.as_bytes(), "{line}");
     }
     Ok(())
