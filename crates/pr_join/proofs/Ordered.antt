@@ -1,33 +1,28 @@
 -- The answers are in label order.
-use Rattle.std.proofs.Common.{◌≡◌, Bool, List, [], Result, Ok, Err, IfOk, MatchResult, sym, subst}
-use Rattle.std.specs.Option.{option_or}
+use Rattle.std.proofs.Common.{◌≡◌, List, [], ◌∷◌, Result, Ok, Err, IfOk, sym, subst}
+use Rattle.std.proofs.lemmas.Map.Keys.{sorted_head, sorted_tail}
+use Rattle.std.specs.List.{AllByRecursion}
+use Rattle.std.specs.List.Sorted.{IsStrictlySortedBy}
+use Rattle.std.specs.Map.{keys_of}
+use Rattle.std.specs.declared.cmp.Ordering.TheVariants.{Less}
 use Rattle.pr_num.specs.declared.value.Num.{Num}
+use Rattle.pr_labels.specs.declared.pair.Pair.{Pair}
 use Rattle.pr_labels.specs.declared.item.Item.{Item}
-use Rattle.pr_labels.specs.declared.matching.Matching.{Matching}
-use Rattle.pr_meaning.specs.declared.match_fault.MatchFault.{MatchFault}
-use Rattle.pr_meaning.specs.Matching.{Operator, fault_after, items_of, joined, kept, many_side, one_side, outcomes_of, side_fault}
-use Rattle.pr_meaning.specs.Vectors.{IsVector, in_order}
-use Rattle.pr_meaning.proofs.Vectors.{vector_in_order, vector_unless}
+use Rattle.pr_labels.specs.Order.{labels_cmp}
+use Rattle.pr_labels.specs.Rising.{IsBelowFirstSet}
+use Rattle.pr_meaning.specs.Vectors.{IsVector, label_sets}
+use Rattle.pr_join.specs.Rows.{elements_in}
 
 -- what equals a vector is one
 pub still_vector : {V E : Type 0} (r : Result V E) (items : V → List (Item Num)) (xs : List (Item Num)) → IsVector xs → IfOk r (λ v. items v ≡ xs) → IfOk r (λ v. IsVector (items v))
 still_vector (Ok v) items xs h e = subst (λ (ys : List (Item Num)). IsVector ys) (sym e) h
 still_vector (Err x) items xs h e = tt
 
-joined_vector : (how : Matching) (keep_name : Bool) (f : Operator) (left right : List (Item Num)) → IfOk (joined how keep_name f left right) IsVector
-joined_vector how keep_name f left right =
-    let manys = many_side how.card left right in
-    let ones = one_side how.card left right in
-    let outcomes = outcomes_of how keep_name f manys ones in
-    vector_unless (option_or (side_fault how manys ones) (fault_after how.card [] outcomes)) (in_order (items_of (kept outcomes))) (vector_in_order (items_of (kept outcomes)))
+-- the elements of a map whose keys are in order
+first_below : (labels : List Pair) (entries : List (List Pair × Num)) → AllByRecursion (λ q. labels_cmp labels q ≡ Less) (keys_of entries) → IsBelowFirstSet labels (label_sets (elements_in entries))
+first_below labels [] h = tt
+first_below labels (e ∷ es) h = h.0
 
-vector_of : {V E : Type 0} (r : Result V E) (items : V → List (Item Num)) (answer : Result (List (Item Num)) MatchFault) (P : E → Type 0) → IfOk answer IsVector
-    → MatchResult r (λ v. answer ≡ Ok (items v)) P → IfOk r (λ v. IsVector (items v))
-vector_of (Ok v) items answer P h e = subst (λ (a : Result (List (Item Num)) MatchFault). IfOk a IsVector) e h
-vector_of (Err x) items answer P h e = tt
-
--- what is joined is one
-pub join_vector : {V E : Type 0} (r : Result V E) (items : V → List (Item Num)) (P : E → Type 0) (how : Matching) (keep_name : Bool) (f : Operator) (left right : List (Item Num))
-    → MatchResult r (λ v. joined how keep_name f left right ≡ Ok (items v)) P → IfOk r (λ v. IsVector (items v))
-join_vector r items P how keep_name f left right h =
-    vector_of r items (joined how keep_name f left right) P (joined_vector how keep_name f left right) h
+pub sorted_vector : (entries : List (List Pair × Num)) → IsStrictlySortedBy labels_cmp (keys_of entries) → IsVector (elements_in entries)
+sorted_vector [] h = tt
+sorted_vector (e ∷ es) h = (first_below e.0 es (sorted_head labels_cmp e.0 (keys_of es) h), sorted_vector es (sorted_tail labels_cmp e.0 (keys_of es) h))

@@ -1,6 +1,8 @@
 // Arithmetic and comparisons between two vectors.
-ghost use Rattle.std.specs.Prelude.{◌≡◌, ◌≢◌, List, [], ◌∷◌, find, Ok, Err, Some, None, IfOk, IfSome, MatchResult};
+ghost use Rattle.std.specs.Prelude.{◌≡◌, ◌≢◌, List, [], ◌∷◌, find, Ok, Err, Some, None, IfOk, IfSome, MatchResult, OnOk};
 ghost use Rattle.pr_join.specs.declared.join_fault.JoinFault.TheVariants.{Memory};
+ghost use Rattle.std.specs.BTreeMap.{IsOrdered};
+ghost use Rattle.pr_labels.specs.Order.{labels_cmp};
 ghost use Rattle.pr_meaning.specs.Vectors.{IsVector};
 ghost use Rattle.pr_meaning.specs.Matching.{Operator, Kept, worked, paired, outcome, fault_after, key_of, outcomes_of, joined, joined_sides};
 ghost use Rattle.pr_join.specs.Faults.{fault_told};
@@ -46,9 +48,10 @@ fn join_pair<O: Fn(Num, Num) -> Result<Option<Num>, TooWide>>(
 ) -> Result<(), JoinFault>
     requires callable { O.IsAlwaysCallable op.now }
     requires key { key ≡ key_of how.now many.now }
-    ensures { (f : Operator) (before : List Kept) → AnswersBy O.Fn op.now f → HasKept how.now.card before rows.old → MatchResult result
+    ensures taken { (f : Operator) (before : List Kept) → AnswersBy O.Fn op.now f → HasKept how.now.card before rows.old → MatchResult result
         (λ _. IsTaken how.now.card before (outcome how.now keep_name f (paired many.now one.now) ∷ []) rows.new)
         (λ e. e ≢ Memory → fault_after how.now.card before (outcome how.now keep_name f (paired many.now one.now) ∷ []) ≡ fault_told e) }
+    ensures ordered { IsOrdered labels_cmp rows.old.items → OnOk result (IsOrdered labels_cmp rows.new.items) }
 {
     match worked(how.card, op, many, one) {
         Err(_) => Err(JoinFault::TooWide),
@@ -74,9 +77,10 @@ fn join_one<O: Fn(Num, Num) -> Result<Option<Num>, TooWide>>(
     requires callable { O.IsAlwaysCallable op.now }
     requires index { IsIndexOf how.now ones.now ones.now places.now }
     requires unshared { find is_flagged places.now.entries ≡ None }
-    ensures { (f : Operator) (before : List Kept) → AnswersBy O.Fn op.now f → HasKept how.now.card before rows.old → MatchResult result
+    ensures taken { (f : Operator) (before : List Kept) → AnswersBy O.Fn op.now f → HasKept how.now.card before rows.old → MatchResult result
         (λ _. IsTaken how.now.card before (outcomes_with how.now keep_name f ones.now many.now) rows.new)
         (λ e. e ≢ Memory → fault_after how.now.card before (outcomes_with how.now keep_name f ones.now many.now) ≡ fault_told e) }
+    ensures ordered { IsOrdered labels_cmp rows.old.items → OnOk result (IsOrdered labels_cmp rows.new.items) }
 {
     let key = key_of(alloc, how, many)?;
     match first_with(how, ones, places, &key) {
@@ -98,9 +102,10 @@ fn join_all<O: Fn(Num, Num) -> Result<Option<Num>, TooWide>>(
     requires callable { O.IsAlwaysCallable op.now }
     requires index { IsIndexOf how.now ones.now ones.now places.now }
     requires unshared { find is_flagged places.now.entries ≡ None }
-    ensures { (f : Operator) → AnswersBy O.Fn op.now f → MatchResult result
+    ensures taken { (f : Operator) → AnswersBy O.Fn op.now f → MatchResult result
         (IsTaken how.now.card [] (outcomes_of how.now keep_name f manys.now ones.now))
         (λ e. e ≢ Memory → fault_after how.now.card [] (outcomes_of how.now keep_name f manys.now ones.now) ≡ fault_told e) }
+    ensures ordered { IfOk result (λ rows. IsOrdered labels_cmp rows.items) }
 {
     let mut rows = no_rows(alloc);
     for many in manys {
@@ -121,9 +126,10 @@ fn join_sides<O: Fn(Num, Num) -> Result<Option<Num>, TooWide>>(
     ones: &[Item<Num>],
 ) -> Result<Vec<Item<Num>>, JoinFault>
     requires { O.IsAlwaysCallable op.now }
-    ensures { (f : Operator) → AnswersBy O.Fn op.now f → MatchResult result
+    ensures joined { (f : Operator) → AnswersBy O.Fn op.now f → MatchResult result
         (λ v. joined_sides how.now keep_name f manys.now ones.now ≡ Ok v.items)
         (λ e. IfSome (fault_told e) (λ fault. joined_sides how.now keep_name f manys.now ones.now ≡ Err fault)) }
+    ensures vector { IfOk result (λ v. IsVector v.items) }
 {
     if manys.is_empty() {
         return Ok(Vec::new(alloc));
@@ -160,7 +166,7 @@ pub fn join<O: Fn(Num, Num) -> Result<Option<Num>, TooWide>>(
     ensures joined { (f : Operator) → AnswersBy O.Fn op.now f → MatchResult result
         (λ v. joined how.now keep_name f left.now right.now ≡ Ok v.items)
         (λ e. IfSome (fault_told e) (λ fault. joined how.now keep_name f left.now right.now ≡ Err fault)) }
-    ensures vector { (f : Operator) → AnswersBy O.Fn op.now f → IfOk result (λ v. IsVector v.items) }
+    ensures vector { IfOk result (λ v. IsVector v.items) }
 {
     match how.card {
         Card::OneToMany => join_sides(alloc, how, keep_name, op, right, left),

@@ -1,10 +1,10 @@
 // The elements of a result, as pairs give them.
 ghost use Rattle.pr_labels.specs.declared.matching.Card.{Card};
 ghost use Rattle.std.specs.Prelude.{◌≡◌, ◌≢◌, List, [], ◌∷◌, ◌++◌, Some, None, Ok, IfOk, OnOk, MatchResult};
-ghost use Rattle.std.specs.BTreeMap.{Updates, insert_entry};
+ghost use Rattle.std.specs.BTreeMap.{IsOrdered, Updates, insert_entry};
 ghost use Rattle.pr_labels.specs.Order.{labels_cmp};
 ghost use Rattle.pr_join.specs.declared.join_fault.JoinFault.TheVariants.{Memory};
-ghost use Rattle.pr_meaning.specs.Vectors.{element};
+ghost use Rattle.pr_meaning.specs.Vectors.{IsVector, element};
 ghost use Rattle.pr_meaning.specs.Matching.{Kept, key_fault, labels_fault, pair_fault};
 ghost use Rattle.pr_join.specs.Faults.{fault_told};
 ghost use Rattle.pr_join.specs.Rows.{HasTaken, HasItems, HasKept, elements, is_one_to_one, kept_with};
@@ -24,7 +24,8 @@ pub struct Rows {
 
 /// No elements.
 pub fn no_rows(alloc: Global) -> Rows
-    ensures { (card : Card) → HasKept card [] result }
+    ensures kept { (card : Card) → HasKept card [] result }
+    ensures ordered { IsOrdered labels_cmp result.items }
 {
     Rows {
         items: BTreeMap::new(alloc),
@@ -40,6 +41,7 @@ pub fn put<V: Drop>(
 ) -> Result<(), AllocError>
     ensures entries { OnOk result (map.new.entries ≡ insert_entry labels_cmp map.old.entries labels value) }
     ensures updates { OnOk result (Updates labels_cmp map.old map.new labels (Some value)) }
+    ensures ordered { OnOk result (IsOrdered labels_cmp map.new) }
 {
     map.insert(labels, value)?;
     Ok(())
@@ -69,9 +71,10 @@ fn take_key(taken: &mut BTreeMap<Labels, ()>, card: Card, key: Labels) -> Result
 
 // Takes an element, whose labels may come once.
 fn take_item(items: &mut BTreeMap<Labels, Num>, labels: Labels, value: Num) -> Result<(), JoinFault>
-    ensures { (before : List Kept) (k : Kept) → k.item ≡ element labels value → HasItems before items.old → MatchResult result
+    ensures taken { (before : List Kept) (k : Kept) → k.item ≡ element labels value → HasItems before items.old → MatchResult result
         (λ _. (labels_fault before k ≡ None) × HasItems (before ++ k ∷ []) items.new)
         (λ e. e ≢ Memory → labels_fault before k ≡ fault_told e) }
+    ensures ordered { OnOk result (IsOrdered labels_cmp items.new) }
 {
     if items.contains_key(&labels) {
         return Err(JoinFault::NotUnique { labels });
@@ -88,9 +91,10 @@ pub fn take(
     labels: Labels,
     value: Num,
 ) -> Result<(), JoinFault>
-    ensures { (before : List Kept) (k : Kept) → k ≡ kept_with key labels value → HasKept card before rows.old → MatchResult result
+    ensures taken { (before : List Kept) (k : Kept) → k ≡ kept_with key labels value → HasKept card before rows.old → MatchResult result
         (λ _. (pair_fault card before (Ok (Some k)) ≡ None) × HasKept card (before ++ k ∷ []) rows.new)
         (λ e. e ≢ Memory → pair_fault card before (Ok (Some k)) ≡ fault_told e) }
+    ensures ordered { OnOk result (IsOrdered labels_cmp rows.new.items) }
 {
     take_key(&mut rows.taken, card, key)?;
     take_item(&mut rows.items, labels, value)
@@ -101,7 +105,8 @@ pub fn elements_of(
     alloc: Global,
     items: BTreeMap<Labels, Num>,
 ) -> Result<Vec<Item<Num>>, AllocError>
-    ensures { IfOk result (λ v. v.items ≡ elements items) }
+    ensures elements { IfOk result (λ v. v.items ≡ elements items) }
+    ensures vector { IsOrdered labels_cmp items → IfOk result (λ v. IsVector v.items) }
 {
     let mut elements = Vec::new(alloc);
     for (labels, value) in items {

@@ -3,24 +3,15 @@ use Rattle.pr_num.specs.declared.value.Num.{Num}
 use Rattle.pr_labels.specs.declared.item.Item.{Item}
 use Rattle.pr_meaning.specs.declared.match_fault.MatchFault.{MatchFault}
 use Rattle.pr_join.specs.Faults.{fault_told}
-use Rattle.pr_join.proofs.Ordered.{join_vector}
 use Rattle.pr_join.proofs.Pairing.{left_many, right_many}
 use Rattle.pr_join.proofs.joins.join.Goals as goal
 
 pub returns-in-OneToMany-clause-joined : goal.returns-in-OneToMany-clause-joined
 returns-in-OneToMany-clause-joined g c = λ f a.
     subst (λ (answer : Result (List (Item Num)) MatchFault). MatchResult c.join_sides.result (λ v. answer ≡ Ok v.items) (λ e. IfSome (fault_told e) (λ fault. answer ≡ Err fault)))
-    (right_many c.args.how.now c.args.keep_name f c.args.left.now c.args.right.now c.in-OneToMany.is) (c.join_sides.ensures f a)
-
-pub returns-in-OneToMany-clause-vector : goal.returns-in-OneToMany-clause-vector
-returns-in-OneToMany-clause-vector g c = λ f a.
-    join_vector c.join_sides.result (λ v. v.items) _ c.args.how.now c.args.keep_name f c.args.left.now c.args.right.now (returns-in-OneToMany-clause-joined g c f a)
+    (right_many c.args.how.now c.args.keep_name f c.args.left.now c.args.right.now c.in-OneToMany.is) (c.join_sides.ensures.joined f a)
 
 pub returns-in-OneToOne-clause-joined : goal.returns-in-OneToOne-clause-joined
 returns-in-OneToOne-clause-joined g c = λ f a.
     subst (λ (answer : Result (List (Item Num)) MatchFault). MatchResult c.join_sides-in-OneToOne.result (λ v. answer ≡ Ok v.items) (λ e. IfSome (fault_told e) (λ fault. answer ≡ Err fault)))
-    (left_many c.args.how.now c.args.keep_name f c.args.left.now c.args.right.now c.in-OneToOne.is) (c.join_sides-in-OneToOne.ensures f a)
-
-pub returns-in-OneToOne-clause-vector : goal.returns-in-OneToOne-clause-vector
-returns-in-OneToOne-clause-vector g c = λ f a.
-    join_vector c.join_sides-in-OneToOne.result (λ v. v.items) _ c.args.how.now c.args.keep_name f c.args.left.now c.args.right.now (returns-in-OneToOne-clause-joined g c f a)
+    (left_many c.args.how.now c.args.keep_name f c.args.left.now c.args.right.now c.in-OneToOne.is) (c.join_sides-in-OneToOne.ensures.joined f a)

@@ -19,7 +19,7 @@ returns-clause-items c =
     ∙ ap (λ (xs : List (Item Num)). fold with_element (fold with_element [] left) xs) c.deref.ensures.value
     ∙ sym (fold-append with_element [] left c.in_ok-others.others.items)
     ∙ ap (λ (xs : List (Item Num)). fold with_element [] (left ++ xs)) c.in_ok-others.ensures in
-    subst (λ (xs : List (Item Num)). IfOk c.elements_of.result (λ v. v.items ≡ xs)) whole c.elements_of.ensures
+    subst (λ (xs : List (Item Num)). IfOk c.elements_of.result (λ v. v.items ≡ xs)) whole c.elements_of.ensures.elements
 
 pub returns-clause-vector : goal.returns-clause-vector
 returns-clause-vector c =
