@@ -1,9 +1,9 @@
 -- The ways of a reader through sequences that begin with a single token, as its functions take them.
 use Rattle.std.proofs.Common.{◌≡◌, Option, List, true, false, refl, Result, Ok, Err, sym, subst}
 use Rattle.std.specs.Result.{MatchResult, IsErrAnd}
-use Rattle.pr_forms.specs.Form.{Form, token, pair, either, turns, fold, rule}
+use Rattle.pr_forms.specs.Form.{Form, token, pair, either}
 use Rattle.pr_forms.specs.Table.{Table}
-use Rattle.pr_forms.specs.Run.{Runs, Outcome, good, bad, run_pair, run_first, run_second, run_left, run_right, run_turn, run_in_turn, run_stop, run_fold, run_base, run_rule, Takes, Lacks, Leads}
+use Rattle.pr_forms.specs.Run.{Runs, Outcome, good, bad, run_pair, run_first, run_second, run_left, run_right, run_fold, run_base, run_rule, Takes, Lacks}
 use Rattle.pr_forms.specs.Reader.{FailsBy}
 use Rattle.pr_forms.specs.declared.reader.Fault.{Fault}
 use Rattle.pr_forms.specs.declared.reader.Fault.TheVariants.{Bad, Memory}
@@ -42,35 +42,6 @@ module _ {T N V : Type 0} {G : N → Form T N V} {S : Table T N} where
   pub no_pair : {c : V → V → V} {p : T → Option V} {f : Form T N V} {ts : List T} → Lacks G S (token p) ts → Runs G S (pair c (token p) f) ts (bad ts)
   no_pair h = run_first h.gives
 
-  -- a loop over turns that each begin with a token: its start, a turn, a turn that fails, and its end
-  pub loop_begins : {c : V → V → V} {f g : Form T N V} {ts mid : List T} {v : V} → Runs G S f ts (good v mid) → Leads G S (fold c f g) ts (turns c v g) mid
-  loop_begins h = record { gives = λ o k. run_fold h k }
-
-  pub loop_of_rule : {n : N} {f : Form T N V} {ts mid : List T} → Leads G S (G n) ts f mid → Leads G S (rule n) ts f mid
-  loop_of_rule h = record { gives = λ o k. run_rule (h.gives o k) }
-
-  pub loop_goes_on : {c d : V → V → V} {v w x : V} {p : T → Option V} {f g : Form T N V} {ts at mid rest : List T} →
-      Leads G S f ts (turns c v (pair d (token p) g)) at → Takes G S (token p) at w mid → Runs G S g mid (good x rest) →
-      Leads G S f ts (turns c (c v (d w x)) (pair d (token p) g)) rest
-  loop_goes_on {d = d} {p = p} {g = g} {at = at} l h k = record { gives = λ o i. l.gives o (run_turn (next_pair S d (token p) g at true refl h.next) (run_pair h.gives k) i) }
-
-  pub loop_fails : {c d : V → V → V} {v w : V} {p : T → Option V} {f g : Form T N V} {ts at mid rest : List T} →
-      Leads G S f ts (turns c v (pair d (token p) g)) at → Takes G S (token p) at w mid → Runs G S g mid (bad rest) → Runs G S f ts (bad rest)
-  loop_fails {d = d} {p = p} {g = g} {at = at} l h k = l.gives _ (run_in_turn (next_pair S d (token p) g at true refl h.next) (run_second h.gives k))
-
-  pub loop_ends : {c d : V → V → V} {v : V} {p : T → Option V} {f g : Form T N V} {ts at : List T} →
-      Leads G S f ts (turns c v (pair d (token p) g)) at → Lacks G S (token p) at → Runs G S f ts (good v at)
-  loop_ends {d = d} {p = p} {g = g} {at = at} l h = l.gives _ (run_stop (next_pair S d (token p) g at false refl h.next))
-
-  -- the same for turns that are one token
-  pub token_goes_on : {c : V → V → V} {v w : V} {p : T → Option V} {f : Form T N V} {ts at rest : List T} →
-      Leads G S f ts (turns c v (token p)) at → Takes G S (token p) at w rest → Leads G S f ts (turns c (c v w) (token p)) rest
-  token_goes_on l h = record { gives = λ o i. l.gives o (run_turn h.next h.gives i) }
-
-  pub token_ends : {c : V → V → V} {v : V} {p : T → Option V} {f : Form T N V} {ts at : List T} →
-      Leads G S f ts (turns c v (token p)) at → Lacks G S (token p) at → Runs G S f ts (good v at)
-  token_ends l h = l.gives _ (run_stop h.next)
-
 -- what an exit by `?` gives: the callee's fault is the caller's
 module _ {A T N V : Type 0} (seen : List A → List T) (G : N → Form T N V) (S : Table T N) where
   pub fails : (f g : Form T N V) (ts us : List T) (e : Fault A) →
@@ -89,8 +60,5 @@ module _ {T N V : Type 0} {G : N → Form T N V} {S : Table T N} where
   pub value_is : {f : Form T N V} {ts rest : List T} (v w : V) → w ≡ v → Runs G S f ts (good v rest) → Runs G S f ts (good w rest)
   value_is {f} {ts} {rest} v w e h = subst (λ x. Runs G S f ts (good x rest)) (sym e) h
 
-  pub leads_value : {c : V → V → V} {f g : Form T N V} {ts rest : List T} (v w : V) → w ≡ v → Leads G S f ts (turns c v g) rest → Leads G S f ts (turns c w g) rest
-  leads_value {c} {f} {g} {ts} {rest} v w e h = subst (λ x. Leads G S f ts (turns c x g) rest) (sym e) h
-
 -- What closes many goals of a reader's functions, for `using(..)`.
-pub ruleset ways = (take_side, take_side_bad, other_side, one_side, no_side, take_pair, take_pair_bad, no_pair, loop_begins, loop_of_rule, loop_goes_on, loop_fails, loop_ends, token_goes_on, token_ends, run_rule, run_pair, run_first, run_second, run_left, run_right, run_fold, run_base)
+pub ruleset ways = (take_side, take_side_bad, other_side, one_side, no_side, take_pair, take_pair_bad, no_pair, run_rule, run_pair, run_first, run_second, run_left, run_right, run_fold, run_base)

@@ -54,7 +54,3 @@ pub record Takes {T N V : Type 0} (G : N → Form T N V) (S : Table T N) (f : Fo
 pub record Lacks {T N V : Type 0} (G : N → Form T N V) (S : Table T N) (f : Form T N V) (ts : List T) : Type 0 where
   pub gives : Runs G S f ts (bad ts)
   pub next : is_next S f ts ≡ false
-
--- What the second form gives at its tokens, the first one gives at its own: what a loop over turns keeps.
-pub record Leads {T N V : Type 0} (G : N → Form T N V) (S : Table T N) (f : Form T N V) (ts : List T) (g : Form T N V) (rest : List T) : Type 0 where
-  pub gives : (o : Outcome T V) → Runs G S g rest o → Runs G S f ts o

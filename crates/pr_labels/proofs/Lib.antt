@@ -10,3 +10,4 @@ pub mod Putting
 pub mod SetValues
 pub mod Sorted
 pub mod GoesOn
+pub mod KnownNames

@@ -137,13 +137,22 @@ impl Labels {
     pub fn copy(&self, alloc: Global) -> Result<Labels, AllocError>
         ensures { IfOk result (λ l. l ≡ self.now) }
     {
-        let mut pairs = Vec::new(alloc);
-        for pair in &self.pairs {
-            pairs.push(Pair {
-                name: pair.name.copy(alloc)?,
-                value: pair.value.copy(alloc)?,
-            })?;
-        }
-        Ok(Labels { pairs })
+        Ok(Labels {
+            pairs: copy_pairs(alloc, &self.pairs)?,
+        })
     }
+}
+
+// Other pairs with the same names and values.
+fn copy_pairs(alloc: Global, pairs: &[Pair]) -> Result<Vec<Pair>, AllocError>
+    ensures { IfOk result (λ v. v.items ≡ pairs.now) }
+{
+    let mut copies = Vec::new(alloc);
+    for pair in pairs {
+        copies.push(Pair {
+            name: pair.name.copy(alloc)?,
+            value: pair.value.copy(alloc)?,
+        })?;
+    }
+    Ok(copies)
 }

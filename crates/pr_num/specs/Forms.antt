@@ -1,5 +1,5 @@
 -- The form of a number text, as a grammar: a text for each choice of its parts.
-use Rattle.std.specs.Prelude.{◌≡◌, ℕ, ◌+◌, ◌<◌, ◌⊎◌, Bool, true, false, List, [], ◌∷◌, ◌++◌, length, codes}
+use Rattle.std.specs.Prelude.{◌≡◌, ℕ, ◌+◌, ◌<◌, ◌⊎◌, Bool, true, false, List, [], ◌++◌, length, codes}
 use Rattle.std.specs.List.{list_all}
 use Rattle.std.specs.Char.{is_ascii_digit}
 use Rattle.std.specs.Str.{str_eq_ignore_ascii_case}
@@ -13,8 +13,8 @@ pub data Sign : Type 0 where
 
 abbrev pub sign_text : Sign → List ℕ
 sign_text no_sign = []
-sign_text plus = 43 ∷ []
-sign_text minus = 45 ∷ []
+sign_text plus = codes "+"
+sign_text minus = codes "-"
 
 abbrev pub is_minus : Sign → Bool
 is_minus no_sign = false
@@ -28,7 +28,7 @@ pub data Fraction : Type 0 where
 
 abbrev pub fraction_part : Fraction → List ℕ
 fraction_part no_point = []
-fraction_part (point ds) = 46 ∷ ds
+fraction_part (point ds) = codes "." ++ ds
 
 abbrev pub decimals : Fraction → List ℕ
 decimals no_point = []
@@ -42,8 +42,8 @@ pub data Exponent : Type 0 where
 
 abbrev pub exponent_part : Exponent → List ℕ
 exponent_part no_exponent = []
-exponent_part (small_e s ds) = 101 ∷ (sign_text s ++ ds)
-exponent_part (capital_e s ds) = 69 ∷ (sign_text s ++ ds)
+exponent_part (small_e s ds) = codes "e" ++ (sign_text s ++ ds)
+exponent_part (capital_e s ds) = codes "E" ++ (sign_text s ++ ds)
 
 abbrev pub scale_part : Exponent → Scale
 scale_part no_exponent = record { divides = false; digits = [] }

@@ -1,36 +1,34 @@
 -- The names of found labels: what one more name does, and names that stand in the text.
-use Rattle.std.proofs.Common.{◌≡◌, ℕ, ◌≤◌, List, [], ◌∷◌, ◌++◌, Bool, true, false, cond, ◌||◌, length, refl, ap, sym, ◌∙◌, append_assoc, arith, length-append}
+use Rattle.std.proofs.Common.{◌≡◌, ℕ, ◌≤◌, List, [], ◌∷◌, ◌++◌, Bool, true, false, ◌||◌, length, refl, ap, sym, ◌∙◌, append_assoc, arith, length-append}
 use Rattle.std.proofs.lemmas.List.{map-append}
 use Rattle.std.proofs.lemmas.List.Folds.{list_any-append}
 use Rattle.std.specs.BTreeSet.{BTreeSet, Updates}
 use Rattle.std.specs.Borrow.{Bor}
-use Rattle.std.specs.Cmp.Lexicographic.{slice_cmp, texts_ties}
-use Rattle.std.specs.Ordering.{nat_cmp, is_eq}
+use Rattle.std.specs.Cmp.Lexicographic.{slice_cmp}
+use Rattle.std.specs.Ordering.{nat_cmp}
 use Rattle.std.specs.declared.cmp.Ordering.{Ordering}
 use Rattle.std.specs.Str.{bytes_eq}
 use Rattle.pr_labels.specs.declared.pair.Pair.{Pair}
+use Rattle.pr_labels.specs.Known.{knows}
+use Rattle.pr_labels.proofs.KnownNames.{more_known}
 use Rattle.pr_series.specs.declared.series.Part.{Part}
 use Rattle.pr_series.specs.SeriesGrammar.{is_named}
-use Rattle.pr_series.specs.SeriesReader.{knows, names_of, BeginsWith, GoesOn, name_over, name_more, IsPart}
+use Rattle.pr_series.specs.SeriesReader.{names_of, BeginsWith, GoesOn, name_over, name_more, IsPart}
 
 abbrev name_cmp : Bor (List ℕ) → Bor (List ℕ) → Ordering
 name_cmp x y = slice_cmp nat_cmp x.now y.now
 
-one_more : (new old : Bool) (b : Bool) → new ≡ cond b true old → new ≡ (old || (b || false))
-one_more new true true e = e
-one_more new false true e = e
-one_more new true false e = e
-one_more new false false e = e
+or_none : (a b : Bool) → (a || b) ≡ (a || (b || false))
+or_none true b = refl
+or_none false true = refl
+or_none false false = refl
 
 pub known_more : (old new : BTreeSet (Bor (List ℕ))) (key : Bor (List ℕ)) (pairs all : List Pair) (p : Pair) → Updates name_cmp old new key true → key.now ≡ p.name →
     ((name : List ℕ) → knows old name ≡ is_named name (names_of pairs)) → all ≡ pairs ++ p ∷ [] → (name : List ℕ) → knows new name ≡ is_named name (names_of all)
 known_more old new key pairs all p u e h i name =
-    let asked : Bor (List ℕ) = record { ref_ptr = (0, 0); now = name } in
-    let step : knows new name ≡ cond (is_eq (slice_cmp nat_cmp key.now name)) true (knows old name) = u.0 asked in
-    let tie : bytes_eq p.name name ≡ is_eq (slice_cmp nat_cmp key.now name) = texts_ties p.name name ∙ ap (λ n. is_eq (slice_cmp nat_cmp n name)) (sym e) in
-    let more : knows new name ≡ (knows old name || (is_eq (slice_cmp nat_cmp key.now name) || false)) = one_more (knows new name) (knows old name) (is_eq (slice_cmp nat_cmp key.now name)) step in
     let names : names_of all ≡ names_of pairs ++ p.name ∷ [] = ap names_of i ∙ map-append (λ q. q.name) pairs (p ∷ []) in
-    more ∙ (λ j. h name j || (sym tie j || false)) ∙ sym (ap (is_named name) names ∙ list_any-append (λ n. bytes_eq n name) (names_of pairs) (p.name ∷ []))
+    more_known old new key name u ∙ (λ j. h name j || bytes_eq (e j) name) ∙ or_none (is_named name (names_of pairs)) (bytes_eq p.name name)
+    ∙ sym (ap (is_named name) names ∙ list_any-append (λ n. bytes_eq n name) (names_of pairs) (p.name ∷ []))
 
 -- a name stands in the text before what follows it
 pub name_stands : (part : Part) (start text name rest : List ℕ) → GoesOn part start text name rest → start ++ text ≡ name ++ rest

@@ -1,9 +1,5 @@
 -- What the functions that read a series text say of themselves.
 use Rattle.std.specs.Prelude.{◌≡◌, ℕ, List, [], ◌∷◌, ◌++◌, Bool, true, false, map}
-use Rattle.std.specs.BTreeSet.{BTreeSet, contains_by}
-use Rattle.std.specs.Borrow.{Bor}
-use Rattle.std.specs.Cmp.Lexicographic.{slice_cmp}
-use Rattle.std.specs.Ordering.{nat_cmp}
 use Rattle.pr_forms.specs.Form.{Form, pair, rule}
 use Rattle.pr_forms.specs.Table.{is_next}
 use Rattle.pr_forms.specs.Run.{good, bad}
@@ -22,10 +18,6 @@ series = record { production = production; table = table; see = letter_of }
 
 abbrev pub names_of : List Pair → List (List ℕ)
 names_of = map (λ p. p.name)
-
--- whether a set of names has a name
-abbrev pub knows : BTreeSet (Bor (List ℕ)) → List ℕ → Bool
-knows names name = contains_by (λ n. slice_cmp nat_cmp name n.now) names
 
 -- The text begins with the name.
 pub record BeginsWith (text : List ℕ) (name : List ℕ) : Type 0 where

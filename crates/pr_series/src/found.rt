@@ -1,7 +1,8 @@
 // The labels that a reader has found.
 ghost use Rattle.std.specs.Prelude.{◌≡◌, ◌++◌, ◌∷◌, [], ℕ, List, IfOk};
 ghost use Rattle.pr_series.specs.SeriesGrammar.{is_named};
-ghost use Rattle.pr_series.specs.SeriesReader.{knows, names_of};
+ghost use Rattle.pr_series.specs.SeriesReader.{names_of};
+ghost use Rattle.pr_labels.specs.Known.{knows};
 
 use pr_labels::Pair;
 use std::alloc::{AllocError, Global};

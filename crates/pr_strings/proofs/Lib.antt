@@ -10,3 +10,4 @@ pub mod StringOpen
 pub mod StringAnswers
 pub mod WorkedStrings
 pub mod Characters
+pub mod EscapeDigits

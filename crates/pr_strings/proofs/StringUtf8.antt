@@ -48,7 +48,7 @@ small_byte b h = elim (cases_lt b 128) [ inl lt ↦ lt | inr ge ↦ absurd (h (h
 byte_of : Letter → ℕ
 byte_of (letter k b) = b
 
-seen_same : (xs ys : List ℕ) → seen xs ≡ seen ys → xs ≡ ys
+pub seen_same : (xs ys : List ℕ) → seen xs ≡ seen ys → xs ≡ ys
 seen_same [] [] e = refl
 seen_same [] (y ∷ ys) e = cc
 seen_same (x ∷ xs) [] e = cc

@@ -1,5 +1,9 @@
 -- What the digits of an escape write: a character, at most the limit.
-use Rattle.std.specs.Prelude.{◌≡◌, ℕ, ◌+◌, ◌*◌, ◌^◌, ◌<◌, ◌≤◌, ◌⊎◌}
+use Rattle.std.specs.Prelude.{◌≡◌, ℕ, ◌+◌, ◌*◌, ◌^◌, ◌<◌, ◌≤◌, ◌⊎◌, List, ◌++◌, length, encode_utf8}
+use Rattle.std.specs.Str.Parse.{AllDigits, digits_value}
+use Rattle.pr_forms.specs.Form.{rule, Reads}
+use Rattle.pr_strings.specs.declared.kind.Mark.{Mark}
+use Rattle.pr_strings.specs.Strings.{production, seen, content, Escape}
 
 -- the limits of escapes: the last character of one byte, and the last of all
 abbrev pub IsLimit : ℕ → Type 0
@@ -17,3 +21,17 @@ pub record CanBecomeCharacter (limit left number : ℕ) : Type 0 where
   pub below : value < number * 16 ^ left + 16 ^ left
   pub limited : value ≤ limit
   pub character : IsCharacter value
+
+-- What stands after the backslash before the rest means the bytes.
+abbrev pub IsEscape : Mark → List ℕ → List ℕ → List ℕ → Type 0
+IsEscape quote text bytes rest = Reads production (rule (Escape quote)) (seen text) (content bytes) (seen rest)
+
+-- The text begins with as many digits of base 16, and they write the number of a character at most the limit, whose bytes these are.
+pub record WritesCharacter (limit count : ℕ) (text bytes rest : List ℕ) : Type 0 where
+  pub digits : List ℕ
+  pub parts : text ≡ digits ++ rest
+  pub counted : length digits ≡ count
+  pub based : AllDigits 16 digits
+  pub limited : digits_value 16 digits ≤ limit
+  pub character : IsCharacter (digits_value 16 digits)
+  pub means : bytes ≡ encode_utf8 (digits_value 16 digits)

@@ -1,11 +1,12 @@
 //! The laws of strings, each as the contract of a function that does nothing.
-ghost use Rattle.std.specs.Prelude.{◌≡◌, ℕ, List, [], ◌++◌, ◌↔◌, Some, true};
+ghost use Rattle.std.specs.Prelude.{◌≡◌, ℕ, List, [], ◌++◌, ◌↔◌, Some, true, codes};
 ghost use Rattle.pr_forms.specs.Table.{IsDecided};
 ghost use Rattle.pr_forms.specs.Reading.{Ends};
 ghost use Rattle.pr_strings.specs.Quoted.{quoted_text};
 ghost use Rattle.pr_strings.specs.StringAnswer.{string_of, bad_string_place};
 ghost use Rattle.pr_strings.specs.Strings.{production, table, rank, steps, IsString, IsBadPlace, fits};
-ghost use Rattle.pr_strings.specs.Escapes.{IsLimit, CanBecomeCharacter};
+ghost use Rattle.pr_strings.specs.Escapes.{IsLimit, CanBecomeCharacter, IsEscape, WritesCharacter};
+ghost use Rattle.pr_strings.specs.declared.kind.Mark.{Mark};
 
 /// One byte ahead decides the grammar of strings: so a string is read in one way, and without going back. The grammar ends:
 /// so its reading is a function of the text.
@@ -30,4 +31,12 @@ pub fn strings_are_functions_of_their_texts()
 /// most the escape's limit. So the number that all of them write is one: with no digit left a number becomes itself alone.
 pub fn digits_go_on_while_a_character_can_come()
     ensures { (limit left number : ℕ) → IsLimit limit → (fits limit left number ≡ true) ↔ CanBecomeCharacter limit left number }
+{}
+
+/// The digits of an escape write its character: two after `x`, four after `u` and eight after `U`, whose number is that of a
+/// character, up to the last one of one byte after `x`. The escape means the bytes of that character in UTF-8.
+pub fn digits_of_an_escape_write_its_character()
+    ensures small { (quote : Mark) (text bytes rest : List ℕ) → IsEscape quote (codes "x" ++ text) bytes rest ↔ WritesCharacter 0x7F 2 text bytes rest }
+    ensures short { (quote : Mark) (text bytes rest : List ℕ) → IsEscape quote (codes "u" ++ text) bytes rest ↔ WritesCharacter 0x10FFFF 4 text bytes rest }
+    ensures long { (quote : Mark) (text bytes rest : List ℕ) → IsEscape quote (codes "U" ++ text) bytes rest ↔ WritesCharacter 0x10FFFF 8 text bytes rest }
 {}

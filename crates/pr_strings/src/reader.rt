@@ -219,7 +219,7 @@ fn numbering_in(text: &[u8]) -> Option<((u32, u32), &[u8])>
 /// The number with the digit at the front after it, where a character can still come with `left` digits more, and what
 /// follows the digit.
 fn digit_in(limit: u32, left: u32, number: u32, text: &[u8]) -> Option<(u32, &[u8])>
-    requires limited { limit ≤ 1114111 }
+    requires limited { limit ≤ 0x10FFFF }
     requires few { left ≤ 7 }
     requires able { number ≤ limit }
     ensures read { MatchOption result (Gives text_strings (rule (Digits limit (suc left) number)) text.now (bad (seen text.now)))
