@@ -2,6 +2,7 @@ pub mod Reader
 pub mod Faults
 pub mod Whole
 pub mod Deep
+pub mod Open
 pub mod DeepReader
 pub mod Derived
 pub mod Parsed

@@ -1,0 +1,4 @@
+pub mod Heights
+pub mod Added
+pub mod Bounded
+pub mod Again

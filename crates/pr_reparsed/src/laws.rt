@@ -1,0 +1,27 @@
+//! The laws of printing and parsing, each as the contract of a function that does nothing.
+ghost use Rattle.std.specs.Prelude.{◌≡◌, ◌≤◌, ℕ, List, Ok};
+ghost use Rattle.pr_lex.specs.declared.token.Token.{Token};
+ghost use Rattle.pr_lex.specs.Tokens.{HasTokens};
+ghost use Rattle.pr_ast.specs.Tree.{Tree};
+ghost use Rattle.pr_ast.specs.Places.{IsSameButPlaces};
+ghost use Rattle.pr_ast.specs.Print.{tree_text};
+ghost use Rattle.pr_grammar.specs.Seen.{seen_tokens};
+ghost use Rattle.pr_grammar.specs.Whole.{Derives};
+ghost use Rattle.pr_parse.specs.Parsed.{parsed, gives_tree};
+ghost use Rattle.pr_types.specs.declared.kind.ValueType.{ValueType};
+ghost use Rattle.pr_types.specs.Typed.{typed, checked};
+ghost use Rattle.pr_reparsed.specs.Nodes.{nodes};
+ghost use Rattle.pr_reparsed.specs.Shallow.{IsShallow};
+
+/// The printed text of a tree that was read from the tokens of a text is parsed as the same tree, but for places, unless it is too
+/// deep. (What is read may be too deep to be parsed itself, as where parentheses that mean nothing go away.)
+pub fn printed_trees_are_parsed_again()
+    ensures { (text : List ℕ) (tokens : List Token) (t : Tree) → HasTokens text tokens → Derives (seen_tokens tokens) t → IsShallow (tree_text t) →
+        (u : Tree) × ((parsed (tree_text t) ≡ gives_tree u) × IsSameButPlaces u t) }
+{}
+
+/// A tree that has a type is printed shallow where no path from its root has more than 34 nodes.
+pub fn typed_trees_of_34_nodes_are_printed_shallow()
+    ensures typed { (text : List ℕ) (tokens : List Token) (t : Tree) (v : ValueType) → HasTokens text tokens → Derives (seen_tokens tokens) t → typed t ≡ Ok v → nodes t ≤ 34 → IsShallow (tree_text t) }
+    ensures checked { (text : List ℕ) (tokens : List Token) (t : Tree) (v : ValueType) → HasTokens text tokens → Derives (seen_tokens tokens) t → checked t ≡ Ok v → nodes t ≤ 34 → IsShallow (tree_text t) }
+{}
