@@ -3,3 +3,5 @@ pub mod Newest
 pub mod Places
 pub mod Selecting
 pub mod Simulation
+pub mod Trimming
+pub mod Indexing

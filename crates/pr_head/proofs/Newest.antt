@@ -36,7 +36,7 @@ sample_is history labels s place k h =
     ap (λ b. cond b None (slice_get s.held (place - s.first))) not_below ∙ ap (λ l. slice_get l (place - s.first)) k.held ∙ drop_at s.first place (samples_of history labels) h
 
 -- times rise
-abbrev Rises : ℕ → List Timed → Type 0
+abbrev pub Rises : ℕ → List Timed → Type 0
 Rises t [] = Unit {0}
 Rises t (x ∷ xs) = (t ≤ x.time) × Rises x.time xs
 
@@ -56,7 +56,7 @@ rises_entries t (e ∷ es) up low = (
       omega arith),
 )
 
-rising_samples : (labels : List Pair) (history : List Entry) → IsLawful history → Rises 0 (samples_of history labels)
+pub rising_samples : (labels : List Pair) (history : List Entry) → IsLawful history → Rises 0 (samples_of history labels)
 rising_samples labels history lawful = rises_entries 0 (entries_of labels history) (times_rise history labels lawful) (λ p. omega arith)
 
 -- a time that is too old for a moment, or is one of its five minutes
@@ -145,7 +145,7 @@ recent_first x (y ∷ ys) h = by (is_until x y.time) refl (is_recent x y.time) r
   by false e false f rest = rest
 
 -- the samples until a moment come first
-none_later : (y : ℤ) (s : ℕ) (zs : List Timed) → Rises s zs → is_until y s ≡ false → filter (λ z. is_until y z.time) zs ≡ []
+pub none_later : (y : ℤ) (s : ℕ) (zs : List Timed) → Rises s zs → is_until y s ≡ false → filter (λ z. is_until y z.time) zs ≡ []
 none_later y s [] r e = refl
 none_later y s (z ∷ zs) r e = by (is_until y z.time) refl (none_later y z.time zs r.1) where
   by : (b : Bool) → is_until y z.time ≡ b → (is_until y z.time ≡ false → filter (λ w. is_until y w.time) zs ≡ []) → cond b (z ∷ filter (λ w. is_until y w.time) zs) (filter (λ w. is_until y w.time) zs) ≡ []
@@ -179,7 +179,7 @@ last_recent x labels = of_entries (λ h. option_map timed (recent_entry h x labe
           one false f = rest ∙ ap (λ b. cond b (Some (timed e)) (find (λ t. is_recent x t.time) (reverse (samples_of h labels)))) (sym f)
     by false k r f = rest ∙ ap (λ l. find (λ t. is_recent x t.time) (reverse l)) (sym (samples_other labels h e (apart_from e.labels labels k)))
 
-until_is : (history : List Entry) (labels : List Pair) (y : ℤ) → entries_until history labels y ≡ length (filter (λ t. is_until y t.time) (samples_of history labels))
+pub until_is : (history : List Entry) (labels : List Pair) (y : ℤ) → entries_until history labels y ≡ length (filter (λ t. is_until y t.time) (samples_of history labels))
 until_is [] labels y = refl
 until_is (e ∷ history) labels y = by (is_of labels e) (is_until y e.time) refl (until_is history labels y) where
   by : (b u : Bool) → is_until y e.time ≡ u → entries_until history labels y ≡ length (filter (λ t. is_until y t.time) (samples_of history labels))

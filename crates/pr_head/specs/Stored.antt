@@ -1,5 +1,5 @@
 -- What is held of a series.
-use Rattle.std.specs.Prelude.{ℕ, zero, suc, ℤ, ◌+◌, ◌-◌, ◌≤◌, nat_lt, cond, ◌==◌, List, [], ◌∷◌, ◌++◌, length, slice_get, find, reverse, Option, None}
+use Rattle.std.specs.Prelude.{ℕ, zero, suc, ℤ, ◌+◌, ◌-◌, ◌≤◌, nat_lt, cond, ◌==◌, List, [], ◌∷◌, ◌++◌, length, slice_get, filter, find, map, reverse, Option, None}
 use Rattle.std.specs.List.{position_or_len, All}
 use Rattle.std.specs.List.Sorted.{IsNonDecreasingBy}
 use Rattle.pr_num.specs.declared.value.Point.{Point}
@@ -58,3 +58,14 @@ begun x = stored 0 (x ∷ []) x
 
 abbrev pub after_push : Stored → Timed → Stored
 after_push s x = stored s.first (s.held ++ x ∷ []) x
+
+-- a series of which the samples at or before a moment are forgotten: the later ones are held, and the last stays
+abbrev pub held_after : Stored → ℤ → List Timed
+held_after s before = filter (λ x. is_after before x.time) s.held
+
+abbrev pub after_trim : Stored → ℤ → Stored
+after_trim s before = stored (s.first + (length s.held - length (held_after s before))) (held_after s before) s.last
+
+-- the series of a head, each of them so
+abbrev pub trimmed : {A : Type 0} → ℤ → List (A × Stored) → List (A × Stored)
+trimmed before head = map (λ e. (e.0, after_trim e.1 before)) head

@@ -1,13 +1,14 @@
 mod select;
 
+use crate::names::Names;
 use crate::series::Series;
 use crate::timed::Timed;
 use indexmap::IndexMap;
 use pr_history::Append;
-use pr_labels::Labels;
+use pr_labels::{Labels, METRIC_LABEL};
 use pr_num::Point;
 use pr_time::Ms;
-use pr_words::Steps;
+use pr_words::{Steps, Text};
 use std::alloc::{AllocError, Global};
 use std::marker::Model;
 use std::sync::ledger::Ledger;
@@ -16,6 +17,7 @@ use std::sync::ledger::Ledger;
 #[derive(Drop)]
 pub struct Head {
     series: IndexMap<Labels, Series>,
+    names: Names,
     alloc: Global,
 }
 
@@ -27,18 +29,31 @@ impl Model for Head {
     ghost Value = { List (List Pair × Stored) };
 
     ghost view = { λ h. h.series.entries };
+
+    ghost use Rattle.pr_head.specs.Holds.{sets_of};
+    ghost use Rattle.pr_head.specs.Names.{IsIndexed};
+
+    ghost invariant = { λ h. IsIndexed h.names (sets_of h.series.entries) };
 }
 
-ghost use Rattle.std.specs.Prelude.{◌≡◌, ◌+◌, ◌<◌, ◌++◌, ◌∷◌, [], ℤ, length, slice_get, List, Some, None, IfOk, IfSome, IfNone, OnOk, OnErr, option_and_then};
+ghost use Rattle.std.specs.Prelude.{◌≡◌, ◌+◌, ◌<◌, ◌≤ℤ◌, ◌++◌, ◌∷◌, [], ℤ, length, slice_get, List, Some, None, IfOk, IfSome, IfNone, OnOk, OnErr, option_and_then};
 ghost use Rattle.std.specs.Map.{lookup};
 ghost use Rattle.std.specs.Option.{option_copied, option_map};
 ghost use Rattle.indexmap.specs.IndexMap.{set_value_at};
 ghost use Rattle.pr_labels.specs.declared.pair.Pair.{Pair};
+ghost use Rattle.pr_labels.specs.LabelSet.{metric_label, text_at};
 ghost use Rattle.pr_labels.specs.Order.{labels_eq};
 ghost use Rattle.pr_history.specs.declared.entry.Entry.{Entry};
-ghost use Rattle.pr_history.specs.Admission.{admit, put};
-ghost use Rattle.pr_head.specs.Stored.{Stored, admitted, after_push, begun, count_of, newest_at, position_of, sample_at};
+ghost use Rattle.pr_history.specs.Admission.{admit, put, IsLawful};
+ghost use Rattle.pr_head.specs.Stored.{Stored, admitted, after_push, begun, count_of, newest_at, position_of, sample_at, trimmed};
 ghost use Rattle.pr_head.specs.Holds.{entry_of, sets_of, Holds, IsWhole};
+
+// The metric's name, empty where the set has none.
+fn name_of(alloc: Global, labels: &Labels) -> Result<Text, AllocError>
+    ensures { IfOk result (λ name. name ≡ text_at labels.now metric_label) }
+{
+    Text::from_str(alloc, labels.get(METRIC_LABEL).unwrap_or(""))
+}
 
 impl Head {
     /// No series yet: it stands for the empty history, of which nothing is forgotten.
@@ -49,6 +64,7 @@ impl Head {
     {
         Head {
             series: IndexMap::new(alloc),
+            names: Names::new(alloc),
             alloc,
         }
     }
@@ -160,6 +176,9 @@ impl Head {
         ensures err { OnErr result (self.new ≡ self.old) }
     {
         let series = Series::begin(self.alloc, sample)?;
+        let name = name_of(self.alloc, &labels)?;
+        self.series.reserve(1)?;
+        self.names.add(name, self.series.len())?;
         self.series.insert(labels, series)?;
         Ok(())
     }
@@ -220,6 +239,20 @@ impl Head {
                 self.add(labels.copy(self.alloc)?, &sample)?;
                 Ok(Append::Added)
             }
+        }
+    }
+
+    /// Forgets the samples at or before a time. Each series keeps its labels, its count, its last time and its last point,
+    /// so that an old sample is refused as before. Takes no memory. (Own choice: what no query can see is forgotten.)
+    pub fn trim(&mut self, before: i64)
+        ensures later { self.new ≡ trimmed before self.old }
+        ensures holds { (history : List Entry) → Holds self.old history → Holds self.new history }
+        // Nothing above the greater of the two moments is forgotten then.
+        ensures whole { (history : List Entry) (x y : ℤ) → IsLawful history → Holds self.old history → IsWhole self.old history x
+            → x ≤ℤ y → before ≤ℤ y → IsWhole self.new history y }
+    {
+        'trimming: for series in 0..self.series.len() {
+            self.series[series].trim(before);
         }
     }
 }

@@ -3,6 +3,7 @@
 
 mod head;
 mod laws;
+mod names;
 mod series;
 #[cfg(test)]
 mod tests;

@@ -1,21 +1,22 @@
 // The samples of one series.
-ghost use Rattle.std.specs.Prelude.{◌≡◌, ◌+◌, ◌<◌, ◌≤◌, length, slice_get, IfOk, OnOk, OnErr};
+ghost use Rattle.std.specs.Prelude.{◌≡◌, ◌+◌, ◌<◌, ◌≤◌, drop, length, slice_get, IfOk, OnOk, OnErr};
+ghost use Rattle.std.specs.List.Sorted.{IsNonDecreasingBy};
 ghost use Rattle.pr_history.specs.Lookback.{is_until};
-ghost use Rattle.pr_head.specs.Stored.{admitted, after_push, begun, count_of, held_before, newest_at, position_of, sample_at};
+ghost use Rattle.pr_head.specs.Stored.{admitted, after_push, after_trim, begun, count_of, held_before, newest_at, position_of, sample_at};
 
 use crate::timed::Timed;
 use pr_history::Append;
 use pr_num::{Num, Point};
 use pr_time::Ms;
-use pr_words::Items;
 use std::alloc::{AllocError, Global};
+use std::collections::VecDeque;
 use std::marker::Model;
 
 /// The samples of a series that are held, how many came before them, and the last of all. Contracts see these three.
 #[derive(Drop)]
 pub(crate) struct Series {
     first: u64,
-    samples: Items<Timed>,
+    samples: VecDeque<Timed>,
     last_time: Ms,
     last_point: Point,
 }
@@ -25,9 +26,18 @@ impl Model for Series {
 
     ghost Value = { Stored };
 
-    ghost view = { λ s. stored s.first s.samples (timed_at s.last_time s.last_point) };
+    ghost view = { λ s. stored s.first s.samples.items (timed_at s.last_time s.last_point) };
 
-    ghost invariant = { λ s. IsStored (stored s.first s.samples (timed_at s.last_time s.last_point)) };
+    ghost invariant = { λ s. IsStored (stored s.first s.samples.items (timed_at s.last_time s.last_point)) };
+}
+
+// Takes the first samples away.
+fn drop_first(samples: &mut VecDeque<Timed>, count: usize)
+    ensures { samples.new.items ≡ drop count samples.old.items }
+{
+    for _ in 0..count {
+        let _sample = samples.pop_front();
+    }
 }
 
 fn is_until(time: i64, at: Ms) -> bool
@@ -41,8 +51,8 @@ impl Series {
     pub(crate) fn begin(alloc: Global, sample: &Timed) -> Result<Series, AllocError>
         ensures { IfOk result (λ s. s ≡ begun sample.now) }
     {
-        let mut samples = Items::empty(alloc);
-        samples.push(sample.copy())?;
+        let mut samples = VecDeque::new(alloc);
+        samples.push_back(sample.copy())?;
         Ok(Series {
             first: 0,
             samples,
@@ -56,7 +66,7 @@ impl Series {
         ensures { result ≡ count_of self.now }
     {
         let _newest = self.last_time.get();
-        self.first + self.samples.as_slice().len() as u64
+        self.first + self.samples.len() as u64
     }
 
     /// How many came before those that are held.
@@ -80,7 +90,7 @@ impl Series {
     fn held(&self, index: usize) -> Option<Timed>
         ensures { result ≡ slice_get self.now.held index }
     {
-        match self.samples.as_slice().get(index) {
+        match self.samples.get(index) {
             Some(sample) => Some(sample.copy()),
             None => None,
         }
@@ -116,7 +126,7 @@ impl Series {
         ensures err { OnErr result (self.new ≡ self.old) }
     {
         let _value: Option<Num> = sample.number();
-        self.samples.push(sample.copy())?;
+        self.samples.push_back(sample.copy())?;
         self.last_time = sample.time;
         self.last_point = sample.point;
         Ok(())
@@ -128,9 +138,7 @@ impl Series {
         ensures held { result ≤ length self.now.held }
         ensures newest { newest_at self.now time ≡ held_before self.now.held result }
     {
-        self.samples
-            .as_slice()
-            .partition_point(|s| is_until(time, s.time))
+        self.samples.partition_point(|s| is_until(time, s.time))
     }
 
     /// The place of the first held sample above a time, or the count.
@@ -150,5 +158,15 @@ impl Series {
             return None;
         }
         self.held(until - 1)
+    }
+
+    /// Forgets the samples at or before a time; the last time and point stay. Takes no memory.
+    pub(crate) fn trim(&mut self, before: i64)
+        ensures trimmed { self.new ≡ after_trim self.old before }
+        ensures rising { IsNonDecreasingBy (λ x. x.time) self.old.held }
+    {
+        let gone = self.until(before);
+        self.first += gone as u64;
+        drop_first(&mut self.samples, gone);
     }
 }

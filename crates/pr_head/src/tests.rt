@@ -120,6 +120,26 @@ fn places_are_found(rt: HostRuntime) -> Result<(), Fail> {
     Ok(())
 }
 
+#[test]
+fn old_samples_are_forgotten(rt: HostRuntime) -> Result<(), Fail> {
+    let alloc = rt.alloc();
+    let mut head = filled(alloc)?;
+    head.trim(-1);
+    assert_eq!(rt; head.first(0), Some(0));
+    head.trim(0);
+    for (series, first, count) in [(0, 1, 2), (1, 1, 1), (2, 1, 2)] {
+        assert_eq!(rt; head.first(series), Some(first), "{series}");
+        assert_eq!(rt; head.count(series), Some(count), "{series}");
+    }
+    let old = added(alloc, &mut head, ("a", "2"), 0, 9)?;
+    assert_eq!(rt; old, "conflict");
+    let later = added(alloc, &mut head, ("a", "2"), 1, 9)?;
+    assert_eq!(rt; later, "added");
+    assert_eq!(rt; head.position(1, 0), Some(1));
+    assert_eq!(rt; head.position(1, 1), Some(2));
+    Ok(())
+}
+
 /// The minute of a sample, where there is one.
 fn minute_of(sample: Option<Timed>) -> Option<u64> {
     match sample {

@@ -1,15 +1,18 @@
 // The series that a selector chooses.
 ghost use Rattle.std.specs.Prelude.{◌≡◌, ◌<◌, ◌++◌, ◌∷◌, [], filter, length, map, List, IfOk, OnOk};
 ghost use Rattle.std.specs.List.{All, IsDistinct};
-ghost use Rattle.pr_labels.specs.LabelSet.{text_at};
+ghost use Rattle.std.specs.Option.{option_copied};
+ghost use Rattle.pr_labels.specs.LabelSet.{metric_label, text_at, value_of};
 ghost use Rattle.pr_labels.specs.Order.{labels_cmp, labels_eq};
 ghost use Rattle.pr_labels.specs.Rising.{IsRising};
 ghost use Rattle.pr_history.specs.declared.entry.Entry.{Entry};
 ghost use Rattle.pr_history.specs.Series.{chosen, has_values};
 ghost use Rattle.pr_head.specs.Holds.{arrivals, chosen_of, labels_at, sets_of, Holds};
+ghost use Rattle.pr_head.specs.Names.{is_named};
 
 use crate::head::Head;
-use pr_labels::{Labels, Pair};
+use pr_labels::{Labels, METRIC_LABEL, Pair};
+use pr_words::Text;
 use std::alloc::AllocError;
 use std::cmp::Ordering;
 
@@ -30,6 +33,18 @@ fn has_values(equal: &[Pair], labels: &Labels) -> bool
         }
     }
     true
+}
+
+// The metric's name that is asked for, where one is.
+fn asked_name(equal: &[Pair]) -> Option<&Text>
+    ensures { option_copied result ≡ value_of equal.now metric_label }
+{
+    for pair in equal {
+        if pair.name.as_str() == METRIC_LABEL {
+            return Some(&pair.value);
+        }
+    }
+    None
 }
 
 impl Head {
@@ -80,11 +95,23 @@ impl Head {
         Ok(())
     }
 
-    // The series that have all these labels, in order of arrival. No two series have the same labels.
-    fn matching(&self, equal: &[Pair]) -> Result<Vec<usize>, AllocError>
+    // Those of these series that have all these labels.
+    fn matching_of(&self, equal: &[Pair], series: &[usize]) -> Result<Vec<usize>, AllocError>
+        requires { All (λ i. i < length self.now) series.now }
+        ensures known { IfOk result (λ v. All (λ i. i < length self.now) v.items) }
+        ensures sets { IfOk result (λ v. map (labels_at (sets_of self.now)) v.items ≡ filter (has_values equal.now) (map (labels_at (sets_of self.now)) series.now)) }
+    {
+        let mut places = Vec::new(self.alloc);
+        for place in series {
+            self.push_matching(equal, &mut places, *place)?;
+        }
+        Ok(places)
+    }
+
+    // Those of all series that have all these labels.
+    fn matching_all(&self, equal: &[Pair]) -> Result<Vec<usize>, AllocError>
         ensures known { IfOk result (λ v. All (λ i. i < length self.now) v.items) }
         ensures sets { IfOk result (λ v. map (labels_at (sets_of self.now)) v.items ≡ filter (has_values equal.now) (sets_of self.now)) }
-        ensures once { IsDistinct labels_eq (sets_of self.now) }
     {
         let mut places = Vec::new(self.alloc);
         for series in 0..self.series.len() {
@@ -93,9 +120,30 @@ impl Head {
         Ok(places)
     }
 
+    // The series that have a metric's name.
+    fn named(&self, name: &Text) -> &[usize]
+        ensures known { All (λ i. i < length self.now) result.now }
+        ensures sets { map (labels_at (sets_of self.now)) result.now ≡ filter (is_named name.now) (sets_of self.now) }
+    {
+        self.names.places(name)
+    }
+
+    // The series that have all these labels, in order of arrival. No two series have the same labels.
+    fn matching(&self, equal: &[Pair]) -> Result<Vec<usize>, AllocError>
+        ensures known { IfOk result (λ v. All (λ i. i < length self.now) v.items) }
+        ensures sets { IfOk result (λ v. map (labels_at (sets_of self.now)) v.items ≡ filter (has_values equal.now) (sets_of self.now)) }
+        ensures once { IsDistinct labels_eq (sets_of self.now) }
+    {
+        let _series = self.series.len();
+        match asked_name(equal) {
+            Some(name) => self.matching_of(equal, self.named(name)),
+            None => self.matching_all(equal),
+        }
+    }
+
     /// The series that have all these labels, in label order, no two with the same labels. An empty value asks for series
-    /// without the label. (Prometheus: Querying, Basics, Instant vector selectors.) The work is that of asking each series,
-    /// and of a sort of those that are chosen.
+    /// without the label. (Prometheus: Querying, Basics, Instant vector selectors.) The work is that of asking each series
+    /// of the metric's name, or each series where none is asked for, and of a sort of those that are chosen.
     pub fn select(&self, equal: &[Pair]) -> Result<Vec<usize>, AllocError>
         ensures known { IfOk result (λ v. All (λ i. i < length self.now) v.items) }
         ensures in_order { IfOk result (λ v. IsRising (map (labels_at (sets_of self.now)) v.items)) }

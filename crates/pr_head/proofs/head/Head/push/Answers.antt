@@ -3,7 +3,8 @@ use Rattle.std.specs.List.{slice_get}
 use Rattle.indexmap.specs.IndexMap.{set_value_at}
 use Rattle.std.specs.declared.result.Result.TheVariants.{Ok, Err}
 use Rattle.pr_head.specs.Stored.{after_push}
-use Rattle.pr_head.proofs.Simulation.{value_at, value_same, written_same}
+use Rattle.pr_head.specs.Names.{IsIndexed}
+use Rattle.pr_head.proofs.Simulation.{sets_written, value_at, value_same, written_same}
 use Rattle.pr_head.proofs.head.Head.push.Goals as goal
 
 on_err : {T E : Type 0} (r : Result T E) (P : Type 0) → P → OnErr r P
@@ -27,3 +28,10 @@ returns-clause-ok c = λ e at.
     ap (set_value_at c.self.inside.series.entries c.args.series) (c.in_ok-push.ensures.ok
     ∙ ap (λ s. after_push s c.args.sample.now) (sym (value_same c.self.inside.series.entries c.args.series c.index_mut.result.now e c.index_mut.ensures.value there)))
     ∙ ap (λ h. set_value_at h c.args.series (after_push e.1 c.args.sample.now)) c.self.view_is
+
+-- no labels have changed
+pub invariant_of-self : goal.invariant_of-self
+invariant_of-self c = subst (IsIndexed c.self.inside.names) (sym (sets_written c.self.inside.series.entries c.args.series c.push.new.self)) c.self.invariant
+
+pub invariant_of-self-2 : goal.invariant_of-self-2
+invariant_of-self-2 c = subst (IsIndexed c.self.inside.names) (sym (sets_written c.self.inside.series.entries c.args.series c.push.new.self)) c.self.invariant
