@@ -1,1 +1,5 @@
 pub mod Vectors
+pub mod Aggregation
+mod FunctionComputing
+pub mod FunctionAnswers
+pub mod ValueOrder

@@ -1,0 +1,15 @@
+pub mod Gathering
+pub mod Finishing
+pub mod Totaling
+pub mod Ranking
+pub mod RanksOf
+pub mod Seen
+pub mod Marking
+pub mod Counting
+pub mod Sorting
+pub mod Known
+pub mod Gathered
+pub mod LabelMaps
+pub mod Answered
+pub mod Extremes
+pub mod Folded

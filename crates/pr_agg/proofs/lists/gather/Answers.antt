@@ -1,0 +1,28 @@
+use Rattle.std.proofs.Common.{◌≡◌, ◌+◌, ◌<◌, ap, sym, ◌∙◌, subst, List, [], ◌∷◌, ◌++◌, take, length, arith, Some, refl}
+use Rattle.std.proofs.lemmas.List.{take_more}
+use Rattle.std.specs.BTreeMap.{Updates, get, keys}
+use Rattle.pr_num.specs.declared.value.Num.{Num}
+use Rattle.pr_labels.specs.declared.pair.Pair.{Pair}
+use Rattle.pr_labels.specs.declared.item.Item.{Item}
+use Rattle.pr_labels.specs.Order.{labels_cmp}
+use Rattle.pr_labels.specs.Rising.{with_labels}
+use Rattle.pr_meaning.specs.Aggregation.{group_of}
+use Rattle.pr_window.specs.Folding.{with_next}
+use Rattle.pr_agg.specs.Lists.{alone, one_after_other}
+use Rattle.pr_agg.proofs.Gathering.{parts_known}
+use Rattle.pr_agg.proofs.lists.gather.Goals as goal
+
+pub loop-item-preserved : goal.loop-item-preserved
+loop-item-preserved c =
+    let vector = c.args.vector.now in
+    let i = c.loop-item.item-index in
+    let x = c.item-item.result in
+    let m = c.loop-item.parts in
+    let n = c.add_value.new.parts in
+    let within : i < length vector = omega arith in
+    let more : take (i + 1) vector ≡ take i vector ++ x ∷ [] = take_more vector i x within ∙ ap (λ (y : Item Num). take i vector ++ y ∷ []) (sym c.item-item.is) in
+    let group : c.in_ok-group.group ≡ group_of c.args.by.now x = c.in_ok-group.ensures in
+    rw more (parts_known alone one_after_other (group_of c.args.by.now) (take i vector) x m n (with_next alone one_after_other (get labels_cmp m (group_of c.args.by.now x)) x.value) refl
+    (subst (λ (k : List Pair). keys n ≡ with_labels (keys m) k) group c.in_ok-add_value.ensures.known)
+    (subst (λ (k : List Pair). Updates labels_cmp m n k (Some (with_next alone one_after_other (get labels_cmp m k) x.value))) group c.in_ok-add_value.ensures.updates)
+    c.in_ok-add_value.ensures.ordered c.loop-item.invariant)

@@ -1,0 +1,19 @@
+use Rattle.std.proofs.Common.{IfOk, subst}
+use Rattle.pr_meaning.specs.Aggregation.{aggregated, always, quantile_of_values}
+use Rattle.pr_meaning.specs.Vectors.{IsVector}
+use Rattle.pr_meaning.proofs.Aggregation.{aggregated_is_vector}
+use Rattle.pr_agg.specs.Lists.{quantiles_in}
+use Rattle.pr_agg.proofs.Answered.{as_answered, still_vector}
+use Rattle.pr_agg.proofs.Gathered.{quantiles_are}
+use Rattle.pr_agg.proofs.lists.quantile.Goals as goal
+
+pub returns-clause-aggregated : goal.returns-clause-aggregated
+returns-clause-aggregated c =
+    as_answered (λ v. v.items) c.quantiles.result (aggregated (always (quantile_of_values c.args.phi)) c.args.by.now c.args.vector.now) (quantiles_in c.args.phi c.in_ok-parts.parts.entries)
+    (quantiles_are c.args.phi c.args.by.now c.args.vector.now c.in_ok-parts.parts c.in_ok-parts.ensures) c.quantiles.ensures
+
+pub returns-clause-vector : goal.returns-clause-vector
+returns-clause-vector c =
+    still_vector (λ v. v.items) c.quantiles.result (quantiles_in c.args.phi c.in_ok-parts.parts.entries)
+    (subst (λ r. IfOk r IsVector) (quantiles_are c.args.phi c.args.by.now c.args.vector.now c.in_ok-parts.parts c.in_ok-parts.ensures) (aggregated_is_vector (always (quantile_of_values c.args.phi)) c.args.by.now c.args.vector.now))
+    c.quantiles.ensures

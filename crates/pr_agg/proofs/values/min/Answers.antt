@@ -1,0 +1,23 @@
+use Rattle.std.proofs.Common.{rules, Ok, ◌≡◌}
+use Rattle.pr_meaning.specs.Aggregation.{aggregated, always, least_of_values}
+use Rattle.pr_meaning.specs.Vectors.{IsVector}
+use Rattle.pr_agg.specs.Extremes.{itself, lesser}
+use Rattle.pr_agg.specs.Finished.{value_finished}
+use Rattle.pr_agg.specs.Parts.{fold_and_finish}
+use Rattle.pr_agg.proofs.Answered.{always_answered, carried}
+use Rattle.pr_agg.proofs.Folded.{least_folded}
+use Rattle.pr_agg.proofs.values.min.Goals as goal
+
+pub never_wide-requires : goal.never_wide-requires
+never_wide-requires c =
+    (always_answered (λ v. v.items) c.group_fold-answer.result least_of_values (fold_and_finish itself lesser value_finished) c.args.by.now c.args.vector.now least_folded
+    (c.group_fold-answer.ensures.aggregated value_finished (record { gives = λ a r k. search rules }))).narrow
+
+pub returns-clause-aggregated : goal.returns-clause-aggregated
+returns-clause-aggregated c =
+    carried (λ v. v.items) c.never_wide.result c.group_fold-answer.result (λ xs. aggregated (always least_of_values) c.args.by.now c.args.vector.now ≡ Ok xs) c.never_wide.ensures
+    (always_answered (λ v. v.items) c.group_fold-answer.result least_of_values (fold_and_finish itself lesser value_finished) c.args.by.now c.args.vector.now least_folded
+    (c.group_fold-answer.ensures.aggregated value_finished (record { gives = λ a r k. search rules }))).value
+
+pub returns-clause-vector : goal.returns-clause-vector
+returns-clause-vector c = carried (λ v. v.items) c.never_wide.result c.group_fold-answer.result (λ xs. IsVector xs) c.never_wide.ensures c.group_fold-answer.ensures.vector

@@ -1,0 +1,26 @@
+//! Aggregations of a vector by labels. A call equals its definition in `pr_meaning`, which speaks of the
+//! filters of the vector; the parts are gathered in an ordered map, so that the work grows with the elements
+//! and not with the groups.
+#![tactic(auto)]
+
+mod counts;
+mod fault;
+mod firsts;
+mod folds;
+mod laws;
+mod lists;
+mod numbers;
+mod parts;
+#[cfg(test)]
+mod tests;
+mod values;
+
+pub use counts::count_values;
+pub use fault::AggFault;
+pub use firsts::{bottomk, topk};
+pub use folds::group_fold;
+pub use laws::folded_values_are_as_defined;
+pub use lists::quantile;
+pub use values::{
+    Counts, Greatest, Least, Presence, Totals, avg, count, greater, group, lesser, max, min, sum,
+};
