@@ -1,0 +1,42 @@
+-- A key that is there changes no keys.
+use Rattle.std.proofs.Common.{◌≡◌, Bool, true, false, ◌||◌, List, [], ◌∷◌, is_some, refl, sym, ap, ◌∙◌, subst}
+use Rattle.std.proofs.lemmas.Map.Keys.{sorted_head, sorted_tail}
+use Rattle.std.proofs.lemmas.Map.Made.{is_some-lookup}
+use Rattle.std.specs.List.{AllByRecursion, list_any}
+use Rattle.std.specs.List.Sorted.{IsStrictlySortedBy}
+use Rattle.std.specs.Ordering.{is_eq, match_ordering, ordering_reverse}
+use Rattle.std.specs.declared.cmp.Ordering.{Ordering}
+use Rattle.std.specs.declared.cmp.Ordering.TheVariants.{Less, Equal, Greater}
+use Rattle.std.specs.Map.{keys_of, lookup}
+use Rattle.std.specs.BTreeMap.{is_at}
+use Rattle.pr_labels.specs.declared.pair.Pair.{Pair}
+use Rattle.pr_labels.specs.Order.{labels_cmp}
+use Rattle.pr_labels.proofs.LabelOrder.{labels_total, tied}
+use Rattle.pr_fn.specs.Gathered.{with_key}
+
+equal_of : (o : Ordering) → is_eq o ≡ true → o ≡ Equal
+equal_of Less h = cc
+equal_of Equal h = refl
+equal_of Greater h = cc
+
+below_some : (x k : List Pair) (xs : List (List Pair)) → AllByRecursion (λ y. labels_cmp x y ≡ Less) xs → list_any (is_at (labels_cmp k)) xs ≡ true → labels_cmp x k ≡ Less
+below_some x k [] a h = cc
+below_some x k (y ∷ ys) a h = by_test (is_at (labels_cmp k) y) refl h (below_some x k ys a.1) where
+  by_test : (b : Bool) → is_at (labels_cmp k) y ≡ b → (b || list_any (is_at (labels_cmp k)) ys) ≡ true → (list_any (is_at (labels_cmp k)) ys ≡ true → labels_cmp x k ≡ Less) → labels_cmp x k ≡ Less
+  by_test true e g more = subst (λ (z : List Pair). labels_cmp x z ≡ Less) (sym (tied k y (equal_of (labels_cmp k y) e))) a.0
+  by_test false e g more = more g
+
+with_same : (sets : List (List Pair)) (k : List Pair) → IsStrictlySortedBy labels_cmp sets → list_any (is_at (labels_cmp k)) sets ≡ true → with_key labels_cmp sets k ≡ sets
+with_same [] k s h = cc
+with_same (x ∷ xs) k s h = by_order (labels_cmp k x) refl h (with_same xs k (sorted_tail labels_cmp x xs s)) where
+  by_order : (o : Ordering) → labels_cmp k x ≡ o → (is_at (labels_cmp k) x || list_any (is_at (labels_cmp k)) xs) ≡ true → (list_any (is_at (labels_cmp k)) xs ≡ true → with_key labels_cmp xs k ≡ xs) → match_ordering o (k ∷ x ∷ xs) (x ∷ xs) (x ∷ with_key labels_cmp xs k) ≡ x ∷ xs
+  by_order Less e g more =
+      let among : list_any (is_at (labels_cmp k)) xs ≡ true = ap (λ (o : Ordering). is_eq o || list_any (is_at (labels_cmp k)) xs) (sym e) ∙ g in
+      let above : labels_cmp x k ≡ Less = below_some x k xs (sorted_head labels_cmp x xs s) among in
+      let turned : labels_cmp k x ≡ Greater = labels_total.antisymm k x ∙ ap ordering_reverse above in
+      cc
+  by_order Equal e g more = refl
+  by_order Greater e g more = ap (λ (r : List (List Pair)). x ∷ r) (more (ap (λ (o : Ordering). is_eq o || list_any (is_at (labels_cmp k)) xs) (sym e) ∙ g))
+
+pub known_some : {V : Type 0} (es : List (List Pair × V)) (k : List Pair) → IsStrictlySortedBy labels_cmp (keys_of es) → is_some (lookup (is_at (labels_cmp k)) es) ≡ true → with_key labels_cmp (keys_of es) k ≡ keys_of es
+known_some es k s h = with_same (keys_of es) k s (sym (is_some-lookup (is_at (labels_cmp k)) es) ∙ h)

@@ -1,0 +1,12 @@
+-- Which fault of the definition a call tells.
+use Rattle.std.specs.Prelude.{Option, Some, None}
+use Rattle.pr_meaning.specs.declared.function_fault.FunctionFault.{FunctionFault}
+use Rattle.pr_meaning.specs.declared.function_fault.FunctionFault.TheVariants as fault
+use Rattle.pr_fn.specs.declared.fn_fault.FnFault.{FnFault}
+use Rattle.pr_fn.specs.declared.fn_fault.FnFault.TheVariants.{SameLabels, TooWide, Memory}
+
+-- want of memory tells nothing of the definition's answer
+abbrev pub fault_told : FnFault → Option FunctionFault
+fault_told (SameLabels labels) = Some (fault.SameLabels labels)
+fault_told TooWide = Some fault.TooWide
+fault_told Memory = None
