@@ -1,0 +1,15 @@
+pub mod Totals
+pub mod Extremes
+pub mod Neighbours
+pub mod Between
+pub mod Timeline
+pub mod Lawful
+pub mod Reading
+pub mod Fractions
+pub mod Losses
+pub mod Stretching
+pub mod Stretched
+pub mod Sums
+pub mod Spreads
+pub mod Slopes
+pub mod Rising

@@ -1,0 +1,35 @@
+-- Values of a range have rising times.
+use Rattle.std.proofs.Common.{◌≡◌, ◌<◌, ◌≤◌, ℤ, pos, ◌<ℤ◌, Bool, true, false, None, Result, Ok, List, [], ◌∷◌, length, refl, sym, ◌∙◌, arith}
+use Rattle.std.proofs.lemmas.Int.{ints}
+use Rattle.pr_history.specs.declared.spot.Spot.{Spot}
+use Rattle.pr_meaning.specs.Extrapolation.{last_two}
+use Rattle.pr_meaning.specs.Spots.{last_of, of_two}
+use Rattle.pr_num.specs.declared.value.Num.{Num}
+use Rattle.pr_num.specs.declared.value.TooWide.{TooWide}
+use Rattle.pr_range.specs.Spots.{AreWithin}
+
+pub within_long : (from to : ℤ) (first : Spot) (rest : List Spot) → AreWithin from to (first ∷ rest) → from <ℤ to
+within_long from to first rest h = let low = h.0 in let high = h.1 in omega (arith, ints)
+
+last_up : (to : ℤ) (first : Spot) (rest : List Spot) → AreWithin (pos first.time) to rest → first.time ≤ (last_of first rest).time
+last_up to first [] h = omega arith
+last_up to first (y ∷ ys) h = let low = h.0 in let more = last_up to y ys h.2 in omega (arith, ints)
+
+pub within_rising : (from to : ℤ) (first second : Spot) (rest : List Spot) → AreWithin from to (first ∷ second ∷ rest) → first.time < (last_of second rest).time
+within_rising from to first second rest h = let low = h.2.0 in let more = last_up to second rest h.2.2 in omega (arith, ints)
+
+pub within_last : (from to : ℤ) (first second : Spot) (rest : List Spot) → AreWithin from to (first ∷ second ∷ rest)
+    → (last_two first (second ∷ rest)).0.time < (last_two first (second ∷ rest)).1.time
+within_last from to first second [] h = let low = h.2.0 in omega (arith, ints)
+within_last from to first second (third ∷ rest) h = within_last (pos first.time) to second third rest h.2
+
+pub none_of_one : (formula : Spot → List Spot → Result Num TooWide) (first : Spot) (rest : List Spot) → length rest ≡ 0 → Ok None ≡ of_two formula first rest
+none_of_one formula first [] h = refl
+none_of_one formula first (y ∷ ys) h = absurd (omega arith)
+
+pub rising_all : {P : Type 0} (from to : ℤ) (first : Spot) (rest : List Spot) (b : Bool) → AreWithin from to (first ∷ rest) → (length rest ≡ 0 → ⊥) → b ≡ false
+    → (from <ℤ to → first.time < (last_of first rest).time → (last_two first rest).0.time < (last_two first rest).1.time → b ≡ true) → P
+rising_all from to first [] b h some not_so all = absurd (some refl)
+rising_all from to first (y ∷ ys) b h some not_so all =
+    let yes = all (within_long from to first (y ∷ ys) h) (within_rising from to first y ys h) (within_last from to first y ys h) in
+    absurd (cc (sym not_so ∙ yes))

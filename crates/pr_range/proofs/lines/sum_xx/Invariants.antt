@@ -1,0 +1,10 @@
+use Rattle.std.proofs.Common.{◌≡◌, ◌*◌, ◌^◌, ◌≤◌, take}
+use Rattle.pr_meaning.specs.Regression.{sum_xx}
+use Rattle.pr_range.proofs.lines.sum_xx.Given as goal
+
+-- the sum so far
+abbrev pub invariant-loop-spot : goal.invariant-loop-spot
+invariant-loop-spot l = record {
+  value : l.sum ≡ sum_xx l.first (take l.spot-index l.rest);
+  small : l.sum ≤ l.spot-index * 2 ^ 84;
+}

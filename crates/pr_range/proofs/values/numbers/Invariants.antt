@@ -1,0 +1,7 @@
+use Rattle.std.proofs.Common.{◌≡◌, ◌∷◌, take}
+use Rattle.pr_meaning.specs.Spots.{numbers_of}
+use Rattle.pr_range.proofs.values.numbers.Given as goal
+
+-- the values so far
+abbrev pub invariant-loop-spot : goal.invariant-loop-spot
+invariant-loop-spot l = l.numbers.items ≡ l.first.value ∷ numbers_of (take l.spot-index l.rest)

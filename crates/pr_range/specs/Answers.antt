@@ -1,0 +1,14 @@
+-- What a call answers of what is meant.
+use Rattle.std.specs.Prelude.{◌≡◌, Option, Result, Ok, Err}
+use Rattle.pr_num.specs.declared.value.Num.{Num}
+use Rattle.pr_meaning.specs.declared.range.AskFault.{AskFault}
+use Rattle.pr_meaning.specs.declared.range.AskFault.TheVariants as fault
+use Rattle.pr_range.specs.declared.fault.RangeFault.{RangeFault}
+use Rattle.pr_range.specs.declared.fault.RangeFault.TheVariants.{TooWide, RangeTooLong, Memory}
+
+-- The value or the fault is the one that is meant; want of memory tells nothing of it.
+abbrev pub Answers : Result (Option Num) AskFault → Result (Option Num) RangeFault → Type 0
+Answers meant (Ok value) = meant ≡ Ok value
+Answers meant (Err TooWide) = meant ≡ Err fault.TooWide
+Answers meant (Err (RangeTooLong have)) = meant ≡ Err (fault.RangeTooLong have)
+Answers meant (Err Memory) = Unit {0}

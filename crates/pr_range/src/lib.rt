@@ -1,0 +1,21 @@
+//! Functions of the values of a series in a range, asked of a head, and what may be kept from one question to the next.
+#![tactic(auto)]
+
+mod fault;
+mod gains;
+mod lines;
+mod over;
+mod plain;
+mod ranges;
+mod read;
+mod steps;
+#[cfg(test)]
+mod tests;
+mod values;
+
+pub use fault::RangeFault;
+pub use over::over_list;
+pub use plain::PlainRanges;
+pub use pr_history::Spot;
+pub use pr_meaning::{Ask, RangeFn};
+pub use ranges::Ranges;

@@ -1,0 +1,93 @@
+// Ranges that are read anew.
+ghost use Rattle.std.specs.Prelude.{◌≡◌, ◌≢◌, ◌<◌, ◌≤ℤ◌, ◌++◌, ◌∷◌, [], ℕ, List, Option, Some, None, Err, false, length, slice_get};
+ghost use Rattle.pr_labels.specs.declared.pair.Pair.{Pair};
+ghost use Rattle.pr_history.specs.declared.entry.Entry.{Entry};
+ghost use Rattle.pr_head.specs.Stored.{Stored, position_of};
+ghost use Rattle.pr_range.specs.Asks.{HasArgument, IsAnswer, MayAsk};
+
+use crate::fault::RangeFault;
+use crate::over::over_list;
+use crate::ranges::Ranges;
+use crate::read::push_between;
+use pr_head::Head;
+use pr_meaning::Ask;
+use pr_num::Num;
+use pr_words::Steps;
+use std::alloc::Global;
+use std::sync::ledger::Ledger;
+
+/// Ranges that are read from the head anew at each ask. Nothing is kept, so every ask may come.
+#[derive(Drop)]
+pub struct PlainRanges {
+    alloc: Global,
+}
+
+impl PlainRanges {
+    /// Nothing is kept.
+    pub fn new(alloc: Global) -> PlainRanges {
+        PlainRanges { alloc }
+    }
+}
+
+// The place of the first held sample of a series after a moment, or the count.
+fn place_after(head: &Head, series: usize, time: i64) -> u64
+    requires { series < length head.now }
+    ensures { (e : List Pair × Stored) → slice_get head.now series ≡ Some e → result ≡ position_of e.1 time }
+{
+    match head.position(series, time) {
+        Some(place) => place,
+        None => 0,
+    }
+}
+
+/// The function of the values of a series in a range, read from the head.
+fn ask_plainly<G: Ledger>(
+    alloc: Global,
+    head: &Head,
+    series: usize,
+    ask: &Ask,
+    reads: &mut Steps<G>,
+) -> Result<Option<Num>, RangeFault>
+    requires there { series < length head.now }
+    requires ordered { ask.now.from ≤ℤ ask.now.to }
+    requires argument { HasArgument ask.now }
+    ensures { (history : List Entry) (labels : List Pair) → MayAsk head.now history series labels ask.now → IsAnswer history labels ask.now 0 reads.old reads.new result }
+{
+    let Ask {
+        from: start,
+        to: end,
+        ..
+    } = *ask;
+    let from = place_after(head, series, start);
+    let to = place_after(head, series, end);
+    let mut spots = Vec::new(alloc);
+    match push_between(&mut spots, head, series, from, to, reads) {
+        Ok(()) => over_list(alloc, &spots, ask),
+        Err(_) => Err(RangeFault::Memory),
+    }
+}
+
+impl Ranges for PlainRanges {
+    ghost use Rattle.std.specs.Prelude.{false, None};
+
+    ghost keeps = { false };
+
+    ghost last = { λ _ k s. None };
+
+    ghost passed = { λ _ k s. 0 };
+
+    ghost fits = { λ _ history. Unit {0} };
+
+    fn ask<G: Ledger>(
+        &mut self,
+        head: &Head,
+        node: usize,
+        series: usize,
+        ask: &Ask,
+        reads: &mut Steps<G>,
+    ) -> Result<Option<Num>, RangeFault> {
+        ask_plainly(self.alloc, head, series, ask, reads)
+    }
+
+    ghost stays = { λ s history e lawful h. tt };
+}
