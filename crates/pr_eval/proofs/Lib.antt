@@ -1,0 +1,6 @@
+mod Choosing
+mod Reading
+mod Moments
+mod Operations
+mod Trees
+mod Answering

@@ -1,0 +1,4 @@
+pub mod Selecting
+pub mod Vectors
+pub mod Called
+pub mod Meanings

@@ -1,0 +1,14 @@
+pub mod Answers
+pub mod Operators
+pub mod Selection
+pub mod Operations
+pub mod Given
+pub mod Absence
+pub mod RangeCalls
+pub mod Calls
+pub mod Aggregations
+pub mod Subqueries
+pub mod Meaning
+pub mod Built
+pub mod Cost
+pub mod Examples

@@ -1,0 +1,20 @@
+// Laws of what expressions give.
+ghost use Rattle.std.specs.Prelude.{ℕ, ℤ, List, IfOk, map};
+ghost use Rattle.pr_history.specs.declared.entry.Entry.{Entry};
+ghost use Rattle.pr_ast.specs.declared.selector.Selector.{Selector};
+ghost use Rattle.pr_ast.specs.Tree.{Tree};
+ghost use Rattle.pr_labels.specs.Rising.{IsRising};
+ghost use Rattle.pr_query.specs.Answers.{IsAnswer};
+ghost use Rattle.pr_query.specs.Selection.{chosen_by, selected_spots};
+ghost use Rattle.pr_query.specs.Meaning.{meaning};
+
+/// The series that a selector chooses rise in label order, and so do those that it shows.
+pub fn chosen_series_are_in_label_order()
+    ensures chosen { (history : List Entry) (s : Selector) → IsRising (chosen_by s history) }
+    ensures shown { (history : List Entry) (s : Selector) (time : ℕ) → IsRising (map (λ e. e.labels) (selected_spots history s time)) }
+{}
+
+/// Whatever an expression gives, a vector is in label order with distinct label sets.
+pub fn answers_are_vectors()
+    ensures { (step : ℕ) (history : List Entry) (t : Tree) (time : ℕ) → IfOk (meaning step history t time) IsAnswer }
+{}

@@ -1,0 +1,17 @@
+//! What an expression of the query language gives at a moment, over a history: the model, of definitions alone.
+#![tactic(auto)]
+
+mod call_examples;
+mod examples;
+mod fault;
+mod laws;
+mod value;
+
+pub use call_examples::{functions_are_called, ranges_are_taken, vectors_are_aggregated};
+pub use examples::{
+    first_faults_have_their_places, operators_work_on_two_values, sets_are_joined_by_key,
+    signs_and_filters_of_vectors, vectors_are_matched, what_a_selector_shows,
+};
+pub use fault::{Fault, FaultKind};
+pub use laws::{answers_are_vectors, chosen_series_are_in_label_order};
+pub use value::Value;

@@ -1,0 +1,12 @@
+use pr_labels::Item;
+use pr_num::Num;
+use pr_words::Items;
+
+/// What an expression gives at a moment. (Prometheus: Querying basics, "Expression language data types".)
+#[derive(Debug, Drop)]
+pub enum Value {
+    /// A number.
+    Scalar { value: Num },
+    /// An instant vector: elements in label order, with distinct label sets.
+    Vector { items: Items<Item<Num>> },
+}
