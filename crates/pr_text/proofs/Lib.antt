@@ -1,3 +1,3 @@
 pub mod Utf8
 pub mod Computing
-pub mod Selectors
+pub mod Samples

@@ -1,8 +1,8 @@
 -- Whether bytes are a text, by what reading them answers.
-use Rattle.std.proofs.Common.{◌≡◌, ℕ, Bool, true, false, List, None, sym, refl}
+use Rattle.std.proofs.Common.{◌≡◌, ℕ, Bool, true, false, List, [], ◌∷◌, length, ◌==◌, Some, None, sym, refl}
 use Rattle.std.specs.Str.{IsUtf8, is_utf8}
 use Rattle.pr_series.specs.SeriesReading.{series_labels}
-use Rattle.pr_text.specs.Script.{series_of}
+use Rattle.pr_text.specs.Script.{expression_of, series_of}
 use Rattle.std.proofs.lemmas.Str.{IsUtf8-from_is_utf8, is_utf8-from_IsUtf8}
 
 pub is_text : (bytes : List ℕ) → IsUtf8 bytes → true ≡ is_utf8 bytes
@@ -21,3 +21,12 @@ text_series bytes h = rw (is_utf8-from_IsUtf8 bytes h) refl
 
 pub no_text_series : (bytes : List ℕ) → (IsUtf8 bytes → ⊥) → None ≡ series_of bytes
 no_text_series bytes n = rw (sym (not_text bytes n)) refl
+
+-- and an expression
+pub text_expression : (bytes : List ℕ) → (length bytes == 0) ≡ false → IsUtf8 bytes → Some bytes ≡ expression_of bytes
+text_expression [] some h = absurd cc
+text_expression (b ∷ bytes) some h = rw (is_utf8-from_IsUtf8 (b ∷ bytes) h) refl
+
+pub no_text_expression : (bytes : List ℕ) → (IsUtf8 bytes → ⊥) → None ≡ expression_of bytes
+no_text_expression [] n = refl
+no_text_expression (b ∷ bytes) n = rw (sym (not_text (b ∷ bytes) n)) refl

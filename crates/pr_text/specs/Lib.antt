@@ -1,4 +1,5 @@
 pub mod Answers
 pub mod Orders
+pub mod Kinds
 pub mod Printed
 pub mod Script

@@ -1,5 +1,5 @@
 -- The lines of a script, and the events that they spell.
-use Rattle.std.specs.Prelude.{ℕ, ◌^◌, Bool, false, not, ◌&&◌, ◌||◌, cond, ◌==◌, nat_lt, List, [], ◌∷◌, length, codes, Option, Some, None, is_some, Result, Ok, Err}
+use Rattle.std.specs.Prelude.{ℕ, ◌^◌, Bool, false, ◌&&◌, ◌||◌, cond, ◌==◌, List, [], ◌∷◌, length, codes, Option, Some, None, Result, Ok, Err}
 use Prim.Native.Char.{code}
 use Rattle.std.specs.Str.{bytes_eq, is_utf8}
 use Rattle.pr_num.specs.declared.value.Num.{Num}
@@ -8,10 +8,7 @@ use Rattle.pr_num.specs.declared.value.Point.TheVariants.{Value, Stale}
 use Rattle.pr_num.specs.declared.text.NumFault.{NumFault}
 use Rattle.pr_num.specs.Reads.{reads}
 use Rattle.pr_labels.specs.declared.pair.Pair.{Pair}
-use Rattle.pr_lex.specs.Words.{word_of}
-use Rattle.pr_labels.specs.LabelSet.{metric_label, value_of}
 use Rattle.pr_series.specs.SeriesReading.{series_labels}
-use Rattle.pr_labels.specs.SeriesText.{series_text}
 use Rattle.pr_words.specs.Decimals.{plain_decimal}
 use Rattle.pr_words.specs.Fields.{without_trailing, first_field, after_field, last_field, before_last_field}
 use Rattle.pr_world.specs.declared.event.Event.{Event}
@@ -42,26 +39,10 @@ point_of text = cond (bytes_eq text (codes "stale")) (Some Stale) (point_read (r
 abbrev pub series_of : List ℕ → Option (List Pair)
 series_of text = cond (is_utf8 text) (series_labels text) None
 
--- whether a metric's name, where there is one, is a word of the query language, in any case
-abbrev pub is_reserved : Option (List ℕ) → Bool
-is_reserved None = false
-is_reserved (Some name) = is_some (word_of name)
-
--- whether a label set can be asked for: it has labels, and its metric's name is no word
-abbrev pub can_be_asked : List Pair → Bool
-can_be_asked labels = nat_lt 0 (length labels) && not (is_reserved (value_of labels metric_label))
-
--- whether it is asked for by the text, which is as the set is printed
-abbrev pub is_selector : List ℕ → List Pair → Bool
-is_selector text labels = can_be_asked labels && bytes_eq (series_text labels) text
-
-abbrev pub selector_by : List ℕ → Option (List Pair) → Option (List Pair)
-selector_by text None = None
-selector_by text (Some labels) = cond (is_selector text labels) (Some labels) None
-
--- a selector: the labels that a series must have
-abbrev pub selector_of : List ℕ → Option (List Pair)
-selector_of text = selector_by text (series_of text)
+-- an expression: any text that is not empty
+abbrev pub expression_of : List ℕ → Option (List ℕ)
+expression_of [] = None
+expression_of (b ∷ bytes) = cond (is_utf8 (b ∷ bytes)) (Some (b ∷ bytes)) None
 
 -- an event, where each part of it can be read
 abbrev pub add_of : Option ℕ → Option (List Pair) → Option Point → Option Event
@@ -70,18 +51,18 @@ add_of (Some time) None point = None
 add_of (Some time) (Some labels) None = None
 add_of (Some time) (Some labels) (Some point) = Some (Add time labels point)
 
-abbrev pub query_of : Option ℕ → Option (List Pair) → Option Event
-query_of None equal = None
+abbrev pub query_of : Option ℕ → Option (List ℕ) → Option Event
+query_of None text = None
 query_of (Some time) None = None
-query_of (Some time) (Some equal) = Some (Query time equal)
+query_of (Some time) (Some text) = Some (Query time text)
 
 -- a time, a series, and a point, which is the last field
 abbrev pub add_in : List ℕ → Option Event
 add_in text = add_of (time_of (first_field text)) (series_of (before_last_field (after_field text))) (point_of (last_field (after_field text)))
 
--- a time, and a selector
+-- a time, and an expression
 abbrev pub query_in : List ℕ → Option Event
-query_in text = query_of (time_of (first_field text)) (selector_of (after_field text))
+query_in text = query_of (time_of (first_field text)) (expression_of (after_field text))
 
 -- the event that a word and what stands after it spell
 abbrev pub event_by : List ℕ → List ℕ → Option Event

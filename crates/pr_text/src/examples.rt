@@ -4,7 +4,13 @@ ghost use Rattle.std.specs.Str.{bytes_eq};
 ghost use Rattle.pr_num.specs.declared.value.Point.TheVariants.{Stale};
 ghost use Rattle.pr_history.specs.Examples.{m, job, number, whole};
 ghost use Rattle.pr_history.specs.Series.{item_of};
-ghost use Rattle.pr_world.specs.declared.report.Report.TheVariants.{Opened, Added, Same, OutOfOrder, Conflict, Vector, Backwards};
+ghost use Rattle.pr_world.specs.declared.report.Report.TheVariants.{Opened, Added, Same, OutOfOrder, Conflict, Scalar, Vector, QueryFault, QueryRefused, NotBuilt, Backwards};
+ghost use Rattle.pr_world.specs.declared.report.QueryKind.TheVariants.{Lex, Parse, Typing};
+ghost use Rattle.pr_lex.specs.declared.fault.LexKind.TheVariants as lex;
+ghost use Rattle.pr_parse.specs.declared.fault.ParseKind.TheVariants as parse;
+ghost use Rattle.pr_types.specs.declared.kind.TypeKind.TheVariants as typing;
+ghost use Rattle.pr_query.specs.declared.fault.FaultKind.TheVariants as fault;
+ghost use Rattle.pr_text.specs.Kinds.{fault_text, kind_text};
 ghost use Rattle.pr_text.specs.Orders.{blocks_by, orders_of};
 ghost use Rattle.pr_text.specs.Printed.{shown_report, bad_line_text};
 ghost use Rattle.pr_text.specs.declared.order.Order.TheVariants.{Bad};
@@ -29,18 +35,35 @@ pub fn lines_that_ask_for_nothing_are_counted()
         ≡ (record { number = 3; order = Bad }) ∷ (record { number = 4; order = Bad }) ∷ [] }
 {}
 
-/// What is written for each report, and for a line that spells no order.
+/// What is written for each report to line 70, and for a line that spells no order.
 #[tactic(auto, unfolding(crate::proofs::Computing::computing))]
 pub fn reports_are_written_so()
-    ensures opened { shown_report (Opened 12) ≡ codes "opened 12\n" }
-    ensures added { shown_report Added ≡ codes "added\n" }
-    ensures same { shown_report Same ≡ codes "same\n" }
-    ensures out_of_order { shown_report (OutOfOrder 5000) ≡ codes "dropped OutOfOrder 5000\n" }
-    ensures conflict { shown_report (Conflict (whole 1)) ≡ codes "dropped Conflict 1\n" }
-    ensures marker { shown_report (Conflict Stale) ≡ codes "dropped Conflict stale\n" }
-    ensures vector { shown_report (Vector (item_of m (number 1) ∷ item_of (job (codes "a")) (number 20) ∷ []))
+    ensures opened { shown_report 70 (Opened 12) ≡ codes "opened 12\n" }
+    ensures added { shown_report 70 Added ≡ codes "added\n" }
+    ensures same { shown_report 70 Same ≡ codes "same\n" }
+    ensures out_of_order { shown_report 70 (OutOfOrder 5000) ≡ codes "dropped OutOfOrder 5000\n" }
+    ensures conflict { shown_report 70 (Conflict (whole 1)) ≡ codes "dropped Conflict 1\n" }
+    ensures marker { shown_report 70 (Conflict Stale) ≡ codes "dropped Conflict stale\n" }
+    ensures scalar { shown_report 70 (Scalar (number 20)) ≡ codes "scalar 20\n" }
+    ensures vector { shown_report 70 (Vector (item_of m (number 1) ∷ item_of (job (codes "a")) (number 20) ∷ []))
         ≡ codes "vector 2\nvalue m 1\nvalue {job=\"a\"} 20\n" }
-    ensures nothing { shown_report (Vector []) ≡ codes "vector 0\n" }
-    ensures backwards { shown_report (Backwards 5000 4000) ≡ codes "backwards last 5000 given 4000\n" }
+    ensures nothing { shown_report 70 (Vector []) ≡ codes "vector 0\n" }
+    ensures fault { shown_report 70 (QueryFault 3 fault.TooWide) ≡ codes "fault TooWide at 3\n" }
+    ensures refused { shown_report 70 (QueryRefused 0 (Parse parse.UnknownFunction)) ≡ codes "refused UnknownFunction at 0\n" }
+    ensures unbuilt { shown_report 70 NotBuilt ≡ codes "bad line 70\n" }
+    ensures backwards { shown_report 70 (Backwards 5000 4000) ≡ codes "backwards last 5000 given 4000\n" }
     ensures bad_line { bad_line_text 70 ≡ codes "bad line 70\n" }
+{}
+
+/// A kind is written by its name and what it tells.
+#[tactic(auto, unfolding(crate::proofs::Computing::computing))]
+pub fn kinds_are_written_so()
+    ensures lexical { kind_text (Lex lex.SpanTooLong) ≡ codes "SpanTooLong" }
+    ensures arguments { kind_text (Typing (typing.Arguments 3 0 1)) ≡ codes "Arguments 3 0 1" }
+    ensures reach { kind_text (Typing (typing.Reach 3974400000 3888000000)) ≡ codes "Reach 3974400000 3888000000" }
+    ensures match_on_scalar { kind_text (Typing typing.MatchOnScalar) ≡ codes "MatchOnScalar" }
+    ensures key { fault_text (fault.ManyToMany (job (codes "a"))) ≡ codes "ManyToMany {job=\"a\"}" }
+    ensures labels { fault_text (fault.SameLabels m) ≡ codes "SameLabels m" }
+    ensures empty { fault_text (fault.NotUnique []) ≡ codes "NotUnique {}" }
+    ensures range { fault_text (fault.RangeTooLong 1048577) ≡ codes "RangeTooLong 1048577" }
 {}

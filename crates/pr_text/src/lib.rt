@@ -2,15 +2,17 @@
 #![tactic(auto)]
 
 mod examples;
+mod kinds;
 mod laws;
 mod order;
 mod printed;
 mod script;
 
 pub use examples::{
-    a_body_belongs_to_its_line, lines_that_ask_for_nothing_are_counted, reports_are_written_so,
+    a_body_belongs_to_its_line, kinds_are_written_so, lines_that_ask_for_nothing_are_counted,
+    reports_are_written_so,
 };
-pub use laws::samples_and_questions_have_label_sets;
+pub use laws::samples_have_label_sets;
 pub use order::{Numbered, Order, read_order};
 pub use printed::{push_bad_line, push_report};
 pub use script::is_passed_over;

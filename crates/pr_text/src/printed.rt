@@ -3,14 +3,16 @@ ghost use Rattle.std.specs.Prelude.{◌≡◌, ◌++◌, OnOk, decimal, flat_map
 ghost use Rattle.pr_num.specs.Shown.{shown};
 ghost use Rattle.pr_labels.specs.SeriesText.{series_text};
 ghost use Rattle.pr_text.specs.Answers.{dropped_conflict, dropped_out_of_order, backwards_last};
-ghost use Rattle.pr_text.specs.Printed.{shown_point, opened_text, out_of_order_text, conflict_text, item_text, vector_text, backwards_text, shown_report, bad_line_text};
+ghost use Rattle.pr_text.specs.Printed.{shown_point, opened_text, out_of_order_text, conflict_text, item_text, vector_text, backwards_text, scalar_text, place_text, query_fault_text, query_refused_text, shown_report, bad_line_text};
 
+use super::kinds::{push_fault_kind, push_query_kind};
 use itoa::Buffer;
 use pr_labels::Item;
 use pr_num::{Num, Point};
+use pr_query::FaultKind;
 use pr_time::Ms;
-use pr_world::Report;
-use std::alloc::{AllocError, Global};
+use pr_world::{QueryKind, Report};
+use std::alloc::AllocError;
 
 #[tactic(auto, unfolding(crate::specs::Answers::dropped_conflict))]
 fn push_dropped_conflict(text: &mut Vec<u8>) -> Result<(), AllocError>
@@ -33,7 +35,7 @@ fn push_backwards_last(text: &mut Vec<u8>) -> Result<(), AllocError>
     text.extend_from_slice(b"backwards last ")
 }
 
-fn push_number(text: &mut Vec<u8>, n: u64) -> Result<(), AllocError>
+pub(crate) fn push_number(text: &mut Vec<u8>, n: u64) -> Result<(), AllocError>
     ensures { OnOk result (text.new.items ≡ text.old.items ++ decimal n) }
 {
     let mut buffer = Buffer::new();
@@ -119,10 +121,42 @@ fn push_backwards(text: &mut Vec<u8>, last: Ms, given: Ms) -> Result<(), AllocEr
     text.extend_from_slice(b"\n")
 }
 
-/// Appends the lines of a report. Want of memory alone is an error.
+fn push_scalar(text: &mut Vec<u8>, value: Num) -> Result<(), AllocError>
+    ensures { OnOk result (text.new.items ≡ text.old.items ++ scalar_text value) }
+{
+    text.extend_from_slice(b"scalar ")?;
+    push_value(text, value)?;
+    text.extend_from_slice(b"\n")
+}
+
+fn push_place(text: &mut Vec<u8>, place: usize) -> Result<(), AllocError>
+    ensures { OnOk result (text.new.items ≡ text.old.items ++ place_text place) }
+{
+    text.extend_from_slice(b" at ")?;
+    push_number(text, place as u64)?;
+    text.extend_from_slice(b"\n")
+}
+
+fn push_query_fault(text: &mut Vec<u8>, place: usize, kind: &FaultKind) -> Result<(), AllocError>
+    ensures { OnOk result (text.new.items ≡ text.old.items ++ query_fault_text place kind.now) }
+{
+    text.extend_from_slice(b"fault ")?;
+    push_fault_kind(text, kind)?;
+    push_place(text, place)
+}
+
+fn push_query_refused(text: &mut Vec<u8>, place: usize, kind: QueryKind) -> Result<(), AllocError>
+    ensures { OnOk result (text.new.items ≡ text.old.items ++ query_refused_text place kind) }
+{
+    text.extend_from_slice(b"refused ")?;
+    push_query_kind(text, kind)?;
+    push_place(text, place)
+}
+
+/// Appends the lines of a report, which answers the line of this number. Want of memory alone is an error.
 #[tactic(auto, unfolding(crate::specs::Printed::shown_report))]
-pub fn push_report(alloc: Global, text: &mut Vec<u8>, report: &Report) -> Result<(), AllocError>
-    ensures { OnOk result (text.new.items ≡ text.old.items ++ shown_report report.now) }
+pub fn push_report(text: &mut Vec<u8>, number: u64, report: &Report) -> Result<(), AllocError>
+    ensures { OnOk result (text.new.items ≡ text.old.items ++ shown_report number report.now) }
 {
     match report {
         Report::Opened { rows } => push_opened(text, *rows),
@@ -130,7 +164,11 @@ pub fn push_report(alloc: Global, text: &mut Vec<u8>, report: &Report) -> Result
         Report::Same => text.extend_from_slice(b"same\n"),
         Report::OutOfOrder { last } => push_out_of_order(text, *last),
         Report::Conflict { kept } => push_conflict(text, *kept),
+        Report::Scalar { value } => push_scalar(text, *value),
         Report::Vector { items } => push_vector(text, items.as_slice()),
+        Report::QueryFault { place, kind } => push_query_fault(text, *place, kind),
+        Report::QueryRefused { place, kind } => push_query_refused(text, *place, *kind),
+        Report::NotBuilt => push_bad_line(text, number),
         Report::Backwards { last, given } => push_backwards(text, *last, *given),
     }
 }

@@ -1,17 +1,14 @@
 // The lines of a script, and the events that they spell.
 ghost use Rattle.std.specs.Prelude.{◌≡◌, IfOk};
 ghost use Rattle.std.specs.Str.{bytes_eq, is_utf8};
-ghost use Rattle.pr_labels.specs.LabelSet.{metric_label, value_of};
 ghost use Rattle.pr_series.specs.SeriesReading.{series_labels};
-ghost use Rattle.pr_labels.specs.SeriesText.{series_text};
-ghost use Rattle.pr_text.specs.Script.{is_comment, is_passed_over, time_of, point_of, series_of, is_reserved, can_be_asked, is_selector, selector_of, add_of, query_of, add_in, query_in, event_by, event_of};
+ghost use Rattle.pr_text.specs.Script.{is_comment, is_passed_over, time_of, point_of, series_of, expression_of, add_of, query_of, add_in, query_in, event_by, event_of};
 
-use pr_labels::{Labels, METRIC_LABEL};
-use pr_lex::word_of;
+use pr_labels::Labels;
 use pr_num::Point;
 use pr_series::{TextFault, read_series_text};
 use pr_time::Ms;
-use pr_words::{plain_decimal, split_first, split_last, without_trailing};
+use pr_words::{Text, plain_decimal, split_first, split_last, without_trailing};
 use pr_world::Event;
 use std::alloc::{AllocError, Global};
 use std::str;
@@ -78,49 +75,17 @@ fn series_of(alloc: Global, text: &[u8]) -> Result<Option<Labels>, AllocError>
     }
 }
 
-fn is_printed(alloc: Global, labels: &Labels, text: &[u8]) -> Result<bool, AllocError>
-    ensures { IfOk result (λ b. b ≡ bytes_eq (series_text labels.now) text.now) }
+// The text of an expression, which is any text that is not empty.
+#[tactic(auto, using(crate::proofs::Utf8::text_expression, crate::proofs::Utf8::no_text_expression))]
+fn expression_of(alloc: Global, text: &[u8]) -> Result<Option<Text>, AllocError>
+    ensures { IfOk result (λ o. o ≡ expression_of text.now) }
 {
-    let mut printed = Vec::new(alloc);
-    labels.write(&mut printed)?;
-    Ok(printed.as_slice() == text)
-}
-
-/// Whether the metric's name, where there is one, is a word of the query language.
-fn is_reserved(labels: &Labels) -> bool
-    ensures { result ≡ is_reserved (value_of labels.now metric_label) }
-{
-    match labels.get(METRIC_LABEL) {
-        Some(name) => word_of(name).is_some(),
-        None => false,
-    }
-}
-
-fn can_be_asked(labels: &Labels) -> bool
-    ensures { result ≡ can_be_asked labels.now }
-{
-    !labels.pairs().is_empty() && !is_reserved(labels)
-}
-
-fn is_selector(alloc: Global, text: &[u8], labels: &Labels) -> Result<bool, AllocError>
-    ensures { IfOk result (λ b. b ≡ is_selector text.now labels.now) }
-{
-    if !can_be_asked(labels) {
-        return Ok(false);
-    }
-    is_printed(alloc, labels, text)
-}
-
-fn selector_of(alloc: Global, text: &[u8]) -> Result<Option<Labels>, AllocError>
-    ensures { IfOk result (λ o. o ≡ selector_of text.now) }
-{
-    let Some(labels) = series_of(alloc, text)? else {
+    if text.is_empty() {
         return Ok(None);
-    };
-    if is_selector(alloc, text, &labels)? {
-        Ok(Some(labels))
-    } else {
-        Ok(None)
+    }
+    match str::from_utf8(text) {
+        Ok(text) => Ok(Some(Text::from_str(alloc, text)?)),
+        Err(_) => Ok(None),
     }
 }
 
@@ -148,12 +113,12 @@ fn add_in(alloc: Global, text: &[u8]) -> Result<Option<Event>, AllocError>
 fn query_in(alloc: Global, text: &[u8]) -> Result<Option<Event>, AllocError>
     ensures { IfOk result (λ o. o ≡ query_in text.now) }
 {
-    let (time, selector) = split_first(text);
+    let (time, text) = split_first(text);
     let Some(time) = time_of(time) else {
         return Ok(None);
     };
-    match selector_of(alloc, selector)? {
-        Some(equal) => Ok(Some(Event::Query { time, equal })),
+    match expression_of(alloc, text)? {
+        Some(text) => Ok(Some(Event::Query { time, text })),
         None => Ok(None),
     }
 }

@@ -1,4 +1,6 @@
-pub mod Entries
+pub mod Values
+pub mod Questions
+pub mod ExpressionExamples
 pub mod Words
 pub mod Streams
 pub mod Feeds

@@ -3,6 +3,8 @@ pub mod Front
 pub mod Taken
 pub mod Reading
 pub mod Standing
+pub mod Keeping
+pub mod Asked
 pub mod Stops
 pub mod Status
 pub mod Usage

@@ -1,5 +1,6 @@
 -- Where the reader of the input stands.
 use Rattle.std.specs.Prelude.{◌≡◌, ◌≢◌, ℕ, ◌+◌, ◌<◌, ◌≤◌, ◌^◌, Bool, true, false, List, [], ◌∷◌, ◌++◌, length, drop, Option, Some, None, IfSome}
+use Prim.Native.Char.{code}
 use Rattle.std.specs.List.{list_all}
 use Rattle.std.specs.Io.KnownBytes.{IsAtEnd}
 use Rattle.pr_words.specs.Lines.{lines_of}
@@ -33,7 +34,7 @@ pub record TakesPart (ended : Bool) (held_old held_new line_old line_new : List 
   pub part : List ℕ
   pub joined : line_new ≡ line_old ++ part
   pub unended : list_all is_no_feed part ≡ true
-  pub feed : ended ≡ true → held_old ≡ part ++ 10 ∷ held_new
+  pub feed : ended ≡ true → held_old ≡ part ++ code "\n" ∷ held_new
   pub all : ended ≡ false → (held_old ≡ part) × (held_new ≡ [])
 
 -- the next line was handed out, or there is none

@@ -1,16 +1,17 @@
 -- What was taken of an input: whole lines, and what there is of the next one.
 use Rattle.std.specs.Prelude.{◌≡◌, ℕ, ◌≤◌, Bool, true, not, ◌==◌, List, [], ◌∷◌, ◌++◌, length}
+use Prim.Native.Char.{code}
 use Rattle.std.specs.List.{list_all}
 use Rattle.pr_words.specs.Lines.{lines_of}
 use Rattle.pr_text.specs.Orders.{orders_after}
 
 abbrev pub is_no_feed : ℕ → Bool
-is_no_feed b = not (b == 10)
+is_no_feed b = not (b == code "\n")
 
 -- nothing, or bytes of which the last is a line feed
 abbrev pub are_whole_lines : List ℕ → Bool
 are_whole_lines [] = true
-are_whole_lines (b ∷ []) = b == 10
+are_whole_lines (b ∷ []) = b == code "\n"
 are_whole_lines (b ∷ c ∷ bytes) = are_whole_lines (c ∷ bytes)
 
 -- Of bytes that follow so many other lines a rest is left: what was taken are whole lines, and what there is of the next

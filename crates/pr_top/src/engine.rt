@@ -1,40 +1,38 @@
 // The engine: what it stands for, and one event of it.
-ghost use Rattle.std.specs.Prelude.{◌≡◌, false, [], ◌++◌, IfOk, OnOk, OnErr};
+ghost use Rattle.std.specs.Prelude.{◌≡◌, false, cond, List, [], ◌++◌, Some, IfOk, OnOk, OnErr};
+ghost use Rattle.pr_history.specs.declared.entry.Entry.{Entry};
 ghost use Rattle.pr_history.specs.Admission.{admit};
-ghost use Rattle.pr_world.specs.World.{start};
+ghost use Rattle.pr_world.specs.World.{World, start};
+ghost use Rattle.pr_world.specs.Query.{query_outcome};
 ghost use Rattle.pr_world.specs.Settings.{of_a_run};
 ghost use Rattle.pr_world.specs.Step.{time_of, report_of, rows_by, entry_of, outcome_in_time, step_by, next};
+ghost use Rattle.pr_top.specs.Asked.{IsAnswer};
+ghost use Rattle.pr_top.specs.Keeping.{IsHeadOf, KeepsWorld};
 
-use super::history::{admit, selected};
-use pr_history::{Append, Entry};
+use super::answered::Answered;
+use super::query::ask;
+use pr_head::Head;
+use pr_history::Append;
 use pr_labels::Labels;
 use pr_num::Point;
 use pr_time::Ms;
-use pr_words::Items;
 use pr_world::{Event, Report};
 use std::alloc::{AllocError, Global};
 use std::marker::Model;
 
-/// What is answered to an event, and whether it was refused.
-#[derive(Drop)]
-pub(crate) struct Answered {
-    pub(crate) report: Report,
-    pub(crate) refused: bool,
-}
-
-/// The engine. Contracts see the world that it stands for.
+/// The engine. Contracts see what it keeps, and say of each world that it stands for what becomes of it.
 #[derive(Drop)]
 pub(crate) struct Engine {
-    history: Vec<Entry>,
+    head: Head,
     last: Option<Ms>,
 }
 
 impl Model for Engine {
-    ghost use Rattle.pr_world.specs.World.{World};
+    ghost use Rattle.pr_top.specs.Keeping.{Kept};
 
-    ghost Value = { World };
+    ghost Value = { Kept };
 
-    ghost view = { λ e. record { history = e.history.items; last = e.last } };
+    ghost view = { λ e. record { head = e.head; last = e.last } };
 }
 
 fn time_of(event: &Event) -> Ms
@@ -57,46 +55,72 @@ fn report_of(answer: Append) -> Report
     }
 }
 
-// Puts a sample into the history.
-#[tactic(auto, using(crate::proofs::Entries::none_more))]
-fn put(
-    history: &mut Vec<Entry>,
-    labels: Labels,
-    time: Ms,
-    point: Point,
-) -> Result<Append, AllocError>
-    ensures ok { IfOk result (λ answer. history.new.items ≡ history.old.items ++ rows_by answer (entry_of time labels point)) }
-    ensures answer { IfOk result (λ answer. answer ≡ admit history.old.items labels time point) }
-    ensures err { OnErr result (history.new.items ≡ history.old.items) }
+// Puts a sample into the head.
+fn put(head: &mut Head, labels: &Labels, time: Ms, point: Point) -> Result<Append, AllocError>
+    ensures answer { (history : List Entry) → IsHeadOf head.old history → IfOk result (λ answer. answer ≡ admit history labels.now time point) }
+    ensures head { (history : List Entry) → IsHeadOf head.old history
+        → OnOk result (IsHeadOf head.new (history ++ rows_by (admit history labels.now time point) (entry_of time labels.now point))) }
+    ensures err { OnErr result (head.new ≡ head.old) }
 {
-    let answer = admit(history, &labels, time, &point);
-    if matches!(&answer, Append::Added) {
-        history.push(Entry {
-            labels,
-            time,
-            point,
-        })?;
-    }
-    Ok(answer)
+    head.append(labels, time, point)
+}
+
+// The last time after a question.
+fn last_after(last: Option<Ms>, refused: bool, time: Ms) -> Option<Ms>
+    ensures { result ≡ cond refused last (Some time) }
+{
+    if refused { last } else { Some(time) }
 }
 
 impl Engine {
     /// Nothing has happened yet.
     pub(crate) fn start(alloc: Global) -> Engine
-        ensures { result ≡ start [] }
+        ensures { KeepsWorld result (start []) }
     {
         Engine {
-            history: Vec::new(alloc),
+            head: Head::new(alloc),
             last: None,
         }
     }
 
+    // Takes a sample.
+    fn take_sample(
+        &mut self,
+        labels: &Labels,
+        time: Ms,
+        point: Point,
+    ) -> Result<Answered, AllocError>
+        ensures report { (w : World) → KeepsWorld self.old w → IfOk result (λ a. a.report ≡ report_of (admit w.history labels.now time point)) }
+        ensures accepted { IfOk result (λ a. a.refused ≡ false) }
+        ensures world { (w : World) → KeepsWorld self.old w → OnOk result (KeepsWorld self.new (step_by w time (outcome_in_time of_a_run w (Event.Add time labels.now point))).world) }
+        ensures err { OnErr result (self.new ≡ self.old) }
+    {
+        let answer = put(&mut self.head, labels, time, point)?;
+        self.last = Some(time);
+        Ok(Answered {
+            report: report_of(answer),
+            refused: false,
+        })
+    }
+
+    // Answers a question. The time moves, unless it is refused.
+    fn take_query(&mut self, alloc: Global, text: &str, time: Ms) -> Result<Answered, AllocError>
+        ensures answered { (w : World) → KeepsWorld self.old w → IfOk result (IsAnswer (query_outcome of_a_run w.history time text.now)) }
+        ensures world { (w : World) → KeepsWorld self.old w → OnOk result (KeepsWorld self.new (step_by w time (query_outcome of_a_run w.history time text.now)).world) }
+        ensures err { OnErr result (self.new ≡ self.old) }
+    {
+        let answered = ask(alloc, &self.head, text, time)?;
+        let last = last_after(self.last, answered.refused, time);
+        self.last = last;
+        Ok(answered)
+    }
+
     // Takes an event that is not before the last one.
-    #[tactic(auto, using(crate::proofs::Entries::none_more))]
-    fn accept(&mut self, alloc: Global, event: Event) -> Result<Report, AllocError>
-        ensures report { IfOk result (λ report. report ≡ (step_by self.old (time_of event) (outcome_in_time of_a_run self.old event)).report) }
-        ensures accepted { OnOk result ((step_by self.old (time_of event) (outcome_in_time of_a_run self.old event)).refused ≡ false) }
-        ensures world { OnOk result (self.new ≡ (step_by self.old (time_of event) (outcome_in_time of_a_run self.old event)).world) }
+    #[tactic(auto, using(crate::proofs::Values::answered_report, crate::proofs::Values::answered_refused))]
+    fn take(&mut self, alloc: Global, event: Event) -> Result<Answered, AllocError>
+        ensures report { (w : World) → KeepsWorld self.old w → IfOk result (λ a. a.report ≡ (step_by w (time_of event) (outcome_in_time of_a_run w event)).report) }
+        ensures refused { (w : World) → KeepsWorld self.old w → IfOk result (λ a. a.refused ≡ (step_by w (time_of event) (outcome_in_time of_a_run w event)).refused) }
+        ensures world { (w : World) → KeepsWorld self.old w → OnOk result (KeepsWorld self.new (step_by w (time_of event) (outcome_in_time of_a_run w event)).world) }
         ensures err { OnErr result (self.new ≡ self.old) }
     {
         match event {
@@ -104,27 +128,17 @@ impl Engine {
                 time,
                 labels,
                 point,
-            } => {
-                let answer = put(&mut self.history, labels, time, point)?;
-                self.last = Some(time);
-                Ok(report_of(answer))
-            }
-            Event::Query { time, equal } => {
-                let items = selected(alloc, &self.history, equal.pairs(), time)?;
-                self.last = Some(time);
-                Ok(Report::Vector {
-                    items: Items::new(items),
-                })
-            }
+            } => self.take_sample(&labels, time, point),
+            Event::Query { time, text } => self.take_query(alloc, text.as_str(), time),
         }
     }
 
     /// Takes an event, and answers it. Without memory nothing has changed.
     #[tactic(auto, unfolding(pr_world::specs::Step::next))]
     pub(crate) fn apply(&mut self, alloc: Global, event: Event) -> Result<Answered, AllocError>
-        ensures report { IfOk result (λ a. a.report ≡ (next of_a_run self.old event).report) }
-        ensures refused { IfOk result (λ a. a.refused ≡ (next of_a_run self.old event).refused) }
-        ensures world { OnOk result (self.new ≡ (next of_a_run self.old event).world) }
+        ensures report { (w : World) → KeepsWorld self.old w → IfOk result (λ a. a.report ≡ (next of_a_run w event).report) }
+        ensures refused { (w : World) → KeepsWorld self.old w → IfOk result (λ a. a.refused ≡ (next of_a_run w event).refused) }
+        ensures world { (w : World) → KeepsWorld self.old w → OnOk result (KeepsWorld self.new (next of_a_run w event).world) }
         ensures err { OnErr result (self.new ≡ self.old) }
     {
         let given = time_of(&event);
@@ -133,10 +147,7 @@ impl Engine {
                 report: Report::Backwards { last, given },
                 refused: true,
             }),
-            _ => Ok(Answered {
-                report: self.accept(alloc, event)?,
-                refused: false,
-            }),
+            _ => self.take(alloc, event),
         }
     }
 }

@@ -1,11 +1,12 @@
 //! The program as one call.
 #![tactic(auto)]
 
+mod answered;
 mod command;
 mod engine;
 mod examples;
-mod history;
 mod output;
+mod query;
 mod reader;
 mod run;
 mod session;

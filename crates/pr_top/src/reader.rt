@@ -1,5 +1,5 @@
 // The input, asked for one order after another.
-ghost use Rattle.std.specs.Prelude.{◌≡◌, ◌+◌, ◌^◌, ◌<◌, ◌≤◌, ◌∷◌, ◌==◌, not, [], take, drop, length, None, IfOk, IfSome, IfNone, OnOk, true, false};
+ghost use Rattle.std.specs.Prelude.{◌≡◌, ◌+◌, ◌^◌, ◌<◌, ◌≤◌, ◌++◌, ◌==◌, not, [], codes, take, drop, length, None, IfOk, IfSome, IfNone, OnOk, true, false};
 ghost use Rattle.std.specs.List.{list_all};
 ghost use Rattle.std.specs.Io.KnownBytes.{Consumes, Keeps, IsAtEnd};
 ghost use Rattle.pr_top.specs.Reading.{held, HasRoom, KnowsEnd, ahead, TakesPart, HandsLine, HandsOrder, TakesLines, Advances, Counts, IsCutLine, IsCutAt, IsBeyond, line_count};
@@ -31,7 +31,7 @@ pub(crate) struct Reader {
 // Where the first line feed stands.
 fn line_end(bytes: &[u8]) -> Option<usize>
     ensures some { IfSome result (λ i. (i < length bytes.now) × (list_all is_no_feed (take i bytes.now) ≡ true)
-        × (drop i bytes.now ≡ 10 ∷ drop (i + 1) bytes.now)) }
+        × (drop i bytes.now ≡ codes "\n" ++ drop (i + 1) bytes.now)) }
     ensures none { IfNone result (list_all is_no_feed bytes.now ≡ true) }
 {
     for (i, b) in bytes.iter().enumerate() {

@@ -2,6 +2,8 @@
 ghost use Rattle.std.specs.Prelude.{◌≡◌, ℕ, ◌||◌, take, [], OnOk, IfOk, IfSome, None, Some};
 ghost use Rattle.std.specs.Io.KnownBytes.{Appends};
 ghost use Rattle.pr_top.specs.Front.{IsFront};
+ghost use Rattle.pr_top.specs.Keeping.{KeepsProgress, progress_after};
+ghost use Rattle.pr_top.specs.Standing.{Progress};
 ghost use Rattle.pr_top.specs.Stops.{StopsWriting, StopsRunning, KnowsLength, stopped_at_input};
 ghost use Rattle.pr_top.specs.Told.{Content, told, told_of, refuses, answers_to, turn};
 
@@ -22,10 +24,9 @@ fn answer_order<O: Sink>(
     order: Numbered,
     out: &mut O,
 ) -> Result<(), Stop>
-    ensures text { OnOk result (Appends (O.taken out.old) (O.taken out.new) (turn session.old.world order).answer.text) }
-    ensures world { OnOk result (session.new.world ≡ (turn session.old.world order).world) }
-    ensures refused { OnOk result (session.new.refused ≡ (session.old.refused || (turn session.old.world order).answer.refused)) }
-    ensures front { (n : ℕ) × Appends (O.taken out.old) (O.taken out.new) (take n (turn session.old.world order).answer.text) }
+    ensures text { (p : Progress) → KeepsProgress session.old p → OnOk result (Appends (O.taken out.old) (O.taken out.new) (turn p.world order).answer.text) }
+    ensures progress { (p : Progress) → KeepsProgress session.old p → OnOk result (KeepsProgress session.new (progress_after p order)) }
+    ensures front { (p : Progress) → KeepsProgress session.old p → (n : ℕ) × Appends (O.taken out.old) (O.taken out.new) (take n (turn p.world order).answer.text) }
     ensures cause { StopsWriting (O.faults out.old) (O.faults out.new) result }
 {
     let mut text = Vec::new(alloc);
@@ -42,7 +43,7 @@ fn open<O: Sink>(alloc: Global, out: &mut O) -> Result<(), Stop>
     ensures cause { StopsWriting (O.faults out.old) (O.faults out.new) result }
 {
     let mut text = Vec::new(alloc);
-    push_report(alloc, &mut text, &Report::Opened { rows: 0 })?;
+    push_report(&mut text, 0, &Report::Opened { rows: 0 })?;
     send(out, &text)?;
     Ok(())
 }

@@ -1,6 +1,7 @@
 // A run of the script, order by order.
 ghost use Rattle.std.specs.Prelude.{◌≡◌, ◌++◌, ◌||◌, [], OnOk};
-ghost use Rattle.pr_top.specs.Standing.{begun};
+ghost use Rattle.pr_top.specs.Keeping.{KeepsProgress, KeepsWorld, progress_after};
+ghost use Rattle.pr_top.specs.Standing.{Progress, begun};
 ghost use Rattle.pr_top.specs.Told.{turn, turn_of};
 
 use super::engine::Engine;
@@ -9,7 +10,7 @@ use pr_world::Event;
 use std::alloc::{AllocError, Global};
 use std::marker::Model;
 
-/// A run of the script. Contracts see how far it has come.
+/// A run of the script. Contracts see what it keeps.
 #[derive(Drop)]
 pub(crate) struct Session {
     engine: Engine,
@@ -17,17 +18,17 @@ pub(crate) struct Session {
 }
 
 impl Model for Session {
-    ghost use Rattle.pr_top.specs.Standing.{Progress};
+    ghost use Rattle.pr_top.specs.Keeping.{Run};
 
-    ghost Value = { Progress };
+    ghost Value = { Run };
 
-    ghost view = { λ s. record { world = s.engine; refused = s.refused } };
+    ghost view = { λ s. record { kept = s.engine; refused = s.refused } };
 }
 
 impl Session {
     /// No order has come yet.
     pub(crate) fn start(alloc: Global) -> Session
-        ensures { result ≡ begun [] }
+        ensures { KeepsProgress result (begun []) }
     {
         Session {
             engine: Engine::start(alloc),
@@ -50,13 +51,13 @@ impl Session {
         number: u64,
         event: Event,
     ) -> Result<(), AllocError>
-        ensures text { OnOk result (text.new.items ≡ text.old.items ++ (turn_of self.old.world number (Order.Event event)).answer.text) }
-        ensures world { OnOk result (self.new.world ≡ (turn_of self.old.world number (Order.Event event)).world) }
-        ensures refused { OnOk result (self.new.refused ≡ (self.old.refused || (turn_of self.old.world number (Order.Event event)).answer.refused)) }
+        ensures text { (p : Progress) → KeepsProgress self.old p → OnOk result (text.new.items ≡ text.old.items ++ (turn_of p.world number (Order.Event event)).answer.text) }
+        ensures world { (p : Progress) → KeepsProgress self.old p → OnOk result (KeepsWorld self.new.kept (turn_of p.world number (Order.Event event)).world) }
+        ensures refused { (p : Progress) → KeepsProgress self.old p → OnOk result (self.new.refused ≡ (self.old.refused || (turn_of p.world number (Order.Event event)).answer.refused)) }
     {
         let answered = self.engine.apply(alloc, event)?;
         self.refused = self.refused || answered.refused;
-        push_report(alloc, text, &answered.report)
+        push_report(text, number, &answered.report)
     }
 
     /// Takes an order, and appends the answer to it.
@@ -67,9 +68,8 @@ impl Session {
         text: &mut Vec<u8>,
         order: Numbered,
     ) -> Result<(), AllocError>
-        ensures text { OnOk result (text.new.items ≡ text.old.items ++ (turn self.old.world order).answer.text) }
-        ensures world { OnOk result (self.new.world ≡ (turn self.old.world order).world) }
-        ensures refused { OnOk result (self.new.refused ≡ (self.old.refused || (turn self.old.world order).answer.refused)) }
+        ensures text { (p : Progress) → KeepsProgress self.old p → OnOk result (text.new.items ≡ text.old.items ++ (turn p.world order).answer.text) }
+        ensures progress { (p : Progress) → KeepsProgress self.old p → OnOk result (KeepsProgress self.new (progress_after p order)) }
     {
         let number = order.number;
         match order.order {

@@ -1,3 +1,5 @@
 pub mod World
 pub mod Settings
+pub mod Outcome
+pub mod Query
 pub mod Step

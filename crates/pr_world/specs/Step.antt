@@ -1,28 +1,23 @@
 -- One step of the world, and the fold of it.
-use Rattle.std.specs.Prelude.{ℕ, pos, Bool, true, false, cond, nat_lt, List, [], ◌∷◌, ◌++◌, Option, Some, None}
+use Rattle.std.specs.Prelude.{ℕ, Bool, true, false, cond, nat_lt, List, [], ◌∷◌, ◌++◌, Option, Some, None}
 use Rattle.pr_num.specs.declared.value.Point.{Point}
 use Rattle.pr_history.specs.declared.entry.Entry.{Entry}
 use Rattle.pr_history.specs.declared.append.Append.{Append}
 use Rattle.pr_history.specs.declared.append.Append.TheVariants as append
 use Rattle.pr_history.specs.Admission.{admit}
-use Rattle.pr_history.specs.Series.{selected}
 use Rattle.pr_labels.specs.declared.pair.Pair.{Pair}
 use Rattle.pr_world.specs.declared.event.Event.{Event}
 use Rattle.pr_world.specs.declared.event.Event.TheVariants.{Add, Query}
 use Rattle.pr_world.specs.declared.report.Report.{Report}
 use Rattle.pr_world.specs.declared.report.Report.TheVariants as report
+use Rattle.pr_world.specs.Outcome.{Outcome, refuse, accept}
+use Rattle.pr_world.specs.Query.{query_outcome}
 use Rattle.pr_world.specs.Settings.{Settings}
 use Rattle.pr_world.specs.World.{World}
 
--- What an event comes to: it is refused, with its report; or it is accepted, with its report and the entries that it
--- adds to the history.
-pub data Outcome : Type 0 where
-  refuse : Report → Outcome
-  accept : Report → List Entry → Outcome
-
 abbrev pub time_of : Event → ℕ
 time_of (Add time labels point) = time
-time_of (Query time equal) = time
+time_of (Query time text) = time
 
 -- what is answered to a sample
 abbrev pub report_of : Append → Report
@@ -48,7 +43,7 @@ outcome_by answer e = accept (report_of answer) (rows_by answer e)
 -- an event that is not before the last one
 abbrev pub outcome_in_time : Settings → World → Event → Outcome
 outcome_in_time s w (Add time labels point) = outcome_by (admit w.history labels time point) (entry_of time labels point)
-outcome_in_time s w (Query time equal) = accept (report.Vector (selected w.history equal (pos time))) []
+outcome_in_time s w (Query time text) = query_outcome s w.history time text
 
 -- an event before the last one is refused
 abbrev pub outcome_after : Option ℕ → Settings → World → Event → Outcome

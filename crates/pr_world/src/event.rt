@@ -1,6 +1,7 @@
 use pr_labels::Labels;
 use pr_num::Point;
 use pr_time::Ms;
+use pr_words::Text;
 
 /// What happens: an order of the script.
 #[derive(Debug, Drop)]
@@ -11,9 +12,9 @@ pub enum Event {
         labels: Labels,
         point: Point,
     },
-    /// The series that have all these labels are asked for.
+    /// An expression of the query language is asked for what it gives.
     Query {
         time: Ms,
-        equal: Labels,
+        text: Text,
     },
 }

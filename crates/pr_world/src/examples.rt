@@ -1,12 +1,26 @@
 // What the definitions say of small worlds.
-ghost use Rattle.std.specs.Prelude.{◌≡◌, [], ◌∷◌, Some, None};
+ghost use Rattle.std.specs.Prelude.{◌≡◌, codes, [], ◌∷◌, Some, None, false, ◌^◌};
+ghost use Rattle.pr_ast.specs.declared.names.BinOp.TheVariants as op;
+ghost use Rattle.pr_ast.specs.declared.names.Func.TheVariants as func;
+ghost use Rattle.pr_ast.specs.Examples.{metric};
+ghost use Rattle.pr_ast.specs.Places.{nowhere};
+ghost use Rattle.pr_ast.specs.Tree.{binary, call, none, text};
 ghost use Rattle.pr_history.specs.Examples.{m, whole, entry_at, one, number};
 ghost use Rattle.pr_history.specs.Series.{item_of};
+ghost use Rattle.pr_lex.specs.declared.fault.LexKind.TheVariants as lex;
+ghost use Rattle.pr_parse.specs.declared.fault.ParseKind.TheVariants as parse;
+ghost use Rattle.pr_parse.specs.Parsed.{gives_tree, gives_lex_fault, gives_fault};
+ghost use Rattle.pr_query.specs.declared.fault.FaultKind.TheVariants.{TooWide};
+ghost use Rattle.pr_query.specs.Examples.{whole as whole_number};
+ghost use Rattle.pr_types.specs.declared.kind.TypeKind.TheVariants.{NotInstant};
 ghost use Rattle.pr_world.specs.World.{World, start};
 ghost use Rattle.pr_world.specs.Settings.{of_a_run};
-ghost use Rattle.pr_world.specs.Step.{next, world_after, rows_of, outcome, refuse, accept};
+ghost use Rattle.pr_world.specs.Outcome.{refuse, accept};
+ghost use Rattle.pr_world.specs.Query.{parsed_outcome};
+ghost use Rattle.pr_world.specs.Step.{next, step_by, world_after, rows_of, outcome};
 ghost use Rattle.pr_world.specs.declared.event.Event.TheVariants.{Add, Query};
-ghost use Rattle.pr_world.specs.declared.report.Report.TheVariants.{Added, Same, Conflict, Vector, Backwards};
+ghost use Rattle.pr_world.specs.declared.report.Report.TheVariants.{Added, Same, Conflict, Scalar, Vector, QueryFault, QueryRefused, NotBuilt, Backwards};
+ghost use Rattle.pr_world.specs.declared.report.QueryKind.TheVariants.{Lex, Parse, Typing};
 
 /// A sample adds its entry where it is admitted, and nothing where it is the same or in conflict.
 pub fn a_sample_adds_its_entry()
@@ -17,16 +31,37 @@ pub fn a_sample_adds_its_entry()
     ensures kept { rows_of of_a_run (start []) (Add 0 m (whole 1) ∷ Add 0 m (whole 1) ∷ []) ≡ entry_at 0 (whole 1) ∷ [] }
 {}
 
-/// An accepted event becomes the last one, be it a question.
-pub fn a_later_event_moves_the_time()
-    ensures asked { outcome of_a_run (start one) (Query 299999 m) ≡ accept (Vector (item_of m (number 1) ∷ [])) [] }
-    ensures added { (next of_a_run (start []) (Add 5 m (whole 1))).world ≡ record { history = entry_at 5 (whole 1) ∷ []; last = Some 5 } }
-    ensures moved { (next of_a_run (start one) (Query 299999 m)).world ≡ record { history = one; last = Some 299999 } }
+/// An expression is answered by what it gives over the history: `m`, `1`, `10^19 * 10^19`. None adds anything, and a fault is
+/// accepted as a value is.
+#[tactic(auto, unfolding(crate::specs::Query::parsed_outcome, pr_types::specs::Operations::operation_fault, pr_match::specs::Matcher::meets, pr_match::specs::Matcher::meets_all, pr_num::specs::Arithmetic::product_of, pr_num::specs::Half::half, pr_num::specs::Half::half_abs))]
+pub fn an_expression_is_answered_by_its_meaning()
+    ensures vector { parsed_outcome of_a_run one 299999 (gives_tree (metric (codes "m"))) ≡ accept (Vector (item_of m (number 1) ∷ [])) [] }
+    ensures gone { parsed_outcome of_a_run one 300000 (gives_tree (metric (codes "m"))) ≡ accept (Vector []) [] }
+    ensures scalar { parsed_outcome of_a_run [] 0 (gives_tree (whole_number 1)) ≡ accept (Scalar (number 1)) [] }
+    ensures wide { parsed_outcome of_a_run [] 0 (gives_tree (binary (record { start = 3; end = 9 }) op.Mul false None (whole_number (10 ^ 19)) (whole_number (10 ^ 19)))) ≡ accept (QueryFault 3 TooWide) [] }
+    ensures moves { (step_by (start one) 299999 (parsed_outcome of_a_run one 299999 (gives_tree (metric (codes "m"))))).world ≡ record { history = one; last = Some 299999 } }
 {}
 
-/// An event before the last one is refused, and the last one stays the last.
+/// What has no tokens, no tree or no type is refused with its first fault: `m !`, `m +`, `"a"`. So is, so far, what has no answer yet:
+/// `time()`. Then the time does not move.
+#[tactic(auto, unfolding(crate::specs::Query::parsed_outcome, pr_types::specs::Signatures::func_signature))]
+pub fn a_text_that_is_no_expression_is_refused()
+    ensures lexical { parsed_outcome of_a_run one 6000 (gives_lex_fault 3 lex.BadChar) ≡ refuse (QueryRefused 3 (Lex lex.BadChar)) }
+    ensures parsing { parsed_outcome of_a_run one 6000 (gives_fault 3 parse.End) ≡ refuse (QueryRefused 3 (Parse parse.End)) }
+    ensures typing { parsed_outcome of_a_run one 6000 (gives_tree (text (record { start = 1; end = 4 }) (codes "a"))) ≡ refuse (QueryRefused 1 (Typing NotInstant)) }
+    ensures unbuilt { parsed_outcome of_a_run one 6000 (gives_tree (call nowhere func.Time none)) ≡ refuse NotBuilt }
+    ensures unchanged { (step_by (record { history = one; last = Some 5000 }) 6000 (parsed_outcome of_a_run one 6000 (gives_fault 3 parse.End))).world ≡ record { history = one; last = Some 5000 } }
+{}
+
+/// An accepted event becomes the last one, also where it adds nothing.
+pub fn a_later_event_moves_the_time()
+    ensures same { (next of_a_run (start one) (Add 0 m (whole 1))).world ≡ record { history = one; last = Some 0 } }
+    ensures added { (next of_a_run (start []) (Add 5 m (whole 1))).world ≡ record { history = entry_at 5 (whole 1) ∷ []; last = Some 5 } }
+{}
+
+/// An event before the last one is refused, whatever it asks for, and the last one stays the last.
 pub fn an_event_before_the_last_is_refused()
-    ensures refused { outcome of_a_run (record { history = one; last = Some 5000 }) (Query 4000 m) ≡ refuse (Backwards 5000 4000) }
+    ensures refused { outcome of_a_run (record { history = one; last = Some 5000 }) (Query 4000 (codes "m +")) ≡ refuse (Backwards 5000 4000) }
     ensures unchanged { (next of_a_run (record { history = one; last = Some 5000 }) (Add 4000 [] (whole 1))).world ≡ record { history = one; last = Some 5000 } }
-    ensures equal { outcome of_a_run (record { history = one; last = Some 5000 }) (Query 5000 m) ≡ accept (Vector (item_of m (number 1) ∷ [])) [] }
+    ensures equal { outcome of_a_run (record { history = one; last = Some 5000 }) (Add 5000 [] (whole 1)) ≡ accept Added ((record { labels = []; time = 5000; point = whole 1 }) ∷ []) }
 {}

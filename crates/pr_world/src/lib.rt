@@ -8,7 +8,8 @@ mod report;
 
 pub use event::Event;
 pub use examples::{
-    a_later_event_moves_the_time, a_sample_adds_its_entry, an_event_before_the_last_is_refused,
+    a_later_event_moves_the_time, a_sample_adds_its_entry, a_text_that_is_no_expression_is_refused,
+    an_event_before_the_last_is_refused, an_expression_is_answered_by_its_meaning,
 };
 pub use laws::{a_history_is_its_rows, a_step_appends_or_changes_nothing};
-pub use report::Report;
+pub use report::{QueryKind, Report};

@@ -1,7 +1,22 @@
 use pr_labels::Item;
+use pr_lex::LexKind;
 use pr_num::{Num, Point};
+use pr_parse::ParseKind;
+use pr_query::FaultKind;
 use pr_time::Ms;
+use pr_types::TypeKind;
 use pr_words::Items;
+
+/// Why a text is no expression that can be asked for.
+#[derive(Clone, Copy, PartialEq, Eq, Debug)]
+pub enum QueryKind {
+    /// It has no tokens.
+    Lex { kind: LexKind },
+    /// Its tokens have no tree.
+    Parse { kind: ParseKind },
+    /// Its tree has no type.
+    Typing { kind: TypeKind },
+}
 
 /// What is answered.
 #[derive(Debug, Drop)]
@@ -16,8 +31,16 @@ pub enum Report {
     OutOfOrder { last: Ms },
     /// The series has another point at this time.
     Conflict { kept: Point },
+    /// A number.
+    Scalar { value: Num },
     /// The elements of a vector, in label order.
     Vector { items: Items<Item<Num>> },
+    /// The expression gives nothing at this time: its first fault, and the byte at which the part begins that has it.
+    QueryFault { place: usize, kind: FaultKind },
+    /// The text is no expression, or has no type, and was refused: its first fault, and the byte where it is.
+    QueryRefused { place: usize, kind: QueryKind },
+    /// So far this form of an expression has no answer, and was refused.
+    NotBuilt,
     /// The event is before the last one, and was refused.
     Backwards { last: Ms, given: Ms },
 }

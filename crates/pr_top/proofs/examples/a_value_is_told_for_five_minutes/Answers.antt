@@ -7,18 +7,20 @@ use Rattle.pr_num.specs.Half.{half_abs}
 use Rattle.pr_num.specs.Reads.{reads}
 use Rattle.pr_num.specs.Shown.{shown}
 use Rattle.pr_labels.specs.SeriesText.{series_text}
+use Rattle.pr_match.specs.Matcher.{meets, meets_all}
 use Rattle.pr_series.proofs.SeriesExamples.{metric}
-use Rattle.pr_lex.specs.Words.{is_word, word_of, word_text, words}
 use Rattle.pr_text.specs.Orders.{orders_after}
 use Rattle.pr_text.specs.Printed.{shown_report}
 use Rattle.pr_top.specs.Told.{told_of, turn}
+use Rattle.pr_top.proofs.ExpressionExamples.{name_alone}
+use Rattle.pr_world.specs.Query.{parsed_outcome}
 use Rattle.pr_world.specs.Step.{next}
 use Rattle.pr_top.proofs.examples.a_value_is_told_for_five_minutes.Goals as goal
 
 pub returns : goal.returns
-unfolding half_abs reads shown series_text is_word word_of word_text words shown_report orders_after next told_of turn
+unfolding half_abs reads shown series_text meets meets_all shown_report orders_after parsed_outcome next told_of turn
 returns c =
     let zero : decimal 0 ≡ 48 ∷ [] = decimal_digit 0 (lit< tt) in
     let one : decimal 1 ≡ 49 ∷ [] = decimal_digit 1 (lit< tt) in
     let text : is_utf8 (codes "m") ≡ true = is_utf8-from_IsUtf8 (codes "m") (metric_name_is_text (codes "m") refl) in
-    rw (text, metric, zero, one) refl
+    rw (text, metric, name_alone, name_alone, zero, one) refl

@@ -1,6 +1,7 @@
-use Rattle.std.proofs.Common.{◌≡◌, ◌∙◌, Bool, true, List, ℕ, Option, Some, None, [], subst}
+use Rattle.std.proofs.Common.{◌≡◌, ◌∙◌, Bool, true, List, ℕ, Option, Some, None, [], refl, subst}
 use Rattle.pr_text.specs.declared.order.Numbered.{Numbered}
 use Rattle.pr_top.specs.Front.{IsFront}
+use Rattle.pr_top.specs.Keeping.{progress_after}
 use Rattle.pr_top.specs.Reading.{held, ahead, HandsOrder}
 use Rattle.pr_top.specs.Standing.{Stands}
 use Rattle.pr_top.specs.Stops.{stopped_at_input}
@@ -30,8 +31,8 @@ returns-in_err-order-clause-front g c =
     fronts (left c.args.input.now) (taken c.args.out.now) (taken c.answering.out) (left c.next_order.new.input) (stopped_at_input c.from_residual-in_err-order.result)
     (λ bytes content is. exit (λ (b : Bool). IsFront bytes (taken c.args.out.now) (taken c.answering.out) None (left c.next_order.new.input) b [] (answers_to content [] bytes))
     c.from_residual-in_err-order.result e c.from_residual-in_err-order.ensures.1
-    (front_before [] content bytes before (taken c.args.out.now) (taken c.answering.out) (left c.next_order.new.input) r.lines c.answering.session e
-    (subst (λ (a : Option (List ℕ)). Stands [] a before (taken c.args.out.now) (taken c.answering.out) r.lines c.answering.session) is c.answering.invariant.stands)
+    (front_before [] content bytes before (taken c.args.out.now) (taken c.answering.out) (left c.next_order.new.input) r.lines c.answering.invariant.now e
+    (subst (λ (a : Option (List ℕ)). Stands [] a before (taken c.args.out.now) (taken c.answering.out) r.lines c.answering.invariant.now) is c.answering.invariant.stands)
     c.in_err-order.ensures.cut))
 
 pub answering-preserved : goal.answering-preserved
@@ -48,8 +49,10 @@ answering-preserved g c =
     let hands : HandsOrder before after r.lines next.lines (Some c.in-Some.order) =
     subst (λ (o : Option Numbered). HandsOrder before after r.lines next.lines o) c.in-Some.is read.order in
     record {
+      now = progress_after here.now c.in-Some.order;
+      keeps = told.progress here.now here.keeps;
       stands = stands_more [] (left c.args.input.now) before after (taken c.args.out.now) (taken c.answering.out) (taken c.answer_order.new.out) r.lines next.lines
-          c.answering.session c.answer_order.new.session c.in-Some.order here.stands hands read.taken told.text told.world told.refused;
+          here.now (progress_after here.now c.in-Some.order) c.in-Some.order here.stands hands read.taken (told.text here.now here.keeps) refl refl;
       room = read.room;
       end = read.end;
       counts = counts_on (left c.args.input.now) (left c.answering.input) (left c.next_order.new.input) 0 r.count next.count here.counts read.counts;
@@ -62,7 +65,7 @@ returns-in_err-answer_order-clause-front g c =
     let left = g.I.Source.left in
     let taken = g.O.Sink.taken in
     let e = c.in_err-answer_order.field-0.0 in
-    let part = c.in_err-answer_order.ensures.front in
+    let part = c.in_err-answer_order.ensures.front c.answering.invariant.now c.answering.invariant.keeps in
     let r = c.answering.reader in
     let next = c.next_order.new.self in
     let before = ahead (held r) (left c.answering.input) in
@@ -73,8 +76,8 @@ returns-in_err-answer_order-clause-front g c =
     (λ bytes content is. exit (λ (b : Bool). IsFront bytes (taken c.args.out.now) (taken c.answer_order.new.out) None (left c.next_order.new.input) b [] (answers_to content [] bytes))
     c.from_residual-in_err-answer_order.result e c.from_residual-in_err-answer_order.ensures.1
     (front_within [] content bytes before after (taken c.args.out.now) (taken c.answering.out) (taken c.answer_order.new.out) (left c.next_order.new.input) r.lines next.lines
-    c.answering.session c.in-Some.order e (g.O.Sink.faults c.answering.out) (g.O.Sink.faults c.answer_order.new.out) part.0
-    (subst (λ (a : Option (List ℕ)). Stands [] a before (taken c.args.out.now) (taken c.answering.out) r.lines c.answering.session) is c.answering.invariant.stands)
+    c.answering.invariant.now c.in-Some.order e (g.O.Sink.faults c.answering.out) (g.O.Sink.faults c.answer_order.new.out) part.0
+    (subst (λ (a : Option (List ℕ)). Stands [] a before (taken c.args.out.now) (taken c.answering.out) r.lines c.answering.invariant.now) is c.answering.invariant.stands)
     hands part.1 c.in_err-answer_order.ensures.cause))
 
 pub returns-clause-told : goal.returns-clause-told
@@ -89,9 +92,9 @@ returns-clause-told g c =
     subst (λ (o : Option Numbered). HandsOrder before after r.lines next.lines o) (no_more c.in_ok-order.field-0 c.in_default.not-Some) c.in_ok-order.ensures.order in
     tolds (left c.args.input.now) (taken c.args.out.now) (taken c.answering.out) (left c.next_order.new.input) c.has_refused.result
     (λ bytes content is. let all = told_all [] content bytes (held next) before (left c.next_order.new.input) (taken c.args.out.now) (taken c.answering.out) r.lines next.lines
-    c.answering.session
-    (subst (λ (a : Option (List ℕ)). Stands [] a before (taken c.args.out.now) (taken c.answering.out) r.lines c.answering.session) is c.answering.invariant.stands) hands in
-    (all.0, c.has_refused.ensures ∙ all.1, all.2))
+    c.answering.invariant.now
+    (subst (λ (a : Option (List ℕ)). Stands [] a before (taken c.args.out.now) (taken c.answering.out) r.lines c.answering.invariant.now) is c.answering.invariant.stands) hands in
+    (all.0, c.has_refused.ensures ∙ c.answering.invariant.keeps.refused ∙ all.1, all.2))
 
 pub returns-clause-front : goal.returns-clause-front
 returns-clause-front g c =
@@ -105,8 +108,8 @@ returns-clause-front g c =
     subst (λ (o : Option Numbered). HandsOrder before after r.lines next.lines o) (no_more c.in_ok-order.field-0 c.in_default.not-Some) c.in_ok-order.ensures.order in
     fronts (left c.args.input.now) (taken c.args.out.now) (taken c.answering.out) (left c.next_order.new.input) true
     (λ bytes content is. front_ended [] content bytes (held next) before (left c.next_order.new.input) (taken c.args.out.now) (taken c.answering.out) r.lines next.lines
-    c.answering.session
-    (subst (λ (a : Option (List ℕ)). Stands [] a before (taken c.args.out.now) (taken c.answering.out) r.lines c.answering.session) is c.answering.invariant.stands) hands)
+    c.answering.invariant.now
+    (subst (λ (a : Option (List ℕ)). Stands [] a before (taken c.args.out.now) (taken c.answering.out) r.lines c.answering.invariant.now) is c.answering.invariant.stands) hands)
 
 pub returns-clause-long : goal.returns-clause-long
 returns-clause-long g c =
@@ -120,6 +123,6 @@ returns-clause-long g c =
     let hands : HandsOrder before after r.lines next.lines None =
     subst (λ (o : Option Numbered). HandsOrder before after r.lines next.lines o) none c.in_ok-order.ensures.order in
     known_short [] (left c.args.input.now) before (left c.next_order.new.input) (taken c.args.out.now) (taken c.answering.out) (held next) r.lines next.lines next.count
-    c.answering.session c.answering.invariant.stands hands
+    c.answering.invariant.now c.answering.invariant.stands hands
     (counts_on (left c.args.input.now) (left c.answering.input) (left c.next_order.new.input) 0 r.count next.count c.answering.invariant.counts c.in_ok-order.ensures.counts)
     (c.in_ok-order.ensures.short none)

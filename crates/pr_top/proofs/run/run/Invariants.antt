@@ -1,12 +1,15 @@
 use Rattle.std.proofs.Common.{◌≡◌, ◌+◌, ◌-◌, ◌^◌, []}
+use Rattle.pr_top.specs.Keeping.{KeepsProgress}
 use Rattle.pr_top.specs.Reading.{held, HasRoom, KnowsEnd, ahead, Counts}
-use Rattle.pr_top.specs.Standing.{Stands}
+use Rattle.pr_top.specs.Standing.{Progress, Stands}
 use Rattle.pr_top.proofs.run.run.Given as goal
 
 abbrev pub invariant-answering : goal.invariant-answering
 invariant-answering g l = record {
+  now : Progress;
+  keeps : KeepsProgress l.session now;
   stands : Stands [] (g.I.Source.left l.fn.input) (ahead (held l.reader) (g.I.Source.left l.input)) (g.O.Sink.taken l.fn.out) (g.O.Sink.taken l.out)
-      l.reader.lines l.session;
+      l.reader.lines now;
   room : HasRoom 0 l.reader;
   end : KnowsEnd l.reader (g.I.Source.left l.input);
   counts : Counts (g.I.Source.left l.fn.input) (g.I.Source.left l.input) 0 l.reader.count;

@@ -2,10 +2,10 @@ use Rattle.std.proofs.Common.{refl}
 use Rattle.pr_world.specs.Step.{next}
 use Rattle.pr_world.proofs.examples.a_later_event_moves_the_time.Goals as goal
 
-pub returns-clause-moved : goal.returns-clause-moved
-unfolding next
-returns-clause-moved c = refl
-
 pub returns-clause-added : goal.returns-clause-added
 unfolding next
 returns-clause-added c = refl
+
+pub returns-clause-same : goal.returns-clause-same
+unfolding next
+returns-clause-same c = refl

@@ -1,0 +1,159 @@
+// The printed kinds of faults.
+ghost use Rattle.std.specs.Prelude.{◌≡◌, ◌++◌, OnOk, codes};
+ghost use Rattle.pr_labels.specs.SeriesText.{series_text};
+ghost use Rattle.pr_text.specs.Kinds.{lex_word, parse_word, type_word, fault_word, number_text, type_numbers, type_text, fault_rest, fault_text, kind_text};
+
+use super::printed::push_number;
+use pr_labels::Labels;
+use pr_lex::LexKind;
+use pr_parse::ParseKind;
+use pr_query::FaultKind;
+use pr_types::TypeKind;
+use pr_world::QueryKind;
+use std::alloc::AllocError;
+
+#[tactic(auto, unfolding(crate::specs::Kinds::lex_word))]
+fn lex_word(kind: LexKind) -> &'static str
+    ensures { result.now ≡ lex_word kind }
+{
+    match kind {
+        LexKind::BadChar => "BadChar",
+        LexKind::OpenText => "OpenText",
+        LexKind::BadEscape => "BadEscape",
+        LexKind::BadNumber => "BadNumber",
+        LexKind::TooWide => "TooWide",
+        LexKind::BadSpan => "BadSpan",
+        LexKind::SpanTooLong => "SpanTooLong",
+    }
+}
+
+#[tactic(auto, unfolding(crate::specs::Kinds::parse_word))]
+fn parse_word(kind: ParseKind) -> &'static str
+    ensures { result.now ≡ parse_word kind }
+{
+    match kind {
+        ParseKind::Unexpected => "Unexpected",
+        ParseKind::End => "End",
+        ParseKind::UnknownFunction => "UnknownFunction",
+        ParseKind::Misplaced => "Misplaced",
+        ParseKind::TwoNames => "TwoNames",
+        ParseKind::ZeroSpan => "ZeroSpan",
+        ParseKind::TooDeep => "TooDeep",
+    }
+}
+
+#[tactic(auto, unfolding(crate::specs::Kinds::type_word))]
+fn type_word(kind: TypeKind) -> &'static str
+    ensures { result.now ≡ type_word kind }
+{
+    match kind {
+        TypeKind::WantScalar => "WantScalar",
+        TypeKind::WantVector => "WantVector",
+        TypeKind::WantRange => "WantRange",
+        TypeKind::WantText => "WantText",
+        TypeKind::Arguments { .. } => "Arguments",
+        TypeKind::BoolNeeded => "BoolNeeded",
+        TypeKind::BoolMisplaced => "BoolMisplaced",
+        TypeKind::SetOnScalar => "SetOnScalar",
+        TypeKind::GroupOnSet => "GroupOnSet",
+        TypeKind::MatchOnScalar => "MatchOnScalar",
+        TypeKind::CopiedInOn => "CopiedInOn",
+        TypeKind::NoMatcher => "NoMatcher",
+        TypeKind::BadPattern => "BadPattern",
+        TypeKind::BadLabel => "BadLabel",
+        TypeKind::NotInstant => "NotInstant",
+        TypeKind::Reach { .. } => "Reach",
+        TypeKind::ZeroStep => "ZeroStep",
+    }
+}
+
+#[tactic(auto, unfolding(crate::specs::Kinds::fault_word))]
+fn fault_word(kind: &FaultKind) -> &'static str
+    ensures { result.now ≡ fault_word kind.now }
+{
+    match kind {
+        FaultKind::ManyToMany { .. } => "ManyToMany",
+        FaultKind::NotUnique { .. } => "NotUnique",
+        FaultKind::SameLabels { .. } => "SameLabels",
+        FaultKind::RangeTooLong { .. } => "RangeTooLong",
+        FaultKind::TooWide => "TooWide",
+    }
+}
+
+fn push_number_after(text: &mut Vec<u8>, n: u64) -> Result<(), AllocError>
+    ensures { OnOk result (text.new.items ≡ text.old.items ++ number_text n) }
+{
+    text.extend_from_slice(b" ")?;
+    push_number(text, n)
+}
+
+fn push_labels_after(text: &mut Vec<u8>, labels: &Labels) -> Result<(), AllocError>
+    ensures { OnOk result (text.new.items ≡ text.old.items ++ (codes " " ++ series_text labels.now)) }
+{
+    text.extend_from_slice(b" ")?;
+    labels.write(text)
+}
+
+fn push_arguments(text: &mut Vec<u8>, have: u64, least: u32, most: u32) -> Result<(), AllocError>
+    ensures { OnOk result (text.new.items ≡ text.old.items ++ (number_text have ++ number_text least ++ number_text most)) }
+{
+    push_number_after(text, have)?;
+    push_number_after(text, u64::from(least))?;
+    push_number_after(text, u64::from(most))
+}
+
+fn push_reach(text: &mut Vec<u8>, needed: u64, kept: u64) -> Result<(), AllocError>
+    ensures { OnOk result (text.new.items ≡ text.old.items ++ (number_text needed ++ number_text kept)) }
+{
+    push_number_after(text, needed)?;
+    push_number_after(text, kept)
+}
+
+// What is told after the name of a kind.
+fn push_type_numbers(text: &mut Vec<u8>, kind: TypeKind) -> Result<(), AllocError>
+    ensures { OnOk result (text.new.items ≡ text.old.items ++ type_numbers kind) }
+{
+    match kind {
+        TypeKind::Arguments { have, least, most } => push_arguments(text, have, least, most),
+        TypeKind::Reach { needed, kept } => push_reach(text, needed, kept),
+        _ => Ok(()),
+    }
+}
+
+fn push_type_kind(text: &mut Vec<u8>, kind: TypeKind) -> Result<(), AllocError>
+    ensures { OnOk result (text.new.items ≡ text.old.items ++ type_text kind) }
+{
+    text.extend_from_slice(type_word(kind).as_bytes())?;
+    push_type_numbers(text, kind)
+}
+
+fn push_fault_rest(text: &mut Vec<u8>, kind: &FaultKind) -> Result<(), AllocError>
+    ensures { OnOk result (text.new.items ≡ text.old.items ++ fault_rest kind.now) }
+{
+    match kind {
+        FaultKind::ManyToMany { key } => push_labels_after(text, key),
+        FaultKind::NotUnique { labels } => push_labels_after(text, labels),
+        FaultKind::SameLabels { labels } => push_labels_after(text, labels),
+        FaultKind::RangeTooLong { have } => push_number_after(text, *have),
+        FaultKind::TooWide => Ok(()),
+    }
+}
+
+/// Appends the kind of a fault of an expression. Want of memory alone is an error.
+pub(crate) fn push_fault_kind(text: &mut Vec<u8>, kind: &FaultKind) -> Result<(), AllocError>
+    ensures { OnOk result (text.new.items ≡ text.old.items ++ fault_text kind.now) }
+{
+    text.extend_from_slice(fault_word(kind).as_bytes())?;
+    push_fault_rest(text, kind)
+}
+
+/// Appends why a text is no expression. Want of memory alone is an error.
+pub(crate) fn push_query_kind(text: &mut Vec<u8>, kind: QueryKind) -> Result<(), AllocError>
+    ensures { OnOk result (text.new.items ≡ text.old.items ++ kind_text kind) }
+{
+    match kind {
+        QueryKind::Lex { kind } => text.extend_from_slice(lex_word(kind).as_bytes()),
+        QueryKind::Parse { kind } => text.extend_from_slice(parse_word(kind).as_bytes()),
+        QueryKind::Typing { kind } => push_type_kind(text, kind),
+    }
+}

@@ -1,0 +1,86 @@
+-- The answer to a question, by what its text, its tree and its value are.
+use Rattle.std.proofs.Common.{◌≡◌, ℕ, pos, ◌-ℤ◌, Bool, true, false, List, Result, Ok, Err, IfOk, is_ok, refl, sym, ap, subst}
+use Rattle.std.specs.Int.Signed.{≤ℤ_refl}
+use Rattle.std.specs.declared.alloc.AllocError.{AllocError}
+use Rattle.pr_labels.specs.declared.pair.Pair.{Pair}
+use Rattle.pr_history.specs.declared.entry.Entry.{Entry}
+use Rattle.pr_head.specs.Stored.{Stored}
+use Rattle.pr_ast.specs.declared.place.Place.{Place}
+use Rattle.pr_ast.specs.Tree.{Tree}
+use Rattle.pr_ast.specs.Reach.{reads_back}
+use Rattle.pr_lex.specs.declared.fault.LexKind.{LexKind}
+use Rattle.pr_parse.specs.declared.fault.ParseKind.{ParseKind}
+use Rattle.pr_parse.specs.Parsed.{Parsed, gives_tree, gives_lex_fault, gives_fault}
+use Rattle.pr_types.specs.declared.kind.ValueType.{ValueType}
+use Rattle.pr_types.specs.declared.kind.TypeKind.{TypeKind}
+use Rattle.pr_types.specs.declared.kind.TypeFault.{TypeFault}
+use Rattle.pr_types.specs.Signatures.{fault as type_fault}
+use Rattle.pr_types.specs.Typed.{checked}
+use Rattle.pr_query.specs.declared.fault.Fault.{Fault}
+use Rattle.pr_query.specs.declared.fault.FaultKind.{FaultKind}
+use Rattle.pr_query.specs.declared.value.Value.{Value}
+use Rattle.pr_query.specs.Answers.{fault}
+use Rattle.pr_query.specs.Built.{is_built}
+use Rattle.pr_query.specs.Meaning.{meaning}
+use Rattle.pr_eval.specs.Looks.{KeepsFor}
+use Rattle.pr_top.specs.Asked.{IsAnswer}
+use Rattle.pr_top.specs.Keeping.{IsHeadOf}
+use Rattle.pr_top.specs.declared.answered.Answered.{Answered}
+use Rattle.pr_world.specs.declared.report.Report.{Report}
+use Rattle.pr_world.specs.declared.report.Report.TheVariants.{QueryFault, QueryRefused, NotBuilt}
+use Rattle.pr_world.specs.declared.report.QueryKind.TheVariants.{Lex, Parse, Typing}
+use Rattle.pr_world.specs.Outcome.{refuse}
+use Rattle.pr_world.specs.Query.{if_built, parsed_outcome, told_answer, told_value, typed_outcome}
+use Rattle.pr_world.specs.Settings.{Settings}
+
+-- a head of which nothing is forgotten keeps what any expression looks at
+pub keeps_for : (head : List (List Pair × Stored)) (history : List Entry) (t : Tree) (time : ℕ) → IsHeadOf head history → KeepsFor head history t time
+keeps_for head history t time h = record {
+  lawful = h.lawful;
+  holds = h.holds;
+  forgotten = pos time -ℤ pos (reads_back t);
+  whole = h.whole (pos time -ℤ pos (reads_back t));
+  back = ≤ℤ_refl (pos time -ℤ pos (reads_back t));
+}
+
+-- what is told of an answer
+pub told_ok : (meant : Result Value Fault) (v : Value) → meant ≡ Ok v → told_value v ≡ told_answer meant
+told_ok meant v h = ap told_answer (sym h)
+
+pub told_fault : (meant : Result Value Fault) (place : Place) (kind : FaultKind) → meant ≡ Err (fault place kind) → QueryFault place.start kind ≡ told_answer meant
+told_fault meant place kind h = ap told_answer (sym h)
+
+-- whether an expression is built
+pub built_answer : (b : Bool) (report : Report) (a : Answered) → b ≡ true → a.report ≡ report → a.refused ≡ false → IsAnswer (if_built b report) a
+built_answer true report a h r f = (r, f, refl)
+built_answer false report a h r f = absurd cc
+
+pub unbuilt_answer : (b : Bool) (report : Report) (a : Answered) → b ≡ false → a.report ≡ NotBuilt → a.refused ≡ true → IsAnswer (if_built b report) a
+unbuilt_answer true report a h r f = absurd cc
+unbuilt_answer false report a h r f = (r, f)
+
+-- whether it has a type
+pub typed_answer : (s : Settings) (history : List Entry) (time : ℕ) (t : Tree) (r : Result ValueType TypeFault) (result : Result Answered AllocError) → is_ok r ≡ true
+    → IfOk result (IsAnswer (if_built (is_built t) (told_answer (meaning s.subquery_step history t time)))) → IfOk result (IsAnswer (typed_outcome s history time t r))
+typed_answer s history time t (Ok type) result h k = k
+typed_answer s history time t (Err f) result h k = absurd cc
+
+pub untyped_answer : (s : Settings) (history : List Entry) (time : ℕ) (t : Tree) (at : ℕ) (kind : TypeKind) (a : Answered) → checked t ≡ Err (type_fault at kind)
+    → IsAnswer (refuse (QueryRefused at (Typing kind))) a → IsAnswer (typed_outcome s history time t (checked t)) a
+untyped_answer s history time t at kind a h k = subst (λ r. IsAnswer (typed_outcome s history time t r) a) (sym h) k
+
+-- whether its text has tokens, and a tree
+pub tree_answer : (s : Settings) (history : List Entry) (time : ℕ) (p : Parsed) (t : Tree) (result : Result Answered AllocError) → p ≡ gives_tree t
+    → IfOk result (IsAnswer (typed_outcome s history time t (checked t))) → IfOk result (IsAnswer (parsed_outcome s history time p))
+unfolding parsed_outcome
+tree_answer s history time p t result h k = subst (λ q. IfOk result (IsAnswer (parsed_outcome s history time q))) (sym h) k
+
+pub lex_answer : (s : Settings) (history : List Entry) (time : ℕ) (p : Parsed) (at : ℕ) (kind : LexKind) (a : Answered) → p ≡ gives_lex_fault at kind
+    → IsAnswer (refuse (QueryRefused at (Lex kind))) a → IsAnswer (parsed_outcome s history time p) a
+unfolding parsed_outcome
+lex_answer s history time p at kind a h k = subst (λ q. IsAnswer (parsed_outcome s history time q) a) (sym h) k
+
+pub parse_answer : (s : Settings) (history : List Entry) (time : ℕ) (p : Parsed) (at : ℕ) (kind : ParseKind) (a : Answered) → p ≡ gives_fault at kind
+    → IsAnswer (refuse (QueryRefused at (Parse kind))) a → IsAnswer (parsed_outcome s history time p) a
+unfolding parsed_outcome
+parse_answer s history time p at kind a h k = subst (λ q. IsAnswer (parsed_outcome s history time q) a) (sym h) k

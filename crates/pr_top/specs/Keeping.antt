@@ -1,0 +1,39 @@
+-- Which world the engine stands for: it keeps a head in place of the history.
+use Rattle.std.specs.Prelude.{◌≡◌, ℕ, ℤ, Bool, ◌||◌, List, Option}
+use Rattle.pr_labels.specs.declared.pair.Pair.{Pair}
+use Rattle.pr_history.specs.declared.entry.Entry.{Entry}
+use Rattle.pr_history.specs.Admission.{IsLawful}
+use Rattle.pr_head.specs.Stored.{Stored}
+use Rattle.pr_head.specs.Holds.{Holds, IsWhole}
+use Rattle.pr_text.specs.declared.order.Numbered.{Numbered}
+use Rattle.pr_top.specs.Standing.{Progress}
+use Rattle.pr_top.specs.Told.{turn}
+use Rattle.pr_world.specs.World.{World}
+
+-- the series that are held, and the time of the last event
+pub record Kept : Type 0 where
+  pub head : List (List Pair × Stored)
+  pub last : Option ℕ
+
+-- a head stands for a history of which nothing is forgotten
+pub record IsHeadOf (head : List (List Pair × Stored)) (history : List Entry) : Type 0 where
+  pub holds : Holds head history
+  pub whole : (x : ℤ) → IsWhole head history x
+  pub lawful : IsLawful history
+
+pub record KeepsWorld (k : Kept) (w : World) : Type 0 where
+  pub head : IsHeadOf k.head w.history
+  pub last : k.last ≡ w.last
+
+-- what a run keeps, and how far it has come with it
+pub record Run : Type 0 where
+  pub kept : Kept
+  pub refused : Bool
+
+pub record KeepsProgress (run : Run) (p : Progress) : Type 0 where
+  pub world : KeepsWorld run.kept p.world
+  pub refused : run.refused ≡ p.refused
+
+-- one order further
+abbrev pub progress_after : Progress → Numbered → Progress
+progress_after p o = record { world = (turn p.world o).world; refused = p.refused || (turn p.world o).answer.refused }
