@@ -1,0 +1,10 @@
+pub mod TreeTable
+pub mod TreesEnd
+pub mod Keys
+pub mod KeyTokens
+pub mod Ways
+pub mod Loops
+pub mod WholeTrees
+pub mod FaultLines
+pub mod ReadLaws
+pub mod DistinctKeys

@@ -1,0 +1,10 @@
+pub mod Tree
+pub mod Grammar
+pub mod GrammarTable
+pub mod Reader
+pub mod Trees
+pub mod Faults
+pub mod Read
+pub mod Derived
+pub mod Distinct
+pub mod Worked

@@ -1,0 +1,20 @@
+//! The trees of YAML texts in the profile of rule files.
+#![tactic(auto)]
+
+pub mod examples;
+mod fault;
+mod found;
+mod kinds;
+pub mod laws;
+mod made;
+mod node;
+mod reader;
+#[cfg(test)]
+mod tests;
+mod tokens;
+mod trees;
+mod whole;
+
+pub use fault::YamlError;
+pub use node::{Entry, Kind, Node};
+pub use reader::read;
