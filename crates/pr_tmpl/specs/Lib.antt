@@ -1,0 +1,5 @@
+pub mod Decimals
+pub mod Humanized
+pub mod Expansion
+pub mod Pieces
+pub mod TemplateText

@@ -1,0 +1,73 @@
+//! What the definitions say of small values.
+ghost use Rattle.std.specs.Prelude.{◌≡◌, codes, pos, neg_ℤ, [], ◌∷◌, ◌++◌};
+ghost use Rattle.std.specs.Prelude.{Some};
+ghost use Rattle.pr_labels.specs.LabelSet.{named};
+ghost use Rattle.pr_tmpl.specs.declared.template.External.{External};
+ghost use Rattle.pr_tmpl.specs.declared.template.Verb.TheVariants.{Plain, Fixed};
+ghost use Rattle.pr_tmpl.specs.declared.template.Operand.TheVariants.{Value, Label, ExternalLabel, ExternalUrl, Words as Quoted};
+ghost use Rattle.pr_tmpl.specs.declared.template.Call.TheVariants.{Printf, Humanize, HumanizePercentage, HumanizeDuration};
+ghost use Rattle.pr_tmpl.specs.declared.template.Part.TheVariants.{Words, Pipe};
+ghost use Rattle.pr_tmpl.specs.TemplateText.{template_parts, bad_template_place};
+ghost use Rattle.pr_tmpl.specs.Expansion.{expansion};
+ghost use Rattle.pr_num.specs.declared.value.Num.TheVariants.{Finite, NaN, NegInf};
+ghost use Rattle.pr_tmpl.specs.Decimals.{fixed};
+ghost use Rattle.pr_tmpl.specs.Humanized.{humanize, humanize_percentage, humanize_duration};
+
+/// How values are written.
+pub fn values_are_written_so()
+    ensures two_places { fixed 2 (pos 1234567891) ≡ codes "1.23" }
+    ensures tie_to_even { fixed 0 (pos 2500000000) ≡ codes "2" }
+    ensures six_places { fixed 6 (neg_ℤ (pos 1500000000)) ≡ codes "-1.500000" }
+    ensures no_sign_of_zero { fixed 1 (neg_ℤ (pos 40000000)) ≡ codes "0.0" }
+    ensures thousands { humanize (Finite (pos 1234567000000000)) ≡ codes "1.235M" }
+    ensures after_the_division { humanize (Finite (pos 999960000000)) ≡ codes "1000" }
+    ensures thousandths { humanize (Finite (neg_ℤ (pos 2500000))) ≡ codes "-2.5m" }
+    ensures least { humanize (Finite (pos 1)) ≡ codes "1n" }
+    ensures greatest { humanize (Finite (pos 99999999999999999999000000000)) ≡ codes "100E" }
+    ensures zero { humanize (Finite (pos 0)) ≡ codes "0" }
+    ensures special { humanize NaN ≡ codes "NaN" }
+    ensures percentage { humanize_percentage (Finite (pos 123456000)) ≡ codes "12.35%" }
+    ensures no_percentage { humanize_percentage (Finite (pos 0)) ≡ codes "0%" }
+    ensures infinite_percentage { humanize_percentage NegInf ≡ codes "-Inf" }
+    ensures no_duration { humanize_duration (Finite (pos 0)) ≡ codes "0s" }
+    ensures milliseconds { humanize_duration (Finite (pos 12345600)) ≡ codes "12.35ms" }
+    ensures seconds { humanize_duration (Finite (pos 59999000000)) ≡ codes "60s" }
+    ensures minutes { humanize_duration (Finite (pos 60000000000)) ≡ codes "1m 0s" }
+    ensures days { humanize_duration (Finite (neg_ℤ (pos 93784900000000))) ≡ codes "-1d 2h 3m 4s" }
+{}
+
+/// What small texts are as templates, and how those expand.
+pub fn small_templates_expand_so()
+    ensures words { template_parts (codes "a{b") ≡ Some (Words (codes "a{b") ∷ []) }
+    ensures nothing { template_parts [] ≡ Some [] }
+    ensures value { template_parts (codes "v={{ $value }}!") ≡ Some (Words (codes "v=") ∷ Pipe Value [] ∷ Words (codes "!") ∷ []) }
+    ensures pipe { template_parts (codes "{{.Labels.a|humanize | humanizeDuration}}") ≡ Some (Pipe (Label (codes "a")) (Humanize ∷ HumanizeDuration ∷ []) ∷ []) }
+    ensures first_call { template_parts (codes "{{ humanizePercentage .Value }}") ≡ Some (Pipe Value (HumanizePercentage ∷ []) ∷ []) }
+    ensures address { template_parts (codes "{{$externalURL}}{{\"A\"}}") ≡ Some (Pipe ExternalUrl [] ∷ Pipe (Quoted (codes "A")) [] ∷ []) }
+    ensures external { template_parts (codes "{{ .ExternalLabels.zone }}") ≡ Some (Pipe (ExternalLabel (codes "zone")) [] ∷ []) }
+    ensures format { template_parts (codes "{{ printf \"<%.2f>\" $value }}") ≡ Some (Pipe Value (Printf (record { before = codes "<"; verb = Fixed 2; after = codes ">" }) ∷ []) ∷ []) }
+    ensures cut_word { bad_template_place (codes "{{ $valu }}") ≡ 8 }
+    ensures long_word { bad_template_place (codes "{{ $valuex }}") ≡ 9 }
+    ensures one_brace { bad_template_place (codes "{{ $value }x") ≡ 11 }
+    ensures no_call { bad_template_place (codes "{{ humanizeP }}") ≡ 12 }
+    ensures alone { bad_template_place (codes "{{") ≡ 2 }
+    ensures trim { bad_template_place (codes "{{- x") ≡ 2 }
+    ensures control { bad_template_place (codes "{{ if") ≡ 3 }
+    ensures no_blank { bad_template_place (codes "{{ printf\"%s\"") ≡ 9 }
+    ensures two_blanks { template_parts (codes "{{ printf  \"%v\" $value }}") ≡ Some (Pipe Value (Printf (record { before = []; verb = Plain; after = [] }) ∷ []) ∷ []) }
+    ensures percents { template_parts (codes "{{ $value|printf \"a%%\\x25.2f%%\" }}") ≡ Some (Pipe Value (Printf (record { before = codes "a%"; verb = Fixed 2; after = codes "%" }) ∷ []) ∷ []) }
+    ensures written_otherwise { bad_template_place (codes "{{ printf \"%\\x77") ≡ 12 }
+    ensures cut_escape { bad_template_place (codes "{{ printf \"%\\x7") ≡ 15 }
+    ensures other_verb { bad_template_place (codes "{{ printf \"%d\\q\" 1") ≡ 12 }
+    ensures two_verbs { bad_template_place (codes "{{ printf \"%v%s\" $value }}") ≡ 14 }
+    ensures bad_escape { bad_template_place (codes "{{ printf \"%v\\%\" $value }}") ≡ 14 }
+    ensures no_verb { bad_template_place (codes "{{ printf \"%%\" $value }}") ≡ 13 }
+    ensures not_ascii { bad_template_place (codes "{{ printf \"" ++ (0xC3 ∷ 0xA9 ∷ codes "%" ++ (0xC3 ∷ 0xA9 ∷ codes "\""))) ≡ 14 }
+    ensures text_of_escapes { template_parts (codes "\\n\\q\\x4") ≡ Some (Words (codes "\\n\\q\\x4") ∷ []) }
+    ensures expanded { (e : External) → expansion (named (codes "m")) (Finite (pos 42000000000)) e
+        (Words (codes "v=") ∷ Pipe Value [] ∷ Words (codes " ") ∷ Pipe (Label (codes "__name__")) [] ∷ Pipe (Label (codes "x")) [] ∷ []) ≡ codes "v=42 m" }
+    ensures of_a_text { (e : External) → expansion [] NaN e (Pipe (Quoted (codes "12.5")) (HumanizePercentage ∷ []) ∷ []) ≡ codes "1250%" }
+    ensures not_a_number { (e : External) → expansion [] NaN e (Pipe (Quoted (codes "a")) (Humanize ∷ []) ∷ Pipe Value (HumanizeDuration ∷ []) ∷ []) ≡ codes "aNaN" }
+    ensures calls { (e : External) → expansion [] (Finite (pos 3725000000000)) e
+        (Pipe Value (Printf (record { before = []; verb = Fixed 0; after = [] }) ∷ HumanizeDuration ∷ []) ∷ []) ≡ codes "1h 2m 5s" }
+{}
