@@ -8,3 +8,4 @@ pub mod WholeTrees
 pub mod FaultLines
 pub mod ReadLaws
 pub mod DistinctKeys
+pub mod ReturnLines

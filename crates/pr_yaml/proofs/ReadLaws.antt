@@ -1,5 +1,5 @@
 -- What a text is read as is its tree, or its first fault.
-use Rattle.std.proofs.Common.{◌≡◌, ◌↔◌, ℕ, ◌≤◌, nat_le, List, [], ◌∷◌, length, drop, Option, Some, None, Bool, true, false, refl, ap, sym, ◌∙◌, subst, arith}
+use Rattle.std.proofs.Common.{◌≡◌, ◌↔◌, ℕ, ◌≤◌, nat_le, List, [], ◌∷◌, length, drop, Option, Some, None, Bool, true, refl, ap, sym, ◌∙◌, subst, arith}
 use Rattle.std.specs.Prelude.{MatchResult, IfOk, IfErr, Result, Ok, Err, slice_get}
 use Rattle.std.proofs.lemmas.Bool.Decides.{nat_tests}
 use Rattle.std.proofs.lemmas.List.{length-map}
@@ -10,9 +10,6 @@ use Rattle.pr_yaml_scan.specs.declared.fault.YamlKind.{YamlKind}
 use Rattle.pr_yaml_scan.specs.declared.fault.BadPlace.{BadPlace}
 use Rattle.pr_yaml_scan.specs.Tokens.{HasPlaces}
 use Rattle.pr_yaml_scan.specs.Scan.{scanned_places}
-use Rattle.pr_yaml_scan.specs.Bytes.{legible, without_mark}
-use Rattle.pr_yaml_scan.specs.Worked.{tokens_of, has_return, with_returns}
-use Rattle.pr_yaml_scan.proofs.Returns.{same_tokens}
 use Rattle.pr_yaml_scan.proofs.ScanLaws.{is_function}
 use Rattle.pr_yaml.specs.declared.node.Node.{Node}
 use Rattle.pr_yaml.specs.declared.fault.YamlError.{YamlError}
@@ -169,29 +166,3 @@ pub answered_fault : (text : List ℕ) (r : Result Node YamlError) → MatchResu
 answered_fault text (Ok n) h = tt
 answered_fault text (Err (Fault line kind)) h = fault_there text line kind h
 answered_fault text (Err Memory) h = tt
-
--- Another text with the same tokens and no bad place has the same tree.
-same_end : (text other : List ℕ) (tokens : List Token) (bad : Option BadPlace) (found : Option Tree) (tree : Tree) → at_end text tokens bad found ≡ gives_tree tree → at_end other tokens bad found ≡ gives_tree tree
-same_end text other tokens (Some b) found tree e = absurd cc
-same_end text other tokens None (Some t) tree e = e
-same_end text other tokens None None tree e = absurd cc
-
-same_stop : (text other : List ℕ) (tokens : List Token) (bad : Option BadPlace) (place : ℕ) (o : Option Token) (tree : Tree) → at_stop text tokens bad place o ≡ gives_tree tree → at_stop other tokens bad place o ≡ gives_tree tree
-same_stop text other tokens bad place (Some t) tree e = absurd cc
-same_stop text other tokens bad place None tree e = same_end text other tokens bad (tree_in true levels (letters tokens)) tree e
-
-same_tree : (text other : List ℕ) (tokens : List Token) (bad : Option BadPlace) (tree : Tree) → read_tokens text tokens bad ≡ gives_tree tree → read_tokens other tokens bad ≡ gives_tree tree
-same_tree text other tokens bad tree e =
-    let place = stop true levels (letters tokens) in
-    tokens_read other tokens bad place refl ∙ same_stop text other tokens bad place (slice_get tokens place) tree (sym (tokens_read text tokens bad place refl) ∙ e)
-
--- what a text is read as where it is read as it is
-plain_reading : (text : List ℕ) → legible (without_mark text) ≡ text → read_of text ≡ read_tokens text (tokens_of text).0 (tokens_of text).1
-unfolding read_of scanned_places
-plain_reading text e = ap (λ x. read_tokens text (tokens_of x).0 (tokens_of x).1) e
-
-pub returns_same : (text : List ℕ) (tree : Tree) → has_return text ≡ false → legible (without_mark text) ≡ text → legible (without_mark (with_returns text)) ≡ with_returns text →
-    read_of text ≡ gives_tree tree → read_of (with_returns text) ≡ gives_tree tree
-returns_same text tree none here there e =
-    plain_reading (with_returns text) there
-    ∙ (ap (λ x. read_tokens (with_returns text) x.0 x.1) (same_tokens text none) ∙ same_tree text (with_returns text) (tokens_of text).0 (tokens_of text).1 tree (sym (plain_reading text here) ∙ e))

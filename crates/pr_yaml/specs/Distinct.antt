@@ -17,4 +17,5 @@ abbrev mutual
   -- entries after others with these keys
   pub are_distinct : List (List ℕ) → EntryTrees → Bool
   are_distinct keys no_entries = true
-  are_distinct keys (entry_then key line value es) = not (is_among key keys) && (has_distinct_keys value && are_distinct (keys ++ key ∷ []) es)
+  are_distinct keys (entry_then key line value es) =
+      not (is_among key keys) && (has_distinct_keys value && are_distinct (keys ++ key ∷ []) es)

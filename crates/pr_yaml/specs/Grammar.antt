@@ -58,9 +58,10 @@ pub data Value : Type 0 where
   absent : Value
   mark : Value
 
--- The rules. In their names: `line` is the line of the token that a map or a list begins with; `column` is where the tokens of a rule
--- stand, but for `Node`, which stands at it or further on; `room` is how many maps and lists may still stand in one another there, the
--- node of the rule with them; `keys` are the keys of the map so far, and `key` is the one that comes next.
+-- The rules. In their names: `line` is the line of the token that a map or a list begins with; `column` is where the
+-- tokens of a rule stand, but for `Node`, which stands at it or further on; `room` is how many maps and lists may
+-- still stand in one another there, the node of the rule with them; `keys` are the keys of the map so far, and `key`
+-- is the one that comes next.
 pub data Rule : Type 0 where
   Whole : ℕ → Rule
   Node : ℕ → ℕ → Rule
@@ -109,7 +110,8 @@ value_from room t = if is_allowed room then flow_node_of (room - 1) t else None
 
 -- a list under a key, at the key's column
 abbrev pub list_from : ℕ → ℕ → Letter → Option Rule
-list_from column room (dash_at line c) = if is_allowed room && nat_eq column c then Some (Items line column (room - 1)) else None
+list_from column room (dash_at line c) =
+    if is_allowed room && nat_eq column c then Some (Items line column (room - 1)) else None
 list_from column room _ = None
 
 -- Whether a key stands among others. Where keys are distinct, a key that does is no key of their map.
@@ -120,11 +122,13 @@ abbrev pub is_taken : Bool → List ℕ → List (List ℕ) → Bool
 is_taken distinct key keys = distinct && is_among key keys
 
 abbrev pub entry_from : Bool → ℕ → ℕ → List (List ℕ) → Letter → Option Rule
-entry_from distinct column room keys (key_at line c key) = if nat_eq column c && not (is_taken distinct key keys) then Some (Entry column room keys key) else None
+entry_from distinct column room keys (key_at line c key) =
+    if nat_eq column c && not (is_taken distinct key keys) then Some (Entry column room keys key) else None
 entry_from distinct column room keys _ = None
 
 abbrev pub pair_from : Bool → ℕ → List (List ℕ) → Letter → Option Rule
-pair_from distinct room keys (key_at line c key) = if not (is_taken distinct key keys) then Some (Pair room keys key) else None
+pair_from distinct room keys (key_at line c key) =
+    if not (is_taken distinct key keys) then Some (Pair room keys key) else None
 pair_from distinct room keys _ = None
 
 abbrev pub leaf_in : Letter → Option Value
@@ -207,7 +211,8 @@ abbrev pub flow_list_of : Value → Value → Value
 flow_list_of (at line) v = list_on line mark v
 flow_list_of _ v = mark
 
--- What may go on after a part that stands at a column or further on; after the items of a list under a key; inside flows.
+-- What may go on after a part that stands at a column or further on; after the items of a list under a key; inside
+-- flows.
 abbrev pub is_within : ℕ → Letter → Bool
 is_within column t = nat_le column (column_of t)
 
@@ -237,17 +242,30 @@ production distinct (Node column room) = chosen (node_from column room) (is_with
 production distinct Leaf = token leaf_in
 production distinct (Map line column room) = pair (map_on line) (nothing mark) (rule (Entries column room []))
 production distinct (Entries column room keys) = chosen (entry_from distinct column room keys) (is_within column)
-production distinct (Entry column room keys key) = pair entry_before (pair (entry_of key) (token (key_in column)) (rule (Under column room))) (rule (MoreEntries column room (keys ++ key ∷ [])))
+production distinct (Entry column room keys key) =
+    pair entry_before (pair (entry_of key) (token (key_in column)) (rule (Under column room)))
+    (rule (MoreEntries column room (keys ++ key ∷ [])))
 production distinct (MoreEntries column room keys) = either (rule (Entries column room keys)) (nothing (entries []))
-production distinct (Under column room) = either (rule (Node (column + 1) room)) (either (chosen (list_from column room) (is_item_more column)) (nothing absent))
+production distinct (Under column room) =
+    either (rule (Node (column + 1) room))
+    (either (chosen (list_from column room) (is_item_more column)) (nothing absent))
 production distinct (Items line column room) = pair (list_on line) (nothing mark) (rule (Dashes column room))
-production distinct (Dashes column room) = pair item_before (pair item_of (token (dash_in column)) (either (rule (Node (column + 1) room)) (nothing absent))) (rule (MoreDashes column room))
+production distinct (Dashes column room) =
+    pair item_before (pair item_of (token (dash_in column)) (either (rule (Node (column + 1) room)) (nothing absent)))
+    (rule (MoreDashes column room))
 production distinct (MoreDashes column room) = either (rule (Dashes column room)) (nothing (items []))
-production distinct (FlowList room) = pair flow_list_of (token list_open_in) (pair first_of (rule (Values room)) (token list_close_in))
-production distinct (Values room) = either (pair item_before (chosen (value_from room) no_more) (rule (AfterValue room))) (nothing (items []))
-production distinct (AfterValue room) = either (pair second_of (token comma_in) (rule (Values room))) (nothing (items []))
-production distinct (FlowMap room) = pair flow_map_of (token map_open_in) (pair first_of (rule (Pairs room [])) (token map_close_in))
+production distinct (FlowList room) =
+    pair flow_list_of (token list_open_in) (pair first_of (rule (Values room)) (token list_close_in))
+production distinct (Values room) =
+    either (pair item_before (chosen (value_from room) no_more) (rule (AfterValue room))) (nothing (items []))
+production distinct (AfterValue room) =
+    either (pair second_of (token comma_in) (rule (Values room))) (nothing (items []))
+production distinct (FlowMap room) =
+    pair flow_map_of (token map_open_in) (pair first_of (rule (Pairs room [])) (token map_close_in))
 production distinct (Pairs room keys) = either (chosen (pair_from distinct room keys) is_in_map) (nothing (entries []))
-production distinct (Pair room keys key) = pair entry_before (pair (entry_of key) (token any_key_in) (rule (PairValue room))) (rule (AfterPair room (keys ++ key ∷ [])))
+production distinct (Pair room keys key) =
+    pair entry_before (pair (entry_of key) (token any_key_in) (rule (PairValue room)))
+    (rule (AfterPair room (keys ++ key ∷ [])))
 production distinct (PairValue room) = either (chosen (value_from room) no_more) (nothing absent)
-production distinct (AfterPair room keys) = either (pair second_of (token comma_in) (rule (Pairs room keys))) (nothing (entries []))
+production distinct (AfterPair room keys) =
+    either (pair second_of (token comma_in) (rule (Pairs room keys))) (nothing (entries []))

@@ -25,7 +25,8 @@ starts_rule distinct (Map line column room) t = is_some (entry_from distinct col
 starts_rule distinct (Entries column room keys) t = is_some (entry_from distinct column room keys t)
 starts_rule distinct (Entry column room keys key) t = is_some (key_in column t)
 starts_rule distinct (MoreEntries column room keys) t = is_some (entry_from distinct column room keys t)
-starts_rule distinct (Under column room) t = is_some (node_from (column + 1) room t) || is_some (list_from column room t)
+starts_rule distinct (Under column room) t =
+    is_some (node_from (column + 1) room t) || is_some (list_from column room t)
 starts_rule distinct (Items line column room) t = is_some (dash_in column t)
 starts_rule distinct (Dashes column room) t = is_some (dash_in column t)
 starts_rule distinct (MoreDashes column room) t = is_some (dash_in column t)

@@ -17,7 +17,8 @@ pub data Reading : Type 0 where
   -- the line and the kind of the first fault
   gives_fault : ℕ → YamlKind → Reading
 
--- Where all tokens can go on, the fault is that of the bytes after them. Without one they have a tree, or a flow is still open at the end.
+-- Where all tokens can go on, the fault is that of the bytes after them. Without one they have a tree, or a flow is
+-- still open at the end.
 abbrev pub at_end : List ℕ → List Token → Option BadPlace → Option Tree → Reading
 at_end text tokens (Some bad) found = gives_fault bad.fault.line (scan_kind tokens bad)
 at_end text tokens None (Some tree) = gives_tree tree
@@ -29,7 +30,8 @@ at_stop text tokens bad place (Some t) = gives_fault t.line (token_kind text tok
 at_stop text tokens bad place None = at_end text tokens bad (tree_in true levels (letters tokens))
 
 unfoldable pub read_tokens : List ℕ → List Token → Option BadPlace → Reading
-read_tokens text tokens bad = at_stop text tokens bad (stop true levels (letters tokens)) (slice_get tokens (stop true levels (letters tokens)))
+read_tokens text tokens bad =
+    at_stop text tokens bad (stop true levels (letters tokens)) (slice_get tokens (stop true levels (letters tokens)))
 
 unfoldable pub read_of : List ℕ → Reading
 read_of text = read_tokens text (scanned_places text).0 (scanned_places text).1

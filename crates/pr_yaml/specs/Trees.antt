@@ -12,8 +12,8 @@ use Rattle.pr_yaml.specs.GrammarTable.{table, steps}
 abbrev pub levels : ℕ
 levels = 64
 
--- The place of the first token up to which the tokens cannot go on; their number, where all can. Keys of a map are distinct or not, and
--- there is room for so many maps and lists in one another.
+-- The place of the first token up to which the tokens cannot go on; their number, where all can. Keys of a map are
+-- distinct or not, and there is room for so many maps and lists in one another.
 unfoldable pub stop : Bool → ℕ → List Letter → ℕ
 stop distinct room ts = bad_place (production distinct) (table distinct) steps (rule (Whole room)) ts
 
@@ -23,7 +23,8 @@ goes_on distinct room ts = nat_le (length ts) (stop distinct room ts)
 
 -- The tree of all tokens, where they have one. No tokens are an absent node on the first line.
 unfoldable pub tree_in : Bool → ℕ → List Letter → Option Tree
-tree_in distinct room ts = option_map (or_absent 1) (reading (production distinct) (table distinct) steps (rule (Whole room)) ts)
+tree_in distinct room ts =
+    option_map (or_absent 1) (reading (production distinct) (table distinct) steps (rule (Whole room)) ts)
 
 -- Why tokens have no tree: they stop at a place; or want of memory, of which nothing is said.
 abbrev pub IsNoTree : Bool → ℕ → List Letter → TreeFault → Type 0

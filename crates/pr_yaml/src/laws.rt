@@ -1,9 +1,10 @@
 //! The laws of trees, as the contracts of functions that do nothing.
 ghost use Rattle.std.specs.Prelude.{◌≡◌, ◌↔◌, ℕ, Bool, true, false, List, []};
+ghost use Rattle.std.specs.Str.{is_utf8};
 ghost use Rattle.pr_forms.specs.Form.{rule, Begins};
 ghost use Rattle.pr_forms.specs.Table.{IsDecided};
 ghost use Rattle.pr_forms.specs.Reading.{Ends};
-ghost use Rattle.pr_yaml_scan.specs.Bytes.{legible, without_mark};
+ghost use Rattle.pr_yaml_scan.specs.Bytes.{without_mark};
 ghost use Rattle.pr_yaml_scan.specs.Worked.{has_return, with_returns};
 ghost use Rattle.pr_yaml_scan.specs.declared.fault.YamlKind.{YamlKind};
 ghost use Rattle.pr_yaml.specs.Tree.{Tree};
@@ -44,9 +45,8 @@ pub fn keys_of_a_map_are_distinct()
     ensures { (text : List ℕ) (tree : Tree) → IsTree text tree → has_distinct_keys tree ≡ true }
 {}
 
-/// With a carriage return before each line feed a text has the same tree. It is said of texts that are read as they are: UTF-8 without
-/// a byte order mark.
-pub fn returns_change_no_tree()
-    ensures { (text : List ℕ) (tree : Tree) → has_return text ≡ false → legible (without_mark text) ≡ text → legible (without_mark (with_returns text)) ≡ with_returns text →
-        read_of text ≡ gives_tree tree → read_of (with_returns text) ≡ gives_tree tree }
+/// With a carriage return before each line feed a text is read as without them: the same tree, or a fault of the same kind on
+/// the same line. It is said of texts that are UTF-8, after a byte order mark or without one.
+pub fn returns_change_no_reading()
+    ensures { (text : List ℕ) → has_return text ≡ false → is_utf8 (without_mark text) ≡ true → read_of (with_returns text) ≡ read_of text }
 {}

@@ -1,10 +1,19 @@
 -- A carriage return before each line feed changes no line.
-use Rattle.std.proofs.Common.{◌≡◌, ℕ, zero, suc, ◌+◌, ◌-◌, ◌<◌, Bool, true, false, cond, ◌||◌, if◌then◌else◌, List, [], ◌∷◌, ◌++◌, length, get_or, refl, sym, ap, ◌∙◌, arith, length-append}
+use Rattle.std.proofs.Common.{◌≡◌, ℕ, zero, suc, ◌-◌, ◌<◌, Bool, true, false, cond, ◌||◌, if◌then◌else◌, List, [], ◌∷◌, ◌++◌, length, get_or, drop, refl, sym, subst, ap, ◌∙◌, arith, length-append, append_assoc, ◌==◌, ◌&&◌, lit<}
+use Rattle.std.specs.Str.{IsUtf8, is_utf8}
+use Rattle.std.proofs.lemmas.Str.{IsUtf8-append, IsUtf8-from_is_utf8, is_utf8-from_IsUtf8}
+use Rattle.std.proofs.lemmas.Bool.Decides.{nat_tests}
+use Rattle.pr_strings.proofs.StringUtf8.{before_byte, after_byte, byte_text}
 use Prim.Native.Char.{code}
 use Rattle.std.specs.List.{slice_split, onto_first}
 use Rattle.std.proofs.Math.Seq.{take-append_seam, get_or-append_seam}
 use Rattle.pr_yaml_scan.specs.Lines.{is_feed, without_return, ended, lines_of}
 use Rattle.pr_yaml_scan.specs.Worked.{tokens_of, is_return, has_return, with_returns}
+use Rattle.pr_yaml_scan.specs.Bytes.{marked, without_mark, legible}
+use Rattle.pr_yaml_scan.specs.Scan.{scanned_places}
+use Rattle.pr_yaml_scan.proofs.Shorter.{equal_of}
+use Rattle.pr_yaml_scan.proofs.QuotedLines.{first_true, second_true}
+use Rattle.pr_yaml_scan.proofs.ScanLoop.{seen_whole}
 use Rattle.pr_yaml_scan.proofs.Lines.{split_some, ended_some}
 
 -- the lines but the last one with a carriage return at their end
@@ -78,9 +87,81 @@ same_ended (l ∷ (m ∷ more)) h = with_rest (returned (m ∷ more)) (returned_
   with_rest : (rs : List (List ℕ)) → 0 < length rs → ended rs ≡ ended (m ∷ more) → ended ((l ++ code "\r" ∷ []) ∷ rs) ≡ without_return l ∷ ended (m ∷ more)
   with_rest rs some e = ended_some (l ++ code "\r" ∷ []) rs some ∙ rw (cut l, kept l h.0, e) refl
 
-same_lines : (text : List ℕ) → has_return text ≡ false → lines_of (with_returns text) ≡ lines_of text
+pub same_lines : (text : List ℕ) → has_return text ≡ false → lines_of (with_returns text) ≡ lines_of text
 unfolding lines_of
 same_lines text h = ap ended (split_returns text) ∙ same_ended (slice_split is_feed text) (bare_lines text h)
 
 pub same_tokens : (text : List ℕ) → has_return text ≡ false → tokens_of (with_returns text) ≡ tokens_of text
 same_tokens text h = rw (same_lines text h) refl
+
+-- so it is with all that is read of a text
+returns_text : (t text : List ℕ) → IsUtf8 (t ++ text) → IsUtf8 (t ++ with_returns text)
+returns_text t [] u = u
+returns_text t (b ∷ rest) u = by_test (is_feed b) refl (λ v. returns_text [] rest v) (λ v. returns_text (t ++ b ∷ []) rest v) where
+  by_test : (x : Bool) → is_feed b ≡ x → (IsUtf8 rest → IsUtf8 (with_returns rest)) → (IsUtf8 ((t ++ b ∷ []) ++ rest) → IsUtf8 ((t ++ b ∷ []) ++ with_returns rest)) →
+      IsUtf8 (t ++ (if x then code "\r" ∷ (b ∷ with_returns rest) else b ∷ with_returns rest))
+  by_test true e below beside =
+      let small : b < 128 = grind (arith, nat_tests) in
+      IsUtf8-append t (code "\r" ∷ (b ∷ with_returns rest)) (before_byte t rest b small u) (IsUtf8-append (code "\r" ∷ []) (b ∷ with_returns rest) (byte_text 13 (lit< tt))
+      (IsUtf8-append (b ∷ []) (with_returns rest) (byte_text b small) (below (after_byte t rest b small u))))
+  by_test false e below beside = subst IsUtf8 (append_assoc t (b ∷ []) (with_returns rest)) (beside (subst IsUtf8 (sym (append_assoc t (b ∷ []) rest)) u))
+
+and_false : (x : Bool) → (x && false) ≡ false
+and_false true = refl
+and_false false = refl
+
+unmarked : (text : List ℕ) → marked text ≡ false → marked (with_returns text) ≡ false
+unmarked [] e = refl
+unmarked (a ∷ []) e = by_test (is_feed a) where
+  by_test : (x : Bool) → marked (if x then code "\r" ∷ (a ∷ []) else a ∷ []) ≡ false
+  by_test true = refl
+  by_test false = refl
+unmarked (a ∷ (b ∷ [])) e = by_test (is_feed a) (is_feed b) where
+  by_test : (x y : Bool) → marked (if x then code "\r" ∷ (a ∷ (if y then code "\r" ∷ (b ∷ []) else b ∷ [])) else a ∷ (if y then code "\r" ∷ (b ∷ []) else b ∷ [])) ≡ false
+  by_test true true = refl
+  by_test true false = refl
+  by_test false true = and_false (a == 0xEF)
+  by_test false false = refl
+unmarked (a ∷ (b ∷ (c ∷ rest))) e = by_test (is_feed a) (is_feed b) (is_feed c) where
+  by_test : (x y z : Bool) → marked (if x then code "\r" ∷ (a ∷ (if y then code "\r" ∷ (b ∷ (if z then code "\r" ∷ (c ∷ with_returns rest) else c ∷ with_returns rest)) else b ∷ (if z then code "\r" ∷ (c ∷ with_returns rest) else c ∷ with_returns rest)))
+      else a ∷ (if y then code "\r" ∷ (b ∷ (if z then code "\r" ∷ (c ∷ with_returns rest) else c ∷ with_returns rest)) else b ∷ (if z then code "\r" ∷ (c ∷ with_returns rest) else c ∷ with_returns rest))) ≡ false
+  by_test true true z = refl
+  by_test true false z = refl
+  by_test false true z = and_false (a == 0xEF)
+  by_test false false true = ap (λ x. (a == 0xEF) && x) (and_false (b == 0xBB)) ∙ and_false (a == 0xEF)
+  by_test false false false = e
+
+still_marked : (text : List ℕ) → marked text ≡ true → without_mark (with_returns text) ≡ with_returns (drop 3 text)
+still_marked [] e = absurd cc
+still_marked (a ∷ []) e = absurd cc
+still_marked (a ∷ (b ∷ [])) e = absurd cc
+still_marked (a ∷ (b ∷ (c ∷ rest))) e =
+    let first = first_true (a == 0xEF) ((b == 0xBB) && (c == 0xBF)) e in
+    let rest_marked = second_true (a == 0xEF) ((b == 0xBB) && (c == 0xBF)) e in
+    let second = first_true (b == 0xBB) (c == 0xBF) rest_marked in
+    let third = second_true (b == 0xBB) (c == 0xBF) rest_marked in
+    rw (equal_of a 0xEF first, equal_of b 0xBB second, equal_of c 0xBF third) refl
+
+pub mark_returns : (text : List ℕ) → without_mark (with_returns text) ≡ with_returns (without_mark text)
+mark_returns text = by_test (marked text) refl where
+  by_test : (x : Bool) → marked text ≡ x → without_mark (with_returns text) ≡ with_returns (if x then drop 3 text else text)
+  by_test true e = still_marked text e
+  by_test false e = rw (unmarked text e) refl
+
+return_drop : (n : ℕ) (text : List ℕ) → has_return text ≡ false → has_return (drop n text) ≡ false
+return_drop zero text h = h
+return_drop (suc n) [] h = h
+return_drop (suc n) (b ∷ text) h = return_drop n text (or_right (is_return b) (has_return text) h)
+
+pub return_mark : (text : List ℕ) → has_return text ≡ false → has_return (without_mark text) ≡ false
+return_mark text h = by_test (marked text) where
+  by_test : (x : Bool) → has_return (if x then drop 3 text else text) ≡ false
+  by_test true = return_drop 3 text h
+  by_test false = h
+
+pub same_places : (text : List ℕ) → has_return text ≡ false → is_utf8 (without_mark text) ≡ true → scanned_places (with_returns text) ≡ scanned_places text
+unfolding scanned_places
+same_places text h u =
+    let w = without_mark text in
+    let there = seen_whole (with_returns w) (is_utf8-from_IsUtf8 (with_returns w) (returns_text [] w (IsUtf8-from_is_utf8 w u))) in
+    ap tokens_of (ap legible (mark_returns text) ∙ there) ∙ (same_tokens w (return_mark text h) ∙ ap tokens_of (sym (seen_whole w u)))
