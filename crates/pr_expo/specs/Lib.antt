@@ -1,0 +1,5 @@
+pub mod Text
+pub mod Families
+pub mod Lint
+pub mod Marking
+pub mod Keeping

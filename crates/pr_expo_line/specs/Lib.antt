@@ -1,0 +1,6 @@
+pub mod Characters
+pub mod Number
+pub mod Line
+pub mod Grammar
+pub mod Sound
+pub mod PlainLine

@@ -1,0 +1,43 @@
+// The characters of a line.
+ghost use Rattle.std.specs.Prelude.{◌≡◌};
+ghost use Rattle.pr_words.specs.Fields.{is_blank};
+ghost use Rattle.pr_labels.specs.Names.{is_letter, is_label_byte, is_metric_letter, is_metric_byte};
+ghost use Rattle.pr_expo_line.specs.Characters.{is_sign};
+
+/// A blank: a space, or a tab.
+pub(crate) fn is_blank(c: char) -> bool
+    ensures { result ≡ is_blank c }
+{
+    c == ' ' || c == '\t'
+}
+
+pub(crate) fn is_sign(c: char) -> bool
+    ensures { result ≡ is_sign c }
+{
+    c == '+' || c == '-'
+}
+
+/// A letter, or an underscore.
+pub(crate) fn is_letter(c: char) -> bool
+    ensures { result ≡ is_letter c }
+{
+    c.is_ascii_alphabetic() || c == '_'
+}
+
+pub(crate) fn is_label_byte(c: char) -> bool
+    ensures { result ≡ is_label_byte c }
+{
+    is_letter(c) || c.is_ascii_digit()
+}
+
+pub(crate) fn is_metric_letter(c: char) -> bool
+    ensures { result ≡ is_metric_letter c }
+{
+    is_letter(c) || c == ':'
+}
+
+pub(crate) fn is_metric_byte(c: char) -> bool
+    ensures { result ≡ is_metric_byte c }
+{
+    is_metric_letter(c) || c.is_ascii_digit()
+}

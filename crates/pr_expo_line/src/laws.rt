@@ -1,0 +1,39 @@
+//! The laws of lines, as the contract of a function that does nothing.
+ghost use Rattle.std.specs.Prelude.{◌≡◌, ◌≢◌, ℕ, ◌-◌, Err, Ok, List, Option, length};
+ghost use Rattle.std.specs.Str.{IsUtf8, chars};
+ghost use Rattle.pr_forms.specs.Table.{IsDecided};
+ghost use Rattle.pr_num.specs.Reads.{reads};
+ghost use Rattle.pr_num.specs.declared.text.NumFault.{NumFault};
+ghost use Rattle.pr_expo_line.specs.Line.{line_read};
+ghost use Rattle.pr_expo_line.specs.Grammar.{production, table, left, IsBadPlace, ReadsLine};
+ghost use Rattle.pr_expo_line.specs.declared.place.Place.TheVariants.{Start};
+ghost use Rattle.pr_expo_line.specs.PlainLine.{IsSampleLine};
+ghost use Rattle.pr_expo_line.specs.declared.place.Measured.{Measured};
+ghost use Rattle.pr_expo_line.specs.declared.place.Read.TheVariants.{Sample};
+ghost use Rattle.pr_expo_line.specs.declared.place.Read.{Read};
+
+/// One character ahead decides the grammar of lines. A line reads as something exactly where it is
+/// text and its characters are of the grammar, and as what they are there. Where the way through
+/// the characters stops is the first place at which no line can go on.
+#[tactic(auto, using(crate::proofs::Grammar::known, crate::proofs::Grammar::stops_first, crate::proofs::Grammar::line_reads, crate::proofs::Grammar::line_is))]
+pub fn lines_are_those_of_the_grammar()
+    ensures decided { IsDecided production table }
+    ensures reads { (line : List ℕ) (read : Read) → IsUtf8 line → ReadsLine (chars line) read → line_read line ≡ Ok read }
+    ensures only { (line : List ℕ) (read : Read) → line_read line ≡ Ok read → IsUtf8 line × ReadsLine (chars line) read }
+    ensures place { (text : List ℕ) → IsBadPlace text (length text - length (left Start text)) }
+{}
+
+/// A line reads as a sample exactly where it is text, and the line of that sample as a person reads
+/// it.
+pub fn samples_are_read_from_their_lines()
+    ensures read { (line : List ℕ) (m : Measured) (time : Option (List ℕ)) →
+        IsUtf8 line → IsSampleLine (chars line) m time → line_read line ≡ Ok (Sample m time) }
+    ensures only { (line : List ℕ) (m : Measured) (time : Option (List ℕ)) →
+        line_read line ≡ Ok (Sample m time) → IsUtf8 line × IsSampleLine (chars line) m time }
+{}
+
+/// The number of a sample is read as a value, or is too wide: it is never a text that is no number.
+pub fn numbers_of_samples_are_read()
+    ensures { (line : List ℕ) (m : Measured) (time : Option (List ℕ)) →
+        line_read line ≡ Ok (Sample m time) → reads m.number ≢ Err NumFault.NotNumber }
+{}
