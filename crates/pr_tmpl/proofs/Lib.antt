@@ -6,3 +6,10 @@ pub mod Pieces
 pub mod Chosen
 pub mod TemplateTable
 pub mod TemplateEnds
+pub mod Letters
+pub mod WordWays
+pub mod QuoteWays
+pub mod PipeWays
+pub mod FormatWays
+pub mod CallWays
+pub mod TextWays

@@ -3,3 +3,9 @@ pub mod Humanized
 pub mod Expansion
 pub mod Pieces
 pub mod TemplateText
+pub mod Letters
+pub mod Reader
+pub mod Quotes
+pub mod Pipes
+pub mod Parsed
+pub mod Faults

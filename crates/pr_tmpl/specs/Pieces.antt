@@ -2,35 +2,9 @@
 -- an escape writes has the place of its backslash.
 use Rattle.std.specs.Prelude.{Bool, ℕ, zero, suc, ◌-◌, ◌==◌, nat_le, ◌&&◌, ◌||◌, Option, Some, None, List, [], ◌∷◌, ◌++◌, length, take, drop, map, flat_map, codes, if◌then◌else◌}
 use Prim.Native.Char.{code}
+use Rattle.pr_tmpl.specs.declared.kind.Kind.{Kind}
+use Rattle.pr_tmpl.specs.declared.kind.Kind.TheVariants.{Quote, Feed, Blank, Open, Close, Bar, Dollar, Point, Percent, Digit, SmallE, SmallF, SmallH, SmallL, SmallP, SmallS, SmallV, CapitalD, CapitalE, CapitalL, CapitalP, CapitalU, CapitalV, OtherLetter, Other}
 use Rattle.pr_strings.specs.StringAnswer.{string_of, bad_string_place}
-
--- What a byte is to a template and to a format of printf. Letters that choose what comes have a kind of their own.
-pub data Kind : Type 0 where
-  Quote : Kind
-  Feed : Kind
-  Blank : Kind
-  Open : Kind
-  Close : Kind
-  Bar : Kind
-  Dollar : Kind
-  Point : Kind
-  Percent : Kind
-  Digit : Kind
-  SmallE : Kind
-  SmallF : Kind
-  SmallH : Kind
-  SmallL : Kind
-  SmallP : Kind
-  SmallS : Kind
-  SmallV : Kind
-  CapitalD : Kind
-  CapitalE : Kind
-  CapitalL : Kind
-  CapitalP : Kind
-  CapitalU : Kind
-  CapitalV : Kind
-  OtherLetter : Kind
-  Other : Kind
 
 abbrev pub is_other_letter : ℕ → Bool
 is_other_letter b = (nat_le (code "A") b && nat_le b (code "Z")) || (nat_le (code "a") b && nat_le b (code "z")) || b == code "_"
@@ -74,21 +48,31 @@ abbrev pub escape_length : List ℕ → ℕ
 escape_length [] = 0
 escape_length (b ∷ bs) = if b == code "x" then 3 else (if b == code "u" then 5 else (if b == code "U" then 9 else 1))
 
+-- the first of so many bytes, up to one that is not ASCII: a longer character stands in no escape
+abbrev pub ascii_front : ℕ → List ℕ → List ℕ
+ascii_front zero text = []
+ascii_front (suc n) [] = []
+ascii_front (suc n) (b ∷ bs) = if nat_le 128 b then [] else b ∷ ascii_front n bs
+
+-- the bytes after a backslash that may be an escape
+abbrev pub escape_bytes : List ℕ → List ℕ
+escape_bytes text = ascii_front (escape_length text) text
+
 -- these bytes after a backslash, in double quotes
 abbrev pub escape_quoted : List ℕ → List ℕ
 escape_quoted bytes = codes "\"\\" ++ (bytes ++ codes "\"")
 
--- how many of them can go on as an escape, where they are none
-abbrev pub escape_front : List ℕ → ℕ
-escape_front bytes = bad_string_place (escape_quoted bytes) - 2
+-- those of them that can go on as an escape, where they are none
+abbrev pub escape_parts : List ℕ → List ℕ
+escape_parts bytes = take (bad_string_place (escape_quoted bytes) - 2) bytes
 
 -- What stands from a backslash on: an escape is one that strings have, and of one that breaks off those bytes are parts that can go on.
 abbrev pub escaped : (List ℕ → List Piece) → List ℕ → List ℕ → Option (List ℕ) → List Piece
 escaped again bytes text (Some means) = escape (kind_of_all means) (codes "\\" ++ bytes) means ∷ again (drop (length bytes) text)
-escaped again bytes text None = broken ∷ (map part (take (escape_front bytes) text) ++ again (drop (escape_front bytes) text))
+escaped again bytes text None = broken ∷ (map part (escape_parts bytes) ++ again (drop (length (escape_parts bytes)) text))
 
 abbrev pub at_backslash : (List ℕ → List Piece) → List ℕ → List Piece
-at_backslash again text = escaped again (take (escape_length text) text) text (string_of (escape_quoted (take (escape_length text) text)))
+at_backslash again text = escaped again (escape_bytes text) text (string_of (escape_quoted (escape_bytes text)))
 
 -- The pieces of a text of at most so many bytes.
 abbrev pub pieces_in : ℕ → List ℕ → List Piece

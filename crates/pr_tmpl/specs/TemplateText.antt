@@ -12,7 +12,9 @@ use Rattle.pr_tmpl.specs.declared.template.Call.{Call}
 use Rattle.pr_tmpl.specs.declared.template.Call.TheVariants.{Printf, Humanize, HumanizePercentage, HumanizeDuration}
 use Rattle.pr_tmpl.specs.declared.template.Part.{Part}
 use Rattle.pr_tmpl.specs.declared.template.Part.TheVariants.{Words, Pipe}
-use Rattle.pr_tmpl.specs.Pieces.{Kind, Quote, Feed, Blank, Open, Close, Bar, Dollar, Point, Percent, Digit, SmallE, SmallF, SmallH, SmallL, SmallP, SmallS, SmallV, CapitalD, CapitalE, CapitalL, CapitalP, CapitalU, CapitalV, OtherLetter, Piece, plain, escape, broken, part, raw_of, raw_text, pieces}
+use Rattle.pr_tmpl.specs.declared.kind.Kind.{Kind}
+use Rattle.pr_tmpl.specs.declared.kind.Kind.TheVariants.{Quote, Feed, Blank, Open, Close, Bar, Dollar, Point, Percent, Digit, SmallE, SmallF, SmallH, SmallL, SmallP, SmallS, SmallV, CapitalD, CapitalE, CapitalL, CapitalP, CapitalU, CapitalV, OtherLetter}
+use Rattle.pr_tmpl.specs.Pieces.{Piece, plain, escape, broken, part, raw_of, raw_text, pieces}
 
 -- What stands for a part of a template.
 pub data Value : Type 0 where

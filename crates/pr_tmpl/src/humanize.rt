@@ -70,7 +70,8 @@ fn push_lettered(
     out.push_str(letter)
 }
 
-/// Appends a number of units of 10^-9, 1 at least, below 1000 with the letter of what it was divided by.
+/// Appends a number of units of 10^-9, 1 at least, below 1000 with the letter of what it was
+/// divided by.
 #[tactic(auto, unfolding(crate::specs::Humanized::great))]
 fn push_great(out: &mut String, number: u128) -> Result<(), AllocError>
     requires { number < 10 ^ 29 }
@@ -195,7 +196,8 @@ pub(crate) fn push_shown(out: &mut String, v: Num) -> Result<(), AllocError>
     }
 }
 
-/// Appends a number of units of 10^-9 rounded to so many places. One that rounds to zero has no sign.
+/// Appends a number of units of 10^-9 rounded to so many places. One that rounds to zero has no
+/// sign.
 #[tactic(auto, unfolding(crate::specs::Decimals::fixed))]
 fn push_rounded(out: &mut String, places: u32, units: i128) -> Result<(), AllocError>
     requires few { places ≤ 9 }

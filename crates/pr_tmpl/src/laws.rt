@@ -13,14 +13,16 @@ pub fn pieces_are_the_text()
     ensures { (text : List ℕ) → raw_text (pieces text) ≡ text }
 {}
 
-/// One piece ahead decides the grammar of templates: so a text is read in one way, and without going back. The grammar ends:
+/// One piece ahead decides the grammar of templates: so a text is read in one way, and without
+/// going back. The grammar ends:
 /// so its reading is a function of the text.
 pub fn one_piece_decides_templates()
     ensures decided { IsDecided template.production template.table }
     ensures ends { Ends template.production template.table template.rank template.steps }
 {}
 
-/// The parts of a template are a function of its text, and so is the first piece with which no template can go on.
+/// The parts of a template are a function of its text, and so is the first piece with which no
+/// template can go on.
 pub fn parts_of_a_template_are_a_function()
     ensures reads { (text : List ℕ) (parts : List Part) → template_parts text ≡ Some parts → IsTemplate text parts }
     ensures given { (text : List ℕ) (parts : List Part) → IsTemplate text parts → template_parts text ≡ Some parts }

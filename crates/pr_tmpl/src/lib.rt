@@ -5,14 +5,21 @@ mod digits;
 mod examples;
 mod expand;
 mod humanize;
+mod kind;
 mod laws;
+mod letter;
+mod parse;
+mod pipe;
+mod quoted;
 mod template;
 #[cfg(test)]
 mod tests;
+mod words;
 
 pub use examples::{small_templates_expand_so, values_are_written_so};
 pub use expand::Argument;
 pub use laws::{
     one_piece_decides_templates, parts_of_a_template_are_a_function, pieces_are_the_text,
 };
+pub use parse::TmplError;
 pub use template::{Call, External, Format, Operand, Part, Places, Template, Verb};

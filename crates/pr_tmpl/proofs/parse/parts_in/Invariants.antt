@@ -1,0 +1,9 @@
+use Rattle.std.proofs.Common.{length}
+use Rattle.pr_tmpl.specs.Parsed.{HasParts}
+use Rattle.pr_tmpl.proofs.parse.parts_in.Given as goal
+
+abbrev pub invariant-loop-parts : goal.invariant-loop-parts
+invariant-loop-parts l = HasParts l.text l.parts.items l.rest
+
+abbrev pub decreases-loop-parts : goal.decreases-loop-parts
+decreases-loop-parts l = length l.rest

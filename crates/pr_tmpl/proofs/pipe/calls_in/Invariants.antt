@@ -1,0 +1,9 @@
+use Rattle.std.proofs.Common.{◌≤◌, length}
+use Rattle.pr_tmpl.specs.Pipes.{CallsSoFar}
+use Rattle.pr_tmpl.proofs.pipe.calls_in.Given as goal
+
+abbrev pub invariant-loop-at : goal.invariant-loop-at
+invariant-loop-at l = record { so_far : CallsSoFar l.fn.before l.text l.calls l.rest; shorter : length l.rest ≤ length l.text }
+
+abbrev pub decreases-loop-at : goal.decreases-loop-at
+decreases-loop-at l = length l.rest

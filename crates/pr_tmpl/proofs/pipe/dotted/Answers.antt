@@ -1,0 +1,29 @@
+use Rattle.std.proofs.Common.{refl}
+use Rattle.std.specs.Prelude.{codes}
+use Rattle.pr_forms.specs.Form.{rule, chosen, nothing}
+use Rattle.pr_forms.proofs.Carrying.{carry_exit}
+use Rattle.pr_tmpl.specs.declared.kind.Kind.TheVariants.{CapitalV, CapitalL, CapitalE}
+use Rattle.pr_tmpl.specs.declared.template.Operand.TheVariants.{Value as TheValue}
+use Rattle.pr_tmpl.specs.Pieces.{plain, pieces}
+use Rattle.pr_tmpl.specs.TemplateText.{production, table, operand, bytes, mark, any_at, second_of, label, spelled, name_goes_on, dot_rule, external_rule, Name, ValueWord, LabelsWord, ExternalWord}
+use Rattle.pr_tmpl.proofs.WordWays.{handed, chosen_word, unchosen, unchosen_piece, kind_piece}
+use Rattle.pr_tmpl.proofs.PipeWays.{no_dotted}
+use Rattle.pr_tmpl.proofs.pipe.dotted.Goals as goal
+
+pub returns-in_default-clause-read : goal.returns-in_default-clause-read
+returns-in_default-clause-read c = unchosen dot_rule name_goes_on c.args.text.now c.in_default.ensures.read (λ k raw means. refl) refl
+
+pub returns-in-CapitalV-clause-read : goal.returns-in-CapitalV-clause-read
+returns-in-CapitalV-clause-read c = handed (chosen dot_rule name_goes_on) (spelled (codes "alue") (nothing (operand TheValue))) c.args.text.now c.in-Some.rest.now (λ x. operand x.0) (λ x. x.1.now) c.operand_word.result (chosen_word dot_rule name_goes_on ValueWord (plain CapitalV c.in-Some._byte) c.args.text.now c.in-Some.rest.now second_of any_at (spelled (codes "alue") (nothing (operand TheValue))) mark (kind_piece c.args.text.now c.in-Some.rest.now c.in-Some.kind CapitalV c.in-Some._byte c.in-Some.ensures.read c.in-CapitalV.is) refl refl refl refl) c.operand_word.ensures.read
+
+pub returns-in_err-name-in-CapitalL-clause-read : goal.returns-in_err-name-in-CapitalL-clause-read
+returns-in_err-name-in-CapitalL-clause-read c = carry_exit pieces production table _ (chosen dot_rule name_goes_on) (spelled (codes "abels.") (rule Name)) (pieces c.args.text.now) (pieces c.in-Some.rest.now) (label mark) (λ w. w) _ c.in_err-name-in-CapitalL.field-0.0 c.from_residual.ensures.1 (chosen_word dot_rule name_goes_on LabelsWord (plain CapitalL c.in-Some._byte) c.args.text.now c.in-Some.rest.now label any_at (spelled (codes "abels.") (rule Name)) mark (kind_piece c.args.text.now c.in-Some.rest.now c.in-Some.kind CapitalL c.in-Some._byte c.in-Some.ensures.read c.in-CapitalL.is) refl refl refl refl) c.in_err-name-in-CapitalL.ensures.read
+
+pub returns-in_ok-name-in-CapitalL-clause-read : goal.returns-in_ok-name-in-CapitalL-clause-read
+returns-in_ok-name-in-CapitalL-clause-read c = (chosen_word dot_rule name_goes_on LabelsWord (plain CapitalL c.in-Some._byte) c.args.text.now c.in-Some.rest.now label any_at (spelled (codes "abels.") (rule Name)) mark (kind_piece c.args.text.now c.in-Some.rest.now c.in-Some.kind CapitalL c.in-Some._byte c.in-Some.ensures.read c.in-CapitalL.is) refl refl refl refl).reads (bytes c.in_ok-name-in-CapitalL.name) (pieces c.in_ok-name-in-CapitalL.end.now) c.in_ok-name-in-CapitalL.ensures.read
+
+pub returns-in-CapitalE-clause-read : goal.returns-in-CapitalE-clause-read
+returns-in-CapitalE-clause-read c = handed (chosen dot_rule name_goes_on) (spelled (codes "xternal") (chosen external_rule name_goes_on)) c.args.text.now c.in-Some.rest.now (λ x. operand x.0) (λ x. x.1.now) c.external_operand.result (chosen_word dot_rule name_goes_on ExternalWord (plain CapitalE c.in-Some._byte) c.args.text.now c.in-Some.rest.now second_of any_at (spelled (codes "xternal") (chosen external_rule name_goes_on)) mark (kind_piece c.args.text.now c.in-Some.rest.now c.in-Some.kind CapitalE c.in-Some._byte c.in-Some.ensures.read c.in-CapitalE.is) refl refl refl refl) c.external_operand.ensures.read
+
+pub returns-in_default-kind : goal.returns-in_default-kind
+returns-in_default-kind c = record { read = unchosen_piece dot_rule name_goes_on (plain c.in-Some.kind c.in-Some._byte) c.args.text.now c.in-Some.rest.now c.in-Some.ensures.read.pieces_are (no_dotted c.in-Some.kind c.in-Some._byte c.in_default-kind.not-CapitalV c.in_default-kind.not-CapitalL c.in_default-kind.not-CapitalE); shorter = tt }

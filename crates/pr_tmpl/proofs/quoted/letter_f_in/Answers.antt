@@ -1,0 +1,13 @@
+use Rattle.pr_forms.specs.Form.{rule}
+use Rattle.pr_tmpl.specs.TemplateText.{LetterF}
+use Rattle.pr_tmpl.proofs.FormatWays.{break_exit, f_breaks, f_read, no_f}
+use Rattle.pr_tmpl.proofs.quoted.letter_f_in.Goals as goal
+
+pub returns-in_err-_byte-clause-read : goal.returns-in_err-_byte-clause-read
+returns-in_err-_byte-clause-read c = break_exit _ (rule LetterF) c.args.text.now c.args.text.now _ c.in_err-_byte.field-0.0 c.from_residual.ensures.1 (f_breaks c.args.text.now) c.in_err-_byte.ensures.read
+
+pub returns-in-Some-clause-read : goal.returns-in-Some-clause-read
+returns-in-Some-clause-read c = f_read c.args.text.now c.in-Some.rest.now c.in-Some._byte (rw c.in-Some.is at c.in_ok-_byte.ensures.read)
+
+pub returns-in-None-clause-read : goal.returns-in-None-clause-read
+returns-in-None-clause-read c = no_f c.args.text.now (rw c.in-None.is at c.in_ok-_byte.ensures.read)

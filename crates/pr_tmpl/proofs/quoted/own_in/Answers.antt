@@ -1,0 +1,15 @@
+use Rattle.std.proofs.Common.{sym, ◌∙◌}
+use Rattle.pr_tmpl.proofs.QuoteWays.{own_none, own_none_end, own_reached, broken_read}
+use Rattle.pr_tmpl.proofs.quoted.own_in.Goals as goal
+
+pub returns-in_default-clause-read : goal.returns-in_default-clause-read
+returns-in_default-clause-read c = own_none_end c.args.within c.args.text.now (rw c.in_default.is at c.in_ok-letter.ensures.read)
+
+pub returns-then-is_own-clause-read : goal.returns-then-is_own-clause-read
+returns-then-is_own-clause-read c = own_reached c.args.within c.in-Some.letter c.args.text.now c.in-Some.rest.now (rw c.in-Some.is at c.in_ok-letter.ensures.read) (sym c.is_own.ensures ∙ c.if-is_own.true)
+
+pub returns-in-Broken-clause-read : goal.returns-in-Broken-clause-read
+returns-in-Broken-clause-read c = broken_read c.args.within c.in-Some.letter c.args.text.now c.in-Some.rest.now (rw c.in-Some.is at c.in_ok-letter.ensures.read) c.in-Broken.is
+
+pub returns : goal.returns
+returns c = record { read = own_none c.args.within c.in-Some.letter c.args.text.now c.in-Some.rest.now (rw c.in-Some.is at c.in_ok-letter.ensures.read) (sym c.is_own.ensures ∙ c.if-is_own.false) c.in_default-letter.not-Broken; shorter = tt }

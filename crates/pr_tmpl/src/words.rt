@@ -1,0 +1,151 @@
+//! The words of a pipe.
+ghost use Rattle.std.specs.Prelude.{◌≡◌, ◌<◌, ◌≤◌, ◌∷◌, ◌++◌, [], ℕ, List, codes, length, IfOk, IfSome, MatchOption, MatchResult};
+ghost use Rattle.pr_forms.specs.Form.{Form, rule, pair, token};
+ghost use Rattle.pr_forms.specs.Run.{good, bad};
+ghost use Rattle.pr_tmpl.specs.Pieces.{Piece, pieces};
+ghost use Rattle.pr_tmpl.specs.TemplateText.{Rule, Value, bytes, mark, blanks, blank_at, spelled, second_of, is_letter, is_label_byte, Name, NameRest};
+ghost use Rattle.pr_tmpl.specs.Letters.{IsSign, IsNoSign};
+ghost use Rattle.pr_tmpl.specs.Reader.{Gives, FailsAt, Leads};
+
+use crate::digits::push_byte;
+use crate::kind::Kind;
+use crate::letter::front;
+use pr_forms::Fault;
+use pr_words::Text;
+use std::alloc::Global;
+
+/// What follows the byte of this kind at the front.
+pub(crate) fn sign_in(wanted: Kind, text: &[u8]) -> Option<&[u8]>
+    ensures read { MatchOption result (IsNoSign wanted text.now) (λ rest. IsSign wanted text.now rest.now) }
+    ensures shorter { IfSome result (λ rest. length rest.now < length text.now) }
+{
+    match front(text) {
+        Some((kind, _byte, rest)) => { if kind == wanted { Some(rest) } else { None } }
+        None => None,
+    }
+}
+
+/// What follows the blanks at the front.
+pub(crate) fn blanks_in(text: &[u8]) -> &[u8]
+    ensures read { Gives blanks text.now (good mark (pieces result.now)) }
+    ensures shorter { length result.now ≤ length text.now }
+{
+    let mut rest = text;
+    while let Some(after) = sign_in(Kind::Blank, rest) {
+        rest = after;
+    }
+    rest
+}
+
+/// What follows one blank or more at the front.
+pub(crate) fn gap_in(text: &[u8]) -> Result<&[u8], &[u8]>
+    ensures read { MatchResult result (λ rest. (f : Form Piece Rule Value) → Leads (pair second_of (token blank_at) (pair second_of blanks f)) text.now f rest.now)
+        (λ rest. (f : Form Piece Rule Value) → Gives (pair second_of (token blank_at) (pair second_of blanks f)) text.now (bad (pieces rest.now))) }
+    ensures shorter { IfOk result (λ rest. length rest.now ≤ length text.now) }
+{
+    match sign_in(Kind::Blank, text) {
+        Some(rest) => Ok(blanks_in(rest)),
+        None => Err(text),
+    }
+}
+
+/// What follows these bytes at the front.
+pub(crate) fn word_in<'a>(word: &[u8], text: &'a [u8]) -> Result<&'a [u8], &'a [u8]>
+    ensures read { MatchResult result (λ rest. (f : Form Piece Rule Value) → Leads (spelled word.now f) text.now f rest.now)
+        (λ rest. (f : Form Piece Rule Value) → Gives (spelled word.now f) text.now (bad (pieces rest.now))) }
+    ensures shorter { IfOk result (λ rest. length rest.now ≤ length text.now) }
+{
+    let mut left = word;
+    let mut rest = text;
+    while let Some((wanted, more)) = left.split_first() {
+        let Some((_kind, byte, after)) = front(rest) else {
+            return Err(rest);
+        };
+        if byte != *wanted {
+            return Err(rest);
+        }
+        left = more;
+        rest = after;
+    }
+    Ok(rest)
+}
+
+/// Whether a name may begin with a byte of this kind.
+fn is_letter(kind: Kind) -> bool
+    ensures { result ≡ is_letter kind }
+{
+    matches!(
+        kind,
+        Kind::SmallE
+            | Kind::SmallF
+            | Kind::SmallH
+            | Kind::SmallL
+            | Kind::SmallP
+            | Kind::SmallS
+            | Kind::SmallV
+            | Kind::CapitalD
+            | Kind::CapitalE
+            | Kind::CapitalL
+            | Kind::CapitalP
+            | Kind::CapitalU
+            | Kind::CapitalV
+            | Kind::OtherLetter
+    )
+}
+
+fn is_label_byte(kind: Kind) -> bool
+    ensures { result ≡ is_label_byte kind }
+{
+    matches!(kind, Kind::Digit) || is_letter(kind)
+}
+
+/// The byte at the front, where a name may go on with it, and what follows it.
+fn name_byte_in(text: &[u8]) -> Option<(u8, &[u8])>
+    ensures read { MatchOption result ((name : List ℕ) → Gives (rule (NameRest name)) text.now (good (bytes name) (pieces text.now)))
+        (λ x. (name : List ℕ) → Leads (rule (NameRest name)) text.now (rule (NameRest (name ++ x.0 ∷ []))) x.1.now) }
+    ensures small { IfSome result (λ x. x.0 < 128) }
+    ensures shorter { IfSome result (λ x. length x.1.now < length text.now) }
+{
+    match front(text) {
+        Some((kind, byte, rest)) => {
+            if is_label_byte(kind) {
+                Some((byte, rest))
+            } else {
+                None
+            }
+        }
+        None => None,
+    }
+}
+
+/// The name of a label at the front, and what follows it.
+fn name_in(alloc: Global, text: &[u8]) -> Result<(Text, &[u8]), Fault<'_, u8>>
+    ensures read { MatchResult result (λ x. Gives (rule Name) text.now (good (bytes x.0) (pieces x.1.now))) (FailsAt (rule Name) text.now) }
+    ensures shorter { IfOk result (λ x. length x.1.now ≤ length text.now) }
+{
+    let Some((kind, first, after_first)) = front(text) else {
+        return Err(Fault::Bad(text));
+    };
+    if !is_letter(kind) {
+        return Err(Fault::Bad(text));
+    }
+    let mut name = String::new(alloc);
+    push_byte(&mut name, first)?;
+    let mut rest = after_first;
+    while let Some((byte, after)) = name_byte_in(rest) {
+        push_byte(&mut name, byte)?;
+        rest = after;
+    }
+    Ok((Text::new(name), rest))
+}
+
+/// The name that stands after the first letter of `labels.`, and what follows it.
+pub(crate) fn label_in(alloc: Global, text: &[u8]) -> Result<(Text, &[u8]), Fault<'_, u8>>
+    ensures read { MatchResult result (λ x. Gives (spelled (codes "abels.") (rule Name)) text.now (good (bytes x.0) (pieces x.1.now))) (FailsAt (spelled (codes "abels.") (rule Name)) text.now) }
+    ensures shorter { IfOk result (λ x. length x.1.now ≤ length text.now) }
+{
+    match word_in(b"abels.", text) {
+        Ok(rest) => name_in(alloc, rest),
+        Err(rest) => Err(Fault::Bad(rest)),
+    }
+}
