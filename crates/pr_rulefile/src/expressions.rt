@@ -1,0 +1,84 @@
+// The expression of a rule.
+ghost use Rattle.std.specs.Prelude.{◌≡◌, ◌++◌, OnOk, IfOk, map, codes, Option};
+ghost use Rattle.std.specs.Option.{option_map};
+ghost use Rattle.pr_ast.specs.Tree.{tree_of as expression_tree};
+ghost use Rattle.pr_types.specs.Typed.{checked};
+ghost use Rattle.pr_yaml.specs.Tree.{tree_of, entry_tree_of};
+ghost use Rattle.pr_rulefile.specs.Nodes.{line_of, text_of, written};
+ghost use Rattle.pr_rulefile.specs.Expressions.{typed_tree, expression, seen, by_written, expression_under, problems_of, tree_in};
+
+use crate::access::{line_of, text_of, written};
+use crate::problem::{Problem, ProblemKind};
+use crate::push::{push, push_missing};
+use pr_ast::Expr;
+use pr_parse::{ParseError, parse};
+use pr_types::{Checked, TypeError, check};
+use pr_yaml::{Entry, Node};
+use std::alloc::{AllocError, Global};
+
+/// A tree that has a type, or its first fault.
+#[tactic(auto, using(crate::proofs::Typing::typed_so))]
+fn typed(alloc: Global, expr: Expr) -> Result<Result<Checked, ProblemKind>, AllocError>
+    ensures { IfOk result (λ r. seen r ≡ typed_tree (expression_tree expr) (checked (expression_tree expr))) }
+{
+    match check(alloc, expr) {
+        Ok(checked) => Ok(Ok(checked)),
+        Err(TypeError::Fault { at, kind }) => Ok(Err(ProblemKind::Typing { kind, at })),
+        Err(TypeError::Memory) => Err(AllocError),
+    }
+}
+
+/// The expression that a text is, or what is wrong with it first.
+#[tactic(auto, unfolding(crate::specs::Expressions::expression))]
+fn expression(alloc: Global, text: &str) -> Result<Result<Checked, ProblemKind>, AllocError>
+    ensures { IfOk result (λ r. seen r ≡ expression text.now) }
+{
+    match parse(alloc, text) {
+        Ok(expr) => typed(alloc, expr),
+        Err(ParseError::Lex { at, kind }) => Ok(Err(ProblemKind::Lex { kind, at })),
+        Err(ParseError::Fault { at, kind }) => Ok(Err(ProblemKind::Parse { kind, at })),
+        Err(ParseError::Memory) => Err(AllocError),
+    }
+}
+
+/// The same of a value that is there.
+fn expression_in(
+    alloc: Global,
+    node: &Node,
+    found: &mut Vec<Problem>,
+) -> Result<Option<Checked>, AllocError>
+    ensures tree { IfOk result (λ o. option_map expression_tree o ≡ tree_in (by_written (line_of (tree_of node.now)) (text_of (tree_of node.now)))) }
+    ensures problems { OnOk result (found.new.items ≡ found.old.items ++ problems_of (by_written (line_of (tree_of node.now)) (text_of (tree_of node.now)))) }
+{
+    let Some(text) = text_of(node) else {
+        push(found, line_of(node), ProblemKind::WantText)?;
+        return Ok(None);
+    };
+    match expression(alloc, text)? {
+        Ok(checked) => Ok(Some(checked)),
+        Err(kind) => {
+            push(found, line_of(node), kind)?;
+            Ok(None)
+        }
+    }
+}
+
+/// The expression of a rule with these fields, which begins at the line.
+#[tactic(auto, unfolding(crate::specs::Expressions::expression_under))]
+pub(crate) fn rule_expression(
+    alloc: Global,
+    line: u32,
+    entries: &[Entry],
+    found: &mut Vec<Problem>,
+) -> Result<Option<Checked>, AllocError>
+    ensures tree { IfOk result (λ o. option_map expression_tree o ≡ tree_in (expression_under line (written (codes "expr") (map entry_tree_of entries.now)))) }
+    ensures problems { OnOk result (found.new.items ≡ found.old.items ++ problems_of (expression_under line (written (codes "expr") (map entry_tree_of entries.now)))) }
+{
+    match written("expr", entries) {
+        Some(node) => expression_in(alloc, node, found),
+        None => {
+            push_missing(alloc, found, line, "expr")?;
+            Ok(None)
+        }
+    }
+}
