@@ -2,9 +2,9 @@
 ghost use Rattle.std.specs.Prelude.{◌≡◌, codes, [], ◌∷◌, Some, None, false, ◌^◌};
 ghost use Rattle.pr_ast.specs.declared.names.BinOp.TheVariants as op;
 ghost use Rattle.pr_ast.specs.declared.names.Func.TheVariants as func;
-ghost use Rattle.pr_ast.specs.Examples.{metric};
+ghost use Rattle.pr_ast.specs.Examples.{chosen, metric};
 ghost use Rattle.pr_ast.specs.Places.{nowhere};
-ghost use Rattle.pr_ast.specs.Tree.{binary, call, none, text};
+ghost use Rattle.pr_ast.specs.Tree.{binary, call, more, none, range, text};
 ghost use Rattle.pr_history.specs.Examples.{m, whole, entry_at, one, number};
 ghost use Rattle.pr_history.specs.Series.{item_of};
 ghost use Rattle.pr_lex.specs.declared.fault.LexKind.TheVariants as lex;
@@ -43,13 +43,13 @@ pub fn an_expression_is_answered_by_its_meaning()
 {}
 
 /// What has no tokens, no tree or no type is refused with its first fault: `m !`, `m +`, `"a"`. So is, so far, what has no answer yet:
-/// `time()`. Then the time does not move.
+/// `rate(m[5m])`. Then the time does not move.
 #[tactic(auto, unfolding(crate::specs::Query::parsed_outcome, pr_types::specs::Signatures::func_signature))]
 pub fn a_text_that_is_no_expression_is_refused()
     ensures lexical { parsed_outcome of_a_run one 6000 (gives_lex_fault 3 lex.BadChar) ≡ refuse (QueryRefused 3 (Lex lex.BadChar)) }
     ensures parsing { parsed_outcome of_a_run one 6000 (gives_fault 3 parse.End) ≡ refuse (QueryRefused 3 (Parse parse.End)) }
     ensures typing { parsed_outcome of_a_run one 6000 (gives_tree (text (record { start = 1; end = 4 }) (codes "a"))) ≡ refuse (QueryRefused 1 (Typing NotInstant)) }
-    ensures unbuilt { parsed_outcome of_a_run one 6000 (gives_tree (call nowhere func.Time none)) ≡ refuse NotBuilt }
+    ensures unbuilt { parsed_outcome of_a_run one 6000 (gives_tree (call nowhere func.Rate (more none (range nowhere (chosen (codes "m") [] 0) 300000)))) ≡ refuse NotBuilt }
     ensures unchanged { (step_by (record { history = one; last = Some 5000 }) 6000 (parsed_outcome of_a_run one 6000 (gives_fault 3 parse.End))).world ≡ record { history = one; last = Some 5000 } }
 {}
 

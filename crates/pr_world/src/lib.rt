@@ -5,6 +5,9 @@ mod event;
 mod examples;
 mod laws;
 mod report;
+mod scrape_examples;
+mod scrape_laws;
+mod scraped;
 
 pub use event::Event;
 pub use examples::{
@@ -13,3 +16,9 @@ pub use examples::{
 };
 pub use laws::{a_history_is_its_rows, a_step_appends_or_changes_nothing};
 pub use report::{QueryKind, Report};
+pub use scrape_examples::{
+    a_bad_body_leaves_nothing, a_label_of_the_target_is_renamed, a_scrape_adds_its_samples,
+    a_series_that_is_no_longer_offered_is_marked, a_target_ends, a_time_of_its_own_is_kept,
+};
+pub use scrape_laws::{a_tracked_set_rises, what_is_admitted_comes_behind_the_history};
+pub use scraped::{BodyFault, Offer, Scraped};

@@ -1,0 +1,6 @@
+pub mod Putting
+pub mod Sets
+pub mod Names
+pub mod Tallying
+pub mod Answering
+pub mod Bodies

@@ -1,0 +1,140 @@
+// The samples of a body are put, and counted.
+ghost use Rattle.std.specs.Prelude.{◌≡◌, [], ◌∷◌, ◌+◌, ◌<◌, ◌≤◌, ◌^◌, ◌&&◌, not, cond, List, OnOk, OnErr, IfOk, fold, is_none};
+ghost use Rattle.std.specs.List.{cons_option};
+ghost use Rattle.pr_labels.specs.Rising.{with_labels};
+ghost use Rattle.pr_history.specs.declared.entry.Entry.{Entry};
+ghost use Rattle.pr_head.specs.Holds.{Holds};
+ghost use Rattle.pr_world.specs.Scrapes.{dropped_count, entries_in, is_kept, kept_sets, offers, refused_count, tracked_after};
+ghost use Rattle.pr_scrape.specs.Putting.{HasTakenFront, Puts};
+ghost use Rattle.pr_scrape.specs.Tallying.{Tallies};
+
+use crate::markers::add_labels;
+use crate::offered::offer_of;
+use crate::put::{is_kept, put};
+use pr_expo::Line;
+use pr_head::Head;
+use pr_history::{Append, Entry};
+use pr_labels::Labels;
+use pr_time::Ms;
+use pr_world::Offer;
+use std::alloc::{AllocError, Global};
+use std::collections::BTreeSet;
+
+/// What is counted while the samples of a body are put.
+#[derive(Drop)]
+pub(crate) struct Tally {
+    /// How many were dropped.
+    pub(crate) dropped: u64,
+    /// The series that are tracked.
+    pub(crate) kept: BTreeSet<Labels>,
+}
+
+// Counts a sample by its answer.
+fn note(
+    tally: &mut Tally,
+    labels: Labels,
+    is_timed: bool,
+    answer: &Append,
+) -> Result<(), AllocError>
+    requires { tally.old.dropped < 2 ^ 63 }
+    ensures dropped { OnOk result (tally.new.dropped ≡ tally.old.dropped + (cond (not (is_kept answer.now)) 1 0)) }
+    ensures kept { OnOk result (tally.new.kept.keys ≡ fold with_labels tally.old.kept.keys (cond (not is_timed && is_kept answer.now) (labels ∷ []) [])) }
+{
+    if !is_kept(answer) {
+        tally.dropped += 1;
+        return Ok(());
+    }
+    if !is_timed {
+        add_labels(&mut tally.kept, labels)?;
+    }
+    Ok(())
+}
+
+// Puts a sample that is offered, and counts it.
+fn put_offer(
+    alloc: Global,
+    head: &mut Head,
+    rows: &mut Vec<Entry>,
+    tally: &mut Tally,
+    offer: Offer,
+) -> Result<(), AllocError>
+    requires { tally.old.dropped < 2 ^ 63 }
+    ensures puts { (history : List Entry) → Holds head.old history → OnOk result (Puts head.old head.new rows.old.items rows.new.items history (offer.entry ∷ [])) }
+    ensures dropped { (history : List Entry) → Holds head.old history → OnOk result (tally.new.dropped ≡ tally.old.dropped + refused_count history (offer.entry ∷ [])) }
+    ensures kept { (history : List Entry) → Holds head.old history → OnOk result (tally.new.kept.keys ≡ fold with_labels tally.old.kept.keys (kept_sets history (offer ∷ []))) }
+    ensures few { OnOk result (tally.new.dropped ≤ tally.old.dropped + 1) }
+    ensures front { (history : List Entry) → Holds head.old history → OnErr result (HasTakenFront head.old head.new history (offer.entry ∷ [])) }
+{
+    let Offer { entry, is_timed } = offer;
+    let labels = entry.labels.copy(alloc)?;
+    let answer = put(head, rows, entry)?;
+    note(tally, labels, is_timed, &answer)
+}
+
+// Puts a sample, unless it is not offered, and counts it.
+fn put_some(
+    alloc: Global,
+    head: &mut Head,
+    rows: &mut Vec<Entry>,
+    tally: &mut Tally,
+    offer: Option<Offer>,
+) -> Result<(), AllocError>
+    requires { tally.old.dropped < 2 ^ 63 }
+    ensures puts { (history : List Entry) → Holds head.old history → OnOk result (Puts head.old head.new rows.old.items rows.new.items history (entries_in (cons_option offer []))) }
+    ensures dropped { (history : List Entry) → Holds head.old history → OnOk result (tally.new.dropped ≡ tally.old.dropped + (cond (is_none offer) 1 0 + refused_count history (entries_in (cons_option offer [])))) }
+    ensures kept { (history : List Entry) → Holds head.old history → OnOk result (tally.new.kept.keys ≡ fold with_labels tally.old.kept.keys (kept_sets history (cons_option offer []))) }
+    ensures few { OnOk result (tally.new.dropped ≤ tally.old.dropped + 1) }
+    ensures front { (history : List Entry) → Holds head.old history → OnErr result (HasTakenFront head.old head.new history (entries_in (cons_option offer []))) }
+{
+    match offer {
+        Some(offered) => put_offer(alloc, head, rows, tally, offered),
+        None => {
+            tally.dropped += 1;
+            Ok(())
+        }
+    }
+}
+
+// Puts the sample of a line, and counts it.
+fn put_line(
+    alloc: Global,
+    head: &mut Head,
+    rows: &mut Vec<Entry>,
+    tally: &mut Tally,
+    target: &Labels,
+    now: Ms,
+    line: &Line,
+) -> Result<(), AllocError>
+    requires { tally.old.dropped < 2 ^ 63 }
+    ensures puts { (history : List Entry) → Holds head.old history → OnOk result (Puts head.old head.new rows.old.items rows.new.items history (entries_in (offers target.now now (line.now ∷ [])))) }
+    ensures tallies { (history : List Entry) → Holds head.old history → OnOk result (Tallies tally.old tally.new target.now now (line.now ∷ []) history) }
+    ensures few { OnOk result (tally.new.dropped ≤ tally.old.dropped + 1) }
+    ensures front { (history : List Entry) → Holds head.old history → OnErr result (HasTakenFront head.old head.new history (entries_in (offers target.now now (line.now ∷ [])))) }
+{
+    let offer = offer_of(alloc, target, now, line)?;
+    put_some(alloc, head, rows, tally, offer)
+}
+
+/// Puts the samples of a body in order, and counts them.
+pub(crate) fn put_lines(
+    alloc: Global,
+    head: &mut Head,
+    rows: &mut Vec<Entry>,
+    target: &Labels,
+    now: Ms,
+    lines: &[Line],
+) -> Result<Tally, AllocError>
+    ensures puts { (history : List Entry) → Holds head.old history → OnOk result (Puts head.old head.new rows.old.items rows.new.items history (entries_in (offers target.now now lines.now))) }
+    ensures dropped { (history : List Entry) → Holds head.old history → IfOk result (λ t. t.dropped ≡ dropped_count target.now now lines.now history) }
+    ensures kept { (history : List Entry) → Holds head.old history → IfOk result (λ t. t.kept.keys ≡ tracked_after history (offers target.now now lines.now)) }
+    ensures front { (history : List Entry) → Holds head.old history → OnErr result (HasTakenFront head.old head.new history (entries_in (offers target.now now lines.now))) }
+{
+    let mut tally = Tally {
+        dropped: 0,
+        kept: BTreeSet::new(alloc),
+    };
+    for line in lines {
+        put_line(alloc, head, rows, &mut tally, target, now, line)?;
+    }
+    Ok(tally)
+}

@@ -1,0 +1,65 @@
+-- The targets that are known, and what the orders about them come to.
+use Rattle.std.specs.Prelude.{ℕ, Bool, not, cond, List, [], ◌∷◌, filter, find, Option, Some, None}
+use Rattle.pr_labels.specs.declared.pair.Pair.{Pair}
+use Rattle.pr_labels.specs.Order.{labels_eq}
+use Rattle.pr_history.specs.declared.entry.Entry.{Entry}
+use Rattle.pr_world.specs.declared.scraped.Scraped.{Scraped}
+use Rattle.pr_world.specs.Scrapes.{Scrape, gone_of, scrape_of}
+
+-- a target, and the series that its last scrape left tracked
+pub record Target : Type 0 where
+  pub labels : List Pair
+  pub tracked : List (List Pair)
+
+abbrev pub is_at : List Pair → Target → Bool
+is_at labels t = labels_eq t.labels labels
+
+abbrev pub target_at : List Target → List Pair → Option Target
+target_at targets labels = find (is_at labels) targets
+
+-- what is tracked of a target; nothing of an unknown one
+abbrev pub tracked_in : Option Target → List (List Pair)
+tracked_in None = []
+tracked_in (Some t) = t.tracked
+
+abbrev pub tracked_of : List Target → List Pair → List (List Pair)
+tracked_of targets labels = tracked_in (target_at targets labels)
+
+abbrev pub without_target : List Target → List Pair → List Target
+without_target targets labels = filter (λ t. not (is_at labels t)) targets
+
+-- The target with what is tracked of it from now on. It stands where it stood, or, where it was unknown, last.
+abbrev pub with_tracked : List Target → List Pair → List (List Pair) → List Target
+with_tracked [] labels tracked = record { labels = labels; tracked = tracked } ∷ []
+with_tracked (t ∷ ts) labels tracked =
+    cond (is_at labels t) (record { labels = t.labels; tracked = tracked } ∷ ts) (t ∷ with_tracked ts labels tracked)
+
+-- what an order about a target comes to: the targets after it, the entries that are put, in order, and what is answered
+pub record TargetStep : Type 0 where
+  pub targets : List Target
+  pub entries : List Entry
+  pub answer : Scraped
+
+-- A scrape makes a target known, also one that failed.
+abbrev pub known_by : List Target → List Pair → Scrape → TargetStep
+known_by targets target s = record { targets = with_tracked targets target s.tracked; entries = s.entries; answer = s.answer }
+
+abbrev pub scrape_step : List Target → List Entry → List Pair → ℕ → List ℕ → TargetStep
+scrape_step targets history target now body = known_by targets target (scrape_of target now (tracked_of targets target) (Some body) history)
+
+abbrev pub fail_step : List Target → List Entry → List Pair → ℕ → TargetStep
+fail_step targets history target now = known_by targets target (scrape_of target now (tracked_of targets target) None history)
+
+-- The end of a target makes it unknown. That of an unknown one is nothing.
+abbrev pub forgotten_by : List Target → List Pair → Scrape → TargetStep
+forgotten_by targets target s = record { targets = without_target targets target; entries = s.entries; answer = s.answer }
+
+abbrev pub nothing : Scraped
+nothing = record { admitted = []; fault = None; added = 0; dropped = 0; stale = 0 }
+
+abbrev pub gone_by : Option Target → List Target → List Entry → List Pair → ℕ → TargetStep
+gone_by None targets history target now = record { targets = targets; entries = []; answer = nothing }
+gone_by (Some t) targets history target now = forgotten_by targets target (gone_of target now t.tracked history)
+
+abbrev pub gone_step : List Target → List Entry → List Pair → ℕ → TargetStep
+gone_step targets history target now = gone_by (target_at targets target) targets history target now
