@@ -1,0 +1,4 @@
+mod Operations
+mod TextLists
+mod Stamps
+mod Absences

@@ -1,0 +1,5 @@
+pub mod Answers
+pub mod Besides
+pub mod Plain
+pub mod Calls
+pub mod Timed

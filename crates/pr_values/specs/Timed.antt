@@ -1,0 +1,10 @@
+-- Values with their times.
+use Rattle.pr_num.specs.declared.value.Num.{Num}
+use Rattle.pr_labels.specs.declared.item.Item.{Item}
+use Rattle.pr_history.specs.declared.spot.Spot.{Spot}
+use Rattle.pr_meaning.specs.Vectors.{element}
+use Rattle.pr_query.specs.Calls.{seconds_of}
+
+-- a series with the time of its value, in seconds
+abbrev pub timed : Item Spot → Item Num
+timed e = element e.labels (seconds_of e.value.time)

@@ -1,0 +1,20 @@
+#![tactic(auto)]
+
+mod absence;
+mod aggregations;
+mod arguments;
+mod calls;
+mod each_value;
+mod error;
+mod labelled;
+mod operators;
+mod texts;
+mod times;
+mod vectors;
+
+pub use absence::{absent_of, labels_of_argument};
+pub use aggregations::aggregated;
+pub use calls::called;
+pub use error::EvalError;
+pub use times::{seconds_of, stamped};
+pub use vectors::{made_at, negated_value, operated, vector};
