@@ -3,14 +3,18 @@ use Rattle.std.proofs.Common.{◌≡◌, Result, Ok, Err, ap, subst, sym}
 use Rattle.pr_query.specs.declared.fault.Fault.{Fault}
 use Rattle.pr_query.specs.declared.value.Value.{Value}
 use Rattle.pr_query.specs.Answers.{go_on}
-use Rattle.pr_eval.specs.declared.error.EvalError.{EvalError}
-use Rattle.pr_eval.specs.declared.error.EvalError.TheVariants as error
-use Rattle.pr_eval.specs.Answers.{AnswersTo}
+use Rattle.pr_values.specs.declared.error.EvalError.{EvalError}
+use Rattle.pr_values.specs.declared.error.EvalError.TheVariants as error
+use Rattle.pr_values.specs.Answers.{AnswersTo}
 
 -- the fault of an operand ends
 pub ends : (next : Value → Result Value Fault) (meant : Result Value Fault) (e : EvalError) → AnswersTo meant (Err e) → AnswersTo (go_on next meant) (Err e)
 ends next meant (error.Fault p k) h = ap (go_on next) h
 ends next meant error.Memory h = tt
+
+-- the value of an operand
+pub gives : (next : Value → Result Value Fault) (meant : Result Value Fault) (a : Value) (r : Result Value EvalError) → meant ≡ Ok a → AnswersTo (next a) r → AnswersTo (go_on next meant) r
+gives next meant a r is h = subst (λ m. AnswersTo (go_on next m) r) (sym is) h
 
 pub ends_right : (next : Value → Value → Result Value Fault) (left right : Result Value Fault) (a : Value) (e : EvalError) → left ≡ Ok a → AnswersTo right (Err e)
     → AnswersTo (go_on (λ v. go_on (next v) right) left) (Err e)

@@ -1,6 +1,12 @@
 mod Choosing
 mod Reading
 mod Moments
-mod Operations
+mod Each
+mod Asked
+mod Costs
+mod Taking
 mod Trees
 mod Answering
+mod Fronts
+mod Operands
+mod Plainly

@@ -1,5 +1,5 @@
 -- What a selector no longer sees is what lies as far back as it reads.
-use Rattle.std.proofs.Common.{ℕ, ◌+◌, ◌≤◌, ℤ, pos, negsuc, ◌+ℤ◌, ◌-ℤ◌, ◌≤ℤ◌, max, refl, arith}
+use Rattle.std.proofs.Common.{ℕ, ◌+◌, ◌≤◌, ℤ, pos, negsuc, ◌+ℤ◌, ◌-ℤ◌, ◌≤ℤ◌, refl, arith}
 use Rattle.std.proofs.lemmas.Int.{ints}
 use Rattle.std.proofs.lemmas.Grind.{common_steps}
 use Rattle.pr_head.specs.Reads.{IsPast}
@@ -12,9 +12,6 @@ past (pos b) (pos n) z h k = λ time u. let far : b + 300000 ≤ n = omega (arit
 pub past_selector : (y : ℤ) (time offset : ℕ) → y ≤ℤ (pos time -ℤ pos (offset + 300000)) → IsPast y (pos time -ℤ pos offset)
 past_selector y time offset h = past y (pos time -ℤ pos offset) (pos time -ℤ pos (offset + 300000)) h (omega (arith, ints))
 
--- an operand reads no further back than the operation
-pub back_left : (y : ℤ) (time a b : ℕ) → y ≤ℤ (pos time -ℤ pos (max a b)) → y ≤ℤ (pos time -ℤ pos a)
-back_left y time a b h = let least : a ≤ max a b = grind (arith, common_steps) in omega (arith, ints)
-
-pub back_right : (y : ℤ) (time a b : ℕ) → y ≤ℤ (pos time -ℤ pos (max a b)) → y ≤ℤ (pos time -ℤ pos b)
-back_right y time a b h = let least : b ≤ max a b = grind (arith, common_steps) in omega (arith, ints)
+-- a part reads no further back than the whole
+pub back_part : (y : ℤ) (time a b : ℕ) → a ≤ b → y ≤ℤ (pos time -ℤ pos b) → y ≤ℤ (pos time -ℤ pos a)
+back_part y time a b least h = omega (arith, ints)

@@ -1,6 +1,8 @@
-pub mod Answers
 pub mod Looks
 pub mod Equalities
 pub mod Reading
+pub mod Each
+pub mod Asking
 pub mod Parts
-pub mod Besides
+pub mod Evaluated
+pub mod Operands

@@ -1,12 +1,14 @@
 //! The evaluator: what an expression gives at a moment, worked out over a head.
 #![tactic(auto)]
 
-mod error;
+mod aggregate;
+mod by_now;
+mod call;
 mod evaluate;
-mod operators;
+mod parts;
 mod select;
-mod vectors;
 
-pub use error::EvalError;
-pub use evaluate::{built, eval};
+pub use by_now::built;
+pub use evaluate::eval;
 pub use pr_query::{FaultKind, Value};
+pub use pr_values::EvalError;

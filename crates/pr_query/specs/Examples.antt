@@ -16,9 +16,10 @@ use Rattle.pr_ast.specs.declared.selector.MatchSign.TheVariants.{Equal, NotEqual
 use Rattle.pr_labels.specs.declared.grouping.Grouping.{Grouping}
 use Rattle.pr_ast.specs.declared.names.AggOp.{AggOp}
 use Rattle.pr_ast.specs.declared.names.Func.{Func}
-use Rattle.pr_ast.specs.Tree.{Tree, number, select, range, sub, binary, call, aggregate}
+use Rattle.pr_ast.specs.declared.names.Func.TheVariants as func
+use Rattle.pr_ast.specs.Tree.{Tree, number, text, select, range, sub, neg, binary, call, aggregate, none, more_from}
 use Rattle.pr_ast.specs.Places.{nowhere}
-use Rattle.pr_ast.specs.Examples.{chosen, metric, matcher}
+use Rattle.pr_ast.specs.Examples.{chosen, metric, matcher, one}
 use Rattle.pr_meaning.specs.Examples.{x, y, z, sample}
 use Rattle.pr_query.specs.declared.fault.Fault.{Fault}
 use Rattle.pr_query.specs.declared.value.Value.{Value}
@@ -141,3 +142,14 @@ c_absent = select nowhere (chosen (codes "c") (matcher (codes "x") Equal (codes 
 -- {x="1"}[1m]
 abbrev pub x_is_1_for_a_minute : Tree
 x_is_1_for_a_minute = range nowhere (record { name = None; matchers = matcher (codes "x") Equal (codes "1") ∷ []; offset = 0 }) 60000
+
+-- a text, and several arguments
+abbrev pub text_argument : List ℕ → Tree
+text_argument t = text nowhere t
+
+abbrev pub several : List Tree → Tree
+several ts = more_from none ts
+
+-- the vector of a number of seconds before 1970
+abbrev pub before_1970 : ℕ → Tree
+before_1970 seconds = call_of func.Vector (one (neg nowhere (whole seconds)))

@@ -1,6 +1,7 @@
 // What the definitions say of aggregations, functions, ranges and subqueries.
 ghost use Rattle.std.specs.Prelude.{◌≡◌, pos, negsuc, codes, true, false, [], ◌∷◌, Ok, Err, Some, None, ◌^◌, ◌*◌, ◌-◌};
 ghost use Rattle.pr_num.specs.declared.value.Num.TheVariants.{Finite, NaN};
+ghost use Rattle.pr_labels.specs.LabelSet.{metric_label, pair_of};
 ghost use Rattle.pr_ast.specs.declared.names.AggOp.TheVariants as agg;
 ghost use Rattle.pr_ast.specs.declared.names.Func.TheVariants as func;
 ghost use Rattle.pr_ast.specs.declared.names.BinOp.TheVariants as op;
@@ -22,6 +23,7 @@ ghost use Rattle.pr_query.specs.Examples.{
   operation,
   m,
   a,
+  not_a_number,
   c_absent,
   call_of,
   call_at,
@@ -31,6 +33,9 @@ ghost use Rattle.pr_query.specs.Examples.{
   subquery_of_m,
   x_is_1_for_a_minute,
   named,
+  text_argument,
+  several,
+  before_1970,
   x_only,
   one_three_five,
   at_0,
@@ -76,4 +81,29 @@ pub fn ranges_are_taken()
     ensures sub { meaning 30000 m_three_times (call_of func.SumOverTime (one (subquery_of_m 120000 (Some 60000)))) 120000 ≡ Ok (Vector (element [] (number 5) ∷ [])) }
     ensures default_step { meaning 60000 m_three_times (call_of func.SumOverTime (one (subquery_of_m 120000 None))) 120000 ≡ Ok (Vector (element [] (number 5) ∷ [])) }
     ensures not_below_0 { meaning 30000 m_three_times (call_of func.CountOverTime (one (subquery_of_m 300000 (Some 60000)))) 60000 ≡ Ok (Vector (element [] (number 2) ∷ [])) }
+{}
+
+/// `count_values("v", vector(NaN))`.
+#[tactic(auto, unfolding(pr_num::specs::Shown::shown))]
+pub fn elements_are_counted()
+    ensures { at_0 [] (aggregate_of agg.CountValues (two (text_argument (codes "v")) (call_of func.Vector (one not_a_number))))
+        ≡ Ok (Vector (element (pair_of (codes "v") (codes "NaN") ∷ []) (number 1) ∷ [])) }
+{}
+
+/// `label_join(a, "y", "-", "x", "x")`, and `label_join(a, "x", "", "y")`, which takes the label out.
+#[tactic(auto, unfolding(pr_match::specs::Matcher::meets, pr_match::specs::Matcher::meets_all))]
+pub fn labels_are_joined()
+    ensures joined { at_0 one_three_five (call_of func.LabelJoin (several (a ∷ text_argument (codes "y") ∷ text_argument (codes "-") ∷ text_argument (codes "x") ∷ text_argument (codes "x") ∷ [])))
+        ≡ Ok (Vector (named (codes "a") (x (codes "1") ∷ pair_of (codes "y") (codes "1-1") ∷ []) 1 ∷ named (codes "a") (x (codes "2") ∷ pair_of (codes "y") (codes "2-2") ∷ []) 3 ∷ [])) }
+    ensures not_told_apart { at_0 one_three_five (call_of func.LabelJoin (several (a ∷ text_argument (codes "x") ∷ text_argument [] ∷ text_argument (codes "y") ∷ [])))
+        ≡ Err (fault nowhere (kind.SameLabels (pair_of metric_label (codes "a") ∷ []))) }
+{}
+
+/// The year of the first second of the year 1, the month of 59 days later, and the second before
+/// them, which has no date.
+#[tactic(auto, unfolding(pr_meaning::specs::Calendar::date_after))]
+pub fn dates_are_told()
+    ensures year { at_0 [] (call_of func.Year (one (before_1970 62135596800))) ≡ Ok (Vector (element [] (number 1) ∷ [])) }
+    ensures month { at_0 [] (call_of func.Month (one (before_1970 62130499200))) ≡ Ok (Vector (element [] (number 3) ∷ [])) }
+    ensures before { at_0 [] (call_of func.Year (one (before_1970 62135596801))) ≡ Ok (Vector (element [] NaN ∷ [])) }
 {}

@@ -13,7 +13,7 @@ ghost use Rattle.pr_query.specs.declared.fault.FaultKind.TheVariants as kind;
 ghost use Rattle.pr_query.specs.declared.value.Value.TheVariants.{Scalar, Vector};
 ghost use Rattle.pr_query.specs.Answers.{fault};
 ghost use Rattle.pr_query.specs.Meaning.{meaning};
-ghost use Rattle.pr_query.specs.Cost.{cost};
+ghost use Rattle.pr_query.specs.Cost.{cost, nothing_passed};
 ghost use Rattle.pr_query.specs.Examples.{
   units,
   whole,
@@ -66,7 +66,7 @@ pub fn what_a_selector_shows()
     ensures before { meaning 60000 m_three_times m_a_minute_ago 59999 ≡ Ok (Vector []) }
     ensures matchers { at_0 one_three_five x_is_1 ≡ Ok (Vector (named (codes "a") (x_only (codes "1")) 1 ∷ named (codes "b") (x_only (codes "1")) 5 ∷ [])) }
     ensures unequal { at_0 one_three_five a_but_x_1 ≡ Ok (Vector (named (codes "a") (x_only (codes "2")) 3 ∷ [])) }
-    ensures cost { cost one_three_five (operation op.Add a b) ≡ 3 }
+    ensures cost { cost 60000 one_three_five nothing_passed (operation op.Add a b) 0 0 ≡ 3 }
 {}
 
 /// `-a`, `a > 2`, `2 < a`, `a > bool 2`, `a * 10^20`, `-{x="1"}`, `{x="1"} * 10^20`, where `a{x="1"}` is 1, `a{x="2"}` is 3 and

@@ -7,7 +7,10 @@ mod fault;
 mod laws;
 mod value;
 
-pub use call_examples::{functions_are_called, ranges_are_taken, vectors_are_aggregated};
+pub use call_examples::{
+    dates_are_told, elements_are_counted, functions_are_called, labels_are_joined,
+    ranges_are_taken, vectors_are_aggregated,
+};
 pub use examples::{
     first_faults_have_their_places, operators_work_on_two_values, sets_are_joined_by_key,
     signs_and_filters_of_vectors, vectors_are_matched, what_a_selector_shows,

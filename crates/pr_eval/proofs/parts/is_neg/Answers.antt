@@ -1,0 +1,18 @@
+use Rattle.pr_ast.specs.Tree.{tree_of}
+use Rattle.pr_eval.proofs.Trees.{counts_of_one, neg_built, neg_valued, neg_of, one_part}
+use Rattle.pr_eval.proofs.parts.is_neg.Goals as goal
+
+pub returns-clause-one : goal.returns-clause-one
+returns-clause-one c = neg_of (tree_of c.args.e.now) c.args.e.now.place (tree_of c.args.inner.now) c.requires
+
+pub returns-clause-part : goal.returns-clause-part
+returns-clause-part c = λ whole n. one_part whole n (tree_of c.args.e.now) (tree_of c.args.inner.now) _ _ (neg_of (tree_of c.args.e.now) c.args.e.now.place (tree_of c.args.inner.now) c.requires)
+
+pub returns-clause-valued : goal.returns-clause-valued
+returns-clause-valued c = neg_valued (tree_of c.args.e.now) c.args.e.now.place (tree_of c.args.inner.now) c.requires
+
+pub returns-clause-count : goal.returns-clause-count
+returns-clause-count c = λ n m. counts_of_one n m (tree_of c.args.e.now) (tree_of c.args.inner.now) _ (neg_of (tree_of c.args.e.now) c.args.e.now.place (tree_of c.args.inner.now) c.requires)
+
+pub returns-clause-built : goal.returns-clause-built
+returns-clause-built c = neg_built (tree_of c.args.e.now) c.args.e.now.place (tree_of c.args.inner.now) c.requires

@@ -1,0 +1,144 @@
+// What is known of an expression by its parts, said for the proofs: functions that do nothing.
+ghost use Rattle.std.specs.Prelude.{◌≡◌, ◌≢◌, ℕ, ◌+◌, ◌<◌, true, [], List, Some, length, slice_get};
+ghost use Rattle.pr_labels.specs.declared.pair.Pair.{Pair};
+ghost use Rattle.pr_history.specs.declared.entry.Entry.{Entry};
+ghost use Rattle.pr_head.specs.Stored.{Stored};
+ghost use Rattle.pr_labels.specs.Names.{is_label_name};
+ghost use Rattle.pr_ast.specs.declared.names.AggOp.TheVariants.{CountValues};
+ghost use Rattle.pr_ast.specs.Tree.{Tree, aggregate, binary, call, more, neg, none, number, select, text, tree_of, trees_of};
+ghost use Rattle.pr_types.specs.declared.counting.Counts.{Counts};
+ghost use Rattle.pr_types.specs.Built.{own_patterns, patterns_in, tests_in};
+ghost use Rattle.pr_types.specs.Selectors.{tests_of};
+ghost use Rattle.pr_types.specs.Typed.{content, content_at};
+ghost use Rattle.pr_query.specs.Built.{is_built};
+ghost use Rattle.pr_values.specs.Calls.{is_plain_call};
+ghost use Rattle.pr_eval.specs.Asking.{asked_for};
+ghost use Rattle.pr_query.specs.Selection.{moment_of};
+ghost use Rattle.pr_eval.specs.Looks.{KeepsAt, KeepsFor};
+ghost use Rattle.pr_eval.specs.Parts.{AreTwo, IsOne, IsPart, IsValued, counts_after, with_patterns};
+
+use pr_ast::{AggOp, BinOp, Expr, Func, Selector};
+use pr_labels::{Grouping, Matching};
+use pr_num::Num;
+use pr_types::{Checked, Counts};
+use pr_words::Text;
+
+pub(crate) fn is_number(e: &Expr, value: Num)
+    requires { tree_of e.now ≡ number e.now.place value }
+    ensures tree { tree_of e.now ≡ number e.now.place value }
+    ensures count { (n : Counts) → n ≡ counts_after n (tree_of e.now) }
+{}
+
+pub(crate) fn is_select(e: &Expr, selector: &Selector)
+    requires { tree_of e.now ≡ select e.now.place selector.now }
+    ensures tree { tree_of e.now ≡ select e.now.place selector.now }
+    ensures within { (whole : Tree) (n : Counts) → IsPart whole n (tree_of e.now) → n.selectors < length (tests_in whole) }
+    ensures stands { (whole : Tree) (n : Counts) → IsPart whole n (tree_of e.now) → slice_get (tests_in whole) n.selectors ≡ Some (tests_of selector.now) }
+    ensures keeps { (head : List (List Pair × Stored)) (history : List Entry) (time : ℕ) → KeepsFor head history (tree_of e.now) time
+        → KeepsAt head history (moment_of selector.now time) }
+    ensures count { (n : Counts) → let m : Counts = record { selectors = n.selectors + 1; ranges = n.ranges; patterns = n.patterns } in m ≡ counts_after n (tree_of e.now) }
+{}
+
+pub(crate) fn is_neg(e: &Expr, inner: &Expr)
+    requires { tree_of e.now ≡ neg e.now.place (tree_of inner.now) }
+    ensures tree { tree_of e.now ≡ neg e.now.place (tree_of inner.now) }
+    ensures one { IsOne (tree_of e.now) (tree_of inner.now) [] (λ f. f) }
+    ensures part { (whole : Tree) (n : Counts) → IsPart whole n (tree_of e.now) → IsPart whole n (tree_of inner.now) }
+    ensures valued { IsValued (tree_of e.now) → IsValued (tree_of inner.now) }
+    ensures count { (n m : Counts) → m ≡ counts_after n (tree_of inner.now) → m ≡ counts_after n (tree_of e.now) }
+    ensures built { is_built (tree_of e.now) ≡ true → is_built (tree_of inner.now) ≡ true }
+{}
+
+pub(crate) fn is_binary(
+    e: &Expr,
+    op: BinOp,
+    with_bool: bool,
+    matching: &Option<Matching>,
+    left: &Expr,
+    right: &Expr,
+)
+    requires { tree_of e.now ≡ binary e.now.place op with_bool matching.now (tree_of left.now) (tree_of right.now) }
+    ensures tree { tree_of e.now ≡ binary e.now.place op with_bool matching.now (tree_of left.now) (tree_of right.now) }
+    ensures two { AreTwo (tree_of e.now) (tree_of left.now) (tree_of right.now) }
+    ensures left_part { (whole : Tree) (n : Counts) → IsPart whole n (tree_of e.now) → IsPart whole n (tree_of left.now) }
+    ensures right_part { (whole : Tree) (n m : Counts) → m ≡ counts_after n (tree_of left.now) → IsPart whole n (tree_of e.now) → IsPart whole m (tree_of right.now) }
+    ensures left_valued { IsValued (tree_of e.now) → IsValued (tree_of left.now) }
+    ensures right_valued { IsValued (tree_of e.now) → IsValued (tree_of right.now) }
+    ensures count { (n m k : Counts) → m ≡ counts_after n (tree_of left.now) → k ≡ counts_after m (tree_of right.now) → k ≡ counts_after n (tree_of e.now) }
+    ensures left_built { is_built (tree_of e.now) ≡ true → is_built (tree_of left.now) ≡ true }
+    ensures right_built { is_built (tree_of e.now) ≡ true → is_built (tree_of right.now) ≡ true }
+{}
+
+pub(crate) fn is_text(e: &Expr, written: &Text)
+    requires { tree_of e.now ≡ text e.now.place written.now }
+    ensures tree { tree_of e.now ≡ text e.now.place written.now }
+    ensures count { (n : Counts) → n ≡ counts_after n (tree_of e.now) }
+{}
+
+// An aggregation without a parameter.
+pub(crate) fn is_aggregate(e: &Expr, op: AggOp, by: &Grouping, inner: &Expr)
+    requires { tree_of e.now ≡ aggregate e.now.place op by.now (more none (tree_of inner.now)) }
+    ensures tree { tree_of e.now ≡ aggregate e.now.place op by.now (more none (tree_of inner.now)) }
+    ensures one { IsOne (tree_of e.now) (tree_of inner.now) [] (λ f. f) }
+    ensures part { (whole : Tree) (n : Counts) → IsPart whole n (tree_of e.now) → IsPart whole n (tree_of inner.now) }
+    ensures valued { IsValued (tree_of e.now) → IsValued (tree_of inner.now) }
+    ensures count { (n m : Counts) → m ≡ counts_after n (tree_of inner.now) → m ≡ counts_after n (tree_of e.now) }
+    ensures op { IsValued (tree_of e.now) → op ≢ CountValues }
+    ensures built { is_built (tree_of e.now) ≡ true → is_built (tree_of inner.now) ≡ true }
+{}
+
+// One with a parameter.
+pub(crate) fn is_aggregate_by(e: &Expr, op: AggOp, by: &Grouping, param: &Expr, inner: &Expr)
+    requires { tree_of e.now ≡ aggregate e.now.place op by.now (more (more none (tree_of param.now)) (tree_of inner.now)) }
+    ensures tree { tree_of e.now ≡ aggregate e.now.place op by.now (more (more none (tree_of param.now)) (tree_of inner.now)) }
+    ensures two { AreTwo (tree_of e.now) (tree_of param.now) (tree_of inner.now) }
+    ensures param_part { (whole : Tree) (n : Counts) → IsPart whole n (tree_of e.now) → IsPart whole n (tree_of param.now) }
+    ensures inner_part { (whole : Tree) (n m : Counts) → m ≡ counts_after n (tree_of param.now) → IsPart whole n (tree_of e.now) → IsPart whole m (tree_of inner.now) }
+    ensures param_valued { IsValued (tree_of e.now) → IsValued (tree_of param.now) }
+    ensures inner_valued { IsValued (tree_of e.now) → IsValued (tree_of inner.now) }
+    ensures count { (n m k : Counts) → m ≡ counts_after n (tree_of param.now) → k ≡ counts_after m (tree_of inner.now) → k ≡ counts_after n (tree_of e.now) }
+    ensures param_built { is_built (tree_of e.now) ≡ true → is_built (tree_of param.now) ≡ true }
+    ensures inner_built { is_built (tree_of e.now) ≡ true → is_built (tree_of inner.now) ≡ true }
+    ensures label { IsValued (tree_of e.now) → op ≡ CountValues → is_label_name (content (tree_of param.now)) ≡ true }
+{}
+
+pub(crate) fn is_call(e: &Expr, func: Func, args: &[Expr])
+    requires { tree_of e.now ≡ call e.now.place func (trees_of args.now) }
+    ensures tree { tree_of e.now ≡ call e.now.place func (trees_of args.now) }
+    ensures one { IsOne (tree_of e.now) (trees_of args.now) (own_patterns func (trees_of args.now)) (λ g. asked_for func) }
+    ensures part { (whole : Tree) (n : Counts) → IsPart whole n (tree_of e.now) → IsPart whole n (trees_of args.now) }
+    ensures valued { IsValued (tree_of e.now) → is_plain_call func (trees_of args.now) ≡ true → (i : ℕ) (a : Expr) → slice_get args.now i ≡ Some a → IsValued (tree_of a) }
+    ensures count { (n m k : Counts) → m ≡ counts_after n (trees_of args.now) → k ≡ with_patterns m (own_patterns func (trees_of args.now)) → k ≡ counts_after n (tree_of e.now) }
+    ensures replaced { IsValued (tree_of e.now) → func ≡ Func.LabelReplace → is_label_name (content_at (trees_of args.now) 1) ≡ true }
+    ensures joined { IsValued (tree_of e.now) → func ≡ Func.LabelJoin → is_label_name (content_at (trees_of args.now) 1) ≡ true }
+    ensures pattern { (whole : Tree) (n m : Counts) → IsPart whole n (tree_of e.now) → m ≡ counts_after n (trees_of args.now) → func ≡ Func.LabelReplace
+        → slice_get (patterns_in whole) m.patterns ≡ Some (content_at (trees_of args.now) 4) }
+    ensures plain { is_built (tree_of e.now) ≡ true → is_plain_call func (trees_of args.now) ≡ true }
+    ensures args_built { is_built (tree_of e.now) ≡ true → is_built (trees_of args.now) ≡ true }
+{}
+
+// That a part stands at these numbers.
+pub(crate) fn stands_at(checked: &Checked, e: &Expr, number: Counts)
+    requires { IsPart (tree_of checked.now) number (tree_of e.now) }
+    ensures { IsPart (tree_of checked.now) number (tree_of e.now) }
+{}
+
+// That an argument may be evaluated at these numbers.
+pub(crate) fn arg_stands_at(checked: &Checked, e: &Expr, number: Counts)
+    requires built { is_built (tree_of e.now) ≡ true }
+    requires part { IsPart (tree_of checked.now) number (tree_of e.now) }
+    requires valued { IsValued (tree_of e.now) }
+    ensures built { is_built (tree_of e.now) ≡ true }
+    ensures part { IsPart (tree_of checked.now) number (tree_of e.now) }
+    ensures valued { IsValued (tree_of e.now) }
+{}
+
+// That all arguments may be.
+pub(crate) fn args_stand_at(checked: &Checked, args: &[Expr], number: Counts)
+    requires built { is_built (trees_of args.now) ≡ true }
+    requires part { IsPart (tree_of checked.now) number (trees_of args.now) }
+    requires valued { (i : ℕ) (a : Expr) → slice_get args.now i ≡ Some a → IsValued (tree_of a) }
+    ensures built { is_built (trees_of args.now) ≡ true }
+    ensures part { IsPart (tree_of checked.now) number (trees_of args.now) }
+    ensures valued { (i : ℕ) (a : Expr) → slice_get args.now i ≡ Some a → IsValued (tree_of a) }
+{}
