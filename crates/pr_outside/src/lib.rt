@@ -3,6 +3,7 @@
 #![tactic(auto)]
 
 mod adapters;
+mod disk;
 mod files;
 mod keeping;
 mod memory;
@@ -11,6 +12,7 @@ mod streams;
 mod sure;
 
 pub use adapters::{StdSink, StdSource};
+pub use disk::DiskFiles;
 pub use files::{FILE_LIMIT, Files, FilesError, Found, HeldFile};
 pub use keeping::{KeepError, Keeper, Row};
 pub use memory::{MemFiles, MemKeeper, MemSink, MemSource};

@@ -148,7 +148,7 @@ pub(crate) fn push_fault_kind(text: &mut Vec<u8>, kind: &FaultKind) -> Result<()
 }
 
 /// Appends why a text is no expression. Want of memory alone is an error.
-pub(crate) fn push_query_kind(text: &mut Vec<u8>, kind: QueryKind) -> Result<(), AllocError>
+pub fn push_query_kind(text: &mut Vec<u8>, kind: QueryKind) -> Result<(), AllocError>
     ensures { OnOk result (text.new.items ≡ text.old.items ++ kind_text kind) }
 {
     match kind {

@@ -12,7 +12,8 @@ pub use examples::{
     a_body_belongs_to_its_line, kinds_are_written_so, lines_that_ask_for_nothing_are_counted,
     reports_are_written_so,
 };
+pub use kinds::push_query_kind;
 pub use laws::samples_have_label_sets;
 pub use order::{Numbered, Order, read_order};
-pub use printed::{push_bad_line, push_report};
+pub use printed::{push_bad_line, push_number, push_report};
 pub use script::is_passed_over;

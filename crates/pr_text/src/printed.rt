@@ -35,7 +35,8 @@ fn push_backwards_last(text: &mut Vec<u8>) -> Result<(), AllocError>
     text.extend_from_slice(b"backwards last ")
 }
 
-pub(crate) fn push_number(text: &mut Vec<u8>, n: u64) -> Result<(), AllocError>
+/// Appends a number in decimal. Want of memory alone is an error.
+pub fn push_number(text: &mut Vec<u8>, n: u64) -> Result<(), AllocError>
     ensures { OnOk result (text.new.items ≡ text.old.items ++ decimal n) }
 {
     let mut buffer = Buffer::new();

@@ -9,9 +9,9 @@ use Rattle.pr_text.specs.Orders.{orders_after, order_by}
 use Rattle.pr_text.specs.Script.{is_passed_over, event_of}
 use Rattle.pr_top.specs.Taken.{is_no_feed}
 use Rattle.pr_top.specs.Reading.{ahead, TakesPart, HandsLine, HandsOrder, PassesOver, TakesLines, Counts, IsCutLine, IsCutAt, IsBeyond}
-use Rattle.pr_top.specs.Stops.{AtInput}
-use Rattle.pr_top.specs.declared.status.Stop.{Stop}
-use Rattle.pr_top.specs.declared.status.Stop.TheVariants.{Read, Write, Memory, TooLong}
+use Rattle.pr_status.specs.Stops.{AtInput}
+use Rattle.pr_status.specs.declared.status.Stop.{Stop}
+use Rattle.pr_status.specs.declared.status.Stop.TheVariants.{Read, Write, Memory, TooLong}
 use Rattle.pr_top.proofs.Feeds.{lines_of-feed, lines_of-last, unended-append}
 use Rattle.pr_top.proofs.Orders.{numbered, orders_none, orders_pass, orders_take}
 use Rattle.pr_top.proofs.Whole.{whole_fed, whole_append, prompt_line, prompt_on}

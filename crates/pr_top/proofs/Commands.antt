@@ -1,15 +1,15 @@
 -- What a run promises, by how it ended.
-use Rattle.std.proofs.Common.{◌≡◌, ◌≢◌, ℕ, ◌<◌, ◌≤◌, ◌^◌, Bool, true, false, List, [], Option, Some, None, IfSome, Result, Ok, Err, IfOk, refl, ap, subst, length, arith}
+use Rattle.std.proofs.Common.{◌≡◌, ◌≢◌, ℕ, ◌<◌, ◌≤◌, ◌^◌, Bool, true, false, List, [], Option, Some, None, IfSome, Result, Ok, Err, IfOk, inl, refl, ap, subst, length, arith}
 use Rattle.std.specs.Io.KnownBytes.{Appends}
 use Rattle.pr_outside.specs.Causes.{Rose, IsCalm}
 use Rattle.pr_top.specs.Command.{MeansRun, IsWholeRun}
 use Rattle.pr_top.specs.Front.{IsFront}
-use Rattle.pr_top.specs.Status.{Faults, AreCalm, verdict, IsLong}
-use Rattle.pr_top.specs.Stops.{StopsRunning, KnowsLength, stopped_at_input, status_of}
+use Rattle.pr_status.specs.Status.{Faults, AreCalm, verdict, IsLong}
+use Rattle.pr_status.specs.Stops.{StopsRunning, KnowsLength, stopped_at_input, status_of}
 use Rattle.pr_top.specs.Told.{Content, told, refuses, answers_to}
-use Rattle.pr_top.specs.declared.status.Status.TheVariants as status
-use Rattle.pr_top.specs.declared.status.Stop.{Stop}
-use Rattle.pr_top.specs.declared.status.Stop.TheVariants.{Read, Write, Memory, TooLong}
+use Rattle.pr_status.specs.declared.status.Status.TheVariants as status
+use Rattle.pr_status.specs.declared.status.Stop.{Stop}
+use Rattle.pr_status.specs.declared.status.Stop.TheVariants.{Read, Write, Memory, TooLong}
 
 no_rise : (before now : ℕ) → IsCalm before now → Rose before now → ⊥
 no_rise before now calm rose = omega (arith, calm.same, calm.below, rose)
@@ -80,7 +80,7 @@ cut content files keeper a left old new i0 i1 o0 o1 Read f cause long = record {
       → IsWholeRun content [] bytes left old new status.ReadFault) (λ bytes is few calm some. absurd (no_rise i0 i1 calm.input cause.0));
   ended = λ e. absurd e;
   front = fronted content a left old new true f;
-  cause = (cause.0, refl, refl, cause.1);
+  cause = inl (cause.0, refl, refl, cause.1);
   not_usage = λ e. absurd (cc);
   long = λ e. absurd (cc);
   long_exactly = on_told a (λ bytes. 2 ^ 32 ≤ length bytes → AreCalm (counts i0 files keeper o0) (counts i1 files keeper o1) → status.ReadFault ≢ status.Memory

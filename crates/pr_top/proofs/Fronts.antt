@@ -10,14 +10,14 @@ use Rattle.pr_text.specs.declared.order.Numbered.{Numbered}
 use Rattle.pr_text.specs.Orders.{orders_of, orders_after}
 use Rattle.pr_top.specs.Front.{IsFront}
 use Rattle.pr_top.specs.Reading.{ahead, HandsOrder, TakesLines, IsCutAt, Counts}
-use Rattle.pr_top.specs.Status.{IsShort}
+use Rattle.pr_status.specs.Status.{IsShort}
 use Rattle.pr_top.specs.Standing.{Progress, Splits, Stands, begun}
-use Rattle.pr_top.specs.Stops.{AtInput, StopsWriting, stopped_at_input}
+use Rattle.pr_status.specs.Stops.{AtInput, StopsWriting, stopped_at_input}
 use Rattle.pr_top.specs.Taken.{IsPrompt}
 use Rattle.pr_top.specs.Told.{Answer, answers, told_of, turn, any_refused, Content, answers_to, told, refuses}
-use Rattle.pr_top.specs.declared.status.Stop.{Stop}
-use Rattle.pr_top.specs.declared.status.Stop.TheVariants.{Read, Write, Memory, TooLong}
-use Rattle.pr_top.proofs.Streams.{appends_on}
+use Rattle.pr_status.specs.declared.status.Stop.{Stop}
+use Rattle.pr_status.specs.declared.status.Stop.TheVariants.{Read, Write, Memory, TooLong}
+use Rattle.pr_status.proofs.Streams.{appends_on}
 use Rattle.pr_top.proofs.Whole.{prompt_all, prompt_on}
 use Rattle.pr_top.proofs.Ahead.{takes_none, takes_on}
 use Rattle.pr_top.proofs.Turns.{told_more, refused_more, answer_count}

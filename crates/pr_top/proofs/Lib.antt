@@ -1,8 +1,6 @@
 pub mod Values
 pub mod Questions
 pub mod ExpressionExamples
-pub mod Words
-pub mod Streams
 pub mod Feeds
 pub mod Orders
 pub mod Whole

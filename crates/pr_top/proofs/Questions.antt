@@ -1,5 +1,5 @@
 -- The answer to a question, by what its text, its tree and its value are.
-use Rattle.std.proofs.Common.{◌≡◌, ℕ, pos, ◌-ℤ◌, Bool, true, false, List, Result, Ok, Err, IfOk, is_ok, refl, sym, ap, subst}
+use Rattle.std.proofs.Common.{◌≡◌, ℕ, ◌+◌, pos, ◌-ℤ◌, Bool, true, false, List, Option, Some, None, Result, Ok, Err, IfOk, is_ok, refl, sym, ap, subst}
 use Rattle.std.specs.Int.Signed.{≤ℤ_refl}
 use Rattle.std.specs.declared.alloc.AllocError.{AllocError}
 use Rattle.pr_labels.specs.declared.pair.Pair.{Pair}
@@ -23,6 +23,8 @@ use Rattle.pr_query.specs.Answers.{fault}
 use Rattle.pr_query.specs.Built.{is_built}
 use Rattle.pr_query.specs.Meaning.{meaning}
 use Rattle.pr_eval.specs.Looks.{KeepsFor}
+use Rattle.pr_eval.specs.Asking.{Sought}
+use Rattle.pr_eval.specs.Evaluated.{AreReady, IsReadyFor, MayBegin, asks_of}
 use Rattle.pr_top.specs.Asked.{IsAnswer}
 use Rattle.pr_top.specs.Keeping.{IsHeadOf}
 use Rattle.pr_top.specs.declared.answered.Answered.{Answered}
@@ -42,6 +44,16 @@ keeps_for head history t time h = record {
   whole = h.whole (pos time -ℤ pos (reads_back t));
   back = ≤ℤ_refl (pos time -ℤ pos (reads_back t));
 }
+
+-- Where nothing is remembered, everything may be asked.
+nothing_kept : (node : ℕ) (asks : List (Option Sought)) → AreReady (λ k s. None) node asks
+nothing_kept node asks = λ i q e. by (node + i) q where
+  by : (k : ℕ) (q : Option Sought) → IsReadyFor (λ k s. None) k q
+  by k None = tt
+  by k (Some q) = λ s b e. absurd cc
+
+pub may_begin : (head : List (List Pair × Stored)) (history : List Entry) (t : Tree) (time : ℕ) → IsHeadOf head history → MayBegin head history t time (Unit {0}) (λ k s. None)
+may_begin head history t time h = record { keeps = keeps_for head history t time h; fits = tt; ready = nothing_kept 0 (asks_of history t time) }
 
 -- what is told of an answer
 pub told_ok : (meant : Result Value Fault) (v : Value) → meant ≡ Ok v → told_value v ≡ told_answer meant

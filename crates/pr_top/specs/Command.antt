@@ -1,21 +1,40 @@
 -- What the words of the command line ask for, and what each command promises.
-use Rattle.std.specs.Prelude.{◌≡◌, ◌≢◌, ℕ, ◌<◌, ◌≤◌, ◌^◌, cond, List, [], ◌∷◌, length, take, codes, Option, Some, None, IfSome}
+use Rattle.std.specs.Prelude.{◌≡◌, ◌≢◌, ℕ, ◌<◌, ◌≤◌, ◌^◌, Bool, false, not, ◌==◌, ◌&&◌, cond, List, [], ◌∷◌, length, take, codes, Option, Some, None, IfSome}
+use Prim.Native.Char.{code}
+use Rattle.std.specs.List.{list_all}
 use Rattle.std.specs.Str.{bytes_eq}
 use Rattle.std.specs.Io.KnownBytes.{Appends}
 use Rattle.pr_history.specs.declared.entry.Entry.{Entry}
 use Rattle.pr_top.specs.Front.{IsFront}
-use Rattle.pr_top.specs.Status.{Faults, AreCalm, HasCause, IsEnded, IsLong, is_at_input, verdict}
+use Rattle.pr_status.specs.Status.{Faults, AreCalm, HasCause, IsEnded, IsLong, is_at_input, verdict}
 use Rattle.pr_top.specs.Told.{Content, told, refuses, answers_to}
 use Rattle.pr_top.specs.Usage.{usage_text}
 use Rattle.pr_top.specs.declared.command.Command.{Command}
-use Rattle.pr_top.specs.declared.command.Command.TheVariants.{Run}
-use Rattle.pr_top.specs.declared.status.Status.{Status}
-use Rattle.pr_top.specs.declared.status.Status.TheVariants as status
+use Rattle.pr_top.specs.declared.command.Command.TheVariants.{Run, CheckMetrics, CheckRules}
+use Rattle.pr_status.specs.declared.status.Status.{Status}
+use Rattle.pr_status.specs.declared.status.Status.TheVariants as status
 
--- the words of a command; so far `run` alone
+-- a word that names a file: it is not empty, and does not begin with a dash
+abbrev pub is_file_word : List ℕ → Bool
+is_file_word [] = false
+is_file_word (b ∷ word) = not (b == code "-")
+
+abbrev pub one_word : List ℕ → Option Command
+one_word word = cond (bytes_eq word (codes "run")) (Some Run) None
+
+abbrev pub two_words : List ℕ → List ℕ → Option Command
+two_words first second = cond (bytes_eq first (codes "check") && bytes_eq second (codes "metrics")) (Some CheckMetrics) None
+
+abbrev pub more_words : List ℕ → List ℕ → List (List ℕ) → Option Command
+more_words first second names =
+    cond (bytes_eq first (codes "check") && (bytes_eq second (codes "rules") && list_all is_file_word names)) (Some CheckRules) None
+
+-- the words of a command: `run`, `check metrics`, and `check rules` with one file or more
 abbrev pub command_of : List (List ℕ) → Option Command
-command_of (word ∷ []) = cond (bytes_eq word (codes "run")) (Some Run) None
-command_of words = None
+command_of [] = None
+command_of (word ∷ []) = one_word word
+command_of (first ∷ second ∷ []) = two_words first second
+command_of (first ∷ second ∷ name ∷ names) = more_words first second (name ∷ names)
 
 -- A run was whole: it wrote what is told, its status is 1 exactly where an order was refused and else 0, and nothing is
 -- left of the input.

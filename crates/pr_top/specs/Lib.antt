@@ -5,7 +5,5 @@ pub mod Reading
 pub mod Standing
 pub mod Keeping
 pub mod Asked
-pub mod Stops
-pub mod Status
 pub mod Usage
 pub mod Command

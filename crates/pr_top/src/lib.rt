@@ -5,15 +5,13 @@ mod answered;
 mod command;
 mod engine;
 mod examples;
-mod output;
 mod query;
 mod reader;
 mod run;
 mod session;
-mod status;
 mod top;
 
 pub use command::Command;
 pub use examples::a_value_is_told_for_five_minutes;
-pub use status::Status;
+pub use pr_status::Status;
 pub use top::promtool;

@@ -8,7 +8,7 @@ ghost use Rattle.pr_query.specs.declared.value.Value.{Value};
 ghost use Rattle.pr_query.specs.Built.{is_built};
 ghost use Rattle.pr_query.specs.Meaning.{meaning};
 ghost use Rattle.pr_types.specs.Typed.{checked};
-ghost use Rattle.pr_eval.specs.Answers.{AnswersTo};
+ghost use Rattle.pr_values.specs.Answers.{AnswersTo};
 ghost use Rattle.pr_top.specs.Asked.{IsAnswer};
 ghost use Rattle.pr_top.specs.Keeping.{IsHeadOf};
 ghost use Rattle.pr_world.specs.declared.report.Report.TheVariants.{QueryRefused};
@@ -21,6 +21,7 @@ use pr_ast::Expr;
 use pr_eval::{EvalError, Value, built, eval};
 use pr_head::Head;
 use pr_parse::{ParseError, parse};
+use pr_range::PlainRanges;
 use pr_time::{Ms, Span};
 use pr_types::{Checked, TypeError, check};
 use pr_words::Steps;
@@ -79,7 +80,16 @@ fn answer<G: Ledger>(
         → IfOk result (λ report. report ≡ told_answer (meaning of_a_run.subquery_step history (tree_of expression.now) time)) }
 {
     let mut reads: Steps<G> = Steps::new(blank);
-    told_answer(eval(alloc, expression, head, time, subquery_step(), &mut reads))
+    let mut ranges = PlainRanges::new(alloc);
+    told_answer(eval(
+        alloc,
+        expression,
+        head,
+        time,
+        subquery_step(),
+        &mut ranges,
+        &mut reads,
+    ))
 }
 
 // Answers an expression that has a type.

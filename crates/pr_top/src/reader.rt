@@ -4,10 +4,10 @@ ghost use Rattle.std.specs.List.{list_all};
 ghost use Rattle.std.specs.Io.KnownBytes.{Consumes, Keeps, IsAtEnd};
 ghost use Rattle.pr_top.specs.Reading.{held, HasRoom, KnowsEnd, ahead, TakesPart, HandsLine, HandsOrder, TakesLines, Advances, Counts, IsCutLine, IsCutAt, IsBeyond, line_count};
 ghost use Rattle.pr_top.specs.Taken.{is_no_feed};
-ghost use Rattle.pr_top.specs.Stops.{StopsReading, AtInput, OnTooLong};
+ghost use Rattle.pr_status.specs.Stops.{StopsReading, AtInput, OnTooLong};
 
-use super::status::Stop;
 use pr_outside::Source;
+use pr_status::Stop;
 use pr_text::{Numbered, is_passed_over, read_order};
 use std::alloc::{AllocError, Global};
 

@@ -4,20 +4,19 @@ ghost use Rattle.std.specs.Io.KnownBytes.{Appends};
 ghost use Rattle.pr_top.specs.Front.{IsFront};
 ghost use Rattle.pr_top.specs.Keeping.{KeepsProgress, progress_after};
 ghost use Rattle.pr_top.specs.Standing.{Progress};
-ghost use Rattle.pr_top.specs.Stops.{StopsWriting, StopsRunning, KnowsLength, stopped_at_input};
+ghost use Rattle.pr_status.specs.Stops.{StopsWriting, StopsRunning, KnowsLength, stopped_at_input};
 ghost use Rattle.pr_top.specs.Told.{Content, told, told_of, refuses, answers_to, turn};
 
-use super::output::send;
 use super::reader::Reader;
 use super::session::Session;
-use super::status::Stop;
 use pr_outside::{Sink, Source};
+use pr_status::{Stop, send};
 use pr_text::{Numbered, push_report};
 use pr_world::Report;
 use std::alloc::Global;
 
 // Answers one order.
-#[tactic(auto, using(crate::proofs::Streams::appends_none))]
+#[tactic(auto, using(pr_status::proofs::Streams::appends_none))]
 fn answer_order<O: Sink>(
     alloc: Global,
     session: &mut Session,
@@ -36,7 +35,7 @@ fn answer_order<O: Sink>(
 }
 
 // Writes the line that a run begins with.
-#[tactic(auto, using(crate::proofs::Streams::appends_none, crate::proofs::Turns::told_none))]
+#[tactic(auto, using(pr_status::proofs::Streams::appends_none, crate::proofs::Turns::told_none))]
 fn open<O: Sink>(alloc: Global, out: &mut O) -> Result<(), Stop>
     ensures text { OnOk result (Appends (O.taken out.old) (O.taken out.new) (told_of [] [])) }
     ensures front { (n : ℕ) × Appends (O.taken out.old) (O.taken out.new) (take n (told_of [] [])) }

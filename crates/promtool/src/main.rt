@@ -3,14 +3,14 @@
 
 ghost use Rattle.std.specs.Prelude.{◌≡◌};
 ghost use Rattle.std.specs.Process.{exit_status};
-ghost use Rattle.pr_top.specs.Status.{number_of};
+ghost use Rattle.pr_status.specs.Status.{number_of};
 
 #[cfg(test)]
 mod tests;
 mod words;
 
 use crate::words::words_of;
-use pr_outside::{StdSink, StdSource, SureFiles, SureKeeper};
+use pr_outside::{DiskFiles, StdSink, StdSource, SureKeeper};
 use pr_top::{Status, promtool};
 use std::alloc::Global;
 use std::process::ExitCode;
@@ -18,7 +18,7 @@ use std::process::ExitCode;
 fn run(alloc: Global, rt: &HostRuntime, words: &[String]) -> Status {
     let mut input = StdSource::new(rt.stdin());
     let mut out = StdSink::new(rt.stdout());
-    let mut files = SureFiles::new(Vec::new(alloc));
+    let mut files = DiskFiles::new(alloc, rt);
     let mut keeper = SureKeeper::new(Vec::new(alloc));
     promtool(alloc, words, &mut input, &mut files, &mut keeper, &mut out)
 }

@@ -4,7 +4,7 @@ use Rattle.pr_top.specs.Front.{IsFront}
 use Rattle.pr_top.specs.Keeping.{progress_after}
 use Rattle.pr_top.specs.Reading.{held, ahead, HandsOrder}
 use Rattle.pr_top.specs.Standing.{Stands}
-use Rattle.pr_top.specs.Stops.{stopped_at_input}
+use Rattle.pr_status.specs.Stops.{stopped_at_input}
 use Rattle.pr_top.specs.Told.{answers_to}
 use Rattle.pr_top.proofs.Ahead.{counts_on}
 use Rattle.pr_top.proofs.Fronts.{stands_more, front_opening, front_before, front_within, front_ended, told_all, known_short, fronts, tolds, exit, no_more}

@@ -1,6 +1,6 @@
 use Rattle.std.proofs.Common.{[], None, subst, sym}
 use Rattle.pr_top.specs.Command.{MeansRun}
-use Rattle.pr_top.specs.declared.status.Status.{Status}
+use Rattle.pr_status.specs.declared.status.Status.{Status}
 use Rattle.pr_top.proofs.Commands.{means_run, counts}
 use Rattle.pr_top.proofs.top.run_script.Goals as goal
 

@@ -7,7 +7,7 @@ use pr_outside::{Sink, SinkError};
 
 /// Hands a text to the sink, all of it.
 #[tactic(auto, using(crate::proofs::Streams::appends_more))]
-pub(crate) fn send<O: Sink>(out: &mut O, text: &[u8]) -> Result<(), SinkError>
+pub fn send<O: Sink>(out: &mut O, text: &[u8]) -> Result<(), SinkError>
     ensures whole { OnOk result (Appends (O.taken out.old) (O.taken out.new) text.now) }
     // Refused, it handed over a front.
     ensures front { (n : ℕ) × Appends (O.taken out.old) (O.taken out.new) (take n text.now) }

@@ -4,11 +4,11 @@ use Rattle.std.specs.declared.option.Option.{Option}
 use Rattle.pr_outside.specs.Causes.{Rose}
 use Rattle.pr_outside.specs.declared.streams.SinkError.{SinkError}
 use Rattle.pr_outside.specs.declared.streams.SinkError.TheVariants as sink
-use Rattle.pr_top.specs.Status.{IsShort, IsLong}
-use Rattle.pr_top.specs.declared.status.Status.{Status}
-use Rattle.pr_top.specs.declared.status.Status.TheVariants as status
-use Rattle.pr_top.specs.declared.status.Stop.{Stop}
-use Rattle.pr_top.specs.declared.status.Stop.TheVariants.{Read, Write, Memory, TooLong}
+use Rattle.pr_status.specs.Status.{IsShort, IsLong}
+use Rattle.pr_status.specs.declared.status.Status.{Status}
+use Rattle.pr_status.specs.declared.status.Status.TheVariants as status
+use Rattle.pr_status.specs.declared.status.Stop.{Stop}
+use Rattle.pr_status.specs.declared.status.Stop.TheVariants.{Read, Write, Memory, TooLong}
 
 abbrev pub stop_of_sink : SinkError → Stop
 stop_of_sink sink.Failed = Write
@@ -73,11 +73,15 @@ OnTooLong (Err Write) P = Unit {0}
 OnTooLong (Err Memory) P = Unit {0}
 OnTooLong (Err TooLong) P = P
 
--- how the program ends after a run
+-- how the program ends after what stopped it
+abbrev pub stop_status : Stop → Status
+stop_status Read = status.ReadFault
+stop_status Write = status.WriteFault
+stop_status Memory = status.Memory
+stop_status TooLong = status.TooLong
+
+-- how the program ends after a command that refused something, or nothing
 abbrev pub status_of : Result Bool Stop → Status
 status_of (Ok true) = status.Problem
 status_of (Ok false) = status.Done
-status_of (Err Read) = status.ReadFault
-status_of (Err Write) = status.WriteFault
-status_of (Err Memory) = status.Memory
-status_of (Err TooLong) = status.TooLong
+status_of (Err stop) = stop_status stop

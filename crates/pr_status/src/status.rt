@@ -1,8 +1,8 @@
 // How the program ends.
 ghost use Rattle.std.specs.Prelude.{◌≡◌};
-ghost use Rattle.pr_top.specs.Status.{number_of};
-ghost use Rattle.pr_top.specs.Stops.{stop_of_sink};
-ghost use Rattle.pr_top.specs.declared.status.Stop.TheVariants.{Memory, Read};
+ghost use Rattle.pr_status.specs.Status.{number_of};
+ghost use Rattle.pr_status.specs.Stops.{status_of, stop_of_sink, stop_status};
+ghost use Rattle.pr_status.specs.declared.status.Stop.TheVariants.{Memory, Read};
 
 use pr_outside::{Failed, SinkError};
 use std::alloc::AllocError;
@@ -51,11 +51,36 @@ impl Status {
 
 /// Why a run was cut short.
 #[derive(Clone, Copy, Debug, PartialEq, Eq)]
-pub(crate) enum Stop {
+pub enum Stop {
     Read,
     Write,
     Memory,
     TooLong,
+}
+
+impl Stop {
+    /// How the program ends after it.
+    pub fn status(self) -> Status
+        ensures { result ≡ stop_status self }
+    {
+        match self {
+            Stop::Read => Status::ReadFault,
+            Stop::Write => Status::WriteFault,
+            Stop::Memory => Status::Memory,
+            Stop::TooLong => Status::TooLong,
+        }
+    }
+}
+
+/// How the program ends, by whether a command refused something, or what stopped it.
+pub fn status_of(ended: Result<bool, Stop>) -> Status
+    ensures { result ≡ status_of ended }
+{
+    match ended {
+        Ok(true) => Status::Problem,
+        Ok(false) => Status::Done,
+        Err(stop) => stop.status(),
+    }
 }
 
 impl From<AllocError> for Stop {

@@ -1,8 +1,8 @@
 -- What the program ends with.
-use Rattle.std.specs.Prelude.{◌≡◌, ℕ, ◌<◌, ◌≤◌, ◌^◌, Bool, true, false, List, length, Option, IfSome}
+use Rattle.std.specs.Prelude.{◌≡◌, ◌⊎◌, ℕ, ◌<◌, ◌≤◌, ◌^◌, Bool, true, false, List, length, Option, IfSome}
 use Rattle.pr_outside.specs.Causes.{Rose, IsCalm}
-use Rattle.pr_top.specs.declared.status.Status.{Status}
-use Rattle.pr_top.specs.declared.status.Status.TheVariants.{Done, Problem, Usage, Lint, ReadFault, WriteFault, StoreFault, Memory, TooLong}
+use Rattle.pr_status.specs.declared.status.Status.{Status}
+use Rattle.pr_status.specs.declared.status.Status.TheVariants.{Done, Problem, Usage, Lint, ReadFault, WriteFault, StoreFault, Memory, TooLong}
 
 abbrev pub number_of : Status → ℕ
 number_of Done = 0
@@ -62,21 +62,24 @@ pub record AreCalm (before now : Faults) : Type 0 where
 abbrev pub NoneRose : Faults → Faults → Type 0
 NoneRose before now = (now.input ≡ before.input) × (now.files ≡ before.files) × (now.keeper ≡ before.keeper) × (now.out ≡ before.out)
 
--- the input's count alone rose, or the output's
+-- the input's count alone rose, that of the files, or the output's
 abbrev pub InputRose : Faults → Faults → Type 0
 InputRose before now = Rose before.input now.input × (now.files ≡ before.files) × (now.keeper ≡ before.keeper) × (now.out ≡ before.out)
+
+abbrev pub FilesRose : Faults → Faults → Type 0
+FilesRose before now = (now.input ≡ before.input) × Rose before.files now.files × (now.keeper ≡ before.keeper) × (now.out ≡ before.out)
 
 abbrev pub OutRose : Faults → Faults → Type 0
 OutRose before now = (now.input ≡ before.input) × (now.files ≡ before.files) × (now.keeper ≡ before.keeper) × Rose before.out now.out
 
 -- The table of statuses: the first call of the outside that is refused ends the program with its object's status, and
--- want of memory is no refused call. So far no exposition is checked, no file read, and no store opened.
+-- want of memory is no refused call. So far no store is opened.
 abbrev pub HasCause : Faults → Faults → Status → Type 0
 HasCause before now Done = NoneRose before now
 HasCause before now Problem = NoneRose before now
 HasCause before now Usage = NoneRose before now
-HasCause before now Lint = ⊥
-HasCause before now ReadFault = InputRose before now
+HasCause before now Lint = NoneRose before now
+HasCause before now ReadFault = InputRose before now ⊎ FilesRose before now
 HasCause before now WriteFault = OutRose before now
 HasCause before now StoreFault = ⊥
 HasCause before now Memory = NoneRose before now

@@ -1,7 +1,7 @@
 use Rattle.std.proofs.Common.{◌∙◌, length-drop, arith}
 use Rattle.std.proofs.lemmas.List.{take_rest}
-use Rattle.pr_top.proofs.Streams.{appends_more}
-use Rattle.pr_top.proofs.output.send.Goals as goal
+use Rattle.pr_status.proofs.Streams.{appends_more}
+use Rattle.pr_status.proofs.output.send.Goals as goal
 
 pub writing-preserved : goal.writing-preserved
 writing-preserved g c =

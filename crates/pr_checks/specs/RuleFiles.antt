@@ -1,0 +1,55 @@
+-- What `check rules` tells of a file.
+use Rattle.std.specs.Prelude.{ℕ, nat_lt, true, false, List, ◌++◌, cond, codes, decimal, flat_map, length, map, sum, Option, Some, None}
+use Rattle.pr_outside.specs.Contents.{file_limit}
+use Rattle.pr_checking.specs.FileChecks.{Told}
+use Rattle.pr_rulefile.specs.File.{RuleReading, gives_file, gives_problems, rule_file_of}
+use Rattle.pr_rulefile.specs.Groups.{Group}
+use Rattle.pr_checks.specs.Problems.{problem_line}
+
+-- how many rules the groups have
+abbrev pub rule_count : List Group → ℕ
+rule_count groups = sum (map (λ g. length g.rules) groups)
+
+unfoldable pub success : List ℕ
+success = codes "  SUCCESS: "
+
+unfoldable pub rules_found : List ℕ
+rules_found = codes " rules found\n"
+
+abbrev pub success_text : ℕ → List ℕ
+success_text count = success ++ (decimal count ++ rules_found)
+
+unfoldable pub failed : List ℕ
+failed = codes "  FAILED:\n"
+
+abbrev pub failed_text : List ℕ → List ℕ
+failed_text lines = failed ++ lines
+
+-- the problems of a file, each on a line
+abbrev pub reading_told : List ℕ → RuleReading → Told
+reading_told name (gives_file groups) = record { text = success_text (rule_count groups); refused = false }
+reading_told name (gives_problems list) = record { text = failed_text (flat_map (problem_line name) list); refused = true }
+
+-- a file that is missing, or too large
+unfoldable pub missing : List ℕ
+missing = codes ": Missing\n"
+
+unfoldable pub too_large : List ℕ
+too_large = codes ": TooLarge\n"
+
+abbrev pub missing_text : List ℕ → List ℕ
+missing_text name = failed_text (name ++ missing)
+
+abbrev pub too_large_text : List ℕ → List ℕ
+too_large_text name = failed_text (name ++ too_large)
+
+abbrev pub found_told : List ℕ → Option (List ℕ) → Told
+found_told name None = record { text = missing_text name; refused = true }
+found_told name (Some bytes) = cond (nat_lt file_limit (length bytes)) (record { text = too_large_text name; refused = true }) (reading_told name (rule_file_of bytes))
+
+unfoldable pub checking_text : List ℕ → List ℕ
+checking_text name = codes "Checking " ++ (name ++ codes "\n")
+
+-- The name of the file on a line, and then how many rules it has, or what is wrong with it.
+abbrev pub rules_told : List ℕ → Option (List ℕ) → Told
+rules_told name content = record { text = checking_text name ++ (found_told name content).text; refused = (found_told name content).refused }

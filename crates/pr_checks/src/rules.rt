@@ -1,0 +1,162 @@
+// What `check rules` tells of a file.
+ghost use Rattle.std.specs.Prelude.{◌≡◌, ◌<◌, ◌≤◌, ◌^◌, ◌++◌, ℕ, List, Option, Some, OnOk, IfOk, IfSome, map, length, sum, flat_map};
+ghost use Rattle.pr_outside.specs.Contents.{IsFound, IsWithinLimit, file_limit};
+ghost use Rattle.pr_rulefile.specs.File.{groups_of_file, rule_file_of};
+ghost use Rattle.pr_rulefile.specs.Groups.{Group, group_of_def};
+ghost use Rattle.pr_checks.specs.Problems.{problem_line};
+ghost use Rattle.pr_checks.specs.RuleFiles.{checking_text, failed, failed_text, found_told, missing, reading_told, rule_count, rules_found, rules_told, success, success_text, too_large};
+
+use crate::problems::push_problem;
+use pr_checking::FileCheck;
+use pr_outside::Found;
+use pr_rulefile::{GroupDef, Problem, RuleError, read};
+use pr_text::push_number;
+use std::alloc::{AllocError, Global};
+
+/// The check of rule files: each is read whole, and all its problems are told. (Prometheus: `promtool check rules`; the kinds
+/// and their order are an own choice.)
+pub struct RuleFiles;
+
+#[tactic(auto, unfolding(crate::specs::RuleFiles::checking_text))]
+fn push_checking(text: &mut Vec<u8>, name: &str) -> Result<(), AllocError>
+    ensures { OnOk result (text.new.items ≡ text.old.items ++ checking_text name.now) }
+{
+    text.extend_from_slice(b"Checking ")?;
+    text.extend_from_slice(name.as_bytes())?;
+    text.extend_from_slice(b"\n")
+}
+
+#[tactic(auto, unfolding(crate::specs::RuleFiles::failed))]
+fn push_failed(text: &mut Vec<u8>) -> Result<(), AllocError>
+    ensures { OnOk result (text.new.items ≡ text.old.items ++ failed) }
+{
+    text.extend_from_slice(b"  FAILED:\n")
+}
+
+#[tactic(auto, unfolding(crate::specs::RuleFiles::missing))]
+fn missing() -> &'static [u8]
+    ensures { result.now ≡ missing }
+{
+    b": Missing\n"
+}
+
+#[tactic(auto, unfolding(crate::specs::RuleFiles::too_large))]
+fn too_large() -> &'static [u8]
+    ensures { result.now ≡ too_large }
+{
+    b": TooLarge\n"
+}
+
+// A file that is not read, and why.
+fn push_unread(text: &mut Vec<u8>, name: &str, why: &[u8]) -> Result<(), AllocError>
+    ensures { OnOk result (text.new.items ≡ text.old.items ++ failed_text (name.now ++ why.now)) }
+{
+    push_failed(text)?;
+    text.extend_from_slice(name.as_bytes())?;
+    text.extend_from_slice(why)
+}
+
+// How many rules the groups have, where the number fits.
+fn rule_count(groups: &[GroupDef]) -> Option<u64>
+    ensures { IfSome result (λ n. n ≡ rule_count (map group_of_def groups.now)) }
+{
+    let mut rest = groups;
+    let mut count: u64 = 0;
+    'counting: while let Some((group, after)) = rest.split_first() {
+        count = count.checked_add(group.rules.as_slice().len() as u64)?;
+        rest = after;
+    }
+    Some(count)
+}
+
+#[tactic(auto, unfolding(crate::specs::RuleFiles::success))]
+fn success() -> &'static [u8]
+    ensures { result.now ≡ success }
+{
+    b"  SUCCESS: "
+}
+
+#[tactic(auto, unfolding(crate::specs::RuleFiles::rules_found))]
+fn rules_found() -> &'static [u8]
+    ensures { result.now ≡ rules_found }
+{
+    b" rules found\n"
+}
+
+fn push_success(text: &mut Vec<u8>, count: u64) -> Result<(), AllocError>
+    ensures { OnOk result (text.new.items ≡ text.old.items ++ success_text count) }
+{
+    text.extend_from_slice(success())?;
+    push_number(text, count)?;
+    text.extend_from_slice(rules_found())
+}
+
+fn push_lines(text: &mut Vec<u8>, name: &str, problems: &[Problem]) -> Result<(), AllocError>
+    ensures { OnOk result (text.new.items ≡ text.old.items ++ flat_map (problem_line name.now) problems.now) }
+{
+    for problem in problems {
+        push_problem(text, name, problem)?;
+    }
+    Ok(())
+}
+
+fn push_problems(text: &mut Vec<u8>, name: &str, problems: &[Problem]) -> Result<(), AllocError>
+    ensures { OnOk result (text.new.items ≡ text.old.items ++ failed_text (flat_map (problem_line name.now) problems.now)) }
+{
+    push_failed(text)?;
+    push_lines(text, name, problems)
+}
+
+// What the bytes of a file are told as; it is refused unless they are a rule file.
+fn push_bytes(
+    alloc: Global,
+    text: &mut Vec<u8>,
+    name: &str,
+    bytes: &[u8],
+) -> Result<bool, AllocError>
+    requires { length bytes.now < 2 ^ 32 }
+    ensures text { OnOk result (text.new.items ≡ text.old.items ++ (reading_told name.now (rule_file_of bytes.now)).text) }
+    ensures refused { IfOk result (λ b. b ≡ (reading_told name.now (rule_file_of bytes.now)).refused) }
+{
+    match read(alloc, bytes) {
+        Ok(file) => match rule_count(file.groups.as_slice()) {
+            Some(count) => {
+                push_success(text, count)?;
+                Ok(false)
+            }
+            None => Err(AllocError),
+        },
+        Err(RuleError::Problems { list }) => {
+            push_problems(text, name, list.as_slice())?;
+            Ok(true)
+        }
+        Err(RuleError::Memory) => Err(AllocError),
+    }
+}
+
+impl FileCheck for RuleFiles {
+    ghost use Rattle.pr_checks.specs.RuleFiles.{rules_told};
+
+    ghost told = { rules_told };
+
+    fn check(
+        &self,
+        alloc: Global,
+        name: &str,
+        found: &Found,
+        text: &mut Vec<u8>,
+    ) -> Result<bool, AllocError> {
+        push_checking(text, name)?;
+        match found {
+            Found::Bytes { bytes } => push_bytes(alloc, text, name, bytes),
+            Found::Missing => {
+                push_unread(text, name, missing())?;
+                Ok(true)
+            }
+            Found::TooLarge => {
+                push_unread(text, name, too_large())?;
+                Ok(true)
+            }
+        }
+    }
+}
