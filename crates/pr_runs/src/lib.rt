@@ -2,10 +2,18 @@
 #![tactic(auto)]
 
 #[cfg(test)]
+mod aggregations;
+#[cfg(test)]
+mod checks;
+#[cfg(test)]
 mod failing;
 #[cfg(test)]
 mod fakes;
 #[cfg(test)]
+mod functions;
+#[cfg(test)]
 mod runner;
 #[cfg(test)]
 mod scripts;
+#[cfg(test)]
+mod tables;
