@@ -13,3 +13,4 @@ pub mod PipeWays
 pub mod FormatWays
 pub mod CallWays
 pub mod TextWays
+pub mod TextKept

@@ -181,7 +181,7 @@ pub turn_words : (text at rest : List ℕ) (b : Bool) → IsWords text at → Is
 turn_words text at rest true h k e = absurd (cc)
 turn_words text at rest false h k e = words_on text at rest h k
 
-take_front : (ws rest : List ℕ) → take (length (ws ++ rest) - length rest) (ws ++ rest) ≡ ws
+pub take_front : (ws rest : List ℕ) → take (length (ws ++ rest) - length rest) (ws ++ rest) ≡ ws
 take_front ws rest = let n : length (ws ++ rest) - length rest ≡ length ws = omega (arith, length-append ws rest) in ap (λ (k : ℕ). take k (ws ++ rest)) n ∙ taken ws rest
   where
     taken : (ws rest : List ℕ) → take (length ws) (ws ++ rest) ≡ ws

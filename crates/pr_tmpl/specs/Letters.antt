@@ -1,9 +1,12 @@
 -- What stands at the front of a text: the letters that the pieces are read by.
-use Rattle.std.specs.Prelude.{◌≡◌, ◌<◌, ◌≤◌, ◌-◌, ℕ, Some, None, List, [], ◌∷◌, ◌++◌, length, drop, map, codes}
+use Rattle.std.specs.Prelude.{◌≡◌, ◌<◌, ◌≤◌, ◌-◌, nat_lt, ◌&&◌, Bool, true, ℕ, Some, None, List, [], ◌∷◌, ◌++◌, length, drop, map, codes}
+use Rattle.std.specs.Str.{IsUtf8}
+use Rattle.pr_strings.specs.Reader.{KeepsText}
 use Rattle.pr_strings.specs.StringAnswer.{string_of, bad_string_place}
 use Rattle.pr_tmpl.specs.declared.kind.Kind.{Kind}
 use Rattle.pr_tmpl.specs.declared.letter.Letter.{Letter}
 use Rattle.pr_tmpl.specs.declared.letter.Letter.TheVariants.{Plain, Escape, Broken}
+use Rattle.pr_tmpl.specs.Reader.{BeginsText}
 use Rattle.pr_tmpl.specs.Pieces.{Piece, plain, escape, broken, part, pieces, kind_of, kind_of_all, ascii_front, escape_bytes, escape_quoted, escape_parts}
 
 -- The text begins with a byte that begins no escape.
@@ -72,3 +75,17 @@ pub record IsSign (kind : Kind) (text rest : List ℕ) : Type 0 where
 -- It does not.
 abbrev pub IsNoSign : Kind → List ℕ → Type 0
 IsNoSign kind text = (b : ℕ) (ps : List Piece) → pieces text ≡ plain kind b ∷ ps → ⊥
+
+-- all bytes of a word are ASCII
+abbrev pub are_ascii : List ℕ → Bool
+are_ascii [] = true
+are_ascii (b ∷ bs) = nat_lt b 128 && are_ascii bs
+
+-- What an escape means is UTF-8, and so is what follows it, where the text is; the text may be cut before its backslash.
+abbrev pub MeansText : List ℕ → Letter → List ℕ → Type 0
+MeansText text (Escape kind means) rest = IsUtf8 means.items × KeepsText text rest
+MeansText text _ rest = Unit {0}
+
+abbrev pub LetterText : List ℕ → Letter → List ℕ → Type 0
+LetterText text (Escape kind means) rest = IsUtf8 means.items × KeepsText text rest × BeginsText text
+LetterText text _ rest = Unit {0}

@@ -1,10 +1,14 @@
 -- What the functions of the reader of templates say of themselves.
-use Rattle.std.specs.Prelude.{ℕ, List}
+use Rattle.std.specs.Prelude.{ℕ, List, ◌++◌}
+use Rattle.std.specs.Str.{IsUtf8}
 use Rattle.pr_forms.specs.Form.{Form}
 use Rattle.pr_forms.specs.Run.{Runs, Outcome}
 use Rattle.pr_forms.specs.Carries.{Carries}
 use Rattle.pr_forms.specs.Reader.{FailsBy}
 use Rattle.pr_forms.specs.declared.reader.Fault.{Fault}
+use Rattle.pr_strings.specs.Reader.{KeepsText}
+use Rattle.pr_tmpl.specs.declared.kind.Kind.{Kind}
+use Rattle.pr_tmpl.specs.declared.kind.Kind.TheVariants.{Other}
 use Rattle.pr_tmpl.specs.Pieces.{Piece, pieces}
 use Rattle.pr_tmpl.specs.TemplateText.{Rule, Value, production, table}
 
@@ -21,3 +25,15 @@ Hands f text made g rest given = Carries production table f (pieces text) made g
 
 abbrev pub Leads : Form Piece Rule Value → List ℕ → Form Piece Rule Value → List ℕ → Type 0
 Leads f text g rest = Carries production table f (pieces text) (λ v. v) g (pieces rest) (λ v. v)
+
+-- Where a text is UTF-8, so is what follows a byte of this kind. A byte of no kind of its own may be a part of a longer character.
+abbrev pub KeepsTextBy : Kind → List ℕ → List ℕ → Type 0
+KeepsTextBy Other text rest = Unit {0}
+KeepsTextBy k text rest = KeepsText text rest
+
+-- Where a front and the text are UTF-8 together, so is each of them; so are the front and the rest.
+abbrev pub BeginsText : List ℕ → Type 0
+BeginsText text = (front : List ℕ) → IsUtf8 (front ++ text) → IsUtf8 front × IsUtf8 text
+
+abbrev pub CutsText : List ℕ → List ℕ → Type 0
+CutsText text rest = (front : List ℕ) → IsUtf8 (front ++ text) → IsUtf8 front × IsUtf8 rest

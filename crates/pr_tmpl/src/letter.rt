@@ -1,8 +1,9 @@
 //! The pieces of a text, one after the other.
 ghost use Rattle.std.specs.Prelude.{◌≡◌, List, ◌<◌, ◌≤◌, [], drop, length, IfOk, IfErr, IfSome, MatchOption, MatchResult, string_bytes};
-ghost use Rattle.pr_strings.specs.Reader.{IsMemory};
+ghost use Rattle.pr_strings.specs.Reader.{IsMemory, KeepsText};
+ghost use Rattle.pr_tmpl.specs.Reader.{KeepsTextBy};
 ghost use Rattle.pr_tmpl.specs.Pieces.{escape_length, escape_bytes, escape_quoted, ascii_front};
-ghost use Rattle.pr_tmpl.specs.Letters.{IsPlain, HasNoPlain, IsAscii, HasNoAscii, IsString, IsNoString, Follows, IsLetter};
+ghost use Rattle.pr_tmpl.specs.Letters.{IsPlain, HasNoPlain, IsAscii, HasNoAscii, IsString, IsNoString, Follows, IsLetter, MeansText, LetterText};
 
 use crate::kind::{Kind, kind_of, kind_of_all};
 use pr_forms::Fault;
@@ -24,6 +25,7 @@ pub(crate) enum Letter {
 pub(crate) fn front(text: &[u8]) -> Option<(Kind, u8, &[u8])>
     ensures read { MatchOption result (HasNoPlain text.now) (λ x. IsPlain text.now x.0 x.1 x.2.now) }
     ensures shorter { IfSome result (λ x. length x.2.now < length text.now) }
+    ensures text { IfSome result (λ x. KeepsTextBy x.0 text.now x.2.now) }
 {
     let Some((byte, rest)) = text.split_first() else {
         return None;
@@ -85,7 +87,8 @@ fn quoted_escape(alloc: Global, text: &[u8]) -> Result<Vec<u8>, AllocError>
 
 /// The bytes that a string means, or the first place with which it can not go on.
 fn string_in(alloc: Global, text: &[u8]) -> Result<Result<Vec<u8>, usize>, Fault<'_, u8>>
-    ensures { IfOk result (λ r. MatchResult r (λ bytes. IsString text.now bytes.items) (IsNoString text.now)) }
+    ensures read { IfOk result (λ r. MatchResult r (λ bytes. IsString text.now bytes.items) (IsNoString text.now)) }
+    ensures text { IfOk result (λ r. IfOk r (λ bytes. KeepsText text.now bytes.items)) }
 {
     match read_string(alloc, text) {
         Ok((bytes, rest)) => {
@@ -115,6 +118,7 @@ fn skip(text: &[u8], count: usize) -> &[u8]
 fn escape_in(alloc: Global, text: &[u8]) -> Result<(Letter, &[u8]), Fault<'_, u8>>
     ensures read { IfOk result (λ x. Follows text.now x.0 x.1.now) }
     ensures memory { IfErr result IsMemory }
+    ensures text { IfOk result (λ x. MeansText text.now x.0 x.1.now) }
 {
     let quoted = quoted_escape(alloc, text)?;
     let taken = quoted.len() - 3;
@@ -139,6 +143,7 @@ pub(crate) fn letter_in(
     ensures read { IfOk result (λ o. MatchOption o (text.now ≡ []) (λ x. IsLetter text.now x.0 x.1.now)) }
     ensures memory { IfErr result IsMemory }
     ensures shorter { IfOk result (λ o. IfSome o (λ x. length x.1.now < length text.now)) }
+    ensures text { IfOk result (λ o. IfSome o (λ x. LetterText text.now x.0 x.1.now)) }
 {
     let Some((byte, rest)) = text.split_first() else {
         return Ok(None);

@@ -1,9 +1,10 @@
 //! Reading a template.
-ghost use Rattle.std.specs.Prelude.{◌≡◌, ◌<◌, ◌≤◌, ◌++◌, [], Some, length, IfOk, IfErr, IfSome, MatchOption, MatchResult};
+ghost use Rattle.std.specs.Prelude.{◌≡◌, ◌<◌, ◌≤◌, ◌++◌, [], Some, length, IfOk, IfErr, IfSome, IsTrue, MatchOption, MatchResult};
 ghost use Rattle.pr_forms.specs.Form.{rule};
 ghost use Rattle.pr_forms.specs.Run.{good};
-ghost use Rattle.pr_strings.specs.Reader.{IsMemory};
-ghost use Rattle.pr_tmpl.specs.Reader.{Gives, FailsAt};
+ghost use Rattle.std.specs.Str.{IsUtf8};
+ghost use Rattle.pr_strings.specs.Reader.{IsMemory, KeepsText, SplitsText};
+ghost use Rattle.pr_tmpl.specs.Reader.{Gives, FailsAt, CutsText};
 ghost use Rattle.pr_tmpl.specs.Parsed.{opens, words_part, IsStep, IsTurn, IsOpened, IsAllWords};
 ghost use Rattle.pr_tmpl.specs.Faults.{IsNoTemplate};
 ghost use Rattle.pr_tmpl.specs.TemplateText.{parts, template_parts, Text as TextRule};
@@ -48,6 +49,7 @@ fn step_in(alloc: Global, text: &[u8]) -> Result<Option<(bool, &[u8])>, Fault<'_
     ensures read { IfOk result (λ o. MatchOption o (text.now ≡ []) (λ x. IsStep text.now x.0 x.1.now)) }
     ensures memory { IfErr result IsMemory }
     ensures shorter { IfOk result (λ o. IfSome o (λ x. length x.1.now < length text.now)) }
+    ensures text { IfOk result (λ o. IfSome o (λ x. IsTrue x.0 → CutsText text.now x.1.now)) }
 {
     let Some((letter, rest)) = letter_in(alloc, text)? else {
         return Ok(None);
@@ -62,6 +64,7 @@ fn turn_in(alloc: Global, text: &[u8]) -> Result<Option<(bool, &[u8])>, Fault<'_
     ensures read { IfOk result (λ o. MatchOption o (IsAllWords text.now) (λ x. IsTurn text.now x.0 x.1.now)) }
     ensures memory { IfErr result IsMemory }
     ensures shorter { IfOk result (λ o. IfSome o (λ x. length x.1.now < length text.now)) }
+    ensures text { IfOk result (λ o. IfSome o (λ x. IsTrue x.0 → CutsText text.now x.1.now)) }
 {
     let Some((brace, after)) = step_in(alloc, text)? else {
         return Ok(None);
@@ -81,6 +84,7 @@ fn words_in(alloc: Global, text: &[u8]) -> Result<Option<(&[u8], &[u8])>, Fault<
     ensures read { IfOk result (λ o. MatchOption o (IsAllWords text.now) (λ x. IsOpened text.now x.0.now x.1.now)) }
     ensures memory { IfErr result IsMemory }
     ensures shorter { IfOk result (λ o. IfSome o (λ x. length x.1.now < length text.now)) }
+    ensures text { IfOk result (λ o. IfSome o (λ x. SplitsText text.now x.0.now x.1.now)) }
 {
     let mut rest = text;
     while let Some((pipe, after)) = turn_in(alloc, rest)? {
@@ -94,24 +98,20 @@ fn words_in(alloc: Global, text: &[u8]) -> Result<Option<(&[u8], &[u8])>, Fault<
 
 /// Puts words at the end of the parts, where there are any.
 fn push_words(alloc: Global, parts: &mut Vec<Part>, words: &[u8]) -> Result<(), AllocError>
+    requires { IsUtf8 words.now }
     ensures { IfOk result (λ _. parts.new.items ≡ parts.old.items ++ words_part words.now) }
 {
     if words.is_empty() {
         return Ok(());
     }
-    let mut copied = Vec::new(alloc);
-    copied.extend_from_slice(words)?;
-    match String::from_utf8(copied) {
-        Ok(copied) => {
-            parts.push(Part::Words(Text::new(copied)))?;
-            Ok(())
-        }
-        Err(_) => Err(AllocError),
-    }
+    let words = Text::from_str(alloc, str::from_utf8(words).unwrap())?;
+    parts.push(Part::Words(words))?;
+    Ok(())
 }
 
 /// The parts of a template.
 fn parts_in(alloc: Global, text: &[u8]) -> Result<Vec<Part>, Fault<'_, u8>>
+    requires { IsUtf8 text.now }
     ensures { MatchResult result (λ ps. Gives (rule TextRule) text.now (good (parts ps.items) [])) (FailsAt (rule TextRule) text.now) }
 {
     let mut parts = Vec::new(alloc);

@@ -1,11 +1,13 @@
 //! The pipes of a template.
-ghost use Rattle.std.specs.Prelude.{◌<◌, ◌≤◌, [], codes, length, IfOk, IfSome, MatchResult};
+ghost use Rattle.std.specs.Prelude.{◌<◌, ◌≤◌, [], codes, length, IfOk, IfSome, IsTrue, MatchResult};
+ghost use Rattle.std.specs.Str.{IsUtf8};
 ghost use Rattle.pr_forms.specs.Form.{rule, nothing, chosen};
 ghost use Rattle.pr_forms.specs.Run.{good, bad};
 ghost use Rattle.pr_tmpl.specs.Pieces.{pieces};
 ghost use Rattle.pr_tmpl.specs.declared.kind.Kind.TheVariants.{Bar};
-ghost use Rattle.pr_tmpl.specs.Letters.{IsNoSign};
 ghost use Rattle.pr_tmpl.specs.TemplateText.{operand, call, parts, piped, spelled, production, AnOperand, ACall, Scale, Formatted, FromOperand, FromCall, After, Next, Text as TextRule, dollar_rule, dot_rule, external_rule, name_goes_on};
+ghost use Rattle.pr_strings.specs.Reader.{KeepsText};
+ghost use Rattle.pr_tmpl.specs.Letters.{IsNoSign, are_ascii};
 ghost use Rattle.pr_tmpl.specs.Reader.{Gives, FailsAt, Hands};
 ghost use Rattle.pr_tmpl.specs.Pipes.{after_gap, after_bar, a_pipe, IsCall, IsCalls, IsFromOperand, IsPipe};
 
@@ -24,9 +26,11 @@ fn operand_word<'a>(
     found: Operand,
     text: &'a [u8],
 ) -> Result<(Operand, &'a [u8]), Fault<'a, u8>>
+    requires { IsTrue (are_ascii word.now) }
     ensures read { MatchResult result (λ x. Gives (spelled word.now (nothing (operand found))) text.now (good (operand x.0) (pieces x.1.now)))
         (FailsAt (spelled word.now (nothing (operand found))) text.now) }
     ensures shorter { IfOk result (λ x. length x.1.now ≤ length text.now) }
+    ensures text { IfOk result (λ x. KeepsText text.now x.1.now) }
 {
     match word_in(word, text) {
         Ok(rest) => Ok((found, rest)),
@@ -38,6 +42,7 @@ fn operand_word<'a>(
 fn external_part(alloc: Global, text: &[u8]) -> Result<(Operand, &[u8]), Fault<'_, u8>>
     ensures read { MatchResult result (λ x. Gives (chosen external_rule name_goes_on) text.now (good (operand x.0) (pieces x.1.now))) (FailsAt (chosen external_rule name_goes_on) text.now) }
     ensures shorter { IfOk result (λ x. length x.1.now ≤ length text.now) }
+    ensures text { IfOk result (λ x. KeepsText text.now x.1.now) }
 {
     let Some((kind, _byte, rest)) = front(text) else {
         return Err(Fault::Bad(text));
@@ -56,6 +61,7 @@ fn external_part(alloc: Global, text: &[u8]) -> Result<(Operand, &[u8]), Fault<'
 fn external_operand(alloc: Global, text: &[u8]) -> Result<(Operand, &[u8]), Fault<'_, u8>>
     ensures read { MatchResult result (λ x. Gives (spelled (codes "xternal") (chosen external_rule name_goes_on)) text.now (good (operand x.0) (pieces x.1.now))) (FailsAt (spelled (codes "xternal") (chosen external_rule name_goes_on)) text.now) }
     ensures shorter { IfOk result (λ x. length x.1.now ≤ length text.now) }
+    ensures text { IfOk result (λ x. KeepsText text.now x.1.now) }
 {
     match word_in(b"xternal", text) {
         Ok(rest) => external_part(alloc, rest),
@@ -67,6 +73,7 @@ fn external_operand(alloc: Global, text: &[u8]) -> Result<(Operand, &[u8]), Faul
 fn dollared(alloc: Global, text: &[u8]) -> Result<(Operand, &[u8]), Fault<'_, u8>>
     ensures read { MatchResult result (λ x. Gives (chosen dollar_rule name_goes_on) text.now (good (operand x.0) (pieces x.1.now))) (FailsAt (chosen dollar_rule name_goes_on) text.now) }
     ensures shorter { IfOk result (λ x. length x.1.now ≤ length text.now) }
+    ensures text { IfOk result (λ x. KeepsText text.now x.1.now) }
 {
     let Some((kind, _byte, rest)) = front(text) else {
         return Err(Fault::Bad(text));
@@ -86,6 +93,7 @@ fn dollared(alloc: Global, text: &[u8]) -> Result<(Operand, &[u8]), Fault<'_, u8
 fn dotted(alloc: Global, text: &[u8]) -> Result<(Operand, &[u8]), Fault<'_, u8>>
     ensures read { MatchResult result (λ x. Gives (chosen dot_rule name_goes_on) text.now (good (operand x.0) (pieces x.1.now))) (FailsAt (chosen dot_rule name_goes_on) text.now) }
     ensures shorter { IfOk result (λ x. length x.1.now ≤ length text.now) }
+    ensures text { IfOk result (λ x. KeepsText text.now x.1.now) }
 {
     let Some((kind, _byte, rest)) = front(text) else {
         return Err(Fault::Bad(text));
@@ -103,8 +111,10 @@ fn dotted(alloc: Global, text: &[u8]) -> Result<(Operand, &[u8]), Fault<'_, u8>>
 
 /// The operand at the front, and what follows it.
 fn operand_in(alloc: Global, text: &[u8]) -> Result<(Operand, &[u8]), Fault<'_, u8>>
+    requires { IsUtf8 text.now }
     ensures read { MatchResult result (λ x. Gives (rule AnOperand) text.now (good (operand x.0) (pieces x.1.now))) (FailsAt (rule AnOperand) text.now) }
     ensures shorter { IfOk result (λ x. length x.1.now ≤ length text.now) }
+    ensures text { IfOk result (λ x. IsUtf8 x.1.now) }
 {
     let Some((kind, _byte, rest)) = front(text) else {
         return Err(Fault::Bad(text));
@@ -126,9 +136,11 @@ fn call_word<'a>(
     found: Call,
     text: &'a [u8],
 ) -> Result<(Call, &'a [u8]), Fault<'a, u8>>
+    requires { IsTrue (are_ascii word.now) }
     ensures read { MatchResult result (λ x. Gives (spelled word.now (nothing (call found))) text.now (good (call x.0) (pieces x.1.now)))
         (FailsAt (spelled word.now (nothing (call found))) text.now) }
     ensures shorter { IfOk result (λ x. length x.1.now ≤ length text.now) }
+    ensures text { IfOk result (λ x. KeepsText text.now x.1.now) }
 {
     match word_in(word, text) {
         Ok(rest) => Ok((found, rest)),
@@ -140,6 +152,7 @@ fn call_word<'a>(
 fn scale_in(text: &[u8]) -> Result<(Call, &[u8]), Fault<'_, u8>>
     ensures read { MatchResult result (λ x. Gives (rule Scale) text.now (good (call x.0) (pieces x.1.now))) (FailsAt (rule Scale) text.now) }
     ensures shorter { IfOk result (λ x. length x.1.now ≤ length text.now) }
+    ensures text { IfOk result (λ x. KeepsText text.now x.1.now) }
 {
     let Some((kind, _byte, rest)) = front(text) else {
         return Ok((Call::Humanize, text));
@@ -156,6 +169,7 @@ fn humanize_call(text: &[u8]) -> Result<(Call, &[u8]), Fault<'_, u8>>
     ensures read { MatchResult result (λ x. Gives (spelled (codes "umanize") (rule Scale)) text.now (good (call x.0) (pieces x.1.now)))
         (FailsAt (spelled (codes "umanize") (rule Scale)) text.now) }
     ensures shorter { IfOk result (λ x. length x.1.now ≤ length text.now) }
+    ensures text { IfOk result (λ x. KeepsText text.now x.1.now) }
 {
     match word_in(b"umanize", text) {
         Ok(rest) => scale_in(rest),
@@ -165,8 +179,10 @@ fn humanize_call(text: &[u8]) -> Result<(Call, &[u8]), Fault<'_, u8>>
 
 /// The format of a `printf`, after the blanks before it.
 fn format_after_gap(alloc: Global, text: &[u8]) -> Result<(Call, &[u8]), Fault<'_, u8>>
+    requires { IsUtf8 text.now }
     ensures read { MatchResult result (λ x. Gives (after_gap (rule Formatted)) text.now (good (call x.0) (pieces x.1.now))) (FailsAt (after_gap (rule Formatted)) text.now) }
     ensures shorter { IfOk result (λ x. length x.1.now ≤ length text.now) }
+    ensures text { IfOk result (λ x. IsUtf8 x.1.now) }
 {
     match gap_in(text) {
         Ok(at) => {
@@ -179,9 +195,11 @@ fn format_after_gap(alloc: Global, text: &[u8]) -> Result<(Call, &[u8]), Fault<'
 
 /// What stands after the first letter of `printf`.
 fn printf_call(alloc: Global, text: &[u8]) -> Result<(Call, &[u8]), Fault<'_, u8>>
+    requires { IsUtf8 text.now }
     ensures read { MatchResult result (λ x. Gives (spelled (codes "rintf") (after_gap (rule Formatted))) text.now (good (call x.0) (pieces x.1.now)))
         (FailsAt (spelled (codes "rintf") (after_gap (rule Formatted))) text.now) }
     ensures shorter { IfOk result (λ x. length x.1.now ≤ length text.now) }
+    ensures text { IfOk result (λ x. IsUtf8 x.1.now) }
 {
     match word_in(b"rintf", text) {
         Ok(rest) => format_after_gap(alloc, rest),
@@ -191,8 +209,10 @@ fn printf_call(alloc: Global, text: &[u8]) -> Result<(Call, &[u8]), Fault<'_, u8
 
 /// The call at the front, and what follows it.
 fn call_in(alloc: Global, text: &[u8]) -> Result<(Call, &[u8]), Fault<'_, u8>>
+    requires { IsUtf8 text.now }
     ensures read { MatchResult result (λ x. Gives (rule ACall) text.now (good (call x.0) (pieces x.1.now))) (FailsAt (rule ACall) text.now) }
     ensures shorter { IfOk result (λ x. length x.1.now ≤ length text.now) }
+    ensures text { IfOk result (λ x. IsUtf8 x.1.now) }
 {
     let Some((kind, _byte, rest)) = front(text) else {
         return Err(Fault::Bad(text));
@@ -206,8 +226,10 @@ fn call_in(alloc: Global, text: &[u8]) -> Result<(Call, &[u8]), Fault<'_, u8>>
 
 /// The call after a bar, and what follows it and its blanks.
 fn call_between(alloc: Global, text: &[u8]) -> Result<(Call, &[u8]), Fault<'_, u8>>
+    requires { IsUtf8 text.now }
     ensures read { MatchResult result (λ x. IsCall text.now x.0 x.1.now) (FailsAt after_bar text.now) }
     ensures shorter { IfOk result (λ x. length x.1.now ≤ length text.now) }
+    ensures text { IfOk result (λ x. IsUtf8 x.1.now) }
 {
     let at = blanks_in(text);
     let (call, after) = call_in(alloc, at)?;
@@ -219,6 +241,7 @@ fn braces_in(text: &[u8]) -> Result<&[u8], &[u8]>
     requires { IsNoSign Bar text.now }
     ensures read { MatchResult result (λ rest. Hands (rule Next) text.now (piped []) (rule TextRule) rest.now parts) (λ rest. Gives (rule Next) text.now (bad (pieces rest.now))) }
     ensures shorter { IfOk result (λ rest. length rest.now ≤ length text.now) }
+    ensures text { IfOk result (λ rest. KeepsText text.now rest.now) }
 {
     match sign_in(Kind::Close, text) {
         Some(second) => match sign_in(Kind::Close, second) {
@@ -235,8 +258,10 @@ fn calls_in(
     before: Items<Call>,
     text: &[u8],
 ) -> Result<(Items<Call>, &[u8]), Fault<'_, u8>>
+    requires { IsUtf8 text.now }
     ensures read { MatchResult result (λ x. IsCalls before text.now x.0 x.1.now) (FailsAt (rule After) text.now) }
     ensures shorter { IfOk result (λ x. length x.1.now ≤ length text.now) }
+    ensures text { IfOk result (λ x. IsUtf8 x.1.now) }
 {
     let mut calls = before;
     let mut rest = blanks_in(text);
@@ -257,8 +282,10 @@ fn from_operand(
     before: Items<Call>,
     text: &[u8],
 ) -> Result<(Operand, Items<Call>, &[u8]), Fault<'_, u8>>
+    requires { IsUtf8 text.now }
     ensures read { MatchResult result (λ x. IsFromOperand before text.now x.0 x.1 x.2.now) (FailsAt (production FromOperand) text.now) }
     ensures shorter { IfOk result (λ x. length x.2.now ≤ length text.now) }
+    ensures text { IfOk result (λ x. IsUtf8 x.2.now) }
 {
     let (operand, rest) = operand_in(alloc, text)?;
     let (calls, end) = calls_in(alloc, before, rest)?;
@@ -267,8 +294,10 @@ fn from_operand(
 
 /// A pipe from its call before the operand on, and what follows its braces.
 fn from_call(alloc: Global, text: &[u8]) -> Result<(Operand, Items<Call>, &[u8]), Fault<'_, u8>>
+    requires { IsUtf8 text.now }
     ensures read { MatchResult result (λ x. IsPipe (production FromCall) text.now x.0 x.1 x.2.now) (FailsAt (production FromCall) text.now) }
     ensures shorter { IfOk result (λ x. length x.2.now ≤ length text.now) }
+    ensures text { IfOk result (λ x. IsUtf8 x.2.now) }
 {
     let (call, after) = call_in(alloc, text)?;
     let mut calls = Items::empty(alloc);
@@ -284,8 +313,10 @@ pub(crate) fn pipe_in(
     alloc: Global,
     text: &[u8],
 ) -> Result<(Operand, Items<Call>, &[u8]), Fault<'_, u8>>
+    requires { IsUtf8 text.now }
     ensures read { MatchResult result (λ x. IsPipe a_pipe text.now x.0 x.1 x.2.now) (FailsAt a_pipe text.now) }
     ensures shorter { IfOk result (λ x. length x.2.now ≤ length text.now) }
+    ensures text { IfOk result (λ x. IsUtf8 x.2.now) }
 {
     let at = blanks_in(text);
     let Some((kind, _byte, _rest)) = front(at) else {

@@ -1,12 +1,14 @@
 //! The strings of a pipe, and the formats of `printf`.
 ghost use Rattle.std.specs.Prelude.{◌≡◌, ◌<◌, ◌≤◌, ◌++◌, [], codes, length, IfOk, IfSome, OnOk, MatchOption, MatchResult};
+ghost use Rattle.std.specs.Str.{IsUtf8};
 ghost use Rattle.pr_forms.specs.Form.{rule};
 ghost use Rattle.pr_forms.specs.Run.{good};
 ghost use Rattle.pr_tmpl.specs.Pieces.{pieces};
 ghost use Rattle.pr_tmpl.specs.declared.template.Verb.TheVariants.{Fixed};
 ghost use Rattle.pr_tmpl.specs.declared.template.Call.TheVariants.{Printf};
 ghost use Rattle.pr_tmpl.specs.TemplateText.{bytes as bytes_value, verb, format, call, bytes_joined, leading, Content as ContentRule, Before as BeforeRule, Wanted as WantedRule, Places as PlacesRule, LetterF, AfterVerb, SecondPercent, Formatted};
-ghost use Rattle.pr_tmpl.specs.Reader.{Gives, FailsAt, Leads, Hands};
+ghost use Rattle.pr_strings.specs.Reader.{KeepsText, KeepsFront};
+ghost use Rattle.pr_tmpl.specs.Reader.{Gives, FailsAt, Leads, Hands, KeepsTextBy, BeginsText};
 ghost use Rattle.pr_tmpl.specs.Quotes.{is_own, means_of, rule_of, Reaches, Stops, first_byte, IsControl, IsNoControl, BreaksAt, verb_wanted, HasFewPlaces, IsWanted, LeadsUpTo, GoesOn};
 
 use crate::kind::Kind;
@@ -62,6 +64,7 @@ fn own_in(
     ensures read { MatchResult result (λ o. MatchOption o (Stops within text.now) (λ x. Reaches within text.now (means_of x.0) x.1.now))
         (FailsAt (rule (rule_of within)) text.now) }
     ensures shorter { IfOk result (λ o. IfSome o (λ x. length x.1.now < length text.now)) }
+    ensures text { IfOk result (λ o. MatchOption o (BeginsText text.now) (λ x. KeepsFront text.now (means_of x.0) x.1.now)) }
 {
     let Some((letter, rest)) = letter_in(alloc, text)? else {
         return Ok(None);
@@ -77,8 +80,10 @@ fn own_in(
 
 /// What the letters at the front mean that stand for themselves, and what follows them.
 fn means_in(alloc: Global, within: Within, text: &[u8]) -> Result<(Text, &[u8]), Fault<'_, u8>>
+    requires { IsUtf8 text.now }
     ensures read { MatchResult result (λ x. Reaches within text.now x.0 x.1.now × Stops within x.1.now) (FailsAt (rule (rule_of within)) text.now) }
     ensures shorter { IfOk result (λ x. length x.1.now ≤ length text.now) }
+    ensures text { IfOk result (λ x. IsUtf8 x.1.now) }
 {
     let mut bytes = Vec::new(alloc);
     let mut rest = text;
@@ -86,16 +91,16 @@ fn means_in(alloc: Global, within: Within, text: &[u8]) -> Result<(Text, &[u8]),
         push_letter(&mut bytes, &letter)?;
         rest = after;
     }
-    match String::from_utf8(bytes) {
-        Ok(means) => Ok((Text::new(means), rest)),
-        Err(_) => Err(Fault::Memory),
-    }
+    let means = String::from_utf8(bytes).unwrap();
+    Ok((Text::new(means), rest))
 }
 
 /// What a string means from its first quote on, and what follows it.
 pub(crate) fn content_in(alloc: Global, text: &[u8]) -> Result<(Text, &[u8]), Fault<'_, u8>>
+    requires { IsUtf8 text.now }
     ensures read { MatchResult result (λ x. Gives (rule ContentRule) text.now (good (bytes_value x.0) (pieces x.1.now))) (FailsAt (rule ContentRule) text.now) }
     ensures shorter { IfOk result (λ x. length x.1.now ≤ length text.now) }
+    ensures text { IfOk result (λ x. IsUtf8 x.1.now) }
 {
     let (means, rest) = means_in(alloc, Within::Content, text)?;
     match sign_in(Kind::Quote, rest) {
@@ -119,6 +124,7 @@ fn first_of(bytes: &[u8]) -> u8
 fn control_in(alloc: Global, text: &[u8]) -> Result<Option<(Kind, u8, &[u8])>, Fault<'_, u8>>
     ensures read { MatchResult result (λ o. MatchOption o (text.now ≡ []) (λ x. IsControl text.now x.0 x.1 x.2.now)) (BreaksAt text.now) }
     ensures shorter { IfOk result (λ o. IfSome o (λ x. length x.2.now < length text.now)) }
+    ensures text { IfOk result (λ o. IfSome o (λ x. KeepsTextBy x.0 text.now x.2.now)) }
 {
     let Some((letter, rest)) = letter_in(alloc, text)? else {
         return Ok(None);
@@ -131,9 +137,11 @@ fn control_in(alloc: Global, text: &[u8]) -> Result<Option<(Kind, u8, &[u8])>, F
 }
 
 /// What follows the letter of this kind at the front, and the first byte that it means.
+#[tactic(auto, using(crate::proofs::TextKept::same_kind))]
 fn sought_in(alloc: Global, wanted: Kind, text: &[u8]) -> Result<Option<(u8, &[u8])>, Fault<'_, u8>>
     ensures read { MatchResult result (λ o. MatchOption o (IsNoControl text.now wanted) (λ x. IsControl text.now wanted x.0 x.1.now)) (BreaksAt text.now) }
     ensures shorter { IfOk result (λ o. IfSome o (λ x. length x.1.now < length text.now)) }
+    ensures text { IfOk result (λ o. IfSome o (λ x. KeepsTextBy wanted text.now x.1.now)) }
 {
     let Some((kind, byte, rest)) = control_in(alloc, text)? else {
         return Ok(None);
@@ -149,6 +157,7 @@ fn sought_in(alloc: Global, wanted: Kind, text: &[u8]) -> Result<Option<(u8, &[u
 fn letter_f_in(alloc: Global, text: &[u8]) -> Result<&[u8], Fault<'_, u8>>
     ensures read { MatchResult result (λ rest. Leads (rule LetterF) text.now (rule AfterVerb) rest.now) (FailsAt (rule LetterF) text.now) }
     ensures shorter { IfOk result (λ rest. length rest.now ≤ length text.now) }
+    ensures text { IfOk result (λ rest. KeepsText text.now rest.now) }
 {
     match sought_in(alloc, Kind::SmallF, text)? {
         Some((_byte, rest)) => Ok(rest),
@@ -161,6 +170,7 @@ fn second_percent_in(alloc: Global, text: &[u8]) -> Result<&[u8], Fault<'_, u8>>
     ensures read { MatchResult result (λ rest. Hands (rule SecondPercent) text.now (bytes_joined (bytes_value (codes "%"))) (rule AfterVerb) rest.now (λ v. v))
         (FailsAt (rule SecondPercent) text.now) }
     ensures shorter { IfOk result (λ rest. length rest.now ≤ length text.now) }
+    ensures text { IfOk result (λ rest. KeepsText text.now rest.now) }
 {
     match sought_in(alloc, Kind::Percent, text)? {
         Some((_byte, rest)) => Ok(rest),
@@ -173,6 +183,7 @@ fn digit_in(alloc: Global, text: &[u8]) -> Result<(u8, &[u8]), Fault<'_, u8>>
     ensures read { MatchResult result (λ x. Hands (rule PlacesRule) text.now (leading (verb (Fixed x.0))) (rule LetterF) x.1.now (λ v. v)) (FailsAt (rule PlacesRule) text.now) }
     ensures few { IfOk result (λ x. x.0 ≤ 9) }
     ensures shorter { IfOk result (λ x. length x.1.now ≤ length text.now) }
+    ensures text { IfOk result (λ x. KeepsText text.now x.1.now) }
 {
     match sought_in(alloc, Kind::Digit, text)? {
         Some((byte, rest)) => Ok((byte.saturating_sub(b'0'), rest)),
@@ -185,6 +196,7 @@ fn places_in(alloc: Global, text: &[u8]) -> Result<(u8, &[u8]), Fault<'_, u8>>
     ensures read { MatchResult result (λ x. Hands (rule PlacesRule) text.now (leading (verb (Fixed x.0))) (rule AfterVerb) x.1.now (λ v. v)) (FailsAt (rule PlacesRule) text.now) }
     ensures few { IfOk result (λ x. x.0 ≤ 9) }
     ensures shorter { IfOk result (λ x. length x.1.now ≤ length text.now) }
+    ensures text { IfOk result (λ x. KeepsText text.now x.1.now) }
 {
     let (places, rest) = digit_in(alloc, text)?;
     let after = letter_f_in(alloc, rest)?;
@@ -204,6 +216,7 @@ fn wanted_in(alloc: Global, text: &[u8]) -> Result<(Wanted, &[u8]), Fault<'_, u8
     ensures read { MatchResult result (λ x. IsWanted text.now x.0 x.1.now) (FailsAt (rule WantedRule) text.now) }
     ensures few { IfOk result (λ x. HasFewPlaces x.0) }
     ensures shorter { IfOk result (λ x. length x.1.now ≤ length text.now) }
+    ensures text { IfOk result (λ x. KeepsText text.now x.1.now) }
 {
     let Some((kind, _byte, rest)) = control_in(alloc, text)? else {
         return Err(Fault::Bad(text));
@@ -236,9 +249,11 @@ fn verb_of(wanted: Wanted) -> Verb
 
 /// The text up to the next `%` of a format, what stands after that, and what follows it.
 fn up_to_wanted(alloc: Global, text: &[u8]) -> Result<(Text, Wanted, &[u8]), Fault<'_, u8>>
+    requires { IsUtf8 text.now }
     ensures read { MatchResult result (λ x. LeadsUpTo text.now x.0 x.1 x.2.now) (FailsAt (rule BeforeRule) text.now) }
     ensures few { IfOk result (λ x. HasFewPlaces x.1) }
     ensures shorter { IfOk result (λ x. length x.2.now < length text.now) }
+    ensures text { IfOk result (λ x. IsUtf8 x.2.now) }
 {
     let (means, at) = means_in(alloc, Within::Before, text)?;
     let Some((_byte, after)) = sought_in(alloc, Kind::Percent, at)? else {
@@ -251,9 +266,11 @@ fn up_to_wanted(alloc: Global, text: &[u8]) -> Result<(Text, Wanted, &[u8]), Fau
 /// The text before the verb of a format and the verb, from the first quote on, and what follows
 /// them.
 fn before_in(alloc: Global, text: &[u8]) -> Result<(Text, Wanted, &[u8]), Fault<'_, u8>>
+    requires { IsUtf8 text.now }
     ensures read { MatchResult result (λ x. Hands (rule BeforeRule) text.now (format x.0 (verb_wanted x.1)) (rule AfterVerb) x.2.now bytes_value) (FailsAt (rule BeforeRule) text.now) }
     ensures few { IfOk result (λ x. HasFewPlaces x.1) }
     ensures shorter { IfOk result (λ x. length x.2.now ≤ length text.now) }
+    ensures text { IfOk result (λ x. IsUtf8 x.2.now) }
 {
     let mut before = String::new(alloc);
     let mut rest = text;
@@ -273,8 +290,10 @@ fn before_in(alloc: Global, text: &[u8]) -> Result<(Text, Wanted, &[u8]), Fault<
 /// The text after a verb up to the next `%` or the last quote, whether it is two of `%`, and what
 /// follows them.
 fn up_to_percent(alloc: Global, text: &[u8]) -> Result<(Text, bool, &[u8]), Fault<'_, u8>>
+    requires { IsUtf8 text.now }
     ensures read { MatchResult result (λ x. GoesOn text.now x.0 x.1 x.2.now) (FailsAt (rule AfterVerb) text.now) }
     ensures shorter { IfOk result (λ x. length x.2.now < length text.now) }
+    ensures text { IfOk result (λ x. IsUtf8 x.2.now) }
 {
     let (means, at) = means_in(alloc, Within::After, text)?;
     match sought_in(alloc, Kind::Percent, at)? {
@@ -291,8 +310,10 @@ fn up_to_percent(alloc: Global, text: &[u8]) -> Result<(Text, bool, &[u8]), Faul
 
 /// The text after the verb of a format, and what follows its last quote.
 fn after_verb_in(alloc: Global, text: &[u8]) -> Result<(Text, &[u8]), Fault<'_, u8>>
+    requires { IsUtf8 text.now }
     ensures read { MatchResult result (λ x. Gives (rule AfterVerb) text.now (good (bytes_value x.0) (pieces x.1.now))) (FailsAt (rule AfterVerb) text.now) }
     ensures shorter { IfOk result (λ x. length x.1.now ≤ length text.now) }
+    ensures text { IfOk result (λ x. IsUtf8 x.1.now) }
 {
     let mut words = String::new(alloc);
     let mut rest = text;
@@ -309,8 +330,10 @@ fn after_verb_in(alloc: Global, text: &[u8]) -> Result<(Text, &[u8]), Fault<'_, 
 
 /// A format at the front, and what follows it.
 pub(crate) fn format_in(alloc: Global, text: &[u8]) -> Result<(Format, &[u8]), Fault<'_, u8>>
+    requires { IsUtf8 text.now }
     ensures read { MatchResult result (λ x. Gives (rule Formatted) text.now (good (call (Printf x.0)) (pieces x.1.now))) (FailsAt (rule Formatted) text.now) }
     ensures shorter { IfOk result (λ x. length x.1.now ≤ length text.now) }
+    ensures text { IfOk result (λ x. IsUtf8 x.1.now) }
 {
     let Some(inside) = sign_in(Kind::Quote, text) else {
         return Err(Fault::Bad(text));

@@ -1,11 +1,12 @@
 //! The words of a pipe.
-ghost use Rattle.std.specs.Prelude.{◌≡◌, ◌<◌, ◌≤◌, ◌∷◌, ◌++◌, [], ℕ, List, codes, length, IfOk, IfSome, MatchOption, MatchResult};
+ghost use Rattle.std.specs.Prelude.{◌≡◌, ◌<◌, ◌≤◌, ◌∷◌, ◌++◌, [], ℕ, List, codes, length, IfOk, IfSome, IsTrue, MatchOption, MatchResult};
 ghost use Rattle.pr_forms.specs.Form.{Form, rule, pair, token};
 ghost use Rattle.pr_forms.specs.Run.{good, bad};
 ghost use Rattle.pr_tmpl.specs.Pieces.{Piece, pieces};
 ghost use Rattle.pr_tmpl.specs.TemplateText.{Rule, Value, bytes, mark, blanks, blank_at, spelled, second_of, is_letter, is_label_byte, Name, NameRest};
-ghost use Rattle.pr_tmpl.specs.Letters.{IsSign, IsNoSign};
-ghost use Rattle.pr_tmpl.specs.Reader.{Gives, FailsAt, Leads};
+ghost use Rattle.pr_tmpl.specs.Letters.{IsSign, IsNoSign, are_ascii};
+ghost use Rattle.pr_strings.specs.Reader.{KeepsText};
+ghost use Rattle.pr_tmpl.specs.Reader.{Gives, FailsAt, Leads, KeepsTextBy};
 
 use crate::digits::push_byte;
 use crate::kind::Kind;
@@ -18,6 +19,7 @@ use std::alloc::Global;
 pub(crate) fn sign_in(wanted: Kind, text: &[u8]) -> Option<&[u8]>
     ensures read { MatchOption result (IsNoSign wanted text.now) (λ rest. IsSign wanted text.now rest.now) }
     ensures shorter { IfSome result (λ rest. length rest.now < length text.now) }
+    ensures text { IfSome result (λ rest. KeepsTextBy wanted text.now rest.now) }
 {
     match front(text) {
         Some((kind, _byte, rest)) => { if kind == wanted { Some(rest) } else { None } }
@@ -29,6 +31,7 @@ pub(crate) fn sign_in(wanted: Kind, text: &[u8]) -> Option<&[u8]>
 pub(crate) fn blanks_in(text: &[u8]) -> &[u8]
     ensures read { Gives blanks text.now (good mark (pieces result.now)) }
     ensures shorter { length result.now ≤ length text.now }
+    ensures text { KeepsText text.now result.now }
 {
     let mut rest = text;
     while let Some(after) = sign_in(Kind::Blank, rest) {
@@ -42,6 +45,7 @@ pub(crate) fn gap_in(text: &[u8]) -> Result<&[u8], &[u8]>
     ensures read { MatchResult result (λ rest. (f : Form Piece Rule Value) → Leads (pair second_of (token blank_at) (pair second_of blanks f)) text.now f rest.now)
         (λ rest. (f : Form Piece Rule Value) → Gives (pair second_of (token blank_at) (pair second_of blanks f)) text.now (bad (pieces rest.now))) }
     ensures shorter { IfOk result (λ rest. length rest.now ≤ length text.now) }
+    ensures text { IfOk result (λ rest. KeepsText text.now rest.now) }
 {
     match sign_in(Kind::Blank, text) {
         Some(rest) => Ok(blanks_in(rest)),
@@ -51,9 +55,11 @@ pub(crate) fn gap_in(text: &[u8]) -> Result<&[u8], &[u8]>
 
 /// What follows these bytes at the front.
 pub(crate) fn word_in<'a>(word: &[u8], text: &'a [u8]) -> Result<&'a [u8], &'a [u8]>
+    requires { IsTrue (are_ascii word.now) }
     ensures read { MatchResult result (λ rest. (f : Form Piece Rule Value) → Leads (spelled word.now f) text.now f rest.now)
         (λ rest. (f : Form Piece Rule Value) → Gives (spelled word.now f) text.now (bad (pieces rest.now))) }
     ensures shorter { IfOk result (λ rest. length rest.now ≤ length text.now) }
+    ensures text { IfOk result (λ rest. KeepsText text.now rest.now) }
 {
     let mut left = word;
     let mut rest = text;
@@ -105,6 +111,7 @@ fn name_byte_in(text: &[u8]) -> Option<(u8, &[u8])>
         (λ x. (name : List ℕ) → Leads (rule (NameRest name)) text.now (rule (NameRest (name ++ x.0 ∷ []))) x.1.now) }
     ensures small { IfSome result (λ x. x.0 < 128) }
     ensures shorter { IfSome result (λ x. length x.1.now < length text.now) }
+    ensures text { IfSome result (λ x. KeepsText text.now x.1.now) }
 {
     match front(text) {
         Some((kind, byte, rest)) => {
@@ -122,6 +129,7 @@ fn name_byte_in(text: &[u8]) -> Option<(u8, &[u8])>
 fn name_in(alloc: Global, text: &[u8]) -> Result<(Text, &[u8]), Fault<'_, u8>>
     ensures read { MatchResult result (λ x. Gives (rule Name) text.now (good (bytes x.0) (pieces x.1.now))) (FailsAt (rule Name) text.now) }
     ensures shorter { IfOk result (λ x. length x.1.now ≤ length text.now) }
+    ensures text { IfOk result (λ x. KeepsText text.now x.1.now) }
 {
     let Some((kind, first, after_first)) = front(text) else {
         return Err(Fault::Bad(text));
@@ -143,6 +151,7 @@ fn name_in(alloc: Global, text: &[u8]) -> Result<(Text, &[u8]), Fault<'_, u8>>
 pub(crate) fn label_in(alloc: Global, text: &[u8]) -> Result<(Text, &[u8]), Fault<'_, u8>>
     ensures read { MatchResult result (λ x. Gives (spelled (codes "abels.") (rule Name)) text.now (good (bytes x.0) (pieces x.1.now))) (FailsAt (spelled (codes "abels.") (rule Name)) text.now) }
     ensures shorter { IfOk result (λ x. length x.1.now ≤ length text.now) }
+    ensures text { IfOk result (λ x. KeepsText text.now x.1.now) }
 {
     match word_in(b"abels.", text) {
         Ok(rest) => name_in(alloc, rest),

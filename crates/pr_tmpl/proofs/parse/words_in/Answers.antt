@@ -1,3 +1,4 @@
+use Rattle.pr_tmpl.proofs.TextKept.{words_split}
 use Rattle.std.proofs.Common.{refl}
 use Rattle.pr_tmpl.proofs.TextWays.{words_start, turn_words, turn_opens, all_words}
 use Rattle.pr_tmpl.proofs.parse.words_in.Goals as goal
@@ -13,3 +14,8 @@ returns-then-pipe-clause-read c = turn_opens c.args.text.now c.loop-pipe.rest.no
 
 pub returns-clause-read : goal.returns-clause-read
 returns-clause-read c = all_words c.args.text.now c.loop-pipe.rest.now c.loop-pipe.invariant (rw c.in_default.is at c.in_ok-pipe.ensures.read)
+
+pub returns-then-pipe-clause-text : goal.returns-then-pipe-clause-text
+returns-then-pipe-clause-text c =
+    let cut = rw c.in-Some.is at c.in_ok-pipe.ensures.text in
+    words_split c.args.text.now c.loop-pipe.rest.now c.in-Some.after.now _ c.loop-pipe.invariant (cut c.if-pipe.true) refl

@@ -21,4 +21,4 @@ pub returns-in-SmallH-clause-read : goal.returns-in-SmallH-clause-read
 returns-in-SmallH-clause-read c = handed (rule ACall) (spelled (codes "umanize") (rule Scale)) c.args.text.now c.in-Some.rest.now (λ x. call x.0) (λ x. x.1.now) c.humanize_call.result (carry_on carry_rule (chosen_word call_rule scale_goes_on HumanizeWord (plain SmallH c.in-Some._byte) c.args.text.now c.in-Some.rest.now second_of any_at (spelled (codes "umanize") (rule Scale)) mark (kind_piece c.args.text.now c.in-Some.rest.now c.in-Some.kind SmallH c.in-Some._byte c.in-Some.ensures.read c.in-SmallH.is) refl refl refl refl)) c.humanize_call.ensures.read
 
 pub returns-in_default-kind : goal.returns-in_default-kind
-returns-in_default-kind c = record { read = run_rule (unchosen_piece call_rule scale_goes_on (plain c.in-Some.kind c.in-Some._byte) c.args.text.now c.in-Some.rest.now c.in-Some.ensures.read.pieces_are (no_call c.in-Some.kind c.in-Some._byte c.in_default-kind.not-SmallP c.in_default-kind.not-SmallH)); shorter = tt }
+returns-in_default-kind c = record { read = run_rule (unchosen_piece call_rule scale_goes_on (plain c.in-Some.kind c.in-Some._byte) c.args.text.now c.in-Some.rest.now c.in-Some.ensures.read.pieces_are (no_call c.in-Some.kind c.in-Some._byte c.in_default-kind.not-SmallP c.in_default-kind.not-SmallH)); shorter = tt; text = tt }

@@ -8,13 +8,13 @@ use Rattle.pr_tmpl.proofs.CallWays.{calls_start, call_taken, call_fails, calls_e
 use Rattle.pr_tmpl.proofs.pipe.calls_in.Goals as goal
 
 pub loop-at-init : goal.loop-at-init
-loop-at-init c = record { so_far = calls_start c.args.before c.args.text.now c.blanks_in-rest.result.now c.blanks_in-rest.ensures.read; shorter = c.blanks_in-rest.ensures.shorter }
+loop-at-init c = record { so_far = calls_start c.args.before c.args.text.now c.blanks_in-rest.result.now c.blanks_in-rest.ensures.read; shorter = c.blanks_in-rest.ensures.shorter; text = c.blanks_in-rest.ensures.text c.requires }
 
 pub returns-in_err-call-clause-read : goal.returns-in_err-call-clause-read
 returns-in_err-call-clause-read c = fail_exit _ (rule After) after_bar c.args.text.now c.in-Some.at.now _ c.in_err-call.field-0.0 c.from_residual.ensures.1 (call_fails c.args.before c.args.text.now c.loop-at.calls c.loop-at.rest.now c.in-Some.at.now c.loop-at.invariant.so_far c.in-Some.ensures.read) c.in_err-call.ensures.read
 
 pub loop-at-preserved : goal.loop-at-preserved
-loop-at-preserved c = record { so_far = call_taken c.args.before c.args.text.now c.loop-at.calls c.loop-at.rest.now c.in-Some.at.now c.in_ok-call.next.now c.in_ok-call.call c.push.new.self c.loop-at.invariant.so_far c.in-Some.ensures.read c.in_ok-call.ensures.read c.in_ok-push.ensures.ok; shorter = omega (arith, c.loop-at.invariant.shorter, c.in-Some.ensures.shorter, c.in_ok-call.ensures.shorter) }
+loop-at-preserved c = record { so_far = call_taken c.args.before c.args.text.now c.loop-at.calls c.loop-at.rest.now c.in-Some.at.now c.in_ok-call.next.now c.in_ok-call.call c.push.new.self c.loop-at.invariant.so_far c.in-Some.ensures.read c.in_ok-call.ensures.read c.in_ok-push.ensures.ok; shorter = omega (arith, c.loop-at.invariant.shorter, c.in-Some.ensures.shorter, c.in_ok-call.ensures.shorter); text = c.in_ok-call.ensures.text }
 
 pub returns-in-Ok-clause-read : goal.returns-in-Ok-clause-read
 returns-in-Ok-clause-read c = calls_end c.args.before c.args.text.now c.loop-at.calls c.loop-at.rest.now c.in-Ok.end.now c.loop-at.invariant.so_far c.in-Ok.ensures.read

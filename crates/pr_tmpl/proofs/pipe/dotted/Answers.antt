@@ -6,6 +6,7 @@ use Rattle.pr_tmpl.specs.declared.kind.Kind.TheVariants.{CapitalV, CapitalL, Cap
 use Rattle.pr_tmpl.specs.declared.template.Operand.TheVariants.{Value as TheValue}
 use Rattle.pr_tmpl.specs.Pieces.{plain, pieces}
 use Rattle.pr_tmpl.specs.TemplateText.{production, table, operand, bytes, mark, any_at, second_of, label, spelled, name_goes_on, dot_rule, external_rule, Name, ValueWord, LabelsWord, ExternalWord}
+use Rattle.pr_tmpl.proofs.TextKept.{same_kind, handed_text}
 use Rattle.pr_tmpl.proofs.WordWays.{handed, chosen_word, unchosen, unchosen_piece, kind_piece}
 use Rattle.pr_tmpl.proofs.PipeWays.{no_dotted}
 use Rattle.pr_tmpl.proofs.pipe.dotted.Goals as goal
@@ -26,4 +27,13 @@ pub returns-in-CapitalE-clause-read : goal.returns-in-CapitalE-clause-read
 returns-in-CapitalE-clause-read c = handed (chosen dot_rule name_goes_on) (spelled (codes "xternal") (chosen external_rule name_goes_on)) c.args.text.now c.in-Some.rest.now (λ x. operand x.0) (λ x. x.1.now) c.external_operand.result (chosen_word dot_rule name_goes_on ExternalWord (plain CapitalE c.in-Some._byte) c.args.text.now c.in-Some.rest.now second_of any_at (spelled (codes "xternal") (chosen external_rule name_goes_on)) mark (kind_piece c.args.text.now c.in-Some.rest.now c.in-Some.kind CapitalE c.in-Some._byte c.in-Some.ensures.read c.in-CapitalE.is) refl refl refl refl) c.external_operand.ensures.read
 
 pub returns-in_default-kind : goal.returns-in_default-kind
-returns-in_default-kind c = record { read = unchosen_piece dot_rule name_goes_on (plain c.in-Some.kind c.in-Some._byte) c.args.text.now c.in-Some.rest.now c.in-Some.ensures.read.pieces_are (no_dotted c.in-Some.kind c.in-Some._byte c.in_default-kind.not-CapitalV c.in_default-kind.not-CapitalL c.in_default-kind.not-CapitalE); shorter = tt }
+returns-in_default-kind c = record { read = unchosen_piece dot_rule name_goes_on (plain c.in-Some.kind c.in-Some._byte) c.args.text.now c.in-Some.rest.now c.in-Some.ensures.read.pieces_are (no_dotted c.in-Some.kind c.in-Some._byte c.in_default-kind.not-CapitalV c.in_default-kind.not-CapitalL c.in_default-kind.not-CapitalE); shorter = tt; text = tt }
+
+pub returns-in-CapitalV-clause-text : goal.returns-in-CapitalV-clause-text
+returns-in-CapitalV-clause-text c = handed_text c.args.text.now c.in-Some.rest.now c.operand_word.result (λ x. x.1.now) (same_kind c.in-Some.kind CapitalV c.args.text.now c.in-Some.rest.now c.in-CapitalV.is c.in-Some.ensures.text) c.operand_word.ensures.text
+
+pub returns-in_ok-name-in-CapitalL-clause-text : goal.returns-in_ok-name-in-CapitalL-clause-text
+returns-in_ok-name-in-CapitalL-clause-text c = λ u. c.in_ok-name-in-CapitalL.ensures.text ((same_kind c.in-Some.kind CapitalL c.args.text.now c.in-Some.rest.now c.in-CapitalL.is c.in-Some.ensures.text) u)
+
+pub returns-in-CapitalE-clause-text : goal.returns-in-CapitalE-clause-text
+returns-in-CapitalE-clause-text c = handed_text c.args.text.now c.in-Some.rest.now c.external_operand.result (λ x. x.1.now) (same_kind c.in-Some.kind CapitalE c.args.text.now c.in-Some.rest.now c.in-CapitalE.is c.in-Some.ensures.text) c.external_operand.ensures.text

@@ -6,6 +6,7 @@ use Rattle.pr_tmpl.specs.declared.kind.Kind.TheVariants.{CapitalL, CapitalU}
 use Rattle.pr_tmpl.specs.declared.template.Operand.TheVariants.{ExternalUrl}
 use Rattle.pr_tmpl.specs.Pieces.{plain, pieces}
 use Rattle.pr_tmpl.specs.TemplateText.{production, table, operand, bytes, mark, any_at, second_of, external_label, spelled, name_goes_on, external_rule, Name, ExternalLabelsWord, UrlWord}
+use Rattle.pr_tmpl.proofs.TextKept.{same_kind, handed_text}
 use Rattle.pr_tmpl.proofs.WordWays.{handed, chosen_word, unchosen, unchosen_piece, kind_piece}
 use Rattle.pr_tmpl.proofs.PipeWays.{no_external}
 use Rattle.pr_tmpl.proofs.pipe.external_part.Goals as goal
@@ -23,4 +24,10 @@ pub returns-in-CapitalU-clause-read : goal.returns-in-CapitalU-clause-read
 returns-in-CapitalU-clause-read c = handed (chosen external_rule name_goes_on) (spelled (codes "RL") (nothing (operand ExternalUrl))) c.args.text.now c.in-Some.rest.now (λ x. operand x.0) (λ x. x.1.now) c.operand_word.result (chosen_word external_rule name_goes_on UrlWord (plain CapitalU c.in-Some._byte) c.args.text.now c.in-Some.rest.now second_of any_at (spelled (codes "RL") (nothing (operand ExternalUrl))) mark (kind_piece c.args.text.now c.in-Some.rest.now c.in-Some.kind CapitalU c.in-Some._byte c.in-Some.ensures.read c.in-CapitalU.is) refl refl refl refl) c.operand_word.ensures.read
 
 pub returns-in_default-kind : goal.returns-in_default-kind
-returns-in_default-kind c = record { read = unchosen_piece external_rule name_goes_on (plain c.in-Some.kind c.in-Some._byte) c.args.text.now c.in-Some.rest.now c.in-Some.ensures.read.pieces_are (no_external c.in-Some.kind c.in-Some._byte c.in_default-kind.not-CapitalL c.in_default-kind.not-CapitalU); shorter = tt }
+returns-in_default-kind c = record { read = unchosen_piece external_rule name_goes_on (plain c.in-Some.kind c.in-Some._byte) c.args.text.now c.in-Some.rest.now c.in-Some.ensures.read.pieces_are (no_external c.in-Some.kind c.in-Some._byte c.in_default-kind.not-CapitalL c.in_default-kind.not-CapitalU); shorter = tt; text = tt }
+
+pub returns-in_ok-name-in-CapitalL-clause-text : goal.returns-in_ok-name-in-CapitalL-clause-text
+returns-in_ok-name-in-CapitalL-clause-text c = λ u. c.in_ok-name-in-CapitalL.ensures.text ((same_kind c.in-Some.kind CapitalL c.args.text.now c.in-Some.rest.now c.in-CapitalL.is c.in-Some.ensures.text) u)
+
+pub returns-in-CapitalU-clause-text : goal.returns-in-CapitalU-clause-text
+returns-in-CapitalU-clause-text c = handed_text c.args.text.now c.in-Some.rest.now c.operand_word.result (λ x. x.1.now) (same_kind c.in-Some.kind CapitalU c.args.text.now c.in-Some.rest.now c.in-CapitalU.is c.in-Some.ensures.text) c.operand_word.ensures.text

@@ -25,4 +25,4 @@ pub returns-in-Point-clause-read : goal.returns-in-Point-clause-read
 returns-in-Point-clause-read c = handed (rule AnOperand) (chosen dot_rule name_goes_on) c.args.text.now c.in-Some.rest.now (λ x. operand x.0) (λ x. x.1.now) c.dotted.result (carry_on carry_rule (chosen_word operand_rule name_goes_on Dotted (plain Point c.in-Some._byte) c.args.text.now c.in-Some.rest.now second_of any_at (chosen dot_rule name_goes_on) mark (kind_piece c.args.text.now c.in-Some.rest.now c.in-Some.kind Point c.in-Some._byte c.in-Some.ensures.read c.in-Point.is) refl refl refl refl)) c.dotted.ensures.read
 
 pub returns-in_default-kind : goal.returns-in_default-kind
-returns-in_default-kind c = record { read = run_rule (unchosen_piece operand_rule name_goes_on (plain c.in-Some.kind c.in-Some._byte) c.args.text.now c.in-Some.rest.now c.in-Some.ensures.read.pieces_are (no_operand c.in-Some.kind c.in-Some._byte c.in_default-kind.not-Quote c.in_default-kind.not-Dollar c.in_default-kind.not-Point)); shorter = tt }
+returns-in_default-kind c = record { read = run_rule (unchosen_piece operand_rule name_goes_on (plain c.in-Some.kind c.in-Some._byte) c.args.text.now c.in-Some.rest.now c.in-Some.ensures.read.pieces_are (no_operand c.in-Some.kind c.in-Some._byte c.in_default-kind.not-Quote c.in_default-kind.not-Dollar c.in_default-kind.not-Point)); shorter = tt; text = tt }

@@ -21,4 +21,4 @@ pub returns-in-SmallH-clause-read : goal.returns-in-SmallH-clause-read
 returns-in-SmallH-clause-read c = from_call_gives c.args.text.now c.blanks_in-at.result.now c.in-Some._rest.now c.in-Some.kind c.in-Some._byte c.from_call-in-SmallH.result c.blanks_in-at.ensures.read c.in-Some.ensures.read (rw c.in-SmallH.is refl) c.from_call-in-SmallH.ensures.read
 
 pub returns-in_default-kind : goal.returns-in_default-kind
-returns-in_default-kind c = record { read = no_pipe c.args.text.now c.blanks_in-at.result.now c.in-Some._rest.now c.in-Some.kind c.in-Some._byte c.blanks_in-at.ensures.read c.in-Some.ensures.read c.in_default-kind.not-Quote c.in_default-kind.not-Dollar c.in_default-kind.not-Point c.in_default-kind.not-SmallP c.in_default-kind.not-SmallH; shorter = tt }
+returns-in_default-kind c = record { read = no_pipe c.args.text.now c.blanks_in-at.result.now c.in-Some._rest.now c.in-Some.kind c.in-Some._byte c.blanks_in-at.ensures.read c.in-Some.ensures.read c.in_default-kind.not-Quote c.in_default-kind.not-Dollar c.in_default-kind.not-Point c.in_default-kind.not-SmallP c.in_default-kind.not-SmallH; shorter = tt; text = tt }

@@ -1,4 +1,5 @@
 use Rattle.std.proofs.Common.{sym, ◌∙◌}
+use Rattle.pr_tmpl.proofs.TextKept.{label_kind}
 use Rattle.pr_tmpl.proofs.WordWays.{name_more, name_over, name_over_end}
 use Rattle.pr_tmpl.proofs.words.name_byte_in.Goals as goal
 
@@ -10,3 +11,6 @@ returns-else-is_label_byte-clause-read c = λ name. name_over c.args.text.now c.
 
 pub returns-in-None-clause-read : goal.returns-in-None-clause-read
 returns-in-None-clause-read c = λ name. name_over_end c.args.text.now c.in-None.ensures.read name
+
+pub returns-then-is_label_byte-clause-text : goal.returns-then-is_label_byte-clause-text
+returns-then-is_label_byte-clause-text c = label_kind c.in-Some.kind c.args.text.now c.in-Some.rest.now (sym c.is_label_byte.ensures ∙ c.if-is_label_byte.true) c.in-Some.ensures.text
