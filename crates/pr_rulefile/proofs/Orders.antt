@@ -1,5 +1,5 @@
 -- No problem is lost where problems are put in order: their standings differ by their numbers.
-use Rattle.std.proofs.Common.{◌≡◌, ℕ, suc, ◌+◌, ◌<◌, Bool, true, false, cond, eqb, ltb, List, [], ◌∷◌, length, map, refl, sym, ap, subst, ◌∙◌, arith}
+use Rattle.std.proofs.Common.{◌≡◌, ℕ, suc, ◌+◌, ◌<◌, Bool, true, false, cond, eqb, ltb, List, [], ◌∷◌, length, refl, sym, ap, subst, ◌∙◌, arith}
 use Rattle.std.proofs.lemmas.List.{length-map}
 use Rattle.std.specs.Prelude.{fold}
 use Rattle.std.proofs.lemmas.Bool.Decides.{nat_tests}
@@ -9,7 +9,7 @@ use Rattle.std.specs.declared.cmp.Ordering.TheVariants.{Less, Equal, Greater}
 use Rattle.std.specs.Ordering.{nat_cmp, ordering_then, match_ordering}
 use Rattle.pr_rulefile.specs.declared.order.Standing.{Standing}
 use Rattle.pr_rulefile.specs.declared.problem.Problem.{Problem}
-use Rattle.pr_rulefile.specs.Order.{rank, standing_cmp, standing_of, put_problem, standings, problem_at, in_order}
+use Rattle.pr_rulefile.specs.Order.{standing_cmp, standing_of, put_problem, standings, problem_at, in_order}
 
 last_equal : (a b : Ordering) → ordering_then a b ≡ Equal → b ≡ Equal
 last_equal Less b h = cc

@@ -1,12 +1,10 @@
 -- What the reader of spans answers, as a function of the text.
-use Rattle.std.proofs.Common.{◌≡◌, ℕ, ◌≤◌, ◌<◌, ◌^◌, leb, true, false, cond, Option, Some, None, List, [], Result, Ok, Err, sym, ◌∙◌, ap, refl, arith}
+use Rattle.std.proofs.Common.{◌≡◌, ℕ, ◌≤◌, ◌<◌, ◌^◌, Option, Some, None, List, [], refl, arith}
 use Rattle.std.proofs.lemmas.Bool.Decides.{nat_tests}
-use Rattle.std.specs.Prelude.{IfOk, MatchResult}
-use Rattle.std.specs.Result.{result_ok}
 use Rattle.pr_forms.specs.Form.{rule, Reads}
 use Rattle.pr_time.specs.declared.text.SpanFault.{SpanFault}
 use Rattle.pr_time.specs.declared.text.SpanFault.TheVariants.{BadSpan, SpanTooLong}
-use Rattle.pr_time.specs.SpanText.{production, seen, Text, Value, span, ReadsSpan, IsTooLong, Refuses}
+use Rattle.pr_time.specs.SpanText.{production, seen, Text, Value, span, ReadsSpan, IsTooLong}
 use Rattle.pr_time.specs.SpanAnswer.{span_of}
 use Rattle.pr_time.proofs.SpanTotal.{span_of_reading, reading_of_span}
 use Rattle.pr_rulefile.specs.Scalars.{if_short, short_span}

@@ -2,7 +2,7 @@
 use Rattle.std.specs.Prelude.{◌≡◌, ℕ, List, [], ◌∷◌, Option, Some, None, codes, map, if◌then◌else◌}
 use Rattle.std.specs.List.{flat_map, filter_map}
 use Rattle.std.specs.Str.{bytes_eq}
-use Rattle.pr_yaml.specs.Tree.{Tree, EntryTree, is_absent}
+use Rattle.pr_yaml.specs.Tree.{Tree, EntryTree}
 use Rattle.pr_yaml.specs.Read.{Reading, gives_tree, gives_fault, read_of}
 use Rattle.pr_rulefile.specs.declared.problem.Problem.{Problem}
 use Rattle.pr_rulefile.specs.declared.problem.ProblemKind.TheVariants.{Yaml, UnknownField}
@@ -11,7 +11,7 @@ use Rattle.pr_rulefile.specs.declared.problem.RuleError.TheVariants.{Problems, M
 use Rattle.pr_rulefile.specs.declared.rules.RuleFile.{RuleFile}
 use Rattle.pr_rulefile.specs.Nodes.{line_of, items_of, items_in, fields_of, fields_in}
 use Rattle.pr_rulefile.specs.Problems.{problem, by_items, by_fields, unless_absent}
-use Rattle.pr_rulefile.specs.Groups.{no_name, groups_problems, Group, group_of, group_of_def}
+use Rattle.pr_rulefile.specs.Groups.{no_name, groups_problems, Group, rule_count, group_of, group_of_def}
 use Rattle.pr_rulefile.specs.Order.{in_order}
 
 -- A file has one field, `groups`.
@@ -54,6 +54,21 @@ by_reading (gives_fault line kind) = gives_problems (problem line (Yaml kind) �
 -- The rule file of a text, or what is wrong with it. What has no tree has that one fault alone.
 unfoldable pub rule_file_of : List ℕ → RuleReading
 rule_file_of text = by_reading (read_of text)
+
+-- the groups of a rule file; one that is none has none
+abbrev pub groups_given : RuleReading → List Group
+groups_given (gives_file groups) = groups
+groups_given (gives_problems list) = []
+
+-- how many rules a rule file has
+abbrev pub rules_given : RuleReading → Option ℕ
+rules_given (gives_file groups) = Some (rule_count groups)
+rules_given (gives_problems list) = None
+
+-- what comes of the groups of a file: all of them, or how many rules they have
+pub data Gathered : Type 0 where
+  these_groups : List Group → Gathered
+  so_many_rules : ℕ → Gathered
 
 -- The error is the one that the text gives. Nothing is said where memory runs out.
 abbrev pub IsErrorOf : RuleReading → RuleError → Type 0

@@ -1,8 +1,8 @@
 -- What is wrong with the groups of a file, and the groups that they are.
-use Rattle.std.specs.Prelude.{ℕ, Bool, true, false, ◌||◌, is_some, List, [], ◌∷◌, ◌++◌, codes, Option, Some, None, unwrap_or, map, if◌then◌else◌}
+use Rattle.std.specs.Prelude.{ℕ, Bool, false, ◌||◌, is_some, List, [], ◌∷◌, ◌++◌, codes, Option, Some, None, unwrap_or, length, map, sum, if◌then◌else◌}
 use Rattle.std.specs.List.{flat_map, filter_map, list_any}
 use Rattle.std.specs.Str.{bytes_eq}
-use Rattle.pr_yaml.specs.Tree.{Tree, EntryTree, is_absent}
+use Rattle.pr_yaml.specs.Tree.{Tree, EntryTree}
 use Rattle.pr_rulefile.specs.declared.fields.GroupField.{GroupField}
 use Rattle.pr_rulefile.specs.declared.fields.GroupField.TheVariants.{Name, Interval, Limit, Labels, Rules}
 use Rattle.pr_rulefile.specs.declared.problem.Problem.{Problem}
@@ -85,6 +85,10 @@ pub record Group : Type 0 where
   pub interval : Option ℕ
   pub limit : ℕ
   pub rules : List Rule
+
+-- how many rules the groups have
+abbrev pub rule_count : List Group → ℕ
+rule_count groups = sum (map (λ g. length g.rules) groups)
 
 abbrev pub group_of_def : GroupDef → Group
 group_of_def d = record { name = d.name; interval = d.interval; limit = d.limit; rules = map rule_of_def d.rules }

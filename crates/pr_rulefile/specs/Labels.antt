@@ -12,7 +12,7 @@ use Rattle.pr_tmpl.specs.TemplateText.{template_parts, bad_template_place}
 use Rattle.pr_yaml.specs.Tree.{Tree, EntryTree, is_absent}
 use Rattle.pr_rulefile.specs.declared.problem.Problem.{Problem}
 use Rattle.pr_rulefile.specs.declared.problem.ProblemKind.TheVariants.{BadLabel, BadTemplate}
-use Rattle.pr_rulefile.specs.Nodes.{line_of, text_of, fields_of, fields_under}
+use Rattle.pr_rulefile.specs.Nodes.{line_of, text_of, fields_of}
 use Rattle.pr_rulefile.specs.Problems.{problem, by_text, by_fields, unless_absent}
 
 -- The name of a label that is not the metric's.

@@ -1,5 +1,5 @@
 -- What a node of a YAML tree is, and the fields of a map.
-use Rattle.std.specs.Prelude.{ℕ, Bool, true, false, not, ◌&&◌, ◌||◌, List, [], ◌∷◌, Option, Some, None, find, unwrap_or}
+use Rattle.std.specs.Prelude.{ℕ, Bool, true, false, not, ◌&&◌, ◌||◌, List, [], Option, Some, None, find, unwrap_or}
 use Rattle.std.specs.Option.{option_map}
 use Rattle.std.specs.Str.{bytes_eq}
 use Rattle.pr_yaml.specs.Tree.{Tree, text_node, list_node, map_node, EntryTree, trees_in, entries_in, is_absent}

@@ -13,7 +13,7 @@ use Rattle.pr_rulefile.specs.declared.fields.Naming.TheVariants.{Neither, Record
 use Rattle.pr_rulefile.specs.declared.problem.Problem.{Problem}
 use Rattle.pr_rulefile.specs.declared.problem.ProblemKind.TheVariants.{UnknownField, NoName, TwoNames, BadName, NotForRecording}
 use Rattle.pr_rulefile.specs.declared.rules.RuleDef.{RuleDef}
-use Rattle.pr_rulefile.specs.Nodes.{line_of, text_of, fields_of, fields_in, field, written, text_or_empty, fields_under}
+use Rattle.pr_rulefile.specs.Nodes.{line_of, text_of, fields_of, field, written, text_or_empty, fields_under}
 use Rattle.pr_rulefile.specs.Fields.{rule_field}
 use Rattle.pr_rulefile.specs.Problems.{problem, by_text, by_fields, unless_absent}
 use Rattle.pr_rulefile.specs.Scalars.{text_problems, span_problems, span_under}

@@ -1,28 +1,27 @@
 // The fields of a file.
-ghost use Rattle.std.specs.Prelude.{◌≡◌, ◌++◌, OnOk, IfOk, map};
+ghost use Rattle.std.specs.Prelude.{◌≡◌, ◌++◌, List, OnOk, map};
 ghost use Rattle.std.specs.List.{flat_map};
 ghost use Rattle.pr_yaml.specs.Tree.{tree_of, entry_tree_of};
 ghost use Rattle.pr_rulefile.specs.Nodes.{items_in};
 ghost use Rattle.std.specs.List.{filter_map};
-ghost use Rattle.pr_rulefile.specs.Groups.{group_of, group_of_def};
+ghost use Rattle.pr_rulefile.specs.Groups.{Group, group_of};
 ghost use Rattle.pr_rulefile.specs.File.{groups_value_problems, file_field_problems, file_problems, groups_under, file_groups};
 
 use crate::access::{fields_of, items_of, key_line_of, key_of, line_of, value_of};
+use crate::gather::GroupSink;
 use crate::group::each_group;
 use crate::problem::{Problem, ProblemKind};
 use crate::push::{push, push_unknown};
-use crate::rules::GroupDef;
-use pr_words::Items;
 use pr_yaml::{Entry, Node};
 use std::alloc::{AllocError, Global};
 
-fn groups_at(
+fn groups_at<G: GroupSink>(
     alloc: Global,
     node: &Node,
-    groups: &mut Items<GroupDef>,
+    groups: &mut G,
     found: &mut Vec<Problem>,
 ) -> Result<(), AllocError>
-    ensures groups { OnOk result (map group_of_def groups.new ≡ map group_of_def groups.old ++ filter_map group_of (items_in (tree_of node.now))) }
+    ensures groups { OnOk result ((more : List Group) → G.comes_to groups.new more ≡ G.comes_to groups.old (filter_map group_of (items_in (tree_of node.now)) ++ more)) }
     ensures problems { OnOk result (found.new.items ≡ found.old.items ++ groups_value_problems (tree_of node.now)) }
 {
     match items_of(node) {
@@ -33,13 +32,13 @@ fn groups_at(
 
 // The groups under a field of a file.
 #[tactic(auto, using(crate::proofs::Trees::no_groups), unfolding(crate::specs::File::file_field_problems, crate::specs::File::groups_under))]
-fn file_field(
+fn file_field<G: GroupSink>(
     alloc: Global,
     entry: &Entry,
-    groups: &mut Items<GroupDef>,
+    groups: &mut G,
     found: &mut Vec<Problem>,
 ) -> Result<(), AllocError>
-    ensures groups { OnOk result (map group_of_def groups.new ≡ map group_of_def groups.old ++ groups_under (entry_tree_of entry.now)) }
+    ensures groups { OnOk result ((more : List Group) → G.comes_to groups.new more ≡ G.comes_to groups.old (groups_under (entry_tree_of entry.now) ++ more)) }
     ensures problems { OnOk result (found.new.items ≡ found.old.items ++ file_field_problems (entry_tree_of entry.now)) }
 {
     if key_of(entry) == "groups" {
@@ -52,13 +51,13 @@ fn file_field(
     }
 }
 
-fn each_file_field(
+fn each_file_field<G: GroupSink>(
     alloc: Global,
     entries: &[Entry],
-    groups: &mut Items<GroupDef>,
+    groups: &mut G,
     found: &mut Vec<Problem>,
 ) -> Result<(), AllocError>
-    ensures groups { OnOk result (map group_of_def groups.new ≡ map group_of_def groups.old ++ flat_map groups_under (map entry_tree_of entries.now)) }
+    ensures groups { OnOk result ((more : List Group) → G.comes_to groups.new more ≡ G.comes_to groups.old (flat_map groups_under (map entry_tree_of entries.now) ++ more)) }
     ensures problems { OnOk result (found.new.items ≡ found.old.items ++ flat_map file_field_problems (map entry_tree_of entries.now)) }
 {
     let mut rest = entries;
@@ -69,23 +68,22 @@ fn each_file_field(
     Ok(())
 }
 
-/// The groups of a file. What is wrong with it goes behind what was found.
+/// The groups of a file, one after another. What is wrong with it goes behind what was found.
 #[tactic(auto, using(crate::proofs::Trees::no_fields), unfolding(crate::specs::File::file_problems, crate::specs::File::file_groups))]
-pub(crate) fn file_at(
+pub(crate) fn file_at<G: GroupSink>(
     alloc: Global,
     node: &Node,
+    groups: &mut G,
     found: &mut Vec<Problem>,
-) -> Result<Items<GroupDef>, AllocError>
-    ensures groups { IfOk result (λ gs. map group_of_def gs ≡ file_groups (tree_of node.now)) }
+) -> Result<(), AllocError>
+    ensures groups { OnOk result ((more : List Group) → G.comes_to groups.new more ≡ G.comes_to groups.old (file_groups (tree_of node.now) ++ more)) }
     ensures problems { OnOk result (found.new.items ≡ found.old.items ++ file_problems (tree_of node.now)) }
 {
-    let mut groups = Items::empty(alloc);
     if node.is_absent() {
-        return Ok(groups);
+        return Ok(());
     }
     match fields_of(node) {
-        Some(entries) => each_file_field(alloc, entries, &mut groups, found)?,
-        None => push(found, line_of(node), ProblemKind::WantMap)?,
+        Some(entries) => each_file_field(alloc, entries, groups, found),
+        None => push(found, line_of(node), ProblemKind::WantMap),
     }
-    Ok(groups)
 }

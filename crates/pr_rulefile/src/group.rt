@@ -8,13 +8,14 @@ ghost use Rattle.pr_yaml.specs.Tree.{tree_of, entry_tree_of};
 ghost use Rattle.pr_rulefile.specs.Nodes.{line_of, text_of, items_of, written};
 ghost use Rattle.pr_rulefile.specs.Problems.{by_items};
 ghost use Rattle.pr_rulefile.specs.Rules.{rule_problems, rule_of, rule_of_def};
-ghost use Rattle.pr_rulefile.specs.Groups.{no_name, and_name, group_name, by_name, group_name_problems, is_alert_rule, has_alerts, group_value_problems, group_field_problems, group_in_problems, group_problems, name_of, groups_problems, group_of_def, rules_by, rules_under, group_in, group_of};
+ghost use Rattle.pr_rulefile.specs.Groups.{Group, no_name, and_name, group_name, by_name, group_name_problems, is_alert_rule, has_alerts, group_value_problems, group_field_problems, group_in_problems, group_problems, name_of, groups_problems, group_of_def, rules_by, rules_under, group_in, group_of};
 
 use crate::access::{
     fields_in, fields_of, items_of, items_under, key_line_of, key_of, line_of, text_of, value_of,
     written, written_text,
 };
 use crate::fields::{GroupField, group_field};
+use crate::gather::GroupSink;
 use crate::labels::labels_problems;
 use crate::problem::{Problem, ProblemKind};
 use crate::push::{push, push_duplicate, push_missing, push_unknown};
@@ -269,21 +270,21 @@ fn group_at(
     }
 }
 
-/// The groups of a file, behind those so far. What is wrong with them goes behind what was found.
-pub(crate) fn each_group(
+/// The groups of a file, one after another. What is wrong with them goes behind what was found.
+pub(crate) fn each_group<G: GroupSink>(
     alloc: Global,
     items: &[Node],
-    groups: &mut Items<GroupDef>,
+    groups: &mut G,
     found: &mut Vec<Problem>,
 ) -> Result<(), AllocError>
-    ensures groups { OnOk result (map group_of_def groups.new ≡ map group_of_def groups.old ++ filter_map group_of (map tree_of items.now)) }
+    ensures groups { OnOk result ((more : List Group) → G.comes_to groups.new more ≡ G.comes_to groups.old (filter_map group_of (map tree_of items.now) ++ more)) }
     ensures problems { OnOk result (found.new.items ≡ found.old.items ++ groups_problems no_name (map tree_of items.now)) }
 {
     let mut names = BTreeSet::new(alloc);
     let mut rest = items;
     'items: while let Some((item, after)) = rest.split_first() {
         if let Some(group) = group_at(alloc, &names, item, found)? {
-            groups.push(group)?;
+            groups.put(group)?;
         }
         add_group(&mut names, item)?;
         rest = after;

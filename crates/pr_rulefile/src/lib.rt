@@ -6,6 +6,7 @@ pub mod examples;
 mod expressions;
 mod fields;
 mod file;
+mod gather;
 mod group;
 mod labels;
 pub mod laws;
@@ -21,5 +22,5 @@ mod templates;
 mod tests;
 
 pub use problem::{Problem, ProblemKind, RuleError};
-pub use reader::read;
+pub use reader::{check, read};
 pub use rules::{GroupDef, RuleDef, RuleFile};

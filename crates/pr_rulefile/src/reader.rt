@@ -1,10 +1,12 @@
 //! Reading a text.
-ghost use Rattle.std.specs.Prelude.{◌≡◌, ◌<◌, ◌^◌, length, IfOk, IfErr, MatchResult};
+ghost use Rattle.std.specs.Prelude.{◌≡◌, ◌<◌, ◌^◌, ◌++◌, List, Some, length, IfOk, IfErr, OnOk};
 ghost use Rattle.pr_yaml.specs.Tree.{tree_of};
 ghost use Rattle.pr_yaml.specs.Read.{gives_tree, gives_fault};
-ghost use Rattle.pr_rulefile.specs.File.{gives_file, by_reading, rule_file_of, groups_of_file, IsErrorOf};
+ghost use Rattle.pr_rulefile.specs.Groups.{Group};
+ghost use Rattle.pr_rulefile.specs.File.{gives_file, gives_problems, by_reading, file_groups, groups_given, rules_given, rule_file_of, groups_of_file, IsErrorOf};
 
 use crate::file::file_at;
+use crate::gather::{GroupSink, RuleCount};
 use crate::order::in_order;
 use crate::problem::{Problem, ProblemKind, RuleError};
 use crate::push::push;
@@ -12,42 +14,47 @@ use crate::rules::RuleFile;
 use pr_words::Items;
 use pr_yaml::{Node, YamlError, read as read_tree};
 use pr_yaml_scan::YamlKind;
-use std::alloc::Global;
+use std::alloc::{AllocError, Global};
 
 // The one problem of a text that has no tree.
-fn no_tree(alloc: Global, line: u32, kind: YamlKind) -> Result<RuleFile, RuleError>
-    ensures { MatchResult result (λ f. by_reading (gives_fault line kind) ≡ gives_file (groups_of_file f)) (IsErrorOf (by_reading (gives_fault line kind))) }
+fn no_tree(alloc: Global, line: u32, kind: YamlKind) -> Result<Items<Problem>, AllocError>
+    ensures { IfOk result (λ list. by_reading (gives_fault line kind) ≡ gives_problems list) }
 {
     let mut found = Vec::new(alloc);
     push(&mut found, line, ProblemKind::Yaml { kind })?;
-    Err(RuleError::Problems {
-        list: Items::new(found),
-    })
+    Ok(Items::new(found))
 }
 
-// The rule file of a tree, or what is wrong with it.
+// The groups of a tree, one after another, or what is wrong with it.
 #[tactic(auto, using(crate::proofs::Files::some_problems))]
-fn by_tree(alloc: Global, tree: &Node) -> Result<RuleFile, RuleError>
-    ensures { MatchResult result (λ f. by_reading (gives_tree (tree_of tree.now)) ≡ gives_file (groups_of_file f)) (IsErrorOf (by_reading (gives_tree (tree_of tree.now)))) }
+fn tree_groups<G: GroupSink>(alloc: Global, tree: &Node, groups: &mut G) -> Result<(), RuleError>
+    ensures file { OnOk result (by_reading (gives_tree (tree_of tree.now)) ≡ gives_file (file_groups (tree_of tree.now))) }
+    ensures groups { OnOk result ((more : List Group) → G.comes_to groups.new more ≡ G.comes_to groups.old (file_groups (tree_of tree.now) ++ more)) }
+    ensures problems { IfErr result (IsErrorOf (by_reading (gives_tree (tree_of tree.now)))) }
 {
     let mut found = Vec::new(alloc);
-    let groups = file_at(alloc, tree, &mut found)?;
+    file_at(alloc, tree, groups, &mut found)?;
     if found.is_empty() {
-        return Ok(RuleFile { groups });
+        return Ok(());
     }
     Err(RuleError::Problems {
         list: in_order(alloc, found)?,
     })
 }
 
+// The groups of a text, one after another, or what is wrong with it.
 #[tactic(auto, unfolding(crate::specs::File::rule_file_of))]
-fn read_text(alloc: Global, bytes: &[u8]) -> Result<RuleFile, RuleError>
+fn read_groups<G: GroupSink>(alloc: Global, bytes: &[u8], groups: &mut G) -> Result<(), RuleError>
     requires { length bytes.now < 2 ^ 32 }
-    ensures { MatchResult result (λ f. rule_file_of bytes.now ≡ gives_file (groups_of_file f)) (IsErrorOf (rule_file_of bytes.now)) }
+    ensures file { OnOk result (rule_file_of bytes.now ≡ gives_file (groups_given (rule_file_of bytes.now))) }
+    ensures groups { OnOk result ((more : List Group) → G.comes_to groups.new more ≡ G.comes_to groups.old (groups_given (rule_file_of bytes.now) ++ more)) }
+    ensures problems { IfErr result (IsErrorOf (rule_file_of bytes.now)) }
 {
     match read_tree(alloc, bytes) {
-        Ok(tree) => by_tree(alloc, &tree),
-        Err(YamlError::Fault { line, kind }) => no_tree(alloc, line, kind),
+        Ok(tree) => tree_groups(alloc, &tree, groups),
+        Err(YamlError::Fault { line, kind }) => Err(RuleError::Problems {
+            list: no_tree(alloc, line, kind)?,
+        }),
         Err(YamlError::Memory) => Err(RuleError::Memory),
     }
 }
@@ -65,5 +72,27 @@ pub fn read(alloc: Global, bytes: &[u8]) -> Result<RuleFile, RuleError>
     // Else all is told that is wrong, in its order, unless memory runs out.
     ensures problems { IfErr result (IsErrorOf (rule_file_of bytes.now)) }
 {
-    read_text(alloc, bytes)
+    let mut file = RuleFile {
+        groups: Items::empty(alloc),
+    };
+    read_groups(alloc, bytes, &mut file)?;
+    Ok(file)
+}
+
+/// How many rules the rule file of a text has. It tells what [`read`] tells, and keeps no more than one
+/// group at a time.
+///
+/// # Errors
+/// As those of [`read`].
+#[tactic(auto, using(crate::proofs::Files::same_count))]
+pub fn check(alloc: Global, bytes: &[u8]) -> Result<u64, RuleError>
+    requires { length bytes.now < 2 ^ 32 }
+    // A count that is answered is that of the text's rules, with which then nothing is wrong.
+    ensures rules { IfOk result (λ n. rules_given (rule_file_of bytes.now) ≡ Some n) }
+    // Else all is told that is wrong, in its order, unless memory runs out.
+    ensures problems { IfErr result (IsErrorOf (rule_file_of bytes.now)) }
+{
+    let mut count = RuleCount { rules: 0 };
+    read_groups(alloc, bytes, &mut count)?;
+    Ok(count.rules)
 }

@@ -1,6 +1,6 @@
 //! Rule files with all that is wrong with them, or with their groups, set down by hand from the
 //! rules of the format.
-use crate::{GroupDef, Problem, ProblemKind, RuleDef, RuleError, RuleFile, read};
+use crate::{GroupDef, Problem, ProblemKind, RuleDef, RuleError, RuleFile, check, read};
 use pr_labels::Pair;
 use std::alloc::{AllocError, Global};
 use std::test::Fail;
@@ -413,5 +413,24 @@ fn templates_are_told(rt: HostRuntime) -> Result<(), Fail> {
         wrong(rt.alloc(), "groups:\n", &TEMPLATES, false)?.as_str(),
         ""
     );
+    Ok(())
+}
+
+fn count_text(alloc: Global, bytes: &[u8]) -> Result<u64, RuleError> {
+    if bytes.len() < 1 << 32 {
+        check(alloc, bytes)
+    } else {
+        Err(RuleError::Memory)
+    }
+}
+
+#[test]
+fn rules_of_all_groups_are_counted(rt: HostRuntime) -> Result<(), Fail> {
+    let text =
+        "groups:\n- name: g\n  rules:\n  - {record: a, expr: 1}\n  - {record: b, expr: 1}\n- name: h\n  rules:\n  - {alert: C, expr: up}";
+    match count_text(rt.alloc(), text.as_bytes()) {
+        Ok(count) => assert_eq!(rt; count, 3),
+        Err(_) => Err("no count")?,
+    }
     Ok(())
 }

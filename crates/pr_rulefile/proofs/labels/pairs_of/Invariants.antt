@@ -1,4 +1,4 @@
-use Rattle.std.proofs.Common.{◌≡◌, ◌++◌, map}
+use Rattle.std.proofs.Common.{◌≡◌, ◌++◌}
 use Rattle.pr_rulefile.specs.Labels.{pairs_of}
 use Rattle.pr_rulefile.proofs.labels.pairs_of.Given as goal
 
