@@ -1,4 +1,3 @@
-mod Choosing
 mod Reading
 mod Moments
 mod Each
@@ -10,3 +9,13 @@ mod Answering
 mod Fronts
 mod Operands
 mod Plainly
+mod Inside
+mod EachTime
+mod Gathering
+mod Subqueries
+mod RangeAsks
+mod RangeCalls
+mod RangeOperands
+mod RangeKinds
+mod Sizes
+mod NoRange

@@ -45,7 +45,7 @@ pub one_more : (step : ℕ) (history : List Entry) (ts t : Tree) (time : ℕ) �
     → operands step history (more ts t) time ≡ go_on (λ gs. go_on (λ v. Ok (gs ++ given None v ∷ [])) (meaning step history t time)) (operands step history ts time)
 one_more step history ts t time h = λ i. go_on (λ gs. go_on (λ r. go_on (λ v. Ok (gs ++ given r v ∷ [])) (meaning step history t time)) (no_ranges step history t time h i)) (operands step history ts time)
 
-chained : {A B C E : Type 0} (f : A → Result B E) (g : B → Result C E) (r : Result A E) → go_on g (go_on f r) ≡ go_on (λ a. go_on g (f a)) r
+pub chained : {A B C E : Type 0} (f : A → Result B E) (g : B → Result C E) (r : Result A E) → go_on g (go_on f r) ≡ go_on (λ a. go_on g (f a)) r
 chained f g (Ok a) = refl
 chained f g (Err e) = refl
 

@@ -15,13 +15,13 @@ use Rattle.pr_head.specs.Holds.{sets_of}
 use Rattle.pr_head.specs.Reads.{spot_shown}
 use Rattle.pr_head.proofs.Newest.{newest_is_shown}
 use Rattle.pr_head.proofs.Simulation.{set_at}
-use Rattle.pr_meaning.specs.Vectors.{IsVector}
-use Rattle.pr_num.specs.declared.value.Num.{Num}
 use Rattle.pr_ast.specs.declared.selector.Selector.{Selector}
-use Rattle.pr_query.specs.Selection.{chosen_by, moment_of, selection, shown_as, spots_at, valued}
-use Rattle.pr_query.proofs.Selecting.{valued_sets}
+use Rattle.pr_num.specs.declared.value.Num.{Num}
+use Rattle.pr_meaning.specs.Vectors.{IsVector, label_sets}
+use Rattle.pr_query.specs.Selection.{chosen_by, moment_of, selected_spots, shown_as, spots_at, valued}
 use Rattle.pr_eval.specs.Looks.{KeepsAt}
-use Rattle.pr_eval.specs.Reading.{items_read, labels_of_series, spot_read}
+use Rattle.pr_ranged.specs.Choosing.{labels_of_series}
+use Rattle.pr_eval.specs.Reading.{items_read, spot_read}
 
 abbrev Series : Type 0
 Series = List Pair × Stored
@@ -81,17 +81,23 @@ read_rises head x (i ∷ numbers) h = by (spot_read head x i) (below_read head x
   by (Some v) below more = (below, more)
   by None below more = more
 
--- a selection
-pub selection_is : (head : List Series) (history : List Entry) (s : Selector) (time : ℕ) (x : ℤ) (numbers : List ℕ) (items : List (Item Num)) → items ≡ map valued (items_read head x numbers)
-    → x ≡ moment_of s time → All (λ i. i < length head) numbers → map (labels_of_series head) numbers ≡ chosen_by s history → KeepsAt head history (moment_of s time) → items ≡ selection history s time
-selection_is head history s time x numbers items are moment known found keeps =
-    are ∙ ap (λ y. map valued (items_read head y numbers)) moment
-    ∙ ap (map valued) (items_are head history (moment_of s time) numbers keeps known ∙ ap (spots_at history (moment_of s time)) found)
+-- what a selector shows
+pub spots_are : (head : List Series) (history : List Entry) (s : Selector) (time : ℕ) (x : ℤ) (numbers : List ℕ) (items : List (Item Spot)) → items ≡ items_read head x numbers
+    → x ≡ moment_of s time → All (λ i. i < length head) numbers → map (labels_of_series head) numbers ≡ chosen_by s history → KeepsAt head history (moment_of s time) → items ≡ selected_spots history s time
+spots_are head history s time x numbers items are moment known found keeps =
+    are ∙ ap (λ y. items_read head y numbers) moment ∙ items_are head history (moment_of s time) numbers keeps known ∙ ap (spots_at history (moment_of s time)) found
 
-pub selection_rises : (head : List Series) (x : ℤ) (numbers : List ℕ) (items : List (Item Num)) → items ≡ map valued (items_read head x numbers)
-    → IsRising (map (labels_of_series head) numbers) → IsVector items
-selection_rises head x numbers items are rising =
-    subst IsVector (sym are) (subst IsRising (sym (valued_sets (items_read head x numbers))) (read_rises head x numbers rising))
+pub spots_rise : (head : List Series) (x : ℤ) (numbers : List ℕ) (items : List (Item Spot)) → items ≡ items_read head x numbers
+    → IsRising (map (labels_of_series head) numbers) → IsRising (sets_in items)
+spots_rise head x numbers items are rising = subst (λ (es : List (Item Spot)). IsRising (sets_in es)) (sym are) (read_rises head x numbers rising)
 
 pub as_many : (head : List Series) (numbers : List ℕ) (sets : List (List Pair)) (n m : ℕ) → n ≤ m + length numbers → map (labels_of_series head) numbers ≡ sets → n ≤ m + length sets
 as_many head numbers sets n m h is = let size = ap length is in omega (arith, length-map numbers (labels_of_series head))
+
+-- the values alone have the same labels
+valued_labels : (items : List (Item Spot)) → label_sets (map valued items) ≡ sets_in items
+valued_labels [] = refl
+valued_labels (e ∷ items) = ap (λ sets. e.labels ∷ sets) (valued_labels items)
+
+pub valued_rise : (items : List (Item Spot)) (values : List (Item Num)) → values ≡ map valued items → IsRising (map (λ e. e.labels) items) → IsVector values
+valued_rise items values are rising = subst IsVector (sym are) (subst IsRising (sym (valued_labels items)) rising)

@@ -1,23 +1,27 @@
 -- Parts that are evaluated one after another: what is known after both.
-use Rattle.std.proofs.Common.{◌≡◌, ◌≢◌, ℕ, ◌+◌, ◌≤◌, inr, max, Bool, true, cond, List, [], ◌++◌, length, Option, Result, Ok, Err, is_ok, sym, ap, subst, ◌∙◌, arith}
+use Rattle.std.proofs.Common.{◌≡◌, ◌≢◌, ℕ, ◌+◌, ◌<◌, ◌≤◌, ◌⊎◌, inl, inr, max, Bool, true, cond, List, [], ◌++◌, length, Option, Result, Ok, Err, is_ok, sym, ap, subst, ◌∙◌, arith}
 use Rattle.pr_labels.specs.declared.pair.Pair.{Pair}
 use Rattle.pr_history.specs.declared.entry.Entry.{Entry}
 use Rattle.pr_head.specs.Stored.{Stored}
 use Rattle.pr_meaning.specs.declared.range.RangeFn.{RangeFn}
 use Rattle.pr_num.specs.declared.value.Num.{Num}
 use Rattle.pr_ast.specs.declared.place.Place.{Place}
-use Rattle.pr_ast.specs.Tree.{Tree, number, text}
+use Rattle.pr_ast.specs.declared.names.Func.TheVariants.{Timestamp}
+use Rattle.pr_ast.specs.declared.selector.Selector.{Selector}
+use Rattle.pr_ast.specs.Tree.{Tree, number, text, select, call, none, more}
+use Rattle.pr_query.specs.Selection.{chosen_by}
 use Rattle.pr_ast.specs.Reach.{reads_back}
 use Rattle.pr_types.specs.Numbers.{ranges_in}
 use Rattle.pr_query.specs.Cost.{cost}
 use Rattle.pr_values.specs.declared.error.EvalError.{EvalError}
 use Rattle.pr_values.specs.declared.error.EvalError.TheVariants as error
-use Rattle.pr_eval.specs.Asking.{Sought, asks_in, number_of}
+use Rattle.pr_ranged.specs.Asking.{number_of}
+use Rattle.pr_eval.specs.Asking.{Sought, asks_in}
 use Rattle.pr_eval.specs.Looks.{KeepsFor}
 use Rattle.pr_eval.specs.Parts.{AreTwo, IsOne}
 use Rattle.pr_eval.specs.Evaluated.{AreReady, IsTaken, Kept, MayTake, Takes, passed_by}
 use Rattle.pr_eval.proofs.Moments.{back_part}
-use Rattle.pr_eval.proofs.Asked.{asked_both, asked_first, asked_turned, nothing_asked, ready_first, ready_moved, ready_second, weaker_all}
+use Rattle.pr_eval.proofs.Asked.{asked_both, asked_first, asked_second, asked_turned, nothing_asked, ready_first, ready_moved, ready_second, weaker_all}
 use Rattle.pr_eval.proofs.Costs.{asks_length, cost_same}
 
 abbrev fault_of : {A : Type 0} → Result A EvalError → EvalError
@@ -60,6 +64,11 @@ module _ (keeps : Bool) (history : List Entry) where
     took_first {A} {B} a b F r0 r1 e first =
         let one : r1 ≤ r0 + p = first.few in
         record { few = omega (arith, one); fits = λ no. first.fits (recast A B e no); asked = λ no. asked_first keeps history xs ys n m is a b (first.asked (recast A B e no)) }
+
+    pub took_second : {A B : Type 0} (a b : Kept) (F : Type 0) (r0 r1 : ℕ) (e : EvalError) → Takes {A = A} keeps history ys m q a b F r0 r1 (Err e) → Takes {A = B} keeps history (xs ++ ys) n (p + q) a b F r0 r1 (Err e)
+    took_second {A} {B} a b F r0 r1 e second =
+        let one : r1 ≤ r0 + q = second.few in
+        record { few = omega (arith, one); fits = λ no. second.fits (recast A B e no); asked = λ no. asked_second keeps history xs ys n m is a b (second.asked (recast A B e no)) }
 
 -- A part of an expression reads no further back than the whole.
 pub keeps_part : (head : List (List Pair × Stored)) (history : List Entry) (t u : Tree) (time : ℕ) → reads_back u ≤ reads_back t → KeepsFor head history t time → KeepsFor head history u time
@@ -129,6 +138,49 @@ module _ (keeps inside : Bool) (step : ℕ) (history : List Entry) (func : Range
   two_taken_as a b c F G r0 r1 r2 x y res first second =
       two_taken a b c F G r0 r1 r2 x res first (took_as keeps history (asks_in inside history func r time) m (cost step history (passed_by inside history b.passed) r m time) b c G r1 r2 y res second)
 
+  -- the second part before the first
+  pub second_may_begin : (head : List (List Pair × Stored)) (a : Kept) (F : Type 0) → MayTake head inside history func t time n F a.last → MayTake head inside history func r time m F a.last
+  second_may_begin head a F may = record {
+    keeps = keeps_part head history t r time right_back may.keeps;
+    fits = may.fits;
+    ready = ready_second keeps history (asks_in inside history func l time) (asks_in inside history func r time) n m behind a (subst (AreReady a.last n) (two.asks inside history func time) may.ready);
+  }
+
+  low_still : (k : ℕ) → n ≤ k → k < n + length (asks_in inside history func l time) → (k < m) ⊎ (m + length (asks_in inside history func r time) ≤ k)
+  low_still k low high = inl (omega (arith, behind, high))
+
+  pub first_may_follow : {A : Type 0} (head : List (List Pair × Stored)) (a b : Kept) (F G : Type 0) (r0 r1 : ℕ) (x : A) → MayTake head inside history func t time n F a.last
+      → IsTaken keeps inside step history func r time m a b G r0 r1 (Ok x) → MayTake head inside history func l time n G b.last
+  first_may_follow head a b F G r0 r1 x may second = record {
+    keeps = keeps_part head history t l time left_back may.keeps;
+    fits = second.fits (λ e. cc);
+    ready = ready_moved keeps history true (asks_in inside history func r time) (asks_in inside history func l time) m n a b low_still (second.asked (λ e. cc))
+        (ready_first keeps history (asks_in inside history func l time) (asks_in inside history func r time) n m behind a (subst (AreReady a.last n) (two.asks inside history func time) may.ready));
+  }
+
+  costs_before : (a b : Kept) → ((k : ℕ) → k < n + ranges_in l → b.passed k ≡ a.passed k)
+      → cost step history (passed_by inside history b.passed) l n time ≡ cost step history (passed_by inside history a.passed) l n time
+  costs_before a b same = cost_same step history (passed_by inside history a.passed) (passed_by inside history b.passed) l n time (λ k w labels i. cond inside 0 (same k w.1 i (number_of history labels)))
+
+  pub turned_taken : {A B : Type 0} (a b c : Kept) (F G : Type 0) (r0 r1 r2 : ℕ) (x : A) (res : Result B EvalError) → IsTaken keeps inside step history func r time m a b F r0 r1 (Ok x)
+      → IsTaken keeps inside step history func l time n b c G r1 r2 res → IsTaken keeps inside step history func t time n a c G r0 r2 res
+  turned_taken {A} {B} a b c F G r0 r1 r2 x res second first =
+      let left = asks_in inside history func l time in
+      let right = asks_in inside history func r time in
+      let same = costs_before a b (λ k low. ((second.asked (λ e. cc)).others k (inl (omega (arith, is, low)))).passed) in
+      let also = ap (λ k. cost step history (passed_by inside history a.passed) r k time) is in
+      whole_of a c G r0 r2 res (took_turned keeps history left right n m behind (cost step history (passed_by inside history a.passed) l n time) (cost step history (passed_by inside history a.passed) r (n + ranges_in l) time) a b c F G r0 r1 r2 x res
+      (subst (λ q. Takes keeps history right m q a b F r0 r1 (let done : Result A EvalError = Ok x in done)) also second)
+      (subst (λ q. Takes keeps history left n q b c G r1 r2 res) same first))
+
+  pub second_ends : {A B : Type 0} (a b : Kept) (F : Type 0) (r0 r1 : ℕ) (e : EvalError) → IsTaken {A = A} keeps inside step history func r time m a b F r0 r1 (Err e)
+      → IsTaken {A = B} keeps inside step history func t time n a b F r0 r1 (Err e)
+  second_ends {A} {B} a b F r0 r1 e second =
+      let also = ap (λ k. cost step history (passed_by inside history a.passed) r k time) is in
+      whole_of a b F r0 r1 (Err e) (took_second keeps history (asks_in inside history func l time) (asks_in inside history func r time) n m behind (cost step history (passed_by inside history a.passed) l n time)
+      (cost step history (passed_by inside history a.passed) r (n + ranges_in l) time) {A = A} {B = B} a b F r0 r1 e
+      (subst (λ q. Takes {A = A} keeps history (asks_in inside history func r time) m q a b F r0 r1 (Err e)) also second))
+
 -- A tree of one part.
 module _ (keeps inside : Bool) (step : ℕ) (history : List Entry) (func : RangeFn) (t u : Tree) (own : List (List ℕ)) (func_of : RangeFn → RangeFn) (one : IsOne t u own func_of) (n time : ℕ) where
   pub part_may : (head : List (List Pair × Stored)) (a : Kept) (F : Type 0) → MayTake head inside history func t time n F a.last → MayTake head inside history (func_of func) u time n F a.last
@@ -163,3 +215,14 @@ pub text_taken : {A : Type 0} (keeps inside : Bool) (step : ℕ) (history : List
     → IsTaken keeps inside step history func t time n a a F r r res
 text_taken keeps inside step history func t p v time n a F r res is fits =
     subst (λ (u : Tree). IsTaken keeps inside step history func u time n a a F r r res) (sym is) (took_nothing keeps history n 0 a F r r res fits (omega arith))
+
+-- a selector reads a sample of each series that it chooses
+pub selector_taken : {A : Type 0} (keeps inside : Bool) (step : ℕ) (history : List Entry) (func : RangeFn) (t : Tree) (p : Place) (s : Selector) (time n : ℕ) (a : Kept) (F : Type 0) (r0 r1 : ℕ) (res : Result A EvalError) → t ≡ select p s → F
+    → r1 ≤ r0 + length (chosen_by s history) → IsTaken keeps inside step history func t time n a a F r0 r1 res
+selector_taken keeps inside step history func t p s time n a F r0 r1 res is fits few =
+    subst (λ (u : Tree). IsTaken keeps inside step history func u time n a a F r0 r1 res) (sym is) (took_nothing keeps history n (length (chosen_by s history)) a F r0 r1 res fits few)
+
+pub stamps_taken : {A : Type 0} (keeps inside : Bool) (step : ℕ) (history : List Entry) (func : RangeFn) (t : Tree) (p q : Place) (s : Selector) (time n : ℕ) (a : Kept) (F : Type 0) (r0 r1 : ℕ) (res : Result A EvalError)
+    → t ≡ call p Timestamp (more none (select q s)) → F → r1 ≤ r0 + length (chosen_by s history) → IsTaken keeps inside step history func t time n a a F r0 r1 res
+stamps_taken keeps inside step history func t p q s time n a F r0 r1 res is fits few =
+    subst (λ (u : Tree). IsTaken keeps inside step history func u time n a a F r0 r1 res) (sym is) (took_nothing keeps history n (0 + length (chosen_by s history)) a F r0 r1 res fits (omega (arith, few)))

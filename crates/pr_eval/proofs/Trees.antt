@@ -1,5 +1,5 @@
 -- What is known of the parts of a tree.
-use Rattle.std.proofs.Common.{◌≡◌, ◌≢◌, ℕ, zero, suc, ◌+◌, ◌<◌, ◌≤◌, Bool, true, false, ◌&&◌, List, [], ◌∷◌, ◌++◌, length, slice_get, Option, Some, Result, Ok, Err, is_ok, refl, sym, ap, subst, ◌∙◌, length-append, arith}
+use Rattle.std.proofs.Common.{◌≡◌, ◌≢◌, ℕ, zero, suc, ◌+◌, ◌<◌, ◌≤◌, max, pos, ◌-ℤ◌, ◌≤ℤ◌, Bool, true, false, ◌&&◌, List, [], ◌∷◌, ◌++◌, length, slice_get, Option, Some, Result, Ok, Err, is_ok, refl, sym, ap, subst, ◌∙◌, length-append, arith}
 use Rattle.std.proofs.lemmas.Option.{slice_get_within}
 use Rattle.pr_labels.specs.declared.pair.Pair.{Pair}
 use Rattle.pr_labels.specs.declared.grouping.Grouping.{Grouping}
@@ -13,9 +13,11 @@ use Rattle.pr_ast.specs.declared.names.AggOp.{AggOp}
 use Rattle.pr_ast.specs.declared.names.AggOp.TheVariants as agg
 use Rattle.pr_ast.specs.declared.names.BinOp.{BinOp}
 use Rattle.pr_ast.specs.declared.names.Func.{Func}
+use Rattle.pr_ast.specs.declared.names.Func.TheVariants as fn
 use Rattle.pr_ast.specs.declared.selector.Selector.{Selector}
 use Rattle.pr_num.specs.declared.value.Num.{Num}
-use Rattle.pr_ast.specs.Tree.{Tree, number, text, select, neg, binary, call, aggregate, none, more}
+use Rattle.pr_ast.specs.Tree.{Tree, number, text, select, range, sub, neg, binary, call, aggregate, none, more}
+use Rattle.pr_ast.specs.Reach.{reads_back}
 use Rattle.pr_ast.specs.Steps.{has_steps}
 use Rattle.pr_types.specs.declared.counting.Counts.{Counts}
 use Rattle.pr_types.specs.declared.kind.ValueType.{ValueType}
@@ -30,14 +32,15 @@ use Rattle.pr_types.specs.declared.kind.TypeFault.{TypeFault}
 use Rattle.pr_types.specs.Checking.{MayEvaluate}
 use Rattle.pr_types.specs.Typed.{checked, content_at, typed}
 use Rattle.pr_types.proofs.Whole.{checked_says}
-use Rattle.pr_types.proofs.Parts.{parts_of_aggregate, parts_of_binary, parts_of_neg, text_of_count}
+use Rattle.pr_types.proofs.Parts.{parts_of_aggregate, parts_of_binary, parts_of_neg, parts_of_sub, text_of_count}
+use Rattle.pr_types.proofs.CountLemmas.{ranges_are_selectors}
 use Rattle.pr_meaning.specs.declared.range.RangeFn.{RangeFn}
-use Rattle.pr_query.specs.Built.{is_built}
 use Rattle.pr_query.specs.Cost.{cost}
 use Rattle.pr_query.specs.Selection.{moment_of}
 use Rattle.pr_eval.specs.Asking.{asked_for}
 use Rattle.pr_eval.specs.Looks.{KeepsAt, KeepsFor}
 use Rattle.pr_eval.specs.Parts.{AreTwo, IsValued, IsOne, IsPart, PatternsAt, StandAt, counts_after, with_patterns}
+use Rattle.pr_eval.specs.Ranged.{takes_range}
 use Rattle.pr_eval.proofs.Each.{first_of_one, front_each, rest_each}
 use Rattle.pr_eval.proofs.Moments.{past_selector}
 
@@ -73,6 +76,35 @@ aggregate_of t p o g u is = subst (λ v. IsOne v u [] (λ f. f)) (sym is) (recor
 
 pub aggregate_by_of : (t : Tree) (p : Place) (o : AggOp) (g : Grouping) (l r : Tree) → t ≡ aggregate p o g (more (more none l) r) → AreTwo t l r
 aggregate_by_of t p o g l r is = subst (λ v. AreTwo v l r) (sym is) (record {
+  back = omega arith;
+  steps = refl;
+  selectors = refl;
+  ranges = omega arith;
+  patterns = refl;
+  asks = λ inside history func time. refl;
+  costs = λ step history k node time.
+      let same : node + 0 ≡ node = omega arith in
+      let also : node + (0 + ranges_in l) ≡ node + ranges_in l = omega arith in
+      let none_before : 0 + cost step history k l (node + 0) time ≡ cost step history k l (node + 0) time = omega arith in
+      (λ i. (none_before ∙ ap (λ m. cost step history k l m time) same) i + ap (λ m. cost step history k r m time) also i);
+})
+
+pub single_of : (t u : Tree) → t ≡ more none u → IsOne t u [] (λ f. f)
+single_of t u is = subst (λ v. IsOne v u [] (λ f. f)) (sym is) (record {
+  back = omega arith;
+  steps = refl;
+  selectors = refl;
+  ranges = omega arith;
+  patterns = nothing_more (patterns_in u);
+  asks = λ inside history func time. refl;
+  costs = λ step history k node time.
+      let same : node + 0 ≡ node = omega arith in
+      let none_before : 0 + cost step history k u (node + 0) time ≡ cost step history k u (node + 0) time = omega arith in
+      none_before ∙ ap (λ m. cost step history k u m time) same;
+})
+
+pub pair_of : (t l r : Tree) → t ≡ more (more none l) r → AreTwo t l r
+pair_of t l r is = subst (λ v. AreTwo v l r) (sym is) (record {
   back = omega arith;
   steps = refl;
   selectors = refl;
@@ -199,18 +231,85 @@ counts_of_text n t p u is = counts_same n.selectors n.ranges n.patterns _ _ _ (o
 pub counts_of_select : (n : Counts) (t : Tree) (p : Place) (s : Selector) → t ≡ select p s → counts (n.selectors + 1) n.ranges n.patterns ≡ counts_after n t
 counts_of_select n t p s is = counts_same (n.selectors + 1) n.ranges n.patterns _ _ _ refl (omega arith) (omega arith) ∙ ap (counts_after n) (sym is)
 
--- a selector
-pub select_stands : (t : Tree) (p : Place) (s : Selector) → t ≡ select p s → (all : List (List LabelTest)) (n : ℕ) → StandAt all n (tests_in t) → slice_get all n ≡ Some (tests_of s)
-select_stands t p s is all n h = first_of_one (λ k x. slice_get all k ≡ Some x) n (tests_of s) (subst (λ u. StandAt all n (tests_in u)) is h)
+pub counts_of_stamped : (n : Counts) (t : Tree) (p q : Place) (s : Selector) → t ≡ call p fn.Timestamp (more none (select q s)) → counts (n.selectors + 1) n.ranges n.patterns ≡ counts_after n t
+counts_of_stamped n t p q s is = counts_same (n.selectors + 1) n.ranges n.patterns _ _ _ refl (omega arith) (omega arith) ∙ ap (counts_after n) (sym is)
 
-pub select_within : (t : Tree) (p : Place) (s : Selector) → t ≡ select p s → (all : List (List LabelTest)) (n : ℕ) → StandAt all n (tests_in t) → n < length all
-select_within t p s is all n h = slice_get_within all n (tests_of s) (select_stands t p s is all n h)
+pub counts_of_range : (n : Counts) (t : Tree) (p : Place) (s : Selector) (d : ℕ) → t ≡ range p s d → counts (n.selectors + 1) (n.ranges + 1) n.patterns ≡ counts_after n t
+counts_of_range n t p s d is = counts_same (n.selectors + 1) (n.ranges + 1) n.patterns _ _ _ refl refl (omega arith) ∙ ap (counts_after n) (sym is)
+
+-- a tree with one selector
+module _ (t : Tree) (s : Selector) (is : tests_in t ≡ tests_of s ∷ []) (all : List (List LabelTest)) (n : ℕ) (h : StandAt all n (tests_in t)) where
+  pub selector_stands : slice_get all n ≡ Some (tests_of s)
+  selector_stands = first_of_one (λ k x. slice_get all k ≡ Some x) n (tests_of s) (subst (StandAt all n) is h)
+
+  pub selector_within : n < length all
+  selector_within = slice_get_within all n (tests_of s) selector_stands
+
+pub tests_of_select : (t : Tree) (p : Place) (s : Selector) → t ≡ select p s → tests_in t ≡ tests_of s ∷ []
+tests_of_select t p s is = ap tests_in is
+
+pub tests_of_stamped : (t : Tree) (p q : Place) (s : Selector) → t ≡ call p fn.Timestamp (more none (select q s)) → tests_in t ≡ tests_of s ∷ []
+tests_of_stamped t p q s is = ap tests_in is
+
+pub tests_of_range : (t : Tree) (p : Place) (s : Selector) (d : ℕ) → t ≡ range p s d → tests_in t ≡ tests_of s ∷ []
+tests_of_range t p s d is = ap tests_in is
+
+-- there are no more range selectors than selectors
+pub range_within : (whole t : Tree) (n : Counts) (p : Place) (s : Selector) (d : ℕ) → t ≡ range p s d → IsPart whole n t → n.ranges < length (tests_in whole)
+range_within whole t n p s d is h =
+    let one : ranges_in t ≡ 1 = ap ranges_in is in
+    let within : n.ranges + ranges_in t ≤ ranges_in whole = h.ranges in
+    let all : ranges_in whole ≤ length (tests_in whole) = ranges_are_selectors whole in
+    omega (arith, one, within, all)
+
+-- what a selector looks at
+keeps_at : (t : Tree) (s : Selector) → reads_back t ≡ s.offset + 300000 → (head : List (List Pair × Stored)) (history : List Entry) (time : ℕ) → KeepsFor head history t time → KeepsAt head history (moment_of s time)
+keeps_at t s back head history time k = record {
+  lawful = k.lawful;
+  holds = k.holds;
+  forgotten = k.forgotten;
+  whole = k.whole;
+  past = past_selector k.forgotten time s.offset (subst (λ n. k.forgotten ≤ℤ (pos time -ℤ pos n)) back k.back);
+}
 
 pub select_keeps : (t : Tree) (p : Place) (s : Selector) → t ≡ select p s → (head : List (List Pair × Stored)) (history : List Entry) (time : ℕ) → KeepsFor head history t time
     → KeepsAt head history (moment_of s time)
-select_keeps t p s is head history time h =
-    let k : KeepsFor head history (select p s) time = subst (λ u. KeepsFor head history u time) is h in
-    record { lawful = k.lawful; holds = k.holds; forgotten = k.forgotten; whole = k.whole; past = past_selector k.forgotten time s.offset k.back }
+select_keeps t p s is = keeps_at t s (ap reads_back is)
+
+pub stamped_keeps : (t : Tree) (p q : Place) (s : Selector) → t ≡ call p fn.Timestamp (more none (select q s)) → (head : List (List Pair × Stored)) (history : List Entry) (time : ℕ) → KeepsFor head history t time
+    → KeepsAt head history (moment_of s time)
+stamped_keeps t p q s is = keeps_at t s (ap reads_back is ∙ none_before (s.offset + 300000)) where
+  none_before : (n : ℕ) → max 0 n ≡ n
+  none_before n = omega arith
+
+-- calls of functions of ranges
+no_pattern : (f : Func) (ts : Tree) → takes_range f ≡ true → own_patterns f ts ≡ []
+no_pattern fn.AbsentOverTime ts h = refl
+no_pattern fn.Rate ts h = refl
+no_pattern fn.Increase ts h = refl
+no_pattern fn.Delta ts h = refl
+no_pattern fn.Irate ts h = refl
+no_pattern fn.Idelta ts h = refl
+no_pattern fn.Deriv ts h = refl
+no_pattern fn.PredictLinear ts h = refl
+no_pattern fn.Changes ts h = refl
+no_pattern fn.Resets ts h = refl
+no_pattern fn.SumOverTime ts h = refl
+no_pattern fn.AvgOverTime ts h = refl
+no_pattern fn.MinOverTime ts h = refl
+no_pattern fn.MaxOverTime ts h = refl
+no_pattern fn.CountOverTime ts h = refl
+no_pattern fn.LastOverTime ts h = refl
+no_pattern fn.PresentOverTime ts h = refl
+no_pattern fn.QuantileOverTime ts h = refl
+no_pattern _ ts h = absurd cc
+
+pub range_call_of : (t : Tree) (p : Place) (f : Func) (ts : Tree) → t ≡ call p f ts → takes_range f ≡ true → IsOne t ts [] (λ g. asked_for f)
+range_call_of t p f ts is h = subst (λ own. IsOne t ts own (λ g. asked_for f)) (no_pattern f ts h) (call_of t p f ts is)
+
+-- the expression of a subquery
+pub sub_valued : (t : Tree) (p : Place) (u : Tree) (d : ℕ) (i : Option ℕ) (o : ℕ) → t ≡ sub p u d i o → typed t ≡ Ok Range → IsValued u
+sub_valued t p u d i o is h = record { gives = Vector; typed_so = (parts_of_sub p u d i o Range (sym (ap typed is) ∙ h)).0; no_range = refl }
 
 -- the types of operands
 no_range_of : (v : ValueType) → is_instant v ≡ true → is_type v Range ≡ false
@@ -282,22 +381,3 @@ whole_valued t h = by (checked t) refl h.checked_so where
   by : (r : Result ValueType TypeFault) → checked t ≡ r → is_ok r ≡ true → IsValued t
   by (Ok v) e k = let says = checked_says t v e in record { gives = v; typed_so = says.0; no_range = no_range_of v says.1 }
   by (Err f) e k = absurd cc
-
--- what is built
-pub neg_built : (t : Tree) (p : Place) (u : Tree) → t ≡ neg p u → is_built t ≡ true → is_built u ≡ true
-neg_built t p u is h = subst (λ v. is_built v ≡ true) is h
-
-pub left_built : (t : Tree) (p : Place) (o : BinOp) (b : Bool) (m : Option Matching) (l r : Tree) → t ≡ binary p o b m l r → is_built t ≡ true → is_built l ≡ true
-left_built t p o b m l r is h = (both (is_built l) (is_built r) (subst (λ v. is_built v ≡ true) is h)).0
-
-pub right_built : (t : Tree) (p : Place) (o : BinOp) (b : Bool) (m : Option Matching) (l r : Tree) → t ≡ binary p o b m l r → is_built t ≡ true → is_built r ≡ true
-right_built t p o b m l r is h = (both (is_built l) (is_built r) (subst (λ v. is_built v ≡ true) is h)).1
-
-pub aggregate_built : (t : Tree) (p : Place) (o : AggOp) (g : Grouping) (u : Tree) → t ≡ aggregate p o g (more none u) → is_built t ≡ true → is_built u ≡ true
-aggregate_built t p o g u is h = subst (λ v. is_built v ≡ true) is h
-
-pub param_built : (t : Tree) (p : Place) (o : AggOp) (g : Grouping) (l r : Tree) → t ≡ aggregate p o g (more (more none l) r) → is_built t ≡ true → is_built l ≡ true
-param_built t p o g l r is h = (both (is_built l) (is_built r) (subst (λ v. is_built v ≡ true) is h)).0
-
-pub inner_built : (t : Tree) (p : Place) (o : AggOp) (g : Grouping) (l r : Tree) → t ≡ aggregate p o g (more (more none l) r) → is_built t ≡ true → is_built r ≡ true
-inner_built t p o g l r is h = (both (is_built l) (is_built r) (subst (λ v. is_built v ≡ true) is h)).1

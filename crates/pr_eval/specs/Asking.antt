@@ -1,10 +1,7 @@
 -- What an expression asks of ranges.
 use Rattle.std.specs.Prelude.{ℕ, ℤ, pos, ◌-ℤ◌, Bool, true, cond, List, [], ◌∷◌, ◌++◌, map, Option, Some, None}
-use Rattle.std.specs.List.{position_or_len}
 use Rattle.pr_labels.specs.declared.pair.Pair.{Pair}
-use Rattle.pr_labels.specs.Order.{labels_eq}
 use Rattle.pr_history.specs.declared.entry.Entry.{Entry}
-use Rattle.pr_head.specs.Holds.{arrivals}
 use Rattle.pr_ast.specs.declared.names.Func.{Func}
 use Rattle.pr_ast.specs.declared.names.Func.TheVariants.{Rate, Increase, Delta, Irate, Idelta, Deriv, PredictLinear, Changes, Resets, SumOverTime, AvgOverTime, MinOverTime, MaxOverTime, CountOverTime, LastOverTime, PresentOverTime, QuantileOverTime}
 use Rattle.pr_ast.specs.Tree.{Tree, number, text, select, range, sub, neg, binary, call, aggregate, none, more}
@@ -12,6 +9,7 @@ use Rattle.pr_meaning.specs.declared.range.RangeFn.{RangeFn}
 use Rattle.pr_meaning.specs.declared.range.RangeFn.TheVariants as range_fn
 use Rattle.pr_query.specs.Selection.{chosen_by, moment_of}
 use Rattle.pr_range.specs.Asks.{LastAsk}
+use Rattle.pr_ranged.specs.Asking.{number_of}
 
 -- the function that a call asks ranges for; `absent_over_time` asks whether there is a value
 abbrev pub asked_for : Func → RangeFn
@@ -33,10 +31,6 @@ asked_for LastOverTime = range_fn.LastOverTime
 asked_for PresentOverTime = range_fn.PresentOverTime
 asked_for QuantileOverTime = range_fn.QuantileOverTime
 asked_for _ = range_fn.PresentOverTime
-
--- the number of a series of the history, by first arrival
-abbrev pub number_of : List Entry → List Pair → ℕ
-number_of history labels = position_or_len (labels_eq labels) (arrivals history)
 
 -- what is asked for a range selector: a function over a range, of the series with these numbers
 pub record Sought : Type 0 where

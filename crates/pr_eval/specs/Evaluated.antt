@@ -1,6 +1,5 @@
 -- Which expressions may be evaluated, and what is known of ranges and reads after it.
-use Rattle.std.specs.Prelude.{◌≡◌, ◌≢◌, ℕ, ◌+◌, ◌<◌, ◌≤◌, ◌≤ℤ◌, ◌⊎◌, ◌&&◌, ◌==◌, Bool, true, false, cond, List, length, take, Option, Some, None, Result, Err, is_ok}
-use Rattle.std.specs.List.{list_any}
+use Rattle.std.specs.Prelude.{◌≡◌, ◌≢◌, ℕ, ◌+◌, ◌<◌, ◌≤◌, ◌≤ℤ◌, ◌⊎◌, ◌&&◌, Bool, true, false, cond, List, length, take, Option, Some, None, Result, Err, is_ok}
 use Rattle.pr_labels.specs.declared.pair.Pair.{Pair}
 use Rattle.pr_history.specs.declared.entry.Entry.{Entry}
 use Rattle.pr_history.specs.Lookback.{entries_until}
@@ -13,7 +12,8 @@ use Rattle.pr_values.specs.declared.error.EvalError.{EvalError}
 use Rattle.pr_values.specs.declared.error.EvalError.TheVariants.{Memory}
 use Rattle.pr_meaning.specs.declared.range.RangeFn.{RangeFn}
 use Rattle.pr_meaning.specs.declared.range.RangeFn.TheVariants.{PresentOverTime}
-use Rattle.pr_eval.specs.Asking.{Sought, asks_in, number_of}
+use Rattle.pr_ranged.specs.Asking.{is_number_among, number_of}
+use Rattle.pr_eval.specs.Asking.{Sought, asks_in}
 use Rattle.pr_eval.specs.Each.{EachAt}
 use Rattle.pr_eval.specs.Looks.{KeepsFor}
 
@@ -48,9 +48,6 @@ pub record Kept : Type 0 where
 pub record IsSame (k : ℕ) (before after : Kept) : Type 0 where
   pub last : after.last k ≡ before.last k
   pub passed : after.passed k ≡ before.passed k
-
-abbrev pub is_number_among : ℕ → List ℕ → Bool
-is_number_among s numbers = list_any (λ n. s == n) numbers
 
 -- Where asks are remembered, this is the last one of each of these series of a range selector, and all of the series until its end
 -- count as passed; what is known of other series stays.

@@ -1,8 +1,10 @@
 pub mod Looks
-pub mod Equalities
 pub mod Reading
 pub mod Each
 pub mod Asking
 pub mod Parts
 pub mod Evaluated
 pub mod Operands
+pub mod Ranged
+pub mod Subqueries
+pub mod Sizes

@@ -1,23 +1,14 @@
 -- What is read of a head, said of the head alone.
-use Rattle.std.specs.Prelude.{ℕ, ℤ, Bool, List, Option, option_and_then, slice_get}
+use Rattle.std.specs.Prelude.{ℕ, ℤ, List, Option, option_and_then, slice_get}
 use Rattle.std.specs.List.{filter_map}
 use Rattle.std.specs.Option.{option_map}
 use Rattle.pr_labels.specs.declared.pair.Pair.{Pair}
 use Rattle.pr_labels.specs.declared.item.Item.{Item}
 use Rattle.pr_history.specs.declared.spot.Spot.{Spot}
-use Rattle.pr_match.specs.Matcher.{LabelTest, meets_all}
 use Rattle.pr_head.specs.Stored.{Stored, newest_at}
-use Rattle.pr_head.specs.Holds.{labels_at, sets_of}
 use Rattle.pr_head.specs.Reads.{spot_shown}
 use Rattle.pr_query.specs.Selection.{shown_as}
-
--- the labels of a series
-abbrev pub labels_of_series : List (List Pair × Stored) → ℕ → List Pair
-labels_of_series head series = labels_at (sets_of head) series
-
--- whether the labels of a series meet all matchers
-abbrev pub is_met_by : List LabelTest → List (List Pair × Stored) → ℕ → Bool
-is_met_by tests head series = meets_all tests (labels_of_series head series)
+use Rattle.pr_ranged.specs.Choosing.{labels_of_series}
 
 -- what a series shows at a moment, by its newest sample until then
 abbrev pub spot_read : List (List Pair × Stored) → ℤ → ℕ → Option Spot

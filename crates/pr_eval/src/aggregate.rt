@@ -1,18 +1,30 @@
 // Aggregations, by the values of their arguments.
-ghost use Rattle.std.specs.Prelude.{◌≡◌, ◌≢◌, ◌++◌, ◌∷◌, [], true, IfOk, OnOk, None};
+ghost use Rattle.std.specs.Prelude.{◌≡◌, ◌≢◌, ◌++◌, ◌∷◌, ◌<◌, ◌^◌, [], List, true, IfOk, OnOk, None, length};
 ghost use Rattle.pr_labels.specs.Names.{is_label_name};
-ghost use Rattle.pr_ast.specs.Tree.{Tree, tree_of};
+ghost use Rattle.pr_history.specs.declared.entry.Entry.{Entry};
+ghost use Rattle.pr_ast.specs.Tree.{Tree, aggregate, more, none, tree_of};
+ghost use Rattle.pr_types.specs.Built.{patterns_in, tests_in};
 ghost use Rattle.pr_types.specs.Typed.{content, content_at};
+ghost use Rattle.pr_meaning.specs.declared.range.RangeFn.{RangeFn};
 ghost use Rattle.pr_query.specs.Answers.{IsAnswer};
 ghost use Rattle.pr_query.specs.Aggregations.{summed_up};
-ghost use Rattle.pr_query.specs.Meaning.{given};
+ghost use Rattle.pr_query.specs.Meaning.{given, meaning};
 ghost use Rattle.pr_values.specs.Answers.{AnswersTo};
+ghost use Rattle.pr_eval.specs.Evaluated.{IsTaken, MayTake, kept_by};
+ghost use Rattle.pr_eval.specs.Parts.{IsPart, IsValued, counts_after};
 
+use crate::evaluate::eval_at;
+use crate::parts::{is_aggregate, is_aggregate_by, stands_at};
+use crate::scope::Scope;
 use pr_ast::{AggOp, Expr, ExprKind, Place};
 use pr_labels::Grouping;
 use pr_query::Value;
+use pr_range::Ranges;
+use pr_types::Counts;
 use pr_values::{EvalError, aggregated};
+use pr_words::Steps;
 use std::alloc::{AllocError, Global};
+use std::sync::ledger::Ledger;
 
 /// Puts a value behind others.
 pub(crate) fn push_value(values: &mut Vec<Value>, value: Value) -> Result<(), AllocError>
@@ -23,7 +35,7 @@ pub(crate) fn push_value(values: &mut Vec<Value>, value: Value) -> Result<(), Al
 }
 
 // An aggregation of a vector alone.
-pub(crate) fn aggregated_one(
+fn aggregated_one(
     alloc: Global,
     place: Place,
     op: AggOp,
@@ -51,7 +63,7 @@ fn content(e: &Expr) -> &str
 }
 
 // An aggregation with a parameter, whose value is given beside it.
-pub(crate) fn aggregated_two(
+fn aggregated_two(
     alloc: Global,
     place: Place,
     op: AggOp,
@@ -70,4 +82,79 @@ pub(crate) fn aggregated_two(
     push_value(&mut values, number)?;
     push_value(&mut values, vector)?;
     aggregated(alloc, place, op, by, content(param), &values)
+}
+
+// An aggregation without a parameter.
+#[cycle(evaluation)]
+pub(crate) fn aggregation<R: Ranges, G: Ledger>(
+    scope: &Scope<'_>,
+    e: &Expr,
+    op: AggOp,
+    by: &Grouping,
+    inner: &Expr,
+    number: &mut Counts,
+    ranges: &mut R,
+    reads: &mut Steps<G>,
+) -> Result<Value, EvalError>
+    requires tree { tree_of e.now ≡ aggregate e.now.place op by.now (more none (tree_of inner.now)) }
+    requires part { IsPart (tree_of scope.now.checked.now) number.old (tree_of e.now) }
+    requires valued { IsValued (tree_of e.now) }
+    requires few { length (tests_in (tree_of scope.now.checked.now)) < 2 ^ 64 }
+    requires few_patterns { length (patterns_in (tree_of scope.now.checked.now)) < 2 ^ 64 }
+    requires step { 0 < scope.now.step }
+    ensures count { OnOk result (number.new ≡ counts_after number.old (tree_of e.now)) }
+    ensures vector { IfOk result IsAnswer }
+    ensures answer { (history : List Entry) (func : RangeFn) → MayTake scope.now.head.now scope.now.inside history func (tree_of e.now) scope.now.time number.old.ranges (R.fits ranges.old history) (R.last ranges.old)
+        → AnswersTo (meaning scope.now.step history (tree_of e.now) scope.now.time) result }
+    ensures taken { (history : List Entry) (func : RangeFn) → MayTake scope.now.head.now scope.now.inside history func (tree_of e.now) scope.now.time number.old.ranges (R.fits ranges.old history) (R.last ranges.old)
+        → IsTaken R.keeps scope.now.inside scope.now.step history func (tree_of e.now) scope.now.time number.old.ranges (kept_by (R.last ranges.old) (R.passed ranges.old)) (kept_by (R.last ranges.new) (R.passed ranges.new))
+        (R.fits ranges.new history) reads.old reads.new result }
+{
+    is_aggregate(e, op, by, inner);
+    stands_at(scope.checked, inner, *number);
+    match eval_at(scope, inner, number, ranges, reads) {
+        Ok(vector) => aggregated_one(scope.alloc, e.place, op, by, vector),
+        Err(error) => Err(error),
+    }
+}
+
+// One with a parameter, which stands first.
+#[cycle(evaluation)]
+pub(crate) fn aggregation_by<R: Ranges, G: Ledger>(
+    scope: &Scope<'_>,
+    e: &Expr,
+    op: AggOp,
+    by: &Grouping,
+    param: &Expr,
+    inner: &Expr,
+    number: &mut Counts,
+    ranges: &mut R,
+    reads: &mut Steps<G>,
+) -> Result<Value, EvalError>
+    requires tree { tree_of e.now ≡ aggregate e.now.place op by.now (more (more none (tree_of param.now)) (tree_of inner.now)) }
+    requires part { IsPart (tree_of scope.now.checked.now) number.old (tree_of e.now) }
+    requires valued { IsValued (tree_of e.now) }
+    requires few { length (tests_in (tree_of scope.now.checked.now)) < 2 ^ 64 }
+    requires few_patterns { length (patterns_in (tree_of scope.now.checked.now)) < 2 ^ 64 }
+    requires step { 0 < scope.now.step }
+    ensures count { OnOk result (number.new ≡ counts_after number.old (tree_of e.now)) }
+    ensures vector { IfOk result IsAnswer }
+    ensures answer { (history : List Entry) (func : RangeFn) → MayTake scope.now.head.now scope.now.inside history func (tree_of e.now) scope.now.time number.old.ranges (R.fits ranges.old history) (R.last ranges.old)
+        → AnswersTo (meaning scope.now.step history (tree_of e.now) scope.now.time) result }
+    ensures taken { (history : List Entry) (func : RangeFn) → MayTake scope.now.head.now scope.now.inside history func (tree_of e.now) scope.now.time number.old.ranges (R.fits ranges.old history) (R.last ranges.old)
+        → IsTaken R.keeps scope.now.inside scope.now.step history func (tree_of e.now) scope.now.time number.old.ranges (kept_by (R.last ranges.old) (R.passed ranges.old)) (kept_by (R.last ranges.new) (R.passed ranges.new))
+        (R.fits ranges.new history) reads.old reads.new result }
+{
+    is_aggregate_by(e, op, by, param, inner);
+    stands_at(scope.checked, param, *number);
+    match eval_at(scope, param, number, ranges, reads) {
+        Ok(a) => {
+            stands_at(scope.checked, inner, *number);
+            match eval_at(scope, inner, number, ranges, reads) {
+                Ok(b) => aggregated_two(scope.alloc, e.place, op, by, param, a, b),
+                Err(error) => Err(error),
+            }
+        }
+        Err(error) => Err(error),
+    }
 }

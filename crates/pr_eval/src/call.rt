@@ -1,25 +1,40 @@
-// Calls, by the values of their arguments.
-ghost use Rattle.std.specs.Prelude.{◌≡◌, ◌<◌, ◌^◌, true, List, IfOk, Some, length, slice_get};
+// Calls.
+ghost use Rattle.std.specs.Prelude.{◌≡◌, ◌<◌, ◌^◌, ℕ, true, false, [], List, IfOk, IfSome, OnOk, Some, None, length, slice_get};
 ghost use Rattle.std.specs.Option.{option_copied};
 ghost use Rattle.pr_labels.specs.Names.{is_label_name};
 ghost use Rattle.pr_history.specs.declared.entry.Entry.{Entry};
-ghost use Rattle.pr_ast.specs.Tree.{trees_of, tree_of};
+ghost use Rattle.pr_head.specs.Holds.{Holds};
+ghost use Rattle.pr_ast.specs.Tree.{call, more, none, select, tree_of, trees_of};
 ghost use Rattle.pr_types.specs.Typed.{content_at};
-ghost use Rattle.pr_types.specs.Built.{own_patterns, patterns_in};
+ghost use Rattle.pr_types.specs.Built.{own_patterns, patterns_in, tests_in};
+ghost use Rattle.pr_meaning.specs.declared.range.RangeFn.{RangeFn};
 ghost use Rattle.pr_query.specs.Answers.{IsAnswer};
 ghost use Rattle.pr_query.specs.Calls.{called};
+ghost use Rattle.pr_query.specs.Meaning.{meaning, operands};
 ghost use Rattle.pr_values.specs.Answers.{AnswersTo};
 ghost use Rattle.pr_values.specs.Calls.{is_plain_call};
 ghost use Rattle.pr_values.specs.Plain.{all_plain};
-ghost use Rattle.pr_eval.specs.Parts.{with_patterns};
+ghost use Rattle.pr_eval.specs.Evaluated.{IsTaken, MayTake, kept_by};
+ghost use Rattle.pr_eval.specs.Operands.{AreGiven};
+ghost use Rattle.pr_eval.specs.Parts.{IsPart, IsValued, counts_after, with_patterns};
+ghost use Rattle.pr_eval.specs.Ranged.{takes_range};
 
+use crate::aggregate::push_value;
+use crate::evaluate::eval_at;
+use crate::parts::{arg_stands_at, args_stand_at, is_among, is_call};
+use crate::range_call::{range_call, takes_range};
+use crate::scope::Scope;
+use crate::selected::{stamped_selector, timestamps};
 use pr_ast::{Expr, Func, Place};
 use pr_match::Pattern;
 use pr_query::Value;
+use pr_range::Ranges;
 use pr_time::Ms;
 use pr_types::{Checked, Counts};
 use pr_values::{EvalError, called};
+use pr_words::Steps;
 use std::alloc::Global;
+use std::sync::ledger::Ledger;
 
 // The pattern of a call that takes one, which stands at the next number.
 fn own_pattern<'a>(
@@ -44,7 +59,7 @@ fn own_pattern<'a>(
 }
 
 // What a call gives whose arguments are no ranges.
-pub(crate) fn called_with(
+fn called_with(
     alloc: Global,
     checked: &Checked,
     place: Place,
@@ -65,4 +80,116 @@ pub(crate) fn called_with(
 {
     let pattern = own_pattern(checked, func, args, number);
     called(alloc, place, func, args, pattern, time, given)
+}
+
+// The values of the arguments of a call, in order.
+#[cycle(evaluation)]
+fn operands<R: Ranges, G: Ledger>(
+    scope: &Scope<'_>,
+    args: &[Expr],
+    number: &mut Counts,
+    ranges: &mut R,
+    reads: &mut Steps<G>,
+    given: &mut Vec<Value>,
+) -> Result<(), EvalError>
+    requires none { given.old.items ≡ [] }
+    requires part { IsPart (tree_of scope.now.checked.now) number.old (trees_of args.now) }
+    requires valued { (i : ℕ) (a : Expr) → slice_get args.now i ≡ Some a → IsValued (tree_of a) }
+    requires few { length (tests_in (tree_of scope.now.checked.now)) < 2 ^ 64 }
+    requires few_patterns { length (patterns_in (tree_of scope.now.checked.now)) < 2 ^ 64 }
+    requires step { 0 < scope.now.step }
+    ensures count { OnOk result (number.new ≡ counts_after number.old (trees_of args.now)) }
+    ensures answer { (history : List Entry) (func : RangeFn) → MayTake scope.now.head.now scope.now.inside history func (trees_of args.now) scope.now.time number.old.ranges (R.fits ranges.old history) (R.last ranges.old)
+        → AreGiven (operands scope.now.step history (trees_of args.now) scope.now.time) given.new.items result }
+    ensures taken { (history : List Entry) (func : RangeFn) → MayTake scope.now.head.now scope.now.inside history func (trees_of args.now) scope.now.time number.old.ranges (R.fits ranges.old history) (R.last ranges.old)
+        → IsTaken R.keeps scope.now.inside scope.now.step history func (trees_of args.now) scope.now.time number.old.ranges (kept_by (R.last ranges.old) (R.passed ranges.old)) (kept_by (R.last ranges.new) (R.passed ranges.new))
+        (R.fits ranges.new history) reads.old reads.new result }
+{
+    for arg in args {
+        arg_stands_at(scope.checked, arg, *number);
+        is_among(args, arg);
+        match eval_at(scope, arg, number, ranges, reads) {
+            Ok(value) => push_value(given, value)?,
+            Err(error) => return Err(error),
+        }
+    }
+    Ok(())
+}
+
+// A call whose arguments are no ranges, by their values.
+#[cycle(evaluation)]
+fn plain_call<R: Ranges, G: Ledger>(
+    scope: &Scope<'_>,
+    e: &Expr,
+    func: Func,
+    args: &[Expr],
+    number: &mut Counts,
+    ranges: &mut R,
+    reads: &mut Steps<G>,
+) -> Result<Value, EvalError>
+    requires tree { tree_of e.now ≡ call e.now.place func (trees_of args.now) }
+    requires plain { is_plain_call func (trees_of args.now) ≡ true }
+    requires part { IsPart (tree_of scope.now.checked.now) number.old (tree_of e.now) }
+    requires valued { IsValued (tree_of e.now) }
+    requires few { length (tests_in (tree_of scope.now.checked.now)) < 2 ^ 64 }
+    requires few_patterns { length (patterns_in (tree_of scope.now.checked.now)) < 2 ^ 64 }
+    requires step { 0 < scope.now.step }
+    ensures count { OnOk result (number.new ≡ counts_after number.old (tree_of e.now)) }
+    ensures vector { IfOk result IsAnswer }
+    ensures answer { (history : List Entry) (func : RangeFn) → MayTake scope.now.head.now scope.now.inside history func (tree_of e.now) scope.now.time number.old.ranges (R.fits ranges.old history) (R.last ranges.old)
+        → AnswersTo (meaning scope.now.step history (tree_of e.now) scope.now.time) result }
+    ensures taken { (history : List Entry) (func : RangeFn) → MayTake scope.now.head.now scope.now.inside history func (tree_of e.now) scope.now.time number.old.ranges (R.fits ranges.old history) (R.last ranges.old)
+        → IsTaken R.keeps scope.now.inside scope.now.step history func (tree_of e.now) scope.now.time number.old.ranges (kept_by (R.last ranges.old) (R.passed ranges.old)) (kept_by (R.last ranges.new) (R.passed ranges.new))
+        (R.fits ranges.new history) reads.old reads.new result }
+{
+    is_call(e, func, args);
+    args_stand_at(scope.checked, args, *number);
+    let mut given = Vec::new(scope.alloc);
+    match operands(scope, args, number, ranges, reads, &mut given) {
+        Ok(()) => called_with(
+            scope.alloc,
+            scope.checked,
+            e.place,
+            func,
+            args,
+            scope.time,
+            &given,
+            number,
+        ),
+        Err(error) => Err(error),
+    }
+}
+
+// A call. What a function of a range, and `timestamp` of a selector, are given is no value.
+#[cycle(evaluation)]
+pub(crate) fn call<R: Ranges, G: Ledger>(
+    scope: &Scope<'_>,
+    e: &Expr,
+    func: Func,
+    args: &[Expr],
+    number: &mut Counts,
+    ranges: &mut R,
+    reads: &mut Steps<G>,
+) -> Result<Value, EvalError>
+    requires tree { tree_of e.now ≡ call e.now.place func (trees_of args.now) }
+    requires part { IsPart (tree_of scope.now.checked.now) number.old (tree_of e.now) }
+    requires valued { IsValued (tree_of e.now) }
+    requires few { length (tests_in (tree_of scope.now.checked.now)) < 2 ^ 64 }
+    requires few_patterns { length (patterns_in (tree_of scope.now.checked.now)) < 2 ^ 64 }
+    requires step { 0 < scope.now.step }
+    ensures count { OnOk result (number.new ≡ counts_after number.old (tree_of e.now)) }
+    ensures vector { IfOk result IsAnswer }
+    ensures answer { (history : List Entry) (func : RangeFn) → MayTake scope.now.head.now scope.now.inside history func (tree_of e.now) scope.now.time number.old.ranges (R.fits ranges.old history) (R.last ranges.old)
+        → AnswersTo (meaning scope.now.step history (tree_of e.now) scope.now.time) result }
+    ensures taken { (history : List Entry) (func : RangeFn) → MayTake scope.now.head.now scope.now.inside history func (tree_of e.now) scope.now.time number.old.ranges (R.fits ranges.old history) (R.last ranges.old)
+        → IsTaken R.keeps scope.now.inside scope.now.step history func (tree_of e.now) scope.now.time number.old.ranges (kept_by (R.last ranges.old) (R.passed ranges.old)) (kept_by (R.last ranges.new) (R.passed ranges.new))
+        (R.fits ranges.new history) reads.old reads.new result }
+{
+    if takes_range(func) {
+        return range_call(scope, e, func, args, number, ranges, reads);
+    }
+    match stamped_selector(func, args) {
+        Some(stamped) => timestamps(scope, e, &stamped, number, reads),
+        None => plain_call(scope, e, func, args, number, ranges, reads),
+    }
 }

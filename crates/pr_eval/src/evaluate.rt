@@ -1,129 +1,49 @@
 // Expressions.
-ghost use Rattle.std.specs.Prelude.{◌≡◌, ◌≢◌, ℕ, ◌+◌, ◌<◌, ◌≤◌, ◌^◌, false, true, [], List, IfOk, OnOk, Err, Some, Ok, is_ok, length, slice_get};
+ghost use Rattle.std.specs.Prelude.{◌≡◌, ◌≢◌, ◌+◌, ◌<◌, ◌≤◌, ◌^◌, false, List, IfOk, OnOk, Err, is_ok, length};
 ghost use Rattle.pr_history.specs.declared.entry.Entry.{Entry};
-ghost use Rattle.pr_head.specs.Holds.{Holds};
-ghost use Rattle.pr_ast.specs.Tree.{tree_of, trees_of};
+ghost use Rattle.pr_ast.specs.Tree.{tree_of};
 ghost use Rattle.pr_types.specs.Built.{tests_in, patterns_in};
-ghost use Rattle.pr_types.specs.Selectors.{tests_of};
 ghost use Rattle.pr_meaning.specs.declared.range.RangeFn.{RangeFn};
 ghost use Rattle.pr_query.specs.Answers.{IsAnswer};
-ghost use Rattle.pr_query.specs.Built.{is_built};
 ghost use Rattle.pr_query.specs.Cost.{cost};
-ghost use Rattle.pr_query.specs.Meaning.{meaning, operands};
-ghost use Rattle.pr_query.specs.Selection.{chosen_by, moment_of, selection};
+ghost use Rattle.pr_query.specs.Meaning.{meaning};
 ghost use Rattle.pr_values.specs.declared.error.EvalError.TheVariants.{Memory};
 ghost use Rattle.pr_values.specs.Answers.{AnswersTo};
-ghost use Rattle.pr_eval.specs.Looks.{KeepsAt};
 ghost use Rattle.pr_eval.specs.Evaluated.{AreAsked, IsTaken, MayBegin, MayTake, asks_of, kept_by, passed_by};
 ghost use Rattle.pr_eval.specs.Parts.{IsPart, IsValued, counts_after};
-ghost use Rattle.pr_eval.specs.Operands.{AreGiven};
 
-use crate::aggregate::{aggregated_one, aggregated_two, push_value};
-use crate::call::called_with;
-use crate::parts::{
-    arg_stands_at, args_stand_at, is_aggregate, is_aggregate_by, is_binary, is_call, is_neg,
-    is_number, is_select, is_text, stands_at,
-};
-use crate::select::selection;
-use pr_ast::{Expr, ExprKind, Selector};
+use crate::aggregate::{aggregation, aggregation_by};
+use crate::call::call;
+use crate::operators::{negation, operation};
+use crate::parts::{is_number, is_range, is_sub, is_text, stands_at};
+use crate::scope::Scope;
+use crate::selected::selected;
+use pr_ast::{Expr, ExprKind};
 use pr_head::Head;
 use pr_query::Value;
 use pr_range::Ranges;
 use pr_time::{Ms, Span};
 use pr_types::{Checked, Counts};
-use pr_values::{EvalError, negated_value, operated};
+use pr_values::EvalError;
 use pr_words::{Items, Steps};
 use std::alloc::Global;
 use std::sync::ledger::Ledger;
 
-// What an expression is evaluated over, and when, and whether inside a subquery.
-#[derive(Clone, Copy)]
-struct Scope<'a> {
-    alloc: Global,
-    checked: &'a Checked,
-    head: &'a Head,
-    time: Ms,
-    step: Span,
-    inside: bool,
-}
-
-// What a selector shows; its number is that among the selectors of the whole expression.
-fn shown<G: Ledger>(
-    scope: &Scope<'_>,
-    selector: &Selector,
-    number: usize,
-    reads: &mut Steps<G>,
-) -> Result<Value, EvalError>
-    requires { slice_get (tests_in (tree_of scope.now.checked.now)) number ≡ Some (tests_of selector.now) }
-    ensures answer { (history : List Entry) → KeepsAt scope.now.head.now history (moment_of selector.now scope.now.time)
-        → AnswersTo (Ok (Value.Vector (selection history selector.now scope.now.time))) result }
-    ensures vector { IfOk result IsAnswer }
-    ensures reads { (history : List Entry) → Holds scope.now.head.now history → reads.new ≤ reads.old + length (chosen_by selector.now history) }
-{
-    let matchers = scope.checked.matchers(number);
-    match selection(
-        scope.alloc,
-        scope.head,
-        selector,
-        matchers,
-        scope.time,
-        reads,
-    ) {
-        Ok(items) => Ok(Value::Vector {
-            items: Items::new(items),
-        }),
-        Err(_) => Err(EvalError::Memory),
-    }
-}
-
-// The values of the arguments of a call, in order.
-#[cycle(evaluation)]
-fn operands<R: Ranges, G: Ledger>(
-    scope: &Scope<'_>,
-    args: &[Expr],
-    number: &mut Counts,
-    ranges: &mut R,
-    reads: &mut Steps<G>,
-    given: &mut Vec<Value>,
-) -> Result<(), EvalError>
-    requires none { given.old.items ≡ [] }
-    requires built { is_built (trees_of args.now) ≡ true }
-    requires part { IsPart (tree_of scope.now.checked.now) number.old (trees_of args.now) }
-    requires valued { (i : ℕ) (a : Expr) → slice_get args.now i ≡ Some a → IsValued (tree_of a) }
-    requires few { length (tests_in (tree_of scope.now.checked.now)) < 2 ^ 64 }
-    requires few_patterns { length (patterns_in (tree_of scope.now.checked.now)) < 2 ^ 64 }
-    ensures count { OnOk result (number.new ≡ counts_after number.old (trees_of args.now)) }
-    ensures answer { (history : List Entry) (func : RangeFn) → MayTake scope.now.head.now scope.now.inside history func (trees_of args.now) scope.now.time number.old.ranges (R.fits ranges.old history) (R.last ranges.old)
-        → AreGiven (operands scope.now.step history (trees_of args.now) scope.now.time) given.new.items result }
-    ensures taken { (history : List Entry) (func : RangeFn) → MayTake scope.now.head.now scope.now.inside history func (trees_of args.now) scope.now.time number.old.ranges (R.fits ranges.old history) (R.last ranges.old)
-        → IsTaken R.keeps scope.now.inside scope.now.step history func (trees_of args.now) scope.now.time number.old.ranges (kept_by (R.last ranges.old) (R.passed ranges.old)) (kept_by (R.last ranges.new) (R.passed ranges.new))
-        (R.fits ranges.new history) reads.old reads.new result }
-{
-    for arg in args {
-        arg_stands_at(scope.checked, arg, *number);
-        match eval_at(scope, arg, number, ranges, reads) {
-            Ok(value) => push_value(given, value)?,
-            Err(error) => return Err(error),
-        }
-    }
-    Ok(())
-}
-
 // The value of a part of an expression. Its first selector, range selector and pattern have these numbers in the whole, which are
 // counted up by as many as the part has.
 #[cycle(evaluation)]
-fn eval_at<R: Ranges, G: Ledger>(
+pub(crate) fn eval_at<R: Ranges, G: Ledger>(
     scope: &Scope<'_>,
     e: &Expr,
     number: &mut Counts,
     ranges: &mut R,
     reads: &mut Steps<G>,
 ) -> Result<Value, EvalError>
-    requires built { is_built (tree_of e.now) ≡ true }
     requires part { IsPart (tree_of scope.now.checked.now) number.old (tree_of e.now) }
     requires valued { IsValued (tree_of e.now) }
     requires few { length (tests_in (tree_of scope.now.checked.now)) < 2 ^ 64 }
     requires few_patterns { length (patterns_in (tree_of scope.now.checked.now)) < 2 ^ 64 }
+    requires step { 0 < scope.now.step }
     ensures count { OnOk result (number.new ≡ counts_after number.old (tree_of e.now)) }
     ensures vector { IfOk result IsAnswer }
     ensures answer { (history : List Entry) (func : RangeFn) → MayTake scope.now.head.now scope.now.inside history func (tree_of e.now) scope.now.time number.old.ranges (R.fits ranges.old history) (R.last ranges.old)
@@ -137,109 +57,49 @@ fn eval_at<R: Ranges, G: Ledger>(
             is_number(e, *value);
             Ok(Value::Scalar { value: *value })
         }
-        ExprKind::Select { selector } => {
-            is_select(e, selector);
-            let here = number.selectors;
-            number.selectors = here + 1;
-            shown(scope, selector, here, reads)
-        }
-        ExprKind::Neg { inner } => {
-            let inner: &Expr = inner;
-            is_neg(e, inner);
-            stands_at(scope.checked, inner, *number);
-            match eval_at(scope, inner, number, ranges, reads) {
-                Ok(value) => negated_value(scope.alloc, e.place, &value),
-                Err(error) => Err(error),
-            }
-        }
-        ExprKind::Binary {
-            op,
-            with_bool,
-            matching,
-            left,
-            right,
-        } => {
-            let left: &Expr = left;
-            let right: &Expr = right;
-            is_binary(e, *op, *with_bool, matching, left, right);
-            stands_at(scope.checked, left, *number);
-            match eval_at(scope, left, number, ranges, reads) {
-                Ok(a) => {
-                    stands_at(scope.checked, right, *number);
-                    match eval_at(scope, right, number, ranges, reads) {
-                        Ok(b) => operated(scope.alloc, e.place, *op, *with_bool, matching, a, b),
-                        Err(error) => Err(error),
-                    }
-                }
-                Err(error) => Err(error),
-            }
-        }
         ExprKind::Text { text } => {
             is_text(e, text);
             Ok(Value::Vector {
                 items: Items::empty(scope.alloc),
             })
         }
+        ExprKind::Select { selector } => selected(scope, e, selector, number, reads),
+        ExprKind::Neg { inner } => negation(scope, e, inner, number, ranges, reads),
+        ExprKind::Binary {
+            op,
+            with_bool,
+            matching,
+            left,
+            right,
+        } => operation(
+            scope, e, *op, *with_bool, matching, left, right, number, ranges, reads,
+        ),
+        ExprKind::Call { func, args } => call(scope, e, *func, args, number, ranges, reads),
         ExprKind::Aggregate {
             op,
             grouping,
             param: None,
             inner,
-        } => {
-            let inner: &Expr = inner;
-            is_aggregate(e, *op, grouping, inner);
-            stands_at(scope.checked, inner, *number);
-            match eval_at(scope, inner, number, ranges, reads) {
-                Ok(vector) => aggregated_one(scope.alloc, e.place, *op, grouping, vector),
-                Err(error) => Err(error),
-            }
-        }
+        } => aggregation(scope, e, *op, grouping, inner, number, ranges, reads),
         ExprKind::Aggregate {
             op,
             grouping,
             param: Some(param),
             inner,
+        } => aggregation_by(scope, e, *op, grouping, param, inner, number, ranges, reads),
+        ExprKind::Range { selector, span } => {
+            is_range(e, selector, *span);
+            unreachable!()
+        }
+        ExprKind::Sub {
+            inner,
+            span,
+            step,
+            offset,
         } => {
-            let param: &Expr = param;
-            let inner: &Expr = inner;
-            is_aggregate_by(e, *op, grouping, param, inner);
-            stands_at(scope.checked, param, *number);
-            match eval_at(scope, param, number, ranges, reads) {
-                Ok(a) => {
-                    stands_at(scope.checked, inner, *number);
-                    match eval_at(scope, inner, number, ranges, reads) {
-                        Ok(b) => {
-                            aggregated_two(scope.alloc, e.place, *op, grouping, param, a, b)
-                        }
-                        Err(error) => Err(error),
-                    }
-                }
-                Err(error) => Err(error),
-            }
+            is_sub(e, inner, *span, *step, *offset);
+            unreachable!()
         }
-        ExprKind::Call { func, args } => {
-            let args: &[Expr] = args;
-            is_call(e, *func, args);
-            args_stand_at(scope.checked, args, *number);
-            let mut given = Vec::new(scope.alloc);
-            match operands(scope, args, number, ranges, reads, &mut given) {
-                Ok(()) => {
-                    let (place, time) = (e.place, scope.time);
-                    called_with(
-                        scope.alloc,
-                        scope.checked,
-                        place,
-                        *func,
-                        args,
-                        time,
-                        &given,
-                        number,
-                    )
-                }
-                Err(error) => Err(error),
-            }
-        }
-        ExprKind::Range { .. } | ExprKind::Sub { .. } => unreachable!(),
     }
 }
 
@@ -247,7 +107,7 @@ fn eval_at<R: Ranges, G: Ledger>(
 /// of the text with the place of its node. It is what the expression means over each history that the head stands for, as
 /// long as nothing was forgotten that it looks at, and `ranges` may be asked. A sample is read for each series that a selector
 /// chooses, and for a range selector those of its range that were not passed for it.
-/// The step is that of subqueries which give none. (Prometheus: Querying basics, and Operators; the order of faults is own
+/// The step is that of subqueries which give none; it is not 0. (Prometheus: Querying basics, and Operators; the order of faults is own
 /// choice.)
 ///
 /// # Errors
@@ -261,7 +121,7 @@ pub fn eval<R: Ranges, G: Ledger>(
     ranges: &mut R,
     reads: &mut Steps<G>,
 ) -> Result<Value, EvalError>
-    requires { is_built (tree_of e.now) ≡ true }
+    requires { 0 < step }
     ensures answer { (history : List Entry) → MayBegin head.now history (tree_of e.now) time (R.fits ranges.old history) (R.last ranges.old)
         → AnswersTo (meaning step history (tree_of e.now) time) result }
     ensures vector { IfOk result IsAnswer }

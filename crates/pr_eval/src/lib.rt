@@ -2,13 +2,16 @@
 #![tactic(auto)]
 
 mod aggregate;
-mod by_now;
 mod call;
 mod evaluate;
+mod operators;
 mod parts;
+mod range_call;
+mod scope;
 mod select;
+mod selected;
+mod subquery;
 
-pub use by_now::built;
 pub use evaluate::eval;
 pub use pr_query::{FaultKind, Value};
 pub use pr_values::EvalError;

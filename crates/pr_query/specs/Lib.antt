@@ -9,6 +9,5 @@ pub mod Calls
 pub mod Aggregations
 pub mod Subqueries
 pub mod Meaning
-pub mod Built
 pub mod Cost
 pub mod Examples

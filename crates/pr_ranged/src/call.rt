@@ -14,6 +14,7 @@ pub struct RangeCall {
 }
 
 /// A range selector at a time.
+#[derive(Drop)]
 pub struct RangeAt<'a> {
     /// The place of the range selector.
     pub place: Place,

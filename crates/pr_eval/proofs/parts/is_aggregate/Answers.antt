@@ -1,6 +1,7 @@
-use Rattle.std.proofs.Common.{refl}
+use Rattle.std.proofs.Common.{refl, ◌≡◌, ◌+◌, suc, ap, arith}
 use Rattle.pr_ast.specs.Tree.{more, none, tree_of}
-use Rattle.pr_eval.proofs.Trees.{aggregate_built, aggregate_of, aggregated_valued, counts_no_values, counts_of_one, one_part}
+use Rattle.pr_eval.specs.Sizes.{nodes}
+use Rattle.pr_eval.proofs.Trees.{aggregate_of, aggregated_valued, counts_no_values, counts_of_one, one_part}
 use Rattle.pr_eval.proofs.parts.is_aggregate.Goals as goal
 
 pub returns-clause-one : goal.returns-clause-one
@@ -18,5 +19,7 @@ returns-clause-count c = λ n m. counts_of_one n m (tree_of c.args.e.now) (tree_
 pub returns-clause-op : goal.returns-clause-op
 returns-clause-op c = counts_no_values (tree_of c.args.e.now) c.args.e.now.place c.args.op c.args.by.now (tree_of c.args.inner.now) c.requires
 
-pub returns-clause-built : goal.returns-clause-built
-returns-clause-built c = aggregate_built (tree_of c.args.e.now) c.args.e.now.place c.args.op c.args.by.now (tree_of c.args.inner.now) c.requires
+pub returns-clause-smaller : goal.returns-clause-smaller
+returns-clause-smaller c =
+    let is : nodes (tree_of c.args.e.now) ≡ suc (suc (0 + nodes (tree_of c.args.inner.now))) = ap nodes c.requires in
+    omega (arith, is)

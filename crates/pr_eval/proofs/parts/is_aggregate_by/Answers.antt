@@ -1,6 +1,7 @@
-use Rattle.std.proofs.Common.{refl}
+use Rattle.std.proofs.Common.{refl, ◌≡◌, ◌+◌, suc, ap, arith}
 use Rattle.pr_ast.specs.Tree.{more, none, tree_of}
-use Rattle.pr_eval.proofs.Trees.{aggregate_by_of, aggregated_valued, counted_label, counts_of_two, first_part, inner_built, param_built, second_part}
+use Rattle.pr_eval.specs.Sizes.{nodes}
+use Rattle.pr_eval.proofs.Trees.{aggregate_by_of, aggregated_valued, counted_label, counts_of_two, first_part, second_part}
 use Rattle.pr_eval.proofs.parts.is_aggregate_by.Goals as goal
 
 pub returns-clause-two : goal.returns-clause-two
@@ -24,8 +25,12 @@ returns-clause-count c = λ n m k. counts_of_two n m k (tree_of c.args.e.now) (t
 pub returns-clause-label : goal.returns-clause-label
 returns-clause-label c = counted_label (tree_of c.args.e.now) c.args.e.now.place c.args.op c.args.by.now (more (more none (tree_of c.args.param.now)) (tree_of c.args.inner.now)) c.requires
 
-pub returns-clause-param_built : goal.returns-clause-param_built
-returns-clause-param_built c = param_built (tree_of c.args.e.now) c.args.e.now.place c.args.op c.args.by.now (tree_of c.args.param.now) (tree_of c.args.inner.now) c.requires
+pub returns-clause-param_smaller : goal.returns-clause-param_smaller
+returns-clause-param_smaller c =
+    let is : nodes (tree_of c.args.e.now) ≡ suc (suc (suc (0 + nodes (tree_of c.args.param.now)) + nodes (tree_of c.args.inner.now))) = ap nodes c.requires in
+    omega (arith, is)
 
-pub returns-clause-inner_built : goal.returns-clause-inner_built
-returns-clause-inner_built c = inner_built (tree_of c.args.e.now) c.args.e.now.place c.args.op c.args.by.now (tree_of c.args.param.now) (tree_of c.args.inner.now) c.requires
+pub returns-clause-inner_smaller : goal.returns-clause-inner_smaller
+returns-clause-inner_smaller c =
+    let is : nodes (tree_of c.args.e.now) ≡ suc (suc (suc (0 + nodes (tree_of c.args.param.now)) + nodes (tree_of c.args.inner.now))) = ap nodes c.requires in
+    omega (arith, is)

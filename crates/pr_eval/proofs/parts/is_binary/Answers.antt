@@ -1,5 +1,7 @@
+use Rattle.std.proofs.Common.{◌≡◌, ◌+◌, suc, ap, arith}
 use Rattle.pr_ast.specs.Tree.{tree_of}
-use Rattle.pr_eval.proofs.Trees.{binary_of, counts_of_two, first_part, left_built, left_valued, right_built, right_valued, second_part}
+use Rattle.pr_eval.specs.Sizes.{nodes}
+use Rattle.pr_eval.proofs.Trees.{binary_of, counts_of_two, first_part, left_valued, right_valued, second_part}
 use Rattle.pr_eval.proofs.parts.is_binary.Goals as goal
 
 pub returns-clause-two : goal.returns-clause-two
@@ -26,10 +28,12 @@ pub returns-clause-count : goal.returns-clause-count
 returns-clause-count c =
     λ n m k. counts_of_two n m k (tree_of c.args.e.now) (tree_of c.args.left.now) (tree_of c.args.right.now) (binary_of (tree_of c.args.e.now) c.args.e.now.place c.args.op c.args.with_bool c.args.matching.now (tree_of c.args.left.now) (tree_of c.args.right.now) c.requires)
 
-pub returns-clause-left_built : goal.returns-clause-left_built
-returns-clause-left_built c =
-    left_built (tree_of c.args.e.now) c.args.e.now.place c.args.op c.args.with_bool c.args.matching.now (tree_of c.args.left.now) (tree_of c.args.right.now) c.requires
+pub returns-clause-left_smaller : goal.returns-clause-left_smaller
+returns-clause-left_smaller c =
+    let is : nodes (tree_of c.args.e.now) ≡ suc (nodes (tree_of c.args.left.now) + nodes (tree_of c.args.right.now)) = ap nodes c.requires in
+    omega (arith, is)
 
-pub returns-clause-right_built : goal.returns-clause-right_built
-returns-clause-right_built c =
-    right_built (tree_of c.args.e.now) c.args.e.now.place c.args.op c.args.with_bool c.args.matching.now (tree_of c.args.left.now) (tree_of c.args.right.now) c.requires
+pub returns-clause-right_smaller : goal.returns-clause-right_smaller
+returns-clause-right_smaller c =
+    let is : nodes (tree_of c.args.e.now) ≡ suc (nodes (tree_of c.args.left.now) + nodes (tree_of c.args.right.now)) = ap nodes c.requires in
+    omega (arith, is)

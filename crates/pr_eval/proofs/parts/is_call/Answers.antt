@@ -1,5 +1,7 @@
+use Rattle.std.proofs.Common.{◌≡◌, suc, ap, arith}
 use Rattle.pr_ast.specs.Tree.{tree_of, trees_of}
-use Rattle.pr_eval.proofs.Plainly.{args_built, args_valued, joined_label, own_pattern, plain_call, replaced_label}
+use Rattle.pr_eval.specs.Sizes.{nodes}
+use Rattle.pr_eval.proofs.Plainly.{args_valued, joined_label, own_pattern, replaced_label}
 use Rattle.pr_eval.proofs.Trees.{call_of, counts_of_own, one_part}
 use Rattle.pr_eval.proofs.parts.is_call.Goals as goal
 
@@ -24,8 +26,7 @@ returns-clause-joined c = joined_label (tree_of c.args.e.now) c.args.e.now.place
 pub returns-clause-pattern : goal.returns-clause-pattern
 returns-clause-pattern c = own_pattern (tree_of c.args.e.now) c.args.e.now.place c.args.func c.args.args.now c.requires
 
-pub returns-clause-plain : goal.returns-clause-plain
-returns-clause-plain c = plain_call (tree_of c.args.e.now) c.args.e.now.place c.args.func c.args.args.now c.requires
-
-pub returns-clause-args_built : goal.returns-clause-args_built
-returns-clause-args_built c = args_built (tree_of c.args.e.now) c.args.e.now.place c.args.func c.args.args.now c.requires
+pub returns-clause-smaller : goal.returns-clause-smaller
+returns-clause-smaller c =
+    let is : nodes (tree_of c.args.e.now) ≡ suc (nodes (trees_of c.args.args.now)) = ap nodes c.requires in
+    omega (arith, is)

@@ -1,5 +1,7 @@
+use Rattle.std.proofs.Common.{◌≡◌, suc, ap, arith}
 use Rattle.pr_ast.specs.Tree.{tree_of}
-use Rattle.pr_eval.proofs.Trees.{counts_of_one, neg_built, neg_valued, neg_of, one_part}
+use Rattle.pr_eval.specs.Sizes.{nodes}
+use Rattle.pr_eval.proofs.Trees.{counts_of_one, neg_valued, neg_of, one_part}
 use Rattle.pr_eval.proofs.parts.is_neg.Goals as goal
 
 pub returns-clause-one : goal.returns-clause-one
@@ -14,5 +16,7 @@ returns-clause-valued c = neg_valued (tree_of c.args.e.now) c.args.e.now.place (
 pub returns-clause-count : goal.returns-clause-count
 returns-clause-count c = λ n m. counts_of_one n m (tree_of c.args.e.now) (tree_of c.args.inner.now) _ (neg_of (tree_of c.args.e.now) c.args.e.now.place (tree_of c.args.inner.now) c.requires)
 
-pub returns-clause-built : goal.returns-clause-built
-returns-clause-built c = neg_built (tree_of c.args.e.now) c.args.e.now.place (tree_of c.args.inner.now) c.requires
+pub returns-clause-smaller : goal.returns-clause-smaller
+returns-clause-smaller c =
+    let is : nodes (tree_of c.args.e.now) ≡ suc (nodes (tree_of c.args.inner.now)) = ap nodes c.requires in
+    omega (arith, is)
