@@ -1,37 +1,40 @@
 -- What each step does to the history.
 use Rattle.std.proofs.Common.{◌≡◌, ℕ, Bool, true, false, List, [], ◌∷◌, ◌++◌, Option, Some, None, Result, Ok, Err, refl, sym, ap, ◌∙◌, subst, append_assoc, append-nil}
 use Rattle.std.specs.Prelude.{cond, nat_lt}
-use Rattle.pr_history.specs.Admission.{admit, put_by, IsLawful}
+use Rattle.pr_history.specs.Admission.{admit, put_all, put_by, IsLawful}
 use Rattle.pr_history.specs.declared.append.Append.{Append}
 use Rattle.pr_history.specs.declared.append.Append.TheVariants as append
 use Rattle.pr_history.specs.declared.entry.Entry.{Entry}
-use Rattle.pr_history.proofs.Lawful.{put_lawful}
+use Rattle.pr_history.proofs.Lawful.{put_all_lawful, put_lawful}
 use Rattle.pr_ast.specs.Tree.{Tree}
 use Rattle.pr_parse.specs.Parsed.{Parsed, gives_tree, gives_lex_fault, gives_fault, parsed}
 use Rattle.pr_types.specs.declared.kind.ValueType.{ValueType}
 use Rattle.pr_types.specs.declared.kind.TypeFault.{TypeFault}
 use Rattle.pr_types.specs.Typed.{checked}
-use Rattle.pr_query.specs.Built.{is_built}
 use Rattle.pr_query.specs.Meaning.{meaning}
 use Rattle.pr_world.specs.declared.event.Event.{Event}
-use Rattle.pr_world.specs.declared.event.Event.TheVariants.{Add, Query}
+use Rattle.pr_world.specs.declared.event.Event.TheVariants.{Add, Query, Scrape, Fail, Gone}
 use Rattle.pr_world.specs.Settings.{Settings}
-use Rattle.pr_world.specs.Outcome.{Outcome, refuse, accept}
-use Rattle.pr_world.specs.Query.{if_built, parsed_outcome, told_answer, typed_outcome}
+use Rattle.pr_world.specs.Outcome.{Outcome, refuse, accept, accept_target}
+use Rattle.pr_world.specs.Query.{parsed_outcome, told_answer, typed_outcome}
 use Rattle.pr_world.specs.declared.report.Report.{Report}
 use Rattle.pr_world.specs.declared.report.Report.TheVariants as report
-use Rattle.pr_world.specs.Step.{outcome, outcome_after, outcome_in_time, rows_by, entry_of, step_by, next, time_of, world_after, rows_of}
+use Rattle.pr_world.specs.Step.{is_about_target, outcome, outcome_after, outcome_in_time, rows_by, entry_of, step_by, next, time_of, world_after, rows_of}
+use Rattle.pr_world.specs.Targets.{TargetStep, scrape_step, fail_step, gone_step}
 use Rattle.pr_world.specs.World.{World}
+use Rattle.pr_world.proofs.Targeting.{scrape_puts, fail_puts, gone_puts}
 
 refused_by : (w : World) (time : ℕ) (o : Outcome) → (step_by w time o).refused ≡ true
     → ((step_by w time o).world ≡ w) × ((step_by w time o).rows ≡ [])
 refused_by w time (refuse report) h = (refl, refl)
 refused_by w time (accept report entries) h = absurd (cc)
+refused_by w time (accept_target report entries targets) h = absurd (cc)
 
 accepted_by : (w : World) (time : ℕ) (o : Outcome) → (step_by w time o).refused ≡ false
     → ((step_by w time o).world.last ≡ Some time) × ((step_by w time o).world.history ≡ w.history ++ (step_by w time o).rows)
 accepted_by w time (refuse report) h = absurd (cc)
 accepted_by w time (accept report entries) h = (refl, refl)
+accepted_by w time (accept_target report entries targets) h = (refl, refl)
 
 pub step_refused : (s : Settings) (w : World) (e : Event) → (next s w e).refused ≡ true
     → ((next s w e).world ≡ w) × ((next s w e).rows ≡ [])
@@ -47,6 +50,7 @@ step_accepted s w e h = accepted_by w (time_of e) (outcome s w e) h
 appended_by : (w : World) (time : ℕ) (o : Outcome) → (step_by w time o).world.history ≡ w.history ++ (step_by w time o).rows
 appended_by w time (refuse report) = sym (append-nil w.history)
 appended_by w time (accept report entries) = refl
+appended_by w time (accept_target report entries targets) = refl
 
 appended : (s : Settings) (w : World) (e : Event) → (next s w e).world.history ≡ w.history ++ (next s w e).rows
 unfolding next
@@ -62,6 +66,7 @@ history_is_rows s w (e ∷ events) =
 abbrev MayCome : List Entry → Outcome → Type 0
 MayCome history (refuse report) = IsLawful history
 MayCome history (accept report entries) = IsLawful (history ++ entries)
+MayCome history (accept_target report entries targets) = IsLawful (history ++ entries)
 
 pub put_is : (answer : Append) (history : List Entry) (e : Entry) → put_by answer history e ≡ history ++ rows_by answer e
 put_is append.Added history e = refl
@@ -72,70 +77,97 @@ put_is (append.Conflict kept) history e = sym (append-nil history)
 may_put : (history : List Entry) (e : Entry) → IsLawful history → IsLawful (history ++ rows_by (admit history e.labels e.time e.point) e)
 may_put history e lawful = subst IsLawful (put_is (admit history e.labels e.time e.point) history e) (put_lawful history e lawful)
 
--- a question adds nothing
-added_by : Outcome → List Entry
-added_by (refuse report) = []
-added_by (accept report entries) = entries
+-- a question adds nothing and leaves the targets
+abbrev AddsNothing : Outcome → Type 0
+AddsNothing (refuse report) = Unit {0}
+AddsNothing (accept report entries) = entries ≡ []
+AddsNothing (accept_target report entries targets) = ⊥
 
-nothing_built : (b : Bool) (report : Report) → added_by (if_built b report) ≡ []
-unfolding added_by
-nothing_built true report = refl
-nothing_built false report = refl
+nothing_typed : (s : Settings) (history : List Entry) (time : ℕ) (tree : Tree) (r : Result ValueType TypeFault) → AddsNothing (typed_outcome s history time tree r)
+nothing_typed s history time tree (Ok type) = refl
+nothing_typed s history time tree (Err f) = tt
 
-nothing_typed : (s : Settings) (history : List Entry) (time : ℕ) (tree : Tree) (r : Result ValueType TypeFault) → added_by (typed_outcome s history time tree r) ≡ []
-unfolding added_by
-nothing_typed s history time tree (Ok type) = nothing_built (is_built tree) (told_answer (meaning s.subquery_step history tree time))
-nothing_typed s history time tree (Err f) = refl
-
-nothing_parsed : (s : Settings) (history : List Entry) (time : ℕ) (p : Parsed) → added_by (parsed_outcome s history time p) ≡ []
-unfolding added_by parsed_outcome
+nothing_parsed : (s : Settings) (history : List Entry) (time : ℕ) (p : Parsed) → AddsNothing (parsed_outcome s history time p)
+unfolding parsed_outcome
 nothing_parsed s history time (gives_tree tree) = nothing_typed s history time tree (checked tree)
-nothing_parsed s history time (gives_lex_fault at kind) = refl
-nothing_parsed s history time (gives_fault at kind) = refl
+nothing_parsed s history time (gives_lex_fault at kind) = tt
+nothing_parsed s history time (gives_fault at kind) = tt
 
-rows_added : (w : World) (time : ℕ) (o : Outcome) → (step_by w time o).rows ≡ added_by o
-unfolding added_by
-rows_added w time (refuse report) = refl
-rows_added w time (accept report entries) = refl
+either_way : (P : Outcome → Type 0) (b : Bool) (o p : Outcome) → P o → P p → P (cond b o p)
+either_way P true o p h k = h
+either_way P false o p h k = k
 
-either_adds : (b : Bool) (o p : Outcome) → added_by o ≡ [] → added_by p ≡ [] → added_by (cond b o p) ≡ []
-either_adds true o p a b = a
-either_adds false o p a b = b
+after_last : (P : Outcome → Type 0) → ((report : Report) → P (refuse report)) → (last : Option ℕ) (s : Settings) (w : World) (e : Event)
+    → P (outcome_in_time s w e) → P (outcome_after last s w e)
+after_last P refused None s w e h = h
+after_last P refused (Some last) s w e h =
+    either_way P (nat_lt (time_of e) last) (refuse (report.Backwards last (time_of e))) (outcome_in_time s w e) (refused (report.Backwards last (time_of e))) h
 
-after_adds : (last : Option ℕ) (s : Settings) (w : World) (time : ℕ) (text : List ℕ) → added_by (outcome_after last s w (Query time text)) ≡ []
-unfolding added_by
-after_adds None s w time text = nothing_parsed s w.history time (parsed text)
-after_adds (Some last) s w time text =
-    either_adds (nat_lt time last) (refuse (report.Backwards last time)) (parsed_outcome s w.history time (parsed text)) refl (nothing_parsed s w.history time (parsed text))
+nothing_asked : (s : Settings) (w : World) (time : ℕ) (text : List ℕ) → AddsNothing (outcome s w (Query time text))
+nothing_asked s w time text = after_last AddsNothing (λ report. tt) w.last s w (Query time text) (nothing_parsed s w.history time (parsed text))
+
+no_rows : (w : World) (time : ℕ) (o : Outcome) → AddsNothing o → (step_by w time o).rows ≡ []
+no_rows w time (refuse report) h = refl
+no_rows w time (accept report entries) h = h
+no_rows w time (accept_target report entries targets) h = absurd h
 
 pub question_adds_nothing : (s : Settings) (w : World) (time : ℕ) (text : List ℕ) → (next s w (Query time text)).rows ≡ []
 unfolding next
-question_adds_nothing s w time text = rows_added w time (outcome s w (Query time text)) ∙ after_adds w.last s w time text
+question_adds_nothing s w time text = no_rows w time (outcome s w (Query time text)) (nothing_asked s w time text)
 
-may_come : (history : List Entry) (o : Outcome) → added_by o ≡ [] → IsLawful history → MayCome history o
-unfolding added_by
+-- where an outcome is about no target
+abbrev LeavesTargets : Outcome → Type 0
+LeavesTargets (refuse report) = Unit {0}
+LeavesTargets (accept report entries) = Unit {0}
+LeavesTargets (accept_target report entries targets) = ⊥
+
+leaves : (o : Outcome) → AddsNothing o → LeavesTargets o
+leaves (refuse report) h = tt
+leaves (accept report entries) h = tt
+leaves (accept_target report entries targets) h = h
+
+leaves_by : (w : World) (time : ℕ) (o : Outcome) → LeavesTargets o → (step_by w time o).world.targets ≡ w.targets
+leaves_by w time (refuse report) h = refl
+leaves_by w time (accept report entries) h = refl
+leaves_by w time (accept_target report entries targets) h = absurd h
+
+leaves_in_time : (s : Settings) (w : World) (e : Event) → is_about_target e ≡ false → LeavesTargets (outcome_in_time s w e)
+leaves_in_time s w (Add time labels point) h = tt
+leaves_in_time s w (Query time text) h = leaves (parsed_outcome s w.history time (parsed text)) (nothing_parsed s w.history time (parsed text))
+leaves_in_time s w (Scrape time target body) h = absurd cc
+leaves_in_time s w (Fail time target) h = absurd cc
+leaves_in_time s w (Gone time target) h = absurd cc
+
+pub targets_stay : (s : Settings) (w : World) (e : Event) → is_about_target e ≡ false → (next s w e).world.targets ≡ w.targets
+unfolding next
+targets_stay s w e h = leaves_by w (time_of e) (outcome s w e) (after_last LeavesTargets (λ report. tt) w.last s w e (leaves_in_time s w e h))
+
+may_come : (history : List Entry) (o : Outcome) → AddsNothing o → IsLawful history → MayCome history o
 may_come history (refuse report) h lawful = lawful
 may_come history (accept report entries) h lawful = subst IsLawful (sym (append-nil history) ∙ ap (λ l. history ++ l) (sym h)) lawful
+may_come history (accept_target report entries targets) h lawful = absurd h
+
+may_admit : (history : List Entry) (step : TargetStep) → put_all history step.entries ≡ history ++ step.answer.admitted → IsLawful history
+    → IsLawful (history ++ step.answer.admitted)
+may_admit history step h lawful = subst IsLawful h (put_all_lawful history step.entries lawful)
 
 in_time : (s : Settings) (w : World) (e : Event) → IsLawful w.history → MayCome w.history (outcome_in_time s w e)
 in_time s w (Add time labels point) lawful = may_put w.history (entry_of time labels point) lawful
 in_time s w (Query time text) lawful = may_come w.history (parsed_outcome s w.history time (parsed text)) (nothing_parsed s w.history time (parsed text)) lawful
+in_time s w (Scrape time target body) lawful =
+    may_admit w.history (scrape_step w.targets w.history target time body) (scrape_puts w.targets w.history target time body) lawful
+in_time s w (Fail time target) lawful = may_admit w.history (fail_step w.targets w.history target time) (fail_puts w.targets w.history target time) lawful
+in_time s w (Gone time target) lawful = may_admit w.history (gone_step w.targets w.history target time) (gone_puts w.targets w.history target time) lawful
 
-either : (b : Bool) (history : List Entry) (o p : Outcome) → MayCome history o → MayCome history p → MayCome history (cond b o p)
-either true history o p a b = a
-either false history o p a b = b
-
-after_last : (last : Option ℕ) (s : Settings) (w : World) (e : Event) → IsLawful w.history → MayCome w.history (outcome_after last s w e)
-after_last None s w e lawful = in_time s w e lawful
-after_last (Some last) s w e lawful = either (nat_lt (time_of e) last) w.history _ (outcome_in_time s w e) lawful (in_time s w e lawful)
-
-lawful_by : (w : World) (time : ℕ) (o : Outcome) → MayCome w.history o → IsLawful (step_by w time o).world.history
-lawful_by w time (refuse report) h = h
-lawful_by w time (accept report entries) h = h
+lawful_by : (w : World) (time : ℕ) (o : Outcome) → MayCome w.history o → IsLawful w.history → IsLawful (step_by w time o).world.history
+lawful_by w time (refuse report) h lawful = lawful
+lawful_by w time (accept report entries) h lawful = h
+lawful_by w time (accept_target report entries targets) h lawful = h
 
 step_lawful : (s : Settings) (w : World) (e : Event) → IsLawful w.history → IsLawful (next s w e).world.history
 unfolding next
-step_lawful s w e lawful = lawful_by w (time_of e) (outcome s w e) (after_last w.last s w e lawful)
+step_lawful s w e lawful =
+    lawful_by w (time_of e) (outcome s w e) (after_last (MayCome w.history) (λ report. lawful) w.last s w e (in_time s w e lawful)) lawful
 
 pub stays_lawful : (s : Settings) (w : World) (events : List Event) → IsLawful w.history → IsLawful (world_after s w events).history
 stays_lawful s w [] lawful = lawful

@@ -1,5 +1,5 @@
 -- What becomes of an expression that is asked for.
-use Rattle.std.specs.Prelude.{ℕ, Bool, true, false, List, [], Result, Ok, Err}
+use Rattle.std.specs.Prelude.{ℕ, List, [], Result, Ok, Err}
 use Rattle.pr_history.specs.declared.entry.Entry.{Entry}
 use Rattle.pr_ast.specs.Tree.{Tree}
 use Rattle.pr_parse.specs.Parsed.{Parsed, gives_tree, gives_lex_fault, gives_fault, parsed}
@@ -9,10 +9,9 @@ use Rattle.pr_types.specs.Typed.{checked}
 use Rattle.pr_query.specs.declared.fault.Fault.{Fault}
 use Rattle.pr_query.specs.declared.value.Value.{Value}
 use Rattle.pr_query.specs.declared.value.Value.TheVariants as value
-use Rattle.pr_query.specs.Built.{is_built}
 use Rattle.pr_query.specs.Meaning.{meaning}
 use Rattle.pr_world.specs.declared.report.Report.{Report}
-use Rattle.pr_world.specs.declared.report.Report.TheVariants.{Scalar, Vector, QueryFault, QueryRefused, NotBuilt}
+use Rattle.pr_world.specs.declared.report.Report.TheVariants.{Scalar, Vector, QueryFault, QueryRefused}
 use Rattle.pr_world.specs.declared.report.QueryKind.TheVariants.{Lex, Parse, Typing}
 use Rattle.pr_world.specs.Outcome.{Outcome, refuse, accept}
 use Rattle.pr_world.specs.Settings.{Settings}
@@ -26,14 +25,9 @@ abbrev pub told_answer : Result Value Fault → Report
 told_answer (Ok v) = told_value v
 told_answer (Err f) = QueryFault f.place.start f.kind
 
--- So far some forms of expressions have no answer, and are refused.
-abbrev pub if_built : Bool → Report → Outcome
-if_built true report = accept report []
-if_built false report = refuse NotBuilt
-
 -- An expression with a type is accepted, be its answer a value or a fault, and adds nothing; one without a type is refused.
 abbrev pub typed_outcome : Settings → List Entry → ℕ → Tree → Result ValueType TypeFault → Outcome
-typed_outcome s history time tree (Ok type) = if_built (is_built tree) (told_answer (meaning s.subquery_step history tree time))
+typed_outcome s history time tree (Ok type) = accept (told_answer (meaning s.subquery_step history tree time)) []
 typed_outcome s history time tree (Err f) = refuse (QueryRefused f.at (Typing f.kind))
 
 -- what has no tokens, or no tree, is refused

@@ -1,6 +1,7 @@
 -- Small scrapes to try the definitions on.
-use Rattle.std.specs.Prelude.{ℕ, ℤ, List, [], ◌∷◌, codes, Some, None}
+use Rattle.std.specs.Prelude.{ℕ, ℤ, pos, List, [], ◌∷◌, codes, Some, None}
 use Rattle.pr_num.specs.declared.value.Num.{Num}
+use Rattle.pr_num.specs.declared.value.Num.TheVariants.{Finite}
 use Rattle.pr_labels.specs.declared.pair.Pair.{Pair}
 use Rattle.pr_labels.specs.LabelSet.{metric_label, named, pair_of}
 use Rattle.pr_history.specs.declared.entry.Entry.{Entry}
@@ -55,3 +56,8 @@ third = scraped j 3000 second.tracked (both 3) after_second
 -- after the first, `m 2` alone is scraped
 abbrev pub fewer : Scrape
 fewer = scraped j 2000 first.tracked (sample (named (codes "m")) (number 2) ∷ []) after_first
+
+-- the job g offers `a_bytes`, and `b` with a job of its own
+abbrev pub of_g : Scrape
+of_g = scraped (job (codes "g")) 1000 [] (sample (named (codes "a_bytes")) (number 18446744073709552000)
+    ∷ sample (pair_of metric_label (codes "b") ∷ job (codes "x")) (Finite (pos 20541)) ∷ []) []

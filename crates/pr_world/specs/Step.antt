@@ -7,17 +7,31 @@ use Rattle.pr_history.specs.declared.append.Append.TheVariants as append
 use Rattle.pr_history.specs.Admission.{admit}
 use Rattle.pr_labels.specs.declared.pair.Pair.{Pair}
 use Rattle.pr_world.specs.declared.event.Event.{Event}
-use Rattle.pr_world.specs.declared.event.Event.TheVariants.{Add, Query}
+use Rattle.pr_world.specs.declared.event.Event.TheVariants.{Add, Query, Scrape, Fail, Gone}
 use Rattle.pr_world.specs.declared.report.Report.{Report}
 use Rattle.pr_world.specs.declared.report.Report.TheVariants as report
-use Rattle.pr_world.specs.Outcome.{Outcome, refuse, accept}
+use Rattle.pr_world.specs.declared.scraped.BodyFault.{BodyFault}
+use Rattle.pr_world.specs.declared.scraped.Scraped.{Scraped}
+use Rattle.pr_world.specs.Outcome.{Outcome, refuse, accept, accept_target}
 use Rattle.pr_world.specs.Query.{query_outcome}
 use Rattle.pr_world.specs.Settings.{Settings}
+use Rattle.pr_world.specs.Targets.{Target, TargetStep, scrape_step, fail_step, gone_step}
 use Rattle.pr_world.specs.World.{World}
 
 abbrev pub time_of : Event → ℕ
 time_of (Add time labels point) = time
 time_of (Query time text) = time
+time_of (Scrape time target body) = time
+time_of (Fail time target) = time
+time_of (Gone time target) = time
+
+-- whether it is about a target
+abbrev pub is_about_target : Event → Bool
+is_about_target (Add time labels point) = false
+is_about_target (Query time text) = false
+is_about_target (Scrape time target body) = true
+is_about_target (Fail time target) = true
+is_about_target (Gone time target) = true
 
 -- what is answered to a sample
 abbrev pub report_of : Append → Report
@@ -40,10 +54,31 @@ entry_of time labels point = record { labels = labels; time = time; point = poin
 abbrev pub outcome_by : Append → Entry → Outcome
 outcome_by answer e = accept (report_of answer) (rows_by answer e)
 
+-- what is answered to a scrape: its counts, or what is wrong with the body
+abbrev pub scrape_report : Option BodyFault → Scraped → Report
+scrape_report None s = report.Scraped s.added s.dropped s.stale
+scrape_report (Some f) s = report.BadScrape f.line f.kind s.stale
+
+-- An order about a target is accepted, whatever becomes of it. What of its entries is admitted comes behind the history.
+abbrev pub target_outcome : Report → TargetStep → Outcome
+target_outcome report step = accept_target report step.answer.admitted step.targets
+
+abbrev pub scrape_outcome : TargetStep → Outcome
+scrape_outcome step = target_outcome (scrape_report step.answer.fault step.answer) step
+
+abbrev pub fail_outcome : TargetStep → Outcome
+fail_outcome step = target_outcome (report.Failed step.answer.stale) step
+
+abbrev pub gone_outcome : TargetStep → Outcome
+gone_outcome step = target_outcome (report.Gone step.answer.stale) step
+
 -- an event that is not before the last one
 abbrev pub outcome_in_time : Settings → World → Event → Outcome
 outcome_in_time s w (Add time labels point) = outcome_by (admit w.history labels time point) (entry_of time labels point)
 outcome_in_time s w (Query time text) = query_outcome s w.history time text
+outcome_in_time s w (Scrape time target body) = scrape_outcome (scrape_step w.targets w.history target time body)
+outcome_in_time s w (Fail time target) = fail_outcome (fail_step w.targets w.history target time)
+outcome_in_time s w (Gone time target) = gone_outcome (gone_step w.targets w.history target time)
 
 -- an event before the last one is refused
 abbrev pub outcome_after : Option ℕ → Settings → World → Event → Outcome
@@ -61,16 +96,20 @@ pub record Step : Type 0 where
   pub rows : List Entry
   pub refused : Bool
 
--- A refused event changes nothing. An accepted one becomes the last one, and its entries come behind the history; nothing
--- else sets the last time or adds to the history.
-abbrev pub step_by : World → ℕ → Outcome → Step
-step_by w time (refuse report) = record { world = w; report = report; rows = []; refused = true }
-step_by w time (accept report entries) = record {
-  world = record { history = w.history ++ entries; last = Some time };
+-- An accepted event becomes the last one, and its entries come behind the history; it has these targets after it.
+abbrev pub accepted_step : World → ℕ → Report → List Entry → List Target → Step
+accepted_step w time report entries targets = record {
+  world = record { history = w.history ++ entries; last = Some time; targets = targets };
   report = report;
   rows = entries;
   refused = false;
 }
+
+-- A refused event changes nothing. Nothing else than an accepted one sets the last time, adds to the history or changes the targets.
+abbrev pub step_by : World → ℕ → Outcome → Step
+step_by w time (refuse report) = record { world = w; report = report; rows = []; refused = true }
+step_by w time (accept report entries) = accepted_step w time report entries w.targets
+step_by w time (accept_target report entries targets) = accepted_step w time report entries targets
 
 unfoldable pub next : Settings → World → Event → Step
 next s w e = step_by w (time_of e) (outcome s w e)

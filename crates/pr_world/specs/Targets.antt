@@ -1,5 +1,5 @@
 -- The targets that are known, and what the orders about them come to.
-use Rattle.std.specs.Prelude.{ℕ, Bool, not, cond, List, [], ◌∷◌, filter, find, Option, Some, None}
+use Rattle.std.specs.Prelude.{ℕ, not, cond, List, [], ◌∷◌, filter, unwrap_or, Option, Some, None}
 use Rattle.pr_labels.specs.declared.pair.Pair.{Pair}
 use Rattle.pr_labels.specs.Order.{labels_eq}
 use Rattle.pr_history.specs.declared.entry.Entry.{Entry}
@@ -11,28 +11,23 @@ pub record Target : Type 0 where
   pub labels : List Pair
   pub tracked : List (List Pair)
 
-abbrev pub is_at : List Pair → Target → Bool
-is_at labels t = labels_eq t.labels labels
+-- what is tracked of a target, where it is known
+abbrev pub tracked_at : List Target → List Pair → Option (List (List Pair))
+tracked_at [] labels = None
+tracked_at (t ∷ targets) labels = cond (labels_eq labels t.labels) (Some t.tracked) (tracked_at targets labels)
 
-abbrev pub target_at : List Target → List Pair → Option Target
-target_at targets labels = find (is_at labels) targets
-
--- what is tracked of a target; nothing of an unknown one
-abbrev pub tracked_in : Option Target → List (List Pair)
-tracked_in None = []
-tracked_in (Some t) = t.tracked
-
+-- nothing is tracked of an unknown one
 abbrev pub tracked_of : List Target → List Pair → List (List Pair)
-tracked_of targets labels = tracked_in (target_at targets labels)
+tracked_of targets labels = unwrap_or (tracked_at targets labels) []
 
 abbrev pub without_target : List Target → List Pair → List Target
-without_target targets labels = filter (λ t. not (is_at labels t)) targets
+without_target targets labels = filter (λ t. not (labels_eq labels t.labels)) targets
 
 -- The target with what is tracked of it from now on. It stands where it stood, or, where it was unknown, last.
 abbrev pub with_tracked : List Target → List Pair → List (List Pair) → List Target
 with_tracked [] labels tracked = record { labels = labels; tracked = tracked } ∷ []
 with_tracked (t ∷ ts) labels tracked =
-    cond (is_at labels t) (record { labels = t.labels; tracked = tracked } ∷ ts) (t ∷ with_tracked ts labels tracked)
+    cond (labels_eq labels t.labels) (record { labels = t.labels; tracked = tracked } ∷ ts) (t ∷ with_tracked ts labels tracked)
 
 -- what an order about a target comes to: the targets after it, the entries that are put, in order, and what is answered
 pub record TargetStep : Type 0 where
@@ -57,9 +52,9 @@ forgotten_by targets target s = record { targets = without_target targets target
 abbrev pub nothing : Scraped
 nothing = record { admitted = []; fault = None; added = 0; dropped = 0; stale = 0 }
 
-abbrev pub gone_by : Option Target → List Target → List Entry → List Pair → ℕ → TargetStep
+abbrev pub gone_by : Option (List (List Pair)) → List Target → List Entry → List Pair → ℕ → TargetStep
 gone_by None targets history target now = record { targets = targets; entries = []; answer = nothing }
-gone_by (Some t) targets history target now = forgotten_by targets target (gone_of target now t.tracked history)
+gone_by (Some tracked) targets history target now = forgotten_by targets target (gone_of target now tracked history)
 
 abbrev pub gone_step : List Target → List Entry → List Pair → ℕ → TargetStep
-gone_step targets history target now = gone_by (target_at targets target) targets history target now
+gone_step targets history target now = gone_by (tracked_at targets target) targets history target now

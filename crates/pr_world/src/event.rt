@@ -17,4 +17,20 @@ pub enum Event {
         time: Ms,
         text: Text,
     },
+    /// A target is scraped, and offers the samples of this text. (Prometheus: Exposition formats, Text-based format.)
+    Scrape {
+        time: Ms,
+        target: Labels,
+        body: Text,
+    },
+    /// A target is scraped, and does not answer.
+    Fail {
+        time: Ms,
+        target: Labels,
+    },
+    /// A target is there no more.
+    Gone {
+        time: Ms,
+        target: Labels,
+    },
 }

@@ -19,7 +19,7 @@ ghost use Rattle.pr_world.specs.Outcome.{refuse, accept};
 ghost use Rattle.pr_world.specs.Query.{parsed_outcome};
 ghost use Rattle.pr_world.specs.Step.{next, step_by, world_after, rows_of, outcome};
 ghost use Rattle.pr_world.specs.declared.event.Event.TheVariants.{Add, Query};
-ghost use Rattle.pr_world.specs.declared.report.Report.TheVariants.{Added, Same, Conflict, Scalar, Vector, QueryFault, QueryRefused, NotBuilt, Backwards};
+ghost use Rattle.pr_world.specs.declared.report.Report.TheVariants.{Added, Same, Conflict, Scalar, Vector, QueryFault, QueryRefused, Backwards};
 ghost use Rattle.pr_world.specs.declared.report.QueryKind.TheVariants.{Lex, Parse, Typing};
 
 /// A sample adds its entry where it is admitted, and nothing where it is the same or in conflict.
@@ -39,29 +39,28 @@ pub fn an_expression_is_answered_by_its_meaning()
     ensures gone { parsed_outcome of_a_run one 300000 (gives_tree (metric (codes "m"))) ≡ accept (Vector []) [] }
     ensures scalar { parsed_outcome of_a_run [] 0 (gives_tree (whole_number 1)) ≡ accept (Scalar (number 1)) [] }
     ensures wide { parsed_outcome of_a_run [] 0 (gives_tree (binary (record { start = 3; end = 9 }) op.Mul false None (whole_number (10 ^ 19)) (whole_number (10 ^ 19)))) ≡ accept (QueryFault 3 TooWide) [] }
-    ensures moves { (step_by (start one) 299999 (parsed_outcome of_a_run one 299999 (gives_tree (metric (codes "m"))))).world ≡ record { history = one; last = Some 299999 } }
+    ensures moves { (step_by (start one) 299999 (parsed_outcome of_a_run one 299999 (gives_tree (metric (codes "m"))))).world ≡ record { history = one; last = Some 299999; targets = [] } }
 {}
 
-/// What has no tokens, no tree or no type is refused with its first fault: `m !`, `m +`, `"a"`. So is, so far, what has no answer yet:
-/// `rate(m[5m])`. Then the time does not move.
+/// What has no tokens, no tree or no type is refused with its first fault: `m !`, `m +`, `"a"`. Then the time
+/// does not move.
 #[tactic(auto, unfolding(crate::specs::Query::parsed_outcome, pr_types::specs::Signatures::func_signature))]
 pub fn a_text_that_is_no_expression_is_refused()
     ensures lexical { parsed_outcome of_a_run one 6000 (gives_lex_fault 3 lex.BadChar) ≡ refuse (QueryRefused 3 (Lex lex.BadChar)) }
     ensures parsing { parsed_outcome of_a_run one 6000 (gives_fault 3 parse.End) ≡ refuse (QueryRefused 3 (Parse parse.End)) }
     ensures typing { parsed_outcome of_a_run one 6000 (gives_tree (text (record { start = 1; end = 4 }) (codes "a"))) ≡ refuse (QueryRefused 1 (Typing NotInstant)) }
-    ensures unbuilt { parsed_outcome of_a_run one 6000 (gives_tree (call nowhere func.Rate (more none (range nowhere (chosen (codes "m") [] 0) 300000)))) ≡ refuse NotBuilt }
-    ensures unchanged { (step_by (record { history = one; last = Some 5000 }) 6000 (parsed_outcome of_a_run one 6000 (gives_fault 3 parse.End))).world ≡ record { history = one; last = Some 5000 } }
+    ensures unchanged { (step_by (record { history = one; last = Some 5000; targets = [] }) 6000 (parsed_outcome of_a_run one 6000 (gives_fault 3 parse.End))).world ≡ record { history = one; last = Some 5000; targets = [] } }
 {}
 
 /// An accepted event becomes the last one, also where it adds nothing.
 pub fn a_later_event_moves_the_time()
-    ensures same { (next of_a_run (start one) (Add 0 m (whole 1))).world ≡ record { history = one; last = Some 0 } }
-    ensures added { (next of_a_run (start []) (Add 5 m (whole 1))).world ≡ record { history = entry_at 5 (whole 1) ∷ []; last = Some 5 } }
+    ensures same { (next of_a_run (start one) (Add 0 m (whole 1))).world ≡ record { history = one; last = Some 0; targets = [] } }
+    ensures added { (next of_a_run (start []) (Add 5 m (whole 1))).world ≡ record { history = entry_at 5 (whole 1) ∷ []; last = Some 5; targets = [] } }
 {}
 
 /// An event before the last one is refused, whatever it asks for, and the last one stays the last.
 pub fn an_event_before_the_last_is_refused()
-    ensures refused { outcome of_a_run (record { history = one; last = Some 5000 }) (Query 4000 (codes "m +")) ≡ refuse (Backwards 5000 4000) }
-    ensures unchanged { (next of_a_run (record { history = one; last = Some 5000 }) (Add 4000 [] (whole 1))).world ≡ record { history = one; last = Some 5000 } }
-    ensures equal { outcome of_a_run (record { history = one; last = Some 5000 }) (Add 5000 [] (whole 1)) ≡ accept Added ((record { labels = []; time = 5000; point = whole 1 }) ∷ []) }
+    ensures refused { outcome of_a_run (record { history = one; last = Some 5000; targets = [] }) (Query 4000 (codes "m +")) ≡ refuse (Backwards 5000 4000) }
+    ensures unchanged { (next of_a_run (record { history = one; last = Some 5000; targets = [] }) (Add 4000 [] (whole 1))).world ≡ record { history = one; last = Some 5000; targets = [] } }
+    ensures equal { outcome of_a_run (record { history = one; last = Some 5000; targets = [] }) (Add 5000 [] (whole 1)) ≡ accept Added ((record { labels = []; time = 5000; point = whole 1 }) ∷ []) }
 {}

@@ -8,6 +8,7 @@ mod report;
 mod scrape_examples;
 mod scrape_laws;
 mod scraped;
+mod target_examples;
 
 pub use event::Event;
 pub use examples::{
@@ -20,5 +21,12 @@ pub use scrape_examples::{
     a_bad_body_leaves_nothing, a_label_of_the_target_is_renamed, a_scrape_adds_its_samples,
     a_series_that_is_no_longer_offered_is_marked, a_target_ends, a_time_of_its_own_is_kept,
 };
-pub use scrape_laws::{a_tracked_set_rises, what_is_admitted_comes_behind_the_history};
+pub use scrape_laws::{
+    a_tracked_set_rises, an_order_about_a_target_adds_what_is_admitted,
+    an_order_changes_one_target, what_is_admitted_comes_behind_the_history,
+};
 pub use scraped::{BodyFault, Offer, Scraped};
+pub use target_examples::{
+    a_sample_is_found_under_its_target, a_scrape_answers_by_its_counts,
+    an_end_without_a_target_gives_nothing, nothing_is_tracked_after_a_failure,
+};

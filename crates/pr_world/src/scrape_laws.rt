@@ -1,10 +1,13 @@
-// Laws of scrapes.
-ghost use Rattle.std.specs.Prelude.{◌≡◌, ◌++◌, List, length};
+// Laws of scrapes and targets.
+ghost use Rattle.std.specs.Prelude.{◌≡◌, ℕ, ◌++◌, cond, List, Some, None, length};
 ghost use Rattle.pr_history.specs.declared.entry.Entry.{Entry};
 ghost use Rattle.pr_history.specs.Admission.{put_all};
+ghost use Rattle.pr_labels.specs.declared.pair.Pair.{Pair};
+ghost use Rattle.pr_labels.specs.Order.{labels_eq};
 ghost use Rattle.pr_labels.specs.Rising.{IsRising};
 ghost use Rattle.pr_world.specs.declared.scraped.Offer.{Offer};
 ghost use Rattle.pr_world.specs.Scrapes.{added_count, admitted, tracked_after};
+ghost use Rattle.pr_world.specs.Targets.{Target, fail_step, gone_step, tracked_at, scrape_step, with_tracked, without_target};
 
 /// What is admitted comes behind the history, and nothing else; it is as much as is counted.
 pub fn what_is_admitted_comes_behind_the_history()
@@ -16,4 +19,24 @@ pub fn what_is_admitted_comes_behind_the_history()
 #[tactic(auto, using(crate::proofs::Scraping::tracked_rises))]
 pub fn a_tracked_set_rises()
     ensures { (history : List Entry) (offered : List Offer) → IsRising (tracked_after history offered) }
+{}
+
+/// An order about a target adds what is admitted of the entries that it puts.
+#[tactic(auto, using(crate::proofs::Targeting::scrape_puts, crate::proofs::Targeting::fail_puts, crate::proofs::Targeting::gone_puts))]
+pub fn an_order_about_a_target_adds_what_is_admitted()
+    ensures scrape { (targets : List Target) (history : List Entry) (target : List Pair) (now : ℕ) (body : List ℕ)
+        → put_all history (scrape_step targets history target now body).entries ≡ history ++ (scrape_step targets history target now body).answer.admitted }
+    ensures fail { (targets : List Target) (history : List Entry) (target : List Pair) (now : ℕ)
+        → put_all history (fail_step targets history target now).entries ≡ history ++ (fail_step targets history target now).answer.admitted }
+    ensures gone { (targets : List Target) (history : List Entry) (target : List Pair) (now : ℕ)
+        → put_all history (gone_step targets history target now).entries ≡ history ++ (gone_step targets history target now).answer.admitted }
+{}
+
+/// A scrape sets what is tracked of its target, and the end of a target makes it unknown; what is tracked of the others stays.
+#[tactic(auto, using(crate::proofs::Targeting::tracked_with, crate::proofs::Targeting::tracked_without))]
+pub fn an_order_changes_one_target()
+    ensures known { (targets : List Target) (target : List Pair) (tracked : List (List Pair)) (other : List Pair)
+        → tracked_at (with_tracked targets target tracked) other ≡ cond (labels_eq target other) (Some tracked) (tracked_at targets other) }
+    ensures forgotten { (targets : List Target) (target other : List Pair)
+        → tracked_at (without_target targets target) other ≡ cond (labels_eq target other) None (tracked_at targets other) }
 {}

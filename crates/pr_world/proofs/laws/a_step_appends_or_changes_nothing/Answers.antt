@@ -1,4 +1,4 @@
-use Rattle.pr_world.proofs.Steps.{question_adds_nothing, step_refused, step_accepted}
+use Rattle.pr_world.proofs.Steps.{question_adds_nothing, step_refused, step_accepted, targets_stay}
 use Rattle.pr_world.proofs.laws.a_step_appends_or_changes_nothing.Goals as goal
 
 pub returns-clause-refused : goal.returns-clause-refused
@@ -9,3 +9,6 @@ returns-clause-accepted c = step_accepted
 
 pub returns-clause-asked : goal.returns-clause-asked
 returns-clause-asked c = question_adds_nothing
+
+pub returns-clause-targets : goal.returns-clause-targets
+returns-clause-targets c = targets_stay
