@@ -1,14 +1,10 @@
 -- What `check rules` tells of a file.
-use Rattle.std.specs.Prelude.{ℕ, nat_lt, true, false, List, ◌++◌, cond, codes, decimal, flat_map, length, map, sum, Option, Some, None}
+use Rattle.std.specs.Prelude.{ℕ, nat_lt, true, false, List, ◌++◌, cond, codes, decimal, flat_map, length, Option, Some, None}
 use Rattle.pr_outside.specs.Contents.{file_limit}
 use Rattle.pr_checking.specs.FileChecks.{Told}
 use Rattle.pr_rulefile.specs.File.{RuleReading, gives_file, gives_problems, rule_file_of}
-use Rattle.pr_rulefile.specs.Groups.{Group}
+use Rattle.pr_rulefile.specs.Groups.{rule_count}
 use Rattle.pr_checks.specs.Problems.{problem_line}
-
--- how many rules the groups have
-abbrev pub rule_count : List Group → ℕ
-rule_count groups = sum (map (λ g. length g.rules) groups)
 
 unfoldable pub success : List ℕ
 success = codes "  SUCCESS: "

@@ -1,29 +1,14 @@
 // What `check metrics` tells of an input.
 ghost use Rattle.std.specs.Prelude.{◌≡◌, ◌++◌, ◌<◌, ◌^◌, OnOk, IfOk, length, flat_map};
-ghost use Rattle.pr_checks.specs.Metrics.{bad_line, complaint_line, complaint_lines, expo_word, lint_word, metrics_told, verdict_on};
+ghost use Rattle.pr_checks.specs.Metrics.{bad_line, complaint_line, complaint_lines, lint_word, metrics_told, verdict_on};
 
 use pr_checking::{InputCheck, Verdict};
 use pr_expo::{ExpoError, ExpoKind, LintKind, Problem, lint, read};
-use pr_text::push_number;
+use pr_text::{expo_word, push_number};
 use std::alloc::{AllocError, Global};
 
 /// The check of an exposition. (Prometheus: `promtool check metrics`; the kinds of complaints are an own choice.)
 pub struct Metrics;
-
-#[tactic(auto, unfolding(crate::specs::Metrics::expo_word))]
-fn expo_word(kind: ExpoKind) -> &'static str
-    ensures { result.now ≡ expo_word kind }
-{
-    match kind {
-        ExpoKind::NotText => "NotText",
-        ExpoKind::BadName => "BadName",
-        ExpoKind::BadLabels => "BadLabels",
-        ExpoKind::DuplicateLabel => "DuplicateLabel",
-        ExpoKind::BadValue => "BadValue",
-        ExpoKind::BadTime => "BadTime",
-        ExpoKind::BadType => "BadType",
-    }
-}
 
 #[tactic(auto, unfolding(crate::specs::Metrics::lint_word))]
 fn lint_word(kind: LintKind) -> &'static str

@@ -1,15 +1,14 @@
 // What `check rules` tells of a file.
-ghost use Rattle.std.specs.Prelude.{◌≡◌, ◌<◌, ◌≤◌, ◌^◌, ◌++◌, ℕ, List, Option, Some, OnOk, IfOk, IfSome, map, length, sum, flat_map};
+ghost use Rattle.std.specs.Prelude.{◌≡◌, ◌<◌, ◌≤◌, ◌^◌, ◌++◌, ℕ, List, Option, Some, OnOk, IfOk, length, flat_map};
 ghost use Rattle.pr_outside.specs.Contents.{IsFound, IsWithinLimit, file_limit};
-ghost use Rattle.pr_rulefile.specs.File.{groups_of_file, rule_file_of};
-ghost use Rattle.pr_rulefile.specs.Groups.{Group, group_of_def};
+ghost use Rattle.pr_rulefile.specs.File.{rule_file_of};
 ghost use Rattle.pr_checks.specs.Problems.{problem_line};
-ghost use Rattle.pr_checks.specs.RuleFiles.{checking_text, failed, failed_text, found_told, missing, reading_told, rule_count, rules_found, rules_told, success, success_text, too_large};
+ghost use Rattle.pr_checks.specs.RuleFiles.{checking_text, failed, failed_text, found_told, missing, reading_told, rules_found, rules_told, success, success_text, too_large};
 
 use crate::problems::push_problem;
 use pr_checking::FileCheck;
 use pr_outside::Found;
-use pr_rulefile::{GroupDef, Problem, RuleError, read};
+use pr_rulefile::{Problem, RuleError, check};
 use pr_text::push_number;
 use std::alloc::{AllocError, Global};
 
@@ -56,19 +55,6 @@ fn push_unread(text: &mut Vec<u8>, name: &str, why: &[u8]) -> Result<(), AllocEr
     text.extend_from_slice(why)
 }
 
-// How many rules the groups have, where the number fits.
-fn rule_count(groups: &[GroupDef]) -> Option<u64>
-    ensures { IfSome result (λ n. n ≡ rule_count (map group_of_def groups.now)) }
-{
-    let mut rest = groups;
-    let mut count: u64 = 0;
-    'counting: while let Some((group, after)) = rest.split_first() {
-        count = count.checked_add(group.rules.as_slice().len() as u64)?;
-        rest = after;
-    }
-    Some(count)
-}
-
 #[tactic(auto, unfolding(crate::specs::RuleFiles::success))]
 fn success() -> &'static [u8]
     ensures { result.now ≡ success }
@@ -108,6 +94,7 @@ fn push_problems(text: &mut Vec<u8>, name: &str, problems: &[Problem]) -> Result
 }
 
 // What the bytes of a file are told as; it is refused unless they are a rule file.
+#[tactic(auto, using(crate::proofs::Counted::told_counted))]
 fn push_bytes(
     alloc: Global,
     text: &mut Vec<u8>,
@@ -118,14 +105,11 @@ fn push_bytes(
     ensures text { OnOk result (text.new.items ≡ text.old.items ++ (reading_told name.now (rule_file_of bytes.now)).text) }
     ensures refused { IfOk result (λ b. b ≡ (reading_told name.now (rule_file_of bytes.now)).refused) }
 {
-    match read(alloc, bytes) {
-        Ok(file) => match rule_count(file.groups.as_slice()) {
-            Some(count) => {
-                push_success(text, count)?;
-                Ok(false)
-            }
-            None => Err(AllocError),
-        },
+    match check(alloc, bytes) {
+        Ok(count) => {
+            push_success(text, count)?;
+            Ok(false)
+        }
         Err(RuleError::Problems { list }) => {
             push_problems(text, name, list.as_slice())?;
             Ok(true)

@@ -1,3 +1,5 @@
 pub mod Utf8
 pub mod Computing
 pub mod Samples
+pub mod Blocks
+pub mod Targets

@@ -1,5 +1,7 @@
 -- The printed kinds of faults: the name of the kind, and then what it tells.
 use Rattle.std.specs.Prelude.{ℕ, List, [], ◌++◌, codes, decimal}
+use Rattle.pr_expo_line.specs.declared.place.ExpoKind.{ExpoKind}
+use Rattle.pr_expo_line.specs.declared.place.ExpoKind.TheVariants as expo
 use Rattle.pr_lex.specs.declared.fault.LexKind.{LexKind}
 use Rattle.pr_lex.specs.declared.fault.LexKind.TheVariants as lex
 use Rattle.pr_labels.specs.SeriesText.{series_text}
@@ -48,6 +50,15 @@ type_word typing.BadLabel = codes "BadLabel"
 type_word typing.NotInstant = codes "NotInstant"
 type_word (typing.Reach needed kept) = codes "Reach"
 type_word typing.ZeroStep = codes "ZeroStep"
+
+unfoldable pub expo_word : ExpoKind → List ℕ
+expo_word expo.NotText = codes "NotText"
+expo_word expo.BadName = codes "BadName"
+expo_word expo.BadLabels = codes "BadLabels"
+expo_word expo.DuplicateLabel = codes "DuplicateLabel"
+expo_word expo.BadValue = codes "BadValue"
+expo_word expo.BadTime = codes "BadTime"
+expo_word expo.BadType = codes "BadType"
 
 unfoldable pub fault_word : FaultKind → List ℕ
 fault_word (fault.ManyToMany key) = codes "ManyToMany"

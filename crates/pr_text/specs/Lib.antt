@@ -3,3 +3,4 @@ pub mod Orders
 pub mod Kinds
 pub mod Printed
 pub mod Script
+pub mod Started

@@ -1,7 +1,6 @@
 -- The orders of an input: what its lines ask for, each with the number of its line.
-use Rattle.std.specs.Prelude.{ℕ, ◌+◌, Bool, true, false, cond, ◌==◌, List, [], ◌∷◌, filter_map, Option, Some, None}
-use Prim.Native.Char.{code}
-use Rattle.pr_text.specs.Script.{is_passed_over, event_of}
+use Rattle.std.specs.Prelude.{ℕ, ◌+◌, Bool, true, false, cond, List, [], ◌∷◌, filter_map, Option, Some, None}
+use Rattle.pr_text.specs.Script.{is_passed_over, event_of, takes_body, is_body_line, body_of}
 use Rattle.pr_text.specs.declared.order.Order.{Order}
 use Rattle.pr_text.specs.declared.order.Order.TheVariants as order
 use Rattle.pr_text.specs.declared.order.Numbered.{Numbered}
@@ -12,11 +11,6 @@ pub record Block : Type 0 where
   pub number : ℕ
   pub line : List ℕ
   pub body : List (List ℕ)
-
--- a body line begins with `|`
-abbrev pub is_body_line : List ℕ → Bool
-is_body_line [] = false
-is_body_line (b ∷ bytes) = b == code "|"
 
 -- the body lines at the front of blocks, and the blocks behind them
 abbrev pub body_at : List Block → List (List ℕ)
@@ -37,18 +31,14 @@ abbrev pub blocks_by : (List ℕ → Bool) → ℕ → List (List ℕ) → List 
 blocks_by takes before [] = []
 blocks_by takes before (line ∷ lines) = with_line (takes line) (before + 1) line (blocks_by takes (before + 1) lines)
 
--- So far no order takes a body: what begins with '|' is a line that spells no order.
-abbrev pub takes_body : List ℕ → Bool
-takes_body line = false
-
--- what spells no event is refused
+-- what spells no event is refused; so is a body line that stands alone
 abbrev pub order_by : Option Event → Order
 order_by None = order.Bad
 order_by (Some e) = order.Event e
 
 -- a line that is passed over is no order
 abbrev pub order_of : Block → Option Numbered
-order_of b = cond (is_passed_over b.line) None (Some (record { number = b.number; order = order_by (event_of b.line) }))
+order_of b = cond (is_passed_over b.line) None (Some (record { number = b.number; order = order_by (event_of b.line (body_of b.body)) }))
 
 -- the orders of lines that follow so many others
 unfoldable pub orders_after : ℕ → List (List ℕ) → List Numbered

@@ -6,12 +6,13 @@ use Rattle.pr_num.specs.declared.value.Point.TheVariants.{Value, Stale}
 use Rattle.pr_num.specs.Shown.{shown}
 use Rattle.pr_labels.specs.declared.item.Item.{Item}
 use Rattle.pr_labels.specs.SeriesText.{series_text}
-use Rattle.pr_text.specs.Answers.{dropped_conflict, dropped_out_of_order, backwards_last}
+use Rattle.pr_text.specs.Answers.{dropped_conflict, dropped_out_of_order, backwards_last, scraped_added, bad_scrape_line}
 use Rattle.pr_world.specs.declared.report.Report.{Report}
-use Rattle.pr_world.specs.declared.report.Report.TheVariants.{Opened, Added, Same, OutOfOrder, Conflict, Scalar, Vector, QueryFault, QueryRefused, NotBuilt, Backwards}
+use Rattle.pr_world.specs.declared.report.Report.TheVariants.{Opened, Added, Same, OutOfOrder, Conflict, Scraped, BadScrape, Failed, Gone, Scalar, Vector, QueryFault, QueryRefused, Backwards}
 use Rattle.pr_world.specs.declared.report.QueryKind.{QueryKind}
+use Rattle.pr_expo_line.specs.declared.place.ExpoKind.{ExpoKind}
 use Rattle.pr_query.specs.declared.fault.FaultKind.{FaultKind}
-use Rattle.pr_text.specs.Kinds.{fault_text, kind_text}
+use Rattle.pr_text.specs.Kinds.{expo_word, fault_text, kind_text}
 
 -- a number by its printed text, and a marker by its word
 abbrev pub shown_point : Point → List ℕ
@@ -26,6 +27,22 @@ out_of_order_text last = dropped_out_of_order ++ decimal last ++ codes "\n"
 
 abbrev pub conflict_text : Point → List ℕ
 conflict_text kept = dropped_conflict ++ shown_point kept ++ codes "\n"
+
+-- how many markers were added, at the end of an answer about a target
+abbrev pub stale_text : ℕ → List ℕ
+stale_text stale = codes " stale " ++ decimal stale ++ codes "\n"
+
+abbrev pub scraped_text : ℕ → ℕ → ℕ → List ℕ
+scraped_text added dropped stale = scraped_added ++ decimal added ++ codes " dropped " ++ decimal dropped ++ stale_text stale
+
+abbrev pub bad_scrape_text : ℕ → ExpoKind → ℕ → List ℕ
+bad_scrape_text line kind stale = bad_scrape_line ++ decimal line ++ codes " " ++ expo_word kind ++ stale_text stale
+
+abbrev pub failed_text : ℕ → List ℕ
+failed_text stale = codes "failed" ++ stale_text stale
+
+abbrev pub gone_text : ℕ → List ℕ
+gone_text stale = codes "gone" ++ stale_text stale
 
 -- a line for each element
 abbrev pub item_text : Item Num → List ℕ
@@ -54,17 +71,19 @@ query_refused_text place kind = codes "refused " ++ kind_text kind ++ place_text
 abbrev pub bad_line_text : ℕ → List ℕ
 bad_line_text n = codes "bad line " ++ decimal n ++ codes "\n"
 
--- What is written for a report, which answers the line of this number. A question that has no answer yet is written as a line that
--- spells no order.
-unfoldable pub shown_report : ℕ → Report → List ℕ
-shown_report n (Opened rows) = opened_text rows
-shown_report n Added = codes "added\n"
-shown_report n Same = codes "same\n"
-shown_report n (OutOfOrder last) = out_of_order_text last
-shown_report n (Conflict kept) = conflict_text kept
-shown_report n (Scalar value) = scalar_text value
-shown_report n (Vector items) = vector_text items
-shown_report n (QueryFault place kind) = query_fault_text place kind
-shown_report n (QueryRefused place kind) = query_refused_text place kind
-shown_report n NotBuilt = bad_line_text n
-shown_report n (Backwards last given) = backwards_text last given
+-- what is written for a report
+unfoldable pub shown_report : Report → List ℕ
+shown_report (Opened rows) = opened_text rows
+shown_report Added = codes "added\n"
+shown_report Same = codes "same\n"
+shown_report (OutOfOrder last) = out_of_order_text last
+shown_report (Conflict kept) = conflict_text kept
+shown_report (Scraped added dropped stale) = scraped_text added dropped stale
+shown_report (BadScrape line kind stale) = bad_scrape_text line kind stale
+shown_report (Failed stale) = failed_text stale
+shown_report (Gone stale) = gone_text stale
+shown_report (Scalar value) = scalar_text value
+shown_report (Vector items) = vector_text items
+shown_report (QueryFault place kind) = query_fault_text place kind
+shown_report (QueryRefused place kind) = query_refused_text place kind
+shown_report (Backwards last given) = backwards_text last given

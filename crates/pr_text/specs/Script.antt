@@ -1,6 +1,7 @@
 -- The lines of a script, and the events that they spell.
-use Rattle.std.specs.Prelude.{ℕ, ◌^◌, Bool, false, ◌&&◌, ◌||◌, cond, ◌==◌, List, [], ◌∷◌, length, codes, Option, Some, None, Result, Ok, Err}
+use Rattle.std.specs.Prelude.{ℕ, ◌^◌, Bool, true, false, ◌&&◌, ◌||◌, cond, ◌==◌, List, [], ◌∷◌, ◌++◌, length, flat_map, codes, Option, Some, None, is_some, Result, Ok, Err}
 use Prim.Native.Char.{code}
+use Rattle.std.specs.Option.{option_map}
 use Rattle.std.specs.Str.{bytes_eq, is_utf8}
 use Rattle.pr_num.specs.declared.value.Num.{Num}
 use Rattle.pr_num.specs.declared.value.Point.{Point}
@@ -8,11 +9,13 @@ use Rattle.pr_num.specs.declared.value.Point.TheVariants.{Value, Stale}
 use Rattle.pr_num.specs.declared.text.NumFault.{NumFault}
 use Rattle.pr_num.specs.Reads.{reads}
 use Rattle.pr_labels.specs.declared.pair.Pair.{Pair}
+use Rattle.pr_labels.specs.LabelSet.{metric_label, value_of}
 use Rattle.pr_series.specs.SeriesReading.{series_labels}
 use Rattle.pr_words.specs.Decimals.{plain_decimal}
 use Rattle.pr_words.specs.Fields.{without_trailing, first_field, after_field, last_field, before_last_field}
+use Rattle.pr_text.specs.declared.script.Occasion.{Occasion}
 use Rattle.pr_world.specs.declared.event.Event.{Event}
-use Rattle.pr_world.specs.declared.event.Event.TheVariants.{Add, Query}
+use Rattle.pr_world.specs.declared.event.Event.TheVariants.{Add, Query, Scrape, Fail, Gone}
 
 -- a line that begins so is a comment
 abbrev pub is_comment : List ℕ → Bool
@@ -64,10 +67,66 @@ add_in text = add_of (time_of (first_field text)) (series_of (before_last_field 
 abbrev pub query_in : List ℕ → Option Event
 query_in text = query_of (time_of (first_field text)) (expression_of (after_field text))
 
--- the event that a word and what stands after it spell
-abbrev pub event_by : List ℕ → List ℕ → Option Event
-event_by word text = cond (bytes_eq word (codes "add")) (add_in text) (cond (bytes_eq word (codes "query")) (query_in text) None)
+-- a target: labels, at least one, of which none is a metric's name
+abbrev pub target_by : Option (List Pair) → Option (List Pair)
+target_by None = None
+target_by (Some []) = None
+target_by (Some (p ∷ labels)) = cond (is_some (value_of (p ∷ labels) metric_label)) None (Some (p ∷ labels))
 
--- the event that a line spells; the blanks at its end say nothing
-abbrev pub event_of : List ℕ → Option Event
-event_of line = event_by (first_field (without_trailing line)) (after_field (without_trailing line))
+abbrev pub target_of : List ℕ → Option (List Pair)
+target_of text = target_by (series_of text)
+
+-- when something happens, and to which target
+abbrev pub occasion_by : Option ℕ → Option (List Pair) → Option Occasion
+occasion_by None target = None
+occasion_by (Some time) None = None
+occasion_by (Some time) (Some target) = Some (record { time = time; target = target })
+
+abbrev pub occasion_of : List ℕ → Option Occasion
+occasion_of text = occasion_by (time_of (first_field text)) (target_of (after_field text))
+
+-- a scrape has what its body lines give
+abbrev pub scrape_in : List ℕ → List ℕ → Option Event
+scrape_in body text = option_map (λ a. Scrape a.time a.target body) (occasion_of text)
+
+abbrev pub fail_in : List ℕ → Option Event
+fail_in text = option_map (λ a. Fail a.time a.target) (occasion_of text)
+
+abbrev pub gone_in : List ℕ → Option Event
+gone_in text = option_map (λ a. Gone a.time a.target) (occasion_of text)
+
+-- the event that a word and what stands after it spell, where it takes no body
+abbrev pub whole_event : List ℕ → List ℕ → Option Event
+whole_event word text =
+    cond (bytes_eq word (codes "add")) (add_in text) (cond (bytes_eq word (codes "query")) (query_in text)
+    (cond (bytes_eq word (codes "fail")) (fail_in text) (cond (bytes_eq word (codes "gone")) (gone_in text) None)))
+
+-- a scrape takes a body
+abbrev pub event_by : List ℕ → List ℕ → List ℕ → Option Event
+event_by word text body = cond (bytes_eq word (codes "scrape")) (scrape_in body text) (whole_event word text)
+
+-- the event that a line and a body spell; the blanks at the line's end say nothing
+abbrev pub event_of : List ℕ → List ℕ → Option Event
+event_of line body = event_by (first_field (without_trailing line)) (after_field (without_trailing line)) body
+
+-- Body lines
+
+abbrev pub takes_by : List ℕ → List ℕ → Bool
+takes_by word text = bytes_eq word (codes "scrape") && is_some (occasion_of text)
+
+-- a line that spells a scrape takes a body
+unfoldable pub takes_body : List ℕ → Bool
+takes_body line = takes_by (first_field (without_trailing line)) (after_field (without_trailing line))
+
+-- A body line is `|`, and then a text.
+abbrev pub is_body_line : List ℕ → Bool
+is_body_line [] = false
+is_body_line (b ∷ text) = b == code "|" && is_utf8 text
+
+-- what a body line gives: its text, with the blanks at its end, and a line feed
+abbrev pub body_text : List ℕ → List ℕ
+body_text [] = []
+body_text (b ∷ text) = text ++ codes "\n"
+
+abbrev pub body_of : List (List ℕ) → List ℕ
+body_of lines = flat_map body_text lines

@@ -1,9 +1,10 @@
 // The printed kinds of faults.
 ghost use Rattle.std.specs.Prelude.{◌≡◌, ◌++◌, OnOk, codes};
 ghost use Rattle.pr_labels.specs.SeriesText.{series_text};
-ghost use Rattle.pr_text.specs.Kinds.{lex_word, parse_word, type_word, fault_word, number_text, type_numbers, type_text, fault_rest, fault_text, kind_text};
+ghost use Rattle.pr_text.specs.Kinds.{lex_word, parse_word, type_word, expo_word, fault_word, number_text, type_numbers, type_text, fault_rest, fault_text, kind_text};
 
 use super::printed::push_number;
+use pr_expo_line::ExpoKind;
 use pr_labels::Labels;
 use pr_lex::LexKind;
 use pr_parse::ParseKind;
@@ -64,6 +65,22 @@ fn type_word(kind: TypeKind) -> &'static str
         TypeKind::NotInstant => "NotInstant",
         TypeKind::Reach { .. } => "Reach",
         TypeKind::ZeroStep => "ZeroStep",
+    }
+}
+
+/// The name of what makes a line no line of an exposition.
+#[tactic(auto, unfolding(crate::specs::Kinds::expo_word))]
+pub fn expo_word(kind: ExpoKind) -> &'static str
+    ensures { result.now ≡ expo_word kind }
+{
+    match kind {
+        ExpoKind::NotText => "NotText",
+        ExpoKind::BadName => "BadName",
+        ExpoKind::BadLabels => "BadLabels",
+        ExpoKind::DuplicateLabel => "DuplicateLabel",
+        ExpoKind::BadValue => "BadValue",
+        ExpoKind::BadTime => "BadTime",
+        ExpoKind::BadType => "BadType",
     }
 }
 

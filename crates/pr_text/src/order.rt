@@ -1,9 +1,12 @@
 // Orders: what the lines of a script ask for.
 ghost use Rattle.std.specs.Prelude.{◌≡◌, IfOk};
 ghost use Rattle.pr_text.specs.Orders.{order_by};
-ghost use Rattle.pr_text.specs.Script.{event_of};
+ghost use Rattle.pr_text.specs.Started.{Starts};
 
-use super::script::event_of;
+use super::script::{Occasion, occasion_of, whole_event};
+use pr_labels::Labels;
+use pr_time::Ms;
+use pr_words::{split_first, without_trailing};
 use pr_world::Event;
 use std::alloc::{AllocError, Global};
 
@@ -23,12 +26,36 @@ pub struct Numbered {
     pub order: Order,
 }
 
-/// Reads the order of a line, without its line feed, that is not passed over. Want of memory alone is an error.
-pub fn read_order(alloc: Global, line: &[u8]) -> Result<Order, AllocError>
-    ensures { IfOk result (λ order. order ≡ order_by (event_of line.now)) }
+/// The order of a line, as far as the line alone tells it.
+#[derive(Debug, Drop)]
+pub enum Started {
+    /// The line is the whole order.
+    Whole { order: Order },
+    /// A scrape, whose body is what the body lines behind this line give.
+    Scrape { time: Ms, target: Labels },
+}
+
+fn whole_order(event: Option<Event>) -> Order
+    ensures { result ≡ order_by event }
 {
-    match event_of(alloc, line)? {
-        Some(event) => Ok(Order::Event { event }),
-        None => Ok(Order::Bad),
+    match event {
+        Some(event) => Order::Event { event },
+        None => Order::Bad,
     }
+}
+
+/// Reads the order of a line, without its line feed, that is not passed over. Want of memory alone is an error.
+#[tactic(auto, unfolding(crate::specs::Script::takes_body))]
+pub fn read_order(alloc: Global, line: &[u8]) -> Result<Started, AllocError>
+    ensures { IfOk result (Starts line.now) }
+{
+    let (word, text) = split_first(without_trailing(line));
+    if word == b"scrape".as_slice() {
+        return match occasion_of(alloc, text)? {
+            Some(Occasion { time, target }) => Ok(Started::Scrape { time, target }),
+            None => Ok(Started::Whole { order: Order::Bad }),
+        };
+    }
+    let order = whole_order(whole_event(alloc, word, text)?);
+    Ok(Started::Whole { order })
 }

@@ -2,11 +2,13 @@
 ghost use Rattle.std.specs.Prelude.{◌≡◌, ◌++◌, OnOk, decimal, flat_map};
 ghost use Rattle.pr_num.specs.Shown.{shown};
 ghost use Rattle.pr_labels.specs.SeriesText.{series_text};
-ghost use Rattle.pr_text.specs.Answers.{dropped_conflict, dropped_out_of_order, backwards_last};
-ghost use Rattle.pr_text.specs.Printed.{shown_point, opened_text, out_of_order_text, conflict_text, item_text, vector_text, backwards_text, scalar_text, place_text, query_fault_text, query_refused_text, shown_report, bad_line_text};
+ghost use Rattle.pr_text.specs.Answers.{dropped_conflict, dropped_out_of_order, backwards_last, scraped_added, bad_scrape_line};
+ghost use Rattle.pr_text.specs.Kinds.{expo_word};
+ghost use Rattle.pr_text.specs.Printed.{shown_point, opened_text, out_of_order_text, conflict_text, stale_text, scraped_text, bad_scrape_text, failed_text, gone_text, item_text, vector_text, backwards_text, scalar_text, place_text, query_fault_text, query_refused_text, shown_report, bad_line_text};
 
-use super::kinds::{push_fault_kind, push_query_kind};
+use super::kinds::{expo_word, push_fault_kind, push_query_kind};
 use itoa::Buffer;
+use pr_expo_line::ExpoKind;
 use pr_labels::Item;
 use pr_num::{Num, Point};
 use pr_query::FaultKind;
@@ -33,6 +35,20 @@ fn push_backwards_last(text: &mut Vec<u8>) -> Result<(), AllocError>
     ensures { OnOk result (text.new.items ≡ text.old.items ++ backwards_last) }
 {
     text.extend_from_slice(b"backwards last ")
+}
+
+#[tactic(auto, unfolding(crate::specs::Answers::scraped_added))]
+fn push_scraped_added(text: &mut Vec<u8>) -> Result<(), AllocError>
+    ensures { OnOk result (text.new.items ≡ text.old.items ++ scraped_added) }
+{
+    text.extend_from_slice(b"scraped added ")
+}
+
+#[tactic(auto, unfolding(crate::specs::Answers::bad_scrape_line))]
+fn push_bad_scrape_line(text: &mut Vec<u8>) -> Result<(), AllocError>
+    ensures { OnOk result (text.new.items ≡ text.old.items ++ bad_scrape_line) }
+{
+    text.extend_from_slice(b"bad scrape line ")
 }
 
 /// Appends a number in decimal. Want of memory alone is an error.
@@ -82,6 +98,53 @@ fn push_conflict(text: &mut Vec<u8>, kept: Point) -> Result<(), AllocError>
     push_dropped_conflict(text)?;
     push_point(text, kept)?;
     text.extend_from_slice(b"\n")
+}
+
+fn push_stale(text: &mut Vec<u8>, stale: u64) -> Result<(), AllocError>
+    ensures { OnOk result (text.new.items ≡ text.old.items ++ stale_text stale) }
+{
+    text.extend_from_slice(b" stale ")?;
+    push_number(text, stale)?;
+    text.extend_from_slice(b"\n")
+}
+
+fn push_scraped(text: &mut Vec<u8>, added: u64, dropped: u64, stale: u64) -> Result<(), AllocError>
+    ensures { OnOk result (text.new.items ≡ text.old.items ++ scraped_text added dropped stale) }
+{
+    push_scraped_added(text)?;
+    push_number(text, added)?;
+    text.extend_from_slice(b" dropped ")?;
+    push_number(text, dropped)?;
+    push_stale(text, stale)
+}
+
+fn push_bad_scrape(
+    text: &mut Vec<u8>,
+    line: u32,
+    kind: ExpoKind,
+    stale: u64,
+) -> Result<(), AllocError>
+    ensures { OnOk result (text.new.items ≡ text.old.items ++ bad_scrape_text line kind stale) }
+{
+    push_bad_scrape_line(text)?;
+    push_number(text, u64::from(line))?;
+    text.extend_from_slice(b" ")?;
+    text.extend_from_slice(expo_word(kind).as_bytes())?;
+    push_stale(text, stale)
+}
+
+fn push_failed(text: &mut Vec<u8>, stale: u64) -> Result<(), AllocError>
+    ensures { OnOk result (text.new.items ≡ text.old.items ++ failed_text stale) }
+{
+    text.extend_from_slice(b"failed")?;
+    push_stale(text, stale)
+}
+
+fn push_gone(text: &mut Vec<u8>, stale: u64) -> Result<(), AllocError>
+    ensures { OnOk result (text.new.items ≡ text.old.items ++ gone_text stale) }
+{
+    text.extend_from_slice(b"gone")?;
+    push_stale(text, stale)
 }
 
 fn push_item(text: &mut Vec<u8>, item: &Item<Num>) -> Result<(), AllocError>
@@ -154,10 +217,10 @@ fn push_query_refused(text: &mut Vec<u8>, place: usize, kind: QueryKind) -> Resu
     push_place(text, place)
 }
 
-/// Appends the lines of a report, which answers the line of this number. Want of memory alone is an error.
+/// Appends the lines of a report. Want of memory alone is an error.
 #[tactic(auto, unfolding(crate::specs::Printed::shown_report))]
-pub fn push_report(text: &mut Vec<u8>, number: u64, report: &Report) -> Result<(), AllocError>
-    ensures { OnOk result (text.new.items ≡ text.old.items ++ shown_report number report.now) }
+pub fn push_report(text: &mut Vec<u8>, report: &Report) -> Result<(), AllocError>
+    ensures { OnOk result (text.new.items ≡ text.old.items ++ shown_report report.now) }
 {
     match report {
         Report::Opened { rows } => push_opened(text, *rows),
@@ -165,11 +228,18 @@ pub fn push_report(text: &mut Vec<u8>, number: u64, report: &Report) -> Result<(
         Report::Same => text.extend_from_slice(b"same\n"),
         Report::OutOfOrder { last } => push_out_of_order(text, *last),
         Report::Conflict { kept } => push_conflict(text, *kept),
+        Report::Scraped {
+            added,
+            dropped,
+            stale,
+        } => push_scraped(text, *added, *dropped, *stale),
+        Report::BadScrape { line, kind, stale } => push_bad_scrape(text, *line, *kind, *stale),
+        Report::Failed { stale } => push_failed(text, *stale),
+        Report::Gone { stale } => push_gone(text, *stale),
         Report::Scalar { value } => push_scalar(text, *value),
         Report::Vector { items } => push_vector(text, items.as_slice()),
         Report::QueryFault { place, kind } => push_query_fault(text, *place, kind),
         Report::QueryRefused { place, kind } => push_query_refused(text, *place, *kind),
-        Report::NotBuilt => push_bad_line(text, number),
         Report::Backwards { last, given } => push_backwards(text, *last, *given),
     }
 }

@@ -1,8 +1,8 @@
 // The lines of a script, and the events that they spell.
-ghost use Rattle.std.specs.Prelude.{◌≡◌, IfOk};
+ghost use Rattle.std.specs.Prelude.{◌≡◌, ◌++◌, IfOk, MatchOption, codes, string_bytes, true, false};
 ghost use Rattle.std.specs.Str.{bytes_eq, is_utf8};
 ghost use Rattle.pr_series.specs.SeriesReading.{series_labels};
-ghost use Rattle.pr_text.specs.Script.{is_comment, is_passed_over, time_of, point_of, series_of, expression_of, add_of, query_of, add_in, query_in, event_by, event_of};
+ghost use Rattle.pr_text.specs.Script.{is_comment, is_passed_over, time_of, point_of, series_of, expression_of, add_of, query_of, add_in, query_in, target_by, target_of, occasion_of, fail_in, gone_in, whole_event, is_body_line, body_text};
 
 use pr_labels::Labels;
 use pr_num::Point;
@@ -123,22 +123,113 @@ fn query_in(alloc: Global, text: &[u8]) -> Result<Option<Event>, AllocError>
     }
 }
 
-fn event_by(alloc: Global, word: &[u8], text: &[u8]) -> Result<Option<Event>, AllocError>
-    ensures { IfOk result (λ o. o ≡ event_by word.now text.now) }
+// The labels of a target: at least one, and none of them a metric's name.
+fn target_by(labels: Option<Labels>) -> Option<Labels>
+    ensures { result ≡ target_by labels }
+{
+    let labels = labels?;
+    if labels.pairs().is_empty() || labels.get("__name__").is_some() {
+        return None;
+    }
+    Some(labels)
+}
+
+fn target_of(alloc: Global, text: &[u8]) -> Result<Option<Labels>, AllocError>
+    ensures { IfOk result (λ o. o ≡ target_of text.now) }
+{
+    Ok(target_by(series_of(alloc, text)?))
+}
+
+// When something happens, and to which target.
+pub(crate) struct Occasion {
+    pub(crate) time: Ms,
+    pub(crate) target: Labels,
+}
+
+pub(crate) fn occasion_of(alloc: Global, text: &[u8]) -> Result<Option<Occasion>, AllocError>
+    ensures { IfOk result (λ o. o ≡ occasion_of text.now) }
+{
+    let (time, target) = split_first(text);
+    let Some(time) = time_of(time) else {
+        return Ok(None);
+    };
+    match target_of(alloc, target)? {
+        Some(target) => Ok(Some(Occasion { time, target })),
+        None => Ok(None),
+    }
+}
+
+fn fail_in(alloc: Global, text: &[u8]) -> Result<Option<Event>, AllocError>
+    ensures { IfOk result (λ o. o ≡ fail_in text.now) }
+{
+    match occasion_of(alloc, text)? {
+        Some(Occasion { time, target }) => Ok(Some(Event::Fail { time, target })),
+        None => Ok(None),
+    }
+}
+
+fn gone_in(alloc: Global, text: &[u8]) -> Result<Option<Event>, AllocError>
+    ensures { IfOk result (λ o. o ≡ gone_in text.now) }
+{
+    match occasion_of(alloc, text)? {
+        Some(Occasion { time, target }) => Ok(Some(Event::Gone { time, target })),
+        None => Ok(None),
+    }
+}
+
+/// The event that a word and what stands after it spell, where it is none that takes a body.
+pub(crate) fn whole_event(
+    alloc: Global,
+    word: &[u8],
+    text: &[u8],
+) -> Result<Option<Event>, AllocError>
+    ensures { IfOk result (λ o. o ≡ whole_event word.now text.now) }
 {
     if word == b"add".as_slice() {
         add_in(alloc, text)
     } else if word == b"query".as_slice() {
         query_in(alloc, text)
+    } else if word == b"fail".as_slice() {
+        fail_in(alloc, text)
+    } else if word == b"gone".as_slice() {
+        gone_in(alloc, text)
     } else {
         Ok(None)
     }
 }
 
-/// The event that a line spells, if it spells one.
-pub(crate) fn event_of(alloc: Global, line: &[u8]) -> Result<Option<Event>, AllocError>
-    ensures { IfOk result (λ o. o ≡ event_of line.now) }
+#[tactic(auto, using(crate::proofs::Utf8::not_text, crate::proofs::Utf8::is_text))]
+fn text_of(bytes: &[u8]) -> Option<&str>
+    ensures { MatchOption result (is_utf8 bytes.now ≡ false) (λ text. (is_utf8 bytes.now ≡ true) × (text.now ≡ bytes.now)) }
 {
-    let (word, rest) = split_first(without_trailing(line));
-    event_by(alloc, word, rest)
+    match str::from_utf8(bytes) {
+        Ok(text) => Some(text),
+        Err(_) => None,
+    }
+}
+
+// The text of a body line, which stands behind its bar.
+fn body_line(line: &[u8]) -> Option<&str>
+    ensures { MatchOption result (is_body_line line.now ≡ false) (λ text. (is_body_line line.now ≡ true) × (text.now ++ codes "\n" ≡ body_text line.now)) }
+{
+    match line {
+        [b'|', text @ ..] => text_of(text),
+        _ => None,
+    }
+}
+
+/// Appends what a line gives to a body, and says whether it is a body line. Want of memory alone is an error.
+pub fn push_body_line(body: &mut String, line: &[u8]) -> Result<bool, AllocError>
+    ensures test { IfOk result (λ is. is ≡ is_body_line line.now) }
+    ensures text { IfOk result (λ is. is ≡ true → string_bytes body.new ≡ string_bytes body.old ++ body_text line.now) }
+    ensures other { IfOk result (λ is. is ≡ false → string_bytes body.new ≡ string_bytes body.old) }
+{
+    match body_line(line) {
+        Some(text) => {
+            body.push_str(text)?;
+            body.push_str("\n")?;
+            Ok(true)
+        }
+        None => Ok(false),
+    }
 }

@@ -1,20 +1,16 @@
--- What the reader hands out, step by step.
-use Rattle.std.proofs.Common.{◌≡◌, ◌≢◌, ℕ, ◌+◌, ◌≤◌, ◌^◌, Bool, true, false, not, ◌==◌, List, [], ◌∷◌, ◌++◌, None, Some, Result, Ok, Err, IsErrAnd, suc, refl, sym, ap, ◌∙◌, subst, append_assoc, append-nil, length, length-append, arith}
+-- What the reader of lines hands out, step by step.
+use Rattle.std.proofs.Common.{◌≡◌, ◌≢◌, ℕ, ◌+◌, ◌≤◌, ◌^◌, Bool, true, false, true≢false, not, ◌==◌, List, [], ◌∷◌, ◌++◌, None, Some, Result, Ok, Err, IsErrAnd, zero, suc, ◌<◌, take, drop, take-append-drop, refl, sym, ap, ◌∙◌, subst, append_assoc, append-nil, length, length-append, codes, arith}
+use Rattle.std.proofs.lemmas.List.{drop-drop}
 use Rattle.std.specs.declared.option.Option.{Option}
 use Rattle.std.specs.List.{list_all}
 use Rattle.std.specs.Io.KnownBytes.{Consumes, Keeps, IsAtEnd}
-use Rattle.pr_words.specs.Lines.{lines_of}
-use Rattle.pr_text.specs.declared.order.Order.{Order}
-use Rattle.pr_text.specs.Orders.{orders_after, order_by}
-use Rattle.pr_text.specs.Script.{is_passed_over, event_of}
-use Rattle.pr_top.specs.Taken.{is_no_feed}
-use Rattle.pr_top.specs.Reading.{ahead, TakesPart, HandsLine, HandsOrder, PassesOver, TakesLines, Counts, IsCutLine, IsCutAt, IsBeyond}
+use Rattle.pr_top.specs.Taken.{is_no_feed, are_whole_lines}
+use Rattle.pr_top.specs.LineReading.{ahead, without_feed, TakesPart, IsLine, IsNext, HandsLine, Counts, IsCutLine, IsBeyond}
 use Rattle.pr_status.specs.Stops.{AtInput}
 use Rattle.pr_status.specs.declared.status.Stop.{Stop}
 use Rattle.pr_status.specs.declared.status.Stop.TheVariants.{Read, Write, Memory, TooLong}
-use Rattle.pr_top.proofs.Feeds.{lines_of-feed, lines_of-last, unended-append}
-use Rattle.pr_top.proofs.Orders.{numbered, orders_none, orders_pass, orders_take}
-use Rattle.pr_top.proofs.Whole.{whole_fed, whole_append, prompt_line, prompt_on}
+use Rattle.pr_top.proofs.Feeds.{unended-append, some_left, without_feed-fed, unended_line}
+use Rattle.pr_top.proofs.Whole.{whole_fed}
 
 -- what holds where the input stopped a run, handed on
 pub at_exit : {T : Type 0} (P Q : Type 0) (r : Result T Stop) (e : Stop) → IsErrAnd r (λ y. y ≡ e) → AtInput {T = T} (Err e) P → (P → Q) → AtInput r Q
@@ -68,32 +64,53 @@ fed_bytes bytes left h0 h1 line0 line1 p t =
     p ∙ ap (λ (h : List ℕ). line0 ++ (h ++ left)) (t.feed refl) ∙ ap (λ (l : List ℕ). line0 ++ l) (append_assoc t.part (10 ∷ h1) left)
     ∙ sym (append_assoc line0 t.part (10 ∷ (h1 ++ left))) ∙ ap (λ (l : List ℕ). l ++ 10 ∷ (h1 ++ left)) (sym t.joined)
 
-pub line_fed : (a left : Option (List ℕ)) (h0 h1 line0 line1 : List ℕ) → Consumes a (ahead h0 left) line0 → list_all is_no_feed line0 ≡ true
-    → TakesPart true h0 h1 line0 line1 → HandsLine a (ahead h1 left) true line1
-line_fed None left h0 h1 line0 line1 p u t = tt
-line_fed (Some bytes) None h0 h1 line0 line1 p u t = absurd p
-line_fed (Some bytes) (Some left) h0 h1 line0 line1 p u t =
-    ap lines_of (fed_bytes bytes left h0 h1 line0 line1 p t) ∙ lines_of-feed line1 (h1 ++ left) (unended_part true h0 h1 line0 line1 u t)
+fed_some : (xs : List ℕ) → xs ++ 10 ∷ [] ≢ []
+fed_some [] e = absurd (cc)
+fed_some (x ∷ xs) e = absurd (cc)
+
+fed_line : (line rest : List ℕ) → list_all is_no_feed line ≡ true → IsLine (line ++ 10 ∷ []) rest
+fed_line line rest u = record {
+  some = fed_some line;
+  text = ap (list_all is_no_feed) (without_feed-fed line) ∙ u;
+  whole = λ left. whole_fed line;
+}
+
+pub line_fed : (a left : Option (List ℕ)) (h0 h1 line0 line1 line2 : List ℕ) → Consumes a (ahead h0 left) line0 → list_all is_no_feed line0 ≡ true
+    → TakesPart true h0 h1 line0 line1 → line2 ≡ line1 ++ 10 ∷ [] → HandsLine a (ahead h1 left) true line2
+line_fed a left h0 h1 line0 line1 line2 p u t is =
+    subst (λ (l : List ℕ). HandsLine a (ahead h1 left) true l) (sym is) (taken a left p, next left)
+  where
+    taken : (a left : Option (List ℕ)) → Consumes a (ahead h0 left) line0 → Consumes a (ahead h1 left) (line1 ++ 10 ∷ [])
+    taken None left p = tt
+    taken (Some bytes) None p = absurd p
+    taken (Some bytes) (Some left) p = fed_bytes bytes left h0 h1 line0 line1 p t ∙ sym (append_assoc line1 (10 ∷ []) (h1 ++ left))
+
+    next : (left : Option (List ℕ)) → IsNext (line1 ++ 10 ∷ []) (ahead h1 left)
+    next None = tt
+    next (Some left) = fed_line line1 (h1 ++ left) (unended_part true h0 h1 line0 line1 u t)
 
 -- the end of the input came
 some_bytes : (n : ℕ) → not (suc n == 0) ≡ true
 some_bytes n = grind arith
 
-last : (line : List ℕ) (more : Bool) → more ≡ not (length line == 0) → list_all is_no_feed line ≡ true → HandsLine (Some line) (Some []) more line
-last [] more is u = subst (λ (m : Bool). HandsLine (Some []) (Some []) m []) (sym is) (refl, refl)
-last (b ∷ bytes) more is u =
-    let some : more ≡ true = is ∙ some_bytes (length bytes) in
-    subst (λ (m : Bool). HandsLine (Some (b ∷ bytes)) (Some []) m (b ∷ bytes)) (sym some) (lines_of-last b bytes u)
+last : (a rest : Option (List ℕ)) (line : List ℕ) (more : Bool) → more ≡ not (length line == 0) → Consumes a rest line → IsAtEnd rest
+    → list_all is_no_feed line ≡ true → HandsLine a rest more line
+last a rest [] true is p end u = absurd (true≢false is)
+last a rest [] false is p end u = (p, end, refl)
+last a rest (b ∷ line) true is p end u = (p, next rest end)
+  where
+    next : (rest : Option (List ℕ)) → IsAtEnd rest → IsNext (b ∷ line) rest
+    next None end = tt
+    next (Some rest) end = unended_line (b ∷ line) rest (some_left b line) u end
+last a rest (b ∷ line) false is p end u = absurd (true≢false (sym (is ∙ some_bytes (length line))))
+
+at_end : (h : List ℕ) (left : Option (List ℕ)) → h ≡ [] → IsAtEnd left → IsAtEnd (ahead h left)
+at_end h None none end = tt
+at_end h (Some left) none end = ap (λ (l : List ℕ). l ++ left) none ∙ end
 
 pub line_ended : (a left : Option (List ℕ)) (h line : List ℕ) (more : Bool) → Consumes a (ahead h left) line → h ≡ [] → IsAtEnd left
     → list_all is_no_feed line ≡ true → more ≡ not (length line == 0) → HandsLine a (ahead h left) more line
-line_ended None left h line more p none end u is = tt
-line_ended (Some bytes) None h line more p none end u is = absurd p
-line_ended (Some bytes) (Some left) h line more p none end u is =
-    let rest : h ++ left ≡ [] = ap (λ (l : List ℕ). l ++ left) none ∙ end in
-    let all : bytes ≡ line = p ∙ ap (λ (l : List ℕ). line ++ l) rest ∙ append-nil line in
-    subst (λ (l : List ℕ). HandsLine (Some bytes) (Some l) more line) (sym rest)
-    (subst (λ (l : List ℕ). HandsLine (Some l) (Some []) more line) (sym all) (last line more is u))
+line_ended a left h line more p none end u is = last a (ahead h left) line more is p (at_end h left none end) u
 
 -- the input stopped the reader within the line
 pub line_cut : (a left0 left1 : Option (List ℕ)) (h line : List ℕ) → Consumes a (ahead h left0) line → h ≡ [] → Keeps left0 left1
@@ -129,73 +146,3 @@ pub beyond_on : (a b : Option (List ℕ)) (m n : ℕ) → Counts a b m n → IsB
 beyond_on None b m n c le = tt
 beyond_on (Some x) None m n c le = absurd c
 beyond_on (Some x) (Some y) m n c le = omega (arith, c, le)
-
--- lines that ask for nothing
-pub passed_none : (a : Option (List ℕ)) (n : ℕ) → PassesOver a a n n
-passed_none None n = tt
-passed_none (Some bytes) n = refl
-
-pub passed_line : (a b c : Option (List ℕ)) (m n : ℕ) (line : List ℕ) → PassesOver a b m n → HandsLine b c true line → is_passed_over line ≡ true
-    → PassesOver a c m (n + 1)
-passed_line None b c m n line p h over = tt
-passed_line (Some x) None c m n line p h over = absurd p
-passed_line (Some x) (Some y) None m n line p h over = absurd h
-passed_line (Some x) (Some y) (Some z) m n line p h over = p ∙ ap (orders_after n) h ∙ orders_pass n line (lines_of z) over
-
-order_handed : (a b c : Option (List ℕ)) (m n : ℕ) (line : List ℕ) → PassesOver a b m n → HandsLine b c true line → is_passed_over line ≡ false
-    → HandsOrder a c m (n + 1) (Some (numbered (n + 1) line))
-order_handed None b c m n line p h over = tt
-order_handed (Some x) None c m n line p h over = absurd p
-order_handed (Some x) (Some y) None m n line p h over = absurd h
-order_handed (Some x) (Some y) (Some z) m n line p h over = p ∙ ap (orders_after n) h ∙ orders_take n line (lines_of z) over
-
-pub order_given : (a b c : Option (List ℕ)) (m n lines : ℕ) (line : List ℕ) (o : Order) → PassesOver a b m n → HandsLine b c true line
-    → is_passed_over line ≡ false → lines ≡ n → o ≡ order_by (event_of line) → HandsOrder a c m (lines + 1) (Some (record { number = lines + 1; order = o }))
-order_given a b c m n lines line o p h over is order_is =
-    subst (λ (k : ℕ). HandsOrder a c m (k + 1) (Some (record { number = k + 1; order = o }))) (sym is)
-    (subst (λ (q : Order). HandsOrder a c m (n + 1) (Some (record { number = n + 1; order = q }))) (sym order_is) (order_handed a b c m n line p h over))
-
-pub none_handed : (a b c : Option (List ℕ)) (m n lines : ℕ) (line : List ℕ) → PassesOver a b m n → HandsLine b c false line → HandsOrder a c m lines None
-none_handed None b c m n lines line p h = tt
-none_handed (Some x) None c m n lines line p h = absurd p
-none_handed (Some x) (Some y) None m n lines line p h = absurd h
-none_handed (Some x) (Some y) (Some z) m n lines line p h = (p ∙ ap (orders_after n) h.0 ∙ orders_none n, h.1)
-
-pub order_cut : (a b left : Option (List ℕ)) (m n : ℕ) → TakesLines a b → PassesOver a b m n → IsCutLine b left → IsCutAt a left m
-order_cut None b left m n t p c = tt
-order_cut (Some x) None left m n t p c = absurd p
-order_cut (Some x) (Some y) None m n t p c = absurd c
-order_cut (Some x) (Some y) (Some left) m n t p c =
-    prompt_on m n x t.0 y left 0 0 t.1 t.2 (omega (arith, ap length p)) (prompt_line n y c.0 left c.1 c.2)
-
--- the lines that were taken
-pub takes_none : (a : Option (List ℕ)) → TakesLines a a
-takes_none None = tt
-takes_none (Some bytes) = ([], refl, λ some. refl)
-
-more_left : (xs ys : List ℕ) → ys ≢ [] → xs ++ ys ≢ []
-more_left [] ys some e = some e
-more_left (x ∷ xs) ys some e = absurd (cc)
-
-pub takes_on : (a b c : Option (List ℕ)) → TakesLines a b → TakesLines b c → TakesLines a c
-takes_on None b c p q = tt
-takes_on (Some x) None c p q = absurd p
-takes_on (Some x) (Some y) None p q = absurd q
-takes_on (Some x) (Some y) (Some z) p q = (
-  p.0 ++ q.0,
-  p.1 ∙ ap (λ (l : List ℕ). p.0 ++ l) q.1 ∙ sym (append_assoc p.0 q.0 z),
-  λ some. whole_append p.0 q.0 (p.2 (subst (λ (l : List ℕ). l ≢ []) (sym q.1) (more_left q.0 z some))) (q.2 some),
-)
-
-pub takes_fed : (a left : Option (List ℕ)) (h0 h1 line0 line1 : List ℕ) → Consumes a (ahead h0 left) line0
-    → TakesPart true h0 h1 line0 line1 → TakesLines a (ahead h1 left)
-takes_fed None left h0 h1 line0 line1 p t = tt
-takes_fed (Some bytes) None h0 h1 line0 line1 p t = absurd p
-takes_fed (Some bytes) (Some left) h0 h1 line0 line1 p t =
-    (line1 ++ 10 ∷ [], fed_bytes bytes left h0 h1 line0 line1 p t ∙ sym (append_assoc line1 (10 ∷ []) (h1 ++ left)), λ some. whole_fed line1)
-
-pub takes_last : (a left : Option (List ℕ)) (h line : List ℕ) → Consumes a (ahead h left) line → h ≡ [] → IsAtEnd left → TakesLines a (ahead h left)
-takes_last None left h line p none end = tt
-takes_last (Some bytes) None h line p none end = absurd p
-takes_last (Some bytes) (Some left) h line p none end =
-    (line, p, λ some. absurd (some (ap (λ (l : List ℕ). l ++ left) none ∙ end)))

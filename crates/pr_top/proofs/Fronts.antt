@@ -9,7 +9,8 @@ use Rattle.pr_history.specs.declared.entry.Entry.{Entry}
 use Rattle.pr_text.specs.declared.order.Numbered.{Numbered}
 use Rattle.pr_text.specs.Orders.{orders_of, orders_after}
 use Rattle.pr_top.specs.Front.{IsFront}
-use Rattle.pr_top.specs.Reading.{ahead, HandsOrder, TakesLines, IsCutAt, Counts}
+use Rattle.pr_top.specs.LineReading.{ahead, Counts}
+use Rattle.pr_top.specs.Reading.{HandsOrder, Takes, TakesOrders, IsCutAt}
 use Rattle.pr_status.specs.Status.{IsShort}
 use Rattle.pr_top.specs.Standing.{Progress, Splits, Stands, begun}
 use Rattle.pr_status.specs.Stops.{AtInput, StopsWriting, stopped_at_input}
@@ -18,14 +19,15 @@ use Rattle.pr_top.specs.Told.{Answer, answers, told_of, turn, any_refused, Conte
 use Rattle.pr_status.specs.declared.status.Stop.{Stop}
 use Rattle.pr_status.specs.declared.status.Stop.TheVariants.{Read, Write, Memory, TooLong}
 use Rattle.pr_status.proofs.Streams.{appends_on}
+use Rattle.pr_text.proofs.Blocks.{orders_none}
 use Rattle.pr_top.proofs.Whole.{prompt_all, prompt_on}
-use Rattle.pr_top.proofs.Ahead.{takes_none, takes_on}
+use Rattle.pr_top.proofs.Orders.{takes_none, takes_on, follow}
 use Rattle.pr_top.proofs.Turns.{told_more, refused_more, answer_count}
 use Rattle.pr_world.specs.World.{World, start}
 
 -- no order was answered yet
 pub stands_start : (rows : List Entry) (left old new : Option (List ℕ)) → Appends old new (told_of rows []) → Stands rows left left old new 0 (begun rows)
-stands_start rows left old new p = record { done = []; split = start_of left; taken = takes_none left; told = p; refused = refl }
+stands_start rows left old new p = record { done = []; orders = []; each = refl; split = start_of left; taken = takes_none left 0; told = p; refused = refl }
   where
     start_of : (a : Option (List ℕ)) → Splits rows a a [] (start rows) 0
     start_of None = tt
@@ -38,18 +40,20 @@ split_more rows None b c done w m n o s h = tt
 split_more rows (Some x) None c done w m n o s h = absurd s
 split_more rows (Some x) (Some y) None done w m n o s h = absurd h
 split_more rows (Some x) (Some y) (Some z) done w m n o s h =
-    s ∙ ap (λ (os : List Numbered). done ++ answers w os) h
+    s ∙ ap (λ (os : List Numbered). done ++ answers w os) (follow y z m n (o ∷ []) h)
     ∙ sym (append_assoc done ((turn w o).answer ∷ []) (answers (turn w o).world (orders_after n (lines_of z))))
 
 -- one more order was answered whole
 pub stands_more : (rows : List Entry) (a b c old mid new : Option (List ℕ)) (m n : ℕ) (p q : Progress) (o : Numbered)
-    → Stands rows a b old mid m p → HandsOrder b c m n (Some o) → TakesLines b c → Appends mid new (turn p.world o).answer.text
+    → Stands rows a b old mid m p → HandsOrder b c m n (Some o) → Appends mid new (turn p.world o).answer.text
     → q.world ≡ (turn p.world o).world → q.refused ≡ (p.refused || (turn p.world o).answer.refused) → Stands rows a c old new n q
-stands_more rows a b c old mid new m n p q o s h lines t world refused = record {
+stands_more rows a b c old mid new m n p q o s h t world refused = record {
   done = s.done ++ (turn p.world o).answer ∷ [];
+  orders = s.orders ++ o ∷ [];
+  each = omega (arith, s.each, length-append s.orders (o ∷ []), length-append s.done ((turn p.world o).answer ∷ []));
   split = subst (λ (w : World). Splits rows a c (s.done ++ (turn p.world o).answer ∷ []) w n) (sym world)
       (split_more rows a b c s.done p.world m n o s.split h);
-  taken = takes_on a b c s.taken lines;
+  taken = takes_on a b c 0 m n s.orders (o ∷ []) s.taken h;
   told = subst (Appends old new) (sym (told_more rows s.done (turn p.world o).answer))
       (appends_on old mid new (told_of rows s.done) (turn p.world o).answer.text s.told t);
   refused = refused ∙ ap (λ (r : Bool). r || (turn p.world o).answer.refused) s.refused ∙ sym (refused_more s.done (turn p.world o).answer);
@@ -59,13 +63,15 @@ stands_more rows a b c old mid new m n p q o s h lines t world refused = record 
 all_done : (rows : List Entry) (bytes : List ℕ) (b c : Option (List ℕ)) (done : List Answer) (w : World) (m n : ℕ)
     → Splits rows (Some bytes) b done w m → HandsOrder b c m n None → answers (start rows) (orders_of (lines_of bytes)) ≡ done
 all_done rows bytes None c done w m n s h = absurd s
-all_done rows bytes (Some y) None done w m n s h = absurd h
-all_done rows bytes (Some y) (Some z) done w m n s h = s ∙ ap (λ (os : List Numbered). done ++ answers w os) h.0 ∙ append-nil done
+all_done rows bytes (Some y) None done w m n s h = absurd h.0
+all_done rows bytes (Some y) (Some z) done w m n s h =
+    s ∙ ap (λ (os : List Numbered). done ++ answers w os) (follow y z m n [] h.0 ∙ ap (λ (l : List ℕ). orders_after n (lines_of l)) h.1 ∙ orders_none n)
+    ∙ append-nil done
 
 none_left : (bytes held : List ℕ) (b left : Option (List ℕ)) (rows : List Entry) (done : List Answer) (w : World) (m n : ℕ)
     → Splits rows (Some bytes) b done w m → HandsOrder b (ahead held left) m n None → left ≡ Some []
 none_left bytes held None left rows done w m n s h = absurd s
-none_left bytes held (Some y) None rows done w m n s h = absurd h
+none_left bytes held (Some y) None rows done w m n s h = absurd h.0
 none_left bytes held (Some y) (Some z) rows done w m n s h = ap Some (no_rest held z h.1)
   where
     no_rest : (xs ys : List ℕ) → xs ++ ys ≡ [] → ys ≡ []
@@ -193,27 +199,18 @@ pub exit : (P : Bool → Type 0) (r : Result Bool Stop) (e : Stop) → IsErrAnd 
 exit P (Ok x) e h p = absurd h
 exit P (Err y) e h p = subst (λ (s : Stop). P (stopped_at_input {T = Bool} (Err s))) (sym h) p
 
--- so many orders are answered, and no order was taken whole since
-answered_prompt : (rows : List Entry) (bytes y : List ℕ) (left : Option (List ℕ)) (done : List Answer) (w : World) (m : ℕ) (e : Stop)
-    → TakesLines (Some bytes) (Some y) → Splits rows (Some bytes) (Some y) done w m → AtInput {T = Bool} (Err e) (IsCutAt (Some y) left m)
-    → stopped_at_input {T = Bool} (Err e) ≡ true → IfSome left (λ rest. IsPrompt 0 bytes rest (length done))
-answered_prompt rows bytes y None done w m e t s cut at = tt
-answered_prompt rows bytes y (Some rest) done w m e t s cut at = by e cut at
+-- so many orders are answered, and no order that was complete has come since
+answered_prompt : (bytes y : List ℕ) (left : Option (List ℕ)) (orders : List Numbered) (answered m : ℕ) (e : Stop)
+    → TakesOrders bytes y 0 m orders → length orders ≡ answered → AtInput {T = Bool} (Err e) (IsCutAt (Some y) left m)
+    → stopped_at_input {T = Bool} (Err e) ≡ true → IfSome left (λ rest. IsPrompt 0 bytes rest answered)
+answered_prompt bytes y None orders answered m e t each cut at = tt
+answered_prompt bytes y (Some rest) orders answered m e t each cut at = by e cut at
   where
-    count : length (orders_after 0 (lines_of bytes)) ≤ length done + length (orders_after m (lines_of y))
-    count = omega (
-      arith,
-      ap length s,
-      answer_count (start rows) (orders_of (lines_of bytes)),
-      answer_count w (orders_after m (lines_of y)),
-      length-append done (answers w (orders_after m (lines_of y))),
-    )
-
-    on : IsPrompt m y rest 0 → IsPrompt 0 bytes rest (length done)
-    on p = subst (IsPrompt 0 bytes rest) (omega arith) (prompt_on 0 m bytes t.0 y rest (length done) 0 t.1 t.2 count p)
+    on : IsPrompt m y rest 0 → IsPrompt 0 bytes rest answered
+    on p = subst (IsPrompt 0 bytes rest) (omega arith) (prompt_on 0 m bytes y rest orders 0 t p)
 
     by : (e : Stop) → AtInput {T = Bool} (Err e) (IsCutAt (Some y) (Some rest) m) → stopped_at_input {T = Bool} (Err e) ≡ true
-        → IsPrompt 0 bytes rest (length done)
+        → IsPrompt 0 bytes rest answered
     by Read cut at = on cut
     by Write cut at = absurd (true≢false (sym at))
     by Memory cut at = absurd (true≢false (sym at))
@@ -227,7 +224,7 @@ front_before rows content bytes None old new left m p e s cut = absurd s.split
 front_before rows content bytes (Some y) old new left m p e s cut =
     subst (IsFront bytes old new None left (stopped_at_input {T = Bool} (Err e)) rows) (sym s.split)
     (front_at bytes rows s.done (answers p.world (orders_after m (lines_of y))) old new left (stopped_at_input {T = Bool} (Err e)) s.told
-    (answered_prompt rows bytes y left s.done p.world m e s.taken s.split cut))
+    (answered_prompt bytes y left s.orders (length s.done) m e s.taken s.each cut))
 
 -- an order was answered in part
 pub front_within : (rows : List Entry) (content : Content) (bytes : List ℕ) (b c old mid new left : Option (List ℕ)) (m n : ℕ) (p : Progress) (o : Numbered)
@@ -238,7 +235,7 @@ front_within rows content bytes None c old mid new left m n p o e before now cou
 front_within rows content bytes (Some y) None old mid new left m n p o e before now count s h t cause = absurd h
 front_within rows content bytes (Some y) (Some z) old mid new left m n p o e before now count s h t cause =
     let split : answers (start rows) (orders_of (lines_of bytes)) ≡ s.done ++ (turn p.world o).answer ∷ answers (turn p.world o).world (orders_after n (lines_of z)) =
-    s.split ∙ ap (λ (os : List Numbered). s.done ++ answers p.world os) h in
+    s.split ∙ ap (λ (os : List Numbered). s.done ++ answers p.world os) (follow y z m n (o ∷ []) h) in
     subst (IsFront bytes old new None left (stopped_at_input {T = Bool} (Err e)) rows) (sym split)
     (front_in bytes rows s.done (answers (turn p.world o).world (orders_after n (lines_of z))) (turn p.world o).answer old mid new left (stopped_at_input {T = Bool} (Err e)) count
     s.told t (no_write e before now cause))

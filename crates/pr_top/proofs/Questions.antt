@@ -1,5 +1,5 @@
 -- The answer to a question, by what its text, its tree and its value are.
-use Rattle.std.proofs.Common.{◌≡◌, ℕ, ◌+◌, pos, ◌-ℤ◌, Bool, true, false, List, Option, Some, None, Result, Ok, Err, IfOk, is_ok, refl, sym, ap, subst}
+use Rattle.std.proofs.Common.{◌≡◌, ℕ, ◌+◌, pos, ◌-ℤ◌, Bool, true, false, List, [], Option, Some, None, Result, Ok, Err, IfOk, is_ok, refl, sym, ap, subst}
 use Rattle.std.specs.Int.Signed.{≤ℤ_refl}
 use Rattle.std.specs.declared.alloc.AllocError.{AllocError}
 use Rattle.pr_labels.specs.declared.pair.Pair.{Pair}
@@ -20,7 +20,6 @@ use Rattle.pr_query.specs.declared.fault.Fault.{Fault}
 use Rattle.pr_query.specs.declared.fault.FaultKind.{FaultKind}
 use Rattle.pr_query.specs.declared.value.Value.{Value}
 use Rattle.pr_query.specs.Answers.{fault}
-use Rattle.pr_query.specs.Built.{is_built}
 use Rattle.pr_query.specs.Meaning.{meaning}
 use Rattle.pr_eval.specs.Looks.{KeepsFor}
 use Rattle.pr_eval.specs.Asking.{Sought}
@@ -29,10 +28,10 @@ use Rattle.pr_top.specs.Asked.{IsAnswer}
 use Rattle.pr_top.specs.Keeping.{IsHeadOf}
 use Rattle.pr_top.specs.declared.answered.Answered.{Answered}
 use Rattle.pr_world.specs.declared.report.Report.{Report}
-use Rattle.pr_world.specs.declared.report.Report.TheVariants.{QueryFault, QueryRefused, NotBuilt}
+use Rattle.pr_world.specs.declared.report.Report.TheVariants.{QueryFault, QueryRefused}
 use Rattle.pr_world.specs.declared.report.QueryKind.TheVariants.{Lex, Parse, Typing}
-use Rattle.pr_world.specs.Outcome.{refuse}
-use Rattle.pr_world.specs.Query.{if_built, parsed_outcome, told_answer, told_value, typed_outcome}
+use Rattle.pr_world.specs.Outcome.{accept, refuse}
+use Rattle.pr_world.specs.Query.{parsed_outcome, told_answer, told_value, typed_outcome}
 use Rattle.pr_world.specs.Settings.{Settings}
 
 -- a head of which nothing is forgotten keeps what any expression looks at
@@ -62,18 +61,13 @@ told_ok meant v h = ap told_answer (sym h)
 pub told_fault : (meant : Result Value Fault) (place : Place) (kind : FaultKind) → meant ≡ Err (fault place kind) → QueryFault place.start kind ≡ told_answer meant
 told_fault meant place kind h = ap told_answer (sym h)
 
--- whether an expression is built
-pub built_answer : (b : Bool) (report : Report) (a : Answered) → b ≡ true → a.report ≡ report → a.refused ≡ false → IsAnswer (if_built b report) a
-built_answer true report a h r f = (r, f, refl)
-built_answer false report a h r f = absurd cc
-
-pub unbuilt_answer : (b : Bool) (report : Report) (a : Answered) → b ≡ false → a.report ≡ NotBuilt → a.refused ≡ true → IsAnswer (if_built b report) a
-unbuilt_answer true report a h r f = absurd cc
-unbuilt_answer false report a h r f = (r, f)
+-- an expression that has a type
+pub accepted_answer : (report : Report) (a : Answered) → a.report ≡ report → a.refused ≡ false → IsAnswer (accept report []) a
+accepted_answer report a r f = (r, f, refl)
 
 -- whether it has a type
 pub typed_answer : (s : Settings) (history : List Entry) (time : ℕ) (t : Tree) (r : Result ValueType TypeFault) (result : Result Answered AllocError) → is_ok r ≡ true
-    → IfOk result (IsAnswer (if_built (is_built t) (told_answer (meaning s.subquery_step history t time)))) → IfOk result (IsAnswer (typed_outcome s history time t r))
+    → IfOk result (IsAnswer (accept (told_answer (meaning s.subquery_step history t time)) [])) → IfOk result (IsAnswer (typed_outcome s history time t r))
 typed_answer s history time t (Ok type) result h k = k
 typed_answer s history time t (Err f) result h k = absurd cc
 

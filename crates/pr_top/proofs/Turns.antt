@@ -8,9 +8,9 @@ use Rattle.pr_top.specs.Told.{Answer, answers, any_refused, told_of, turn}
 use Rattle.pr_world.specs.declared.report.Report.TheVariants.{Opened}
 use Rattle.pr_world.specs.World.{World}
 
-pub told_none : (rows : List Entry) → told_of rows [] ≡ shown_report 0 (Opened (length rows))
+pub told_none : (rows : List Entry) → told_of rows [] ≡ shown_report (Opened (length rows))
 unfolding told_of
-told_none rows = append-nil (shown_report 0 (Opened (length rows)))
+told_none rows = append-nil (shown_report (Opened (length rows)))
 
 text_more : (done : List Answer) (a : Answer) → flat_map (λ (x : Answer). x.text) (done ++ a ∷ []) ≡ flat_map (λ (x : Answer). x.text) done ++ a.text
 text_more [] a = append-nil a.text
@@ -20,8 +20,8 @@ text_more (x ∷ done) a =
 pub told_more : (rows : List Entry) (done : List Answer) (a : Answer) → told_of rows (done ++ a ∷ []) ≡ told_of rows done ++ a.text
 unfolding told_of
 told_more rows done a =
-    ap (λ (l : List ℕ). shown_report 0 (Opened (length rows)) ++ l) (text_more done a)
-    ∙ sym (append_assoc (shown_report 0 (Opened (length rows))) (flat_map (λ (x : Answer). x.text) done) a.text)
+    ap (λ (l : List ℕ). shown_report (Opened (length rows)) ++ l) (text_more done a)
+    ∙ sym (append_assoc (shown_report (Opened (length rows))) (flat_map (λ (x : Answer). x.text) done) a.text)
 
 or_none : (b : Bool) → (b || false) ≡ b
 or_none true = refl

@@ -1,10 +1,13 @@
 -- Whole lines, and the orders in them.
-use Rattle.std.proofs.Common.{◌≡◌, ◌≢◌, ℕ, ◌+◌, ◌≤◌, Bool, true, false, eqb, cond, List, [], ◌∷◌, ◌++◌, refl, sym, ap, ◌∙◌, append_assoc, append-nil, length, arith}
+use Rattle.std.proofs.Common.{◌≡◌, ◌≢◌, ℕ, ◌+◌, ◌≤◌, Bool, true, false, eqb, cond, List, [], ◌∷◌, ◌++◌, refl, sym, ap, ◌∙◌, subst, append_assoc, append-nil, length, length-append, arith}
 use Rattle.std.specs.List.{list_all, onto_first}
 use Rattle.pr_words.specs.Lines.{lines_of}
 use Rattle.pr_text.specs.Orders.{orders_after}
+use Rattle.pr_text.specs.declared.order.Numbered.{Numbered}
+use Rattle.pr_text.proofs.Blocks.{orders_none, orders_more}
+use Rattle.pr_top.specs.Reading.{TakesOrders}
 use Rattle.pr_top.specs.Taken.{is_no_feed, are_whole_lines, IsPrompt}
-use Rattle.pr_top.proofs.Orders.{orders_none, same_count, count_append}
+use Rattle.pr_top.proofs.Feeds.{first_left, more_left, some_left}
 
 -- a line with its line feed
 pub whole_fed : (line : List ℕ) → are_whole_lines (line ++ 10 ∷ []) ≡ true
@@ -41,12 +44,12 @@ lines_append (b ∷ c ∷ bytes) ys h =
     (onto_on (eqb c 10) b c (lines_of bytes) (lines_of ys))
 
 -- Any bytes are whole lines and what there is of the next one.
-record Parts (bytes : List ℕ) : Type 0 where
-  lines : List ℕ
-  line : List ℕ
-  joined : bytes ≡ lines ++ line
-  whole : are_whole_lines lines ≡ true
-  unended : list_all is_no_feed line ≡ true
+pub record Parts (bytes : List ℕ) : Type 0 where
+  pub lines : List ℕ
+  pub line : List ℕ
+  pub joined : bytes ≡ lines ++ line
+  pub whole : are_whole_lines lines ≡ true
+  pub unended : list_all is_no_feed line ≡ true
 
 no_feed : (b : ℕ) (line : List ℕ) → eqb b 10 ≡ false → list_all is_no_feed line ≡ true → list_all is_no_feed (b ∷ line) ≡ true
 no_feed b line is u = rw is u
@@ -63,13 +66,16 @@ one_more b bytes feed is p = by feed is p.lines p.line p.joined p.whole p.unende
     by feed is (c ∷ lines) line joined whole u =
         record { lines = b ∷ c ∷ lines; line = line; joined = ap (λ (l : List ℕ). b ∷ l) joined; whole = whole; unended = u }
 
-parts : (bytes : List ℕ) → Parts bytes
+pub parts : (bytes : List ℕ) → Parts bytes
 parts [] = record { lines = []; line = []; joined = refl; whole = refl; unended = refl }
 parts (b ∷ bytes) = one_more b bytes (eqb b 10) refl (parts bytes)
 
-orders_append : (n : ℕ) (xs ys : List ℕ) → are_whole_lines xs ≡ true
-    → length (orders_after n (lines_of (xs ++ ys))) ≡ length (orders_after n (lines_of xs)) + length (orders_after n (lines_of ys))
-orders_append n xs ys h = ap (λ (l : List (List ℕ)). length (orders_after n l)) (lines_append xs ys h) ∙ count_append n (lines_of xs) (lines_of ys)
+-- what follows whole lines, or nothing, adds its lines
+pub lines_split : (xs rest more later : List ℕ) → (rest ≢ [] → are_whole_lines xs ≡ true) → rest ≡ more ++ later
+    → lines_of (xs ++ more) ≡ lines_of xs ++ lines_of more
+lines_split xs rest [] later w is = ap lines_of (append-nil xs) ∙ sym (append-nil (lines_of xs))
+lines_split xs rest (b ∷ more) later w is =
+    lines_append xs (b ∷ more) (w (subst (λ (x : List ℕ). x ≢ []) (sym is) (first_left (b ∷ more) later (some_left b more))))
 
 -- all bytes were taken
 pub prompt_all : (n : ℕ) (bytes rest : List ℕ) (count : ℕ) → rest ≡ [] → length (orders_after n (lines_of bytes)) ≤ count → IsPrompt n bytes rest count
@@ -77,53 +83,70 @@ prompt_all n bytes rest count none le =
     let p = parts bytes in
     record {
       lines = p.lines;
+      waiting = [];
       line = p.line;
       taken = p.joined ∙ ap (λ (l : List ℕ). p.lines ++ l) (sym (append-nil p.line)) ∙ ap (λ (l : List ℕ). p.lines ++ (p.line ++ l)) (sym none);
       whole = p.whole;
-      unended = p.unended;
       few = omega (
         arith,
         le,
+        orders_more n (lines_of p.lines) (lines_of p.line),
         ap (λ (l : List ℕ). length (orders_after n (lines_of l))) p.joined,
-        orders_append n p.lines p.line p.whole,
+        ap (λ (l : List (List ℕ)). length (orders_after n l)) (lines_append p.lines p.line p.whole),
       );
+      waits = refl;
+      goes_on = refl;
+      unended = p.unended;
     }
 
 -- within a line
 pub prompt_line : (n : ℕ) (bytes line rest : List ℕ) → list_all is_no_feed line ≡ true → bytes ≡ line ++ rest → IsPrompt n bytes rest 0
-prompt_line n bytes line rest u is =
-    record { lines = []; line = line; taken = is; whole = refl; unended = u; few = omega (arith, ap length (orders_none n)) }
+prompt_line n bytes line rest u is = record {
+  lines = [];
+  waiting = [];
+  line = line;
+  taken = is;
+  whole = refl;
+  few = omega (arith, ap length (orders_none n));
+  waits = refl;
+  goes_on = refl;
+  unended = u;
+}
 
-no_rest : (xs ys zs : List ℕ) → [] ≡ xs ++ (ys ++ zs) → zs ≡ []
-no_rest [] [] zs e = sym e
-no_rest [] (y ∷ ys) zs e = absurd (cc)
-no_rest (x ∷ xs) ys zs e = absurd (cc)
+no_rest : (ws xs ys zs : List ℕ) → [] ≡ ws ++ (xs ++ (ys ++ zs)) → zs ≡ []
+no_rest [] [] [] zs e = sym e
+no_rest [] [] (y ∷ ys) zs e = absurd (cc)
+no_rest [] (x ∷ xs) ys zs e = absurd (cc)
+no_rest (w ∷ ws) xs ys zs e = absurd (cc)
 
-some_left : (b : ℕ) (bytes : List ℕ) → b ∷ bytes ≢ []
-some_left b bytes e = absurd (cc)
-
--- Lines were taken that hold so many orders, and then what follows was taken.
-pub prompt_on : (m n : ℕ) (all taken bytes rest : List ℕ) (done count : ℕ) → all ≡ taken ++ bytes → (bytes ≢ [] → are_whole_lines taken ≡ true)
-    → length (orders_after m (lines_of all)) ≤ done + length (orders_after n (lines_of bytes)) → IsPrompt n bytes rest count
-    → IsPrompt m all rest (done + count)
-prompt_on m n all taken [] rest done count is whole le p =
-    prompt_all m all rest (done + count) (no_rest p.lines p.line rest p.taken) (omega (arith, le, ap length (orders_none n)))
-prompt_on m n all taken (b ∷ bytes) rest done count is whole le p =
-    let w : are_whole_lines taken ≡ true = whole (some_left b bytes) in
+-- Lines were taken that spell these orders, and then what follows was taken.
+pub prompt_on : (m n : ℕ) (all bytes rest : List ℕ) (orders : List Numbered) (count : ℕ) → TakesOrders all bytes m n orders → IsPrompt n bytes rest count
+    → IsPrompt m all rest (length orders + count)
+prompt_on m n all [] rest orders count t p =
+    let spelled : orders_after m (lines_of (t.lines ++ [])) ≡ orders ++ orders_after n [] = t.spelled [] [] refl (λ some. absurd (some refl)) in
+    prompt_all m all rest (length orders + count) (no_rest p.lines p.waiting p.line rest p.taken)
+    (omega (
+      arith,
+      ap (λ (l : List ℕ). length (orders_after m (lines_of l))) t.taken,
+      ap length spelled,
+      length-append orders (orders_after n []),
+      ap length (orders_none n),
+    ))
+prompt_on m n all (b ∷ bytes) rest orders count t p =
+    let behind : List ℕ = p.waiting ++ (p.line ++ rest) in
     record {
-      lines = taken ++ p.lines;
+      lines = t.lines ++ p.lines;
+      waiting = p.waiting;
       line = p.line;
-      taken = is ∙ ap (λ (l : List ℕ). taken ++ l) p.taken ∙ sym (append_assoc taken p.lines (p.line ++ rest));
-      whole = whole_append taken p.lines w p.whole;
-      unended = p.unended;
+      taken = t.taken ∙ ap (λ (l : List ℕ). t.lines ++ l) p.taken ∙ sym (append_assoc t.lines p.lines behind);
+      whole = whole_append t.lines p.lines (t.whole (some_left b bytes)) p.whole;
       few = omega (
         arith,
-        le,
         p.few,
-        ap (λ (l : List ℕ). length (orders_after m (lines_of l))) is,
-        orders_append m taken (b ∷ bytes) w,
-        orders_append m taken p.lines w,
-        same_count m n (lines_of (b ∷ bytes)),
-        same_count m n (lines_of p.lines),
+        ap length (t.spelled p.lines behind p.taken (λ some. p.whole)),
+        length-append orders (orders_after n (lines_of p.lines)),
       );
+      waits = p.waits;
+      goes_on = p.goes_on;
+      unended = p.unended;
     }

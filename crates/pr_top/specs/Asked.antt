@@ -2,9 +2,10 @@
 use Rattle.std.specs.Prelude.{◌≡◌, true, false, List, []}
 use Rattle.pr_history.specs.declared.entry.Entry.{Entry}
 use Rattle.pr_top.specs.declared.answered.Answered.{Answered}
-use Rattle.pr_world.specs.Outcome.{Outcome, refuse, accept}
+use Rattle.pr_world.specs.Outcome.{Outcome, refuse, accept, accept_target}
 
--- its report, and whether it is refused; it adds nothing
+-- its report, and whether it is refused; it adds nothing, and is about no target
 abbrev pub IsAnswer : Outcome → Answered → Type 0
 IsAnswer (refuse report) a = (a.report ≡ report) × (a.refused ≡ true)
 IsAnswer (accept report rows) a = (a.report ≡ report) × (a.refused ≡ false) × (rows ≡ [])
+IsAnswer (accept_target report rows targets) a = ⊥

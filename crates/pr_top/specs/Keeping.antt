@@ -1,19 +1,21 @@
--- Which world the engine stands for: it keeps a head in place of the history.
-use Rattle.std.specs.Prelude.{◌≡◌, ℕ, ℤ, Bool, ◌||◌, List, Option}
+-- Which world the engine stands for: it keeps a head in place of the history, and a map in place of the list of targets.
+use Rattle.std.specs.Prelude.{◌≡◌, ℕ, ℤ, Bool, true, false, ◌||◌, List, Option}
 use Rattle.pr_labels.specs.declared.pair.Pair.{Pair}
 use Rattle.pr_history.specs.declared.entry.Entry.{Entry}
 use Rattle.pr_history.specs.Admission.{IsLawful}
 use Rattle.pr_head.specs.Stored.{Stored}
 use Rattle.pr_head.specs.Holds.{Holds, IsWhole}
+use Rattle.pr_targets.specs.Knowing.{Knows, Tracked}
 use Rattle.pr_text.specs.declared.order.Numbered.{Numbered}
 use Rattle.pr_top.specs.Standing.{Progress}
 use Rattle.pr_top.specs.Told.{turn}
 use Rattle.pr_world.specs.World.{World}
 
--- the series that are held, and the time of the last event
+-- the series that are held, the time of the last event, and the targets with what is tracked of each
 pub record Kept : Type 0 where
   pub head : List (List Pair × Stored)
   pub last : Option ℕ
+  pub targets : Tracked
 
 -- a head stands for a history of which nothing is forgotten
 pub record IsHeadOf (head : List (List Pair × Stored)) (history : List Entry) : Type 0 where
@@ -24,6 +26,12 @@ pub record IsHeadOf (head : List (List Pair × Stored)) (history : List Entry) :
 pub record KeepsWorld (k : Kept) (w : World) : Type 0 where
   pub head : IsHeadOf k.head w.history
   pub last : k.last ≡ w.last
+  pub targets : Knows k.targets w.targets
+
+-- What want of memory leaves of what is kept, while an event is taken: all of it, or, where the event is about a target, the last time.
+abbrev pub IsLeft : Bool → Kept → Kept → Type 0
+IsLeft true old new = new.last ≡ old.last
+IsLeft false old new = new ≡ old
 
 -- what a run keeps, and how far it has come with it
 pub record Run : Type 0 where

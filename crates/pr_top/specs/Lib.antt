@@ -1,6 +1,7 @@
 pub mod Told
 pub mod Front
 pub mod Taken
+pub mod LineReading
 pub mod Reading
 pub mod Standing
 pub mod Keeping

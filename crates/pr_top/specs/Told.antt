@@ -29,15 +29,15 @@ pub record Turn : Type 0 where
   pub world : World
 
 -- an event is answered by its report
-abbrev pub turn_by : ℕ → Step → Turn
-turn_by number step = record { answer = record { text = shown_report number step.report; rows = step.rows; refused = step.refused }; world = step.world }
+abbrev pub turn_by : Step → Turn
+turn_by step = record { answer = record { text = shown_report step.report; rows = step.rows; refused = step.refused }; world = step.world }
 
 -- what spells no order is refused with the number of its line, and changes nothing
 abbrev pub bad_turn : World → ℕ → Turn
 bad_turn w number = record { answer = record { text = bad_line_text number; rows = []; refused = true }; world = w }
 
 abbrev pub turn_of : World → ℕ → Order → Turn
-turn_of w number (order.Event e) = turn_by number (next of_a_run w e)
+turn_of w number (order.Event e) = turn_by (next of_a_run w e)
 turn_of w number order.Bad = bad_turn w number
 
 unfoldable pub turn : World → Numbered → Turn
@@ -54,7 +54,7 @@ answers_to content rows bytes = answers (start rows) (orders_of (lines_of bytes)
 
 -- the line that a run begins with, and then the texts of answers
 unfoldable pub told_of : List Entry → List Answer → List ℕ
-told_of rows answered = shown_report 0 (Opened (length rows)) ++ flat_map (λ a. a.text) answered
+told_of rows answered = shown_report (Opened (length rows)) ++ flat_map (λ a. a.text) answered
 
 -- what a run writes that reads these bytes, the rows that it keeps, and whether it refuses an order
 abbrev pub told : Content → List Entry → List ℕ → List ℕ

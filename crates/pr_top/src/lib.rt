@@ -5,6 +5,7 @@ mod answered;
 mod command;
 mod engine;
 mod examples;
+mod lines;
 mod query;
 mod reader;
 mod run;

@@ -1,24 +1,23 @@
 // The answer to a question, over a head.
-ghost use Rattle.std.specs.Prelude.{◌≡◌, ℕ, ◌<◌, true, List, Result, IfOk};
+ghost use Rattle.std.specs.Prelude.{◌≡◌, ℕ, ◌<◌, List, [], Result, IfOk};
 ghost use Rattle.pr_history.specs.declared.entry.Entry.{Entry};
 ghost use Rattle.pr_ast.specs.Tree.{tree_of};
 ghost use Rattle.pr_parse.specs.Parsed.{Parsed, IsFaultOf};
 ghost use Rattle.pr_query.specs.declared.fault.Fault.{Fault};
 ghost use Rattle.pr_query.specs.declared.value.Value.{Value};
-ghost use Rattle.pr_query.specs.Built.{is_built};
 ghost use Rattle.pr_query.specs.Meaning.{meaning};
 ghost use Rattle.pr_types.specs.Typed.{checked};
 ghost use Rattle.pr_values.specs.Answers.{AnswersTo};
 ghost use Rattle.pr_top.specs.Asked.{IsAnswer};
 ghost use Rattle.pr_top.specs.Keeping.{IsHeadOf};
 ghost use Rattle.pr_world.specs.declared.report.Report.TheVariants.{QueryRefused};
-ghost use Rattle.pr_world.specs.Outcome.{refuse};
-ghost use Rattle.pr_world.specs.Query.{if_built, parsed_outcome, query_outcome, told_answer, told_value, typed_outcome};
+ghost use Rattle.pr_world.specs.Outcome.{accept, refuse};
+ghost use Rattle.pr_world.specs.Query.{parsed_outcome, query_outcome, told_answer, told_value, typed_outcome};
 ghost use Rattle.pr_world.specs.Settings.{of_a_run};
 
 use super::answered::Answered;
 use pr_ast::Expr;
-use pr_eval::{EvalError, Value, built, eval};
+use pr_eval::{EvalError, Value, eval};
 use pr_head::Head;
 use pr_parse::{ParseError, parse};
 use pr_range::PlainRanges;
@@ -75,7 +74,6 @@ fn answer<G: Ledger>(
     requires name { blank.name ≡ G.name }
     requires parts { blank.parts ≡ G.parts }
     requires some { 0 < G.parts }
-    requires built { is_built (tree_of expression.now) ≡ true }
     ensures { (history : List Entry) → IsHeadOf head.now history
         → IfOk result (λ report. report ≡ told_answer (meaning of_a_run.subquery_step history (tree_of expression.now) time)) }
 {
@@ -93,7 +91,7 @@ fn answer<G: Ledger>(
 }
 
 // Answers an expression that has a type.
-#[tactic(auto, using(crate::proofs::Questions::built_answer, crate::proofs::Questions::unbuilt_answer))]
+#[tactic(auto, using(crate::proofs::Questions::accepted_answer))]
 fn ask_checked(
     alloc: Global,
     head: &Head,
@@ -101,19 +99,12 @@ fn ask_checked(
     time: Ms,
 ) -> Result<Answered, AllocError>
     ensures { (history : List Entry) → IsHeadOf head.now history
-        → IfOk result (IsAnswer (if_built (is_built (tree_of expression.now)) (told_answer (meaning of_a_run.subquery_step history (tree_of expression.now) time)))) }
+        → IfOk result (IsAnswer (accept (told_answer (meaning of_a_run.subquery_step history (tree_of expression.now) time)) [])) }
 {
-    if built(expression) {
-        Ok(Answered {
-            report: answer::<Brand>(alloc, head, expression, time, Blank::new(1))?,
-            refused: false,
-        })
-    } else {
-        Ok(Answered {
-            report: Report::NotBuilt,
-            refused: true,
-        })
-    }
+    Ok(Answered {
+        report: answer::<Brand>(alloc, head, expression, time, Blank::new(1))?,
+        refused: false,
+    })
 }
 
 fn refusal(place: usize, kind: QueryKind) -> Answered

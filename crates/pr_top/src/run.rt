@@ -42,7 +42,7 @@ fn open<O: Sink>(alloc: Global, out: &mut O) -> Result<(), Stop>
     ensures cause { StopsWriting (O.faults out.old) (O.faults out.new) result }
 {
     let mut text = Vec::new(alloc);
-    push_report(&mut text, 0, &Report::Opened { rows: 0 })?;
+    push_report(&mut text, &Report::Opened { rows: 0 })?;
     send(out, &text)?;
     Ok(())
 }

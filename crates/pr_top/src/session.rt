@@ -2,7 +2,9 @@
 ghost use Rattle.std.specs.Prelude.{◌≡◌, ◌++◌, ◌||◌, [], OnOk};
 ghost use Rattle.pr_top.specs.Keeping.{KeepsProgress, KeepsWorld, progress_after};
 ghost use Rattle.pr_top.specs.Standing.{Progress, begun};
-ghost use Rattle.pr_top.specs.Told.{turn, turn_of};
+ghost use Rattle.pr_top.specs.Told.{turn, turn_by};
+ghost use Rattle.pr_world.specs.Settings.{of_a_run};
+ghost use Rattle.pr_world.specs.Step.{next};
 
 use super::engine::Engine;
 use pr_text::{Numbered, Order, push_bad_line, push_report};
@@ -48,16 +50,15 @@ impl Session {
         &mut self,
         alloc: Global,
         text: &mut Vec<u8>,
-        number: u64,
         event: Event,
     ) -> Result<(), AllocError>
-        ensures text { (p : Progress) → KeepsProgress self.old p → OnOk result (text.new.items ≡ text.old.items ++ (turn_of p.world number (Order.Event event)).answer.text) }
-        ensures world { (p : Progress) → KeepsProgress self.old p → OnOk result (KeepsWorld self.new.kept (turn_of p.world number (Order.Event event)).world) }
-        ensures refused { (p : Progress) → KeepsProgress self.old p → OnOk result (self.new.refused ≡ (self.old.refused || (turn_of p.world number (Order.Event event)).answer.refused)) }
+        ensures text { (p : Progress) → KeepsProgress self.old p → OnOk result (text.new.items ≡ text.old.items ++ (turn_by (next of_a_run p.world event)).answer.text) }
+        ensures world { (p : Progress) → KeepsProgress self.old p → OnOk result (KeepsWorld self.new.kept (turn_by (next of_a_run p.world event)).world) }
+        ensures refused { (p : Progress) → KeepsProgress self.old p → OnOk result (self.new.refused ≡ (self.old.refused || (turn_by (next of_a_run p.world event)).answer.refused)) }
     {
         let answered = self.engine.apply(alloc, event)?;
         self.refused = self.refused || answered.refused;
-        push_report(text, number, &answered.report)
+        push_report(text, &answered.report)
     }
 
     /// Takes an order, and appends the answer to it.
@@ -73,7 +74,7 @@ impl Session {
     {
         let number = order.number;
         match order.order {
-            Order::Event { event } => self.take_event(alloc, text, number, event),
+            Order::Event { event } => self.take_event(alloc, text, event),
             Order::Bad => {
                 self.refused = true;
                 push_bad_line(text, number)

@@ -11,6 +11,7 @@ use Rattle.pr_match.specs.Matcher.{meets, meets_all}
 use Rattle.pr_series.proofs.SeriesExamples.{metric}
 use Rattle.pr_text.specs.Orders.{orders_after}
 use Rattle.pr_text.specs.Printed.{shown_report}
+use Rattle.pr_text.specs.Script.{takes_body}
 use Rattle.pr_top.specs.Told.{told_of, turn}
 use Rattle.pr_top.proofs.ExpressionExamples.{name_alone}
 use Rattle.pr_world.specs.Query.{parsed_outcome}
@@ -18,7 +19,7 @@ use Rattle.pr_world.specs.Step.{next}
 use Rattle.pr_top.proofs.examples.a_value_is_told_for_five_minutes.Goals as goal
 
 pub returns : goal.returns
-unfolding half_abs reads shown series_text meets meets_all shown_report orders_after parsed_outcome next told_of turn
+unfolding half_abs reads shown series_text meets meets_all shown_report orders_after takes_body parsed_outcome next told_of turn
 returns c =
     let zero : decimal 0 ≡ 48 ∷ [] = decimal_digit 0 (lit< tt) in
     let one : decimal 1 ≡ 49 ∷ [] = decimal_digit 1 (lit< tt) in

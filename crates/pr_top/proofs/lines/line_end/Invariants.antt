@@ -1,7 +1,7 @@
 use Rattle.std.proofs.Common.{◌≡◌, true, take}
 use Rattle.std.specs.List.{list_all}
 use Rattle.pr_top.specs.Taken.{is_no_feed}
-use Rattle.pr_top.proofs.reader.line_end.Given as goal
+use Rattle.pr_top.proofs.lines.line_end.Given as goal
 
 -- no line feed so far
 abbrev pub invariant-loop-i : goal.invariant-loop-i

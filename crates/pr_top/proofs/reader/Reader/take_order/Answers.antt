@@ -1,0 +1,38 @@
+use Rattle.std.proofs.Common.{◌≡◌, ◌∙◌, List, ℕ, string_bytes, sym, ap, subst}
+use Rattle.pr_text.specs.declared.order.Order.{Order}
+use Rattle.pr_text.specs.declared.order.Order.TheVariants as order
+use Rattle.pr_text.specs.declared.order.Started.TheVariants as started
+use Rattle.pr_text.specs.Orders.{order_by}
+use Rattle.pr_text.specs.Script.{event_of}
+use Rattle.pr_text.specs.Started.{Starts}
+use Rattle.pr_world.specs.declared.event.Event.TheVariants as event
+use Rattle.pr_top.specs.LineReading.{ahead}
+use Rattle.pr_top.specs.Reading.{unread}
+use Rattle.pr_top.proofs.Ahead.{at_exit}
+use Rattle.pr_top.proofs.Orders.{finishes_whole, finishes_body}
+use Rattle.pr_top.proofs.reader.Reader.take_order.Goals as goal
+
+pub returns-in_err-read_body-in-Scrape-clause-cut : goal.returns-in_err-read_body-in-Scrape-clause-cut
+returns-in_err-read_body-in-Scrape-clause-cut g c =
+    let starts : Starts c.args.line.now (started.Scrape c.in-Scrape.time c.in-Scrape.target) = subst (Starts c.args.line.now) c.in-Scrape.is c.in_ok-order.ensures in
+    at_exit _ _ c.from_residual-in_err-read_body-in-Scrape.result c.in_err-read_body-in-Scrape.field-0.0 c.from_residual-in_err-read_body-in-Scrape.ensures.1
+    c.in_err-read_body-in-Scrape.ensures.cut (λ cut. (starts.0, cut))
+
+pub returns-in-Whole-clause-order : goal.returns-in-Whole-clause-order
+returns-in-Whole-clause-order g c =
+    let starts : Starts c.args.line.now (started.Whole c.in-Whole.order) = subst (Starts c.args.line.now) c.in-Whole.is c.in_ok-order.ensures in
+    λ over. finishes_whole (ahead (unread c.args.self.now) (g.I.Source.left c.args.input.now)) c.args.self.now.number c.args.line.now c.in-Whole.order over starts.0 starts.1
+
+pub returns-in_ok-read_body-in-Scrape-clause-order : goal.returns-in_ok-read_body-in-Scrape-clause-order
+returns-in_ok-read_body-in-Scrape-clause-order g c =
+    let left = g.I.Source.left in
+    let line = c.args.line.now in
+    let time = c.in-Scrape.time in
+    let target = c.in-Scrape.target in
+    let body = string_bytes c.in_ok-read_body-in-Scrape.field-0 in
+    let starts : Starts line (started.Scrape time target) = subst (Starts line) c.in-Scrape.is c.in_ok-order.ensures in
+    let is : order.Event (event.Scrape time target c.new-body.result) ≡ order_by (event_of line body) =
+    ap (λ (b : List ℕ). order.Event (event.Scrape time target b)) c.new-body.ensures ∙ sym (ap order_by (starts.1 body)) in
+    λ over. finishes_body (ahead (unread c.args.self.now) (left c.args.input.now)) (ahead (unread c.read_body.new.self) (left c.read_body.new.input))
+    c.args.self.now.number c.read_body.new.self.number line body (order.Event (event.Scrape time target c.new-body.result)) over starts.0 is
+    c.in_ok-read_body-in-Scrape.ensures.body c.in_ok-read_body-in-Scrape.ensures.ends
