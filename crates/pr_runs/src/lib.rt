@@ -12,7 +12,11 @@ mod fakes;
 #[cfg(test)]
 mod functions;
 #[cfg(test)]
+mod ranges;
+#[cfg(test)]
 mod runner;
+#[cfg(test)]
+mod scrapes;
 #[cfg(test)]
 mod scripts;
 #[cfg(test)]

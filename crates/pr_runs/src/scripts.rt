@@ -104,17 +104,6 @@ const LINES: &str = r#"# lines that ask for nothing are counted: 1
 > x
 < opened 0
 < bad line 3
-# a scrape and its body are bad lines so far: 1
-> scrape 0 {job="a"}
-> |m 1
->
-> |m 2
-> add 0 m 1
-< opened 0
-< bad line 1
-< bad line 2
-< bad line 4
-< added
 # colons, capitals and digits in names: 0
 > add 0 job:m_1 1
 > add 0 _A 2
