@@ -83,15 +83,21 @@ const EVENTS: &str = r#"# no line: 0
 < vector 2
 < value a{x="1"} 1
 < value a{x="2"} 3
-# a question that has no answer yet does not move the time: 1
+# a query that is refused does not move the time: 1
+> query 9 'm'
+> add 5 m 1
+< opened 0
+< refused NotInstant at 0
+< added
+# one that is answered moves it: 1
 > query 9 rate(m[5m])
 > add 5 m 1
 < opened 0
-< bad line 1
-< added
-# and is told as backwards where it is: 1
+< vector 0
+< backwards last 9 given 5
+# and before the last order none is read: 1
 > add 5 m 1
-> query 4 rate(m[5m])
+> query 4 'm'
 < opened 0
 < added
 < backwards last 5 given 4
