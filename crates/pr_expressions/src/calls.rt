@@ -1,5 +1,5 @@
-//! Each function and aggregation: as it is called, with one argument too few and too many, and with each argument of
-//! another type.
+//! Each function and aggregation: as it is called, with one argument too few and too many, and with
+//! each argument of another type.
 use crate::checked::wrong_lines;
 use std::test::Fail;
 

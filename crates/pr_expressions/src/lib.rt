@@ -9,3 +9,7 @@ mod checked;
 mod operations;
 #[cfg(test)]
 mod others;
+#[cfg(test)]
+mod parsing;
+#[cfg(test)]
+mod typing;

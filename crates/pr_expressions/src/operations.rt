@@ -1,4 +1,4 @@
-//! Each operator with each pair of types.
+//! `+`, `==` and `and` with each pair of types, every other operator with scalars and vectors.
 use crate::checked::wrong_lines;
 use std::test::Fail;
 

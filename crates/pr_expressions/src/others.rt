@@ -59,6 +59,7 @@ x + (x and 1) => SetOnScalar at 5
 time(1 > 2) => BoolNeeded at 5
 abs(1 > 2, 3) => BoolNeeded at 4
 abs(1, "a") => Arguments 2 1 1 at 0
+1 + abs() => Arguments 0 1 1 at 4
 clamp(1, x) => Arguments 2 3 3 at 0
 clamp(1, x, x) => WantVector at 6
 clamp(x, x, "a") => WantScalar at 9
@@ -67,6 +68,7 @@ round(x, scalar(x)) => Vector
 round((x), (x)) => WantScalar at 12
 abs(-x[5m]) => WantVector at 5
 rate((x[5m])) => Vector
+rate(+x[5m]) => Vector
 rate(x[5m:]) => Vector
 rate(-x) => WantRange at 5
 rate(rate(x[5m])) => WantRange at 5
@@ -154,6 +156,8 @@ x{a=~"["}[5m] => BadPattern at 0
 {}[5m:] => NoMatcher at 0
 x[46d] => NotInstant at 0
 rate(x[46d]) => Reach 3974400000 3888000000 at 0
+(rate(x[46d])) => Reach 3974400000 3888000000 at 0
+predict_linear(x[46d], 1) => Reach 3974400000 3888000000 at 0
 rate(x[45d]) => Vector
 rate(x[45d1ms]) => Reach 3888000001 3888000000 at 0
 rate(x[44d] offset 1d) => Vector
@@ -175,7 +179,7 @@ x[46d] + 1 => WantVector at 0
 
 #[test]
 fn first_faults_come_first(rt: HostRuntime) -> Result<(), Fail> {
-    assert_eq!(rt; OTHERS.lines().count(), 169);
+    assert_eq!(rt; OTHERS.lines().count(), 173);
     assert_eq!(rt; wrong_lines(rt.alloc(), OTHERS)?.as_str(), "");
     Ok(())
 }

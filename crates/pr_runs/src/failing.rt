@@ -9,8 +9,8 @@ const SCRIPT: &[u8] = b"add 0 m 1\nquery 299999 m\nquery 300000 m\nadd 1 m 2\nno
 const ANSWERS: &[u8] =
     b"opened 0\nadded\nvector 1\nvalue m 1\nvector 0\nbackwards last 300000 given 1\nbad line 5\n";
 
-// A failed read ends the run: the first before any order, the second after the orders that came with the
-// first, but for the line that may go on.
+// A failed read ends the run: the first before any order, the second after the orders that came
+// with the first, but for the line that may go on.
 #[test]
 fn a_failed_read_ends_the_run(rt: HostRuntime) -> Result<(), Fail> {
     let alloc = rt.alloc();
@@ -29,7 +29,8 @@ fn a_failed_read_ends_the_run(rt: HostRuntime) -> Result<(), Fail> {
     Ok(())
 }
 
-// An order is answered at its line feed, though that is the last byte that was read, and before there is another read.
+// An order is answered at its line feed, though that is the last byte that was read, and before
+// there is another read.
 #[test]
 fn an_order_is_answered_at_its_line_feed(rt: HostRuntime) -> Result<(), Fail> {
     let (status, text) = run_failing(rt.alloc(), b"add 0 m 1\n", &[2], &[])?;
@@ -38,7 +39,8 @@ fn an_order_is_answered_at_its_line_feed(rt: HostRuntime) -> Result<(), Fail> {
     Ok(())
 }
 
-// Each answer is one write. Where the write of a number fails, what was written are the answers before it.
+// Each answer is one write. Where the write of a number fails, what was written are the answers
+// before it.
 #[test]
 fn a_failed_write_ends_the_run(rt: HostRuntime) -> Result<(), Fail> {
     let alloc = rt.alloc();

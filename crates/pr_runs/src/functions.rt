@@ -1,5 +1,5 @@
-// What functions answer. A table has scripts, with `--` between two: each order `query` has its answer below it, and a line that begins
-// with `#` is a comment. (Prometheus: Querying, Functions.)
+// What functions answer. A table has scripts, with `--` between two: each order `query` has its
+// answer below it, and a line that begins with `#` is a comment. (Prometheus: Querying, Functions.)
 use crate::tables::first_other_run;
 use std::test::Fail;
 

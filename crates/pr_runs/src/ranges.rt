@@ -1,5 +1,6 @@
-// What functions of ranges and subqueries answer. A table has scripts, with `--` between two: each order `query` has its answer
-// below it, and a line that begins with `#` is a comment. (Prometheus: Querying, Basics; Querying, Functions.)
+// What functions of ranges and subqueries answer. A table has scripts, with `--` between two: each
+// order `query` has its answer below it, and a line that begins with `#` is a comment. (Prometheus:
+// Querying, Basics; Querying, Functions.)
 use crate::tables::first_other_run;
 use std::test::Fail;
 

@@ -109,8 +109,8 @@ pub(crate) fn run_over<I: Source>(
     Ok((status, out.bytes().to_vec(alloc)?))
 }
 
-/// The status of the words `check rules` and these names over these files, where the loads of these numbers fail, and what was
-/// written.
+/// The status of the words `check rules` and these names over these files, where the loads of these
+/// numbers fail, and what was written.
 pub(crate) fn check_failing(
     alloc: Global,
     names: &[&str],

@@ -1,5 +1,5 @@
 // What scripts with scrapes are answered.
-use crate::runner::{run, run_failing};
+use crate::runner::{run, run_failing, run_text};
 use crate::tables::first_difference;
 use pr_top::Status;
 use std::test::Fail;
@@ -18,6 +18,30 @@ const TARGETS: &str = r#"# a label of the target is renamed: 0
 < value a_bytes{job="g"} 18446744073709552000
 < vector 1
 < value b{exported_job="x",job="g"} 0.000020541
+# an order is about its own target: 0
+> scrape 0 {job="a"}
+> |m 1
+> scrape 0 {job="b"}
+> |m 1
+> gone 1 {job="b"}
+> scrape 2 {job="a"}
+> query 2 m
+< opened 0
+< scraped added 1 dropped 0 stale 0
+< scraped added 1 dropped 0 stale 0
+< gone stale 3
+< scraped added 0 dropped 0 stale 1
+< vector 0
+# samples with times of their own: 0
+> scrape 10 {job="a"}
+> |m 1
+> scrape 20 {job="a"}
+> |m 2 5
+> |n 3 15
+> |o 4 21
+< opened 0
+< scraped added 1 dropped 0 stale 0
+< scraped added 1 dropped 2 stale 1
 # a bad body hides all, and a good one shows again: 0
 > scrape 1000 {job="j"}
 > |m 1
@@ -151,6 +175,23 @@ fn scrapes_are_answered(rt: HostRuntime) -> Result<(), Fail> {
     Ok(())
 }
 
+// A body of more than 64 KiB is read whole.
+#[test]
+fn a_large_body_is_read(rt: HostRuntime) -> Result<(), Fail> {
+    let alloc = rt.alloc();
+    let mut script = String::from_str(alloc, "scrape 0 {job=\"a\"}\n")?;
+    for number in 0..5000u32 {
+        script.push_str(&format!(in alloc; "|m{{n=\"{number}\"}} 1\n")?)?;
+    }
+    let (status, text) = run_text(alloc, &script)?;
+    assert_eq!(rt;
+        text.as_str(),
+        "opened 0\nscraped added 5000 dropped 0 stale 0\n"
+    );
+    assert_eq!(rt; status, Status::Done);
+    Ok(())
+}
+
 // A line that begins as a body line but is no text ends the body.
 #[test]
 fn a_body_line_is_a_text(rt: HostRuntime) -> Result<(), Fail> {
@@ -164,7 +205,8 @@ fn a_body_line_is_a_text(rt: HostRuntime) -> Result<(), Fail> {
     Ok(())
 }
 
-// A scrape is answered when a line has come that is none of its body, and before there is another read; or at the end.
+// A scrape is answered when a line has come that is none of its body, and before there is another
+// read; or at the end.
 #[test]
 fn a_scrape_is_answered_behind_its_body(rt: HostRuntime) -> Result<(), Fail> {
     let alloc = rt.alloc();

@@ -1,6 +1,7 @@
-// Tables of runs, as texts. A row begins with a line `# NAME: STATUS`. Below it stand, each at the beginning of a line: `$ ` and
-// the words of the command line, `run` where there are none; `@ ` and the name of a file; `| ` and a line of that file; `> `
-// and a line of the input; `< ` and a line that is written.
+// Tables of runs, as texts. A row begins with a line `# NAME: STATUS`. Below it stand, each at the
+// beginning of a line: `$ ` and the words of the command line, `run` where there are none; `@ ` and
+// the name of a file; `| ` and a line of that file; `> ` and a line of the input; `< ` and a line
+// that is written.
 use crate::runner::{Given, run_given, run_text};
 use pr_outside::HeldFile;
 use std::alloc::{AllocError, Global};
@@ -47,15 +48,8 @@ impl Row {
     }
 
     // Takes over a line of a row.
-    fn take(&mut self, alloc: Global, line: &str) -> Result<(), AllocError> {
-        let Some((mark, rest)) = line.split_once(' ') else {
-            return match line {
-                ">" => self.given.input.push('\n'),
-                "<" => self.wanted.push('\n'),
-                "|" => push_content(&mut self.given.files, ""),
-                _ => Ok(()),
-            };
-        };
+    fn take(&mut self, alloc: Global, line: &str) -> Result<(), Fail> {
+        let (mark, rest) = line.split_once(' ').unwrap_or((line, ""));
         match mark {
             "#" => self.head.push_str(rest),
             "$" => push_words(alloc, &mut self.given.words, rest),
@@ -63,8 +57,9 @@ impl Row {
             "|" => push_content(&mut self.given.files, rest),
             ">" => push_line(&mut self.given.input, rest),
             "<" => push_line(&mut self.wanted, rest),
-            _ => Ok(()),
-        }
+            _ => return Err("a line of no kind")?,
+        }?;
+        Ok(())
     }
 
     // What differs: both texts, each with the name and the status; nothing where they are the same.
@@ -104,8 +99,9 @@ pub(crate) fn first_difference(alloc: Global, table: &str) -> Result<String, Fai
     }
 }
 
-/// The first question of a table that is answered otherwise over these samples, with both answers. A line of the table is a time,
-/// an expression, ` => ` and the answer, whose lines are apart by ` / `.
+/// The first question of a table that is answered otherwise over these samples, with both answers.
+/// A line of the table is a time, an expression, ` => ` and the answer, whose lines are apart by `
+/// / `.
 pub(crate) fn first_other_answer(
     alloc: Global,
     samples: &str,
@@ -129,8 +125,8 @@ pub(crate) fn first_other_answer(
     Ok(String::from_str(alloc, "none")?)
 }
 
-/// The first script of a table that is answered otherwise, with both texts, or that there is none. Scripts are apart by `--`; each
-/// answer stands below its order `query`, and a sample is added.
+/// The first script of a table that is answered otherwise, with both texts, or that there is none.
+/// Scripts are apart by `--`; each answer stands below its order `query`, and a sample is added.
 pub(crate) fn first_other_run(alloc: Global, table: &str) -> Result<String, Fail> {
     for block in table.split("--\n") {
         let mut script = String::new(alloc);
