@@ -7,11 +7,11 @@ use Rattle.pr_types.specs.declared.kind.ValueType.{ValueType}
 use Rattle.pr_types.specs.declared.kind.TypeFault.{TypeFault}
 use Rattle.pr_types.specs.Typed.{checked}
 use Rattle.pr_yaml.specs.Tree.{Tree as Node}
-use Rattle.pr_rulefile.specs.declared.problem.Problem.{Problem}
-use Rattle.pr_rulefile.specs.declared.problem.ProblemKind.{ProblemKind}
-use Rattle.pr_rulefile.specs.declared.problem.ProblemKind.TheVariants.{WantText, Missing, Lex, Parse, Typing}
-use Rattle.pr_rulefile.specs.Nodes.{line_of, text_of}
-use Rattle.pr_rulefile.specs.Problems.{problem}
+use Rattle.pr_fields.specs.declared.problem.Problem.{Problem}
+use Rattle.pr_fields.specs.declared.problem.ProblemKind.{ProblemKind}
+use Rattle.pr_fields.specs.declared.problem.ProblemKind.TheVariants.{WantText, Missing, Lex, Parse, Typing}
+use Rattle.pr_fields.specs.Nodes.{line_of, text_of}
+use Rattle.pr_fields.specs.Problems.{problem}
 
 -- a tree that has a type, or its first fault
 abbrev pub typed_tree : Tree → Result ValueType TypeFault → Result Tree ProblemKind

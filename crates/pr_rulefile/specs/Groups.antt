@@ -3,16 +3,16 @@ use Rattle.std.specs.Prelude.{ℕ, Bool, false, ◌||◌, is_some, List, [], ◌
 use Rattle.std.specs.List.{flat_map, filter_map, list_any}
 use Rattle.std.specs.Str.{bytes_eq}
 use Rattle.pr_yaml.specs.Tree.{Tree, EntryTree}
+use Rattle.pr_fields.specs.declared.problem.Problem.{Problem}
+use Rattle.pr_fields.specs.declared.problem.ProblemKind.TheVariants.{UnknownField, Missing, DuplicateGroup}
+use Rattle.pr_fields.specs.Nodes.{line_of, text_of, items_of, items_in, fields_of, fields_in, field, written, text_or_empty, items_under}
+use Rattle.pr_fields.specs.Problems.{problem, by_items, by_fields, unless_absent}
+use Rattle.pr_fields.specs.Scalars.{text_problems, span_problems, limit_problems, span_under, limit_under}
+use Rattle.pr_fields.specs.Labels.{labels_problems}
 use Rattle.pr_rulefile.specs.declared.fields.GroupField.{GroupField}
 use Rattle.pr_rulefile.specs.declared.fields.GroupField.TheVariants.{Name, Interval, Limit, Labels, Rules}
-use Rattle.pr_rulefile.specs.declared.problem.Problem.{Problem}
-use Rattle.pr_rulefile.specs.declared.problem.ProblemKind.TheVariants.{UnknownField, Missing, DuplicateGroup}
 use Rattle.pr_rulefile.specs.declared.rules.GroupDef.{GroupDef}
-use Rattle.pr_rulefile.specs.Nodes.{line_of, text_of, items_of, items_in, fields_of, fields_in, field, written, text_or_empty, items_under}
 use Rattle.pr_rulefile.specs.Fields.{group_field}
-use Rattle.pr_rulefile.specs.Problems.{problem, by_items, by_fields, unless_absent}
-use Rattle.pr_rulefile.specs.Scalars.{text_problems, span_problems, limit_problems, span_under, limit_under}
-use Rattle.pr_rulefile.specs.Labels.{labels_problems}
 use Rattle.pr_rulefile.specs.Rules.{rule_problems, Rule, rule_of, rule_of_def}
 
 -- the name of a group, where it has one that is a text
@@ -40,7 +40,8 @@ unfoldable pub group_name_problems : (List ℕ → Bool) → ℕ → Option Tree
 group_name_problems before line None = problem line (Missing (codes "name")) ∷ []
 group_name_problems before line (Some t) = by_name before (line_of t) (text_of t)
 
--- whether a rule is an alert, and whether a group has one: then the group's labels are templates too
+-- whether a rule is an alert, and whether a group has one: then the group's labels are templates
+-- too
 unfoldable pub is_alert_rule : Tree → Bool
 is_alert_rule t = is_some (written (codes "alert") (fields_in t))
 
@@ -62,8 +63,8 @@ by_group_field alerts e (Some f) = unless_absent e.value (group_value_problems a
 unfoldable pub group_field_problems : Bool → EntryTree → List Problem
 group_field_problems alerts e = by_group_field alerts e (group_field e.key)
 
--- What is wrong with a group that has these fields and stands after groups with these names: with its name, and with its fields one
--- after the other.
+-- What is wrong with a group that has these fields and stands after groups with these names: with
+-- its name, and with its fields one after the other.
 unfoldable pub group_in_problems : (List ℕ → Bool) → ℕ → List EntryTree → List Problem
 group_in_problems before line es =
     group_name_problems before line (written (codes "name") es) ++ flat_map (group_field_problems (has_alerts es)) es

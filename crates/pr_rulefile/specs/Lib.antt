@@ -1,10 +1,5 @@
-pub mod Nodes
 pub mod Fields
-pub mod Problems
-pub mod Scalars
 pub mod Expressions
-pub mod Labels
 pub mod Rules
 pub mod Groups
-pub mod Order
 pub mod File

@@ -6,19 +6,19 @@ use Rattle.pr_ast.specs.Tree.{Tree as Expression, tree_of}
 use Rattle.pr_labels.specs.declared.pair.Pair.{Pair}
 use Rattle.pr_labels.specs.Names.{is_metric_name}
 use Rattle.pr_yaml.specs.Tree.{Tree, EntryTree}
+use Rattle.pr_fields.specs.declared.problem.Problem.{Problem}
+use Rattle.pr_fields.specs.declared.problem.ProblemKind.TheVariants.{UnknownField, NoName, TwoNames, BadName, NotForRecording}
+use Rattle.pr_fields.specs.Nodes.{line_of, text_of, fields_of, field, written, text_or_empty, fields_under}
+use Rattle.pr_fields.specs.Problems.{problem, by_text, by_fields, unless_absent}
+use Rattle.pr_fields.specs.Scalars.{text_problems, span_problems, span_under}
+use Rattle.pr_fields.specs.Labels.{labels_problems, put_labels, pairs_of}
 use Rattle.pr_rulefile.specs.declared.fields.RuleField.{RuleField}
 use Rattle.pr_rulefile.specs.declared.fields.RuleField.TheVariants as kind
 use Rattle.pr_rulefile.specs.declared.fields.Naming.{Naming}
 use Rattle.pr_rulefile.specs.declared.fields.Naming.TheVariants.{Neither, Record, Alert, Both}
-use Rattle.pr_rulefile.specs.declared.problem.Problem.{Problem}
-use Rattle.pr_rulefile.specs.declared.problem.ProblemKind.TheVariants.{UnknownField, NoName, TwoNames, BadName, NotForRecording}
 use Rattle.pr_rulefile.specs.declared.rules.RuleDef.{RuleDef}
-use Rattle.pr_rulefile.specs.Nodes.{line_of, text_of, fields_of, field, written, text_or_empty, fields_under}
 use Rattle.pr_rulefile.specs.Fields.{rule_field}
-use Rattle.pr_rulefile.specs.Problems.{problem, by_text, by_fields, unless_absent}
-use Rattle.pr_rulefile.specs.Scalars.{text_problems, span_problems, span_under}
 use Rattle.pr_rulefile.specs.Expressions.{expression_under, problems_of, tree_in}
-use Rattle.pr_rulefile.specs.Labels.{labels_problems, put_labels, pairs_of}
 
 -- which of `record` and `alert` a rule has; an empty one is none
 abbrev pub naming_by : Bool → Bool → Naming
@@ -69,7 +69,8 @@ by_rule_field naming e (Some f) = unless_absent e.value (rule_value_problems nam
 unfoldable pub rule_field_problems : Naming → EntryTree → List Problem
 rule_field_problems naming e = by_rule_field naming e (rule_field e.key)
 
--- What is wrong with a rule that has these fields: with its names, with its expression, and with its fields one after the other.
+-- What is wrong with a rule that has these fields: with its names, with its expression, and with
+-- its fields one after the other.
 unfoldable pub rule_in_problems : ℕ → List EntryTree → List Problem
 rule_in_problems line es =
     naming_problems line (naming_of es) ++ (problems_of (expression_under line (written (codes "expr") es)) ++ flat_map (rule_field_problems (naming_of es)) es)

@@ -4,13 +4,11 @@ ghost use Rattle.std.specs.Option.{option_map};
 ghost use Rattle.pr_ast.specs.Tree.{tree_of as expression_tree};
 ghost use Rattle.pr_types.specs.Typed.{checked};
 ghost use Rattle.pr_yaml.specs.Tree.{tree_of, entry_tree_of};
-ghost use Rattle.pr_rulefile.specs.Nodes.{line_of, text_of, written};
+ghost use Rattle.pr_fields.specs.Nodes.{line_of, text_of, written};
 ghost use Rattle.pr_rulefile.specs.Expressions.{typed_tree, expression, seen, by_written, expression_under, problems_of, tree_in};
 
-use crate::access::{line_of, text_of, written};
-use crate::problem::{Problem, ProblemKind};
-use crate::push::{push, push_missing};
 use pr_ast::Expr;
+use pr_fields::{Problem, ProblemKind, line_of, push, push_missing, text_of, written};
 use pr_parse::{ParseError, parse};
 use pr_types::{Checked, TypeError, check};
 use pr_yaml::{Entry, Node};

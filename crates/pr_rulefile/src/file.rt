@@ -2,16 +2,17 @@
 ghost use Rattle.std.specs.Prelude.{◌≡◌, ◌++◌, List, OnOk, map};
 ghost use Rattle.std.specs.List.{flat_map};
 ghost use Rattle.pr_yaml.specs.Tree.{tree_of, entry_tree_of};
-ghost use Rattle.pr_rulefile.specs.Nodes.{items_in};
 ghost use Rattle.std.specs.List.{filter_map};
+ghost use Rattle.pr_fields.specs.Nodes.{items_in};
 ghost use Rattle.pr_rulefile.specs.Groups.{Group, group_of};
 ghost use Rattle.pr_rulefile.specs.File.{groups_value_problems, file_field_problems, file_problems, groups_under, file_groups};
 
-use crate::access::{fields_of, items_of, key_line_of, key_of, line_of, value_of};
 use crate::gather::GroupSink;
 use crate::group::each_group;
-use crate::problem::{Problem, ProblemKind};
-use crate::push::{push, push_unknown};
+use pr_fields::{
+    Problem, ProblemKind, fields_of, items_of, key_line_of, key_of, line_of, push, push_unknown,
+    value_of,
+};
 use pr_yaml::{Entry, Node};
 use std::alloc::{AllocError, Global};
 
@@ -69,7 +70,7 @@ fn each_file_field<G: GroupSink>(
 }
 
 /// The groups of a file, one after another. What is wrong with it goes behind what was found.
-#[tactic(auto, using(crate::proofs::Trees::no_fields), unfolding(crate::specs::File::file_problems, crate::specs::File::file_groups))]
+#[tactic(auto, using(pr_fields::proofs::Trees::no_fields), unfolding(crate::specs::File::file_problems, crate::specs::File::file_groups))]
 pub(crate) fn file_at<G: GroupSink>(
     alloc: Global,
     node: &Node,

@@ -27,8 +27,8 @@ impl GroupSink for RuleFile {
     }
 }
 
-/// How many rules the groups have. Each group is let go as soon as it is counted, since what is kept of
-/// its expressions takes far more memory than their text.
+/// How many rules the groups have. Each group is let go as soon as it is counted, since what is
+/// kept of its expressions takes far more memory than their text.
 #[derive(Drop)]
 pub(crate) struct RuleCount {
     pub(crate) rules: u64,

@@ -5,23 +5,21 @@ ghost use Rattle.std.specs.Option.{option_copied, option_map};
 ghost use Rattle.std.specs.Str.{bytes_eq};
 ghost use Rattle.pr_labels.specs.Known.{knows};
 ghost use Rattle.pr_yaml.specs.Tree.{tree_of, entry_tree_of};
-ghost use Rattle.pr_rulefile.specs.Nodes.{line_of, text_of, items_of, written};
-ghost use Rattle.pr_rulefile.specs.Problems.{by_items};
+ghost use Rattle.pr_fields.specs.Nodes.{line_of, text_of, items_of, written};
+ghost use Rattle.pr_fields.specs.Problems.{by_items};
 ghost use Rattle.pr_rulefile.specs.Rules.{rule_problems, rule_of, rule_of_def};
 ghost use Rattle.pr_rulefile.specs.Groups.{Group, no_name, and_name, group_name, by_name, group_name_problems, is_alert_rule, has_alerts, group_value_problems, group_field_problems, group_in_problems, group_problems, name_of, groups_problems, group_of_def, rules_by, rules_under, group_in, group_of};
 
-use crate::access::{
-    fields_in, fields_of, items_of, items_under, key_line_of, key_of, line_of, text_of, value_of,
-    written, written_text,
-};
 use crate::fields::{GroupField, group_field};
 use crate::gather::GroupSink;
-use crate::labels::labels_problems;
-use crate::problem::{Problem, ProblemKind};
-use crate::push::{push, push_duplicate, push_missing, push_unknown};
 use crate::rule::rule_at;
 use crate::rules::{GroupDef, RuleDef};
-use crate::scalars::{limit_problems, limit_under, span_problems, span_under, text_problems};
+use pr_fields::{
+    Problem, ProblemKind, fields_in, fields_of, items_of, items_under, key_line_of, key_of,
+    labels_problems, limit_problems, limit_under, line_of, push, push_duplicate, push_missing,
+    push_unknown, span_problems, span_under, text_of, text_problems, value_of, written,
+    written_text,
+};
 use pr_words::{Items, Text};
 use pr_yaml::{Entry, Node};
 use std::alloc::{AllocError, Global};

@@ -5,12 +5,11 @@ ghost use Rattle.pr_yaml.specs.Read.{gives_tree, gives_fault};
 ghost use Rattle.pr_rulefile.specs.Groups.{Group};
 ghost use Rattle.pr_rulefile.specs.File.{gives_file, gives_problems, by_reading, file_groups, groups_given, rules_given, rule_file_of, groups_of_file, IsErrorOf};
 
+use crate::fault::RuleError;
 use crate::file::file_at;
 use crate::gather::{GroupSink, RuleCount};
-use crate::order::in_order;
-use crate::problem::{Problem, ProblemKind, RuleError};
-use crate::push::push;
 use crate::rules::RuleFile;
+use pr_fields::{Problem, ProblemKind, in_order, push};
 use pr_words::Items;
 use pr_yaml::{Node, YamlError, read as read_tree};
 use pr_yaml_scan::YamlKind;
@@ -79,8 +78,8 @@ pub fn read(alloc: Global, bytes: &[u8]) -> Result<RuleFile, RuleError>
     Ok(file)
 }
 
-/// How many rules the rule file of a text has. It tells what [`read`] tells, and keeps no more than one
-/// group at a time.
+/// How many rules the rule file of a text has. It tells what [`read`] tells, and keeps no more than
+/// one group at a time.
 ///
 /// # Errors
 /// As those of [`read`].

@@ -4,22 +4,20 @@ ghost use Rattle.std.specs.List.{flat_map};
 ghost use Rattle.std.specs.Option.{option_map};
 ghost use Rattle.pr_ast.specs.Tree.{tree_of as expression_tree};
 ghost use Rattle.pr_yaml.specs.Tree.{tree_of, entry_tree_of};
+ghost use Rattle.pr_fields.specs.Problems.{by_text};
+ghost use Rattle.pr_fields.specs.Scalars.{span_problems};
+ghost use Rattle.pr_fields.specs.Labels.{labels_problems};
+ghost use Rattle.pr_fields.specs.Nodes.{line_of, text_of};
 ghost use Rattle.pr_rulefile.specs.Rules.{naming_by, naming_of, is_alert, records_only, naming_problems, recorded_problems, for_alerts, rule_value_problems, rule_field_problems, rule_in_problems, rule_problems, rule_of_def, name_key, rule_labels, rule_notes, rule_with, rule_in, rule_of};
-ghost use Rattle.pr_rulefile.specs.Problems.{by_text};
-ghost use Rattle.pr_rulefile.specs.Scalars.{span_problems};
-ghost use Rattle.pr_rulefile.specs.Labels.{labels_problems};
-ghost use Rattle.pr_rulefile.specs.Nodes.{line_of, text_of};
 
-use crate::access::{
-    fields_of, fields_under, key_line_of, key_of, line_of, text_of, value_of, written, written_text,
-};
 use crate::expressions::rule_expression;
 use crate::fields::{Naming, RuleField, rule_field};
-use crate::labels::{labels_problems, pairs_of, put_labels};
-use crate::problem::{Problem, ProblemKind};
-use crate::push::{push, push_not_for_recording, push_unknown};
 use crate::rules::RuleDef;
-use crate::scalars::{span_problems, span_under, text_problems};
+use pr_fields::{
+    Problem, ProblemKind, fields_of, fields_under, key_line_of, key_of, labels_problems, line_of,
+    pairs_of, push, push_not_for_recording, push_unknown, put_labels, span_problems, span_under,
+    text_of, text_problems, value_of, written, written_text,
+};
 use pr_labels::{Pair, is_metric_name};
 use pr_time::Span;
 use pr_types::Checked;

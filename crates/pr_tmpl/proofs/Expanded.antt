@@ -7,6 +7,8 @@ use Rattle.pr_num.specs.Half.{half_abs}
 use Rattle.pr_num.specs.Reads.{reads}
 use Rattle.pr_num.specs.Shown.{shown, fraction_text}
 use Rattle.pr_num.specs.declared.value.Num.TheVariants.{Finite, NaN}
+use Rattle.pr_humanize.specs.Decimals.{fixed, digits_text, cut_text, four_digits}
+use Rattle.pr_humanize.specs.Humanized.{great, small, scaled_text, percent_text, clock_text, seconds_text}
 use Rattle.pr_labels.specs.LabelSet.{named}
 use Rattle.pr_tmpl.specs.declared.template.External.{External}
 use Rattle.pr_tmpl.specs.declared.template.Verb.TheVariants.{Plain, Fixed}
@@ -17,8 +19,6 @@ use Rattle.pr_strings.specs.StringAnswer.{string_of, bad_string_place}
 use lib.Utf8.{encode}
 use Rattle.pr_tmpl.specs.Pieces.{pieces}
 use Rattle.pr_tmpl.specs.TemplateText.{template_parts, bad_piece, bad_template_place}
-use Rattle.pr_tmpl.specs.Decimals.{fixed, digits_text, cut_text, four_digits}
-use Rattle.pr_tmpl.specs.Humanized.{great, small, scaled_text, percent_text, clock_text, seconds_text}
 use Rattle.pr_tmpl.specs.Expansion.{expansion, through}
 
 pub words : template_parts (codes "a{b") ≡ Some (Words (codes "a{b") ∷ [])

@@ -81,7 +81,8 @@ abbrev pub are_ascii : List ℕ → Bool
 are_ascii [] = true
 are_ascii (b ∷ bs) = nat_lt b 128 && are_ascii bs
 
--- What an escape means is UTF-8, and so is what follows it, where the text is; the text may be cut before its backslash.
+-- What an escape means is UTF-8, and so is what follows it, where the text is; the text may be cut
+-- before its backslash.
 abbrev pub MeansText : List ℕ → Letter → List ℕ → Type 0
 MeansText text (Escape kind means) rest = IsUtf8 means.items × KeepsText text rest
 MeansText text _ rest = Unit {0}

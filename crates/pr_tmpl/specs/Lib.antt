@@ -1,5 +1,3 @@
-pub mod Decimals
-pub mod Humanized
 pub mod Expansion
 pub mod Pieces
 pub mod TemplateText

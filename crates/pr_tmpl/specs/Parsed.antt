@@ -26,7 +26,8 @@ abbrev pub words_part : List ℕ → List Part
 words_part [] = []
 words_part (b ∷ bs) = Words (b ∷ bs) ∷ []
 
--- There are only words up to the rest; up to the braces of a pipe, which follows; and in all of the text.
+-- There are only words up to the rest; up to the braces of a pipe, which follows; and in all of the
+-- text.
 pub record IsWords (text rest : List ℕ) : Type 0 where
   pub words : List ℕ
   pub bytes_are : text ≡ words ++ rest

@@ -1,5 +1,5 @@
--- The pieces of a template's text. An escape of strings is one piece, wherever it stands, and each other byte is one. So a character that
--- an escape writes has the place of its backslash.
+-- The pieces of a template's text. An escape of strings is one piece, wherever it stands, and each
+-- other byte is one. So a character that an escape writes has the place of its backslash.
 use Rattle.std.specs.Prelude.{Bool, ℕ, zero, suc, ◌-◌, ◌==◌, nat_le, ◌&&◌, ◌||◌, Option, Some, None, List, [], ◌∷◌, ◌++◌, length, take, drop, map, flat_map, codes, if◌then◌else◌}
 use Prim.Native.Char.{code}
 use Rattle.pr_tmpl.specs.declared.kind.Kind.{Kind}
@@ -66,7 +66,8 @@ escape_quoted bytes = codes "\"\\" ++ (bytes ++ codes "\"")
 abbrev pub escape_parts : List ℕ → List ℕ
 escape_parts bytes = take (bad_string_place (escape_quoted bytes) - 2) bytes
 
--- What stands from a backslash on: an escape is one that strings have, and of one that breaks off those bytes are parts that can go on.
+-- What stands from a backslash on: an escape is one that strings have, and of one that breaks off
+-- those bytes are parts that can go on.
 abbrev pub escaped : (List ℕ → List Piece) → List ℕ → List ℕ → Option (List ℕ) → List Piece
 escaped again bytes text (Some means) = escape (kind_of_all means) (codes "\\" ++ bytes) means ∷ again (drop (length bytes) text)
 escaped again bytes text None = broken ∷ (map part (escape_parts bytes) ++ again (drop (length (escape_parts bytes)) text))

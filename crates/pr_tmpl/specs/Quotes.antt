@@ -49,7 +49,8 @@ means_of (Plain k b) = b ∷ []
 means_of (Escape k means) = means.items
 means_of Broken = []
 
--- what is read from a place on: bytes, and in a format before its verb the verb and the bytes after it
+-- what is read from a place on: bytes, and in a format before its verb the verb and the bytes after
+-- it
 pub data Tail : Type 0 where
   tail : List ℕ → Verb → List ℕ → Tail
 
@@ -111,7 +112,8 @@ abbrev pub IsWanted : List ℕ → Wanted → List ℕ → Type 0
 IsWanted text AnotherPercent rest = Hands (rule WantedRule) text (before_verb (bytes (codes "%"))) (rule Before) rest (λ v. v)
 IsWanted text w rest = Hands (rule WantedRule) text (leading (verb (verb_wanted w))) (rule AfterVerb) rest (λ v. v)
 
--- A text before a verb and what stands after a `%`; a text after the verb, which goes on behind two of `%`, or ends.
+-- A text before a verb and what stands after a `%`; a text after the verb, which goes on behind two
+-- of `%`, or ends.
 abbrev pub LeadsUpTo : List ℕ → List ℕ → Wanted → List ℕ → Type 0
 LeadsUpTo text bs AnotherPercent rest = Reaches InFront text (bs ++ codes "%") rest
 LeadsUpTo text bs w rest = Hands (rule Before) text (format bs (verb_wanted w)) (rule AfterVerb) rest bytes

@@ -26,7 +26,8 @@ Hands f text made g rest given = Carries production table f (pieces text) made g
 abbrev pub Leads : Form Piece Rule Value → List ℕ → Form Piece Rule Value → List ℕ → Type 0
 Leads f text g rest = Carries production table f (pieces text) (λ v. v) g (pieces rest) (λ v. v)
 
--- Where a text is UTF-8, so is what follows a byte of this kind. A byte of no kind of its own may be a part of a longer character.
+-- Where a text is UTF-8, so is what follows a byte of this kind. A byte of no kind of its own may
+-- be a part of a longer character.
 abbrev pub KeepsTextBy : Kind → List ℕ → List ℕ → Type 0
 KeepsTextBy Other text rest = Unit {0}
 KeepsTextBy k text rest = KeepsText text rest

@@ -32,7 +32,8 @@ pub data Value : Type 0 where
   -- a piece that has no value alone
   mark : Value
 
--- The rules. A rule that a piece chooses reads that piece too; it is named after it where its own name says no more.
+-- The rules. A rule that a piece chooses reads that piece too; it is named after it where its own
+-- name says no more.
 pub data Rule : Type 0 where
   -- a template, a piece of it that stands for itself, and a brace
   Text : Rule
@@ -57,7 +58,8 @@ pub data Rule : Type 0 where
   ExternalWord : Rule
   ExternalLabelsWord : Rule
   UrlWord : Rule
-  -- what stands in a string up to its last quote, and what stands in it after an escape that breaks off
+  -- what stands in a string up to its last quote, and what stands in it after an escape that breaks
+  -- off
   Content : Rule
   Breaking : Rule
   -- a label's name, and its bytes after these
@@ -71,7 +73,8 @@ pub data Rule : Type 0 where
   Scale : Rule
   PercentageWord : Rule
   DurationWord : Rule
-  -- a format from its first quote on; what stands in it before its verb; after a `%`, after `%.`, and after the places
+  -- a format from its first quote on; what stands in it before its verb; after a `%`, after `%.`,
+  -- and after the places
   Formatted : Rule
   Before : Rule
   Wanted : Rule
@@ -124,7 +127,8 @@ abbrev pub part_at : Piece → Option Value
 part_at (part b) = Some mark
 part_at _ = None
 
--- pieces of a format: the same without `%`; `%`; verbs of one letter, where `%f` has six places; a point; a number of places
+-- pieces of a format: the same without `%`; `%`; verbs of one letter, where `%f` has six places; a
+-- point; a number of places
 abbrev pub text_at : Piece → Option Value
 text_at (plain Quote b) = None
 text_at (plain Feed b) = None
@@ -315,7 +319,8 @@ abbrev pub formatted : Value → Value → Value
 formatted v (format bs f es) = call (Printf (record { before = bs; verb = f; after = es }))
 formatted v w = mark
 
--- what may go on: anything after a text, bytes of a name after an operand, a longer word after `humanize`
+-- what may go on: anything after a text, bytes of a name after an operand, a longer word after
+-- `humanize`
 abbrev pub anything : Piece → Bool
 anything t = true
 
@@ -345,21 +350,17 @@ after_any f = pair second_of (token any_at) f
 abbrev pub broken_off : Form Piece Rule Value
 broken_off = pair second_of (token broken_at) (rule Breaking)
 
--- The productions, where a rule that a piece chooses stands in its place. A format and a string that has an escape which breaks off can go on
--- with the parts of it alone.
---   text           = piece text | "{" opened |
---   opened         = "{" blanks first | piece text |
---   first          = operand after | call blank blanks operand after
---   operand        = "\"" content | "$" ("v" value | "l" labels | "e" external) | "." ("V" value | "L" labels | "E" external)
---   content        = piece content | "\""
---   value          = "alue"
---   labels         = "abels." name
---   external       = "xternal" ("L" labels | "URL")
---   call           = "printf" blank blanks "\"" before | "humanize" ["Percentage" | "Duration"]
---   before         = piece before | "%" wanted
---   wanted         = "%" before | ("f" | "v" | "s") after-verb | "." digit "f" after-verb
---   after-verb     = piece after-verb | "%" "%" after-verb | "\""
---   after          = blanks ("|" blanks call after | "}" "}" text)
+-- The productions, where a rule that a piece chooses stands in its place. A format and a string
+-- that has an escape which breaks off can go on with the parts of it alone. text           = piece
+-- text | "{" opened | opened         = "{" blanks first | piece text | first          = operand
+-- after | call blank blanks operand after operand        = "\"" content | "$" ("v" value | "l"
+-- labels | "e" external) | "." ("V" value | "L" labels | "E" external) content        = piece
+-- content | "\"" value          = "alue" labels         = "abels." name external       = "xternal"
+-- ("L" labels | "URL") call           = "printf" blank blanks "\"" before | "humanize"
+-- ["Percentage" | "Duration"] before         = piece before | "%" wanted wanted         = "%"
+-- before | ("f" | "v" | "s") after-verb | "." digit "f" after-verb after-verb     = piece
+-- after-verb | "%" "%" after-verb | "\"" after          = blanks ("|" blanks call after | "}" "}"
+-- text)
 abbrev pub production : Rule → Form Piece Rule Value
 production Text = either (chosen text_rule anything) (nothing (parts []))
 production PlainPiece = pair texted (token raw_at) (rule Text)
@@ -521,7 +522,8 @@ steps = 10
 abbrev pub IsTemplate : List ℕ → List Part → Type 0
 IsTemplate text ps = Reads production (rule Text) (pieces text) (parts ps) []
 
--- The first bad piece is the first one with which no template can go on; its place is where it begins.
+-- The first bad piece is the first one with which no template can go on; its place is where it
+-- begins.
 abbrev pub IsBadPiece : List ℕ → ℕ → Type 0
 IsBadPiece text n = IsFirstBad production (rule Text) (pieces text) n
 
@@ -529,7 +531,8 @@ abbrev pub parts_in : Option Value → Option (List Part)
 parts_in (Some (parts ps)) = Some ps
 parts_in _ = None
 
--- The parts of a text as a function of it, where it is a template; the first bad piece, and its place in bytes.
+-- The parts of a text as a function of it, where it is a template; the first bad piece, and its
+-- place in bytes.
 unfoldable pub template_parts : List ℕ → Option (List Part)
 template_parts text = parts_in (reading production table steps (rule Text) (pieces text))
 

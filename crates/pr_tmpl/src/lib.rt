@@ -1,10 +1,8 @@
 //! Templates: texts with the labels and the value of an alert in them, and what they expand to.
 #![tactic(auto)]
 
-mod digits;
 mod examples;
 mod expand;
-mod humanize;
 mod kind;
 mod laws;
 mod letter;
@@ -12,11 +10,9 @@ mod parse;
 mod pipe;
 mod quoted;
 mod template;
-#[cfg(test)]
-mod tests;
 mod words;
 
-pub use examples::{small_templates_expand_so, values_are_written_so};
+pub use examples::small_templates_expand_so;
 pub use expand::Argument;
 pub use laws::{
     one_piece_decides_templates, parts_of_a_template_are_a_function, pieces_are_the_text,

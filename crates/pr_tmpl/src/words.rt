@@ -8,10 +8,10 @@ ghost use Rattle.pr_tmpl.specs.Letters.{IsSign, IsNoSign, are_ascii};
 ghost use Rattle.pr_strings.specs.Reader.{KeepsText};
 ghost use Rattle.pr_tmpl.specs.Reader.{Gives, FailsAt, Leads, KeepsTextBy};
 
-use crate::digits::push_byte;
 use crate::kind::Kind;
 use crate::letter::front;
 use pr_forms::Fault;
+use pr_humanize::push_byte;
 use pr_words::Text;
 use std::alloc::Global;
 

@@ -1,0 +1,5 @@
+pub mod Nodes
+pub mod Problems
+pub mod Scalars
+pub mod Labels
+pub mod Order

@@ -1,0 +1,23 @@
+//! The fields of YAML maps: what stands under a name, and what is wrong with it.
+#![tactic(auto)]
+
+mod access;
+mod found;
+mod labels;
+pub mod laws;
+mod order;
+mod problem;
+mod scalars;
+mod templates;
+
+pub use access::{
+    field, fields_in, fields_of, fields_under, items_in, items_of, items_under, key_line_of,
+    key_of, line_of, text_of, value_of, written, written_text,
+};
+pub use found::{
+    push, push_bad_label, push_duplicate, push_missing, push_not_for_recording, push_unknown,
+};
+pub use labels::{labels_problems, pairs_of, put_labels};
+pub use order::in_order;
+pub use problem::{Problem, ProblemKind};
+pub use scalars::{limit_problems, limit_under, span_problems, span_under, text_problems};

@@ -1,0 +1,3 @@
+pub mod Written
+pub mod Tens
+pub mod ShownText
