@@ -1,6 +1,6 @@
 -- What is read has maps with distinct keys.
-use Rattle.std.proofs.Common.{◌≡◌, ℕ, List, [], ◌∷◌, ◌++◌, Bool, true, false, ◌&&◌, Some, None, refl, sym, subst}
-use Rattle.std.specs.Prelude.{if◌then◌else◌, not, nat_eq, nat_le, ◌+◌}
+use Rattle.std.proofs.Common.{◌≡◌, ℕ, List, [], ◌∷◌, ◌++◌, Bool, true, false, ◌&&◌, Some, refl, sym, subst}
+use Rattle.std.specs.Prelude.{not, nat_eq, nat_le, ◌+◌}
 use Rattle.pr_forms.specs.Form.{rule}
 use Rattle.pr_forms.proofs.ByRules.{Each, Meets, by_token, by_nothing, by_pair, by_left, by_right, by_choice, by_rule, by_rules}
 use Rattle.pr_yaml.specs.Tree.{Tree, text_node, trees_from, entries_from}
@@ -9,7 +9,7 @@ use Rattle.pr_yaml.specs.Distinct.{has_distinct_keys, have_distinct_keys, are_di
 use Rattle.pr_yaml.specs.Derived.{IsTree}
 use Rattle.pr_yaml.specs.Trees.{levels}
 use Rattle.pr_yaml.specs.Reader.{maybe_node}
-use Rattle.pr_yaml.proofs.TreeTable.{cond_some}
+use Rattle.pr_yaml.proofs.TreeTable.{cond_some, cond_none, right_of}
 
 -- what is so of a value, after entries with these keys
 abbrev Fine : List (List ℕ) → Value → Type 0
@@ -128,10 +128,6 @@ not_taken : (key : List ℕ) (ks : List (List ℕ)) (b : Bool) → b ≡ is_take
 not_taken key ks true e h = absurd cc
 not_taken key ks false e h = sym e
 
-right_of : (x y : Bool) → x && y ≡ true → y ≡ true
-right_of true y e = e
-right_of false y e = absurd cc
-
 chosen_entry : (k r : ℕ) (ks : List (List ℕ)) (t : Letter) (n : Rule) (v : Value) → entry_from true k r ks t ≡ Some n → Holds n v → Fine ks v
 chosen_entry k r ks (key_at l c x) n v e h =
     let p = cond_some (nat_eq k c && not (is_taken true x ks)) (Entry k r ks x) n e in
@@ -143,10 +139,6 @@ chosen_pair r ks (key_at l c x) n v e h =
     let p = cond_some (not (is_taken true x ks)) (Pair r ks x) n e in
     subst (λ m. Holds m v) (sym p.1) h (not_taken x ks (is_taken true x ks) refl p.0)
 chosen_pair r ks _ n v e h = absurd cc
-
-cond_none : (x : Bool) (n : Rule) → (if x then None else None) ≡ Some n → ⊥
-cond_none true n e = cc
-cond_none false n e = cc
 
 chosen_node : (c r : ℕ) (t : Letter) (n : Rule) (v : Value) → node_from c r t ≡ Some n → Holds n v → Fine [] v
 chosen_node c r (text_at l k x q) n v e h = subst (λ m. Holds m v) (sym (cond_some (is_allowed r && nat_le c k) _ n e).1) h

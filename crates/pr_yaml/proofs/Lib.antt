@@ -8,4 +8,5 @@ pub mod WholeTrees
 pub mod FaultLines
 pub mod ReadLaws
 pub mod DistinctKeys
+pub mod Depths
 pub mod ReturnLines

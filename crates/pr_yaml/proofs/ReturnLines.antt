@@ -1,4 +1,5 @@
--- A carriage return before each line feed changes neither the lines that kinds of faults look at nor the last line.
+-- A carriage return before each line feed changes neither the lines that kinds of faults look at
+-- nor the last line.
 use Rattle.std.proofs.Common.{◌≡◌, ℕ, zero, suc, ◌+◌, ◌-◌, ◌<◌, ◌≤◌, ◌==◌, Bool, true, false, cond, if◌then◌else◌, List, [], ◌∷◌, Option, Some, None, length, get_or, take, refl, sym, subst, ap, ◌∙◌, arith, length-take, take-take}
 use Prim.Native.Char.{code}
 use Rattle.std.specs.Prelude.{slice_get, count_by}

@@ -519,7 +519,7 @@ pub cond_none : (x : Bool) (n : Rule) → (if x then None else None) ≡ Some n 
 cond_none true n e = cc
 cond_none false n e = cc
 
-right_of : (x y : Bool) → x && y ≡ true → y ≡ true
+pub right_of : (x y : Bool) → x && y ≡ true → y ≡ true
 right_of true y e = e
 right_of false y e = absurd cc
 

@@ -1,5 +1,5 @@
--- The tree of a text and its first fault, as relations: by the productions, and by the first place up to which the
--- tokens cannot go on.
+-- The tree of a text and its first fault, as relations: by the productions, and by the first place
+-- up to which the tokens cannot go on.
 use Rattle.std.specs.Prelude.{◌≡◌, ℕ, true, Option, Some, None, List, [], slice_get}
 use Rattle.pr_forms.specs.Form.{rule, Reads, IsFirstBad}
 use Rattle.pr_yaml_scan.specs.Tokens.{HasPlaces}
@@ -26,7 +26,8 @@ pub record IsTree (text : List ℕ) (tree : Tree) : Type 0 where
   pub whole : HasValue tokens value
   pub is : or_absent 1 value ≡ tree
 
--- The fault after all tokens: that of the bytes there; or a flow that the end of the text leaves open.
+-- The fault after all tokens: that of the bytes there; or a flow that the end of the text leaves
+-- open.
 abbrev pub IsEndFault : List ℕ → List Token → Option BadPlace → ℕ → YamlKind → Type 0
 IsEndFault text tokens (Some bad) line kind = (line ≡ bad.fault.line) × (kind ≡ scan_kind tokens bad)
 IsEndFault text tokens None line kind =
@@ -37,8 +38,8 @@ abbrev pub IsFaultAt : List ℕ → List Token → Option BadPlace → ℕ → O
 IsFaultAt text tokens bad place (Some t) line kind = (line ≡ t.line) × (kind ≡ token_kind text tokens place t)
 IsFaultAt text tokens bad place None line kind = IsEndFault text tokens bad line kind
 
--- The text has a fault on this line, of this kind: at the first token up to which its tokens cannot go on, or after
--- all of them.
+-- The text has a fault on this line, of this kind: at the first token up to which its tokens cannot
+-- go on, or after all of them.
 pub record HasFault (text : List ℕ) (line : ℕ) (kind : YamlKind) : Type 0 where
   pub tokens : List Token
   pub bad : Option BadPlace

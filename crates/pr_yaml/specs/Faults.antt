@@ -34,27 +34,28 @@ from_line zero text = text
 from_line (suc n) [] = []
 from_line (suc n) (b ∷ rest) = if is_feed b then from_line n rest else from_line (suc n) rest
 
--- A token is the first of its line where nothing but blanks stands before its column. Columns count after a byte
--- order mark.
+-- A token is the first of its line where nothing but blanks stands before its column. Columns count
+-- after a byte order mark.
 unfoldable pub is_first_of_line : List ℕ → ℕ → ℕ → Bool
 is_first_of_line text line column = list_all is_blank (take column (from_line (line - 1) (without_mark text)))
 
--- the kind of a token that may not stand at its place: inside flows or not, first of its line or not
+-- the kind of a token that may not stand at its place: inside flows or not, first of its line or
+-- not
 abbrev pub place_kind : Bool → Bool → YamlKind
 place_kind true first = Flow
 place_kind false true = Indent
 place_kind false false = Extra
 
--- The kind of the first token up to which the tokens cannot go on. They could, if keys might stand twice; or else if
--- there were room for one level more; or it may not stand there at all.
+-- The kind of the first token up to which the tokens cannot go on. They could, if keys might stand
+-- twice; or else if there were room for one level more; or it may not stand there at all.
 unfoldable pub token_kind : List ℕ → List Token → ℕ → Token → YamlKind
 token_kind text tokens place t =
     if goes_on false levels (letters (take (suc place) tokens)) then DuplicateKey else
     (if goes_on true (levels + 1) (letters (take (suc place) tokens)) then TooDeep else
     place_kind (is_inside (take place tokens)) (is_first_of_line text t.line t.column))
 
--- An anchor and its like are so where a scalar could go on at that column, or a key where one may stand. Else
--- nothing may begin there.
+-- An anchor and its like are so where a scalar could go on at that column, or a key where one may
+-- stand. Else nothing may begin there.
 unfoldable pub may_begin : List Token → ℕ → TokenStart → Bool
 may_begin tokens line start =
     goes_on false (levels + 1) (letters tokens ++ text_at line start.column [] false ∷ [])

@@ -58,10 +58,10 @@ pub data Value : Type 0 where
   absent : Value
   mark : Value
 
--- The rules. In their names: `line` is the line of the token that a map or a list begins with; `column` is where the
--- tokens of a rule stand, but for `Node`, which stands at it or further on; `room` is how many maps and lists may
--- still stand in one another there, the node of the rule with them; `keys` are the keys of the map so far, and `key`
--- is the one that comes next.
+-- The rules. In their names: `line` is the line of the token that a map or a list begins with;
+-- `column` is where the tokens of a rule stand, but for `Node`, which stands at it or further on;
+-- `room` is how many maps and lists may still stand in one another there, the node of the rule with
+-- them; `keys` are the keys of the map so far, and `key` is the one that comes next.
 pub data Rule : Type 0 where
   Whole : ℕ → Rule
   Node : ℕ → ℕ → Rule
@@ -114,7 +114,8 @@ list_from column room (dash_at line c) =
     if is_allowed room && nat_eq column c then Some (Items line column (room - 1)) else None
 list_from column room _ = None
 
--- Whether a key stands among others. Where keys are distinct, a key that does is no key of their map.
+-- Whether a key stands among others. Where keys are distinct, a key that does is no key of their
+-- map.
 abbrev pub is_among : List ℕ → List (List ℕ) → Bool
 is_among key = list_any (λ k. bytes_eq k key)
 
@@ -211,8 +212,8 @@ abbrev pub flow_list_of : Value → Value → Value
 flow_list_of (at line) v = list_on line mark v
 flow_list_of _ v = mark
 
--- What may go on after a part that stands at a column or further on; after the items of a list under a key; inside
--- flows.
+-- What may go on after a part that stands at a column or further on; after the items of a list
+-- under a key; inside flows.
 abbrev pub is_within : ℕ → Letter → Bool
 is_within column t = nat_le column (column_of t)
 
@@ -226,16 +227,13 @@ abbrev pub is_in_map : Letter → Bool
 is_in_map (map_close line column) = false
 is_in_map t = true
 
--- The productions, where a node has room for itself and the column of a map or a list is that of its first token:
---   whole            = [ node(0) ]
---   node(c)          = text | flow | map(k) | list(k)          at a column k of at least c
---   map(k)           = entry { entry }                         no key of it twice
---   entry            = key at k [ node(k + 1) | list(k) ]
---   list(k)          = item { item }
---   item             = dash at k [ node(k + 1) ]
---   flow             = "[" [ value { "," value } [","] ] "]" | "{" [ pair { "," pair } [","] ] "}"
---   value            = text | flow
---   pair             = key [ value ]                           no key of its map twice
+-- The productions, where a node has room for itself and the column of a map or a list is that of
+-- its first token: whole            = [ node(0) ] node(c)          = text | flow | map(k) | list(k)
+-- at a column k of at least c map(k)           = entry { entry }                         no key of
+-- it twice entry            = key at k [ node(k + 1) | list(k) ] list(k)          = item { item }
+-- item             = dash at k [ node(k + 1) ] flow             = "[" [ value { "," value } [","] ]
+-- "]" | "{" [ pair { "," pair } [","] ] "}" value            = text | flow pair             = key [
+-- value ]                           no key of its map twice
 abbrev pub production : Bool → Rule → Form Letter Rule Value
 production distinct (Whole room) = either (rule (Node 0 room)) (nothing absent)
 production distinct (Node column room) = chosen (node_from column room) (is_within column)

@@ -7,4 +7,5 @@ pub mod Faults
 pub mod Read
 pub mod Derived
 pub mod Distinct
+pub mod Depth
 pub mod Worked

@@ -1,4 +1,5 @@
--- What a YAML text is read as, as a function of it: its tree, or the line and the kind of its first fault.
+-- What a YAML text is read as, as a function of it: its tree, or the line and the kind of its first
+-- fault.
 use Rattle.std.specs.Prelude.{◌≡◌, ℕ, true, Option, Some, None, List, slice_get}
 use Rattle.pr_yaml_scan.specs.declared.token.Token.{Token}
 use Rattle.pr_yaml_scan.specs.declared.fault.YamlKind.{YamlKind}
@@ -17,8 +18,8 @@ pub data Reading : Type 0 where
   -- the line and the kind of the first fault
   gives_fault : ℕ → YamlKind → Reading
 
--- Where all tokens can go on, the fault is that of the bytes after them. Without one they have a tree, or a flow is
--- still open at the end.
+-- Where all tokens can go on, the fault is that of the bytes after them. Without one they have a
+-- tree, or a flow is still open at the end.
 abbrev pub at_end : List ℕ → List Token → Option BadPlace → Option Tree → Reading
 at_end text tokens (Some bad) found = gives_fault bad.fault.line (scan_kind tokens bad)
 at_end text tokens None (Some tree) = gives_tree tree

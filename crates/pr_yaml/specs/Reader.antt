@@ -60,13 +60,14 @@ NoPair distinct keys ts = (room : ℕ) → ChoosesNone (pair_from distinct room 
 abbrev pub maybe_node : ℕ → ℕ → Form Letter Rule Value
 maybe_node column room = either (rule (NodeRule column room)) (nothing absent)
 
--- The form reads a value, which is the node, or none, and then the node is the absent one of the line.
+-- The form reads a value, which is the node, or none, and then the node is the absent one of the
+-- line.
 abbrev pub GivesValue : Bool → Form Letter Rule Value → ℕ → List Token → Node → List Token → Type 0
 GivesValue distinct f line ts node rest =
     (v : Value) × (Gives (yaml distinct) f ts (good v (letters rest)) × (or_absent line v ≡ tree_of node))
 
--- A loop over a list has read some parts of it: what the form reads at the tokens is decided by what the second form
--- reads at the rest.
+-- A loop over a list has read some parts of it: what the form reads at the tokens is decided by
+-- what the second form reads at the rest.
 pub record HasRead {A : Type 0} (distinct : Bool) (f : Form Letter Rule Value) (tokens : List Token) (made : List A → Value) (done : List A) (g : Form Letter Rule Value) (rest : List Token) : Type 0 where
   pub carries : Carries (yaml distinct) f tokens (λ xs. made (done ++ xs)) g rest made
   pub shorter : length rest ≤ length tokens

@@ -12,8 +12,8 @@ use Rattle.pr_yaml.specs.GrammarTable.{table, steps}
 abbrev pub levels : ℕ
 levels = 64
 
--- The place of the first token up to which the tokens cannot go on; their number, where all can. Keys of a map are
--- distinct or not, and there is room for so many maps and lists in one another.
+-- The place of the first token up to which the tokens cannot go on; their number, where all can.
+-- Keys of a map are distinct or not, and there is room for so many maps and lists in one another.
 unfoldable pub stop : Bool → ℕ → List Letter → ℕ
 stop distinct room ts = bad_place (production distinct) (table distinct) steps (rule (Whole room)) ts
 

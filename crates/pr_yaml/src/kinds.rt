@@ -14,11 +14,10 @@ ghost use Rattle.pr_yaml.specs.Faults.{
   scan_kind,
   end_line_of,
 };
-ghost use Rattle.pr_yaml_scan.specs.Bytes.{without_mark};
 
 use crate::whole::goes_on;
 use pr_words::{Text, is_blank};
-use pr_yaml_scan::{BadPlace, Token, TokenKind, TokenStart, YamlKind};
+use pr_yaml_scan::{BadPlace, Token, TokenKind, TokenStart, YamlKind, without_mark};
 use std::alloc::{AllocError, Global};
 
 /// How many maps and lists may stand in one another.
@@ -75,16 +74,6 @@ fn from_line(lines: u32, text: &[u8]) -> &[u8]
     rest
 }
 
-/// The text without a byte order mark.
-fn without_mark(text: &[u8]) -> &[u8]
-    ensures { result.now ≡ without_mark text.now }
-{
-    match text {
-        [0xEF, 0xBB, 0xBF, ..] => &text[3..],
-        _ => text,
-    }
-}
-
 /// Whether nothing but blanks stands before a column of a line.
 #[tactic(auto, unfolding(crate::specs::Faults::is_first_of_line))]
 fn is_first_of_line(text: &[u8], line: u32, column: u32) -> bool
@@ -127,7 +116,8 @@ pub(crate) fn token_kind(
     Ok(place_kind(inside, is_first_of_line(text, token.line, token.column)))
 }
 
-/// Whether tokens with one more can go on, where keys may stand twice and there is room for one level more.
+/// Whether tokens with one more can go on, where keys may stand twice and there is room for one
+/// level more.
 fn goes_on_with(alloc: Global, tokens: &mut Vec<Token>, token: Token) -> Result<bool, AllocError>
     ensures answer { IfOk result (λ b. b ≡ goes_on false (levels + 1) (letters tokens.old.items ++ letter_of token ∷ [])) }
     ensures tokens { OnOk result (tokens.new.items ≡ tokens.old.items) }

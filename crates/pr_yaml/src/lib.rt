@@ -9,8 +9,6 @@ pub mod laws;
 mod made;
 mod node;
 mod reader;
-#[cfg(test)]
-mod tests;
 mod tokens;
 mod trees;
 mod whole;

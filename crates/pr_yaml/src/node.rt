@@ -8,8 +8,8 @@ use pr_words::Text;
 #[cycle(tree)]
 #[derive(Drop, Debug)]
 pub struct Node {
-    /// The line of its first token, from 1. An absent node has the line of the key or dash that it is the value of,
-    /// and 1 where it is the whole text.
+    /// The line of its first token, from 1. An absent node has the line of the key or dash that it
+    /// is the value of, and 1 where it is the whole text.
     pub line: u32,
     pub kind: Kind,
 }
@@ -18,8 +18,8 @@ pub struct Node {
 #[cycle(tree)]
 #[derive(Drop, Debug)]
 pub enum Kind {
-    /// A scalar, which is quoted, or a block scalar, or neither. An absent node is the text of no byte that is not
-    /// quoted.
+    /// A scalar, which is quoted, or a block scalar, or neither. An absent node is the text of no
+    /// byte that is not quoted.
     Text { text: Text, quoted: bool },
     List { items: Vec<Node> },
     /// Entries in the order of the text. No key stands twice.
@@ -40,8 +40,8 @@ impl Node {
     ghost use Rattle.std.specs.Prelude.{◌≡◌};
     ghost use Rattle.pr_yaml.specs.Tree.{is_absent, tree_of};
 
-    /// Whether the node says that there is no value: it is not quoted, and empty, `~` or `null`. (Own choice, after the
-    /// null of the core schema of YAML 1.2.)
+    /// Whether the node says that there is no value: it is not quoted, and empty, `~` or `null`.
+    /// (Own choice, after the null of the core schema of YAML 1.2.)
     pub fn is_absent(&self) -> bool
         ensures { result ≡ is_absent (tree_of self.now) }
     {

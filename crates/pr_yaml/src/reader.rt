@@ -56,12 +56,13 @@ fn read_text(alloc: Global, bytes: &[u8]) -> Result<Node, YamlError>
     read_tokens(alloc, bytes, found.tokens, found.bad)
 }
 
-/// The tree of a YAML text in the profile of rule files. (YAML 1.2, cut down; what is cut is an own choice.)
+/// The tree of a YAML text in the profile of rule files. (YAML 1.2, cut down; what is cut is an own
+/// choice.)
 ///
 /// # Errors
-/// The line of the first fault and its kind. It is the first token up to which no text can go on, as one that repeats a
-/// key of its map, or begins a node inside 64 others; else the first byte after the tokens that begins none; else the
-/// end of the text. Also want of memory.
+/// The line of the first fault and its kind. It is the first token up to which no text can go on,
+/// as one that repeats a key of its map, or begins a node inside 64 others; else the first byte
+/// after the tokens that begins none; else the end of the text. Also want of memory.
 pub fn read(alloc: Global, bytes: &[u8]) -> Result<Node, YamlError>
     requires { length bytes.now < 2 ^ 32 }
     // What is answered is what the text gives, unless memory runs out.

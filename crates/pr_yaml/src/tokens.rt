@@ -32,7 +32,8 @@ use crate::found::Found;
 use pr_forms::take;
 use pr_yaml_scan::{Token, TokenKind};
 
-/// What a node is by its first token: a scalar; a map or a list in a block, with the line and the column of that token; a flow.
+/// What a node is by its first token: a scalar; a map or a list in a block, with the line and the
+/// column of that token; a flow.
 #[derive(Clone, Copy)]
 pub(crate) enum Start {
     Text,

@@ -1,4 +1,5 @@
-// The reader of trees. How deep it calls itself is bounded by the room that a text has for maps and lists in one another.
+// The reader of trees. How deep it calls itself is bounded by the room that a text has for maps and
+// lists in one another.
 ghost use Rattle.std.specs.Prelude.{◌≡◌, ◌<◌, ◌≤◌, Bool, [], length, map, IfOk, MatchResult};
 ghost use Rattle.pr_forms.specs.Form.{token, rule};
 ghost use Rattle.pr_forms.specs.Run.{good};

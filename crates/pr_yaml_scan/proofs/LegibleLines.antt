@@ -1,4 +1,5 @@
--- What stands before a line's first byte that is no text is UTF-8, however the line is cut at ASCII bytes.
+-- What stands before a line's first byte that is no text is UTF-8, however the line is cut at ASCII
+-- bytes.
 use Rattle.std.proofs.Common.{◌≡◌, ℕ, zero, suc, ◌+◌, ◌-◌, ◌<◌, ◌≤◌, ◌==◌, Bool, true, false, cond, if◌then◌else◌, List, [], ◌∷◌, ◌++◌, length, get_or, take, drop, refl, sym, subst, ap, arith, append_assoc, append-nil, length-append, take_all, inl, inr}
 use Rattle.std.specs.List.{slice_split, onto_first, prefix_len, list_all}
 use Rattle.std.specs.Str.{IsUtf8}

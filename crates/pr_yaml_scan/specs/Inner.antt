@@ -18,7 +18,8 @@ counts_of before = record { opened = open_count before; closed = close_count bef
 abbrev pub counts_after : Token → Counts → Counts
 counts_after t c = record { opened = opens t.kind + c.opened; closed = closes t.kind + c.closed; parent = or_before t.kind t.column c.parent; none = false }
 
--- what they say: whether the place is inside flows, the column of the last key or dash, and whether there is no token
+-- what they say: whether the place is inside flows, the column of the last key or dash, and whether
+-- there is no token
 abbrev pub known_by : Counts → Known
 known_by c = record { inside = nat_lt c.closed c.opened; parent = c.parent; none = c.none }
 

@@ -1,4 +1,5 @@
--- What the reader relies on, and no rule of the format: what stands on a line before its first byte that is no text is UTF-8.
+-- What the reader relies on, and no rule of the format: what stands on a line before its first byte
+-- that is no text is UTF-8.
 use Rattle.std.specs.Prelude.{ℕ, List, [], ◌∷◌, if◌then◌else◌}
 use Rattle.std.specs.Str.{IsUtf8}
 use Rattle.pr_yaml_scan.specs.Bytes.{no_text}

@@ -1,4 +1,5 @@
--- Where tokens stand: each at a byte of its line, and each further on in the text than the one before it.
+-- Where tokens stand: each at a byte of its line, and each further on in the text than the one
+-- before it.
 use Rattle.std.specs.Prelude.{◌≡◌, ℕ, ◌-◌, ◌<◌, ◌≤◌, ◌⊎◌, List, [], ◌∷◌, length, get_or}
 use Rattle.pr_yaml_scan.specs.declared.token.Token.{Token}
 

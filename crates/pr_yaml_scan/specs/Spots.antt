@@ -11,7 +11,8 @@ lines_below (Some text) = lines_of text.now
 abbrev pub place_of : ℕ → ℕ → Bor (List ℕ) → Option (Bor (List ℕ)) → Place
 place_of line column here below = record { line = line; column = column; here = here.now; below = lines_below below }
 
--- how many bytes stand below a place, and that its line and its column are numbers of 32 bits where a byte stands
+-- how many bytes stand below a place, and that its line and its column are numbers of 32 bits where
+-- a byte stands
 abbrev pub bytes_below : Option (Bor (List ℕ)) → ℕ
 bytes_below None = 0
 bytes_below (Some text) = 1 + length text.now

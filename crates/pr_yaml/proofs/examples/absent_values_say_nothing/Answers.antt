@@ -21,3 +21,11 @@ returns-clause-quoted_empty c = refl
 pub returns-clause-other : goal.returns-clause-other
 unfolding is_absent_text
 returns-clause-other c = refl
+
+pub returns-clause-capital : goal.returns-clause-capital
+unfolding is_absent_text
+returns-clause-capital c = refl
+
+pub returns-clause-capitals : goal.returns-clause-capitals
+unfolding is_absent_text
+returns-clause-capitals c = refl
