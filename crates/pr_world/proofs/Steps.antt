@@ -11,12 +11,11 @@ use Rattle.pr_parse.specs.Parsed.{Parsed, gives_tree, gives_lex_fault, gives_fau
 use Rattle.pr_types.specs.declared.kind.ValueType.{ValueType}
 use Rattle.pr_types.specs.declared.kind.TypeFault.{TypeFault}
 use Rattle.pr_types.specs.Typed.{checked}
-use Rattle.pr_query.specs.Meaning.{meaning}
 use Rattle.pr_world.specs.declared.event.Event.{Event}
 use Rattle.pr_world.specs.declared.event.Event.TheVariants.{Add, Query, Scrape, Fail, Gone}
 use Rattle.pr_world.specs.Settings.{Settings}
 use Rattle.pr_world.specs.Outcome.{Outcome, refuse, accept, accept_target}
-use Rattle.pr_world.specs.Query.{parsed_outcome, told_answer, typed_outcome}
+use Rattle.pr_world.specs.Query.{parsed_outcome, typed_outcome}
 use Rattle.pr_world.specs.declared.report.Report.{Report}
 use Rattle.pr_world.specs.declared.report.Report.TheVariants as report
 use Rattle.pr_world.specs.Step.{is_about_target, outcome, outcome_after, outcome_in_time, rows_by, entry_of, step_by, next, time_of, world_after, rows_of}

@@ -115,3 +115,22 @@ tracked_without (t ∷ targets) target other = by (labels_eq target t.labels) re
       ∙ ap (λ b. cond (labels_eq target other) None (cond b (Some t.tracked) (tracked_at targets other))) (sym (same_as target other t e))
   by false e h = over_apart (labels_eq other t.labels) (labels_eq target other) None (Some t.tracked) (tracked_at targets other)
       (tracked_at (without_target targets target) other) (apart_from target other t e) h
+
+-- What is tracked of other targets stays, whatever an order comes to.
+abbrev pub Stays : List Target → List Target → List Pair → Type 0
+Stays targets after other = tracked_at after other ≡ tracked_at targets other
+
+pub others_known : (targets : List Target) (target : List Pair) (tracked : List (List Pair)) (other : List Pair) → labels_eq target other ≡ false → Stays targets (with_tracked targets target tracked) other
+others_known targets target tracked other e = tracked_with targets target tracked other ∙ ap (λ b. cond b (Some tracked) (tracked_at targets other)) e
+
+pub others_forgotten : (targets : List Target) (target other : List Pair) → labels_eq target other ≡ false → Stays targets (without_target targets target) other
+others_forgotten targets target other e = tracked_without targets target other ∙ ap (λ b. cond b None (tracked_at targets other)) e
+
+others_gone_by : (found : Option (List (List Pair))) (targets : List Target) (history : List Entry) (target : List Pair) (now : ℕ) (other : List Pair)
+    → labels_eq target other ≡ false → Stays targets (gone_by found targets history target now).targets other
+others_gone_by None targets history target now other e = refl
+others_gone_by (Some tracked) targets history target now other e = others_forgotten targets target other e
+
+pub others_gone : (targets : List Target) (history : List Entry) (target : List Pair) (now : ℕ) (other : List Pair)
+    → labels_eq target other ≡ false → Stays targets (gone_step targets history target now).targets other
+others_gone targets history target now other e = others_gone_by (tracked_at targets target) targets history target now other e

@@ -25,7 +25,8 @@ abbrev pub told_answer : Result Value Fault → Report
 told_answer (Ok v) = told_value v
 told_answer (Err f) = QueryFault f.place.start f.kind
 
--- An expression with a type is accepted, be its answer a value or a fault, and adds nothing; one without a type is refused.
+-- An expression with a type is accepted, be its answer a value or a fault, and adds nothing; one
+-- without a type is refused.
 abbrev pub typed_outcome : Settings → List Entry → ℕ → Tree → Result ValueType TypeFault → Outcome
 typed_outcome s history time tree (Ok type) = accept (told_answer (meaning s.subquery_step history tree time)) []
 typed_outcome s history time tree (Err f) = refuse (QueryRefused f.at (Typing f.kind))

@@ -1,4 +1,5 @@
--- What becomes of the samples that a target offers: a scrape, a failed scrape, and the end of a target.
+-- What becomes of the samples that a target offers: a scrape, a failed scrape, and the end of a
+-- target.
 use Rattle.std.specs.Prelude.{ℕ, zero, suc, pos, negsuc, ℤ, ◌+◌, Bool, true, false, not, ◌&&◌, cond, nat_le, List, [], ◌∷◌, ◌++◌, length, map, filter, fold, count_by, codes, Option, Some, None, is_some, is_none, Result, Ok, Err}
 use Rattle.std.specs.List.{filter_map, zip}
 use Rattle.pr_num.specs.declared.value.Num.{Num}
@@ -33,8 +34,8 @@ exported name = codes "exported_" ++ name
 abbrev pub is_free : List Pair → List Pair → List ℕ → Bool
 is_free target labels name = not (has target name) && not (has labels name)
 
--- The name, or with `exported_` before it as often as it takes until it is free, at most so often. Of more names than there
--- are labels one is free.
+-- The name, or with `exported_` before it as often as it takes until it is free, at most so often.
+-- Of more names than there are labels one is free.
 abbrev pub free_within : List Pair → List Pair → ℕ → List ℕ → List ℕ
 free_within target labels zero name = name
 free_within target labels (suc n) name = cond (is_free target labels name) name (free_within target labels n (exported name))
@@ -42,8 +43,8 @@ free_within target labels (suc n) name = cond (is_free target labels name) name 
 abbrev pub free_name : List Pair → List Pair → List ℕ → List ℕ
 free_name target labels name = free_within target labels (length target + length labels) (exported name)
 
--- The labels after one of them: where the target has its name it has a free one. Those before it stand under their new
--- names by then, the others under their old ones.
+-- The labels after one of them: where the target has its name it has a free one. Those before it
+-- stand under their new names by then, the others under their old ones.
 abbrev pub with_free_name : List Pair → List Pair → Pair → List Pair
 with_free_name target labels p =
     cond (has target p.name) (set_label (without_name labels p.name) (free_name target labels p.name) p.value) labels
@@ -51,14 +52,15 @@ with_free_name target labels p =
 abbrev pub renamed : List Pair → List Pair → List Pair
 renamed target labels = fold (with_free_name target) labels labels
 
--- The labels of a sample that a target offers: its own, of which those that the target has too are renamed, in order of
--- name, and the target's.
+-- The labels of a sample that a target offers: its own, of which those that the target has too are
+-- renamed, in order of name, and the target's.
 abbrev pub scraped_labels : List Pair → List Pair → List Pair
 scraped_labels target labels = union_labels (renamed target labels) target
 
 -- Samples
 
--- the time of a sample: the scrape's, or its own, where that is not negative and not above the scrape's
+-- the time of a sample: the scrape's, or its own, where that is not negative and not above the
+-- scrape's
 abbrev pub sample_time : ℕ → Option ℤ → Option ℕ
 sample_time now None = Some now
 sample_time now (Some (pos time)) = cond (nat_le time now) (Some time) None
@@ -109,8 +111,8 @@ added_count history entries = count_by is_added (answers history entries)
 abbrev pub refused_count : List Entry → List Entry → ℕ
 refused_count history entries = count_by (λ a. not (is_kept a)) (answers history entries)
 
--- the series of the samples without a time of their own that the history has then, and these in label order, each once:
--- a scrape leaves them tracked
+-- the series of the samples without a time of their own that the history has then, and these in
+-- label order, each once: a scrape leaves them tracked
 abbrev pub is_tracked : Offer × Append → Bool
 is_tracked p = not p.0.is_timed && is_kept p.1
 
@@ -153,7 +155,8 @@ about target now up samples = reported (up_of target) now up ∷ reported (sampl
 
 -- Scrapes
 
--- what a scrape comes to: the entries that are put, in order, the series that are tracked after it, and what is answered
+-- what a scrape comes to: the entries that are put, in order, the series that are tracked after it,
+-- and what is answered
 pub record Scrape : Type 0 where
   pub entries : List Entry
   pub tracked : List (List Pair)
@@ -179,7 +182,8 @@ scraped target now old lines history = record {
   };
 }
 
--- All that was tracked goes stale, and no sample comes of a scrape that failed, be it for a body that is no exposition.
+-- All that was tracked goes stale, and no sample comes of a scrape that failed, be it for a body
+-- that is no exposition.
 abbrev pub failure_entries : List Pair → ℕ → List (List Pair) → List Entry
 failure_entries target now old = map (marker now) old ++ about target now 0 0
 

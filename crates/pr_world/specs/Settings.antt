@@ -2,7 +2,8 @@
 use Rattle.std.specs.Prelude.{ℕ, List, []}
 use Rattle.pr_labels.specs.declared.pair.Pair.{Pair}
 
--- the step of a subquery that names none, in milliseconds, and the labels and the address that templates see as external
+-- the step of a subquery that names none, in milliseconds, and the labels and the address that
+-- templates see as external
 pub record Settings : Type 0 where
   pub subquery_step : ℕ
   pub external_labels : List Pair

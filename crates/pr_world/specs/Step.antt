@@ -59,7 +59,8 @@ abbrev pub scrape_report : Option BodyFault → Scraped → Report
 scrape_report None s = report.Scraped s.added s.dropped s.stale
 scrape_report (Some f) s = report.BadScrape f.line f.kind s.stale
 
--- An order about a target is accepted, whatever becomes of it. What of its entries is admitted comes behind the history.
+-- An order about a target is accepted, whatever becomes of it. What of its entries is admitted
+-- comes behind the history.
 abbrev pub target_outcome : Report → TargetStep → Outcome
 target_outcome report step = accept_target report step.answer.admitted step.targets
 
@@ -88,15 +89,16 @@ outcome_after (Some last) s w e = cond (nat_lt (time_of e) last) (refuse (report
 abbrev pub outcome : Settings → World → Event → Outcome
 outcome s w e = outcome_after w.last s w e
 
--- What an event leads to: the world after it, what is answered, the entries that are kept for it, and whether it was
--- refused.
+-- What an event leads to: the world after it, what is answered, the entries that are kept for it,
+-- and whether it was refused.
 pub record Step : Type 0 where
   pub world : World
   pub report : Report
   pub rows : List Entry
   pub refused : Bool
 
--- An accepted event becomes the last one, and its entries come behind the history; it has these targets after it.
+-- An accepted event becomes the last one, and its entries come behind the history; it has these
+-- targets after it.
 abbrev pub accepted_step : World → ℕ → Report → List Entry → List Target → Step
 accepted_step w time report entries targets = record {
   world = record { history = w.history ++ entries; last = Some time; targets = targets };
@@ -105,7 +107,8 @@ accepted_step w time report entries targets = record {
   refused = false;
 }
 
--- A refused event changes nothing. Nothing else than an accepted one sets the last time, adds to the history or changes the targets.
+-- A refused event changes nothing. Nothing else than an accepted one sets the last time, adds to
+-- the history or changes the targets.
 abbrev pub step_by : World → ℕ → Outcome → Step
 step_by w time (refuse report) = record { world = w; report = report; rows = []; refused = true }
 step_by w time (accept report entries) = accepted_step w time report entries w.targets

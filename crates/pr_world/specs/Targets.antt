@@ -23,13 +23,15 @@ tracked_of targets labels = unwrap_or (tracked_at targets labels) []
 abbrev pub without_target : List Target → List Pair → List Target
 without_target targets labels = filter (λ t. not (labels_eq labels t.labels)) targets
 
--- The target with what is tracked of it from now on. It stands where it stood, or, where it was unknown, last.
+-- The target with what is tracked of it from now on. It stands where it stood, or, where it was
+-- unknown, last.
 abbrev pub with_tracked : List Target → List Pair → List (List Pair) → List Target
 with_tracked [] labels tracked = record { labels = labels; tracked = tracked } ∷ []
 with_tracked (t ∷ ts) labels tracked =
     cond (labels_eq labels t.labels) (record { labels = t.labels; tracked = tracked } ∷ ts) (t ∷ with_tracked ts labels tracked)
 
--- what an order about a target comes to: the targets after it, the entries that are put, in order, and what is answered
+-- what an order about a target comes to: the targets after it, the entries that are put, in order,
+-- and what is answered
 pub record TargetStep : Type 0 where
   pub targets : List Target
   pub entries : List Entry

@@ -17,7 +17,8 @@ pub enum Event {
         time: Ms,
         text: Text,
     },
-    /// A target is scraped, and offers the samples of this text. (Prometheus: Exposition formats, Text-based format.)
+    /// A target is scraped, and offers the samples of this text. (Prometheus: Exposition formats,
+    /// Text-based format.)
     Scrape {
         time: Ms,
         target: Labels,

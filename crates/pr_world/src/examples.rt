@@ -31,8 +31,8 @@ pub fn a_sample_adds_its_entry()
     ensures kept { rows_of of_a_run (start []) (Add 0 m (whole 1) ∷ Add 0 m (whole 1) ∷ []) ≡ entry_at 0 (whole 1) ∷ [] }
 {}
 
-/// An expression is answered by what it gives over the history: `m`, `1`, `10^19 * 10^19`. None adds anything, and a fault is
-/// accepted as a value is.
+/// An expression is answered by what it gives over the history: `m`, `1`, `10^19 * 10^19`. None
+/// adds anything, and a fault is accepted as a value is.
 #[tactic(auto, unfolding(crate::specs::Query::parsed_outcome, pr_types::specs::Operations::operation_fault, pr_match::specs::Matcher::meets, pr_match::specs::Matcher::meets_all, pr_num::specs::Arithmetic::product_of, pr_num::specs::Half::half, pr_num::specs::Half::half_abs))]
 pub fn an_expression_is_answered_by_its_meaning()
     ensures vector { parsed_outcome of_a_run one 299999 (gives_tree (metric (codes "m"))) ≡ accept (Vector (item_of m (number 1) ∷ [])) [] }
@@ -42,8 +42,8 @@ pub fn an_expression_is_answered_by_its_meaning()
     ensures moves { (step_by (start one) 299999 (parsed_outcome of_a_run one 299999 (gives_tree (metric (codes "m"))))).world ≡ record { history = one; last = Some 299999; targets = [] } }
 {}
 
-/// What has no tokens, no tree or no type is refused with its first fault: `m !`, `m +`, `"a"`. Then the time
-/// does not move.
+/// What has no tokens, no tree or no type is refused with its first fault: `m !`, `m +`, `"a"`.
+/// Then the time does not move.
 #[tactic(auto, unfolding(crate::specs::Query::parsed_outcome, pr_types::specs::Signatures::func_signature))]
 pub fn a_text_that_is_no_expression_is_refused()
     ensures lexical { parsed_outcome of_a_run one 6000 (gives_lex_fault 3 lex.BadChar) ≡ refuse (QueryRefused 3 (Lex lex.BadChar)) }

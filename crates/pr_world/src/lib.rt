@@ -18,8 +18,9 @@ pub use examples::{
 pub use laws::{a_history_is_its_rows, a_step_appends_or_changes_nothing};
 pub use report::{QueryKind, Report};
 pub use scrape_examples::{
-    a_bad_body_leaves_nothing, a_label_of_the_target_is_renamed, a_scrape_adds_its_samples,
-    a_series_that_is_no_longer_offered_is_marked, a_target_ends, a_time_of_its_own_is_kept,
+    a_bad_body_leaves_nothing, a_label_of_the_target_is_renamed, a_refused_sample_is_dropped,
+    a_scrape_adds_its_samples, a_series_that_is_no_longer_offered_is_marked, a_target_ends,
+    a_time_of_its_own_is_kept, entries_stand_in_this_order,
 };
 pub use scrape_laws::{
     a_tracked_set_rises, an_order_about_a_target_adds_what_is_admitted,

@@ -38,13 +38,15 @@ pub enum Report {
     Conflict {
         kept: Point,
     },
-    /// A target was scraped: how many of its samples were added, how many dropped, and how many markers were added.
+    /// A target was scraped: how many of its samples were added, how many dropped, and how many
+    /// markers were added.
     Scraped {
         added: u64,
         dropped: u64,
         stale: u64,
     },
-    /// What a target offered is no exposition: the first bad line, how it is bad, and how many markers were added.
+    /// What a target offered is no exposition: the first bad line, how it is bad, and how many
+    /// markers were added.
     BadScrape {
         line: u32,
         kind: ExpoKind,
@@ -66,12 +68,14 @@ pub enum Report {
     Vector {
         items: Items<Item<Num>>,
     },
-    /// The expression gives nothing at this time: its first fault, and the byte at which the part begins that has it.
+    /// The expression gives nothing at this time: its first fault, and the byte at which the part
+    /// begins that has it.
     QueryFault {
         place: usize,
         kind: FaultKind,
     },
-    /// The text is no expression, or has no type, and was refused: its first fault, and the byte where it is.
+    /// The text is no expression, or has no type, and was refused: its first fault, and the byte
+    /// where it is.
     QueryRefused {
         place: usize,
         kind: QueryKind,

@@ -6,12 +6,12 @@ ghost use Rattle.pr_history.specs.Examples.{job, number, whole};
 ghost use Rattle.pr_history.specs.Lookback.{value_at};
 ghost use Rattle.pr_num.specs.declared.value.Point.TheVariants.{Stale};
 ghost use Rattle.pr_expo_line.specs.declared.place.ExpoKind.TheVariants.{BadLabels};
-ghost use Rattle.pr_world.specs.Scrapes.{free_name, gone_of, marker, renamed, scrape_of, scraped, scraped_labels};
+ghost use Rattle.pr_world.specs.Scrapes.{failed, free_name, gone_of, marker, renamed, scrape_of, scraped, scraped_labels};
 ghost use Rattle.pr_world.specs.Targets.{fail_step, gone_step, nothing};
 ghost use Rattle.pr_world.specs.ScrapeExamples.{after_first, after_second, both, fewer, first, j, label, of_j, sample, second, third, timed, two, wide};
 
-/// A label that the target has too stands under another name: with `exported_` before it as often as it takes. The labels are
-/// renamed in order of name, and one that waits still takes its name.
+/// A label that the target has too stands under another name: with `exported_` before it as often
+/// as it takes. The labels are renamed in order of name, and one that waits still takes its name.
 pub fn a_label_of_the_target_is_renamed()
     ensures once { scraped_labels j (pair_of metric_label (codes "b") ∷ job (codes "x"))
         ≡ pair_of metric_label (codes "b") ∷ pair_of (codes "exported_job") (codes "x") ∷ j }
@@ -33,7 +33,8 @@ pub fn a_scrape_adds_its_samples()
     ensures samples { value_at after_first (pos 1000) (of_j (codes "scrape_samples_scraped")) ≡ Some (number 2) }
 {}
 
-/// After a body that is no exposition all that was tracked is stale, and the target is not up; a later scrape goes on.
+/// After a body that is no exposition all that was tracked is stale, and the target is not up; a
+/// later scrape goes on.
 pub fn a_bad_body_leaves_nothing()
     ensures stale { second.answer.stale ≡ 2 }
     ensures fault { second.answer.fault ≡ Some (record { line = 2; kind = BadLabels }) }
@@ -45,7 +46,8 @@ pub fn a_bad_body_leaves_nothing()
     ensures value { value_at (put_all after_second third.entries) (pos 3000) (of_j (codes "m")) ≡ Some (number 3) }
 {}
 
-/// A series that is no longer offered gets a marker, before what is said of the target; one that still is gets none.
+/// A series that is no longer offered gets a marker, before what is said of the target; one that
+/// still is gets none.
 pub fn a_series_that_is_no_longer_offered_is_marked()
     ensures stale { fewer.answer.stale ≡ 1 }
     ensures tracked { fewer.tracked ≡ of_j (codes "m") ∷ [] }
@@ -55,8 +57,8 @@ pub fn a_series_that_is_no_longer_offered_is_marked()
         ∷ (record { labels = of_j (codes "scrape_samples_scraped"); time = 2000; point = whole 1 }) ∷ [] }
 {}
 
-/// A sample with a time of its own stands at that time, and its series is not tracked. One whose time is negative or above the
-/// scrape's, or whose value is too wide, is dropped.
+/// A sample with a time of its own stands at that time, and its series is not tracked. One whose
+/// time is negative or above the scrape's, or whose value is too wide, is dropped.
 pub fn a_time_of_its_own_is_kept()
     ensures added { (scraped j 120000 [] (timed (named (codes "m")) (number 5) (pos 30000) ∷ []) []).answer.added ≡ 1 }
     ensures untracked { (scraped j 120000 [] (timed (named (codes "m")) (number 5) (pos 30000) ∷ []) []).tracked ≡ [] }
@@ -68,8 +70,32 @@ pub fn a_time_of_its_own_is_kept()
     ensures same { (scraped j 1000 [] (sample (named (codes "m")) (number 1) ∷ sample (named (codes "m")) (number 1) ∷ []) []).answer.dropped ≡ 0 }
 {}
 
-/// The end of an unknown target is nothing. A scrape that fails makes the target known, so that its end marks what was said of
-/// it.
+/// A sample at or below the last time of its series is dropped, but for an equal one, which is
+/// neither added nor dropped, and is tracked. A line whose value is too wide counts as a sample
+/// line. A marker for a series that has a sample at this time is none.
+pub fn a_refused_sample_is_dropped()
+    ensures late { (scraped j 2000 [] (timed (named (codes "m")) (number 5) (pos 500) ∷ []) after_first).answer.dropped ≡ 1 }
+    ensures same { (scraped j 1000 [] (sample (named (codes "m")) (number 1) ∷ []) after_first).answer.added ≡ 0 }
+    ensures not_dropped { (scraped j 1000 [] (sample (named (codes "m")) (number 1) ∷ []) after_first).answer.dropped ≡ 0 }
+    ensures tracked { (scraped j 1000 [] (sample (named (codes "m")) (number 1) ∷ []) after_first).tracked ≡ of_j (codes "m") ∷ [] }
+    ensures counted { value_at (put_all [] (scraped j 1000 [] (wide (named (codes "m")) ∷ []) []).entries) (pos 1000) (of_j (codes "scrape_samples_scraped")) ≡ Some (number 1) }
+    ensures marker { (scraped j 1000 (of_j (codes "m") ∷ []) [] after_first).answer.stale ≡ 0 }
+{}
+
+/// A failure puts the markers, then `up` and `scrape_samples_scraped` of 0; the end of a target
+/// puts markers for what it left, and for these two.
+#[tactic(auto, unfolding(crate::specs::Scrapes::gone_of))]
+pub fn entries_stand_in_this_order()
+    ensures failed { (failed j 2000 (of_j (codes "m") ∷ of_j (codes "n") ∷ []) None []).entries ≡ marker 2000 (of_j (codes "m"))
+        ∷ marker 2000 (of_j (codes "n"))
+        ∷ (record { labels = of_j (codes "up"); time = 2000; point = whole 0 })
+        ∷ (record { labels = of_j (codes "scrape_samples_scraped"); time = 2000; point = whole 0 }) ∷ [] }
+    ensures gone { (gone_of j 2000 (of_j (codes "m") ∷ []) []).entries ≡ marker 2000 (of_j (codes "m"))
+        ∷ marker 2000 (of_j (codes "up")) ∷ marker 2000 (of_j (codes "scrape_samples_scraped")) ∷ [] }
+{}
+
+/// The end of an unknown target is nothing. A scrape that fails makes the target known, so that its
+/// end marks what was said of it.
 #[tactic(auto, unfolding(crate::specs::Scrapes::scrape_of, crate::specs::Scrapes::gone_of))]
 pub fn a_target_ends()
     ensures unknown { gone_step [] [] j 0 ≡ record { targets = []; entries = []; answer = nothing } }

@@ -1,5 +1,5 @@
 // Laws of scrapes and targets.
-ghost use Rattle.std.specs.Prelude.{◌≡◌, ℕ, ◌++◌, cond, List, Some, None, length};
+ghost use Rattle.std.specs.Prelude.{◌≡◌, ℕ, ◌++◌, cond, false, List, Some, None, length};
 ghost use Rattle.pr_history.specs.declared.entry.Entry.{Entry};
 ghost use Rattle.pr_history.specs.Admission.{put_all};
 ghost use Rattle.pr_labels.specs.declared.pair.Pair.{Pair};
@@ -32,11 +32,18 @@ pub fn an_order_about_a_target_adds_what_is_admitted()
         → put_all history (gone_step targets history target now).entries ≡ history ++ (gone_step targets history target now).answer.admitted }
 {}
 
-/// A scrape sets what is tracked of its target, and the end of a target makes it unknown; what is tracked of the others stays.
-#[tactic(auto, using(crate::proofs::Targeting::tracked_with, crate::proofs::Targeting::tracked_without))]
+/// A scrape sets what is tracked of its target, and the end of a target makes it unknown; what is
+/// tracked of the others stays.
+#[tactic(auto, using(crate::proofs::Targeting::tracked_with, crate::proofs::Targeting::tracked_without, crate::proofs::Targeting::others_known, crate::proofs::Targeting::others_gone))]
 pub fn an_order_changes_one_target()
     ensures known { (targets : List Target) (target : List Pair) (tracked : List (List Pair)) (other : List Pair)
         → tracked_at (with_tracked targets target tracked) other ≡ cond (labels_eq target other) (Some tracked) (tracked_at targets other) }
     ensures forgotten { (targets : List Target) (target other : List Pair)
         → tracked_at (without_target targets target) other ≡ cond (labels_eq target other) None (tracked_at targets other) }
+    ensures scrape { (targets : List Target) (history : List Entry) (target : List Pair) (now : ℕ) (body : List ℕ) (other : List Pair)
+        → labels_eq target other ≡ false → tracked_at (scrape_step targets history target now body).targets other ≡ tracked_at targets other }
+    ensures fail { (targets : List Target) (history : List Entry) (target : List Pair) (now : ℕ) (other : List Pair)
+        → labels_eq target other ≡ false → tracked_at (fail_step targets history target now).targets other ≡ tracked_at targets other }
+    ensures gone { (targets : List Target) (history : List Entry) (target : List Pair) (now : ℕ) (other : List Pair)
+        → labels_eq target other ≡ false → tracked_at (gone_step targets history target now).targets other ≡ tracked_at targets other }
 {}

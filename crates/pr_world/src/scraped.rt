@@ -20,16 +20,19 @@ pub struct BodyFault {
     pub kind: ExpoKind,
 }
 
-/// What a scrape comes to. (Prometheus: Jobs and instances, Automatically generated labels and time series.)
+/// What a scrape comes to. (Prometheus: Jobs and instances, Automatically generated labels and time
+/// series.)
 #[derive(Debug, Drop)]
 pub struct Scraped {
-    /// The entries that were added to the history, in order: samples, markers, and what is said of the target.
+    /// The entries that were added to the history, in order: samples, markers, and what is said of
+    /// the target.
     pub admitted: Items<Entry>,
     /// How the body is no exposition, where it is none.
     pub fault: Option<BodyFault>,
     /// How many samples of the body were added.
     pub added: u64,
-    /// How many samples of the body were dropped: their own time is not taken, their value is too wide, or they are refused.
+    /// How many samples of the body were dropped: their own time is not taken, their value is too
+    /// wide, or they are refused.
     pub dropped: u64,
     /// How many markers were added.
     pub stale: u64,

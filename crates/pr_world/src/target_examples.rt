@@ -15,8 +15,8 @@ ghost use Rattle.pr_world.specs.Targets.{fail_step, known_by};
 ghost use Rattle.pr_world.specs.declared.event.Event.TheVariants.{Fail, Gone};
 ghost use Rattle.pr_world.specs.declared.report.Report.TheVariants as report;
 
-/// A scrape is answered by its counts, or by the first bad line of its body; both are accepted, make the target known and add what is
-/// admitted. So is a target that does not answer.
+/// A scrape is answered by its counts, or by the first bad line of its body; both are accepted,
+/// make the target known and add what is admitted. So is a target that does not answer.
 #[tactic(auto, unfolding(crate::specs::Scrapes::scrape_of))]
 pub fn a_scrape_answers_by_its_counts()
     ensures scraped { scrape_outcome (known_by [] j first) ≡ accept_target (report.Scraped 2 0 0) after_first (record { labels = j; tracked = of_j (codes "m") ∷ of_j (codes "n") ∷ [] } ∷ []) }
@@ -33,7 +33,8 @@ pub fn nothing_is_tracked_after_a_failure()
     ensures stale { (fail_step (record { labels = j; tracked = first.tracked } ∷ []) after_first j 2000).answer.stale ≡ 2 }
 {}
 
-/// A sample stands under its own labels and those of its target, of which one that it has too is renamed.
+/// A sample stands under its own labels and those of its target, of which one that it has too is
+/// renamed.
 pub fn a_sample_is_found_under_its_target()
     ensures added { of_g.answer.added ≡ 2 }
     ensures first { value_at of_g.answer.admitted (pos 1000) (pair_of metric_label (codes "a_bytes") ∷ job (codes "g")) ≡ Some (number 18446744073709552000) }
