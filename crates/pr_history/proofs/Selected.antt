@@ -7,10 +7,10 @@ use Rattle.pr_labels.specs.declared.pair.Pair.{Pair}
 use Rattle.pr_labels.specs.declared.item.Item.{Item}
 use Rattle.pr_history.specs.declared.entry.Entry.{Entry}
 use Rattle.pr_labels.specs.Rising.{IsBelowFirstSet, IsRising}
+use Rattle.pr_labels.proofs.LabelOrder.{below_next}
 use Rattle.pr_history.specs.Lookback.{value_at}
 use Rattle.pr_history.specs.Series.{has_values, item_of, items_of, chosen, selected}
 use Rattle.pr_history.proofs.Choosing.{chosen_rising}
-use Rattle.pr_labels.proofs.LabelOrder.{labels_total}
 
 abbrev sets_in : List (Item Num) → List (List Pair)
 sets_in items = map (λ i. i.labels) items
@@ -18,11 +18,6 @@ sets_in items = map (λ i. i.labels) items
 -- an item more, where the series has a value
 abbrev sets_after : List Pair → Option Num → List (Item Num) → List (List Pair)
 sets_after labels value items = sets_in (cons_option (option_map (item_of labels) value) items)
-
--- a label set below the first of a rising list is below the first that has a value
-below_next : (labels first : List Pair) (rest : List (List Pair)) → IsBelowFirstSet labels (first ∷ rest) → IsBelowFirstSet first rest → IsBelowFirstSet labels rest
-below_next labels first [] h k = tt
-below_next labels first (second ∷ rest) h k = labels_total.trans labels first second h k
 
 below_items : (history : List Entry) (x : ℤ) (labels : List Pair) (sets : List (List Pair)) → IsBelowFirstSet labels sets → IsRising sets
     → IsBelowFirstSet labels (sets_in (items_of history x sets))

@@ -1,4 +1,5 @@
--- The history is one list of entries in order of arrival. What becomes of a point, and what it adds.
+-- The history is one list of entries in order of arrival. What becomes of a point, and what it
+-- adds.
 use Rattle.std.specs.Prelude.{◌≡◌, ℕ, Bool, cond, ◌==◌, nat_lt, List, [], ◌∷◌, ◌++◌, filter, map, fold, find, reverse, Option, Some, None}
 use Rattle.pr_num.specs.Same.{same_point}
 use Rattle.pr_num.specs.declared.value.Point.{Point}
@@ -23,8 +24,8 @@ times_of labels history = map (λ e. e.time) (entries_of labels history)
 abbrev pub last_entry : (Entry → Bool) → List Entry → Option Entry
 last_entry test history = find test (reverse history)
 
--- By the last entry of the series. Above its time a point is added; at its time an equal point is the same,
--- and another one a conflict; below it a point is out of order.
+-- By the last entry of the series. Above its time a point is added; at its time an equal point is
+-- the same, and another one a conflict; below it a point is out of order.
 abbrev pub admit_after : Option Entry → ℕ → Point → Append
 admit_after None time point = Added
 admit_after (Some e) time point =

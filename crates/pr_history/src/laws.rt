@@ -12,8 +12,8 @@ pub fn put_keeps_lawful()
     ensures { (history : List Entry) (e : Entry) → IsLawful history → IsLawful (put history e) }
 {}
 
-/// Entries that come one after another, each admitted or refused, leave a lawful history lawful; so do entries of
-/// which each is added to those before it.
+/// Entries that come one after another, each admitted or refused, leave a lawful history lawful; so
+/// do entries of which each is added to those before it.
 pub fn more_entries_keep_lawful()
     ensures put { (history entries : List Entry) → IsLawful history → IsLawful (put_all history entries) }
     ensures added { (history entries : List Entry) → IsLawful history → IsLawfulAfter history entries → IsLawful (history ++ entries) }
@@ -25,8 +25,8 @@ pub fn times_of_a_series_rise()
     ensures { (history : List Entry) (labels : List Pair) → IsLawful history → IsStrictlyIncreasing (times_of labels history) }
 {}
 
-/// The chosen series rise in label order, and so each comes once. A label set is among them exactly where it
-/// passes the test and an entry of the history has it.
+/// The chosen series rise in label order, and so each comes once. A label set is among them exactly
+/// where it passes the test and an entry of the history has it.
 pub fn chosen_are_those_that_pass()
     ensures rising { (test : List Pair → Bool) (history : List Entry) → IsRising (chosen test history) }
     ensures exactly { (test : List Pair → Bool) (history : List Entry) (labels : List Pair)

@@ -1,5 +1,5 @@
-//! The history of all samples as one list in order of arrival, and the questions to it. Each definition is
-//! a filter of that list; nothing is kept from one question to the next.
+//! The history of all samples as one list in order of arrival, and the questions to it. Each
+//! definition is a filter of that list; nothing is kept from one question to the next.
 #![tactic(auto)]
 
 mod append;

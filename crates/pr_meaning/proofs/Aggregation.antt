@@ -1,4 +1,5 @@
--- What aggregations give has the groups as its labels; no part is empty; one that always has a value has no fault.
+-- What aggregations give has the groups as its labels; no part is empty; one that always has a
+-- value has no fault.
 use Rattle.std.proofs.Common.{◌≡◌, ◌≢◌, ℕ, Bool, true, false, cond, ◌||◌, List, [], ◌∷◌, map, Result, Ok, Err, IfOk, IsOk, refl, sym, ap, ◌∙◌, subst}
 use Rattle.pr_num.specs.declared.value.Num.{Num}
 use Rattle.pr_num.specs.declared.value.TooWide.{TooWide}

@@ -18,8 +18,8 @@ use Rattle.pr_labels.specs.Edits.{key_labels, set_label}
 use Rattle.pr_labels.specs.Order.{labels_eq, labels_cmp}
 use Rattle.pr_meaning.specs.Vectors.{element, in_label_order}
 
--- By which labels an element is grouped: with `by` the listed ones, with `without` those that are not
--- listed, without the metric's name.
+-- By which labels an element is grouped: with `by` the listed ones, with `without` those that are
+-- not listed, without the metric's name.
 abbrev pub group_of : Grouping → Item Num → List Pair
 group_of by e = key_labels by.by e.labels by.names
 
@@ -33,7 +33,8 @@ part by vector group = filter (λ e. labels_eq (group_of by e) group) vector
 abbrev pub values_of : List (Item Num) → List Num
 values_of items = map (λ e. e.value) items
 
--- Each group has what the values of its part give; the first fault, in label order of the groups, ends.
+-- Each group has what the values of its part give; the first fault, in label order of the groups,
+-- ends.
 abbrev pub prepended : Item Num → Result (List (Item Num)) TooWide → Result (List (Item Num)) TooWide
 prepended e (Ok rest) = Ok (e ∷ rest)
 prepended e (Err fault) = Err fault
@@ -67,8 +68,8 @@ count_of_values values = whole_of (pos (length values))
 abbrev pub one_of_values : List Num → Num
 one_of_values values = whole_of (pos 1)
 
--- How a value stands to another: Less where it comes first. The greatest come first, or the least, both
--- times with NaN behind all others. (The order of values has NaN before all others.)
+-- How a value stands to another: Less where it comes first. The greatest come first, or the least,
+-- both times with NaN behind all others. (The order of values has NaN before all others.)
 abbrev pub greatest_first : Num → Num → Ordering
 greatest_first a b = order_of b a
 
@@ -94,7 +95,8 @@ with_placed order (first ∷ rest) v = value_placed (order v first) v first rest
 abbrev pub in_value_order : (Num → Num → Ordering) → List Num → List Num
 in_value_order order values = fold (with_placed order) [] values
 
--- The greatest and the least value: the first one in such an order, so that it is NaN only where all are.
+-- The greatest and the least value: the first one in such an order, so that it is NaN only where
+-- all are.
 abbrev pub first_value : List Num → Num
 first_value [] = NaN
 first_value (v ∷ vs) = v
@@ -120,8 +122,8 @@ comes_before order a b = is_lt (standing order a b)
 abbrev pub rank : (Num → Num → Ordering) → Grouping → List (Item Num) → Item Num → ℕ
 rank order by vector e = count_by (λ o. comes_before order o e) (part by vector (group_of by e))
 
--- Whether an element with so many before it is one of the first k: k is rounded down, and takes nothing
--- where it is NaN or below 1.
+-- Whether an element with so many before it is one of the first k: k is rounded down, and takes
+-- nothing where it is NaN or below 1.
 abbrev pub is_within : Num → ℕ → Bool
 is_within (Finite (pos units)) n = nat_lt n (units / 10 ^ 9)
 is_within (Finite (negsuc units)) n = false

@@ -1,4 +1,5 @@
--- The calendar: fields of the date and the time of day of an instant, which is given as seconds since 1970 in UTC.
+-- The calendar: fields of the date and the time of day of an instant, which is given as seconds
+-- since 1970 in UTC.
 use Rattle.std.specs.Prelude.{ℕ, zero, suc, ◌+◌, ◌-◌, ◌*◌, ◌/◌, ◌%◌, ◌^◌, ◌==◌, ◌&&◌, ◌||◌, not, nat_lt, Bool, ℤ, pos, negsuc, ◌+ℤ◌, int_div, if◌then◌else◌}
 use Rattle.pr_num.specs.declared.value.Num.{Num}
 use Rattle.pr_num.specs.declared.value.Num.TheVariants.{Finite, NaN, PosInf, NegInf}
@@ -41,7 +42,8 @@ unfoldable pub date_after : ℕ → Date
 date_after zero = date 1 1 1
 date_after (suc days) = next_date (date_after days)
 
--- From 1 January of the year 1 to that of 1970 there are 719162 days; the last second is that of the year 9999.
+-- From 1 January of the year 1 to that of 1970 there are 719162 days; the last second is that of
+-- the year 9999.
 abbrev pub seconds_in_day : ℕ
 seconds_in_day = 86400
 
@@ -62,7 +64,8 @@ field DaysInMonth days second = month_days (date_after days).year (date_after da
 field Month days second = (date_after days).month
 field Year days second = (date_after days).year
 
--- by the whole seconds since 1 January of the year 1: a number where they are in the years 1 to 9999
+-- by the whole seconds since 1 January of the year 1: a number where they are in the years 1 to
+-- 9999
 abbrev pub field_at : Part → ℤ → Num
 field_at part (pos seconds) =
     if nat_lt seconds seconds_to_10000 then whole_of (pos (field part (seconds / seconds_in_day) (seconds % seconds_in_day)))

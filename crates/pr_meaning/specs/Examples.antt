@@ -1,5 +1,5 @@
 -- Small vectors to try the definitions on.
-use Rattle.std.specs.Prelude.{ℕ, ◌*◌, ◌^◌, true, false, cond, pos, List, [], ◌∷◌, ◌++◌, codes, Ok, Err, Some, None, int_lt}
+use Rattle.std.specs.Prelude.{ℕ, ◌*◌, ◌^◌, Bool, true, false, cond, pos, List, [], ◌∷◌, ◌++◌, map, codes, Ok, Err, Some, None, int_lt}
 use Rattle.pr_num.specs.declared.value.Num.{Num}
 use Rattle.pr_num.specs.declared.value.Num.TheVariants.{Finite, NaN}
 use Rattle.pr_num.specs.Arithmetic.{product_of, too_wide}
@@ -10,6 +10,7 @@ use Rattle.pr_labels.specs.declared.matching.Card.TheVariants.{OneToOne}
 use Rattle.pr_labels.specs.declared.matching.Matching.{Matching}
 use Rattle.pr_labels.specs.LabelSet.{metric_label, pair_of}
 use Rattle.pr_meaning.specs.Matching.{Operator, always_kept}
+use Rattle.pr_meaning.specs.Operators.{Comparison, holds}
 use Rattle.pr_meaning.specs.Vectors.{element}
 
 abbrev pub number : ℕ → Num
@@ -76,3 +77,7 @@ above _ _ = Ok None
 
 abbrev pub never_fits : Operator
 never_fits l r = Err too_wide
+
+-- whether a comparison of 1, of 2 and of 3 with 2 holds
+abbrev pub against_two : Comparison → List Bool
+against_two c = map (λ n. holds c (number n) (number 2)) (1 ∷ 2 ∷ 3 ∷ [])

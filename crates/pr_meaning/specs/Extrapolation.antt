@@ -28,8 +28,9 @@ ms_between from to = unsigned_abs (to -ℤ from)
 abbrev pub covered : Spot → List Spot → ℕ
 covered first rest = (last_of first rest).time - first.time
 
--- How far the values are taken to go on past the first or the last of them, at a distance from the end of the range: up to that
--- end; but half a mean step where the distance is 1.1 mean steps or more.
+-- How far the values are taken to go on past the first or the last of them, at a distance from the
+-- end of the range: up to that end; but half a mean step where the distance is 1.1 mean steps or
+-- more.
 abbrev pub reach : ℕ → ℕ → ℕ → Fraction
 reach distance covered steps = if nat_le (11 * covered) (10 * steps * distance) then fraction covered (2 * steps) else fraction distance 1
 
@@ -43,7 +44,8 @@ reach_after to first rest = reach (ms_between (pos (last_of first rest).time) to
 abbrev pub lost : List Num → ℤ
 lost values = (total_of (map (λ p. p.0) (filter falls (neighbours values)))).units
 
--- What was gained from the first value to the last: a gauge's difference, and for a counter what it lost besides.
+-- What was gained from the first value to the last: a gauge's difference, and for a counter what it
+-- lost besides.
 abbrev pub difference : Spot → List Spot → ℤ
 difference first rest = units_in (last_of first rest).value -ℤ units_in first.value
 
@@ -54,14 +56,14 @@ gained first rest = difference first rest +ℤ lost (numbers_of (first ∷ rest)
 abbrev pub extended : ℤ → ℕ → Fraction → ℤ
 extended gain covered longer = half (gain *ℤ pos (plus (fraction covered 1) longer).top) (pos ((plus (fraction covered 1) longer).bottom * covered))
 
--- A counter does not begin below zero: whether a gain of this many units, taken to go on as evenly before the first value, would
--- have been zero within the range.
+-- A counter does not begin below zero: whether a gain of this many units, taken to go on as evenly
+-- before the first value, would have been zero within the range.
 abbrev pub begins_at_zero : ℤ → ℤ → ℕ → Fraction → Bool
 begins_at_zero gain first covered before =
     int_lt (pos 0) gain && not (int_lt first (pos 0)) && int_lt (first *ℤ pos (covered * before.bottom)) (gain *ℤ pos before.top)
 
--- The gain of a gauge and that of a counter in the range, in units. A counter that begins at zero gains its first value before
--- it, and nothing more.
+-- The gain of a gauge and that of a counter in the range, in units. A counter that begins at zero
+-- gains its first value before it, and nothing more.
 abbrev pub gauge_gain : ℤ → ℤ → Spot → List Spot → ℤ
 gauge_gain from to first rest = extended (difference first rest) (covered first rest) (plus (reach_before from first rest) (reach_after to first rest))
 

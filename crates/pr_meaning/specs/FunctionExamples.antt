@@ -18,7 +18,8 @@ nameless text = element (x (codes "1") ∷ []) (num text) ∷ []
 abbrev pub at_x : List ℕ → List ℕ → Item Num
 at_x value text = sample (codes "a") (x value ∷ []) (num text)
 
--- a{x="1"} and a{x="2"}; b{x="2"}, b{x="1"} and then the same of a, which have equal labels without their names
+-- a{x="1"} and a{x="2"}; b{x="2"}, b{x="1"} and then the same of a, which have equal labels without
+-- their names
 abbrev pub two : List (Item Num)
 two = at_x (codes "1") (codes "1") ∷ at_x (codes "2") (codes "3") ∷ []
 

@@ -1,4 +1,5 @@
--- Functions of instant vectors: what they do to each value, and when two results cannot be told apart.
+-- Functions of instant vectors: what they do to each value, and when two results cannot be told
+-- apart.
 use Rattle.std.specs.Prelude.{zero, suc, Bool, true, false, ℤ, pos, negsuc, nat_lt, List, [], ◌∷◌, count_by, find, Option, Some, None, Result, Ok, Err, is_err, if◌then◌else◌}
 use Rattle.std.specs.List.{filter_map, list_any}
 use Rattle.std.specs.Option.{option_map}
@@ -13,9 +14,8 @@ use Rattle.pr_num.specs.Multiples.{ceil_of, floor_of, rounded_to}
 use Rattle.pr_num.specs.Order.{compared}
 use Rattle.pr_labels.specs.declared.pair.Pair.{Pair}
 use Rattle.pr_labels.specs.declared.item.Item.{Item}
-use Rattle.pr_labels.specs.Edits.{without_name}
-use Rattle.pr_labels.specs.LabelSet.{metric_label}
 use Rattle.pr_labels.specs.Order.{labels_eq}
+use Rattle.pr_labels.specs.SeriesText.{unnamed}
 use Rattle.pr_meaning.specs.declared.function_fault.FunctionFault.{FunctionFault}
 use Rattle.pr_meaning.specs.declared.function_fault.FunctionFault.TheVariants as fault
 use Rattle.pr_meaning.specs.Vectors.{element, in_label_order, in_order, label_sets}
@@ -39,17 +39,15 @@ told_apart items = unless_same (least_twice (label_sets items)) (in_order items)
 abbrev pub ValueFunction : Type 0
 ValueFunction = Num → Result Num TooWide
 
--- The labels of a result are those of its element without the metric's name.
-abbrev pub unnamed : List Pair → List Pair
-unnamed labels = without_name labels metric_label
-
 abbrev pub is_too_wide : ValueFunction → Item Num → Bool
 is_too_wide f e = is_err (f e.value)
 
+-- The labels of a result are those of its element without the metric's name.
 abbrev pub with_value : ValueFunction → Item Num → Option (Item Num)
 with_value f e = option_map (element (unnamed e.labels)) (result_ok (f e.value))
 
--- A function of each value: too wide where one result is so, and only then are equal labels looked for.
+-- A function of each value: too wide where one result is so, and only then are equal labels looked
+-- for.
 abbrev pub mapped : ValueFunction → List (Item Num) → Result (List (Item Num)) FunctionFault
 mapped f items =
     if list_any (is_too_wide f) items then Err fault.TooWide

@@ -96,8 +96,8 @@ raised_from most (b ∷ rest) = bucket b.bound (greatest most b.count) ∷ raise
 abbrev pub raised : List Bucket → List Bucket
 raised buckets = raised_from NegInf buckets
 
--- 1. No number where phi or a count is none, a count is infinite, there are fewer than two buckets, the last bound is not
--- the infinity above, or the last count is 0.
+-- 1. No number where phi or a count is none, a count is infinite, there are fewer than two buckets,
+--    the last bound is not the infinity above, or the last count is 0.
 abbrev pub is_special : Num → Bool
 is_special (Finite a) = false
 is_special NaN = true
@@ -124,8 +124,8 @@ has_no_quantile phi buckets =
     is_same phi NaN || list_any (λ b. is_special b.count) buckets || nat_lt (length buckets) 2
     || not (is_same (last_bucket buckets).bound PosInf) || is_same (last_bucket (raised buckets)).count zero_value
 
--- 6. With the other rules: between two bounds the quantile lies as far as the rank lies between their counts. Each operation
--- is rounded by itself.
+-- 6. With the other rules: between two bounds the quantile lies as far as the rank lies between
+--    their counts. Each operation is rounded by itself.
 abbrev pub then_value : Result Num TooWide → (Num → Result Num TooWide) → Result Num TooWide
 then_value (Ok v) f = f v
 then_value (Err e) f = Err e
@@ -137,7 +137,8 @@ part_way start end missing width =
     then_value (product_of span share) (λ step.
     sum_of start step)))
 
--- 5. From the bucket before, with its bound and its count: where the bucket has no more than that, its start.
+-- 5. From the bucket before, with its bound and its count: where the bucket has no more than that,
+--    its start.
 abbrev pub inside : Num → Num → Num → Bucket → Result Num TooWide
 inside rank start before b =
     then_value (difference_of b.count before) (λ width.
@@ -155,8 +156,8 @@ in_bucket rank buckets zero = in_first rank (bucket_at buckets 0)
 in_bucket rank buckets (suc i) =
     inside rank (bucket_at buckets i).bound (bucket_at buckets i).count (bucket_at buckets (suc i))
 
--- 3. The bucket of a rank is the first one whose count is at least that, else the last; for the last bucket the answer is
--- the second highest bound.
+-- 3. The bucket of a rank is the first one whose count is at least that, else the last; for the
+--    last bucket the answer is the second highest bound.
 abbrev pub reaches : Num → Bucket → Bool
 reaches rank b = not (is_lt (order_of b.count rank))
 

@@ -1,4 +1,5 @@
--- Functions that set a label of each element; values and the other labels stay, the metric's name too.
+-- Functions that set a label of each element; values and the other labels stay, the metric's name
+-- too.
 use Rattle.std.specs.Prelude.{ℕ, List, [], ◌∷◌, ◌++◌, map, Option, Some, None, Result}
 use Rattle.pr_num.specs.declared.value.Num.{Num}
 use Rattle.pr_labels.specs.declared.pair.Pair.{Pair}
@@ -13,8 +14,8 @@ use Rattle.pr_meaning.specs.Functions.{told_apart}
 abbrev pub Expansion : Type 0
 Expansion = List ℕ → Option (List ℕ)
 
--- The label is set to what is made of another label's text; an absent label is the empty text, and an empty text removes
--- the label.
+-- The label is set to what is made of another label's text; an absent label is the empty text, and
+-- an empty text removes the label.
 abbrev pub set_if_any : List Pair → List ℕ → Option (List ℕ) → List Pair
 set_if_any labels name None = labels
 set_if_any labels name (Some text) = set_label labels name text

@@ -16,7 +16,8 @@ use Rattle.pr_meaning.specs.declared.match_fault.MatchFault.{MatchFault}
 use Rattle.pr_meaning.specs.declared.match_fault.MatchFault.TheVariants as fault
 use Rattle.pr_meaning.specs.Vectors.{element, in_label_order, in_order}
 
--- What an operator answers to a left and a right value: a value, or none where a filter drops the pair.
+-- What an operator answers to a left and a right value: a value, or none where a filter drops the
+-- pair.
 abbrev pub Operator : Type 0
 Operator = Num → Num → Result (Option Num) TooWide
 
@@ -50,8 +51,8 @@ key_set how side = in_label_order (map (key_of how) side)
 abbrev pub is_shared : Matching → List (Item Num) → List Pair → Bool
 is_shared how side key = nat_lt 1 (count_by (has_key how key) side)
 
--- Where the many side is not empty, two elements of the one side with equal keys are ManyToMany with the
--- least such key.
+-- Where the many side is not empty, two elements of the one side with equal keys are ManyToMany
+-- with the least such key.
 abbrev pub least_shared : Matching → List (Item Num) → Option (List Pair)
 least_shared how side = find (is_shared how side) (key_set how side)
 
@@ -80,9 +81,10 @@ worked OneToOne op p = op p.many.value p.one.value
 worked ManyToOne op p = op p.many.value p.one.value
 worked OneToMany op p = op p.one.value p.many.value
 
--- The labels of what a pair gives are the many side's, without the metric's name unless it is kept. In
--- one-to-one matching they are then kept to the `on` names, or are without the `ignoring` names. In
--- grouped matching each included label is set from the one side, or removed where that has it not.
+-- The labels of what a pair gives are the many side's, without the metric's name unless it is kept.
+-- In one-to-one matching they are then kept to the `on` names, or are without the `ignoring` names.
+-- In grouped matching each included label is set from the one side, or removed where that has it
+-- not.
 abbrev pub name_kept : Bool → List Pair → List Pair
 name_kept true labels = labels
 name_kept false labels = without_name labels metric_label
@@ -124,9 +126,9 @@ kept_of (Ok k) = k
 abbrev pub kept : List (Result (Option Kept) TooWide) → List Kept
 kept outcomes = filter_map kept_of outcomes
 
--- Three tests of a pair after those kept before it. First, the operator is too wide. Second, in one-to-one
--- matching, the pair is kept and its key is that of an earlier one. Third, the pair is kept and its labels
--- are those of an earlier one.
+-- Three tests of a pair after those kept before it. First, the operator is too wide. Second, in
+-- one-to-one matching, the pair is kept and its key is that of an earlier one. Third, the pair is
+-- kept and its labels are those of an earlier one.
 abbrev pub key_fault : Card → List Kept → Kept → Option MatchFault
 key_fault OneToOne before k = cond (list_any (λ b. labels_eq b.key k.key) before) (Some (fault.ManyToMany k.key)) None
 key_fault ManyToOne before k = None
@@ -169,8 +171,8 @@ joined how keep_name op left right = joined_sides how keep_name op (many_side ho
 abbrev pub is_matched : Matching → List (Item Num) → Item Num → Bool
 is_matched how side e = list_any (has_key how (key_of how e)) side
 
--- The left elements whose key the right side has; those whose key it has not; and all left ones with the
--- right ones whose key the left side has not.
+-- The left elements whose key the right side has; those whose key it has not; and all left ones
+-- with the right ones whose key the left side has not.
 abbrev pub both_sides : Matching → List (Item Num) → List (Item Num) → List (Item Num)
 both_sides how left right = filter (is_matched how right) left
 

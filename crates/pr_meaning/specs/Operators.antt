@@ -8,7 +8,8 @@ use Rattle.pr_num.specs.Order.{compared}
 use Rattle.pr_labels.specs.declared.item.Item.{Item}
 use Rattle.pr_meaning.specs.Matching.{Operator}
 
--- A comparison asks how its left value stands to its right one. Values of which one is NaN stand to each other in no way.
+-- A comparison asks how its left value stands to its right one. Values of which one is NaN stand to
+-- each other in no way.
 abbrev pub Comparison : Type 0
 Comparison = Option Ordering → Bool
 

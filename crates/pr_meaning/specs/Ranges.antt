@@ -28,7 +28,8 @@ abbrev pub with_fault : Result (Option Num) TooWide → Result (Option Num) AskF
 with_fault (Ok value) = Ok value
 with_fault (Err e) = Err fault.TooWide
 
--- How many values differ from the one before, where NaN is NaN, and how many are below the one before.
+-- How many values differ from the one before, where NaN is NaN, and how many are below the one
+-- before.
 abbrev pub differ : Num × Num → Bool
 differ p = not (same_num p.0 p.1)
 
@@ -75,6 +76,7 @@ over a spots = cond (nat_lt longest (length spots)) (Err (fault.RangeTooLong (le
 abbrev pub answer_to : List Entry → List Pair → Ask → Result (Option Num) AskFault
 answer_to history labels a = over a (spots_within history labels a.from a.to)
 
--- How many entries of a series an ask may read where the first `passed` of them are known: those of the range alone.
+-- How many entries of a series an ask may read where the first `passed` of them are known: those of
+-- the range alone.
 abbrev pub ask_cost : List Entry → List Pair → Ask → ℕ → ℕ
 ask_cost history labels a passed = entries_until history labels a.to - max (entries_until history labels a.from) passed

@@ -21,8 +21,8 @@ time_from first s = s.time - first.time
 abbrev pub units_from : Spot → Spot → ℤ
 units_from first s = units_in s.value -ℤ units_in first.value
 
--- The sums of x, of x squared, of y, and of x y over all values, the first one among them; and those of the magnitudes of the
--- last two.
+-- The sums of x, of x squared, of y, and of x y over all values, the first one among them; and
+-- those of the magnitudes of the last two.
 abbrev pub sum_x : Spot → List Spot → ℕ
 sum_x first rest = sum_by (time_from first) (first ∷ rest)
 
@@ -68,12 +68,13 @@ deriv_of first rest = over_all first rest (slope_of first rest)
 abbrev pub ms_ahead : ℤ → ℤ
 ms_ahead seconds = half seconds (pos (10 ^ 6))
 
--- How far a moment, so many milliseconds after the end of the range, is from the mean of the times, as often as there are values.
+-- How far a moment, so many milliseconds after the end of the range, is from the mean of the times,
+-- as often as there are values.
 abbrev pub times_ahead : ℤ → ℤ → Spot → List Spot → ℤ
 times_ahead ahead to first rest = ((to -ℤ pos first.time) +ℤ ahead) *ℤ pos (count rest) -ℤ pos (sum_x first rest)
 
--- Where the line is at that moment: the first value, the mean of all from it on, and the slope over the time from the mean of
--- theirs.
+-- Where the line is at that moment: the first value, the mean of all from it on, and the slope over
+-- the time from the mean of theirs.
 abbrev pub line_at : ℤ → ℤ → Spot → List Spot → Num → Result Num TooWide
 line_at ahead to first rest slope =
     fitted ((units_in first.value +ℤ half (sum_y first rest) (pos (count rest)))

@@ -1,14 +1,13 @@
 -- Values with their times, one after another.
-use Rattle.std.specs.Prelude.{Bool, true, false, ℤ, pos, List, [], ◌∷◌, map, drop, Option, Some, None, Result, Ok, Err}
+use Rattle.std.specs.Prelude.{Bool, ℤ, pos, List, [], ◌∷◌, map, drop, Option, Some, None, Result, Ok, Err}
 use Rattle.std.specs.List.{list_any, zip}
-use Rattle.std.specs.declared.cmp.Ordering.{Ordering}
-use Rattle.std.specs.declared.cmp.Ordering.TheVariants.{Less, Equal, Greater}
 use Rattle.pr_num.specs.declared.value.Num.{Num}
 use Rattle.pr_num.specs.declared.value.Num.TheVariants.{Finite, NaN, PosInf, NegInf}
 use Rattle.pr_num.specs.declared.value.TooWide.{TooWide}
 use Rattle.pr_num.specs.Order.{compared}
 use Rattle.pr_history.specs.declared.spot.Spot.{Spot}
 use Rattle.pr_meaning.specs.Histogram.{is_special}
+use Rattle.pr_meaning.specs.Operators.{is_greater}
 
 -- the values without their times
 abbrev pub numbers_of : List Spot → List Num
@@ -24,12 +23,6 @@ abbrev pub neighbours : {X : Type 0} → List X → List (X × X)
 neighbours xs = zip xs (drop 1 xs)
 
 -- whether the second of two is below the first, as numbers
-abbrev pub is_greater : Option Ordering → Bool
-is_greater (Some Greater) = true
-is_greater (Some Equal) = false
-is_greater (Some Less) = false
-is_greater None = false
-
 abbrev pub falls : Num × Num → Bool
 falls p = is_greater (compared p.0 p.1)
 

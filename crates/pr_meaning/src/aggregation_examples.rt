@@ -20,7 +20,8 @@ pub fn aggregations_of_one_and_three()
     ensures nothing { aggregated sum_of_values by_nothing [] ≡ Ok [] }
 {}
 
-/// Elements are grouped by the listed labels, or by those that are not listed without the metric's name; each group comes once.
+/// Elements are grouped by the listed labels, or by those that are not listed without the metric's
+/// name; each group comes once.
 #[tactic(auto, unfolding(pr_num::specs::Total::value_of, pr_num::specs::Order::order_of))]
 pub fn groups_have_their_labels()
     ensures listed { aggregated sum_of_values by_x four ≡ Ok (at_x (codes "1") NaN ∷ at_x (codes "2") (number 7) ∷ []) }
@@ -28,7 +29,8 @@ pub fn groups_have_their_labels()
         ≡ Ok (element (y (codes "p") ∷ []) (number 2) ∷ element (y (codes "q") ∷ []) (number 2) ∷ []) }
 {}
 
-/// The greatest and the least value pass over NaN, unless all are. A sum may be too wide where the mean is none.
+/// The greatest and the least value pass over NaN, unless all are. A sum may be too wide where the
+/// mean is none.
 #[tactic(auto, unfolding(pr_num::specs::Total::value_of, pr_num::specs::Total::mean_of, pr_num::specs::Order::order_of, pr_num::specs::Half::half, pr_num::specs::Half::half_abs))]
 pub fn special_and_wide_values()
     ensures greatest { aggregated (always greatest_of_values) by_x four ≡ Ok (at_x (codes "1") (number 5) ∷ at_x (codes "2") (number 5) ∷ []) }
@@ -41,8 +43,8 @@ pub fn special_and_wide_values()
     ensures rounded { mean_of_values (Finite (pos 1) ∷ Finite (pos 1) ∷ Finite (pos 0) ∷ []) ≡ Finite (pos 1) }
 {}
 
-/// The first k keep their labels and stay in label order. At a tie the first in label order comes first, NaN comes last, and k is
-/// rounded down.
+/// The first k keep their labels and stay in label order. At a tie the first in label order comes
+/// first, NaN comes last, and k is rounded down.
 #[tactic(auto, unfolding(pr_num::specs::Order::order_of))]
 pub fn first_elements_of_each_group()
     ensures top { first_of_parts greatest_first (number 1) by_nothing four ≡ sample (codes "a") (x (codes "1") ∷ y (codes "p") ∷ []) (number 5) ∷ [] }
@@ -66,7 +68,8 @@ pub fn quantiles_of_each_group()
     ensures beyond { aggregated (always (quantile_of_values (number 2))) by_nothing one_three ≡ Ok (bare PosInf ∷ []) }
 {}
 
-/// Elements are counted by their group with a label set to the printed value, in place of what the group has there.
+/// Elements are counted by their group with a label set to the printed value, in place of what the
+/// group has there.
 #[tactic(auto, unfolding(pr_num::specs::Shown::shown))]
 pub fn values_are_counted()
     ensures new { counted (codes "z") by_x all_not_numbers

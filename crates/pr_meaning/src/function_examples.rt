@@ -43,7 +43,8 @@ pub fn values_are_clamped()
     ensures nan_limit { clamped_max (num (codes "NaN")) (one (codes "2")) ≡ Ok (nameless (codes "NaN")) }
 {}
 
-/// Two results with equal labels are a fault, which tells the least such labels; a value that is too wide comes before it.
+/// Two results with equal labels are a fault, which tells the least such labels; a value that is
+/// too wide comes before it.
 #[tactic(auto, unfolding(crate::proofs::FunctionComputing::function_computing))]
 pub fn equal_labels_are_a_fault()
     ensures least { abs_of (twice (codes "1")) ≡ Err (SameLabels (x (codes "1") ∷ [])) }
@@ -59,8 +60,8 @@ pub fn one_element_is_a_scalar()
     ensures two { scalar_of two ≡ num (codes "NaN") }
 {}
 
-/// A label is set to what a text is expanded to, or joined of other labels; an empty text takes it out, and so two elements
-/// may come to have equal labels.
+/// A label is set to what a text is expanded to, or joined of other labels; an empty text takes it
+/// out, and so two elements may come to have equal labels.
 #[tactic(auto, unfolding(crate::proofs::FunctionComputing::function_computing))]
 pub fn labels_are_set()
     ensures replaced { label_replaced (codes "y") (codes "x") (λ text. Some (codes "k" ++ text)) (one (codes "2"))
@@ -92,7 +93,8 @@ pub fn days_go_by()
     ensures common { is_leap 2023 ≡ false }
 {}
 
-/// Fields of the date and the time of day. Seconds are cut toward zero, and the years 1 to 9999 have fields.
+/// Fields of the date and the time of day. Seconds are cut toward zero, and the years 1 to 9999
+/// have fields.
 #[tactic(auto, unfolding(crate::proofs::FunctionComputing::function_computing))]
 pub fn instants_have_fields()
     ensures minute { calendar_of Minute (num (codes "3599.999999999")) ≡ num (codes "59") }
@@ -122,10 +124,13 @@ pub fn histograms_have_quantiles()
     ensures below { histogram_quantiles (num (codes "-1")) three ≡ Ok (alone (codes "-Inf")) }
     ensures above { histogram_quantiles (num (codes "1.1")) three ≡ Ok (alone (codes "+Inf")) }
     ensures no_phi { histogram_quantiles (num (codes "NaN")) three ≡ Ok (alone (codes "NaN")) }
+    ensures no_rank { histogram_quantiles (num (codes "0.5")) (le (codes "1") (codes "-20") ∷ le (codes "2") (codes "-15") ∷ le (codes "+Inf") (codes "-10") ∷ []) ≡ Ok (alone (codes "2")) }
+    ensures rounded { histogram_quantiles (num (codes "0.1")) (le (codes "3") (codes "3") ∷ le (codes "+Inf") (codes "10") ∷ []) ≡ Ok (alone (codes "0.999999999")) }
     ensures none { histogram_quantiles (num (codes "0.5")) two ≡ Ok [] }
 {}
 
-/// Buckets are put in order, counts of equal bounds are added, and no count is less than one before it.
+/// Buckets are put in order, counts of equal bounds are added, and no count is less than one before
+/// it.
 #[tactic(auto, unfolding(crate::proofs::FunctionComputing::function_computing))]
 pub fn buckets_are_made_right()
     ensures raised { histogram_quantiles (num (codes "1")) (le (codes "1") (codes "5") ∷ le (codes "2") (codes "3") ∷ le (codes "+Inf") (codes "4") ∷ []) ≡ Ok (alone (codes "1")) }

@@ -1,6 +1,7 @@
 use pr_labels::Labels;
 
-/// Why a function of a vector has no result. (Prometheus: Querying, Functions; that the least labels are told is own choice.)
+/// Why a function of a vector has no result. (Prometheus: Querying, Functions; that the least
+/// labels are told is own choice.)
 #[derive(Debug, Drop)]
 pub enum FunctionFault {
     /// Two elements of the result have these labels, the least such.

@@ -6,8 +6,8 @@ ghost use Rattle.pr_labels.specs.declared.matching.Matching.{Matching};
 ghost use Rattle.pr_meaning.specs.Vectors.{IsVector};
 ghost use Rattle.pr_meaning.specs.Matching.{Operator, joined, both_sides, left_alone, either_side};
 
-/// The answers are in label order with distinct label sets: what operators and `or` give whatever stood there before, what
-/// `and` and `unless` give of a left side that is so.
+/// The answers are in label order with distinct label sets: what operators and `or` give whatever
+/// stood there before, what `and` and `unless` give of a left side that is so.
 pub fn answers_are_vectors()
     ensures joined { (how : Matching) (keep_name : Bool) (op : Operator) (left right : List (Item Num)) → IfOk (joined how keep_name op left right) IsVector }
     ensures either { (how : Matching) (left right : List (Item Num)) → IsVector (either_side how left right) }

@@ -1,4 +1,5 @@
-//! The meaning of PromQL: what operators between two vectors, aggregations, functions of vectors and functions over ranges give.
+//! The meaning of PromQL: what operators between two vectors, aggregations, functions of vectors
+//! and functions over ranges give.
 #![tactic(auto)]
 
 mod aggregation_examples;
@@ -22,8 +23,9 @@ pub use aggregation_examples::{
 pub use aggregation_laws::{aggregations_are_vectors, each_group_has_a_value};
 pub use bucket::Bucket;
 pub use examples::{
-    a_filter_keeps_the_left_value, a_label_is_taken_from_the_one_side, faults_come_in_order,
-    keys_are_on_or_ignoring_names, one_side_has_a_key_once, sets_go_by_key,
+    a_filter_keeps_the_left_value, a_label_is_taken_from_the_one_side,
+    a_pair_has_the_labels_of_its_key, faults_come_in_order, keys_are_on_or_ignoring_names,
+    one_side_has_a_key_once, sets_go_by_key,
 };
 pub use function_examples::{
     buckets_are_made_right, days_go_by, equal_labels_are_a_fault, histograms_have_quantiles,
@@ -34,7 +36,9 @@ pub use function_fault::FunctionFault;
 pub use function_laws::function_answers_are_vectors;
 pub use laws::answers_are_vectors;
 pub use match_fault::MatchFault;
-pub use operator_examples::comparisons_work_on_two_values;
+pub use operator_examples::{
+    comparisons_are_of_lesser_equal_and_greater_values, comparisons_work_on_two_values,
+};
 pub use part::Part;
 pub use range::{Ask, AskFault, RangeFn};
 pub use range_examples::{

@@ -1,4 +1,5 @@
-/// A field of the date and the time of day of an instant, in UTC. (Prometheus: Querying, Functions.)
+/// A field of the date and the time of day of an instant, in UTC. (Prometheus: Querying,
+/// Functions.)
 #[derive(Clone, Copy, Debug, PartialEq, Eq)]
 pub enum Part {
     /// From 0 to 59.

@@ -23,7 +23,8 @@ pub enum RangeFn {
     QuantileOverTime,
 }
 
-/// A question to the values of a series: a function of those with times above `from` and at most `to`.
+/// A question to the values of a series: a function of those with times above `from` and at most
+/// `to`.
 #[derive(Clone, Copy, Debug, PartialEq, Eq)]
 pub struct Ask {
     /// The range begins after this moment, in milliseconds; it may be before all times.
@@ -32,7 +33,8 @@ pub struct Ask {
     pub to: i64,
     /// Which function.
     pub func: RangeFn,
-    /// The fraction of `quantile_over_time` or the seconds ahead of `predict_linear`; none of the others.
+    /// The fraction of `quantile_over_time` or the seconds ahead of `predict_linear`; none of the
+    /// others.
     pub arg: Option<Num>,
     /// Whether it is asked for one of the times of a subquery.
     pub inside: bool,

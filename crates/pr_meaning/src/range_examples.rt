@@ -33,7 +33,8 @@ pub fn values_are_summed_and_compared()
     ensures no_greatest { of_values MaxOverTime (NaN ∷ NaN ∷ []) ≡ gives NaN }
 {}
 
-/// Without values there is nothing; with some there is their number, the last one, and that some are there.
+/// Without values there is nothing; with some there is their number, the last one, and that some
+/// are there.
 #[tactic(auto, unfolding(crate::specs::Ranges::over, crate::specs::Ranges::function_of))]
 pub fn ranges_have_counts()
     ensures none { of_values CountOverTime [] ≡ Ok None }
@@ -43,7 +44,8 @@ pub fn ranges_have_counts()
     ensures present { of_values PresentOverTime (NaN ∷ []) ≡ gives (number 1) }
 {}
 
-/// A value changes where it differs from the one before, NaN from NaN not, and is reset where it is below.
+/// A value changes where it differs from the one before, NaN from NaN not, and is reset where it is
+/// below.
 #[tactic(auto, unfolding(crate::specs::Ranges::over, crate::specs::Ranges::function_of, pr_num::specs::Order::compared))]
 pub fn neighbours_differ_or_fall()
     ensures changes { of_values Changes (number 1 ∷ number 1 ∷ number 2 ∷ NaN ∷ NaN ∷ number 2 ∷ []) ≡ gives (number 3) }
@@ -53,8 +55,8 @@ pub fn neighbours_differ_or_fall()
     ensures reset { answer_to falling m (ask_of Resets 0 240000) ≡ gives (number 1) }
 {}
 
-/// What is gained goes on up to the ends of the range, or for half a mean step where they are further away; a counter begins no
-/// earlier than at zero, and what it lost at falls is gained.
+/// What is gained goes on up to the ends of the range, or for half a mean step where they are
+/// further away; a counter begins no earlier than at zero, and what it lost at falls is gained.
 #[tactic(auto, unfolding(crate::specs::Ranges::over, crate::specs::Ranges::function_of, crate::specs::Extrapolation::rate_of, crate::specs::Extrapolation::increase_of, crate::specs::Extrapolation::delta_of, pr_num::specs::Half::half, pr_num::specs::Half::half_abs, pr_num::specs::Order::compared))]
 pub fn gains_are_extrapolated()
     ensures increase { of_m Increase twos ≡ gives (number 10) }
@@ -62,6 +64,8 @@ pub fn gains_are_extrapolated()
     ensures at_zero { of_m Increase late ≡ gives (number 19) }
     ensures rate_at_zero { of_m Rate late ≡ gives (Finite (pos 63333333)) }
     ensures gauge { of_m Delta late ≡ gives (number 21) }
+    ensures at_the_limit { over (ask_of Delta 0 2100) (spot_of 1100 (number 0) ∷ spot_of 2100 (number 10) ∷ []) ≡ gives (number 15) }
+    ensures from_zero { over (ask_of Increase 0 2000) (spot_of 1000 (number 0) ∷ spot_of 2000 (number 10) ∷ []) ≡ gives (number 10) }
     ensures fallen { answer_to falling m (ask_of Increase 0 240000) ≡ gives (Finite (pos 9333333333)) }
     ensures fallen_gauge { answer_to falling m (ask_of Delta 0 240000) ≡ gives (Finite (negsuc 1333333332)) }
 {}
@@ -87,7 +91,8 @@ pub fn the_last_two_values_count()
     ensures wide { of_values Idelta (minus 99999999999999999999 ∷ number 1 ∷ []) ≡ Err TooWide }
 {}
 
-/// The slope of the straight line by least squares is that of a second; the line goes on after the end of the range.
+/// The slope of the straight line by least squares is that of a second; the line goes on after the
+/// end of the range.
 #[tactic(auto, unfolding(crate::specs::Ranges::over, crate::specs::Ranges::function_of, crate::specs::Regression::deriv_of, crate::specs::Regression::predicted, pr_num::specs::Half::half, pr_num::specs::Half::half_abs))]
 pub fn a_line_goes_on()
     ensures slope { of_values Deriv (number 1 ∷ number 3 ∷ number 5 ∷ []) ≡ gives (number 2) }
@@ -99,10 +104,14 @@ pub fn a_line_goes_on()
     ensures wide_parts { over (ask_of Deriv 0 2000000) (spot_of 1 (number 1) ∷ spot_of 1000001 widest ∷ []) ≡ Err TooWide }
     ensures wide_line { of_values_with PredictLinear (number 5) (number 1 ∷ widest ∷ []) ≡ Err TooWide }
     ensures far { of_values_with PredictLinear (number 1099511628) (number 1 ∷ number 1 ∷ []) ≡ Err TooWide }
+    ensures far_back { of_values_with PredictLinear (minus 1099511628) (number 1 ∷ number 1 ∷ []) ≡ Err TooWide }
+    ensures half_down { of_values_with PredictLinear (Finite (pos 500000)) (number 1 ∷ number 3 ∷ number 5 ∷ []) ≡ gives (number 19) }
+    ensures half_up { of_values_with PredictLinear (Finite (pos 1500000)) (number 1 ∷ number 3 ∷ number 5 ∷ []) ≡ gives (Finite (pos 19004000000)) }
     ensures never { of_values_with PredictLinear NaN (number 1 ∷ number 3 ∷ []) ≡ gives NaN }
 {}
 
-/// Of one value these functions give nothing, whatever else there is; a value that is not finite comes next, and then faults.
+/// Of one value these functions give nothing, whatever else there is; a value that is not finite
+/// comes next, and then faults.
 #[tactic(auto, unfolding(crate::specs::Ranges::over, crate::specs::Ranges::function_of, crate::specs::Extrapolation::rate_of, crate::specs::Extrapolation::increase_of, crate::specs::Extrapolation::delta_of, crate::specs::Regression::deriv_of, crate::specs::Regression::predicted))]
 pub fn two_finite_values_are_needed()
     ensures one { of_values Rate (NaN ∷ []) ≡ Ok None }
@@ -114,7 +123,8 @@ pub fn two_finite_values_are_needed()
     ensures special_ahead { of_values_with PredictLinear (number 1099511628) (NaN ∷ number 2 ∷ []) ≡ gives NaN }
 {}
 
-/// A quantile lies between two of the values in order, as far from the lower one as the fraction says.
+/// A quantile lies between two of the values in order, as far from the lower one as the fraction
+/// says.
 #[tactic(auto, unfolding(crate::specs::Ranges::over, crate::specs::Ranges::function_of, pr_num::specs::Quantile::quantile_of, pr_num::specs::Quantile::ranked, pr_num::specs::Half::half, pr_num::specs::Half::half_abs, pr_num::specs::Order::order_of))]
 pub fn a_quantile_is_of_values_in_order()
     ensures between { of_values_with QuantileOverTime (Finite (pos 100000000)) (number 10 ∷ number 0 ∷ []) ≡ gives (number 1) }

@@ -5,7 +5,7 @@ use Rattle.std.specs.Option.{option_map}
 use Rattle.pr_labels.specs.declared.pair.Pair.{Pair}
 use Rattle.pr_labels.specs.declared.item.Item.{Item}
 use Rattle.pr_labels.specs.Rising.{IsBelowFirstSet, IsRising}
-use Rattle.pr_labels.proofs.LabelOrder.{labels_total}
+use Rattle.pr_labels.proofs.LabelOrder.{below_next}
 use Rattle.pr_history.specs.declared.entry.Entry.{Entry}
 use Rattle.pr_history.specs.declared.spot.Spot.{Spot}
 use Rattle.pr_history.specs.Lookback.{spot_at}
@@ -16,15 +16,11 @@ use Rattle.pr_types.specs.Selectors.{tests_of}
 use Rattle.pr_meaning.specs.Vectors.{IsVector, label_sets}
 use Rattle.pr_query.specs.Selection.{chosen_by, moment_of, selected_spots, selection, shown_as, spots_at, valued}
 
-abbrev sets_in : List (Item Spot) → List (List Pair)
+abbrev pub sets_in : List (Item Spot) → List (List Pair)
 sets_in items = map (λ e. e.labels) items
 
 abbrev sets_after : List Pair → Option Spot → List (Item Spot) → List (List Pair)
 sets_after labels spot items = sets_in (cons_option (option_map (shown_as labels) spot) items)
-
-below_next : (labels first : List Pair) (rest : List (List Pair)) → IsBelowFirstSet labels (first ∷ rest) → IsBelowFirstSet first rest → IsBelowFirstSet labels rest
-below_next labels first [] h k = tt
-below_next labels first (second ∷ rest) h k = labels_total.trans labels first second h k
 
 below_spots : (history : List Entry) (x : ℤ) (labels : List Pair) (sets : List (List Pair)) → IsBelowFirstSet labels sets → IsRising sets
     → IsBelowFirstSet labels (sets_in (spots_at history x sets))

@@ -23,8 +23,8 @@ is_equality NotLike = false
 abbrev pub is_on : List ℕ → MatchText → Bool
 is_on label m = bytes_eq m.label label
 
--- A matcher tells a label of what is absent where it is one by `=`, not on the metric's name, the last matcher of its label, and
--- the only one of it by `=`.
+-- A matcher tells a label of what is absent where it is one by `=`, not on the metric's name, the
+-- last matcher of its label, and the only one of it by `=`.
 abbrev pub tells : List MatchText → MatchText → List MatchText → Bool
 tells before m after =
     is_equality m.op && not (bytes_eq m.label metric_label) && not (list_any (is_on m.label) after)

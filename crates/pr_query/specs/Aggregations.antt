@@ -21,8 +21,8 @@ abbrev pub aggregated_at : Place → Result (List (Item Num)) TooWide → Result
 aggregated_at p (Ok items) = Ok (Vector items)
 aggregated_at p (Err w) = Err (fault p kind.TooWide)
 
--- An aggregation, by what its arguments give; a parameter stands before the vector, and the name of a label is looked up in the
--- tree.
+-- An aggregation, by what its arguments give; a parameter stands before the vector, and the name of
+-- a label is looked up in the tree.
 abbrev pub summed_up : Place → AggOp → Grouping → Tree → List Given → Result Value Fault
 summed_up p Sum by ts gs = aggregated_at p (aggregated sum_of_values by (elements_given gs 0))
 summed_up p Avg by ts gs = aggregated_at p (aggregated (always mean_of_values) by (elements_given gs 0))

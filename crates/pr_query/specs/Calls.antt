@@ -4,6 +4,7 @@ use Rattle.pr_num.specs.declared.value.Num.{Num}
 use Rattle.pr_num.specs.declared.value.Num.TheVariants.{Finite}
 use Rattle.pr_num.specs.Arithmetic.{whole_of}
 use Rattle.pr_labels.specs.declared.item.Item.{Item}
+use Rattle.pr_labels.specs.SeriesText.{unnamed}
 use Rattle.pr_history.specs.declared.entry.Entry.{Entry}
 use Rattle.pr_history.specs.declared.spot.Spot.{Spot}
 use Rattle.pr_match.specs.Pattern.{expanded}
@@ -18,7 +19,7 @@ use Rattle.pr_meaning.specs.declared.part.Part.{Part}
 use Rattle.pr_meaning.specs.declared.part.Part.TheVariants as part
 use Rattle.pr_meaning.specs.declared.range.RangeFn.TheVariants as range
 use Rattle.pr_meaning.specs.Calendar.{calendar_of}
-use Rattle.pr_meaning.specs.Functions.{abs_of, ceils_of, clamped, clamped_max, clamped_min, floors_of, mapped, rounded_all, scalar_of, signs_of, told_apart, unnamed}
+use Rattle.pr_meaning.specs.Functions.{abs_of, ceils_of, clamped, clamped_max, clamped_min, floors_of, mapped, rounded_all, scalar_of, signs_of, told_apart}
 use Rattle.pr_meaning.specs.Histogram.{histogram_quantiles}
 use Rattle.pr_meaning.specs.LabelFunctions.{label_joined, label_replaced}
 use Rattle.pr_meaning.specs.Vectors.{element}
@@ -38,7 +39,8 @@ seconds_of time = Finite (pos (time * 10 ^ 6))
 abbrev pub vector_at : List (Item Num) → Result Value Fault
 vector_at items = Ok (value.Vector items)
 
--- An element of a selector has the time of its sample, and every other element the time of the query.
+-- An element of a selector has the time of its sample, and every other element the time of the
+-- query.
 abbrev pub with_time : Item Spot → Item Num
 with_time e = element (unnamed e.labels) (seconds_of e.value.time)
 
@@ -66,8 +68,8 @@ instants time (g ∷ gs) = elements_in g.value
 abbrev pub calendars : Part → ℕ → List Given → Result (List (Item Num)) FunctionFault
 calendars field time gs = mapped (λ v. Ok (calendar_of field v)) (instants time gs)
 
--- `absent_over_time` has one element where no series has a value in the range. Its series are asked in order as those of any
--- function of a range, and their labels are not told apart.
+-- `absent_over_time` has one element where no series has a value in the range. Its series are asked
+-- in order as those of any function of a range, and their labels are not told apart.
 abbrev pub absent_given : Place → Tree → Option Ranged → Result Value Fault
 absent_given p ts None = Ok (value.Vector [])
 absent_given p ts (Some r) = go_on (λ items. vector_at (absent_of (labels_of_argument ts) items)) (answers_over p r.place (question range.PresentOverTime None r) r.series)

@@ -9,14 +9,16 @@ use Rattle.pr_meaning.specs.Ranges.{longest}
 use Rattle.pr_query.specs.Selection.{chosen_by, moment_of}
 use Rattle.pr_query.specs.Subqueries.{multiples}
 
--- How many samples of a series were passed for a range selector, which goes by its number: they are not read again.
+-- How many samples of a series were passed for a range selector, which goes by its number: they are
+-- not read again.
 abbrev pub PassedFor : Type 0
 PassedFor = ℕ → List Pair → ℕ
 
 abbrev pub nothing_passed : PassedFor
 nothing_passed k labels = 0
 
--- the samples of these series in the range above one moment and at most another that were not passed
+-- the samples of these series in the range above one moment and at most another that were not
+-- passed
 abbrev pub range_cost : List Entry → ℤ → ℤ → (List Pair → ℕ) → List (List Pair) → ℕ
 range_cost history a b passed sets = sum_by (λ labels. entries_until history labels b - max (entries_until history labels a) (passed labels)) sets
 
@@ -24,9 +26,10 @@ range_cost history a b passed sets = sum_by (λ labels. entries_until history la
 abbrev pub cost_at_each : (ℕ → ℕ) → List ℕ → ℕ
 cost_at_each cost_at times = cond (nat_lt longest (length times)) 0 (sum_by cost_at times)
 
--- A selector reads one sample of each chosen series, a range selector those of its range that were not passed, and one inside a
--- subquery all of its range at each time; every other node reads what its operands do. The first range selector has the number
--- `node`. The step is that of subqueries which give none.
+-- A selector reads one sample of each chosen series, a range selector those of its range that were
+-- not passed, and one inside a subquery all of its range at each time; every other node reads what
+-- its operands do. The first range selector has the number `node`. The step is that of subqueries
+-- which give none.
 abbrev pub cost : ℕ → List Entry → PassedFor → Tree → ℕ → ℕ → ℕ
 cost step history u (select p s) node time = length (chosen_by s history)
 cost step history u (range p s d) node time = range_cost history (moment_of s time -ℤ pos d) (moment_of s time) (u node) (chosen_by s history)

@@ -13,7 +13,6 @@ use Rattle.pr_ast.specs.declared.names.BinOp.{BinOp}
 use Rattle.pr_ast.specs.declared.names.BinOp.TheVariants as op
 use Rattle.pr_ast.specs.declared.selector.MatchText.{MatchText}
 use Rattle.pr_ast.specs.declared.selector.MatchSign.TheVariants.{Equal, NotEqual}
-use Rattle.pr_labels.specs.declared.grouping.Grouping.{Grouping}
 use Rattle.pr_ast.specs.declared.names.AggOp.{AggOp}
 use Rattle.pr_ast.specs.declared.names.Func.{Func}
 use Rattle.pr_ast.specs.declared.names.Func.TheVariants as func
@@ -21,6 +20,7 @@ use Rattle.pr_ast.specs.Tree.{Tree, number, text, select, range, sub, neg, binar
 use Rattle.pr_ast.specs.Places.{nowhere}
 use Rattle.pr_ast.specs.Examples.{chosen, metric, matcher, one}
 use Rattle.pr_meaning.specs.Examples.{x, y, z, sample}
+use Rattle.pr_meaning.specs.AggregationExamples.{by_nothing}
 use Rattle.pr_query.specs.declared.fault.Fault.{Fault}
 use Rattle.pr_query.specs.declared.value.Value.{Value}
 use Rattle.pr_query.specs.Meaning.{meaning}
@@ -122,9 +122,6 @@ call_at n f ts = call (at n) f ts
 
 abbrev pub call_of : Func → Tree → Tree
 call_of f ts = call nowhere f ts
-
-abbrev pub by_nothing : Grouping
-by_nothing = record { by = true; names = [] }
 
 abbrev pub aggregate_of : AggOp → Tree → Tree
 aggregate_of o ts = aggregate nowhere o by_nothing ts

@@ -14,16 +14,17 @@ use Rattle.pr_query.specs.declared.value.Value.{Value}
 use Rattle.pr_query.specs.declared.value.Value.TheVariants.{Scalar, Vector}
 use Rattle.pr_query.specs.Selection.{chosen_by, moment_of}
 
--- What a range selector or a subquery gives: the values of series in the range above one moment and at most another, in label
--- order of the series. It has a place, at which a series with too many values is told.
+-- What a range selector or a subquery gives: the values of series in the range above one moment and
+-- at most another, in label order of the series. It has a place, at which a series with too many
+-- values is told.
 pub record Ranged : Type 0 where
   pub place : Place
   pub from : ℤ
   pub to : ℤ
   pub series : List (Item (List Spot))
 
--- What an argument gives: its value, and where it is a range, the values of its series. (A text gives neither: it is looked up
--- in the tree.)
+-- What an argument gives: its value, and where it is a range, the values of its series. (A text
+-- gives neither: it is looked up in the tree.)
 pub record Given : Type 0 where
   pub value : Value
   pub ranges : Option Ranged

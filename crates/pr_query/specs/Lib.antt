@@ -11,3 +11,4 @@ pub mod Subqueries
 pub mod Meaning
 pub mod Cost
 pub mod Examples
+pub mod RowExamples

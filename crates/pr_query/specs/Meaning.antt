@@ -13,16 +13,18 @@ use Rattle.pr_query.specs.Calls.{called}
 use Rattle.pr_query.specs.Aggregations.{summed_up}
 use Rattle.pr_query.specs.Subqueries.{subquery}
 
--- What is no value: a text, a range, a list of arguments. An expression that has a type is none of these.
+-- What is no value: a text, a range, a list of arguments. An expression that has a type is none of
+-- these.
 abbrev pub nothing : Result Value Fault
 nothing = Ok (Vector [])
 
 abbrev pub given : Option Ranged → Value → Given
 given ranges v = record { value = v; ranges = ranges }
 
--- Operands are taken in the order of the text, and the first fault ends; a node's own fault comes after those of all its
--- operands, and has its place. A range selector has no fault as an operand, and a subquery those of its expression. Nothing is
--- kept from one moment to the next. The step is that of subqueries which give none.
+-- Operands are taken in the order of the text, and the first fault ends; a node's own fault comes
+-- after those of all its operands, and has its place. A range selector has no fault as an operand,
+-- and a subquery those of its expression. Nothing is kept from one moment to the next. The step is
+-- that of subqueries which give none.
 abbrev mutual
   pub meaning : ℕ → List Entry → Tree → ℕ → Result Value Fault
   meaning step history (number p v) time = Ok (Scalar v)

@@ -21,8 +21,9 @@ abbrev pub negated_value : Place → Value → Result Value Fault
 negated_value p (Scalar v) = Ok (Scalar (negated v))
 negated_value p (Vector items) = function_at p (mapped (λ v. Ok (negated v)) items)
 
--- A vector with a scalar. A filter keeps the elements of which it holds as they are, whichever side the vector stands on;
--- every other operator gives each element another value, and drops the metric's name.
+-- A vector with a scalar. A filter keeps the elements of which it holds as they are, whichever side
+-- the vector stands on; every other operator gives each element another value, and drops the
+-- metric's name.
 abbrev pub with_scalar : Place → Bool → (Num → Bool) → ValueFunction → List (Item Num) → Result Value Fault
 with_scalar p filters test f items = if filters then Ok (Vector (kept_where test items)) else function_at p (mapped f items)
 

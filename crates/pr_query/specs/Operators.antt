@@ -29,7 +29,8 @@ comparison_of op.Mul = λ o. false
 comparison_of op.Div = λ o. false
 comparison_of op.Rem = λ o. false
 
--- the value of an operator; a comparison gives 1 or 0, and the operators between sets, which work on vectors alone, give none
+-- the value of an operator; a comparison gives 1 or 0, and the operators between sets, which work
+-- on vectors alone, give none
 abbrev pub result_of : BinOp → Num → Num → Result Num TooWide
 result_of op.Add a b = sum_of a b
 result_of op.Sub a b = difference_of a b
@@ -54,7 +55,8 @@ is_filter o with_bool = compares o && not with_bool
 abbrev pub operator_of : BinOp → Bool → Operator
 operator_of o with_bool a b = if is_filter o with_bool then filtering (comparison_of o) a b else always_kept (result_of o a b)
 
--- Where no matching is written, elements match by all their labels but the metric's name, one to one.
+-- Where no matching is written, elements match by all their labels but the metric's name, one to
+-- one.
 abbrev pub by_all_labels : Matching
 by_all_labels = record { on = false; names = []; card = OneToOne; include = [] }
 

@@ -3,6 +3,7 @@ use Rattle.std.specs.Prelude.{Bool, true, false, cond, List, [], ◌∷◌, Opti
 use Rattle.pr_num.specs.declared.value.Num.{Num}
 use Rattle.pr_labels.specs.declared.pair.Pair.{Pair}
 use Rattle.pr_labels.specs.declared.item.Item.{Item}
+use Rattle.pr_labels.specs.SeriesText.{unnamed}
 use Rattle.pr_history.specs.declared.spot.Spot.{Spot}
 use Rattle.pr_ast.specs.declared.place.Place.{Place}
 use Rattle.pr_meaning.specs.declared.range.Ask.{Ask}
@@ -10,7 +11,7 @@ use Rattle.pr_meaning.specs.declared.range.AskFault.{AskFault}
 use Rattle.pr_meaning.specs.declared.range.AskFault.TheVariants as ask
 use Rattle.pr_meaning.specs.declared.range.RangeFn.{RangeFn}
 use Rattle.pr_meaning.specs.declared.range.RangeFn.TheVariants.{Rate, Increase, Delta, Irate, Idelta, Deriv, PredictLinear, Changes, Resets, SumOverTime, AvgOverTime, MinOverTime, MaxOverTime, CountOverTime, LastOverTime, PresentOverTime, QuantileOverTime}
-use Rattle.pr_meaning.specs.Functions.{told_apart, unnamed}
+use Rattle.pr_meaning.specs.Functions.{told_apart}
 use Rattle.pr_meaning.specs.Ranges.{over}
 use Rattle.pr_meaning.specs.Vectors.{element}
 use Rattle.pr_query.specs.declared.fault.Fault.{Fault}
@@ -52,7 +53,8 @@ keeps_name QuantileOverTime = false
 abbrev pub answered_labels : RangeFn → List Pair → List Pair
 answered_labels func labels = cond (keeps_name func) labels (unnamed labels)
 
--- The series are taken in order, and the first fault ends; a series without an answer gives nothing.
+-- The series are taken in order, and the first fault ends; a series without an answer gives
+-- nothing.
 abbrev pub one_more : Place → Place → List Pair → Result (Option Num) AskFault → Result (List (Item Num)) Fault → Result (List (Item Num)) Fault
 one_more p at labels (Err f) more = Err (range_fault p at f)
 one_more p at labels (Ok None) more = more

@@ -26,7 +26,8 @@ moment_of s time = pos time -ℤ pos s.offset
 abbrev pub shown_as : List Pair → Spot → Item Spot
 shown_as labels spot = record { labels = labels; value = spot }
 
--- these series, each with its newest value in the five minutes up to the moment and the time of that value, where it has one
+-- these series, each with what it shows at the moment and the time of that value, where it shows
+-- one
 abbrev pub spots_at : List Entry → ℤ → List (List Pair) → List (Item Spot)
 spots_at history x sets = filter_map (λ labels. option_map (shown_as labels) (spot_at history x labels)) sets
 

@@ -48,7 +48,8 @@ abbrev pub at_each : (ℕ → Result Value Fault) → List ℕ → Result (List 
 at_each expr [] = Ok []
 at_each expr (time ∷ times) = one_more time (expr time) (at_each expr times)
 
--- A subquery over a range, by its expression; its step is the given one, or else the one of subqueries that give none.
+-- A subquery over a range, by its expression; its step is the given one, or else the one of
+-- subqueries that give none.
 abbrev pub subquery : Place → (ℕ → Result Value Fault) → ℕ → ℤ → ℤ → Result Ranged Fault
 subquery p expr step from to =
     let times = multiples step from to in

@@ -11,6 +11,7 @@ ghost use Rattle.pr_ast.specs.Places.{nowhere};
 ghost use Rattle.pr_history.specs.Examples.{marked as m_then_marker, three as m_three_times, m as m_labels};
 ghost use Rattle.pr_meaning.specs.Vectors.{element};
 ghost use Rattle.pr_meaning.specs.Examples.{number, x};
+ghost use Rattle.pr_meaning.specs.AggregationExamples.{by_nothing};
 ghost use Rattle.pr_query.specs.declared.fault.FaultKind.TheVariants as kind;
 ghost use Rattle.pr_query.specs.declared.value.Value.TheVariants.{Scalar, Vector};
 ghost use Rattle.pr_query.specs.Answers.{fault};
@@ -26,9 +27,7 @@ ghost use Rattle.pr_query.specs.Examples.{
   not_a_number,
   c_absent,
   call_of,
-  call_at,
   aggregate_of,
-  by_nothing,
   range_of_m,
   subquery_of_m,
   x_is_1_for_a_minute,
@@ -41,8 +40,8 @@ ghost use Rattle.pr_query.specs.Examples.{
   at_0,
 };
 
-/// `sum(a)`, `avg(a)`, `topk(1, a)`, `bottomk(1, a)`, `quantile(0.5, a)`, and `sum(x)` of a parameter's fault before the vector's,
-/// where `a{x="1"}` is 1 and `a{x="2"}` is 3.
+/// `sum(a)`, `avg(a)`, `topk(1, a)`, `bottomk(1, a)`, `quantile(0.5, a)`, and `sum(x)` of a
+/// parameter's fault before the vector's, where `a{x="1"}` is 1 and `a{x="2"}` is 3.
 #[tactic(auto, unfolding(pr_match::specs::Matcher::meets, pr_match::specs::Matcher::meets_all, pr_num::specs::Total::value_of, pr_num::specs::Total::mean_of, pr_num::specs::Order::order_of, pr_num::specs::Quantile::quantile_of, pr_num::specs::Quantile::ranked, pr_num::specs::Half::half, pr_num::specs::Half::half_abs, pr_num::specs::Arithmetic::product_of))]
 pub fn vectors_are_aggregated()
     ensures sum { at_0 one_three_five (aggregate_of agg.Sum (one a)) ≡ Ok (Vector (element [] (number 4) ∷ [])) }
@@ -54,8 +53,8 @@ pub fn vectors_are_aggregated()
         ≡ Err (fault (at 1) kind.TooWide) }
 {}
 
-/// `round(vector(2.5))`, `year()`, `time()`, `scalar(a)`, `timestamp(m)` of a selector and of what is none, `absent(c{x="1"})`,
-/// `absent(a)`.
+/// `round(vector(2.5))`, `year()`, `time()`, `scalar(a)`, `timestamp(m)` of a selector and of what
+/// is none, `absent(c{x="1"})`, `absent(a)`.
 #[tactic(auto, unfolding(pr_match::specs::Matcher::meets, pr_match::specs::Matcher::meets_all, pr_num::specs::Multiples::rounded_to, pr_num::specs::Multiples::floor_quotient, pr_num::specs::Half::half, pr_num::specs::Half::half_abs, pr_num::specs::Arithmetic::sum_of, pr_meaning::specs::Calendar::date_after))]
 pub fn functions_are_called()
     ensures round { at_0 [] (call_of func.Round (one (call_of func.Vector (one (units (25 * 10 ^ 8)))))) ≡ Ok (Vector (element [] (number 3) ∷ [])) }
@@ -68,9 +67,10 @@ pub fn functions_are_called()
     ensures present { at_0 one_three_five (call_of func.Absent (one a)) ≡ Ok (Vector []) }
 {}
 
-/// `count_over_time(m[5m])` with a marker, `last_over_time(m[1m])`, `absent_over_time(m[1m])`, and `absent_over_time({x="1"}[1m])` of
-/// two metrics; `sum_over_time(m[2m:1m])`,
-/// `sum_over_time(m[2m:])` and `count_over_time(m[5m:1m])` where m is 1, 2 and 3 at each minute from 0 on.
+/// `count_over_time(m[5m])` with a marker, `last_over_time(m[1m])`, `absent_over_time(m[1m])`, and
+/// `absent_over_time({x="1"}[1m])` of two metrics; `sum_over_time(m[2m:1m])`,
+/// `sum_over_time(m[2m:])` and `count_over_time(m[5m:1m])` where m is 1, 2 and 3 at each minute
+/// from 0 on.
 #[tactic(auto, unfolding(pr_match::specs::Matcher::meets, pr_match::specs::Matcher::meets_all, pr_meaning::specs::Ranges::over, pr_meaning::specs::Ranges::function_of, pr_num::specs::Total::value_of))]
 pub fn ranges_are_taken()
     ensures marker { meaning 60000 m_then_marker (call_of func.CountOverTime (one (range_of_m 300000))) 60000 ≡ Ok (Vector (element [] (number 1) ∷ [])) }
@@ -90,7 +90,8 @@ pub fn elements_are_counted()
         ≡ Ok (Vector (element (pair_of (codes "v") (codes "NaN") ∷ []) (number 1) ∷ [])) }
 {}
 
-/// `label_join(a, "y", "-", "x", "x")`, and `label_join(a, "x", "", "y")`, which takes the label out.
+/// `label_join(a, "y", "-", "x", "x")`, and `label_join(a, "x", "", "y")`, which takes the label
+/// out.
 #[tactic(auto, unfolding(pr_match::specs::Matcher::meets, pr_match::specs::Matcher::meets_all))]
 pub fn labels_are_joined()
     ensures joined { at_0 one_three_five (call_of func.LabelJoin (several (a ∷ text_argument (codes "y") ∷ text_argument (codes "-") ∷ text_argument (codes "x") ∷ text_argument (codes "x") ∷ [])))

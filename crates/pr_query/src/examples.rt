@@ -40,8 +40,8 @@ ghost use Rattle.pr_query.specs.Examples.{
   at_0,
 };
 
-/// `0.000000001/2`, `0.000000003/2`, `1/0`, `0/0`, `-7 % 3`, `1 > bool 2`, `NaN == bool NaN`, `NaN != bool NaN`,
-/// `10^19 * 10^19`.
+/// `0.000000001/2`, `0.000000003/2`, `1/0`, `0/0`, `-7 % 3`, `1 > bool 2`, `NaN == bool NaN`, `NaN
+/// != bool NaN`, `10^19 * 10^19`.
 #[tactic(auto, unfolding(pr_num::specs::Order::compared, pr_num::specs::Arithmetic::product_of, pr_num::specs::Arithmetic::quotient_of, pr_num::specs::Arithmetic::remainder_of, pr_num::specs::Half::half, pr_num::specs::Half::half_abs))]
 pub fn operators_work_on_two_values()
     ensures half_down { at_0 [] (operation op.Div (units 1) (whole 2)) ≡ Ok (Scalar (Finite (pos 0))) }
@@ -55,8 +55,8 @@ pub fn operators_work_on_two_values()
     ensures wide { at_0 [] (times_at 3 None (whole (10 ^ 19)) (whole (10 ^ 19))) ≡ Err (fault (at 3) kind.TooWide) }
 {}
 
-/// A selector shows the newest value of the five minutes up to its moment, and nothing behind a marker; its moment is earlier by
-/// its offset. Its series meet the name and each matcher.
+/// A selector shows the newest value of the five minutes up to its moment, and nothing behind a
+/// marker; its moment is earlier by its offset. Its series meet the name and each matcher.
 #[tactic(auto, unfolding(pr_match::specs::Matcher::meets, pr_match::specs::Matcher::meets_all))]
 pub fn what_a_selector_shows()
     ensures seen { meaning 60000 m_at_0 m 299999 ≡ Ok (Vector (element m_labels (number 1) ∷ [])) }
@@ -69,8 +69,8 @@ pub fn what_a_selector_shows()
     ensures cost { cost 60000 one_three_five nothing_passed (operation op.Add a b) 0 0 ≡ 3 }
 {}
 
-/// `-a`, `a > 2`, `2 < a`, `a > bool 2`, `a * 10^20`, `-{x="1"}`, `{x="1"} * 10^20`, where `a{x="1"}` is 1, `a{x="2"}` is 3 and
-/// `b{x="1"}` is 5.
+/// `-a`, `a > 2`, `2 < a`, `a > bool 2`, `a * 10^20`, `-{x="1"}`, `{x="1"} * 10^20`, where
+/// `a{x="1"}` is 1, `a{x="2"}` is 3 and `b{x="1"}` is 5.
 #[tactic(auto, unfolding(pr_match::specs::Matcher::meets, pr_match::specs::Matcher::meets_all, pr_num::specs::Order::compared, pr_num::specs::Arithmetic::product_of, pr_num::specs::Half::half, pr_num::specs::Half::half_abs))]
 pub fn signs_and_filters_of_vectors()
     ensures minus { at_0 one_three_five (neg nowhere a) ≡ Ok (Vector (element (x_only (codes "1")) (Finite (negsuc (10 ^ 9 - 1))) ∷ element (x_only (codes "2")) (Finite (negsuc (3 * 10 ^ 9 - 1))) ∷ [])) }
@@ -81,8 +81,8 @@ pub fn signs_and_filters_of_vectors()
     ensures wide { at_0 one_three_five (times_at 7 None x_is_1 (whole (2 * 10 ^ 19))) ≡ Err (fault (at 7) kind.TooWide) }
 {}
 
-/// `a * on (x) b`, `b * on (x) group_left (z) a`; `a > on (x) group_right b`, `a * on () group_left (__name__) {__name__="",x="1"}`,
-/// `b * on (x) group_left (y) a`.
+/// `a * on (x) b`, `b * on (x) group_left (z) a`; `a > on (x) group_right b`, `a * on () group_left
+/// (__name__) {__name__="",x="1"}`, `b * on (x) group_left (y) a`.
 #[tactic(auto, unfolding(pr_match::specs::Matcher::meets, pr_match::specs::Matcher::meets_all, pr_num::specs::Order::compared, pr_num::specs::Arithmetic::product_of, pr_num::specs::Half::half, pr_num::specs::Half::half_abs))]
 pub fn vectors_are_matched()
     ensures refused { at_0 six_two_three (matching op.Mul (on_names (codes "x" ∷ []) card.OneToOne []) a b) ≡ Err (fault nowhere (kind.ManyToMany (x_only (codes "1")))) }
@@ -104,7 +104,8 @@ pub fn sets_are_joined_by_key()
     ensures either { at_0 one_three_five (operation op.Or a b) ≡ Ok (Vector (named (codes "a") (x_only (codes "1")) 1 ∷ named (codes "a") (x_only (codes "2")) 3 ∷ [])) }
 {}
 
-/// The left operand's fault comes first, then the right one's, and then that of the operation; each has the place of its node.
+/// The left operand's fault comes first, then the right one's, and then that of the operation; each
+/// has the place of its node.
 #[tactic(auto, unfolding(pr_match::specs::Matcher::meets, pr_match::specs::Matcher::meets_all, pr_num::specs::Arithmetic::product_of, pr_num::specs::Half::half, pr_num::specs::Half::half_abs))]
 pub fn first_faults_have_their_places()
     ensures left { at_0 six_two_three (times_at 1 None (times_at 2 (Some (on_names (codes "x" ∷ []) card.OneToOne [])) a b) (times_at 3 None (whole (10 ^ 19)) (whole 10)))

@@ -2,7 +2,8 @@ use pr_labels::Item;
 use pr_num::Num;
 use pr_words::Items;
 
-/// What an expression gives at a moment. (Prometheus: Querying basics, "Expression language data types".)
+/// What an expression gives at a moment. (Prometheus: Querying basics, "Expression language data
+/// types".)
 #[derive(Debug, Drop)]
 pub enum Value {
     /// A number.
