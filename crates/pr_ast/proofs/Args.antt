@@ -1,10 +1,9 @@
 -- Arguments, one more at a time.
-use Rattle.std.proofs.Common.{◌≡◌, ℕ, zero, suc, Bool, true, false, ◌&&◌, List, [], ◌∷◌, ◌++◌, take, drop, map, length, get_or, ◌<◌, ◌-◌, ◌^◌, max, min, refl, ap, sym, ◌∙◌, arith}
+use Rattle.std.proofs.Common.{◌≡◌, ℕ, zero, suc, false, List, [], ◌∷◌, ◌++◌, take, drop, map, length, get_or, ◌<◌, ◌-◌, ◌^◌, max, min, refl, ap, sym, ◌∙◌, arith}
 use Rattle.pr_ast.specs.declared.tree.Expr.{Expr}
 use Rattle.pr_ast.specs.Tree.{Tree, more, more_from, none, tree_of, trees_of}
 use Rattle.pr_ast.specs.Print.{comma_text, comma_unless, tree_text}
 use Rattle.pr_ast.specs.Reach.{reads_back, reach}
-use Rattle.pr_ast.specs.Steps.{has_steps}
 
 more_from-push : (es : List Expr) (e : Expr) (before : Tree) → more_from before (map tree_of (es ++ e ∷ [])) ≡ more (more_from before (map tree_of es)) (tree_of e)
 more_from-push [] e before = refl
@@ -44,25 +43,8 @@ reach_more more_ts ts e g r m h i j k = k ∙ ap (λ x. max x r) i ∙ ap (λ x.
     bounded a b c = omega arith
 
 -- all arguments are the rest, from those so far and one more
-split_from : (i : ℕ) (es : List Expr) (e : Expr) (before : Tree) → i < length es → e ≡ get_or es i e →
+pub split_from : (i : ℕ) (es : List Expr) (e : Expr) (before : Tree) → i < length es → e ≡ get_or es i e →
     more_from before (map tree_of es) ≡ more_from (more (more_from before (map tree_of (take i es))) (tree_of e)) (map tree_of (drop (suc i) es))
 split_from i [] e before lt h = absurd (omega arith)
 split_from zero (x ∷ es) e before lt h = ap (λ y. more_from (more before (tree_of y)) (map tree_of es)) (sym h)
 split_from (suc i) (x ∷ es) e before lt h = split_from i es e (more before (tree_of x)) (omega arith) h
-
--- a step of 0 among the first arguments is one among all
-zero_stays : (ts : List Tree) (before : Tree) → has_steps before ≡ false → has_steps (more_from before ts) ≡ false
-zero_stays [] before h = h
-zero_stays (t ∷ ts) before h = zero_stays ts (more before t) (ap (λ b. b && has_steps t) h)
-
-and_false : (b : Bool) → b && false ≡ false
-and_false true = refl
-and_false false = refl
-
-pub first_zero : (i : ℕ) (es : List Expr) (e : Expr) → i < length es → e ≡ get_or es i e → has_steps (tree_of e) ≡ false → has_steps (trees_of es) ≡ false
-first_zero i es e lt h g =
-    ap has_steps (split_from i es e none lt h)
-    ∙ zero_stays (map tree_of (drop (suc i) es)) (more (trees_of (take i es)) (tree_of e)) (ap (λ b. has_steps (trees_of (take i es)) && b) g ∙ and_false (has_steps (trees_of (take i es))))
-
-pub more_steps : (now before t : Tree) → now ≡ more before t → has_steps before ≡ true → has_steps t ≡ true → has_steps now ≡ true
-more_steps now before t h g k = ap has_steps h ∙ ap (λ b. b && has_steps t) g ∙ k

@@ -1,4 +1,5 @@
-//! What the definitions say of small trees. An example is a function that does nothing, and its contract is what it shows.
+//! What the definitions say of small trees. An example is a function that does nothing, and its
+//! contract is what it shows.
 ghost use Rattle.std.specs.Prelude.{◌≡◌, codes, Some, None, true, false, [], ◌∷◌, ◌^◌, ◌-◌};
 ghost use Rattle.pr_num.specs.declared.value.Num.TheVariants.{PosInf};
 ghost use Rattle.pr_labels.specs.declared.matching.Card.TheVariants as card;
@@ -40,6 +41,7 @@ pub fn small_trees_read_back_so()
     ensures range { reads_back (range nowhere (chosen (codes "x") [] 1000) 60000) ≡ 61000 }
     ensures subquery { reads_back (sub nowhere (metric (codes "x")) 60000 None 7) ≡ 360007 }
     ensures greatest { reads_back (binary nowhere op.Add false None (metric (codes "x")) (range nowhere (chosen (codes "x") [] 0) 1)) ≡ 300000 }
+    ensures of_an_argument { reads_back (call nowhere func.PredictLinear (two (range nowhere (chosen (codes "x") [] 0) 600000) (whole_number 1))) ≡ 600000 }
     ensures capped { reach (sub nowhere (metric (codes "x")) (2 ^ 64) None 0) ≡ 2 ^ 64 - 1 }
     ensures no_step { has_steps (sub nowhere (metric (codes "x")) 60000 None 0) ≡ true }
     ensures step_of_0 { has_steps (neg nowhere (sub nowhere (metric (codes "x")) 60000 (Some 0) 0)) ≡ false }

@@ -1,4 +1,5 @@
-//! The laws of trees and names, each as the contract of a function that does nothing, and worked examples of the definitions.
+//! The laws of trees and names, each as the contract of a function that does nothing, and worked
+//! examples of the definitions.
 ghost use Rattle.std.specs.Prelude.{◌≡◌, ℕ, codes, true, false, Some, None, List};
 ghost use Rattle.pr_lex.specs.Words.{word_of};
 ghost use Rattle.pr_ast.specs.declared.names.Func.{Func};
@@ -10,8 +11,8 @@ ghost use Rattle.pr_ast.specs.Reach.{reads_back};
 ghost use Rattle.pr_ast.specs.Steps.{has_steps};
 ghost use Rattle.pr_ast.specs.Places.{forget};
 
-/// Each function is read by its name, a name that is read as a function is that function's, and no function's name is one of the
-/// words of the language, in any case.
+/// Each function is read by its name, a name that is read as a function is that function's, and no
+/// function's name is one of the words of the language, in any case.
 pub fn functions_have_names()
     ensures read { (f : Func) → func_of (func_text f) ≡ Some f }
     ensures only { (name : List ℕ) (f : Func) → func_of name ≡ Some f → name ≡ func_text f }
@@ -24,7 +25,8 @@ pub fn aggregations_have_names()
     ensures read { (op : AggOp) → agg_of (agg_word op) ≡ Some op }
 {}
 
-/// Places are in nothing that is said of a tree: not in its text, in how far back it reads, and in its steps.
+/// Places are in nothing that is said of a tree: not in its text, in how far back it reads, and in
+/// its steps.
 pub fn places_do_not_matter()
     ensures text { (t : Tree) → tree_text (forget t) ≡ tree_text t }
     ensures reach { (t : Tree) → reads_back (forget t) ≡ reads_back t }

@@ -1,5 +1,5 @@
-//! The tree of the query language: expressions with their places, the names of operators, aggregations and functions, the text
-//! of an expression, and how far back it reads.
+//! The tree of the query language: expressions with their places, the names of operators,
+//! aggregations and functions, the text of an expression, and how far back it reads.
 #![tactic(auto)]
 
 pub mod examples;
@@ -9,7 +9,6 @@ mod place;
 mod printing;
 mod reaching;
 mod selector;
-mod steps;
 mod tree;
 
 pub use names::{AggOp, BinOp, Func, func_of};
@@ -17,5 +16,4 @@ pub use place::Place;
 pub use printing::print;
 pub use reaching::reach;
 pub use selector::{MatchSign, MatchText, Selector};
-pub use steps::has_steps;
 pub use tree::{Expr, ExprKind};

@@ -309,8 +309,9 @@ fn push_args(out: &mut Vec<u8>, args: &[Expr]) -> Result<(), AllocError>
     Ok(())
 }
 
-/// Appends the text of an expression: single blanks around operators and after commas, strings in double quotes, a
-/// grouping before the arguments, and parentheses round each operand that is an operation or a negation. (Own choice.)
+/// Appends the text of an expression: single blanks around operators and after commas, strings in
+/// double quotes, a grouping before the arguments, and parentheses round each operand that is an
+/// operation or a negation. (Own choice.)
 ///
 /// # Errors
 /// Memory ran out. What was appended until then is nothing to rely on.

@@ -5,3 +5,4 @@ pub mod Reading
 pub mod GrammarEnds
 pub mod StepsLaw
 pub mod PlacesLaw
+pub mod TokenValues

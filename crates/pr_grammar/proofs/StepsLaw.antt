@@ -63,7 +63,7 @@ good (called t p ss) = has_steps t && all_fine ss
 good (aggregation g t p) = has_steps t
 good _ = true
 
-both : (a b : Bool) → a ≡ true → b ≡ true → a && b ≡ true
+pub both : (a b : Bool) → a ≡ true → b ≡ true → a && b ≡ true
 both a b h k = rw (h, k) refl
 
 left_of : (a b : Bool) → a && b ≡ true → a ≡ true

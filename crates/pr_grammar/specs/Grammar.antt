@@ -33,8 +33,8 @@ use Rattle.pr_grammar.specs.declared.kind.Before.{Before}
 use Rattle.pr_grammar.specs.declared.kind.Before.TheVariants.{Selector as Selectors, Range as Ranges, Other as Others}
 use Rattle.pr_grammar.specs.Seen.{Seen, lexed, place_of}
 
--- What follows a primary: brackets with a span, brackets of a subquery with a span and maybe a step, or an offset; each with the
--- place of its last token.
+-- What follows a primary: brackets with a span, brackets of a subquery with a span and maybe a
+-- step, or an offset; each with the place of its last token.
 pub data Suffix : Type 0 where
   in_range : ℕ → Place → Suffix
   in_subquery : ℕ → Option ℕ → Place → Suffix
@@ -54,8 +54,8 @@ pub data Value : Type 0 where
   operation : BinOp → Value
   operand : Bool → Option Matching → Place → Tree → Value
   turn : BinOp → Bool → Option Matching → Place → Tree → Value
-  -- whether names are matched `on` or ignored; which side has many elements; a right side with the names that are included, with
-  -- the side, and with the names that are matched
+  -- whether names are matched `on` or ignored; which side has many elements; a right side with the
+  -- names that are included, with the side, and with the names that are matched
   matches : Bool → Value
   sided : Card → Value
   included : List (List ℕ) → Place → Tree → Value
@@ -66,7 +66,8 @@ pub data Value : Type 0 where
   -- names, and names with the sign that closes them
   names : List (List ℕ) → Value
   labels : List (List ℕ) → Place → Value
-  -- a matcher's sign; a sign with its string; matchers; matchers with the sign that closes them, and in braces; that there are none
+  -- a matcher's sign; a sign with its string; matchers; matchers with the sign that closes them,
+  -- and in braces; that there are none
   match_sign : MatchSign → Value
   match_text : MatchSign → List ℕ → Value
   matching : MatchSign → List ℕ → List MatchText → Value
@@ -74,7 +75,8 @@ pub data Value : Type 0 where
   ended : List MatchText → Place → Value
   braced : List MatchText → Place → Value
   bare : Value
-  -- what follows a primary; the same after the bracket that closes a range, and after that of a subquery
+  -- what follows a primary; the same after the bracket that closes a range, and after that of a
+  -- subquery
   suffixes : List Suffix → Value
   ranged : Place → List Suffix → Value
   stepped : Option ℕ → Place → List Suffix → Value
@@ -93,7 +95,8 @@ pub data Value : Type 0 where
   -- what no text has
   mark : Value
 
--- The rules. A flag says whether an operand may begin with a parenthesis; for matchers whether a name stands before them.
+-- The rules. A flag says whether an operand may begin with a parenthesis; for matchers whether a
+-- name stands before them.
 pub data Rule : Type 0 where
   Binary : Level → Bool → Rule
   Modified : Level → Rule
@@ -619,22 +622,25 @@ some_arguments = fold argument (pair argument (nothing (arguments none)) (rule e
 --   primary = number | string | "(" expr ")" | name [braces] | braces
 --           | function "(" [ expr { "," expr } ] ")"
 --           | aggregation [group] "(" expr ["," expr] ")" | aggregation "(" expr ["," expr] ")" group
---   group   = ("by" | "without") labels
---   braces  = "{" [ matcher { "," matcher } [","] ] "}"
---   matcher = label ("=" | "!=" | "=~" | "!~") string
--- How it is split, so that one token ahead decides it:
---   expr, and, cmp, sum, prod   Binary of a level. Its flag says whether a parenthesis may come first: not after a `group_left` or
+--   group   = ("by" | "without") labels braces  = "{" [ matcher { "," matcher } [","] ] "}" matcher
+--   = label ("=" | "!=" | "=~" | "!~") string How it is split, so that one token ahead decides it:
+--   expr, and, cmp, sum, prod   Binary of a level. Its flag says whether a parenthesis may come
+--   first: not after a `group_left` or
 --                               `group_right` without labels, whose labels that parenthesis would begin.
---   mods                        Modified ("bool"), Matched ("on" labels), Grouped ("group_left"), Included (its labels): each with
+--   mods                        Modified ("bool"), Matched ("on" labels), Grouped ("group_left"),
+--   Included (its labels): each with
 --                               all that follows up to the right side's end, since the flag of the right side depends on them.
---   unary, postfix              Unary, and Postfix for parentheses.
---   primary                     Operand, with what may follow it: Selection (a name's braces), Tail (a function's arguments, or a
+--   unary, postfix              Unary, and Postfix for parentheses. primary
+--   Operand, with what may follow it: Selection (a name's braces), Tail (a function's arguments, or
+--   a
 --                               metric with the name of a function), Aggregation (a group before or after), Parameters (its one or
 --                               two arguments), Arguments.
---   what follows a primary      After a selector, a range or subquery, or anything else: so a range stands directly after a selector,
+--   what follows a primary      After a selector, a range or subquery, or anything else: so a range
+--   stands directly after a selector,
 --                               and an offset once, after a selector, a range or a subquery. InSelector, SelectorSpan, InOther, Step,
 --                               Closing and Shift are what stands in brackets and after "offset".
---   labels, braces              `label_list` with Labels and MoreLabels, `matcher_list` with Matchers and MoreMatchers: with a comma
+--   labels, braces              `label_list` with Labels and MoreLabels, `matcher_list` with
+--   Matchers and MoreMatchers: with a comma
 --                               before more of them or before the end. The flag of Matchers says that a metric's name stands before.
 abbrev pub production : Rule → F
 production (Binary l p) = fold joined (rule (tighter l p)) (right_side l)

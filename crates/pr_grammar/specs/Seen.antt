@@ -1,5 +1,6 @@
 -- Tokens as the grammar sees them.
 use Rattle.std.specs.Prelude.{ℕ, ◌==◌, Bool, Option, Some, None, List, map, codes, if◌then◌else◌}
+use Prim.Native.Char.{code}
 use Rattle.std.specs.List.{list_any}
 use Rattle.std.specs.Str.{bytes_eq}
 use Rattle.pr_lex.specs.declared.token.Token.{Token}
@@ -15,7 +16,7 @@ use Rattle.pr_grammar.specs.declared.kind.Lexed.{Lexed}
 use Rattle.pr_grammar.specs.declared.kind.Kind.TheVariants.{Number, Text, Span, ZeroSpan, Word, Function, OwnName, WithColon, Plain, Sign}
 
 abbrev pub has_colon : List ℕ → Bool
-has_colon text = list_any (λ b. b == 58) text
+has_colon text = list_any (λ b. b == code ":") text
 
 abbrev pub other_name : List ℕ → Kind
 other_name text = if bytes_eq text (codes "__name__") then OwnName else (if has_colon text then WithColon else Plain)

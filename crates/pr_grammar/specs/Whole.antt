@@ -10,6 +10,7 @@ use Rattle.pr_grammar.specs.Grammar.{production, expression, part}
 abbrev pub Derives : List Seen → Tree → Type 0
 Derives ts t = (p : Place) × Reads production (rule expression) ts (part p t) []
 
--- The tokens before the place can go on, and with the one there they cannot; where all can, it is their end.
+-- The tokens before the place can go on, and with the one there they cannot; where all can, it is
+-- their end.
 abbrev pub IsBadPlace : List Seen → ℕ → Type 0
 IsBadPlace ts place = IsFirstBad production (rule expression) ts place

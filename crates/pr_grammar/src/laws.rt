@@ -27,7 +27,8 @@ pub fn trees_have_steps()
     ensures { (tokens : List Token) (tree : Tree) → Derives (seen_tokens tokens) tree → has_steps tree ≡ true }
 {}
 
-/// Where tokens stand matters to nothing but the places of nodes: tokens of the same kinds have the same tree, but for places.
+/// Where tokens stand matters to nothing but the places of nodes: tokens of the same kinds have the
+/// same tree, but for places.
 pub fn places_of_tokens_do_not_matter()
     ensures { (ts us : List Token) (t : Tree) → kinds ts ≡ kinds us → Derives (seen_tokens ts) t → (u : Tree) × (Derives (seen_tokens us) u × IsSameButPlaces u t) }
 {}

@@ -1,5 +1,5 @@
-//! The grammar of the query language: what its tokens are to it, its productions, and the readers of single tokens, of labels and
-//! of matchers.
+//! The grammar of the query language: what its tokens are to it, its productions, and the readers
+//! of single tokens, of labels and of matchers.
 #![tactic(auto)]
 
 mod kind;

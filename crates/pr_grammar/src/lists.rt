@@ -33,7 +33,8 @@ fn names_in(alloc: Global, tokens: &[Lexed]) -> Result<(Vec<Text>, &[Lexed]), Al
     Ok((found, rest))
 }
 
-/// The labels in parentheses at the front, with the place of the last one, and what follows them.
+/// The labels in parentheses at the front, with the place of the closing parenthesis, and what
+/// follows them.
 #[tactic(auto, using(pr_forms::proofs::Ways::ways))]
 pub fn labels_in(
     alloc: Global,
@@ -65,7 +66,7 @@ fn matcher_in<'a>(
     let Some((op, following)) = match_in(tokens) else {
         return Err(Fault::Bad(tokens));
     };
-    let Some(((_place, text), rest)) = text_in(following) else {
+    let Some((text, rest)) = text_in(following) else {
         return Err(Fault::Bad(following));
     };
     let label = Text::from_str(alloc, label)?;
@@ -73,8 +74,8 @@ fn matcher_in<'a>(
     Ok((MatchText { label, op, text }, rest))
 }
 
-/// The matchers at the front, with commas between them and maybe one more, and what follows them. `named` says whether a
-/// metric's name stands before them.
+/// The matchers at the front, with commas between them and maybe one more, and what follows them.
+/// `named` says whether a metric's name stands before them.
 #[tactic(auto, using(pr_forms::proofs::Ways::ways))]
 fn matchers_in(
     alloc: Global,
@@ -97,7 +98,8 @@ fn matchers_in(
     Ok((found, rest))
 }
 
-/// The matchers in braces, after the first of these, with the place of the whole, and what follows them.
+/// The matchers in braces, after the first of these, with the place of the whole, and what follows
+/// them.
 #[tactic(auto, using(pr_forms::proofs::Ways::ways))]
 pub fn braces_in(
     alloc: Global,

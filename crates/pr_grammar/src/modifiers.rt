@@ -23,7 +23,8 @@ pub struct Modifiers {
     pub opens: bool,
 }
 
-/// The labels that are included from the side with one element, and whether the right side may begin with a parenthesis.
+/// The labels that are included from the side with one element, and whether the right side may
+/// begin with a parenthesis.
 #[tactic(auto, using(pr_forms::proofs::Ways::ways))]
 fn included_in(
     alloc: Global,
@@ -39,7 +40,8 @@ fn included_in(
     Ok((found, true, rest))
 }
 
-/// Which side has many elements, what is included, and whether the right side may begin with a parenthesis.
+/// Which side has many elements, what is included, and whether the right side may begin with a
+/// parenthesis.
 #[tactic(auto, using(pr_forms::proofs::Ways::ways))]
 fn sides_in(
     alloc: Global,
@@ -55,7 +57,8 @@ fn sides_in(
     Ok((card, include, opens, rest))
 }
 
-/// How two vectors are matched, where that is said, and whether the right side may begin with a parenthesis.
+/// How two vectors are matched, where that is said, and whether the right side may begin with a
+/// parenthesis.
 #[tactic(auto, using(pr_forms::proofs::Ways::ways))]
 fn matched_in(
     alloc: Global,

@@ -493,16 +493,16 @@ pub fn metric_in(tokens: &[Lexed]) -> Option<((Place, &str), &[Lexed])>
     }
 }
 
-/// The string at the front with its place, and what follows it.
-pub fn text_in(tokens: &[Lexed]) -> Option<((Place, &str), &[Lexed])>
-    ensures read { MatchOption result (Lacks (token text_at) tokens.now) (λ x. Takes (token text_at) tokens.now (quoted x.0.1.now) x.1.now) }
+/// The string at the front, and what follows it.
+pub fn text_in(tokens: &[Lexed]) -> Option<(&str, &[Lexed])>
+    ensures read { MatchOption result (Lacks (token text_at) tokens.now) (λ x. Takes (token text_at) tokens.now (quoted x.0.now) x.1.now) }
     ensures shorter { IfSome result (λ x. length x.1.now < length tokens.now) }
 {
     let Some((first, rest)) = tokens.split_first() else {
         return None;
     };
     if is_text(first.kind) {
-        Some(((place_of(&first.token), text_of(&first.token.kind)), rest))
+        Some((text_of(&first.token.kind), rest))
     } else {
         None
     }

@@ -8,7 +8,7 @@ use Rattle.std.specs.declared.cmp.Ordering.{Ordering}
 use Rattle.std.specs.Str.{bytes_eq}
 use Rattle.pr_labels.specs.Known.{knows}
 
-abbrev name_cmp : Bor (List ℕ) → Bor (List ℕ) → Ordering
+abbrev pub name_cmp : Bor (List ℕ) → Bor (List ℕ) → Ordering
 name_cmp x y = slice_cmp nat_cmp x.now y.now
 
 one_more : (new old b : Bool) → new ≡ cond b true old → new ≡ (old || b)

@@ -1,5 +1,5 @@
 -- Laws of the operations: what a set has of a name after each, and that each gives a label set.
-use Rattle.std.proofs.Common.{◌≡◌, ◌≢◌, ℕ, List, [], ◌∷◌, ◌++◌, true, false, Bool, cond, filter, fold, not, sym, ◌∙◌, ap, refl, Option, Some, None}
+use Rattle.std.proofs.Common.{◌≡◌, ◌≢◌, ◌||◌, ℕ, List, [], ◌∷◌, ◌++◌, true, false, Bool, cond, filter, fold, not, sym, ◌∙◌, ap, refl, Option, Some, None}
 use Rattle.std.specs.List.{list_any}
 use Rattle.std.specs.Option.{option_or}
 use Rattle.std.specs.Cmp.Lexicographic.{slice_cmp, texts_ties, bytes_decides}
@@ -70,6 +70,17 @@ value_keep ls names other =
 pub value_without : (ls : List Pair) (names : List (List ℕ)) (other : List ℕ) → value_of (unlisted_labels ls names) other ≡ cond (list_any (bytes_eq other) names) None (value_of ls other)
 value_without ls names other =
     value_filter (λ p. not (is_listed names p)) (not (list_any (bytes_eq other) names)) other (of_name (λ n. not (list_any (bytes_eq n) names)) other) ls ∙ turned (list_any (bytes_eq other) names) (value_of ls other)
+
+pub value_key_on : (ls : List Pair) (names : List (List ℕ)) (other : List ℕ) → value_of (key_labels true ls names) other ≡ cond (list_any (bytes_eq other) names) (value_of ls other) None
+value_key_on ls names other = value_keep ls names other
+
+either_none : (a b : Bool) (v : Option (List ℕ)) → cond a None (cond b None v) ≡ cond (a || b) None v
+either_none true b v = refl
+either_none false b v = refl
+
+pub value_key_without : (ls : List Pair) (names : List (List ℕ)) (other : List ℕ) → value_of (key_labels false ls names) other ≡ cond (bytes_eq metric_label other || list_any (bytes_eq other) names) None (value_of ls other)
+value_key_without ls names other =
+    value_remove (unlisted_labels ls names) metric_label other ∙ ap (λ t. cond (bytes_eq metric_label other) None t) (value_without ls names other) ∙ either_none (bytes_eq metric_label other) (list_any (bytes_eq other) names) (value_of ls other)
 
 append_step : (e : Bool) (p : Pair) (xs ys : List Pair) (other : List ℕ) → bytes_eq p.name other ≡ e → value_of (xs ++ ys) other ≡ option_or (value_of xs other) (value_of ys other) → value_of (p ∷ (xs ++ ys)) other ≡ option_or (value_of (p ∷ xs) other) (value_of ys other)
 append_step true p xs ys other tie h = rw tie refl

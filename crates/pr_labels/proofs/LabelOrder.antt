@@ -1,4 +1,5 @@
--- Label order is a total order that ties equal label sets alone; what it makes of lists of label sets.
+-- Label order is a total order that ties equal label sets alone; what it makes of lists of label
+-- sets.
 use Rattle.std.proofs.Common.{◌≡◌, Bool, true, false, cond, ◌&&◌, ◌||◌, List, [], ◌∷◌, refl, sym, ap, ◌∙◌, filter, fold}
 use Rattle.std.specs.Bool.{Decides}
 use Rattle.std.specs.Str.{bytes_eq}
@@ -17,7 +18,8 @@ pair_total = then_total (on_total (λ p. p.name) (lists_total nat_cmp_total)) (o
 pub labels_total : IsTotalOrder labels_cmp
 labels_total = lists_total pair_total
 
-both : (a b : Bool) → (a && b) ≡ true → (a ≡ true) × (b ≡ true)
+-- both parts of a conjunction hold
+pub both : (a b : Bool) → (a && b) ≡ true → (a ≡ true) × (b ≡ true)
 both true b h = (refl, h)
 both false b h = cc
 
@@ -46,6 +48,11 @@ tied a b e = (labels_decide a b).0 (labels_tie a b ∙ ap is_eq e)
 
 pub turned : (a b : List Pair) → labels_cmp a b ≡ Greater → labels_cmp b a ≡ Less
 turned a b e = labels_total.antisymm b a ∙ ap ordering_reverse e
+
+-- a label set below the first of a rising list is below the one behind it
+pub below_next : (labels first : List Pair) (rest : List (List Pair)) → IsBelowFirstSet labels (first ∷ rest) → IsBelowFirstSet first rest → IsBelowFirstSet labels rest
+below_next labels first [] h k = tt
+below_next labels first (second ∷ rest) h k = labels_total.trans labels first second h k
 
 -- one more label set leaves them rising
 below_placed : (first labels next : List Pair) (rest : List (List Pair)) (o : Ordering) → labels_cmp first labels ≡ Less → labels_cmp first next ≡ Less

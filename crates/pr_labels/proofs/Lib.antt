@@ -11,3 +11,4 @@ pub mod SetValues
 pub mod Sorted
 pub mod GoesOn
 pub mod KnownNames
+pub mod LabelMaps

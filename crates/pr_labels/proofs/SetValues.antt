@@ -1,4 +1,5 @@
--- A label set is known by what it has of each name: so the pairs of a set, or with the metric's name first, make the set again.
+-- A label set is known by what it has of each name: so the pairs of a set, or with the metric's
+-- name first, make the set again.
 use Rattle.std.proofs.Common.{◌≡◌, ℕ, List, [], ◌∷◌, ◌++◌, Option, Some, None, Bool, true, false, cond, not, ◌||◌, refl, ap, sym, ◌∙◌}
 use Rattle.std.specs.List.{list_any}
 use Rattle.std.specs.Option.{option_or}

@@ -24,7 +24,7 @@ all_from : {X : Type 0} (P : X → Type 0) (xs : List X) → ((k : ℕ) (d : X) 
 all_from P [] h = tt
 all_from P (x ∷ xs) h = (h 0 x (omega arith), all_from P xs (λ k d lt. h (suc k) d (omega arith)))
 
-equal_of : (o : Ordering) → is_eq o ≡ true → o ≡ Equal
+pub equal_of : (o : Ordering) → is_eq o ≡ true → o ≡ Equal
 equal_of Less h = cc
 equal_of Equal h = refl
 equal_of Greater h = cc

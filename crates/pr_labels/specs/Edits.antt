@@ -32,7 +32,8 @@ value_if_any (b ∷ bs) = Some (b ∷ bs)
 abbrev pub has_value : Pair → Bool
 has_value p = is_some (value_if_any p.value)
 
--- the pairs with names below, then the new pair where its value is not empty, then those with names above
+-- the pairs with names below, then the new pair where its value is not empty, then those with names
+-- above
 abbrev pub set_label : List Pair → List ℕ → List ℕ → List Pair
 set_label labels name value = filter (is_below name) labels ++ (label_of name value ++ filter (is_above name) labels)
 
@@ -54,7 +55,8 @@ listed_labels labels names = filter (is_listed names) labels
 abbrev pub unlisted_labels : List Pair → List (List ℕ) → List Pair
 unlisted_labels labels names = filter (λ p. not (is_listed names p)) labels
 
--- the key by which series are matched or grouped: on the names, or without them and the metric's name
+-- the key by which series are matched or grouped: on the names, or without them and the metric's
+-- name
 abbrev pub key_labels : Bool → List Pair → List (List ℕ) → List Pair
 key_labels true labels names = listed_labels labels names
 key_labels false labels names = without_name (unlisted_labels labels names) metric_label
@@ -63,7 +65,8 @@ key_labels false labels names = without_name (unlisted_labels labels names) metr
 abbrev pub union_labels : List Pair → List Pair → List Pair
 union_labels labels over = fold set_pair labels over
 
--- the label set of pairs with distinct names: each is set in turn, so that one with an empty value is no label
+-- the label set of pairs with distinct names: each is set in turn, so that one with an empty value
+-- is no label
 abbrev pub labels_of : List Pair → List Pair
 labels_of pairs = fold set_pair [] pairs
 

@@ -1,12 +1,12 @@
-//! Laws of the definitions that contracts of this crate cite. A law is a function that does nothing,
-//! and its contract is the theorem.
-ghost use Rattle.std.specs.Prelude.{◌≡◌, ℕ, Bool, true, false, List, cond, filter, None};
+//! Laws of the definitions that contracts of this crate cite. A law is a function that does
+//! nothing, and its contract is the theorem.
+ghost use Rattle.std.specs.Prelude.{◌≡◌, ◌||◌, ℕ, Bool, true, false, List, cond, filter, None};
 ghost use Rattle.std.specs.List.{list_any};
 ghost use Rattle.std.specs.List.Sorted.{IsPermutation};
 ghost use Rattle.std.specs.Option.{option_or};
 ghost use Rattle.std.specs.Str.{bytes_eq};
 ghost use Rattle.pr_labels.specs.Edits.{first_fault, has_value, key_labels, labels_of, listed_labels, set_label, union_labels, unlisted_labels, value_if_any, without_name};
-ghost use Rattle.pr_labels.specs.LabelSet.{IsLabelSet, value_of};
+ghost use Rattle.pr_labels.specs.LabelSet.{IsLabelSet, metric_label, value_of};
 ghost use Rattle.pr_labels.specs.Names.{is_label_name};
 ghost use Rattle.pr_labels.specs.declared.pair.Pair.{Pair};
 
@@ -29,7 +29,7 @@ pub fn operations_give_label_sets()
 {}
 
 /// What a label set has of a name after each operation.
-#[tactic(auto, using(crate::proofs::LabelLaws::value_set, crate::proofs::LabelLaws::value_remove, crate::proofs::LabelLaws::value_keep, crate::proofs::LabelLaws::value_without, crate::proofs::LabelLaws::value_union))]
+#[tactic(auto, using(crate::proofs::LabelLaws::value_set, crate::proofs::LabelLaws::value_remove, crate::proofs::LabelLaws::value_keep, crate::proofs::LabelLaws::value_without, crate::proofs::LabelLaws::value_key_on, crate::proofs::LabelLaws::value_key_without, crate::proofs::LabelLaws::value_union))]
 pub fn values_after_operations()
     ensures set { (ls : List Pair) (name value other : List ℕ)
         → value_of (set_label ls name value) other
@@ -43,6 +43,12 @@ pub fn values_after_operations()
     ensures without { (ls : List Pair) (names : List (List ℕ)) (other : List ℕ)
         → value_of (unlisted_labels ls names) other
         ≡ cond (list_any (bytes_eq other) names) None (value_of ls other) }
+    ensures key_on { (ls : List Pair) (names : List (List ℕ)) (other : List ℕ)
+        → value_of (key_labels true ls names) other
+        ≡ cond (list_any (bytes_eq other) names) (value_of ls other) None }
+    ensures key_without { (ls : List Pair) (names : List (List ℕ)) (other : List ℕ)
+        → value_of (key_labels false ls names) other
+        ≡ cond (bytes_eq metric_label other || list_any (bytes_eq other) names) None (value_of ls other) }
     ensures union { (ls over : List Pair) (other : List ℕ) → IsLabelSet over
         → value_of (union_labels ls over) other
         ≡ option_or (value_of over other) (value_of ls other) }

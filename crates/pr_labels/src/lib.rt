@@ -1,6 +1,7 @@
 //! Label sets: the names with values by which series are told apart.
 #![tactic(auto)]
 
+mod examples;
 mod fault;
 mod grouping;
 mod item;
@@ -11,9 +12,8 @@ mod names;
 mod order_laws;
 mod pair;
 mod print;
-#[cfg(test)]
-mod tests;
 
+pub use examples::series_texts_by_example;
 pub use fault::LabelFault;
 pub use grouping::Grouping;
 pub use item::Item;

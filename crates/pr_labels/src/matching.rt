@@ -1,7 +1,7 @@
 use pr_words::{Items, Text};
 
-/// How many elements of a side one key may have: of which side there is one. (Prometheus: Operators,
-/// "Vector matching".)
+/// How many elements of a side one key may have: of which side there is one. (Prometheus:
+/// Operators, "Vector matching".)
 #[derive(Clone, Copy, Debug, PartialEq, Eq)]
 pub enum Card {
     OneToOne,
@@ -11,8 +11,9 @@ pub enum Card {
     OneToMany,
 }
 
-/// How the elements of two vectors are paired: `on` the names, or `ignoring` them. `include` are the labels
-/// that are taken from the side with one element, as listed after `group_left` or `group_right`.
+/// How the elements of two vectors are paired: `on` the names, or `ignoring` them. `include` are
+/// the labels that are taken from the side with one element, as listed after `group_left` or
+/// `group_right`.
 #[derive(Debug, Drop)]
 pub struct Matching {
     pub on: bool,

@@ -32,8 +32,8 @@ fn has_label_form(name: &[u8]) -> bool
     }
 }
 
-/// Whether this is the name of a label: letters, underscores and digits, of which the first is no digit.
-/// (Prometheus: Data model.) Such a name is a text.
+/// Whether this is the name of a label: letters, underscores and digits, of which the first is no
+/// digit. (Prometheus: Data model.) Such a name is a text.
 pub fn is_label_name(name: &[u8]) -> bool
     ensures test { result ≡ is_label_name name.now }
     ensures text { OnTrue result (IsUtf8 name.now) }
@@ -68,8 +68,8 @@ fn has_metric_form(name: &[u8]) -> bool
     }
 }
 
-/// Whether this is a classic name of a metric: letters, underscores, colons and digits, of which the first
-/// is no digit. (Prometheus: Data model.) Such a name is a text.
+/// Whether this is a classic name of a metric: letters, underscores, colons and digits, of which
+/// the first is no digit. (Prometheus: Data model.) Such a name is a text.
 pub fn is_metric_name(name: &[u8]) -> bool
     ensures test { result ≡ is_metric_name name.now }
     ensures text { OnTrue result (IsUtf8 name.now) }

@@ -7,15 +7,16 @@ ghost use Rattle.pr_labels.specs.Order.{labels_cmp, labels_eq};
 ghost use Rattle.pr_labels.specs.Rising.{IsRising, is_among, with_labels};
 ghost use Rattle.pr_labels.specs.declared.pair.Pair.{Pair};
 
-/// Label order is a total order, in which a label set ties itself alone; the test of equality decides equality.
+/// Label order is a total order, in which a label set ties itself alone; the test of equality
+/// decides equality.
 pub fn label_order_is_total()
     ensures total { IsTotalOrder labels_cmp }
     ensures decided { (a b : List Pair) → Decides (labels_eq a b) (a ≡ b) }
     ensures tied { (a b : List Pair) → labels_cmp a b ≡ Equal → a ≡ b }
 {}
 
-/// Label sets that are put in one after another rise in label order, so that none comes twice, and are those that stood
-/// there and those that were put in.
+/// Label sets that are put in one after another rise in label order, so that none comes twice, and
+/// are those that stood there and those that were put in.
 pub fn label_sets_are_put_in_order()
     ensures rising { (sets more : List (List Pair)) → IsRising sets → IsRising (fold with_labels sets more) }
     ensures among { (one : List Pair) (sets more : List (List Pair))

@@ -74,7 +74,8 @@ fn push_separator(out: &mut Vec<u8>, started: bool) -> Result<(), AllocError>
     }
 }
 
-// One more pair of a list, unless it is that of the metric's name. Answers whether the list has started.
+// One more pair of a list, unless it is that of the metric's name. Answers whether the list has
+// started.
 fn push_other(out: &mut Vec<u8>, started: bool, pair: &Pair) -> Result<bool, AllocError>
     ensures ok { IfOk result (λ s. (ps : List Pair) → out.new.items ++ left_text s ps ≡ out.old.items ++ left_text started (pair.now ∷ ps)) }
     ensures text { KeepsText out.old.items out.new.items }
@@ -113,8 +114,8 @@ fn push_named(out: &mut Vec<u8>, name: &str, pairs: &[Pair]) -> Result<(), Alloc
 }
 
 impl Labels {
-    /// Appends the printed text: the metric's name first where it is a classic name, and the other labels
-    /// in braces, in order of name. Without memory a part of it may be appended.
+    /// Appends the printed text: the metric's name first where it is a classic name, and the other
+    /// labels in braces, in order of name. Without memory a part of it may be appended.
     #[tactic(auto, unfolding(crate::specs::SeriesText::series_text))]
     pub fn write(&self, out: &mut Vec<u8>) -> Result<(), AllocError>
         ensures ok { OnOk result (out.new.items ≡ out.old.items ++ series_text self.now) }

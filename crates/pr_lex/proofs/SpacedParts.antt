@@ -26,7 +26,8 @@ past_digit b rest e = drop_one (front_len Digit (b ∷ rest)) (front_len Digit r
 past_none : (b : ℕ) (rest : List ℕ) → is_digit b ≡ false → past_digits (b ∷ rest) ≡ b ∷ rest
 past_none b rest e = rw e refl
 
--- Digits and a unit letter begin a duration. This rule reads the unit; its name is found in its place, for it is private there.
+-- Digits and a unit letter begin a duration. This rule reads the unit; its name is found in its
+-- place, for it is private there.
 abbrev last_rule : {L N V : Type 0} → N → Form L N V → N
 last_rule n (either (pair c f (rule m)) g) = m
 last_rule n f = n

@@ -1,12 +1,12 @@
 -- The spelling of numbers: an unsigned number text before anything that does not go on it.
-use Rattle.std.proofs.Common.{rules, ◌≡◌, ℕ, ◌-◌, ◌+◌, ◌*◌, ◌<◌, ◌^◌, Bool, true, false, List, [], ◌∷◌, ◌++◌, Ok, length, drop, refl, ap, sym, ◌∙◌, subst, arith, append_assoc, inl, inr, pos}
+use Rattle.std.proofs.Common.{◌≡◌, ℕ, ◌-◌, ◌+◌, ◌<◌, ◌^◌, Bool, true, false, List, [], ◌∷◌, ◌++◌, Ok, length, drop, refl, ap, sym, ◌∙◌, subst, arith, append_assoc, inl, inr, pos}
 use Rattle.std.specs.Prelude.{not, ◌==◌, ◌&&◌, ◌||◌, ◌/◌, ◌%◌, ◌⊎◌, if◌then◌else◌, decimal, codes}
 use Rattle.std.specs.List.{list_all, prefix_len}
 use Rattle.std.specs.Char.{is_ascii_digit}
 use Rattle.std.proofs.lemmas.List.{length-map, map-append, append-nil}
 use Rattle.std.proofs.lemmas.Fmt.{decimal_is_IsNumeral_wide}
-use Rattle.std.proofs.lemmas.Str.Parse.{IsNumeralModel, numerals_by_fold}
 use Rattle.std.proofs.lemmas.Bool.Decides.{nat_tests}
+use Rattle.pr_words.proofs.Decimals.{own}
 use Rattle.pr_forms.specs.Form.{rule, Reads}
 use Rattle.pr_forms.specs.Table.{is_more}
 use Rattle.pr_forms.proofs.Ending.{rule_answered}
@@ -157,14 +157,6 @@ by_sign c bs d minus rest e f = absurd (let h : c ≡ 45 = cc in grind (arith, n
 digit_first : (c : ℕ) (bs : List ℕ) → is_ascii_digit c ≡ true → IsNumberText (c ∷ bs) → HasUnsignedForm (c ∷ bs)
 digit_first c bs d (inl h) = absurd (let e = not_word c 110 bs (codes "an") d (omega arith) in cc)
 digit_first c bs d (inr s) = by_sign c bs d s.sign s.rest s.parts s.form
-
-read_on : ℕ → List ℕ → ℕ
-read_on n [] = n
-read_on n (c ∷ cs) = read_on (10 * n + (c - 48)) cs
-
-own : IsNumeralModel (λ ds. list_all is_ascii_digit ds ≡ true) (read_on 0)
-unfolding read_on
-own = numerals_by_fold _ (search rules) read_on (search rules)
 
 pub decimal_digits : (n : ℕ) → n < 10 ^ 64 → list_all is_digit (decimal n) ≡ true
 decimal_digits n h = own.from (decimal n) (decimal_is_IsNumeral_wide n h).0.1

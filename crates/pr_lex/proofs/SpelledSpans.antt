@@ -77,7 +77,7 @@ lead inside n u us more small h again false e =
     let q : decimal n ++ (u ∷ (us ++ more)) ≡ (decimal n ++ (u ∷ us)) ++ more = sym (append_assoc (decimal n) (u ∷ us) more) in
     rw e (subst (λ t. part_at inside t ≡ TokenPart Duration) q (digits_part inside (decimal n) u (us ++ more) (decimal_some n small) (decimal_digits n small) h))
 
-in_a_row : (a b c d e r : List ℕ) → a ++ b ++ c ++ d ++ e ++ r ≡ a ++ (b ++ (c ++ (d ++ (e ++ r))))
+pub in_a_row : (a b c d e r : List ℕ) → a ++ b ++ c ++ d ++ e ++ r ≡ a ++ (b ++ (c ++ (d ++ (e ++ r))))
 in_a_row a b c d e r = simp append_assoc refl
 
 parts_begin : (inside : Bool) (ms : ℕ) (rest : List ℕ) → ms ≤ 2 ^ 40 → 0 < ms → part_at inside (parts_text ms ++ rest) ≡ TokenPart Duration

@@ -1,4 +1,5 @@
--- The spelling of strings: what is read whole, and goes on with nothing that follows, is read as far as can be.
+-- The spelling of strings: what is read whole, and goes on with nothing that follows, is read as
+-- far as can be.
 use Rattle.std.proofs.Common.{◌≡◌, ℕ, ◌-◌, ◌+◌, Bool, true, false, List, [], ◌∷◌, ◌++◌, length, refl, sym, subst, arith}
 use Rattle.std.proofs.lemmas.List.{length-map}
 use Rattle.pr_forms.specs.Form.{Form, rule, Reads, IsFirstBad}

@@ -1,4 +1,5 @@
--- A string begins with an ASCII byte, so that what begins with one is UTF-8 where the whole text is.
+-- A string begins with an ASCII byte, so that what begins with one is UTF-8 where the whole text
+-- is.
 use Rattle.std.proofs.Common.{◌≡◌, ℕ, ◌+◌, ◌<◌, List, ◌∷◌, Bool, length, drop, get_or, arith, ap, sym, ◌∙◌, get_or-drop}
 use Rattle.std.specs.Str.{IsUtf8}
 use Rattle.std.proofs.lemmas.Str.{IsUtf8-drop, IsCharBoundary-before_ascii}

@@ -13,7 +13,8 @@ use Rattle.pr_lex.specs.Reader.{IsRead, IsWithin, Refuses, Misses, Fits, moved}
 use Rattle.pr_lex.proofs.Unique.{one_list, not_both}
 use Rattle.pr_lex.specs.Tokens.{HasTokens, IsTokenOf, inside_after, AreTokens, no_more, past_gap, one_more, IsFirstFault, fault_here, fault_past_gap, fault_past_token}
 
--- The tokens from the place on, after those found, are the tokens of the text; and so is the first fault.
+-- The tokens from the place on, after those found, are the tokens of the text; and so is the first
+-- fault.
 pub record Found (text : List ℕ) (inside : Bool) (place : ℕ) (found : List Token) : Type 0 where
   pub tokens : (ts : List Token) → AreTokens inside place (drop place text) ts → AreTokens false 0 text (found ++ ts)
   pub faults : (at : ℕ) (kind : LexKind) → IsFirstFault inside place (drop place text) at kind → IsFirstFault false 0 text at kind

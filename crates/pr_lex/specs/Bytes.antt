@@ -59,8 +59,8 @@ abbrev pub lexeme_at : Bool → ℕ → List ℕ → Lexeme
 lexeme_at inside b text =
     if starts_name inside b then NameLexeme else (if is_digit b then digits_lexeme text else (if b == code "." then Number else (if is_quote b then Text else Sign)))
 
--- What a text begins with: blanks, a comment from `#` to the line's end, or a token. `inside` says that it stands between a `[` and the
--- next `]`.
+-- What a text begins with: blanks, a comment from `#` to the line's end, or a token. `inside` says
+-- that it stands between a `[` and the next `]`.
 abbrev pub part_at : Bool → List ℕ → Part
 part_at inside [] = End
 part_at inside (b ∷ rest) =

@@ -1,4 +1,5 @@
--- What a text gives, as a function of it. The law lexed_is_tokens_or_fault of the crate above says that these are its tokens, or its first fault.
+-- What a text gives, as a function of it. The law lexed_is_tokens_or_fault of the crate above says
+-- that these are its tokens, or its first fault.
 use Rattle.std.specs.Prelude.{ℕ, zero, suc, ◌+◌, ◌^◌, ◌==◌, ◌||◌, nat_le, Bool, false, List, [], ◌∷◌, ◌++◌, length, take, drop, Option, Some, None, is_some, Result, Ok, Err, if◌then◌else◌}
 use Rattle.pr_forms.specs.Form.{rule}
 use Rattle.pr_forms.specs.Reading.{reading, bad_place}
@@ -30,7 +31,8 @@ pub data Lexed : Type 0 where
   -- the place and the kind of its first fault
   gives_fault : ℕ → LexKind → Lexed
 
--- What a text that begins some token gives there: the token with its length, or the place and the kind of a fault.
+-- What a text that begins some token gives there: the token with its length, or the place and the
+-- kind of a fault.
 pub data First : Type 0 where
   a_token : ℕ → TokenKind → First
   a_fault : ℕ → LexKind → First
@@ -39,7 +41,8 @@ pub data First : Type 0 where
 abbrev pub number_place : List ℕ → ℕ
 number_place text = bad_place numbers.production numbers.table 8 (rule numbers.Number) (numbers.seen text)
 
--- A number, a duration and a string go on up to a place, and what stands before it is whole, or is none.
+-- A number, a duration and a string go on up to a place, and what stands before it is whole, or is
+-- none.
 abbrev pub number_by : ℕ → Result Num NumFault → First
 number_by n (Ok value) = a_token n (NumberKind value)
 number_by n (Err NotNumber) = a_fault n BadNumber

@@ -1,5 +1,5 @@
--- The texts of numbers as far as they go on: digits with a point among them or before them, and an exponent. What a whole one
--- is worth is a definition of pr_num.
+-- The texts of numbers as far as they go on: digits with a point among them or before them, and an
+-- exponent. What a whole one is worth is a definition of pr_num.
 use Rattle.std.specs.Prelude.{ℕ, ◌==◌, nat_le, ◌&&◌, ◌||◌, Bool, true, false, Option, Some, None, List, map, if◌then◌else◌}
 use Prim.Native.Char.{code}
 use Rattle.pr_forms.specs.Form.{Form, token, nothing, pair, either, turns, rule, IsFirstBad}

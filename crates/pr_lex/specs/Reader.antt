@@ -39,7 +39,8 @@ abbrev pub IsWithin : List ℕ → LexError → Type 0
 IsWithin text (Fault at kind) = at ≤ length text
 IsWithin text Memory = Unit {0}
 
--- A fault of a text that stands at a place of another one, as a fault of that one, and that its place is a number of the code.
+-- A fault of a text that stands at a place of another one, as a fault of that one, and that its
+-- place is a number of the code.
 abbrev pub moved : ℕ → LexError → LexError
 moved place (Fault at kind) = Fault (place + at) kind
 moved place Memory = Memory

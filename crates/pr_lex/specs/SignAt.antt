@@ -1,5 +1,5 @@
--- The sign that a text begins with, as a function of its first two bytes: what the reader computes. The law longest_sign_is_taken says
--- that it is the longest one.
+-- The sign that a text begins with, as a function of its first two bytes: what the reader computes.
+-- The law longest_sign_is_taken says that it is the longest one.
 use Rattle.std.specs.Prelude.{ℕ, ◌==◌, Option, Some, None, List, [], ◌∷◌, if◌then◌else◌, Result, Ok, Err}
 use Prim.Native.Char.{code}
 use Rattle.pr_lex.specs.declared.token.Sign.{Sign}
@@ -38,8 +38,8 @@ abbrev pub longer_sign : ℕ → List ℕ → Option Sign
 longer_sign a [] = None
 longer_sign a (b ∷ rest) = two_byte_sign a b
 
--- The sign of two bytes where there is one, else that of one byte, with its length; else the place of the byte that is bad: with `!`
--- two signs begin, and none is whole.
+-- The sign of two bytes where there is one, else that of one byte, with its length; else the place
+-- of the byte that is bad: with `!` two signs begin, and none is whole.
 abbrev pub shorter_sign : ℕ → Option Sign → Result (Sign × ℕ) ℕ
 shorter_sign a (Some s) = Ok (s, 1)
 shorter_sign a None = Err (if a == code "!" then 1 else 0)

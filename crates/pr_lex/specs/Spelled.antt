@@ -27,8 +27,8 @@ abbrev pub begins_other : ℕ → ℕ → List ℕ → Bool
 begins_other a b [] = true
 begins_other a b (c ∷ rest) = not (c == a) && not (c == b)
 
--- Whether a sign is taken for itself before the rest of a text: a colon between brackets alone, and `=`, `<` and `>` before nothing that
--- makes them longer.
+-- Whether a sign is taken for itself before the rest of a text: a colon between brackets alone, and
+-- `=`, `<` and `>` before nothing that makes them longer.
 abbrev pub ends_sign : Bool → Sign → List ℕ → Bool
 ends_sign inside Colon rest = inside
 ends_sign inside Assign rest = begins_other (code "=") (code "~") rest

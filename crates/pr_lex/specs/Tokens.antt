@@ -25,10 +25,11 @@ pub record IsName (inside : Bool) (text : List ℕ) (n : ℕ) (token : TokenKind
   pub longest : n ≡ front_len (name_class inside) text
   pub is : token ≡ NameKind (take n text)
 
--- A number and a string go on as long as the bytes before some place begin one of their form, and no further. A duration goes on up
--- to the first byte with which it does not go on as a span text: before it stand whole parts, and digits or a letter that begin one
--- more. Whether what stands there can still become a span is not asked: `5ms5` goes on, though no span begins with it. What goes on
--- so is whole.
+-- A number and a string go on as long as the bytes before some place begin one of their form, and
+-- no further. A duration goes on up to the first byte with which it does not go on as a span text:
+-- before it stand whole parts, and digits or a letter that begin one more. Whether what stands
+-- there can still become a span is not asked: `5ms5` goes on, though no span begins with it. What
+-- goes on so is whole.
 pub record IsNumber (text : List ℕ) (n : ℕ) (token : TokenKind) : Type 0 where
   pub longest : IsNumberEnd text n
   pub value : Num
@@ -85,8 +86,9 @@ pub record IsDurationFault (text : List ℕ) (place : ℕ) (kind : LexKind) : Ty
   pub longest : IsSpanEnd text end
   pub fault : DurationFault kind text end place
 
--- What is wrong with a string that goes on up to `end`. It is left open where the text ends, inside an escape too, and where a line
--- feed follows whole pieces; else the byte there is bad for an escape.
+-- What is wrong with a string that goes on up to `end`. It is left open where the text ends, inside
+-- an escape too, and where a line feed follows whole pieces; else the byte there is bad for an
+-- escape.
 abbrev pub IsLeftOpen : List ℕ → ℕ → Type 0
 IsLeftOpen text end = (end ≡ length text) ⊎ IsOpenAt text end
 
@@ -101,7 +103,8 @@ pub record IsTextFault (text : List ℕ) (place : ℕ) (kind : LexKind) : Type 0
   pub broken : (content : List ℕ) → IsString text content (drop end text) → ⊥
   pub fault : TextFault kind text end place
 
--- The text begins with no sign. With `!` two signs begin, and none is whole: then the byte after it is the bad one.
+-- The text begins with no sign. With `!` two signs begin, and none is whole: then the byte after it
+-- is the bad one.
 pub record IsSignFault (text : List ℕ) (place : ℕ) (kind : LexKind) : Type 0 where
   pub none : (sign : Sign) → BeginsWith text sign → ⊥
   pub after : place ≡ begun_sign text
@@ -121,7 +124,8 @@ inside_after inside (SignKind LeftBracket) = true
 inside_after inside (SignKind RightBracket) = false
 inside_after inside token = inside
 
--- The tokens of a text that stands at a place: blanks and comments are passed over, and each token is the longest one where it begins.
+-- The tokens of a text that stands at a place: blanks and comments are passed over, and each token
+-- is the longest one where it begins.
 pub data AreTokens : Bool → ℕ → List ℕ → List Token → Type 0 where
   no_more : {inside : Bool} {at : ℕ} {text : List ℕ} → part_at inside text ≡ End → AreTokens inside at text []
   past_gap : {inside : Bool} {at : ℕ} {text : List ℕ} {tokens : List Token} (n : ℕ) → part_at inside text ≡ Gap n →
@@ -130,7 +134,8 @@ pub data AreTokens : Bool → ℕ → List ℕ → List Token → Type 0 where
       part_at inside text ≡ TokenPart lexeme → IsTokenOf lexeme inside text n token →
       AreTokens (inside_after inside token) (at + n) (drop n text) tokens → AreTokens inside at text (record { start = at; end = at + n; kind = token } ∷ tokens)
 
--- The first fault of a text that stands at a place: after as many tokens as there are, the text begins with none.
+-- The first fault of a text that stands at a place: after as many tokens as there are, the text
+-- begins with none.
 pub data IsFirstFault : Bool → ℕ → List ℕ → ℕ → LexKind → Type 0 where
   fault_here : {inside : Bool} {at : ℕ} {text : List ℕ} {kind : LexKind} (place : ℕ) (lexeme : Lexeme) →
       part_at inside text ≡ TokenPart lexeme → IsFaultOf lexeme text place kind → IsFirstFault inside at text (at + place) kind

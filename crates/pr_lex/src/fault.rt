@@ -22,9 +22,10 @@ pub enum LexKind {
     BadNumber,
     /// The number that begins here is 10^20 or more, rounded to nine places.
     TooWide,
-    /// The duration before this byte does not go on with it as a span text, and is no whole one: before it stand whole parts, and
-    /// digits or a letter that begin one more. Whether what stands there can still become a span is not asked: `5ms5s` is bad at
-    /// its last byte, though no span begins with `5ms5`.
+    /// The duration before this byte does not go on with it as a span text, and is no whole one:
+    /// before it stand whole parts, and digits or a letter that begin one more. Whether what stands
+    /// there can still become a span is not asked: `5ms5s` is bad at its last byte, though no span
+    /// begins with `5ms5`.
     BadSpan,
     /// The duration that begins here has more than 2^40 milliseconds.
     SpanTooLong,

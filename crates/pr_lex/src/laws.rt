@@ -28,7 +28,8 @@ pub fn one_byte_decides_numbers()
     ensures { IsDecided production table }
 {}
 
-/// The sign that is taken is the longest one that the text begins with; where none is taken, it begins with none.
+/// The sign that is taken is the longest one that the text begins with; where none is taken, it
+/// begins with none.
 pub fn longest_sign_is_taken()
     ensures taken { (text : List ℕ) (sign : Sign) (n : ℕ) → sign_at text ≡ Ok (sign, n) → (n ≡ length (sign_text sign)) × IsLongestSign text sign }
     ensures none { (text : List ℕ) (place : ℕ) (sign : Sign) → sign_at text ≡ Err place → BeginsWith text sign → ⊥ }
@@ -52,8 +53,8 @@ pub fn lexed_is_tokens_or_fault()
     ensures fault { (text : List ℕ) (place : ℕ) (kind : LexKind) → (lexed text ≡ gives_fault place kind) ↔ HasFault text place kind }
 {}
 
-/// The tokens of a text lie in it in their order. None is empty, no two of them overlap, and before, between and after them are
-/// blanks and comments.
+/// The tokens of a text lie in it in their order. None is empty, no two of them overlap, and
+/// before, between and after them are blanks and comments.
 pub fn tokens_lie_in_order()
     ensures { (text : List ℕ) (tokens : List Token) → HasTokens text tokens → AreInOrder text 0 tokens }
 {}
@@ -63,7 +64,8 @@ pub fn fault_lies_in_its_text()
     ensures { (text : List ℕ) (place : ℕ) (kind : LexKind) → HasFault text place kind → place ≤ length text }
 {}
 
-/// The texts of the tokens, with a space after each, have the same tokens again, but for their places.
+/// The texts of the tokens, with a space after each, have the same tokens again, but for their
+/// places.
 pub fn token_texts_have_the_tokens_again()
     ensures { (text : List ℕ) (tokens : List Token) → HasTokens text tokens →
         (again : List Token) × HasTokens (spaced text tokens) again × (kinds again ≡ kinds tokens) }
@@ -89,8 +91,8 @@ pub fn strings_are_spelled()
     ensures { (inside : Bool) (bytes rest : List ℕ) (ks : List TokenKind) → Spells inside rest ks → Spells inside (quoted_text bytes ++ rest) (TextKind bytes ∷ ks) }
 {}
 
-/// A number text without a sign is spelled by its bytes, before anything that goes on no number, and makes no duration of it; so is
-/// a number that is not negative, as it is printed.
+/// A number text without a sign is spelled by its bytes, before anything that goes on no number,
+/// and makes no duration of it; so is a number that is not negative, as it is printed.
 pub fn numbers_are_spelled()
     ensures text { (inside : Bool) (text rest : List ℕ) (value : Num) (ks : List TokenKind) → HasUnsignedForm text → reads text ≡ Ok value →
         ends_number rest ≡ true → Spells inside rest ks → Spells inside (text ++ rest) (NumberKind value ∷ ks) }

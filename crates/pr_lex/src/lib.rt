@@ -1,17 +1,18 @@
-//! The tokens of the query language: names, numbers, durations, strings and signs, each with its place.
+//! The tokens of the query language: names, numbers, durations, strings and signs, each with its
+//! place.
 #![tactic(auto)]
 
+mod examples;
 mod fault;
 pub mod laws;
 mod number;
 mod part;
 mod reader;
-#[cfg(test)]
-mod tests;
 mod ties;
 mod token;
 mod words;
 
+pub use examples::{signs_by_example, words_by_example};
 pub use fault::{LexError, LexKind};
 pub use reader::tokens;
 pub use ties::{numbers_are_the_unsigned_forms, unit_letters_go_on};

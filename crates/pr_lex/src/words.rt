@@ -2,8 +2,8 @@
 ghost use Rattle.std.specs.Prelude.{◌≡◌};
 ghost use Rattle.pr_lex.specs.Words.{word_text, is_word, first_word, words, word_of};
 
-/// The words of the query language: its operators, the names of its aggregations, and two numbers. (Prometheus: Querying,
-/// Operators.)
+/// The words of the query language: its operators, the names of its aggregations, and two numbers.
+/// (Prometheus: Querying, Operators.)
 #[derive(Clone, Copy, Debug, PartialEq, Eq)]
 pub enum Word {
     And,

@@ -1,4 +1,5 @@
--- What the tokens tell is how the grammar reads them; and where a fault is that of an unknown function.
+-- What the tokens tell is how the grammar reads them; and where a fault is that of an unknown
+-- function.
 use Rattle.std.proofs.Common.{◌≡◌, ℕ, zero, suc, ◌≤◌, ◌<◌, ◌-◌, Bool, true, false, Option, Some, None, List, [], ◌∷◌, ◌++◌, length, take, drop, refl, ap, sym, ◌∙◌, subst, arith, length-drop}
 use Rattle.std.specs.Prelude.{◌↔◌, slice_get, if◌then◌else◌}
 use Rattle.pr_forms.specs.Form.{rule}

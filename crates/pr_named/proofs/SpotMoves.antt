@@ -97,7 +97,8 @@ abbrev pub fits_next : Option Spot → Spot → Bool
 fits_next (Some a) b = fits a b
 fits_next None b = false
 
--- whether a token that a form takes leads from one spot to the other, and is a name where the tokens tell so
+-- whether a token that a form takes leads from one spot to the other, and is a name where the
+-- tokens tell so
 abbrev pub is_right : Spot → Spot → Kind → Option Value → Bool
 is_right a b k None = true
 is_right a b k (Some v) = fits_next (spot_after a k) b && same_truth (called_in b k) (is_other_name (Some k) v)

@@ -1,4 +1,5 @@
--- Where names are labels, and where parentheses have labels: what each rule stands before and after.
+-- Where names are labels, and where parentheses have labels: what each rule stands before and
+-- after.
 use Rattle.std.proofs.Common.{◌≡◌, Bool, true, false, Option, Some, List, ◌∷◌, refl}
 use Rattle.pr_forms.specs.Form.{Form, token, nothing, pair, either, turns, fold, chosen, rule, Reads, is_chosen, is_token, is_nothing, is_pair, is_left, is_right, is_stop, is_turn, is_fold, is_rule}
 use Rattle.pr_lex.specs.declared.token.Token.{Token}
@@ -16,7 +17,8 @@ domain {A} f = A
 abbrev pub Names : Type 0
 Names = domain names_after
 
--- Outside labels and braces after any token, after one that labels do not follow, and after one that they do; in labels; in braces.
+-- Outside labels and braces after any token, after one that labels do not follow, and after one
+-- that they do; in labels; in braces.
 pub data Spot : Type 0 where
   open_spot : Spot
   fresh : Spot

@@ -1,4 +1,5 @@
--- Each token of a reading is taken there, and is the last one taken where the reading is cut short after it.
+-- Each token of a reading is taken there, and is the last one taken where the reading is cut short
+-- after it.
 use Rattle.std.proofs.Common.{◌≡◌, ℕ, suc, ◌≤◌, ◌<◌, Option, Some, List, [], ◌∷◌, length, drop, refl, subst, arith, inl, inr, length-drop}
 use Rattle.std.specs.Prelude.{◌⊎◌}
 use Rattle.pr_forms.specs.Form.{Form, token, Reads, is_chosen, is_token, is_nothing, is_pair, is_left, is_right, is_stop, is_turn, is_fold, is_rule}

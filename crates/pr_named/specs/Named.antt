@@ -10,7 +10,8 @@ use Rattle.pr_grammar.specs.Seen.{Seen, kinds_seen}
 use Rattle.pr_grammar.specs.Grammar.{production, expression, Value, word}
 use Rattle.pr_parse.specs.Faults.{kind_before, kind_at}
 
--- The tokens before `rest` are a beginning of the form, in which it takes the last of them as a token, with this value.
+-- The tokens before `rest` are a beginning of the form, in which it takes the last of them as a
+-- token, with this value.
 pub data TakesLast {T N V : Type 0} (G : N → Form T N V) : Form T N V → List T → V → List T → Type 0 where
   last_token : {p : T → Option V} {t : T} {v : V} {rest : List T} → p t ≡ Some v → TakesLast G (token p) (t ∷ rest) v rest
   last_first : {c : V → V → V} {f g : Form T N V} {ts rest : List T} {v : V} → TakesLast G f ts v rest → TakesLast G (pair c f g) ts v rest
@@ -28,8 +29,8 @@ pub data TakesLast {T N V : Type 0} (G : N → Form T N V) : Form T N V → List
       q t ≡ Some n → TakesLast G (G n) (t ∷ ts) v rest → TakesLast G (chosen q m) (t ∷ ts) v rest
   last_rule : {n : N} {ts rest : List T} {v : V} → TakesLast G (G n) ts v rest → TakesLast G (rule n) ts v rest
 
--- The tokens before `rest` are the form whole, with the value `w`, and in reading them it takes the one before `at` as a token, with
--- the value `v`.
+-- The tokens before `rest` are the form whole, with the value `w`, and in reading them it takes the
+-- one before `at` as a token, with the value `v`.
 pub data TakesWithin {T N V : Type 0} (G : N → Form T N V) : Form T N V → List T → V → List T → V → List T → Type 0 where
   within_token : {p : T → Option V} {t : T} {v : V} {rest : List T} → p t ≡ Some v → TakesWithin G (token p) (t ∷ rest) v rest v rest
   within_first : {c : V → V → V} {f g : Form T N V} {ts at mid rest : List T} {v w x : V} →
@@ -50,7 +51,8 @@ pub data TakesWithin {T N V : Type 0} (G : N → Form T N V) : Form T N V → Li
       q t ≡ Some n → length rest ≤ length ts → TakesWithin G (G n) (t ∷ ts) v at w rest → TakesWithin G (chosen q m) (t ∷ ts) v at w rest
   within_rule : {n : N} {ts at rest : List T} {v w : V} → TakesWithin G (G n) ts v at w rest → TakesWithin G (rule n) ts v at w rest
 
--- Whether a token's value is a name: the grammar gives this value to a metric's name and to a label, and to nothing else.
+-- Whether a token's value is a name: the grammar gives this value to a metric's name and to a
+-- label, and to nothing else.
 abbrev pub is_name : Value → Bool
 is_name (word p text) = true
 is_name _ = false
@@ -64,14 +66,15 @@ is_function _ = false
 abbrev pub is_other_name : Option Kind → Value → Bool
 is_other_name kind v = is_name v && not (is_function kind)
 
--- The tokens before the place begin an expression, and the last of them is read as a metric's name or as a label, and is no
--- function's name.
+-- The tokens before the place begin an expression, and the last of them is read as a metric's name
+-- or as a label, and is no function's name.
 pub record FollowsName (ts : List Seen) (place : ℕ) : Type 0 where
   pub value : Value
   pub takes : TakesLast production (rule expression) ts value (drop place ts)
   pub named : is_other_name (kind_before (kinds_seen ts) place) value ≡ true
 
--- the kind of a parenthesis with which no expression can go on, after a token of a kind that is read as a value
+-- the kind of a parenthesis with which no expression can go on, after a token of a kind that is
+-- read as a value
 abbrev pub paren_kind : Option Kind → Value → ParseKind
 paren_kind before v = if is_other_name before v then UnknownFunction else Unexpected
 

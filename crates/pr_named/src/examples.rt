@@ -7,8 +7,8 @@ ghost use Rattle.pr_grammar.specs.declared.kind.Kind.TheVariants.{Word, Function
 ghost use Rattle.pr_parse.specs.declared.fault.ParseKind.TheVariants.{Unexpected, UnknownFunction};
 ghost use Rattle.pr_named.specs.Named.{paren_after};
 
-/// What a parenthesis would be after `a`, `sum by (a`, `sum by (on`, `{on`, where names stand before it that are no functions';
-/// after `inf`, `sum by (rate` and `a{on="x"}`, where none does.
+/// What a parenthesis would be after `a`, `sum by (a`, `sum by (on`, `{on`, where names stand
+/// before it that are no functions'; after `inf`, `sum by (rate` and `a{on="x"}`, where none does.
 pub fn parentheses_are_told_so()
     ensures metric { paren_after (Plain ∷ []) 1 ≡ UnknownFunction }
     ensures label { paren_after (Word SumWord ∷ Word By ∷ Sign LeftParen ∷ Plain ∷ []) 4 ≡ UnknownFunction }

@@ -16,17 +16,19 @@ pub fn each_beginning_takes_its_last_token<T, N, V>()
         Begins G f ts (drop (suc place) ts) → (v : V) × TakesLast G f ts v (drop (suc place) ts) }
 {}
 
-/// A reading of a whole text takes each token of it, with some value; and so it does where it is cut short after that token.
+/// A reading of a whole text takes each token of it, with some value; and so it does where it is
+/// cut short after that token.
 pub fn each_reading_takes_all_tokens<T, N, V>()
     ensures all { (G : N → Form T N V) (f : Form T N V) (ts : List T) (w : V) (place : ℕ) → place < length ts → Reads G f ts w [] →
         (v : V) × TakesWithin G f ts v (drop (suc place) ts) w [] }
     ensures cut { (G : N → Form T N V) (f : Form T N V) (ts at rest : List T) (v w : V) → TakesWithin G f ts v at w rest → TakesLast G f ts v at }
 {}
 
-/// The kind of a parenthesis is worked out from the tokens alone, and tells how the grammar reads the one before it: in each
-/// expression, and in each beginning of one, after each of the tokens. A parenthesis that is put there would be that of an
-/// unknown function where the token before it is read as a metric's name or as a label and is no function's name; and else it
-/// would be unexpected. So it is with one that stands there.
+/// The kind of a parenthesis is worked out from the tokens alone, and tells how the grammar reads
+/// the one before it: in each expression, and in each beginning of one, after each of the tokens. A
+/// parenthesis that is put there would be that of an unknown function where the token before it is
+/// read as a metric's name or as a label and is no function's name; and else it would be
+/// unexpected. So it is with one that stands there.
 pub fn tokens_tell_how_names_are_read()
     ensures whole { (ts : List Seen) (place : ℕ) (v w : Value) → place ≤ length ts →
         TakesWithin production (rule expression) ts v (drop place ts) w [] →
@@ -39,8 +41,8 @@ pub fn tokens_tell_how_names_are_read()
         kind_at (kinds_seen ts) place ≡ paren_kind (kind_before (kinds_seen ts) place) v }
 {}
 
-/// The first bad place is that of an unknown function exactly where a parenthesis stands there, after a name that the
-/// grammar read as a metric's or as a label, and that is no function's.
+/// The first bad place is that of an unknown function exactly where a parenthesis stands there,
+/// after a name that the grammar read as a metric's or as a label, and that is no function's.
 pub fn unknown_function_follows_a_name()
     ensures { (ts : List Seen) (place : ℕ) → IsBadPlace ts place →
         (kind_at (kinds_seen ts) place ≡ UnknownFunction) ↔ ((slice_get (kinds_seen ts) place ≡ Some (Sign LeftParen)) × FollowsName ts place) }

@@ -1,4 +1,5 @@
-//! Which words of an expression are names: the kind of a fault tells them from the tokens alone, and so the grammar reads them.
+//! Which words of an expression are names: the kind of a fault tells them from the tokens alone,
+//! and so the grammar reads them.
 #![tactic(auto)]
 
 pub mod examples;

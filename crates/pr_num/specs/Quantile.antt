@@ -30,8 +30,8 @@ blended (Finite a) NegInf w = NegInf
 abbrev pub value_at : List Num → ℕ → Num
 value_at values index = unwrap_or (slice_get values index) NaN
 
--- the value at a place and w billionths of the way to the next one; at a whole place, or between equal
--- values, the value itself
+-- the value at a place and w billionths of the way to the next one; at a whole place, or between
+-- equal values, the value itself
 abbrev pub value_near : List Num → ℕ → ℕ → Num
 value_near values index w =
     if (w == 0) || same_num (value_at values index) (value_at values (index + 1)) then value_at values index

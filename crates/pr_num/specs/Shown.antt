@@ -4,8 +4,8 @@ use Prim.Native.Char.{code}
 use Rattle.pr_num.specs.declared.value.Num.{Num}
 use Rattle.pr_num.specs.declared.value.Num.TheVariants.{Finite, NaN, PosInf, NegInf}
 
--- the next n digits of u units of 10^-9 after a point, without zeros at the end: each digit is the whole
--- part of ten times what is left
+-- the next n digits of u units of 10^-9 after a point, without zeros at the end: each digit is the
+-- whole part of ten times what is left
 unfoldable pub fraction_text : ℕ → ℕ → List ℕ
 fraction_text zero u = []
 fraction_text (suc n) u = if u == 0 then [] else (code "0" + u * 10 / 10 ^ 9) ∷ fraction_text n (u * 10 % 10 ^ 9)

@@ -6,8 +6,8 @@ use Rattle.pr_num.specs.declared.value.TooWide.{TooWide}
 use Rattle.pr_num.specs.Half.{half}
 use Rattle.pr_num.specs.Arithmetic.{fitted}
 
--- what a list of values adds up to: the units of the finite ones, how many values there are, and how
--- many of these are not finite, of each kind
+-- what a list of values adds up to: the units of the finite ones, how many values there are, and
+-- how many of these are not finite, of each kind
 pub record Tally : Type 0 where
   pub units : ℤ
   pub count : ℕ

@@ -1,4 +1,5 @@
--- Words for worked examples: what is printed for what the operations give on values that are written as texts.
+-- Words for worked examples: what is printed for what the operations give on values that are
+-- written as texts.
 use Rattle.std.specs.Prelude.{ℕ, List, codes, Result, Ok, Err, map}
 use Rattle.std.specs.Result.{result_unwrap_or}
 use Rattle.pr_num.specs.declared.value.Num.{Num}

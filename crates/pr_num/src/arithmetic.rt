@@ -116,8 +116,8 @@ impl Num {
     /// The quotient, rounded half to even at the ninth place.
     ///
     /// A value over zero is the infinity of its sign, 0/0 and an infinity over an infinity are NaN,
-    /// and a finite value over an infinity is 0. Answers `TooWide` exactly where the rounded quotient
-    /// is 10^20 or more in magnitude.
+    /// and a finite value over an infinity is 0. Answers `TooWide` exactly where the rounded
+    /// quotient is 10^20 or more in magnitude.
     #[tactic(auto, unfolding(crate::specs::Arithmetic::quotient_of))]
     pub fn div(self, b: Num) -> Result<Num, TooWide>
         ensures { result ≡ quotient_of self b }

@@ -1,10 +1,15 @@
-//! Worked examples of the definitions that contracts of this crate cite. Each is a function that does nothing,
-//! and its contract says what the definitions give, so that none of them changes with its code unseen.
-ghost use Rattle.std.specs.Prelude.{◌≡◌, [], ◌∷◌, codes, pos, negsuc};
+//! Worked examples of the definitions that contracts of this crate cite. Each is a function that
+//! does nothing, and its contract says what the definitions give, so that none of them changes with
+//! its code unseen.
+ghost use Rattle.std.specs.Prelude.{◌≡◌, [], ◌∷◌, Some, codes, pos, negsuc};
+ghost use Rattle.std.specs.declared.cmp.Ordering.TheVariants.{Less};
 ghost use Rattle.pr_num.specs.Half.{half};
+ghost use Rattle.pr_num.specs.Order.{compared, order_of};
 ghost use Rattle.pr_num.specs.Worked.{read_again, plus, minus, times, over, modulo, scaled, floor, ceil, rounded, quantile, sum, mean};
+ghost use Rattle.pr_num.specs.declared.value.Num.TheVariants.{Finite, PosInf, NegInf};
 
-/// A fraction is rounded to the next whole number, and half way between two to the even one, below zero too.
+/// A fraction is rounded to the next whole number, and half way between two to the even one, below
+/// zero too.
 #[tactic(auto, unfolding(crate::proofs::Computing::computing))]
 pub fn rounding_by_example()
     ensures below { half (pos 7) (pos 3) ≡ pos 2 }
@@ -93,4 +98,13 @@ pub fn lists_by_example()
     ensures sum { sum (codes "1e-9" ∷ codes "2e-9" ∷ []) ≡ codes "0.000000003" }
     ensures mean { mean (codes "1e-9" ∷ codes "2e-9" ∷ []) ≡ codes "0.000000002" }
     ensures infinite { mean (codes "1" ∷ codes "-Inf" ∷ []) ≡ codes "-Inf" }
+{}
+
+/// Which of two values is the less, as numbers and in order.
+#[tactic(auto, unfolding(crate::specs::Order::compared, crate::specs::Order::order_of))]
+pub fn order_by_example()
+    ensures finite { compared (Finite (pos 1)) (Finite (pos 2)) ≡ Some Less }
+    ensures infinite { compared (Finite (pos 1)) PosInf ≡ Some Less }
+    ensures negative { order_of (Finite (negsuc 0)) (Finite (pos 0)) ≡ Less }
+    ensures below { order_of NegInf (Finite (negsuc 0)) ≡ Less }
 {}

@@ -1,5 +1,5 @@
-//! What the formulas over ranges and histograms are made of: rounded quotients of whole numbers of units,
-//! which may be wider than a value, and the comparison of products.
+//! What the formulas over ranges and histograms are made of: rounded quotients of whole numbers of
+//! units, which may be wider than a value, and the comparison of products.
 ghost use Rattle.std.specs.Prelude.{◌≡◌, ◌+◌, ◌*◌, ◌^◌, ◌<◌, ◌≤◌, ◌*ℤ◌, pos, unsigned_abs};
 ghost use Rattle.std.specs.Option.{SomeIff};
 ghost use Rattle.std.specs.Ordering.{int_cmp, nat_cmp};
@@ -25,8 +25,9 @@ pub fn half(p: i128, q: u128) -> i128
     with_sign(is_below_zero(p), half_of(p.unsigned_abs(), q))
 }
 
-/// `a * b / c` for whole numbers, rounded once, half to even, however wide the product is. It answers
-/// nothing exactly where the rounded result is 2^127 or more in magnitude, which is far above every value.
+/// `a * b / c` for whole numbers, rounded once, half to even, however wide the product is. It
+/// answers nothing exactly where the rounded result is 2^127 or more in magnitude, which is far
+/// above every value.
 #[tactic(auto, using(crate::proofs::Signs::half_product_signed, crate::proofs::Signs::abs_signed))]
 pub fn half_product(a: i128, b: i128, c: u128) -> Option<i128>
     requires { 0 < c }
@@ -38,7 +39,8 @@ pub fn half_product(a: i128, b: i128, c: u128) -> Option<i128>
     }
 }
 
-/// `units * b / c` for a number of units that may be wider than a value, rounded once, half to even.
+/// `units * b / c` for a number of units that may be wider than a value, rounded once, half to
+/// even.
 ///
 /// Answers `TooWide` exactly where the rounded result is 10^20 or more in magnitude.
 #[tactic(auto, using(crate::proofs::Signs::muldiv_units_wide))]

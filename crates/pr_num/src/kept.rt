@@ -8,8 +8,8 @@ ghost use Rattle.pr_num.specs.Kept.{Keeps};
 /// From here on 37 digits are kept.
 const FULL: u128 = 1_000_000_000_000_000_000_000_000_000_000_000_000;
 
-/// The first 37 digits of a number, leading zeros not counted, with what rounding needs to know of the
-/// others. A divisor that is a power of ten is even, so these can only break a tie.
+/// The first 37 digits of a number, leading zeros not counted, with what rounding needs to know of
+/// the others. A divisor that is a power of ten is even, so these can only break a tie.
 #[derive(Clone, Copy, Drop)]
 pub(crate) struct Kept {
     /// The digits that are kept, as a number.

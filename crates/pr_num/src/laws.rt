@@ -1,5 +1,5 @@
-//! Laws of the definitions that contracts of this crate cite. A law is a function that does nothing,
-//! and its contract is the theorem.
+//! Laws of the definitions that contracts of this crate cite. A law is a function that does
+//! nothing, and its contract is the theorem.
 ghost use Rattle.std.specs.Prelude.{◌≡◌, ◌≢◌, ◌*◌, ◌<◌, ◌≤◌, ◌∷◌, ◌++◌, ◌↔◌, ℕ, ℤ, List, [], IfSome, codes, true, unsigned_abs};
 ghost use Rattle.std.specs.Cmp.{IsTotalOrder};
 ghost use Rattle.std.specs.Str.{IsAscii, str_eq_ignore_ascii_case};
@@ -41,8 +41,9 @@ pub fn number_texts_have_the_form()
     ensures only { (text : List ℕ) → reads text ≢ Err NumFault.NotNumber → IsNumberText text }
 {}
 
-/// Rounding gives the whole number next to a fraction and the even one of two, and no other number is
-/// so. What is at most, or at least, a whole number in magnitude is rounded to no more, or no less.
+/// Rounding gives the whole number next to a fraction and the even one of two, and no other number
+/// is so. What is at most, or at least, a whole number in magnitude is rounded to no more, or no
+/// less.
 #[tactic(auto, using(crate::proofs::HalfLawZ::half_is, crate::proofs::HalfLawZ::half_only, crate::proofs::HalfLawZ::half_within, crate::proofs::HalfLawZ::half_beyond))]
 pub fn rounding_is_half_to_even()
     ensures nearest { (p q : ℤ) → 0 < unsigned_abs q → IsHalf p q (half p q) }
@@ -53,7 +54,8 @@ pub fn rounding_is_half_to_even()
         m * unsigned_abs q ≤ unsigned_abs p → m ≤ unsigned_abs (half p q) }
 {}
 
-/// The floor of a fraction is the greatest whole number that is not above it, and no other number is so.
+/// The floor of a fraction is the greatest whole number that is not above it, and no other number
+/// is so.
 #[tactic(auto, using(crate::proofs::Floors::floor_is, crate::proofs::Floors::floor_only))]
 pub fn floor_is_next_below()
     ensures floor { (p q : ℤ) → 0 < unsigned_abs q → IsFloor p q (floor_quotient p q) }

@@ -1,10 +1,10 @@
 //! Exact decimals.
 //!
-//! A value is a whole number of units of 10^-9 below 10^29 units in magnitude, or NaN, or an infinity.
-//! Sums and differences are exact. A product, a quotient, a mean, a quantile and a text that is read are
-//! rounded once, half to even. A result of 10^20 or more is refused as `TooWide`. What each call gives is
-//! a definition of `specs/` over whole numbers of any size, and each contract says that the call equals
-//! its definition.
+//! A value is a whole number of units of 10^-9 below 10^29 units in magnitude, or NaN, or an
+//! infinity. Sums and differences are exact. A product, a quotient, a mean, a quantile and a text
+//! that is read are rounded once, half to even. A result of 10^20 or more is refused as `TooWide`.
+//! What each call gives is a definition of `specs/` over whole numbers of any size, and each
+//! contract says that the call equals its definition.
 #![tactic(auto)]
 
 mod arithmetic;
@@ -19,8 +19,6 @@ mod ranks;
 mod round;
 mod scale;
 mod sign;
-#[cfg(test)]
-mod tests;
 mod text;
 mod totals;
 mod value;

@@ -36,11 +36,12 @@ impl Num {
         }
     }
 
-    /// The multiple of `to` next to this value: `floor(self / to + 1/2)` times `to`, exactly. Half way
-    /// between two it is the greater one for a `to` above zero, and the lesser one for a `to` below.
+    /// The multiple of `to` next to this value: `floor(self / to + 1/2)` times `to`, exactly. Half
+    /// way between two it is the greater one for a `to` above zero, and the lesser one for a `to`
+    /// below.
     ///
-    /// Gives NaN where `to` is zero or special; else a special value stays. Answers `TooWide` exactly
-    /// where that multiple is 10^20 or more in magnitude.
+    /// Gives NaN where `to` is zero or special; else a special value stays. Answers `TooWide`
+    /// exactly where that multiple is 10^20 or more in magnitude.
     #[tactic(auto, unfolding(crate::specs::Multiples::rounded_to))]
     pub fn round_to(self, to: Num) -> Result<Num, TooWide>
         ensures { result ≡ rounded_to self to }

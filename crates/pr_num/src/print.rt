@@ -62,7 +62,8 @@ fn put_whole(out: &mut [u8; 40], start: usize, whole: u128) -> usize
     }
 }
 
-/// Puts a number of units of 10^-9: its whole part, and a point with the fraction where that is not 0.
+/// Puts a number of units of 10^-9: its whole part, and a point with the fraction where that is not
+/// 0.
 #[tactic(auto, using(crate::proofs::Printing::rest_later))]
 fn put_magnitude(out: &mut [u8; 40], start: usize, magnitude: u128) -> usize
     requires room { start ≤ 1 }
@@ -80,12 +81,12 @@ fn put_magnitude(out: &mut [u8; 40], start: usize, magnitude: u128) -> usize
     put_fraction(out, after_point, fraction)
 }
 
-/// Writes the printed text of a value to the front of the buffer, and says how many bytes it has. The
-/// bytes after them stay.
+/// Writes the printed text of a value to the front of the buffer, and says how many bytes it has.
+/// The bytes after them stay.
 ///
-/// The text is `-` where the value is negative, the whole part without leading zeros, and, where the
-/// fraction is not 0, a point and up to nine digits without trailing zeros. The others print as `NaN`,
-/// `+Inf` and `-Inf`, as Prometheus prints them.
+/// The text is `-` where the value is negative, the whole part without leading zeros, and, where
+/// the fraction is not 0, a point and up to nine digits without trailing zeros. The others print as
+/// `NaN`, `+Inf` and `-Inf`, as Prometheus prints them.
 #[tactic(auto, unfolding(crate::specs::Shown::shown), using(crate::proofs::Printing::rest_later, crate::proofs::Ascii::finite_ascii, crate::proofs::Ascii::nan_ascii, crate::proofs::Ascii::above_ascii, crate::proofs::Ascii::below_ascii))]
 pub fn write(v: Num, out: &mut [u8; 40]) -> usize
     ensures bound { result ≤ 40 }

@@ -14,9 +14,9 @@ const ONE: u64 = 1_000_000_000;
 /// The quantile `phi` of values that are sorted by `order`.
 ///
 /// The places of the values divide 0 to 1 evenly. Between two places the value lies as far between
-/// their values, rounded half to even at the ninth place. No values and a NaN `phi` give NaN, a `phi`
-/// below 0 gives -Inf and one above 1 gives +Inf (after the Prometheus documentation, "Aggregation
-/// operators"; exact at the ninth place is own choice).
+/// their values, rounded half to even at the ninth place. No values and a NaN `phi` give NaN, a
+/// `phi` below 0 gives -Inf and one above 1 gives +Inf (after the Prometheus documentation,
+/// "Aggregation operators"; exact at the ninth place is own choice).
 #[tactic(auto, unfolding(crate::specs::Quantile::quantile_of))]
 pub fn quantile(phi: Num, sorted: &[Num]) -> Num
     requires { IsSorted order_of sorted.now }

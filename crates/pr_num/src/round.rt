@@ -56,8 +56,8 @@ fn rests_added(x: u128, y: u128, divisor: u128) -> (u128, u128)
     if x < gap { (0, x + y) } else { (1, x - gap) }
 }
 
-/// `a * b` as a multiple of the divisor and a rest, where the product may pass 128 bits: by b's bits, the
-/// highest first.
+/// `a * b` as a multiple of the divisor and a rest, where the product may pass 128 bits: by b's
+/// bits, the highest first.
 fn product_by_bits(a: u128, b: u128, divisor: u128) -> (u128, u128)
     requires { a < divisor }
     ensures product { a * b ≡ result.0 * divisor + result.1 }
@@ -105,8 +105,8 @@ fn parts_rounded(whole: u128, part: u128, rest: u128, divisor: u128) -> Option<u
     }
 }
 
-/// `a * b / c`, rounded once, or nothing where that is 2^127 or more: put together from `a / c * b` and
-/// the rest, since the product may pass 128 bits.
+/// `a * b / c`, rounded once, or nothing where that is 2^127 or more: put together from `a / c * b`
+/// and the rest, since the product may pass 128 bits.
 #[tactic(auto, using(crate::proofs::Rounding::scaled_round, crate::proofs::Rounding::scaled_floor, crate::proofs::Rounding::scaled_front))]
 fn half_in_parts(a: u128, b: u128, c: u128) -> Option<u128>
     requires { 0 < c }

@@ -65,8 +65,8 @@ fn shrunk(k: Kept, by: u128) -> u128
     }
 }
 
-/// A number times 10^up over 10^down, rounded half to even, from its first digits, unless that is 10^29
-/// or more. `up` counts the dropped digits too.
+/// A number times 10^up over 10^down, rounded half to even, from its first digits, unless that is
+/// 10^29 or more. `up` counts the dropped digits too.
 fn placed(k: Kept, up: u128, down: u128) -> Option<u128>
     requires { k.front < 10 ^ 37 }
     ensures some { (n p s : ℕ) → Keeps k n → SameShift up down (p + k.dropped) s →
@@ -84,8 +84,8 @@ fn placed(k: Kept, up: u128, down: u128) -> Option<u128>
     }
 }
 
-/// The units of 10^-9 in digits before and after a point with an exponent, rounded half to even, unless
-/// they are 10^29 or more.
+/// The units of 10^-9 in digits before and after a point with an exponent, rounded half to even,
+/// unless they are 10^29 or more.
 pub(crate) fn magnitude_of(
     whole: &[u8],
     fraction: &[u8],

@@ -163,11 +163,11 @@ fn read_unsigned(negative: bool, bytes: &[u8]) -> Result<Num, NumFault>
 
 /// The value of a number text, rounded half to even at the ninth place.
 ///
-/// A number text is an optional sign, digits with an optional point and digits, of which there is one
-/// digit at least, and optionally `e` or `E`, an optional sign and digits. Digits and exponents of any
-/// length are read exactly. The words `inf` and `infinity`, with an optional sign, and `nan`, without
-/// one, are read in any case (after the Prometheus documentation, "Querying basics"; nine places and
-/// the width are own choice).
+/// A number text is an optional sign, digits with an optional point and digits, of which there is
+/// one digit at least, and optionally `e` or `E`, an optional sign and digits. Digits and exponents
+/// of any length are read exactly. The words `inf` and `infinity`, with an optional sign, and
+/// `nan`, without one, are read in any case (after the Prometheus documentation, "Querying basics";
+/// nine places and the width are own choice).
 #[tactic(auto, unfolding(crate::specs::Reads::reads))]
 pub fn read(text: &[u8]) -> Result<Num, NumFault>
     ensures { result ≡ reads text.now }

@@ -144,8 +144,8 @@ impl Total {
         }
     }
 
-    /// The mean, rounded once, half to even at the ninth place, and NaN for no values. It is NaN where
-    /// a NaN or both infinities are there, else an infinity that is there.
+    /// The mean, rounded once, half to even at the ninth place, and NaN for no values. It is NaN
+    /// where a NaN or both infinities are there, else an infinity that is there.
     #[tactic(auto, unfolding(crate::specs::Total::mean_of))]
     pub fn mean(self) -> Num
         ensures { result ≡ mean_of self }

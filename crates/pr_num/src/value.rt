@@ -71,7 +71,8 @@ pub enum Num {
     NegInf,
 }
 
-/// The answer of an operation whose result, rounded to nine places, has a magnitude of 10^20 or more.
+/// The answer of an operation whose result, rounded to nine places, has a magnitude of 10^20 or
+/// more.
 #[derive(Clone, Copy, Debug, Drop, PartialEq, Eq)]
 pub struct TooWide;
 

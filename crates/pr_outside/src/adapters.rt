@@ -12,8 +12,8 @@ use std::marker::Model;
 #[cfg(test)]
 mod tests;
 
-/// A source over a reader. It tells what is left where the reader does, and counts each `Err` of the reader,
-/// up to 2^64 - 1. Contracts see the reader and the count.
+/// A source over a reader. It tells what is left where the reader does, and counts each `Err` of
+/// the reader, up to 2^64 - 1. Contracts see the reader and the count.
 #[derive(Drop)]
 pub struct StdSource<R: Read> {
     reader: R,
@@ -58,9 +58,9 @@ impl<R: Read> Source for StdSource<R> {
     }
 }
 
-/// A sink over a writer. It tells what was taken where the writer does, and counts each `Err` of the writer,
-/// and each write of nothing from a piece that is not empty, up to 2^64 - 1. Contracts see the writer and
-/// the count.
+/// A sink over a writer. It tells what was taken where the writer does, and counts each `Err` of
+/// the writer, and each write of nothing from a piece that is not empty, up to 2^64 - 1. Contracts
+/// see the writer and the count.
 #[derive(Drop)]
 pub struct StdSink<W: Write> {
     writer: W,

@@ -11,8 +11,9 @@ use std::{io, rt};
 #[cfg(test)]
 mod tests;
 
-/// The files of the disk, by their paths. A path that leads nowhere is missing; a folder, a file that may not be read, and
-/// each other refusal of the system is a fault, which is counted up to 2^64 - 1. No content is told.
+/// The files of the disk, by their paths. A path that leads nowhere is missing; a folder, a file
+/// that may not be read, and each other refusal of the system is a fault, which is counted up to
+/// 2^64 - 1. No content is told.
 ///
 /// A file above the limit is not read further than the limit and a byte. (Own choice.)
 #[derive(Drop)]

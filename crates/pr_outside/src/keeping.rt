@@ -47,8 +47,8 @@ pub trait Keeper {
     /// How often a call was refused, at most 2^64 - 1.
     ghost faults: { Self → ℕ };
 
-    /// Opens the store of this path; the empty path is a store in memory. A refused call leaves the rows
-    /// as they were, or untold.
+    /// Opens the store of this path; the empty path is a store in memory. A refused call leaves the
+    /// rows as they were, or untold.
     fn start(&mut self, path: &str) -> Result<(), KeepError>
         ensures ok { OnOk result (KeepsRows (rows self.old) (rows self.new)) }
         ensures err { OnErr result (MayForget (rows self.old) (rows self.new)) }
@@ -59,7 +59,8 @@ pub trait Keeper {
         ensures count { result ≡ count self.now }
         ensures rows { IfSome (rows self.now) (λ rows. result ≡ length rows) };
 
-    /// Appends all the rows. A refused call appends none; one that failed may leave the rows untold.
+    /// Appends all the rows. A refused call appends none; one that failed may leave the rows
+    /// untold.
     fn commit(&mut self, added: &[Row]) -> Result<(), KeepError>
         ensures ok { OnOk result (AppendsRows (rows self.old) (rows self.new) added.now) }
         ensures ok_count { OnOk result (count self.new ≡ count self.old + length added.now) }

@@ -1,9 +1,10 @@
-//! What the program reads and writes: four traits with a meaning and a count of faults, forms of them in
-//! memory, and the real streams.
+//! What the program reads and writes: four traits with a meaning and a count of faults, forms of
+//! them in memory, and the real streams.
 #![tactic(auto)]
 
 mod adapters;
 mod disk;
+pub mod examples;
 mod files;
 mod keeping;
 mod memory;

@@ -19,8 +19,9 @@ use std::marker::Model;
 #[cfg(test)]
 mod tests;
 
-/// A source of bytes in memory, some of whose reads fail. Contracts see the bytes that are left, and the
-/// schedule: the numbers of the calls that are to fail, and the counts of calls and of faults.
+/// A source of bytes in memory, some of whose reads fail. Contracts see the bytes that are left,
+/// and the schedule: the numbers of the calls that are to fail, and the counts of calls and of
+/// faults.
 #[derive(Debug, Drop)]
 pub struct MemSource {
     inner: SureSource,
@@ -71,8 +72,8 @@ impl Source for MemSource {
     }
 }
 
-/// A sink of bytes in memory, some of whose writes fail. Contracts see the bytes that it took, and the
-/// schedule, as with `MemSource`.
+/// A sink of bytes in memory, some of whose writes fail. Contracts see the bytes that it took, and
+/// the schedule, as with `MemSource`.
 #[derive(Debug, Drop)]
 pub struct MemSink {
     inner: SureSink,
@@ -128,8 +129,8 @@ impl Sink for MemSink {
     }
 }
 
-/// Files in memory, some of whose loads fail. Of two of one name the first counts. Contracts see the names
-/// and the bytes of the files, and the schedule, as with `MemSource`.
+/// Files in memory, some of whose loads fail. Of two of one name the first counts. Contracts see
+/// the names and the bytes of the files, and the schedule, as with `MemSource`.
 #[derive(Debug, Drop)]
 pub struct MemFiles {
     inner: SureFiles,
@@ -177,8 +178,8 @@ impl Files for MemFiles {
     }
 }
 
-/// Rows in memory, some of whose commits fail. Contracts see the rows in order, and the schedule, as with
-/// `MemSource`.
+/// Rows in memory, some of whose commits fail. Contracts see the rows in order, and the schedule,
+/// as with `MemSource`.
 #[derive(Debug, Drop)]
 pub struct MemKeeper {
     inner: SureKeeper,

@@ -38,8 +38,8 @@ pub trait Source {
     /// How often a call was refused, at most 2^64 - 1.
     ghost faults: { Self → ℕ };
 
-    /// Moves bytes into the front of the buffer, and says how many. None into a buffer that has room is
-    /// the end. A refused call takes none.
+    /// Moves bytes into the front of the buffer, and says how many. None into a buffer that has
+    /// room is the end. A refused call takes none.
     fn read(&mut self, buf: &mut [u8]) -> Result<usize, Failed>
         ensures bound { ReadsAtMost result buf.new }
         ensures bytes { ReadConsumes (left self.old) (left self.new) result buf.new }
@@ -54,8 +54,8 @@ pub trait Sink {
     /// How often a call was refused, at most 2^64 - 1.
     ghost faults: { Self → ℕ };
 
-    /// Takes bytes from the front of a piece, and says how many: at least one of a piece that is not
-    /// empty. A refused call takes none.
+    /// Takes bytes from the front of a piece, and says how many: at least one of a piece that is
+    /// not empty. A refused call takes none.
     fn write(&mut self, bytes: &[u8]) -> Result<usize, SinkError>
         ensures bound { WritesAtMost result bytes.now }
         ensures some { IfOk result (λ n. 0 < length bytes.now → 0 < n) }

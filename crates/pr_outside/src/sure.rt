@@ -72,7 +72,8 @@ impl Source for SureSource {
     }
 }
 
-/// A sink of bytes in memory that fails only for want of memory. Contracts see the bytes that it took.
+/// A sink of bytes in memory that fails only for want of memory. Contracts see the bytes that it
+/// took.
 #[derive(Debug, Drop)]
 pub struct SureSink {
     taken: Vec<u8>,
@@ -123,8 +124,8 @@ impl Sink for SureSink {
     }
 }
 
-/// Files in memory whose loads fail only for want of memory. Of two of one name the first counts. Contracts
-/// see the names and the bytes of the files.
+/// Files in memory whose loads fail only for want of memory. Of two of one name the first counts.
+/// Contracts see the names and the bytes of the files.
 #[derive(Debug, Drop)]
 pub struct SureFiles {
     content: Vec<HeldFile>,

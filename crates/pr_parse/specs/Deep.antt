@@ -66,8 +66,8 @@ abbrev pub after_kinds : List OpenPart → List Kind → List OpenPart
 after_kinds ps [] = ps
 after_kinds ps (k ∷ ks) = after_kinds (after_kind ps k) ks
 
--- The greatest height of the open parts, from the innermost one outwards. What was closed inside a part stands inside those around it
--- too, so the greatest height that was closed so far goes along.
+-- The greatest height of the open parts, from the innermost one outwards. What was closed inside a
+-- part stands inside those around it too, so the greatest height that was closed so far goes along.
 abbrev pub greatest_from : ℕ → List OpenPart → ℕ
 greatest_from inner [] = 0
 greatest_from inner (p ∷ ps) = max (1 + p.operators + max inner p.closed) (greatest_from (max inner p.closed) ps)
@@ -80,8 +80,8 @@ abbrev pub operators : List OpenPart → ℕ
 operators [] = 0
 operators (p ∷ ps) = p.operators + operators ps
 
--- How deep the text is at one moment: the greatest height, or how many parts are open without the whole text, with the operators of
--- all open parts, where that is more.
+-- How deep the text is at one moment: the greatest height, or how many parts are open without the
+-- whole text, with the operators of all open parts, where that is more.
 abbrev pub depth_now : List OpenPart → ℕ
 depth_now ps = max (greatest_height ps) (length ps - 1 + operators ps)
 

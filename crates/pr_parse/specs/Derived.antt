@@ -50,7 +50,8 @@ pub record HasBadPlace (text : List ℕ) (at : ℕ) (kind : ParseKind) : Type 0 
   pub has : HasTokens text tokens
   pub fault : IsFault (length text) (seen_tokens tokens) at kind
 
--- Why a text is no expression: the first fault of its tokens, else the first bad one of these, or want of memory.
+-- Why a text is no expression: the first fault of its tokens, else the first bad one of these, or
+-- want of memory.
 abbrev pub Refuses : List ℕ → ParseError → Type 0
 Refuses text (Lex at kind) = HasFault text at kind
 Refuses text (Fault at kind) = HasBadPlace text at kind

@@ -1,5 +1,5 @@
--- What a text is as an expression, as a function of it: the law `parsed_is_tree_or_fault` says that it is the tree of the text, or its
--- first fault.
+-- What a text is as an expression, as a function of it: the law `parsed_is_tree_or_fault` says that
+-- it is the tree of the text, or its first fault.
 use Rattle.std.specs.Prelude.{◌≡◌, ℕ, zero, suc, nat_lt, Bool, true, false, Option, Some, None, List, [], ◌∷◌, length, slice_get, if◌then◌else◌}
 use Rattle.pr_forms.specs.Form.{rule}
 use Rattle.pr_forms.specs.Reading.{reading, bad_place}

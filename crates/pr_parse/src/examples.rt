@@ -1,13 +1,16 @@
-//! What the definitions say of the tokens of small texts. An example is a function that does nothing, and its contract is what it
-//! shows: the texts are those of its comments.
+//! What the definitions say of the tokens of small texts. An example is a function that does
+//! nothing, and its contract is what it shows: the texts are those of its comments.
 ghost use Rattle.std.specs.Prelude.{◌≡◌, codes, None, false, [], ◌∷◌};
 ghost use Rattle.pr_lex.specs.declared.token.Sign.TheVariants as signs;
+ghost use Rattle.pr_lex.specs.declared.words.Word.TheVariants.{And};
 ghost use Rattle.pr_ast.specs.declared.names.BinOp.TheVariants as op;
 ghost use Rattle.pr_ast.specs.declared.names.AggOp.TheVariants as agg;
 ghost use Rattle.pr_ast.specs.Tree.{binary, aggregate};
 ghost use Rattle.pr_ast.specs.Examples.{one, grouped};
+ghost use Rattle.pr_grammar.specs.declared.kind.Kind.TheVariants.{Plain, Span, Text, Word, Sign};
 ghost use Rattle.pr_grammar.specs.Seen.{seen_tokens};
 ghost use Rattle.pr_parse.specs.declared.fault.ParseKind.TheVariants as kind;
+ghost use Rattle.pr_parse.specs.Deep.{depth};
 ghost use Rattle.pr_parse.specs.Parsed.{parsed_tokens, gives_tree, gives_fault};
 ghost use Rattle.pr_parse.specs.Examples.{name, lasting, sign, place, metric};
 
@@ -37,4 +40,20 @@ pub fn small_texts_give_so()
     ensures plus_before { parsed_tokens 6 (seen_tokens (sign 0 1 signs.Plus ∷ name 1 2 (codes "a") ∷ sign 3 4 signs.Plus ∷ name 5 6 (codes "b") ∷ [])) ≡ gives_tree (binary (place 0 6) op.Add false None (metric 1 2 (codes "a")) (metric 5 6 (codes "b"))) }
     // `sum(x)by(a)`
     ensures group_after { parsed_tokens 11 (seen_tokens (name 0 3 (codes "sum") ∷ sign 3 4 signs.LeftParen ∷ name 4 5 (codes "x") ∷ sign 5 6 signs.RightParen ∷ name 6 8 (codes "by") ∷ sign 8 9 signs.LeftParen ∷ name 9 10 (codes "a") ∷ sign 10 11 signs.RightParen ∷ [])) ≡ gives_tree (aggregate (place 0 11) agg.Sum (grouped (codes "a" ∷ [])) (one (metric 4 5 (codes "x")))) }
+{}
+
+/// How deep small texts are.
+pub fn small_texts_are_so_deep()
+    // `x`
+    ensures one_name { depth (Plain ∷ []) ≡ 1 }
+    // `x and -y`
+    ensures operators { depth (Plain ∷ Word And ∷ Sign signs.Minus ∷ Plain ∷ []) ≡ 3 }
+    // `x[5m:]`
+    ensures colon { depth (Plain ∷ Sign signs.LeftBracket ∷ Span ∷ Sign signs.Colon ∷ Sign signs.RightBracket ∷ []) ≡ 2 }
+    // `{a!="b"}`
+    ensures braces { depth (Sign signs.LeftBrace ∷ Plain ∷ Sign signs.NotEqual ∷ Text ∷ Sign signs.RightBrace ∷ []) ≡ 2 }
+    // `-(-(`
+    ensures open { depth (Sign signs.Minus ∷ Sign signs.LeftParen ∷ Sign signs.Minus ∷ Sign signs.LeftParen ∷ []) ≡ 4 }
+    // `x, y`
+    ensures outside { depth (Plain ∷ Sign signs.Comma ∷ Plain ∷ []) ≡ 1 }
 {}

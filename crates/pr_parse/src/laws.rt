@@ -8,8 +8,8 @@ ghost use Rattle.pr_parse.specs.declared.fault.ParseKind.{ParseKind};
 ghost use Rattle.pr_parse.specs.Derived.{IsExpression, HasBadPlace};
 ghost use Rattle.pr_parse.specs.Parsed.{parsed, gives_tree, gives_lex_fault, gives_fault};
 
-/// A text gives its tree, where it is an expression; else the first fault of its tokens, or their first bad place. So it has one tree
-/// at most, one fault at most, and never both.
+/// A text gives its tree, where it is an expression; else the first fault of its tokens, or their
+/// first bad place. So it has one tree at most, one fault at most, and never both.
 pub fn parsed_is_tree_or_fault()
     ensures tree { (text : List ℕ) (tree : Tree) → (parsed text ≡ gives_tree tree) ↔ IsExpression text tree }
     ensures lex { (text : List ℕ) (at : ℕ) (kind : LexKind) → (parsed text ≡ gives_lex_fault at kind) ↔ HasFault text at kind }

@@ -11,8 +11,6 @@ mod parser;
 mod parsing;
 mod selection;
 mod suffix;
-#[cfg(test)]
-mod tests;
 mod whole;
 
 pub use fault::{ParseError, ParseKind};

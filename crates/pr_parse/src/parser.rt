@@ -256,7 +256,8 @@ fn aggregation_at(
     }
 }
 
-/// The arguments of an aggregation in parentheses, with the place of the last one, and what follows them.
+/// The arguments of an aggregation in parentheses, with the place of the closing parenthesis, and
+/// what follows them.
 #[cycle(parser)]
 #[tactic(auto, using(pr_forms::proofs::Ways::ways))]
 fn parameters_at(

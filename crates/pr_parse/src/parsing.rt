@@ -86,7 +86,8 @@ fn first_bad_place(alloc: Global, tokens: &[Lexed]) -> Option<usize>
     end_of(tokens.len(), &outcome)
 }
 
-/// The fault of tokens of which one makes the text too deep: those up to it are parsed, so that an earlier bad one comes first.
+/// The fault of tokens of which one makes the text too deep: those up to it are parsed, so that an
+/// earlier bad one comes first.
 fn deep_fault(alloc: Global, end: usize, tokens: &[Lexed], deep: usize) -> ParseError
     requires { IsTooDeep (kinds_seen (seen tokens.now)) deep }
     ensures { RefusesSeen end (seen tokens.now) result }
@@ -130,8 +131,8 @@ fn read_text(alloc: Global, text: &str) -> Result<Expr, ParseError>
 /// The tree of an expression of the query language. (Prometheus: Querying, Basics and Operators.)
 ///
 /// # Errors
-/// The first fault of the tokens; else the first token with which no expression can go on, or that makes the text more than 100
-/// deep; else the end of the text.
+/// The first fault of the tokens; else the first token with which no expression can go on, or that
+/// makes the text more than 100 deep; else the end of the text. Also want of memory.
 pub fn parse(alloc: Global, text: &str) -> Result<Expr, ParseError>
     // What is answered is what the text gives, unless memory runs out.
     ensures parsed { MatchResult result (λ e. parsed text.now ≡ gives_tree (tree_of e)) (IsFaultOf (parsed text.now)) }

@@ -34,7 +34,8 @@ pub(crate) fn literal_in(
     }
 }
 
-/// The matchers that follow a metric's name, where there are any, with their place, and what follows them.
+/// The matchers that follow a metric's name, where there are any, with their place, and what
+/// follows them.
 #[tactic(auto, using(pr_forms::proofs::Ways::ways))]
 fn braced_in(
     alloc: Global,

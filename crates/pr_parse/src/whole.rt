@@ -16,8 +16,8 @@ use std::alloc::Global;
 /// Why tokens have no tree.
 #[derive(Clone, Copy, PartialEq, Eq, Debug)]
 pub(crate) enum TreeFault {
-    /// The tokens before this index can go on, and with the one there they cannot. The number of tokens, where they end too
-    /// early.
+    /// The tokens before this index can go on, and with the one there they cannot. The number of
+    /// tokens, where they end too early.
     Bad { index: usize },
     Memory,
 }

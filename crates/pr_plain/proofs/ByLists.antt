@@ -1,4 +1,5 @@
--- What holds of the readings of the rules of a grammar, with the tokens before and after, shown one production at a time.
+-- What holds of the readings of the rules of a grammar, with the tokens before and after, shown one
+-- production at a time.
 use Rattle.std.proofs.Common.{◌≡◌, List, ◌∷◌, Option, Some, Bool}
 use Rattle.pr_forms.specs.Form.{Form, token, nothing, pair, either, turns, fold, chosen, rule, Reads, is_token, is_nothing, is_pair, is_left, is_right, is_stop, is_turn, is_fold, is_chosen, is_rule}
 

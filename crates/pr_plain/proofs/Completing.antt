@@ -1,5 +1,5 @@
--- Where every rule of a grammar reads something, a beginning is what can go on to a whole text. So grammars that read the same begin
--- the same.
+-- Where every rule of a grammar reads something, a beginning is what can go on to a whole text. So
+-- grammars that read the same begin the same.
 use Rattle.std.proofs.Common.{◌≡◌, Option, Some, List, [], ◌∷◌, ◌++◌, refl, ap, sym, ◌∙◌, subst, append_assoc}
 use Rattle.pr_forms.specs.Form.{Form, token, nothing, pair, either, turns, fold, chosen, rule, Reads, is_token, is_nothing, is_pair, is_left, is_right, is_stop, is_turn, is_fold, is_rule}
 use Rattle.pr_forms.specs.Form.{Begins, at_start, at_whole, in_first, in_second, in_left, in_right, in_turn, after_turn, in_base, after_base, in_chosen, in_rule}
@@ -152,7 +152,8 @@ module _ {T N V : Type 0} (G : N → Form T N V) where
     completed (in_chosen e b) h = absurd h
     completed (in_rule {n = n} b) h = of_rule (completed b (alive n))
 
-    -- What the form reads another form of another grammar reads too: so it begins what the form begins.
+    -- What the form reads another form of another grammar reads too: so it begins what the form
+    -- begins.
     pub begins_too : {M W : Type 0} (K : M → Form T M W) (f : Form T N V) (g : Form T M W) → Alive f → ((ts : List T) (v : V) → Reads G f ts v [] → (w : W) × Reads K g ts w []) → (ts rest : List T) → Begins G f ts rest → Begins K g ts rest
     begins_too K f g h same ts rest b =
         let c = completed b h in

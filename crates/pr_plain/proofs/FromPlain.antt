@@ -21,9 +21,10 @@ use Rattle.pr_grammar.specs.declared.kind.Before.TheVariants.{Selector as Select
 use Rattle.pr_grammar.specs.Seen.{Seen, lexed, place_of}
 use Rattle.pr_grammar.specs.Grammar as g
 use Rattle.pr_grammar.specs.Grammar.{Value, Rule, F, Suffix, in_range, in_subquery, by_offset, part, at, word, lasting, quoted, operation, operand, turn, matches, sided, included, grouped, signed, names, labels, match_sign, match_text, matchers, braced, bare, suffixes, ranged, stepped, selection, function, arguments, closed, called, aggregator, grouper, grouping, aggregation, production, expression, tighter, sign_at, word_at, operator_at, operator_of, matching_at, matching_of, grouping_at, grouping_of, minus_at, minus_of, side_at, side_of, match_at, match_of, aggregate_at, aggregate_of, function_at, function_of, label_at, is_label, metric_at, is_metric, literal_at, literal_of, text_at, is_text, span_at, is_span, shift_at, is_shift, span_of, text_of, is_sign, is_word, through, applied_to, selector_of, joined, right_side, next_argument, argument, some_arguments, label_list, matcher_list, matcher, group, parameters, applied, aggregated}
+use Rattle.pr_grammar.proofs.TokenValues.{IsAt, is_at, IsOperation, is_operation, IsSigned, is_signed, IsMatches, is_matches, IsGrouper, is_grouper, IsAggregator, is_aggregator, IsQuoted, is_quoted, IsMatchSign, is_match_sign}
 use Rattle.pr_plain.specs.Plain.{PlainRule, Expr, And, Cmp, Sum, Prod, Unary, Mods, BareMods, Labels, Postfix, Selector, Primary, Group, Braces, M, Meaning, given, absent, keyed, mods, PF, tok, sg, lift, optional, second, side_named, names_listed, matched_by, modified_by, right_operand, one_more_name, one_more_matcher, name_at, selector_named, selector_alone, matcher_made, call_made, one_after_another, below, side_after, right_sides, operations, names_part, matchers_part, range_part, offset_part, brackets_part, or_none, subquery_part, arguments_part, parameters_part, plain}
 use Rattle.pr_plain.proofs.ByLists.{Holds, by_token, by_nothing, by_pair, by_left, by_right, by_stop, by_turn, by_fold, by_rule, by_lists}
-use Rattle.pr_plain.proofs.ToPlain.{IsAt, is_at, IsWord, is_a_word, IsFunction, is_function, IsOperation, is_operation, IsSigned, is_signed, IsMatches, is_matches, IsSided, is_sided, IsGrouper, is_grouper, IsAggregator, is_aggregator, IsLasting, is_lasting, IsQuoted, is_quoted, IsMatchSign, is_match_sign, IsLiteral, is_literal, sign_shape, word_shape, label_shape, function_shape, operator_shape, minus_shape, matching_shape, side_shape, grouping_shape, aggregate_shape, span_shape, shift_shape, text_shape, match_shape, literal_shape}
+use Rattle.pr_plain.proofs.ToPlain.{IsWord, is_a_word, IsFunction, is_function, IsSided, is_sided, IsLasting, is_lasting, IsLiteral, is_literal, sign_shape, word_shape, label_shape, function_shape, operator_shape, minus_shape, matching_shape, side_shape, grouping_shape, aggregate_shape, span_shape, shift_shape, text_shape, match_shape, literal_shape, next_name, next_matcher}
 
 -- readings of the split grammar
 abbrev RG : F → List Seen → Value → List Seen → Type 0
@@ -179,8 +180,6 @@ no_mods : {ts : List Seen} → AreMods true ts (mods false None) ts
 no_mods = are_mods (λ l p t rest h. is_rule (is_right (is_rule (is_right (is_pair is_nothing h)))))
 
 -- names
-abbrev next_name : PF
-next_name = pair second (sg Comma) (tok (label_at false))
 
 record EndsNames (ms : List (List ℕ)) (ts : List Seen) (m : Meaning) (mid : List Seen) : Type 0 where
   ns : List (List ℕ)
@@ -221,8 +220,6 @@ labels_made : {u v w : Meaning} {ts a b rest : List Seen} → IsTok IsAt (sign_a
 labels_made (is_tok is_at i) (are_names j) (is_tok is_at k) = is_labels (is_pair i (is_pair j k))
 
 -- matchers
-abbrev next_matcher : Bool → PF
-next_matcher named = pair second (sg Comma) (rule (M named))
 
 record EndsMatchers (named : Bool) (ms : List MatchText) (ts : List Seen) (m : Meaning) (mid : List Seen) : Type 0 where
   ns : List MatchText

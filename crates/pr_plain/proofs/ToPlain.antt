@@ -13,9 +13,7 @@ use Rattle.pr_labels.specs.declared.matching.Card.{Card}
 use Rattle.pr_labels.specs.declared.matching.Card.TheVariants.{OneToOne}
 use Rattle.pr_ast.specs.declared.place.Place.{Place}
 use Rattle.pr_ast.specs.declared.selector.MatchText.{MatchText}
-use Rattle.pr_ast.specs.declared.selector.MatchSign.{MatchSign}
 use Rattle.pr_ast.specs.declared.names.Func.{Func}
-use Rattle.pr_ast.specs.declared.names.AggOp.{AggOp}
 use Rattle.pr_ast.specs.declared.names.BinOp.{BinOp}
 use Rattle.pr_ast.specs.Tree.{Tree, select, sub, call, aggregate, none, more}
 use Rattle.pr_grammar.specs.declared.kind.Kind.{Kind}
@@ -26,6 +24,7 @@ use Rattle.pr_grammar.specs.declared.kind.Before.TheVariants.{Selector as Select
 use Rattle.pr_grammar.specs.Seen.{Seen, lexed, place_of}
 use Rattle.pr_grammar.specs.Grammar as g
 use Rattle.pr_grammar.specs.Grammar.{Value, Rule, F, Suffix, in_range, in_subquery, by_offset, part, at, word, lasting, quoted, operation, operand, turn, matches, sided, included, grouped, signed, names, labels, match_sign, match_text, matchers, braced, bare, suffixes, ranged, stepped, selection, function, arguments, closed, called, aggregator, grouper, grouping, aggregation, production, expression, tighter, sign_at, word_at, operator_at, operator_of, matching_at, matching_of, grouping_at, grouping_of, minus_at, minus_of, side_at, side_of, match_at, match_of, aggregate_at, aggregate_of, function_at, function_of, label_at, is_label, metric_at, is_metric, literal_at, literal_of, text_at, is_text, span_at, is_span, shift_at, is_shift, span_of, text_of, is_sign, is_word, through, applied_to, selector_of, joined, right_side, next_argument, argument, some_arguments, label_list, matcher_list, matcher, group, parameters, applied, aggregated}
+use Rattle.pr_grammar.proofs.TokenValues.{IsAt, is_at, IsOperation, is_operation, IsSigned, is_signed, IsMatches, is_matches, IsGrouper, is_grouper, IsAggregator, is_aggregator, IsQuoted, is_quoted, IsMatchSign, is_match_sign}
 use Rattle.pr_plain.specs.Plain.{Expr, Unary, Mods, BareMods, Labels, Postfix, Selector, Primary, Group, Braces, M, Meaning, given, absent, side, keyed, mods, PF, tok, sg, wd, lift, optional, second, side_named, names_listed, matched_by, one_more_name, one_more_matcher, name_at, rule_of, below, right_sides, operations, names_part, matchers_part, no_suffixes, range_part, offset_part, closing_part, subquery_part, after_selector, arguments_part, parameters_part, plain}
 use Rattle.pr_plain.proofs.ByLists.{Holds, by_token, by_nothing, by_pair, by_left, by_right, by_stop, by_turn, by_fold, by_rule, by_lists}
 
@@ -66,7 +65,7 @@ data IsIncluded (l : Level) : List Seen → Value → List Seen → Type 0 where
   included_none : {ts rest : List Seen} {p : Place} {t : Tree} → RV (rule (below l false)) ts (part p t) rest → IsIncluded l ts (included [] p t) rest
 
 -- names after a name: commas with names, and maybe a last comma
-abbrev next_name : PF
+abbrev pub next_name : PF
 next_name = pair second (sg Comma) (tok (label_at false))
 
 record MoreNames (ns : List (List ℕ)) (ts rest : List Seen) (ms : List (List ℕ)) : Type 0 where
@@ -83,7 +82,7 @@ data IsNames : List Seen → Value → List Seen → Type 0 where
   some_names : {ts mid rest : List Seen} {p : Place} {n : List ℕ} {ns : List (List ℕ)} → RV (tok (label_at false)) ts (word p n) mid → ((ms : List (List ℕ)) → MoreNames ns mid rest ms) → IsNames ts (names (n ∷ ns)) rest
 
 -- the same of matchers
-abbrev next_matcher : Bool → PF
+abbrev pub next_matcher : Bool → PF
 next_matcher named = pair second (sg Comma) (rule (M named))
 
 record MoreMatchers (named : Bool) (ns : List MatchText) (ts rest : List Seen) (ms : List MatchText) : Type 0 where
@@ -229,41 +228,17 @@ from_map : {A : Type 0} (P : Value → Type 0) (f : A → Value) (o : Option A) 
 from_map P f (Some a) w h e = let same : f a ≡ w = cc in subst P same (h a)
 from_map P f None w h e = absurd (cc)
 
-pub data IsAt : Value → Type 0 where
-  is_at : {p : Place} → IsAt (at p)
-
 pub data IsWord : Value → Type 0 where
   is_a_word : {p : Place} {n : List ℕ} → IsWord (word p n)
 
 pub data IsFunction : Value → Type 0 where
   is_function : {f : Func} {p : Place} {n : List ℕ} → IsFunction (function f p n)
 
-pub data IsOperation : Value → Type 0 where
-  is_operation : {o : BinOp} → IsOperation (operation o)
-
-pub data IsSigned : Value → Type 0 where
-  is_signed : {b : Bool} {p : Place} → IsSigned (signed b p)
-
-pub data IsMatches : Value → Type 0 where
-  is_matches : {b : Bool} → IsMatches (matches b)
-
 pub data IsSided : Value → Type 0 where
   is_sided : {card : Card} → IsSided (sided card)
 
-pub data IsGrouper : Value → Type 0 where
-  is_grouper : {b : Bool} → IsGrouper (grouper b)
-
-pub data IsAggregator : Value → Type 0 where
-  is_aggregator : {o : AggOp} {p : Place} → IsAggregator (aggregator o p)
-
 pub data IsLasting : Value → Type 0 where
   is_lasting : {p : Place} {d : ℕ} → IsLasting (lasting p d)
-
-pub data IsQuoted : Value → Type 0 where
-  is_quoted : {t : List ℕ} → IsQuoted (quoted t)
-
-pub data IsMatchSign : Value → Type 0 where
-  is_match_sign : {s : MatchSign} → IsMatchSign (match_sign s)
 
 pub data IsLiteral : Value → Type 0 where
   is_literal : {p : Place} {t : Tree} → IsLiteral (part p t)

@@ -1,5 +1,5 @@
--- The grammar of the query language as a person reads it. `pr_grammar` has it split, so that one token ahead decides it; a law says
--- that both read the same.
+-- The grammar of the query language as a person reads it. `pr_grammar` has it split, so that one
+-- token ahead decides it; a law says that both read the same.
 use Rattle.std.specs.Prelude.{ℕ, ◌||◌, Bool, true, false, Option, Some, None, is_some, List, [], ◌∷◌, ◌++◌, option_map, if◌then◌else◌}
 use Rattle.pr_forms.specs.Form.{Form, token, nothing, pair, either, fold, rule, Reads}
 use Rattle.pr_lex.specs.declared.token.Sign.{Sign}
@@ -17,8 +17,8 @@ use Rattle.pr_grammar.specs.declared.kind.Level.TheVariants as level
 use Rattle.pr_grammar.specs.Seen.{Seen, lexed, place_of}
 use Rattle.pr_grammar.specs.Grammar.{Value, part, word, operand, matches, sided, names, labels, match_text, matchers, braced, bare, suffixes, function, arguments, closed, mark, sign_at, word_at, operator_at, matching_at, grouping_at, minus_at, side_at, match_at, aggregate_at, function_at, function_of, label_at, is_metric, literal_at, text_at, span_at, shift_at, text_of, through, selector_of, joined, turned, signed_by, opened_by, closed_by, names_closed, match_of_text, matchers_closed, matchers_opened, applied, shifted, bracketed, range_closed, step_closed, with_step, argument, arguments_closed, grouping_made, grouped_before, grouped_after, aggregated, parameter}
 
--- The rules. A flag of the levels says whether a parenthesis may come first; that of braces and matchers whether a metric's name
--- stands before.
+-- The rules. A flag of the levels says whether a parenthesis may come first; that of braces and
+-- matchers whether a metric's name stands before.
 pub data PlainRule : Type 0 where
   Expr : Bool → PlainRule
   And : Bool → PlainRule
@@ -41,7 +41,8 @@ pub data Meaning : Type 0 where
   given : Value → Meaning
   -- that an optional part is not there
   absent : Meaning
-  -- which side has many elements, with the names that are included; the names that are matched, with that
+  -- which side has many elements, with the names that are included; the names that are matched,
+  -- with that
   side : Card → List (List ℕ) → Meaning
   listed : List (List ℕ) → Card → List (List ℕ) → Meaning
   -- how names are matched; that, and whether `bool` stands before
@@ -155,7 +156,8 @@ below level.Comparison p = Sum p
 below level.Sum p = Prod p
 below level.Product p = Unary p
 
--- an operator of a level with its right side, which begins with no parenthesis after modifiers that end in a bare word
+-- an operator of a level with its right side, which begins with no parenthesis after modifiers that
+-- end in a bare word
 abbrev pub side_after : Level → PlainRule → Bool → PF
 side_after l m p = pair (lift turned) (tok (operator_at l)) (pair right_operand (rule m) (rule (below l p)))
 
@@ -232,11 +234,11 @@ parenthesized = pair (lift opened_by) (sg LeftParen) (pair (lift closed_by) (rul
 --   selector = name [braces] | braces
 --   primary = number | string | "(" expr ")" | function "(" [ expr { "," expr } ] ")"
 --           | aggregation [group] "(" expr ["," expr] ")" | aggregation "(" expr ["," expr] ")" group
---   group   = ("by" | "without") labels
---   braces  = "{" [ m { "," m } [","] ] "}"
---   m       = label ("=" | "!=" | "=~" | "!~") string
--- So a range stands directly after a selector, and an offset once, after a selector, its range, or a subquery. `mods` may end in a
--- bare `group_left` or `group_right` too (BareMods); then what follows begins with no parenthesis, since that would begin labels.
+--   group   = ("by" | "without") labels braces  = "{" [ m { "," m } [","] ] "}" m       = label
+--   ("=" | "!=" | "=~" | "!~") string So a range stands directly after a selector, and an offset
+--   once, after a selector, its range, or a subquery. `mods` may end in a bare `group_left` or
+--   `group_right` too (BareMods); then what follows begins with no parenthesis, since that would
+--   begin labels.
 abbrev pub plain : PlainRule → PF
 plain (Expr p) = operations level.Or p
 plain (And p) = operations level.And p

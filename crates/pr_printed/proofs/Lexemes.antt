@@ -1,5 +1,5 @@
 -- What the tokens of a text hold.
-use Rattle.std.proofs.Common.{◌≡◌, ℕ, zero, suc, ◌+◌, ◌<◌, ◌≤◌, ◌^◌, Option, Some, None, Bool, true, false, ◌&&◌, ◌||◌, List, [], ◌∷◌, length, take, refl, sym, ◌∙◌, subst, arith}
+use Rattle.std.proofs.Common.{◌≡◌, ℕ, zero, suc, ◌+◌, ◌<◌, ◌≤◌, ◌^◌, Option, Some, None, Bool, true, false, ◌||◌, List, [], ◌∷◌, length, take, refl, sym, ◌∙◌, subst, arith}
 use Rattle.std.specs.Prelude.{◌==◌, codes, if◌then◌else◌, pos, Result, Ok, Err, nat_lt, nat_le, drop}
 use Rattle.std.specs.List.{list_all, prefix_len}
 use Rattle.std.specs.Char.{is_ascii_digit}
@@ -28,6 +28,7 @@ use Rattle.pr_lex.specs.Spelled.{IsNameText, name_text}
 use Rattle.pr_lex.proofs.Spelling.{both_left, both_right}
 use Rattle.pr_grammar.specs.declared.kind.Kind.{Kind}
 use Rattle.pr_grammar.specs.Seen.{Seen, lexed as seen_as, seen_tokens, kind_of}
+use Rattle.pr_grammar.proofs.StepsLaw.{both}
 
 -- A number has no sign and is a finite one.
 pub record IsDigits (v : Num) : Type 0 where
@@ -57,9 +58,6 @@ out_of_brackets false b h = h
 
 any_name_byte : (b : ℕ) → is_of (name_class true) b ≡ true → is_of (name_class false) b ≡ true
 any_name_byte b h = grind (arith, nat_tests)
-
-both : (a b : Bool) → a ≡ true → b ≡ true → a && b ≡ true
-both a b h k = rw (h, k) refl
 
 any_name_bytes : (inside : Bool) (bs : List ℕ) → list_all (is_of (name_class inside)) bs ≡ true → list_all (is_of (name_class false)) bs ≡ true
 any_name_bytes false bs h = h

@@ -23,7 +23,6 @@ use Rattle.pr_labels.specs.declared.matching.Card.{Card}
 use Rattle.pr_labels.specs.declared.matching.Card.TheVariants.{ManyToOne, OneToMany}
 use Rattle.pr_ast.specs.declared.place.Place.{Place}
 use Rattle.pr_ast.specs.declared.selector.MatchText.{MatchText}
-use Rattle.pr_ast.specs.declared.selector.MatchSign.{MatchSign}
 use Rattle.pr_ast.specs.declared.names.Func.{Func}
 use Rattle.pr_ast.specs.declared.names.AggOp.{AggOp}
 use Rattle.pr_ast.specs.declared.names.BinOp.{BinOp}
@@ -37,6 +36,7 @@ use Rattle.pr_grammar.specs.declared.kind.Before.TheVariants.{Selector as Select
 use Rattle.pr_grammar.specs.Seen.{Seen, lexed, seen_tokens, kind_of, name_kind, word_kind, function_kind, has_colon, place_of}
 use Rattle.pr_grammar.specs.Whole.{Derives}
 use Rattle.pr_grammar.specs.Grammar.{production, Rule, F, Value, Suffix, in_range, in_subquery, by_offset, part, at, word, lasting, quoted, operation, operand, turn, matches, sided, included, grouped, signed, names, labels, match_sign, matchers, braced, bare, suffixes, ranged, stepped, selection, function, arguments, closed, called, aggregator, grouper, grouping, aggregation, through, range_made, offset_set, applied_to, selector_of, Binary, Modified, Matched, Grouped, Included, Unary, Postfix, Operand, Labels, MoreLabels, Matchers, MoreMatchers, Braced, Selection, Tail, Arguments, Aggregation, Parameters, After, InSelector, SelectorSpan, InOther, Step, Closing, Shift, sign_at, word_at, is_sign, is_word, operator_at, operator_of, matching_at, matching_of, grouping_at, grouping_of, minus_at, minus_of, side_at, side_of, match_at, match_of, aggregate_at, aggregate_of, function_at, function_of, is_label, label_at, is_metric, metric_at, literal_of, literal_at, is_text, text_at, is_span, is_shift, span_at, shift_at, span_of, text_of, number_of, joined, right_side, argument, next_argument, label_list, matcher_list, group, parameters, named, second_of, names_closed, turned, with_bool, unmatched, matched, named_by, ungrouped, grouped_by, including, including_none, signed_by, opened_by, closed_by, name_first, match_of_text, match_before, match_first, matchers_closed, matchers_opened, applied, shifted, bracketed, range_closed, step_closed, with_step, selecting, unnamed, function_called, arguments_closed, arguments_followed, grouping_made, grouped_before, grouped_after, aggregated, parameter, tighter}
+use Rattle.pr_grammar.proofs.TokenValues.{IsAt, is_at, IsOperation, is_operation, IsSigned, is_signed, IsMatches, is_matches, IsGrouper, is_grouper, IsAggregator, is_aggregator, IsQuoted, is_quoted, IsMatchSign, is_match_sign}
 use Rattle.pr_printed.proofs.Readable.{IsLabel, IsMetric, metric_name, function_name, AllLabels, AllMatchers, IsOffset, IsSpan, IsStep, IsSide, IsMatching, IsUnsigned, IsReadable, a_number, a_text, a_select, a_range, a_sub, a_neg, a_binary, a_call, an_aggregate, a_parameter, no_args, more_args}
 use Rattle.pr_printed.proofs.Lexemes.{IsHeld, IsOwn, IsProper, IsDigits, tokens_are_proper}
 
@@ -59,9 +59,6 @@ data AreGiven : Tree → Type 0 where
 data IsPart : Value → Type 0 where
   is_part : {p : Place} {t : Tree} → IsReadable true t → IsPart (part p t)
 
-data IsAt : Value → Type 0 where
-  is_at : {p : Place} → IsAt (at p)
-
 data IsLabelWord (named : Bool) : Value → Type 0 where
   is_label_word : {p : Place} {n : List ℕ} → IsLabel named n → IsLabelWord named (word p n)
 
@@ -77,20 +74,8 @@ data IsLasting : Value → Type 0 where
 data IsShift : Value → Type 0 where
   is_a_shift : {p : Place} {d : ℕ} → IsOffset d → IsShift (lasting p d)
 
-data IsQuoted : Value → Type 0 where
-  is_quoted : {t : List ℕ} → IsQuoted (quoted t)
-
-data IsMatchSign : Value → Type 0 where
-  is_match_sign : {s : MatchSign} → IsMatchSign (match_sign s)
-
-data IsOperation : Value → Type 0 where
-  is_operation : {o : BinOp} → IsOperation (operation o)
-
 data IsOperand : Value → Type 0 where
   is_operand : {b : Bool} {m : Option Matching} {p : Place} {t : Tree} → IsMatching m → IsReadable true t → IsOperand (operand b m p t)
-
-data IsMatches : Value → Type 0 where
-  is_matches : {b : Bool} → IsMatches (matches b)
 
 data IsSided : Value → Type 0 where
   many_left : IsSided (sided ManyToOne)
@@ -101,9 +86,6 @@ data IsIncluded : Value → Type 0 where
 
 data IsGrouped : Value → Type 0 where
   is_grouped : {card : Card} {ns : List (List ℕ)} {p : Place} {t : Tree} → IsSide card ns → IsReadable true t → IsGrouped (grouped card ns p t)
-
-data IsSigned : Value → Type 0 where
-  is_signed : {b : Bool} {p : Place} → IsSigned (signed b p)
 
 data AreNames : Value → Type 0 where
   are_names : {ns : List (List ℕ)} → AllLabels ns → AreNames (names ns)
@@ -143,12 +125,6 @@ data AreArguments : Value → Type 0 where
 
 data AreParameters : Value → Type 0 where
   are_parameters : {ts : Tree} → AreGiven ts → AreParameters (arguments ts)
-
-data IsAggregator : Value → Type 0 where
-  is_aggregator : {o : AggOp} {p : Place} → IsAggregator (aggregator o p)
-
-data IsGrouper : Value → Type 0 where
-  is_grouper : {b : Bool} → IsGrouper (grouper b)
 
 data IsGroup : Value → Type 0 where
   is_group : {g : Grouping} {p : Place} → AllLabels g.names → IsGroup (grouping g p)

@@ -23,7 +23,7 @@ use Rattle.pr_lex.specs.Spelled.{Spells, all_spelled, a_blank, begins_blank, beg
 use Rattle.pr_lex.proofs.Spelling.{name_spelled, sign_spelled, both_left}
 use Rattle.pr_lex.proofs.SpelledTexts.{text_spelled}
 use Rattle.pr_lex.proofs.SpelledNumbers.{printed_spelled, decimal_digits, decimal_some}
-use Rattle.pr_lex.proofs.SpelledSpans.{span_spelled}
+use Rattle.pr_lex.proofs.SpelledSpans.{span_spelled, in_a_row}
 use Rattle.pr_labels.specs.declared.grouping.Grouping.{Grouping}
 use Rattle.pr_labels.specs.declared.matching.Matching.{Matching}
 use Rattle.pr_labels.specs.declared.matching.Card.{Card}
@@ -278,9 +278,6 @@ offset_word = name_text refl refl
 part_first : (n : ℕ) (unit after : List ℕ) → n < 10 ^ 64 → (n ≡ 0 → begins_blank after ≡ false) → (b : Bool) → n == 0 ≡ b → begins_blank (part_text n unit ++ after) ≡ false
 part_first n unit after small again true e = rw e (again (grind (arith, nat_tests)))
 part_first n unit after small again false e = rw e (digits_first (decimal n) unit (decimal_some n small) (decimal_digits n small) after)
-
-in_a_row : (a b c d e r : List ℕ) → a ++ b ++ c ++ d ++ e ++ r ≡ a ++ (b ++ (c ++ (d ++ (e ++ r))))
-in_a_row a b c d e r = simp append_assoc refl
 
 parts_first : (ms : ℕ) (rest : List ℕ) → ms ≤ 2 ^ 40 → 0 < ms → begins_blank (parts_text ms ++ rest) ≡ false
 parts_first ms rest small some =

@@ -1,4 +1,5 @@
-//! What the definitions say of small trees. An example is a function that does nothing, and its contract is what it shows.
+//! What the definitions say of small trees. An example is a function that does nothing, and its
+//! contract is what it shows.
 ghost use Rattle.std.specs.Prelude.{◌≡◌, codes, Some, None, false, true, [], ◌∷◌};
 ghost use Rattle.pr_num.specs.declared.value.Num.TheVariants.{PosInf};
 ghost use Rattle.pr_lex.specs.declared.token.TokenKind.TheVariants.{Name, Duration, Text, Sign};

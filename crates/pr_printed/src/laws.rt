@@ -10,8 +10,8 @@ ghost use Rattle.pr_grammar.specs.Seen.{seen_tokens};
 ghost use Rattle.pr_grammar.specs.Whole.{Derives};
 ghost use Rattle.pr_printed.specs.Kinds.{tree_kinds};
 
-/// The printed text of a tree that was read from a text has tokens, and these are the tokens of the tree. They are read as the same
-/// tree again, but for places.
+/// The printed text of a tree that was read from a text has tokens, and these are the tokens of the
+/// tree. They are read as the same tree again, but for places.
 pub fn printed_trees_are_read_again()
     ensures tokens { (text : List ℕ) (tokens : List Token) (t : Tree) → HasTokens text tokens → Derives (seen_tokens tokens) t →
         (again : List Token) × (HasTokens (tree_text t) again × (kinds again ≡ tree_kinds t [])) }

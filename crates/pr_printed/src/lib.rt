@@ -1,5 +1,5 @@
-//! What is printed is read again: the printed text of a tree has the tokens of the tree, and they are read as the same tree, but for
-//! places.
+//! What is printed is read again: the printed text of a tree has the tokens of the tree, and they
+//! are read as the same tree, but for places.
 #![tactic(auto)]
 
 pub mod examples;

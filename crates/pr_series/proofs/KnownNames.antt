@@ -4,19 +4,13 @@ use Rattle.std.proofs.lemmas.List.{map-append}
 use Rattle.std.proofs.lemmas.List.Folds.{list_any-append}
 use Rattle.std.specs.BTreeSet.{BTreeSet, Updates}
 use Rattle.std.specs.Borrow.{Bor}
-use Rattle.std.specs.Cmp.Lexicographic.{slice_cmp}
-use Rattle.std.specs.Ordering.{nat_cmp}
-use Rattle.std.specs.declared.cmp.Ordering.{Ordering}
 use Rattle.std.specs.Str.{bytes_eq}
 use Rattle.pr_labels.specs.declared.pair.Pair.{Pair}
 use Rattle.pr_labels.specs.Known.{knows}
-use Rattle.pr_labels.proofs.KnownNames.{more_known}
+use Rattle.pr_labels.proofs.KnownNames.{more_known, name_cmp}
 use Rattle.pr_series.specs.declared.series.Part.{Part}
 use Rattle.pr_series.specs.SeriesGrammar.{is_named}
 use Rattle.pr_series.specs.SeriesReader.{names_of, BeginsWith, GoesOn, name_over, name_more, IsPart}
-
-abbrev name_cmp : Bor (List ℕ) → Bor (List ℕ) → Ordering
-name_cmp x y = slice_cmp nat_cmp x.now y.now
 
 or_none : (a b : Bool) → (a || b) ≡ (a || (b || false))
 or_none true b = refl

@@ -1,5 +1,5 @@
 -- Each series text, told by its parts, is read by the grammar.
-use Rattle.std.proofs.Common.{◌≡◌, ℕ, ◌&&◌, List, [], ◌∷◌, ◌++◌, Some, None, Bool, true, false, refl, ap, sym, ◌∙◌, subst}
+use Rattle.std.proofs.Common.{◌≡◌, ℕ, List, [], ◌∷◌, ◌++◌, Some, None, true, false, refl, ap, sym, ◌∙◌, subst}
 use Rattle.std.specs.Prelude.{codes, if◌then◌else◌}
 use Rattle.std.specs.List.{list_all}
 use Rattle.std.proofs.lemmas.Bool.Decides.{nat_tests}
@@ -16,6 +16,7 @@ use Rattle.pr_labels.specs.Edits.{fault_after, first_fault}
 use Rattle.pr_labels.specs.LabelSet.{metric_label, pair_of}
 use Rattle.pr_series.specs.SeriesGrammar.{listed, quoted, mark, same_sign, sign_at, blanks, is_named, ReadsSeries, Braces, Items, Item, After, InString}
 use Rattle.pr_strings.specs.declared.kind.Kind.TheVariants.{Blank}
+use Rattle.pr_labels.proofs.LabelOrder.{both}
 use Rattle.pr_series.specs.SeriesReader.{names_of}
 use Rattle.pr_series.specs.SeriesParts.{AreBlanks, IsPair, AreListed, no_pair, last_pair, one_pair, HasParts, name_alone, list_alone, name_and_list, IsSeriesText}
 use Rattle.pr_series.proofs.SeriesWritten.{Reading, next_of, label_name, metric_reads}
@@ -23,10 +24,6 @@ use Rattle.pr_series.proofs.SeriesWritten.{Reading, next_of, label_name, metric_
 -- a blank is one to the grammar
 blank_kind : (b : ℕ) → is_blank b ≡ same_sign Blank (kind_of b)
 blank_kind b = grind (arith, nat_tests)
-
-both : (a b : Bool) → (a && b) ≡ true → (a ≡ true) × (b ≡ true)
-both true b h = (refl, h)
-both false b h = cc
 
 blank_sign : (b : ℕ) → same_sign Blank (kind_of b) ≡ true → sign_at Blank (letter_of b) ≡ Some mark
 blank_sign b h = ap (λ t. if t then Some mark else None) h

@@ -1,5 +1,5 @@
 -- A printed label set is read as that set.
-use Rattle.std.proofs.Common.{◌≡◌, ℕ, ◌≤◌, ◌&&◌, List, [], ◌∷◌, ◌++◌, Option, Some, None, Bool, true, false, cond, length, refl, ap, sym, ◌∙◌, subst, arith, append_assoc, append-nil}
+use Rattle.std.proofs.Common.{◌≡◌, ℕ, ◌≤◌, List, [], ◌∷◌, ◌++◌, Option, Some, None, Bool, true, false, cond, length, refl, ap, sym, ◌∙◌, subst, arith, append_assoc, append-nil}
 use Rattle.std.specs.Prelude.{codes, flat_map, if◌then◌else◌}
 use Rattle.std.specs.List.{list_all, list_any}
 use Rattle.std.proofs.lemmas.List.{map-append}
@@ -25,6 +25,7 @@ use Rattle.pr_labels.proofs.Making.{named_pair}
 use Rattle.pr_labels.proofs.Permuted.{new_name}
 use Rattle.pr_series.proofs.SeriesNames.{letter_kind, label_kind, among_names}
 use Rattle.pr_labels.proofs.SetValues.{set_again, named_again, faultless, faultless_named}
+use Rattle.pr_labels.proofs.LabelOrder.{both}
 
 -- the letters and the bytes of a metric's name are those of the grammar
 first_kind : (b : ℕ) → is_metric_letter_kind (kind_of b) ≡ byte_names.is_metric_letter b
@@ -38,10 +39,6 @@ Reading f text v rest = Reads production f (seen text) v (seen rest)
 
 short : {f : Form Letter Rule Value} {ts rest : List Letter} {v : Value} → Reads production f ts v rest → length rest ≤ length ts
 short d = suffix_length (reads_suffix d)
-
-both : (a b : Bool) → (a && b) ≡ true → (a ≡ true) × (b ≡ true)
-both true b h = (refl, h)
-both false b h = cc
 
 chosen_by : (test : Bool) (n : Rule) → test ≡ true → (if test then Some n else None) ≡ Some n
 chosen_by test n h = ap (λ t. if t then Some n else None) h

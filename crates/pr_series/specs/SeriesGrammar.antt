@@ -28,7 +28,8 @@ pub data Value : Type 0 where
 pub data Rule : Type 0 where
   -- a series text
   Series : Rule
-  -- a byte of a metric's name, with which the name is this so far, and the rest of the text; and that rest
+  -- a byte of a metric's name, with which the name is this so far, and the rest of the text; and
+  -- that rest
   MetricByte : List ℕ → Rule
   MetricRest : List ℕ → Rule
   -- what may stand after a metric's name
@@ -40,7 +41,8 @@ pub data Rule : Type 0 where
   -- what stands after a brace or a comma, with blanks before it and without them
   Items : List (List ℕ) → Rule
   Item : List (List ℕ) → Rule
-  -- a byte of a label's name, with which the name is this so far, and the rest of the list; and that rest
+  -- a byte of a label's name, with which the name is this so far, and the rest of the list; and
+  -- that rest
   NameByte : List (List ℕ) → List ℕ → Rule
   NameRest : List (List ℕ) → List ℕ → Rule
   -- what stands after a whole name, which may stand before too
@@ -154,14 +156,10 @@ goes_on (letter k b) = is_metric_kind k || is_tail_kind k
 abbrev pub blanks : Form Letter Rule Value
 blanks = turns second_of mark (sign Blank)
 
--- The productions:
---   series        = metric-name tail | braces
---   tail          = blanks braces |
---   braces        = "{" items
---   items         = blanks item
---   item          = "}" | label-name blanks "=" blanks string after
---   after         = blanks ( "," items | "}" )
--- A label's name that stands before cannot be followed by anything. `__name__` stands before where a metric's name does.
+-- The productions: series        = metric-name tail | braces tail          = blanks braces | braces
+-- = "{" items items         = blanks item item          = "}" | label-name blanks "=" blanks string
+-- after after         = blanks ( "," items | "}" ) A label's name that stands before cannot be
+-- followed by anything. `__name__` stands before where a metric's name does.
 abbrev pub production : Rule → Form Letter Rule Value
 production Series = either (chosen metric_start goes_on) (rule (Braces []))
 production (MetricByte name) = pair second_of (token any_at) (rule (MetricRest name))

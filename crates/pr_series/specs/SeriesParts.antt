@@ -12,7 +12,8 @@ use Rattle.pr_labels.specs.Names.{is_label_name, is_metric_name}
 abbrev pub AreBlanks : List ℕ → Type 0
 AreBlanks text = list_all is_blank text ≡ true
 
--- The text before the rest is a pair: a name, an equals sign between blanks, and a string that means the value.
+-- The text before the rest is a pair: a name, an equals sign between blanks, and a string that
+-- means the value.
 pub record IsPair (text : List ℕ) (p : Pair) (rest : List ℕ) : Type 0 where
   pub before : List ℕ
   pub after : List ℕ
@@ -23,8 +24,8 @@ pub record IsPair (text : List ℕ) (p : Pair) (rest : List ℕ) : Type 0 where
   pub blank_after : AreBlanks after
   pub value : IsString quoted p.value rest
 
--- What stands after an opening brace, with the closing one: pairs with commas between, of which the last one may have a
--- comma too, and blanks anywhere between.
+-- What stands after an opening brace, with the closing one: pairs with commas between, of which the
+-- last one may have a comma too, and blanks anywhere between.
 pub data AreListed : List ℕ → List Pair → List ℕ → Type 0 where
   no_pair : (blanks rest : List ℕ) → AreBlanks blanks → AreListed (blanks ++ (codes "}" ++ rest)) [] rest
   last_pair : (blanks text behind rest : List ℕ) (p : Pair) → AreBlanks blanks → IsPair text p (behind ++ (codes "}" ++ rest)) → AreBlanks behind →

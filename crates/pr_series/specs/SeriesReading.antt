@@ -47,7 +47,8 @@ bad_series_place text = bad_place production table steps (rule Series) (seen tex
 unfoldable pub series_labels : List ℕ → Option (List Pair)
 series_labels text = option_map labels_of (series_pairs text)
 
--- The text has no label set, and the fault is at its first bad place. Nothing is said where memory runs out.
+-- The text has no label set, and the fault is at its first bad place. Nothing is said where memory
+-- runs out.
 abbrev pub HasNoLabels : List ℕ → TextFault → Type 0
 HasNoLabels text (BadLabels at) = (series_labels text ≡ None) × (at ≡ bad_series_place text)
 HasNoLabels text Memory = Unit {0}

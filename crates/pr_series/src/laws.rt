@@ -10,14 +10,15 @@ ghost use Rattle.pr_series.specs.SeriesReading.{rank, steps, series_pairs, serie
 ghost use Rattle.pr_labels.specs.SeriesText.{series_text};
 ghost use Rattle.pr_labels.specs.declared.pair.Pair.{Pair};
 
-/// One byte ahead decides the grammar of series texts: so a text is read in one way, and without going back. The grammar
-/// ends: so its reading is a function of the text.
+/// One byte ahead decides the grammar of series texts: so a text is read in one way, and without
+/// going back. The grammar ends: so its reading is a function of the text.
 pub fn one_byte_decides_series_texts()
     ensures decided { IsDecided production table }
     ensures ends { Ends production table rank steps }
 {}
 
-/// What a series text reads as is a function of its bytes, and so are its label set and the first bad place.
+/// What a series text reads as is a function of its bytes, and so are its label set and the first
+/// bad place.
 pub fn reading_of_a_series_text_is_a_function()
     ensures reads { (text : List ℕ) (pairs : List Pair) → series_pairs text ≡ Some pairs → ReadsSeries text pairs }
     ensures given { (text : List ℕ) (pairs : List Pair) → ReadsSeries text pairs → series_pairs text ≡ Some pairs }
@@ -32,12 +33,14 @@ pub fn series_text_reads_as_one_label_set()
     ensures set { (text : List ℕ) (ls : List Pair) → ReadsLabels text ls → IsLabelSet ls }
 {}
 
-/// What a series text reads has label names, each once: so its pairs are faultless, and make a label set.
+/// What a series text reads has label names, each once: so its pairs are faultless, and make a
+/// label set.
 pub fn series_texts_name_labels_once()
     ensures { (text : List ℕ) (pairs : List Pair) → ReadsSeries text pairs → first_fault pairs ≡ None }
 {}
 
-/// What the grammar reads, told without it: a metric's name, pairs in braces, or both, among which no name stands twice.
+/// What the grammar reads, told without it: a metric's name, pairs in braces, or both, among which
+/// no name stands twice.
 pub fn series_text_is_name_and_pairs()
     ensures read { (text : List ℕ) (pairs : List Pair) → IsSeriesText text pairs → ReadsSeries text pairs }
     ensures only { (text : List ℕ) (pairs : List Pair) → ReadsSeries text pairs → IsSeriesText text pairs }

@@ -6,8 +6,6 @@ mod found;
 mod laws;
 mod read;
 mod series;
-#[cfg(test)]
-mod tests;
 
 pub use examples::small_series_texts_read_so;
 pub use laws::{

@@ -8,14 +8,16 @@ use crate::series::{TextFault, read_series_pairs};
 use pr_labels::Labels;
 use std::alloc::Global;
 
-/// The label set of a series text, in which an empty value is no label. A series text is a metric's name, a label list in braces,
-/// or both; a list may end with a comma, and blanks, which are spaces and tabs, stand only between parts. Values are strings in
-/// any of the three quotes. A name stands once, and `__name__` not after a metric's name (the notation of time series in the
-/// Prometheus documentation, "Data model"; values in other quotes, blanks and a last comma as in "Querying basics").
+/// The label set of a series text, in which an empty value is no label. A series text is a metric's
+/// name, a label list in braces, or both; a list may end with a comma, and blanks, which are spaces
+/// and tabs, stand only between parts. Values are strings in any of the three quotes. A name stands
+/// once, and `__name__` not after a metric's name (the notation of time series in the Prometheus
+/// documentation, "Data model"; values in other quotes, blanks and a last comma as in "Querying
+/// basics").
 ///
 /// # Errors
-/// The first byte with which no series text can go on. Where a name stands twice this is the byte after the second one, since
-/// up to there it could still be the front of another name.
+/// The first byte with which no series text can go on. Where a name stands twice this is the byte
+/// after the second one, since up to there it could still be the front of another name.
 #[tactic(auto, using(crate::proofs::SeriesEnds::refused_has_none, crate::proofs::SeriesEnds::labels_given))]
 pub fn read_series_text(alloc: Global, text: &str) -> Result<Labels, TextFault>
     // The labels that are answered are those of the text.

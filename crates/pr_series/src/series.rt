@@ -42,7 +42,8 @@ use std::alloc::{AllocError, Global};
 /// Why a text is no label set.
 #[derive(Clone, Copy, PartialEq, Eq, Debug)]
 pub enum TextFault {
-    /// The text can go on as a series text up to this byte, and not with it. The text's length, where it ends too early.
+    /// The text can go on as a series text up to this byte, and not with it. The text's length,
+    /// where it ends too early.
     BadLabels { at: usize },
     Memory,
 }
@@ -206,7 +207,8 @@ fn value_in(alloc: Global, text: &[u8]) -> Result<(Text, &[u8]), Fault<'_, u8>>
     }
 }
 
-/// The label at the front, whose name is none of those before, with what follows it; none where no name begins.
+/// The label at the front, whose name is none of those before, with what follows it; none where no
+/// name begins.
 fn label_in<'a>(
     alloc: Global,
     before: &Found<'_>,
@@ -249,7 +251,8 @@ fn closed<'a>(pairs: Vec<Pair>, text: &'a [u8]) -> Result<(Vec<Pair>, &'a [u8]),
     }
 }
 
-/// The labels before with those of a list, from what stands after its brace on, and what follows the list.
+/// The labels before with those of a list, from what stands after its brace on, and what follows
+/// the list.
 fn list_in<'a>(
     alloc: Global,
     before: Found<'a>,
@@ -327,8 +330,8 @@ fn series_in(alloc: Global, text: &[u8]) -> Result<(Vec<Pair>, &[u8]), Fault<'_,
     }
 }
 
-/// The labels of a series text in its order, the metric's name as the label `__name__` before the others; a value may be
-/// empty. The faults are those of `read_series_text`.
+/// The labels of a series text in its order, the metric's name as the label `__name__` before the
+/// others; a value may be empty. The faults are those of `read_series_text`.
 pub(crate) fn read_series_pairs(alloc: Global, text: &str) -> Result<Vec<Pair>, TextFault>
     // Labels that are answered are what the text reads as.
     ensures tree { IfOk result (λ pairs. ReadsSeries text.now pairs.items) }

@@ -15,7 +15,8 @@ number_of StoreFault = 6
 number_of Memory = 7
 number_of TooLong = 8
 
--- how a run ends that was not cut short, by whether it refused a line
+-- how a run ends that was not cut short, by whether it refused a script line, a named file or the
+-- exposition
 abbrev pub verdict : Bool → Status
 verdict true = Problem
 verdict false = Done
@@ -72,8 +73,8 @@ FilesRose before now = (now.input ≡ before.input) × Rose before.files now.fil
 abbrev pub OutRose : Faults → Faults → Type 0
 OutRose before now = (now.input ≡ before.input) × (now.files ≡ before.files) × (now.keeper ≡ before.keeper) × Rose before.out now.out
 
--- The table of statuses: the first call of the outside that is refused ends the program with its object's status, and
--- want of memory is no refused call. So far no store is opened.
+-- The table of statuses: the first call of the outside that is refused ends the program with its
+-- object's status, and want of memory is no refused call. So far no store is opened.
 abbrev pub HasCause : Faults → Faults → Status → Type 0
 HasCause before now Done = NoneRose before now
 HasCause before now Problem = NoneRose before now

@@ -14,8 +14,8 @@ abbrev pub stop_of_sink : SinkError → Stop
 stop_of_sink sink.Failed = Write
 stop_of_sink sink.Memory = Memory
 
--- While a line is answered, a run is stopped by the sink or by want of memory alone. Only a refused write
--- raises the sink's count.
+-- While a line is answered, a run is stopped by the sink or by want of memory alone. Only a refused
+-- write raises the sink's count.
 abbrev pub StopsWriting : {T : Type 0} → ℕ → ℕ → Result T Stop → Type 0
 StopsWriting before now (Ok done) = now ≡ before
 StopsWriting before now (Err Read) = ⊥
@@ -23,8 +23,8 @@ StopsWriting before now (Err Write) = Rose before now
 StopsWriting before now (Err Memory) = now ≡ before
 StopsWriting before now (Err TooLong) = ⊥
 
--- While the next order is sought, a run is stopped by the source, by an input that is too long, or by want of memory
--- alone. Only a refused read raises the source's count.
+-- While the next order is sought, a run is stopped by the source, by an input that is too long, or
+-- by want of memory alone. Only a refused read raises the source's count.
 abbrev pub StopsReading : {T : Type 0} → ℕ → ℕ → Result T Stop → Type 0
 StopsReading before now (Ok done) = now ≡ before
 StopsReading before now (Err Read) = Rose before now
@@ -32,8 +32,9 @@ StopsReading before now (Err Write) = ⊥
 StopsReading before now (Err Memory) = now ≡ before
 StopsReading before now (Err TooLong) = now ≡ before
 
--- A run is stopped by a read that was refused, which raises the source's count alone; by a write that was
--- refused, which raises the sink's count alone; by want of memory; or by an input that is too long.
+-- A run is stopped by a read that was refused, which raises the source's count alone; by a write
+-- that was refused, which raises the sink's count alone; by want of memory; or by an input that is
+-- too long.
 abbrev pub StopsRunning : {T : Type 0} → ℕ → ℕ → ℕ → ℕ → Result T Stop → Type 0
 StopsRunning read_before read_now write_before write_now (Ok done) = (read_now ≡ read_before) × (write_now ≡ write_before)
 StopsRunning read_before read_now write_before write_now (Err Read) = Rose read_before read_now × (write_now ≡ write_before)
@@ -41,7 +42,8 @@ StopsRunning read_before read_now write_before write_now (Err Write) = (read_now
 StopsRunning read_before read_now write_before write_now (Err Memory) = (read_now ≡ read_before) × (write_now ≡ write_before)
 StopsRunning read_before read_now write_before write_now (Err TooLong) = (read_now ≡ read_before) × (write_now ≡ write_before)
 
--- A run that met the end of its input took few enough bytes, and one whose input is too long did not.
+-- A run that met the end of its input took few enough bytes, and one whose input is too long did
+-- not.
 abbrev pub KnowsLength : {T : Type 0} → Option (List ℕ) → Result T Stop → Type 0
 KnowsLength left (Ok done) = IsShort left
 KnowsLength left (Err Read) = Unit {0}

@@ -12,7 +12,7 @@ use std::alloc::AllocError;
 pub enum Status {
     /// All was read and written, and nothing of the others holds.
     Done,
-    /// A line of the script was refused.
+    /// All input was read, and a script line, a named file or the exposition was refused.
     Problem,
     /// The words are none of the forms.
     Usage,
@@ -52,9 +52,13 @@ impl Status {
 /// Why a run was cut short.
 #[derive(Clone, Copy, Debug, PartialEq, Eq)]
 pub enum Stop {
+    /// The input, or a file, could not be read.
     Read,
+    /// The output could not be written.
     Write,
+    /// Memory ran out.
     Memory,
+    /// The input has 2^32 bytes or more.
     TooLong,
 }
 

@@ -13,8 +13,9 @@ IsLimit limit = (limit ≡ 0x7F) ⊎ (limit ≡ 0x10FFFF)
 abbrev pub IsCharacter : ℕ → Type 0
 IsCharacter v = (v < 0xD800) ⊎ ((0xE000 ≤ v) × (v ≤ 0x10FFFF))
 
--- With so many digits after it, a number can become that of a character which is at most the limit. The numbers that it can become
--- are those from itself with zeros after it on, as many as the digits can count.
+-- With so many digits after it, a number can become that of a character which is at most the limit.
+-- The numbers that it can become are those from itself with zeros after it on, as many as the
+-- digits can count.
 pub record CanBecomeCharacter (limit left number : ℕ) : Type 0 where
   pub value : ℕ
   pub from : number * 16 ^ left ≤ value
@@ -26,7 +27,8 @@ pub record CanBecomeCharacter (limit left number : ℕ) : Type 0 where
 abbrev pub IsEscape : Mark → List ℕ → List ℕ → List ℕ → Type 0
 IsEscape quote text bytes rest = Reads production (rule (Escape quote)) (seen text) (content bytes) (seen rest)
 
--- The text begins with as many digits of base 16, and they write the number of a character at most the limit, whose bytes these are.
+-- The text begins with as many digits of base 16, and they write the number of a character at most
+-- the limit, whose bytes these are.
 pub record WritesCharacter (limit count : ℕ) (text bytes rest : List ℕ) : Type 0 where
   pub digits : List ℕ
   pub parts : text ≡ digits ++ rest

@@ -59,7 +59,8 @@ pub data Rule : Type 0 where
   Quoted : Mark → Rule
   -- what stands after a backslash
   Escape : Mark → Rule
-  -- a number of digits that are left, after those that have written a number, of a character at most this one
+  -- a number of digits that are left, after those that have written a number, of a character at
+  -- most this one
   Digits : ℕ → ℕ → ℕ → Rule
   -- a byte, and then as many digits
   Then : ℕ → ℕ → ℕ → Rule
@@ -74,7 +75,8 @@ abbrev pub quote_at : Mark → Letter → Option Value
 quote_at m (letter (Quote n) b) = if same_mark m n then Some mark else None
 quote_at m _ = None
 
--- Between backticks all but a backtick stands for itself; between the other quotes neither a backslash nor a line feed does.
+-- Between backticks all but a backtick stands for itself; between the other quotes neither a
+-- backslash nor a line feed does.
 abbrev pub is_plain : Mark → Kind → Bool
 is_plain m (Quote n) = not (same_mark m n)
 is_plain Back k = true
@@ -97,7 +99,8 @@ is_escape m k = false
 abbrev pub escape_at : Mark → Letter → Option Value
 escape_at m (letter k b) = if is_escape m k then Some mark else None
 
--- the byte that a letter after a backslash stands for; of the quotes, only the string's own one does
+-- the byte that a letter after a backslash stands for; of the quotes, only the string's own one
+-- does
 abbrev pub named_byte : Mark → Kind → Option ℕ
 named_byte m (Quote n) = if same_mark m n then Some (if same_mark m Double then code "\"" else (if same_mark m Single then code "'" else code "`")) else None
 named_byte m Backslash = Some (code "\\")
@@ -142,8 +145,9 @@ digit_of (letter B b) = Some 11
 digit_of (letter F b) = Some 15
 digit_of _ = None
 
--- Whether a number can become that of a character with so many digits more: the least number that it can become is not above the
--- limit, and not all that it can become are surrogates, which are no characters.
+-- Whether a number can become that of a character with so many digits more: the least number that
+-- it can become is not above the limit, and not all that it can become are surrogates, which are no
+-- characters.
 abbrev pub fits : ℕ → ℕ → ℕ → Bool
 fits limit left n = nat_le (n * 16 ^ left) limit && not (nat_le 0xD800 (n * 16 ^ left) && nat_le (n * 16 ^ left + 16 ^ left) 0xE000)
 
@@ -172,13 +176,11 @@ nothing_follows t = false
 abbrev pub piece : Mark → Form Letter Rule Value
 piece m = either (token (plain_at m)) (pair second_of (token (escape_at m)) (rule (Escape m)))
 
--- The productions:
---   text            = '"' quoted(double) | "'" quoted(single) | "`" quoted(back)
---   quoted(m)       = {plain(m) | "\" escape(m)} m
---   escape(m)       = m | "\" | "a" | "b" | "f" | "n" | "r" | "t" | "v" | "x" digits(2) | "u" digits(4) | "U" digits(8)
---   digits(0)       =
---   digits(k + 1)   = a digit with which a character can still come, and digits(k)
--- `Then` reads the byte that chose it and then the digits.
+-- The productions: text            = '"' quoted(double) | "'" quoted(single) | "`" quoted(back)
+-- quoted(m)       = {plain(m) | "\" escape(m)} m escape(m)       = m | "\" | "a" | "b" | "f" | "n"
+-- | "r" | "t" | "v" | "x" digits(2) | "u" digits(4) | "U" digits(8) digits(0)       = digits(k + 1)
+-- = a digit with which a character can still come, and digits(k) `Then` reads the byte that chose
+-- it and then the digits.
 abbrev pub production : Rule → Form Letter Rule Value
 production Text = either (pair second_of (token (quote_at Double)) (rule (Quoted Double)))
     (either (pair second_of (token (quote_at Single)) (rule (Quoted Single))) (pair second_of (token (quote_at Back)) (rule (Quoted Back))))
@@ -236,7 +238,8 @@ pub record IsOpening (text : List ℕ) (quote : Mark) (rest : List ℕ) : Type 0
   pub is : text ≡ first ∷ rest
   pub opens : kind_of first ≡ Quote quote
 
--- The bytes between the first quote of the text and the place are whole pieces: a string could end there.
+-- The bytes between the first quote of the text and the place are whole pieces: a string could end
+-- there.
 pub record IsOpenAt (text : List ℕ) (place : ℕ) : Type 0 where
   pub quote : Mark
   pub rest : List ℕ

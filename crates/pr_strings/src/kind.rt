@@ -10,7 +10,8 @@ pub enum Mark {
     Back,
 }
 
-/// What a byte is to the texts that have strings. The letters `a b f n r t v x u U` have a meaning after a backslash.
+/// What a byte is to the texts that have strings. The letters `a b f n r t v x u U` have a meaning
+/// after a backslash.
 #[derive(Clone, Copy, PartialEq, Eq, Debug)]
 pub enum Kind {
     Quote(Mark),

@@ -1,13 +1,11 @@
-//! The strings of the query language, read from the front of a text and written. Each format that has strings has them
-//! from here.
+//! The strings of the query language, read from the front of a text and written. Each format that
+//! has strings has them from here.
 #![tactic(auto)]
 
 pub mod examples;
 mod kind;
 mod laws;
 mod reader;
-#[cfg(test)]
-mod tests;
 mod writer;
 
 pub use kind::{Kind, Mark, kind_of};

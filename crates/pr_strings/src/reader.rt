@@ -186,7 +186,8 @@ fn fits(limit: u32, left: u32, number: u32) -> bool
     least <= u64::from(limit) && !(0xD800 <= least && least + width <= 0xE000)
 }
 
-/// The limit of the characters of an escape by digits, and the number of its digits, by the letter after the backslash.
+/// The limit of the characters of an escape by digits, and the number of its digits, by the letter
+/// after the backslash.
 fn numbering_of(kind: Kind) -> Option<(u32, u32)>
     ensures value { option_map (λ x. numbering x.0 x.1) result ≡ numbered_by kind }
     ensures known { IfSome result (λ x. IsNumbering x.0 x.1) }
@@ -216,8 +217,8 @@ fn numbering_in(text: &[u8]) -> Option<((u32, u32), &[u8])>
     }
 }
 
-/// The number with the digit at the front after it, where a character can still come with `left` digits more, and what
-/// follows the digit.
+/// The number with the digit at the front after it, where a character can still come with `left`
+/// digits more, and what follows the digit.
 fn digit_in(limit: u32, left: u32, number: u32, text: &[u8]) -> Option<(u32, &[u8])>
     requires limited { limit ≤ 0x10FFFF }
     requires few { left ≤ 7 }
@@ -356,13 +357,14 @@ fn opening_in(text: &[u8]) -> Option<(Mark, &[u8])>
     }
 }
 
-/// The bytes that the string at the front of a text means, and what follows the string. It stands in `"` or `'`, with
-/// escapes and without raw line feeds, or between backticks, where each byte stands for itself (string literals in the
-/// Prometheus documentation, "Querying basics"). `\x` has two digits and goes up to 7F, `\u` has four and `\U` eight, and
-/// a backslash may stand before the quote of the string, and not before another one (own choice).
+/// The bytes that the string at the front of a text means, and what follows the string. It stands
+/// in `"` or `'`, with escapes and without raw line feeds, or between backticks, where each byte
+/// stands for itself (string literals in the Prometheus documentation, "Querying basics"). `\x` has
+/// two digits and goes up to 7F, `\u` has four and `\U` eight, and a backslash may stand before the
+/// quote of the string, and not before another one (own choice).
 ///
-/// `Fault::Bad` has the text from the first byte on with which no string can go on: what follows all of it, where
-/// it ends too early.
+/// `Fault::Bad` has the text from the first byte on with which no string can go on: what follows
+/// all of it, where it ends too early.
 pub fn read_string(alloc: Global, text: &[u8]) -> Result<(Vec<u8>, &[u8]), Fault<'_, u8>>
     // What is answered is a string that the text begins with.
     ensures tree { IfOk result (λ x. IsString text.now x.0.items x.1.now) }
@@ -383,8 +385,9 @@ pub fn read_string(alloc: Global, text: &[u8]) -> Result<(Vec<u8>, &[u8]), Fault
     }
 }
 
-/// Whether the string that the text begins with could end at the place: only whole pieces stand between its first quote and
-/// the place. So a reader of other texts tells a string that is left open from one that breaks off inside an escape.
+/// Whether the string that the text begins with could end at the place: only whole pieces stand
+/// between its first quote and the place. So a reader of other texts tells a string that is left
+/// open from one that breaks off inside an escape.
 pub fn is_open_at(text: &[u8], place: usize) -> bool
     requires { place ≤ length text.now }
     ensures { MatchBool result (IsOpenAt text.now place) (IsOpenAt text.now place → ⊥) }

@@ -38,10 +38,10 @@ fn push_quoted(out: &mut Vec<u8>, bytes: &[u8]) -> Result<(), AllocError>
     out.extend_from_slice(b"\"")
 }
 
-/// Appends bytes as a string in double quotes: a backslash, a quote and a line feed have a backslash before them,
-/// the line feed as `\n`, and all others stand for themselves. (The strings of the query language: Prometheus,
-/// Querying basics, "String literals"; of its escapes these three are written: own choice.) Without memory nothing
-/// is appended.
+/// Appends bytes as a string in double quotes: a backslash, a quote and a line feed have a
+/// backslash before them, the line feed as `\n`, and all others stand for themselves. (The strings
+/// of the query language: Prometheus, Querying basics, "String literals"; of its escapes these
+/// three are written: own choice.) Without memory nothing is appended.
 pub fn write_string(bytes: &[u8], out: &mut Vec<u8>) -> Result<(), AllocError>
     ensures ok { OnOk result (out.new.items ≡ out.old.items ++ quoted_text bytes.now) }
     ensures err { OnErr result (out.new.items ≡ out.old.items) }

@@ -1,16 +1,14 @@
 -- What the grammar of spans reads is a zero alone, or parts.
 use Rattle.std.proofs.Common.{◌≡◌, ℕ, zero, suc, ◌+◌, ◌*◌, ◌≤◌, List, [], ◌∷◌, ◌++◌, Some, length, length-append, refl, ap, sym, ◌∙◌, subst, arith}
 use Rattle.std.proofs.lemmas.List.{append_assoc, append-nil}
-use Rattle.pr_forms.specs.Form.{token, turns, fold, rule, Reads, is_token, is_nothing, is_pair, is_left, is_right, is_stop, is_turn, is_fold, is_rule}
+use Rattle.pr_forms.specs.Form.{token, turns, fold, Reads, is_token, is_nothing, is_pair, is_left, is_right, is_stop, is_turn, is_fold, is_rule}
 use Rattle.pr_time.specs.declared.text.Letter.{Letter}
 use Rattle.pr_time.specs.declared.text.Letter.TheVariants.{Digit, Y, W, D, H, M, S, Other}
 use Rattle.pr_time.specs.declared.text.Unit.{Unit as TimeUnit}
 use Rattle.pr_time.specs.declared.text.Unit.TheVariants.{Year, Week, Day, Hour, Minute, Second, Millisecond}
-use Rattle.pr_time.specs.SpanText.{production, Rule, Text, After, From, NoUnit, Value, count, scaled, span, digit, digit_at, zero_at, other_digit_at, m_at, unit_at, ms_of, rank, shifted, times, followed, below}
+use Rattle.pr_time.specs.SpanText.{production, Text, After, From, NoUnit, Value, count, scaled, span, digit, digit_at, zero_at, other_digit_at, m_at, unit_at, ms_of, rank, shifted, times, followed, below}
 use Rattle.pr_time.specs.SpanParts.{letters_of, IsNumber, one_digit, digit_more, AreParts, no_part, a_part, IsSpanText, zero_alone, some_parts}
-
-abbrev RuleReads : Rule → List Letter → Value → Type 0
-RuleReads n ts v = Reads production (rule n) ts v []
+use Rattle.pr_time.proofs.SpanParts.{RuleReads}
 
 -- what the values of single letters tell
 digit_known : (t : Letter) (w : Value) → digit_at t ≡ Some w → (d : ℕ) × (t ≡ Digit d) × (w ≡ count d)

@@ -10,7 +10,7 @@ use Rattle.pr_time.specs.declared.text.Unit.TheVariants.{Year, Week, Day, Hour, 
 use Rattle.pr_time.specs.SpanText.{production, Rule, Text, After, From, Value, count, scaled, span, digit, other_digit_at, ms_of, rank, shifted, below}
 use Rattle.pr_time.specs.SpanParts.{letters_of, IsNumber, one_digit, digit_more, AreParts, no_part, a_part, IsSpanText, zero_alone, some_parts}
 
-abbrev RuleReads : Rule → List Letter → Value → Type 0
+abbrev pub RuleReads : Rule → List Letter → Value → Type 0
 RuleReads n ts v = Reads production (rule n) ts v []
 
 -- a number is read, as one after a zero or as one with another digit first

@@ -79,7 +79,8 @@ ms_millisecond = is_rule (is_pair (is_token refl) (is_pair (is_token refl) (is_r
 ms_second : FromReads Second (M ∷ S ∷ []) 1 0
 ms_second = is_rule (is_right ms_millisecond)
 
--- A place where parts may stand, or none: what is read from it, with the units from a greatest one on.
+-- A place where parts may stand, or none: what is read from it, with the units from a greatest one
+-- on.
 record Position (greatest : TimeUnit) (R : List Letter → ℕ → Type 0) : Type 0 where
   base : R [] 0
   step : (n s v : ℕ) (ts : List Letter) → 0 < n → n < 2 ^ 64 → FromReads greatest ts s v → R (seen (decimal n) ++ ts) (n * s + v)

@@ -21,7 +21,8 @@ pub data IsNumber : List Letter → ℕ → Type 0 where
   one_digit : (d : ℕ) → IsNumber (Digit d ∷ []) d
   digit_more : (ts : List Letter) (n d : ℕ) → IsNumber ts n → IsNumber (ts ++ Digit d ∷ []) (n * 10 + d)
 
--- Parts, each a number and a unit, with units of this rank on, each smaller than the one before; and their milliseconds.
+-- Parts, each a number and a unit, with units of this rank on, each smaller than the one before;
+-- and their milliseconds.
 pub data AreParts : ℕ → List Letter → ℕ → Type 0 where
   no_part : {k : ℕ} → AreParts k [] 0
   a_part : {k : ℕ} (u : TimeUnit) (ds ts : List Letter) (n ms : ℕ) → k ≤ rank u → IsNumber ds n → AreParts (rank u + 1) ts ms →

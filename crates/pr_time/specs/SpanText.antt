@@ -136,15 +136,11 @@ abbrev pub below : TimeUnit → Rule
 below Millisecond = NoUnit
 below u = From (smaller u)
 
--- The productions:
---   text       = "0" after-zero | digit-above-0 {digit} from(year)
---   after-zero = {digit} from(year) |
---   after(u)   = digit {digit} from(smaller u) |                  and digit {digit} no-unit | after milliseconds
---   from(u)    = letter-of-u after(u) | from(smaller u)           for y, w, d, h
---   from(m)    = "m" after-m | "s" after(s)
---   after-m    = "s" after(ms) | after(m)
---   from(s)    = "s" after(s) | from(ms)
---   from(ms)   = "m" "s" after(ms)
+-- The productions: text       = "0" after-zero | digit-above-0 {digit} from(year) after-zero =
+-- {digit} from(year) | after(u)   = digit {digit} from(smaller u) |                  and digit
+-- {digit} no-unit | after milliseconds from(u)    = letter-of-u after(u) | from(smaller u)
+-- for y, w, d, h from(m)    = "m" after-m | "s" after(s) after-m    = "s" after(ms) | after(m)
+-- from(s)    = "s" after(s) | from(ms) from(ms)   = "m" "s" after(ms)
 abbrev pub production : Rule → Form Letter Rule Value
 production Text = either (pair second_of (token zero_at) (rule AfterZero)) (amount (fold shifted (token other_digit_at) digit) (From Year))
 production AfterZero = either (amount (turns shifted (count 0) digit) (From Year)) (nothing (span 0))
@@ -215,13 +211,14 @@ table = record { empty = empty_rule; starts = starts_rule; more = more_rule }
 abbrev pub ReadsSpan : List ℕ → ℕ → Type 0
 ReadsSpan text ms = Reads production (rule Text) (seen text) (span ms) []
 
--- The place of the first bad byte: those before it go on by the grammar, and with it they do not. Going on is less than beginning
--- some span: after milliseconds digits go on, as those of one more part, though no unit is left for it. So `5ms5s` is bad at 4, and
--- no span begins with `5ms5`.
+-- The place of the first bad byte: those before it go on by the grammar, and with it they do not.
+-- Going on is less than beginning some span: after milliseconds digits go on, as those of one more
+-- part, though no unit is left for it. So `5ms5s` is bad at 4, and no span begins with `5ms5`.
 abbrev pub IsBadPlace : List ℕ → ℕ → Type 0
 IsBadPlace text place = IsFirstBad production (rule Text) (seen text) place
 
--- Why a text gives no span: it is not of the form, and so bad at a place; or it is, and writes too many milliseconds.
+-- Why a text gives no span: it is not of the form, and so bad at a place; or it is, and writes too
+-- many milliseconds.
 abbrev pub Refuses : List ℕ → SpanFault → Type 0
 Refuses text (BadSpan at) = IsBadPlace text at
 Refuses text SpanTooLong = (ms : ℕ) × ReadsSpan text ms × (2 ^ 40 < ms)

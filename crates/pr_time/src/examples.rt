@@ -24,8 +24,8 @@ pub fn span_texts_read_so()
     ensures each_unit { span_of (codes "1y1w1d1h1m1s1ms") ≡ Some 32230861001 }
 {}
 
-/// Texts that are none, and their first bad bytes. Each unit stands once at most, after none that is smaller; and no span
-/// begins with `5ms5`, though its second 5 is not the first bad byte.
+/// Texts that are none, and their first bad bytes. Each unit stands once at most, after none that
+/// is smaller; and no span begins with `5ms5`, though its second 5 is not the first bad byte.
 pub fn other_texts_are_bad_so()
     ensures no_unit { span_of (codes "5m3") ≡ None }
     ensures no_unit_at { bad_span_place (codes "5m3") ≡ 3 }

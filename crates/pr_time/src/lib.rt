@@ -4,8 +4,6 @@
 pub mod examples;
 pub mod laws;
 mod print;
-#[cfg(test)]
-mod tests;
 mod text;
 mod value;
 

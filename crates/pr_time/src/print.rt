@@ -16,7 +16,8 @@ fn put(out: &mut [u8; 40], at: usize, bytes: &[u8]) -> usize
     at + bytes.len()
 }
 
-/// Writes a number with its unit at a place, or nothing where the number is 0, and says where the text ends.
+/// Writes a number with its unit at a place, or nothing where the number is 0, and says where the
+/// text ends.
 fn put_part(out: &mut [u8; 40], at: usize, number: u64, unit: &[u8]) -> usize
     requires room { at + 7 ≤ 40 }
     requires small { number < 10 ^ 5 }
@@ -34,8 +35,9 @@ fn put_part(out: &mut [u8; 40], at: usize, number: u64, unit: &[u8]) -> usize
     put(out, unit_at, unit)
 }
 
-/// Writes a span in days, hours, minutes, seconds and milliseconds at the front of `out`, leaving out what is 0 (`1h7ms`, and
-/// `0s` where all is), and says how many bytes that took. The other bytes stay.
+/// Writes a span in days, hours, minutes, seconds and milliseconds at the front of `out`, leaving
+/// out what is 0 (`1h7ms`, and `0s` where all is), and says how many bytes that took. The other
+/// bytes stay.
 pub fn write_span(s: Span, out: &mut [u8; 40]) -> usize
     ensures at { result ≤ 40 }
     ensures text { take result out.new ≡ shown_span s }

@@ -43,9 +43,10 @@ const MANY: u64 = (1 << 40) + 1;
 /// Why a text gives no span.
 #[derive(Clone, Copy, PartialEq, Eq, Debug)]
 pub enum SpanFault {
-    /// The place of the first byte with which the text does not go on as a span text: before it stand whole parts, and digits
-    /// or a letter that begin one more. Whether what stands there can still become a span is not asked: `5ms5s` is bad at 4,
-    /// though no span begins with `5ms5`. The text's length, where all of it goes on and it is no span.
+    /// The place of the first byte with which the text does not go on as a span text: before it
+    /// stand whole parts, and digits or a letter that begin one more. Whether what stands there can
+    /// still become a span is not asked: `5ms5s` is bad at 4, though no span begins with `5ms5`.
+    /// The text's length, where all of it goes on and it is no span.
     BadSpan { at: usize },
     /// The text is a span text, of more than 2^40 milliseconds.
     SpanTooLong,
@@ -209,7 +210,8 @@ fn number_in(first: u64, text: &[u8]) -> (u64, &[u8])
     (number, rest)
 }
 
-/// The unit that a letter writes, where it is `greatest` or a smaller one. An m stands for minutes here.
+/// The unit that a letter writes, where it is `greatest` or a smaller one. An m stands for minutes
+/// here.
 fn unit_of(greatest: Unit, letter: Letter) -> Option<Unit>
     ensures { result ≡ unit_left greatest letter }
 {
@@ -252,8 +254,8 @@ fn unit_in(greatest: Unit, text: &[u8]) -> Result<(Unit, &[u8]), &[u8]>
     }
 }
 
-/// A number that begins with `first`, its unit, `greatest` or a smaller one, and the parts after it, in milliseconds, and
-/// what follows them.
+/// A number that begins with `first`, its unit, `greatest` or a smaller one, and the parts after
+/// it, in milliseconds, and what follows them.
 #[cycle(parts)]
 fn amount_in(greatest: Unit, first: u64, text: &[u8]) -> Result<(u64, &[u8]), &[u8]>
     requires { first ≤ 2 ^ 40 + 1 }
@@ -298,7 +300,8 @@ fn goes_on(text: &[u8]) -> bool
     }
 }
 
-/// What a zero at the front writes with what follows it: nothing, or a number with its unit and the parts after it.
+/// What a zero at the front writes with what follows it: nothing, or a number with its unit and the
+/// parts after it.
 fn zero_in(text: &[u8]) -> Result<(u64, &[u8]), &[u8]>
     ensures read { MatchResult result (λ x. Measures (rule AfterZero) text.now x.0 x.1.now)
         (λ rest. Gives spans (rule AfterZero) text.now (bad (seen rest.now))) }
@@ -327,8 +330,8 @@ fn span_in(text: &[u8]) -> Result<(u64, &[u8]), &[u8]>
     }
 }
 
-/// The place of the first byte with which the span text at the front of a text does not go on, as `SpanFault::BadSpan` tells
-/// it: so a reader of other texts finds where one ends.
+/// The place of the first byte with which the span text at the front of a text does not go on, as
+/// `SpanFault::BadSpan` tells it: so a reader of other texts finds where one ends.
 pub fn span_end(text: &[u8]) -> usize
     ensures place { IsBadPlace text.now result }
     ensures within { result ≤ length text.now }
@@ -339,10 +342,11 @@ pub fn span_end(text: &[u8]) -> usize
     }
 }
 
-/// The span that a text writes: `0`, or numbers with a unit each, from the greatest unit down and none twice, out of
-/// `y w d h m s ms`. A year has 365 days, and a week seven (the form of durations in the Prometheus documentation, "Querying
-/// basics"; that a span ends at 2^40 ms, and that the first bad byte is told, are own choices). A text of another form is
-/// `BadSpan`, with its place; one of the form, of more than 2^40 ms, is `SpanTooLong`.
+/// The span that a text writes: `0`, or numbers with a unit each, from the greatest unit down and
+/// none twice, out of `y w d h m s ms`. A year has 365 days, and a week seven (the form of
+/// durations in the Prometheus documentation, "Querying basics"; that a span ends at 2^40 ms, and
+/// that the first bad byte is told, are own choices). A text of another form is `BadSpan`, with its
+/// place; one of the form, of more than 2^40 ms, is `SpanTooLong`.
 pub fn read_span(text: &[u8]) -> Result<Span, SpanFault>
     // A span that is answered is what the text reads as.
     ensures span { IfOk result (ReadsSpan text.now) }

@@ -55,7 +55,8 @@ impl Ms {
         self.ms
     }
 
-    /// The milliseconds of the time a span earlier: from -2^40 on, since the span may be longer than the time, and below 2^42.
+    /// The milliseconds of the time a span earlier: from -2^40 on, since the span may be longer
+    /// than the time, and below 2^42.
     pub fn minus(self, s: Span) -> i64
         ensures value { result ≡ pos self -ℤ pos s }
         ensures low { neg_ℤ (pos (2 ^ 40)) ≤ℤ result }

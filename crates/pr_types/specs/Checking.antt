@@ -18,8 +18,8 @@ pub record IsChecked (t : Tree) (gives : ValueType) (tests : List (List LabelTes
   pub tests_are : tests ≡ tests_in t
   pub patterns_are : patterns ≡ patterns_in t
 
--- the tree has a type, which is that of a scalar or a vector, it looks no further back than samples are kept, and no step
--- in it is 0
+-- the tree has a type, which is that of a scalar or a vector, it looks no further back than samples
+-- are kept, and no step in it is 0
 pub record MayEvaluate (t : Tree) : Type 0 where
   pub typed_so : is_ok (typed t) ≡ true
   pub checked_so : is_ok (checked t) ≡ true

@@ -68,7 +68,7 @@ is_instant Vector = true
 is_instant Range = false
 is_instant Text = false
 
--- a scalar or a vector; nothing else stands under an operator or a sign
+-- a scalar or a vector; nothing else stands under an operator or a minus
 abbrev pub instant : Operand → Result ValueType TypeFault
 instant o = if is_instant o.gives then Ok o.gives else Err (fault o.at WantVector)
 

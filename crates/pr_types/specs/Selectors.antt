@@ -42,8 +42,8 @@ are_good ms = list_all is_good ms
 abbrev pub is_open : Option (List ℕ) → List MatchText → Bool
 is_open name ms = is_none name && meets_all (map test_of ms) []
 
--- The tests of a selector, or its fault. A bad pattern matches nothing, so a selector with one is not asked whether its
--- matchers match the empty text.
+-- The tests of a selector, or its fault. A bad pattern matches nothing, so a selector with one is
+-- not asked whether its matchers match the empty text.
 abbrev pub selected : ℕ → Selector → Result (List LabelTest) TypeFault
 selected at s =
     if are_good s.matchers then (if is_open s.name s.matchers then Err (fault at NoMatcher) else Ok (tests_of s))

@@ -12,8 +12,8 @@ use Rattle.pr_types.specs.declared.kind.TypeFault.{TypeFault}
 use Rattle.pr_types.specs.declared.signature.Signature.{Signature}
 use Rattle.pr_types.specs.declared.signature.Operand.{Operand}
 
--- A signature: the type of the first argument, that of all others, the least number of them and the greatest, and the
--- type of the result. The type of an argument that never stands is of no account.
+-- A signature: the type of the first argument, that of all others, the least number of them and the
+-- greatest, and the type of the result. The type of an argument that never stands is of no account.
 abbrev pub takes : ValueType → ValueType → ℕ → ℕ → ValueType → Signature
 takes first others least most gives = record { first = first; others = others; least = least; most = most; gives = gives }
 
@@ -120,7 +120,8 @@ abbrev pub no_fault : ValueType → Option TypeFault → Result ValueType TypeFa
 no_fault v None = Ok v
 no_fault v (Some f) = Err f
 
--- what a function or an aggregation gives to its operands: their number is tested first, then their types in the order of the text
+-- what a function or an aggregation gives to its operands: their number is tested first, then their
+-- types in the order of the text
 abbrev pub accepted : ℕ → Signature → List Operand → Result ValueType TypeFault
 accepted at s os =
     if are_counted s os then no_fault s.gives (wrong_operand s os) else Err (fault at (Arguments (length os) s.least s.most))

@@ -106,8 +106,9 @@ subquery at step o = go_on (unless at (step_fault step)) (over_times o)
 abbrev pub operation : ℕ → BinOp → Bool → Option Matching → Operand → Operand → Result ValueType TypeFault
 operation at o b m l r = go_on (λ v. go_on (λ w. unless at (operation_fault o b m v w) (operation_type v w)) (instant r)) (instant l)
 
--- The type of a tree, or its first fault: operands are taken first, in the order of the text, and then the node itself.
--- A list of arguments is no expression and has no type, and no other tree is a list of arguments.
+-- The type of a tree, or its first fault: operands are taken first, in the order of the text, and
+-- then the node itself. A list of arguments is no expression and has no type, and no other tree is
+-- a list of arguments.
 abbrev mutual
   pub typed : Tree → Result ValueType TypeFault
   typed (number p v) = Ok Scalar

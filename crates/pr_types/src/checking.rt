@@ -20,8 +20,8 @@ use std::marker::Model;
 /// How long samples are kept, in milliseconds: 45 days. (Own choice.)
 const KEPT: u64 = 3_888_000_000;
 
-/// An expression that has a type, with its matchers and patterns, so that nothing builds one again. Contracts see the
-/// expression.
+/// An expression that has a type, with its matchers and patterns, so that nothing builds one again.
+/// Contracts see the expression.
 #[derive(Drop)]
 pub struct Checked {
     expr: Expr,
@@ -72,9 +72,10 @@ impl Checked {
         counts_with(&self.expr, selectors, patterns)
     }
 
-    /// The matchers of a selector: selectors, ranges among them, are numbered from 0 in the order of the text. (Range
-    /// selectors have numbers of their own, under which windows are kept: this is not that number.) The first matcher
-    /// is that of the metric's name, where a name stands before the braces.
+    /// The matchers of a selector: selectors, ranges among them, are numbered from 0 in the order
+    /// of the text. (Range selectors have numbers of their own, under which windows are kept: this
+    /// is not that number.) The first matcher is that of the metric's name, where a name stands
+    /// before the braces.
     pub fn matchers(&self, selector: usize) -> &[Matcher]
         requires { selector < length (tests_in (tree_of self.now)) }
         ensures { slice_get (tests_in (tree_of self.now)) selector ≡ Some result.now }
@@ -82,7 +83,8 @@ impl Checked {
         self.selectors.as_slice()[selector].as_slice()
     }
 
-    /// The pattern of a `label_replace`: calls of it are numbered from 0, each after those in its arguments.
+    /// The pattern of a `label_replace`: calls of it are numbered from 0, each after those in its
+    /// arguments.
     pub fn pattern(&self, place: usize) -> &Pattern
         requires { place < length (patterns_in (tree_of self.now)) }
         ensures { slice_get (patterns_in (tree_of self.now)) place ≡ Some result.now }
@@ -141,8 +143,8 @@ fn type_of_whole(alloc: Global, e: &Expr, built: &mut Built) -> Result<ValueType
     Ok(whole(e, gives)?)
 }
 
-/// The expression with its matchers and patterns, where it has a type, is a scalar or a vector, and looks back at most
-/// 45 days; or else its first fault, unless memory ran out.
+/// The expression with its matchers and patterns, where it has a type, is a scalar or a vector, and
+/// looks back at most 45 days; or else its first fault, unless memory ran out.
 pub fn check(alloc: Global, e: Expr) -> Result<Checked, TypeError>
     ensures same { IfOk result (λ c. c ≡ e) }
     ensures verdict { Verdict (tree_of e) result }

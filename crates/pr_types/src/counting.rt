@@ -7,8 +7,8 @@ ghost use Rattle.pr_types.specs.Numbers.{counts_in, joined};
 use crate::texts::replaces;
 use pr_ast::{Expr, ExprKind, Func};
 
-/// How many selectors an expression has, ranges among them, how many range selectors, and how often it calls
-/// `label_replace`. Each of the three is numbered from 0 on its own.
+/// How many selectors an expression has, ranges among them, how many range selectors, and how often
+/// it calls `label_replace`. Each of the three is numbered from 0 on its own.
 #[derive(Clone, Copy, PartialEq, Eq, Debug)]
 pub struct Counts {
     pub selectors: usize,
@@ -46,8 +46,8 @@ fn own(func: Func) -> Counts
     }
 }
 
-/// The counts of an expression or of a part of one; each is 2^64 - 1 where there are more. They tell how far the numbers
-/// go on over a part that is not visited.
+/// The counts of an expression or of a part of one; each is 2^64 - 1 where there are more. They
+/// tell how far the numbers go on over a part that is not visited.
 #[cycle(counting)]
 pub fn counts_in(e: &Expr) -> Counts
     ensures { result ≡ counts_in (tree_of e.now) }

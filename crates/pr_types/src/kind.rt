@@ -13,19 +13,20 @@ pub enum ValueType {
     Text,
 }
 
-/// Why an expression has no type. Of several reasons at one node `Arguments` comes first, then one that begins with
-/// `Want`, then the others in this order.
+/// Why an expression has no type. Of several reasons at one node `Arguments` comes first, then one
+/// that begins with `Want`, then the others in this order.
 #[derive(Clone, Copy, PartialEq, Eq, Debug)]
 pub enum TypeKind {
     /// An operand is no scalar.
     WantScalar,
-    /// An operand is no vector; under an operator or a sign, neither a scalar nor a vector.
+    /// An operand is no vector; under an operator or a minus, neither a scalar nor a vector.
     WantVector,
     /// An operand is no range.
     WantRange,
     /// An operand is no text.
     WantText,
-    /// A function or an aggregation has too few arguments, or too many. `most` is 2^32 - 1 where there is no most.
+    /// A function or an aggregation has too few arguments, or too many. `most` is 2^32 - 1 where
+    /// there is no most.
     Arguments { have: u64, least: u32, most: u32 },
     /// A comparison of two scalars without `bool`.
     BoolNeeded,
@@ -47,22 +48,24 @@ pub enum TypeKind {
     BadLabel,
     /// The whole expression is a range or a text.
     NotInstant,
-    /// The expression looks further back than samples are kept, in milliseconds. `needed` is 2^64 - 1 where it is more.
+    /// The expression looks further back than samples are kept, in milliseconds. `needed` is 2^64 -
+    /// 1 where it is more.
     Reach { needed: u64, kept: u64 },
     /// The step of a subquery is 0. No text that is read has one. (Own choice.)
     ZeroStep,
 }
 
-/// The first fault of an expression, and its place, as the byte of its text: the start of the first operand whose type
-/// is wrong for a kind that begins with `Want`, 0 for `Reach`, and the start of the node that has the fault for all
-/// others. (Own choice.)
+/// The first fault of an expression, and its place, as the byte of its text: the start of the first
+/// operand whose type is wrong for a kind that begins with `Want`, 0 for `Reach`, and the start of
+/// the node that has the fault for all others. (Own choice.)
 #[derive(Clone, Copy, PartialEq, Eq, Debug)]
 pub struct TypeFault {
     pub at: usize,
     pub kind: TypeKind,
 }
 
-/// Why an expression was not checked through: its first fault (`TypeFault`), or that memory ran out.
+/// Why an expression was not checked through: its first fault (`TypeFault`), or that memory ran
+/// out.
 #[derive(Clone, Copy, PartialEq, Eq, Debug)]
 pub enum TypeError {
     Fault { at: usize, kind: TypeKind },

@@ -1,5 +1,5 @@
-//! Laws of the definitions that contracts of this crate cite. A law is a function that does nothing, and its contract is
-//! the theorem.
+//! Laws of the definitions that contracts of this crate cite. A law is a function that does
+//! nothing, and its contract is the theorem.
 ghost use Rattle.std.specs.Prelude.{◌≡◌, ◌≤◌, ◌<◌, ◌^◌, ◌-◌, ◌++◌, ◌∷◌, [], ℕ, Bool, true, List, length, Option, None, Some, Ok};
 ghost use Rattle.pr_labels.specs.Names.{is_label_name};
 ghost use Rattle.pr_labels.specs.declared.grouping.Grouping.{Grouping};
@@ -26,8 +26,8 @@ ghost use Rattle.pr_types.specs.Numbers.{ranges_in, counts_in, exact_counts};
 ghost use Rattle.pr_types.specs.Checking.{MayEvaluate};
 ghost use Rattle.pr_types.specs.Parts.{arguments, AreArguments, AreOperands, may_give};
 
-/// The parts of an expression that has a type have types, and those that the expression wants: so whoever walks down a
-/// checked expression knows the type of each part.
+/// The parts of an expression that has a type have types, and those that the expression wants: so
+/// whoever walks down a checked expression knows the type of each part.
 pub fn parts_of_typed_expressions_have_types()
     ensures selector { (p : Place) (s : Selector) (v : ValueType)
         → typed (select p s) ≡ Ok v → (selected p.start s ≡ Ok (tests_of s)) × (v ≡ Vector) }
@@ -55,14 +55,14 @@ pub fn texts_of_typed_expressions_are_good()
         → is_label_name (content_at ts 0) ≡ true }
 {}
 
-/// What the outermost node of an expression tells of its type: nothing but a text is a text, nothing but a range selector
-/// or a subquery is a range, and a list of arguments is nothing.
+/// What the outermost node of an expression tells of its type: nothing but a text is a text,
+/// nothing but a range selector or a subquery is a range, and a list of arguments is nothing.
 pub fn outermost_nodes_tell_types()
     ensures { (t : Tree) (v : ValueType) → typed t ≡ Ok v → may_give t v ≡ true }
 {}
 
-/// An expression is checked exactly where it has the type of a scalar or a vector, and looks no further back than 45 days.
-/// No step in it is 0.
+/// An expression is checked exactly where it has the type of a scalar or a vector, and looks no
+/// further back than 45 days. No step in it is 0.
 pub fn checked_expressions_are_typed_and_reach_kept_samples()
     ensures typed { (t : Tree) (v : ValueType)
         → checked t ≡ Ok v → (typed t ≡ Ok v) × (is_instant v ≡ true) × (reads_back t ≤ kept) }
@@ -72,8 +72,8 @@ pub fn checked_expressions_are_typed_and_reach_kept_samples()
     ensures evaluated { (t : Tree) (v : ValueType) → checked t ≡ Ok v → MayEvaluate t }
 {}
 
-/// A range selector is a selector; and where an expression has fewer than 2^64 selectors and patterns, as each that is
-/// checked has, its counts are exact.
+/// A range selector is a selector; and where an expression has fewer than 2^64 selectors and
+/// patterns, as each that is checked has, its counts are exact.
 pub fn counts_are_exact_below_2_64()
     ensures ranges { (t : Tree) → ranges_in t ≤ length (tests_in t) }
     ensures exact { (t : Tree) → (exact_counts t).selectors < 2 ^ 64 → (exact_counts t).patterns < 2 ^ 64

@@ -1,5 +1,5 @@
-//! The types of expressions: which a tree has, or the first place that has none, and what is built for an expression that
-//! has one.
+//! The types of expressions: which a tree has, or the first place that has none, and what is built
+//! for an expression that has one.
 #![tactic(auto)]
 
 mod building;
@@ -11,8 +11,6 @@ mod laws;
 mod operation;
 mod selection;
 mod signature;
-#[cfg(test)]
-mod tests;
 mod texts;
 mod typing;
 

@@ -146,8 +146,8 @@ fn step_fault(step: Option<Span>) -> Option<TypeKind>
     }
 }
 
-/// The type of a subquery over an operand, which is a vector, or its first fault. (Prometheus: Querying basics,
-/// "Subquery".)
+/// The type of a subquery over an operand, which is a vector, or its first fault. (Prometheus:
+/// Querying basics, "Subquery".)
 pub(crate) fn subquery(
     at: usize,
     step: Option<Span>,

@@ -5,8 +5,8 @@ ghost use Rattle.pr_types.specs.Signatures.{func_signature, agg_signature, is_ty
 use crate::kind::{TypeFault, TypeKind, ValueType};
 use pr_ast::{AggOp, Func};
 
-/// The arguments of a function or an aggregation: the type of the first one and that of all others, how many there are,
-/// and what it gives to them.
+/// The arguments of a function or an aggregation: the type of the first one and that of all others,
+/// how many there are, and what it gives to them.
 #[derive(Clone, Copy, PartialEq, Eq, Debug)]
 pub struct Signature {
     pub first: ValueType,
@@ -89,8 +89,8 @@ impl Signature {
         }
     }
 
-    /// The signature of an aggregation, whose parameter stands before its vector. (Prometheus: Operators, "Aggregation
-    /// operators".)
+    /// The signature of an aggregation, whose parameter stands before its vector. (Prometheus:
+    /// Operators, "Aggregation operators".)
     #[tactic(auto, unfolding(crate::specs::Signatures::agg_signature))]
     pub fn of_agg(op: AggOp) -> Signature
         ensures { result ≡ agg_signature op }
@@ -105,8 +105,8 @@ impl Signature {
         }
     }
 
-    /// What it gives to these operands, or the first fault: their number is tested first, then the types in the order of
-    /// the text.
+    /// What it gives to these operands, or the first fault: their number is tested first, then the
+    /// types in the order of the text.
     pub(crate) fn accepted(self, at: usize, operands: &[Operand]) -> Result<ValueType, TypeFault>
         ensures { result ≡ accepted at self operands.now }
     {

@@ -82,7 +82,8 @@ fn pattern_of(alloc: Global, at: usize, text: &str) -> Result<Pattern, TypeError
     }
 }
 
-/// The type of a `label_replace` with this pattern and this label, or its fault. The pattern is built.
+/// The type of a `label_replace` with this pattern and this label, or its fault. The pattern is
+/// built.
 fn replaced(
     alloc: Global,
     at: usize,
@@ -101,7 +102,8 @@ fn replaced(
     Ok(found)
 }
 
-/// The type of a call whose operands have types, or its fault. The pattern of `label_replace` is built.
+/// The type of a call whose operands have types, or its fault. The pattern of `label_replace` is
+/// built.
 pub(crate) fn called(
     alloc: Global,
     at: usize,
@@ -131,7 +133,8 @@ pub(crate) fn called(
     Ok(gives)
 }
 
-/// The type of an aggregation whose operands have types, or its fault. `label` is the content of its first operand.
+/// The type of an aggregation whose operands have types, or its fault. `label` is the content of
+/// its first operand.
 pub(crate) fn aggregated(
     at: usize,
     op: AggOp,

@@ -24,11 +24,11 @@ pub capped-more : (cap v n d : ℕ) → v ≡ min n cap → min (v * 10 + d) cap
 capped-more cap v n d h = omega arith
 
 -- digits by std's words
-read_on : ℕ → List ℕ → ℕ
+pub read_on : ℕ → List ℕ → ℕ
 read_on n [] = n
 read_on n (c ∷ cs) = read_on (10 * n + (c - 48)) cs
 
-own : IsNumeralModel (λ ds. list_all is_ascii_digit ds ≡ true) (read_on 0)
+pub own : IsNumeralModel (λ ds. list_all is_ascii_digit ds ≡ true) (read_on 0)
 unfolding read_on
 own = numerals_by_fold _ (search rules) read_on (search rules)
 

@@ -11,7 +11,8 @@ fn are_digits(text: &[u8]) -> bool
     text.iter().all(|b| b.is_ascii_digit())
 }
 
-/// Whether a text is a plain decimal: one decimal digit, or more of them of which the first is no zero.
+/// Whether a text is a plain decimal: one decimal digit, or more of them of which the first is no
+/// zero.
 pub fn is_plain_decimal(text: &[u8]) -> bool
     ensures { result ≡ is_plain_decimal text.now }
 {
@@ -37,8 +38,9 @@ fn capped(digits: &[u8], limit: u64) -> u64
     value
 }
 
-/// The number that a plain decimal writes, where it is below the limit: `0` or `640`, and neither `007`, `+1` nor the
-/// empty text. Times, limits and counts are written so (that no zero leads is an own choice). None for each other text.
+/// The number that a plain decimal writes, where it is below the limit: `0` or `640`, and neither
+/// `007`, `+1` nor the empty text. Times, limits and counts are written so (that no zero leads is
+/// an own choice). None for each other text.
 pub fn plain_decimal(text: &[u8], limit: u64) -> Option<u64>
     ensures { result ≡ plain_decimal limit text.now }
 {

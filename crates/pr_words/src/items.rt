@@ -4,8 +4,8 @@ ghost use Rattle.std.specs.Prelude.{◌≡◌, ◌++◌, ◌∷◌, [], OnOk, On
 use std::alloc::{AllocError, Global};
 use std::marker::Model;
 
-/// A vector that contracts see as the list of its items, so that structs and enums that hold one are
-/// compared whole.
+/// A vector that contracts see as the list of its items, so that structs and enums that hold one
+/// are compared whole.
 #[derive(Debug, Drop)]
 pub struct Items<T> {
     inner: Vec<T>,

@@ -2,8 +2,8 @@
 ghost use Rattle.std.specs.Prelude.{◌≡◌, ℕ, List, ◌<◌, ◌≤◌, ◌^◌, Some, None, codes, decimal};
 ghost use Rattle.pr_words.specs.Decimals.{plain_decimal};
 
-/// A plain decimal is the text that prints a number: each number below the limit is read from its printed text, and from
-/// no other one.
+/// A plain decimal is the text that prints a number: each number below the limit is read from its
+/// printed text, and from no other one.
 pub fn plain_decimals_are_printed_numbers()
     ensures read { (limit n : ℕ) → limit ≤ 2 ^ 64 → n < limit → plain_decimal limit (decimal n) ≡ Some n }
     ensures below { (limit n : ℕ) (text : List ℕ) → limit ≤ 2 ^ 64 → plain_decimal limit text ≡ Some n → n < limit }

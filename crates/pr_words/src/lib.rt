@@ -1,4 +1,5 @@
-//! Small types that contracts see as plain values, and words on lists of bytes that several crates share.
+//! Small types that contracts see as plain values, and words on lists of bytes that several crates
+//! share.
 #![tactic(auto)]
 
 mod decimal;
@@ -6,8 +7,6 @@ mod fields;
 mod items;
 pub mod laws;
 mod steps;
-#[cfg(test)]
-mod tests;
 mod text;
 
 pub use decimal::{is_plain_decimal, plain_decimal};

@@ -5,8 +5,8 @@ use std::marker::Model;
 use std::mem::size_of;
 use std::sync::ledger::{Blank, Book, Ledger, Share};
 
-/// How many steps were taken: contracts see the number. It takes no bytes (`size` says so), and only `tick` changes it, so
-/// a bound on it is a bound on how often the work was done that ticks.
+/// How many steps were taken: contracts see the number. It takes no bytes (`size` says so), and
+/// only `tick` changes it, so a bound on it is a bound on how often the work was done that ticks.
 #[derive(Drop)]
 pub struct Steps<L: Ledger> {
     book: Book<L>,
@@ -24,7 +24,8 @@ impl<L: Ledger> Model for Steps<L> {
 }
 
 impl<L: Ledger> Steps<L> {
-    /// How many bytes a count of steps takes: none, so that counting costs nothing when a program runs.
+    /// How many bytes a count of steps takes: none, so that counting costs nothing when a program
+    /// runs.
     pub fn size() -> usize
         ensures { result ≡ 0 }
     {

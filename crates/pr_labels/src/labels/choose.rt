@@ -51,9 +51,9 @@ impl Labels {
         Ok(Labels { pairs })
     }
 
-    /// The key by which series are matched or grouped: the labels with one of the names where `on`, else
-    /// those with none of the names and without the metric's name. (Prometheus: Operators, "Vector
-    /// matching".)
+    /// The key by which series are matched or grouped: the labels with one of the names where `on`,
+    /// else those with none of the names and without the metric's name. (Prometheus: Operators,
+    /// "Vector matching".)
     pub fn key(&self, alloc: Global, on: bool, names: &[Text]) -> Result<Labels, AllocError>
         ensures { IfOk result (λ l. l ≡ key_labels on self.now names.now) }
     {

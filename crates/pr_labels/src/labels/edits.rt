@@ -65,7 +65,8 @@ impl Labels {
         take_out(&mut self.pairs, name);
     }
 
-    /// Sets the value of a name; an empty value takes the name out. After a refusal the set is as it was.
+    /// Sets the value of a name; an empty value takes the name out. After a refusal the set is as
+    /// it was.
     ///
     /// # Errors
     /// `BadName` of index 0 exactly where the name is no label name.

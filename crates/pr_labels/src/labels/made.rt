@@ -52,7 +52,8 @@ fn drop_empty(pairs: &mut Vec<Pair>)
 }
 
 impl Labels {
-    /// The label set of pairs in any order. A pair whose value is empty is no label, but its name counts.
+    /// The label set of pairs in any order. A pair whose value is empty is no label, but its name
+    /// counts.
     ///
     /// Many pairs take little longer than their sorting.
     ///
@@ -67,8 +68,9 @@ impl Labels {
         Ok(Labels::from_distinct(copy_pairs(alloc, pairs)?)?)
     }
 
-    /// The label set of pairs in any order, where each name is a label name and stands once. A pair whose value is empty
-    /// is no label. The pairs are moved and sorted, so that many take little longer than their sorting.
+    /// The label set of pairs in any order, where each name is a label name and stands once. A pair
+    /// whose value is empty is no label. The pairs are moved and sorted, so that many take little
+    /// longer than their sorting.
     pub fn from_distinct(pairs: Vec<Pair>) -> Result<Labels, AllocError>
         requires { first_fault pairs.items ≡ None }
         ensures { IfOk result (λ l. l ≡ labels_of pairs.items) }
