@@ -6,10 +6,8 @@ pub mod RanksOf
 pub mod Seen
 pub mod Marking
 pub mod Counting
-pub mod Sorting
 pub mod Known
 pub mod Gathered
-pub mod LabelMaps
 pub mod Answered
 pub mod Extremes
 pub mod Folded

@@ -1,5 +1,5 @@
--- The greatest and the least value as summaries: the first of two in an order. Values need no bound, so that none weighs
--- anything.
+-- The greatest and the least value as summaries: the first of two in an order. Values need no
+-- bound, so that none weighs anything.
 use Rattle.std.specs.Prelude.{◌≡◌, ℕ, ◌+◌, ◌≤◌, Bool, true, false, cond}
 use Rattle.std.proofs.Common.{arith, refl, sym, ap, ◌∙◌}
 use Rattle.std.proofs.lemmas.Cmp.{upto}

@@ -106,8 +106,9 @@ fn numbered(alloc: Global, counts: BTreeMap<Labels, u64>) -> Result<Vec<Item<Num
     Ok(items)
 }
 
-/// How many elements of each group have the same value: for each printed value the group's labels with
-/// `label` set to it, in place of what the group has there. (Prometheus: Aggregation operators.)
+/// How many elements of each group have the same value: for each printed value the group's labels
+/// with `label` set to it, in place of what the group has there. (Prometheus: Aggregation
+/// operators.)
 pub fn count_values(
     alloc: Global,
     label: &str,

@@ -192,9 +192,9 @@ fn first_of_parts(
     marked_items(alloc, vector, &marks)
 }
 
-/// The k greatest elements of each group, with all their labels and in label order. NaN comes after all
-/// others, and of equal values the first in label order comes first. k is rounded down; one that is NaN or
-/// below 1 gives nothing. (Prometheus: Aggregation operators; ties are own choice.)
+/// The k greatest elements of each group, with all their labels and in label order. NaN comes after
+/// all others, and of equal values the first in label order comes first. k is rounded down; one
+/// that is NaN or below 1 gives nothing. (Prometheus: Aggregation operators; ties are own choice.)
 pub fn topk(
     alloc: Global,
     k: Num,
@@ -208,7 +208,8 @@ pub fn topk(
     first_of_parts(alloc, true, &k, vector, by)
 }
 
-/// The k least elements of each group, by the same rules as `topk`. (Prometheus: Aggregation operators.)
+/// The k least elements of each group, by the same rules as `topk`. (Prometheus: Aggregation
+/// operators.)
 pub fn bottomk(
     alloc: Global,
     k: Num,

@@ -48,10 +48,10 @@ fn finish_all<A: Copy, E: Fn(&A) -> Result<Num, TooWide>>(
     Ok(items)
 }
 
-/// What the parts of a vector give, in label order: the values of each are lifted, combined in order, and
-/// finished. The closures for lifting and combining meet the definitions of `M`; `combine` is called only
-/// on summaries whose weights add up to less than 2^64. The work grows as n log n with the elements.
-/// (Prometheus: Querying, Operators, Aggregation operators.)
+/// What the parts of a vector give, in label order: the values of each are lifted, combined in
+/// order, and finished. The closures for lifting and combining meet the definitions of `M`;
+/// `combine` is called only on summaries whose weights add up to less than 2^64. The work grows as
+/// n log n with the elements. (Prometheus: Querying, Operators, Aggregation operators.)
 ///
 /// # Errors
 /// `TooWide` exactly where `finish` answers it for a part.

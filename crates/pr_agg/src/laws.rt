@@ -9,8 +9,8 @@ ghost use Rattle.pr_agg.specs.Finished.{count_finished, mean_finished, presence_
 ghost use Rattle.pr_agg.specs.Parts.{fold_and_finish};
 ghost use Rattle.pr_agg.specs.Presence.{any, both};
 
-/// Any values that there are, folded by `Totals`, `Greatest`, `Least`, `Counts` or `Presence` and finished, give what the
-/// definition says of them.
+/// Any values that there are, folded by `Totals`, `Greatest`, `Least`, `Counts` or `Presence` and
+/// finished, give what the definition says of them.
 #[tactic(auto, using(crate::proofs::Folded::sum_folded, crate::proofs::Folded::mean_folded, crate::proofs::Folded::greatest_folded, crate::proofs::Folded::least_folded, crate::proofs::Folded::count_folded, crate::proofs::Folded::one_folded))]
 pub fn folded_values_are_as_defined()
     ensures sum { (v : Num) (vs : List Num) → fold_and_finish one_value joined total_finished (v ∷ vs) ≡ sum_of_values (v ∷ vs) }

@@ -1,6 +1,6 @@
-//! Aggregations of a vector by labels. A call equals its definition in `pr_meaning`, which speaks of the
-//! filters of the vector; the parts are gathered in an ordered map, so that the work grows with the elements
-//! and not with the groups.
+//! Aggregations of a vector by labels. A call equals its definition in `pr_meaning`, which speaks
+//! of the filters of the vector; the parts are gathered in an ordered map, so that the work grows
+//! with the elements and not with the groups.
 #![tactic(auto)]
 
 mod counts;
@@ -11,8 +11,6 @@ mod laws;
 mod lists;
 mod numbers;
 mod parts;
-#[cfg(test)]
-mod tests;
 mod values;
 
 pub use counts::count_values;

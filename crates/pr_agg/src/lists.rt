@@ -105,8 +105,8 @@ fn quantiles(
     Ok(items)
 }
 
-/// The quantile `phi` of each group's values, which are put in order with NaN first: NaN where `phi` is, -Inf
-/// for one below 0 and +Inf for one above 1. (Prometheus: Aggregation operators.)
+/// The quantile `phi` of each group's values, which are put in order with NaN first: NaN where
+/// `phi` is, -Inf for one below 0 and +Inf for one above 1. (Prometheus: Aggregation operators.)
 pub fn quantile(
     alloc: Global,
     phi: Num,

@@ -16,8 +16,8 @@ use pr_window::Fold;
 use std::alloc::{AllocError, Global};
 use std::cmp::Ordering;
 
-/// Values are folded to their total, for `sum` and `avg`: lift by `Total::zero().plus(v)`, combine by
-/// `Total::join`.
+/// Values are folded to their total, for `sum` and `avg`: lift by `Total::zero().plus(v)`, combine
+/// by `Total::join`.
 pub struct Totals;
 
 impl Fold<Num, Total> for Totals {
@@ -161,8 +161,9 @@ fn never_wide(answer: Result<Vec<Item<Num>>, AggFault>) -> Result<Vec<Item<Num>>
     }
 }
 
-/// The exact sum of each group's values: NaN where one is or both infinities are there, else an infinity that
-/// is there. (Prometheus: Querying, Operators, Aggregation operators; exact sums are own choice.)
+/// The exact sum of each group's values: NaN where one is or both infinities are there, else an
+/// infinity that is there. (Prometheus: Querying, Operators, Aggregation operators; exact sums are
+/// own choice.)
 ///
 /// # Errors
 /// `TooWide` exactly where the sum of a group is 10^20 or more in magnitude.
@@ -182,8 +183,9 @@ pub fn sum(alloc: Global, vector: &[Item<Num>], by: &Grouping) -> Result<Vec<Ite
     )
 }
 
-/// The mean of each group's values: the exact sum over their number, rounded once, half to even. It is never
-/// too wide, though the sum may be. (Prometheus: Aggregation operators; the rounding is own choice.)
+/// The mean of each group's values: the exact sum over their number, rounded once, half to even. It
+/// is never too wide, though the sum may be. (Prometheus: Aggregation operators; the rounding is
+/// own choice.)
 pub fn avg(alloc: Global, vector: &[Item<Num>], by: &Grouping) -> Result<Vec<Item<Num>>, AllocError>
     ensures aggregated { IfOk result (λ v. aggregated (always mean_of_values) by.now vector.now ≡ Ok v.items) }
     ensures vector { IfOk result (λ v. IsVector v.items) }
@@ -199,7 +201,8 @@ pub fn avg(alloc: Global, vector: &[Item<Num>], by: &Grouping) -> Result<Vec<Ite
     never_wide(answer)
 }
 
-/// The greatest of each group's values; NaN only where all are. (Prometheus: Aggregation operators.)
+/// The greatest of each group's values; NaN only where all are. (Prometheus: Aggregation
+/// operators.)
 pub fn max(alloc: Global, vector: &[Item<Num>], by: &Grouping) -> Result<Vec<Item<Num>>, AllocError>
     ensures aggregated { IfOk result (λ v. aggregated (always greatest_of_values) by.now vector.now ≡ Ok v.items) }
     ensures vector { IfOk result (λ v. IsVector v.items) }

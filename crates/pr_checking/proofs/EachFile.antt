@@ -185,7 +185,8 @@ pub none_done : (telling : Telling) (content : Content) (names : List (List ℕ)
     → all_told telling content names ≡ Some tolds → AreDone telling content names tolds a a false
 none_done telling content names tolds a e = record { done = []; later = tolds; joined = refl; rest = e; written = Appends-nil a; so_far = refl }
 
--- the same by the loop's names: the rest is a name and what is after it, and the outside tells of it now what it told at first
+-- the same by the loop's names: the rest is a name and what is after it, and the outside tells of
+-- it now what it told at first
 pub next_done : {X : Type 0} (f : X → List ℕ) (telling : Telling) (content now : Content) (rest after : List X) (n : X) (name : List ℕ) (tolds : List Told)
     (a b c : Option (List ℕ)) (refused also : Bool) → rest ≡ n ∷ after → name ≡ f n → ((other : List ℕ) → now other ≡ content other)
     → AreDone telling content (map f rest) tolds a b refused → IfSome (now name) (λ x. Turned (telling name x) b c also)

@@ -40,13 +40,15 @@ texts tolds = flat_map (λ t. t.text) tolds
 abbrev pub any_refused : List Told → Bool
 any_refused tolds = list_any (λ t. t.refused) tolds
 
--- All files were checked: what is told of them was written, and the status is 1 exactly where one was refused, and else 0.
+-- All files were checked: what is told of them was written, and the status is 1 exactly where one
+-- was refused, and else 0.
 pub record AreChecked (tolds : List Told) (old new : Option (List ℕ)) (result : Status) : Type 0 where
   pub written : Appends old new (texts tolds)
   pub ends : result ≡ verdict (any_refused tolds)
 
--- A number of files was checked, the last of them maybe in part: what is told of them was written, but for an end of what is
--- told of the last one. Where the next file could not be read, nothing lacks.
+-- A number of files was checked, the last of them maybe in part: what is told of them was written,
+-- but for an end of what is told of the last one. Where the next file could not be read, nothing
+-- lacks.
 pub record IsFilesFront (tolds : List Told) (old new : Option (List ℕ)) (at_load : Bool) : Type 0 where
   pub done : ℕ
   pub within : done ≤ length tolds
@@ -55,8 +57,8 @@ pub record IsFilesFront (tolds : List Told) (old new : Option (List ℕ)) (at_lo
   pub whole : (before : ℕ) → before + 1 ≡ done → length (texts (take before tolds)) ≤ count
   pub unread : at_load ≡ true → length (texts (take done tolds)) ≤ count
 
--- By what is told of files, what the outside tells of names, the names, what the output took before and after, and the counts
--- of refused calls before and after.
+-- By what is told of files, what the outside tells of names, the names, what the output took before
+-- and after, and the counts of refused calls before and after.
 pub record MeansFileCheck (telling : Telling) (content : Content) (names : List (List ℕ)) (old new : Option (List ℕ)) (before now : Faults) (result : Status) : Type 0 where
   -- no call was refused, and memory sufficed
   pub told : IfSome (all_told telling content names) (λ tolds. AreCalm before now → result ≢ status.Memory → AreChecked tolds old new result)

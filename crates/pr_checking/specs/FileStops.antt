@@ -14,8 +14,8 @@ FilesStop before now (Err Write) = ⊥
 FilesStop before now (Err Memory) = now ≡ before
 FilesStop before now (Err TooLong) = ⊥
 
--- A check of files is stopped by a load or by a write that was refused, which raises its object's count alone, or by want of
--- memory.
+-- A check of files is stopped by a load or by a write that was refused, which raises its object's
+-- count alone, or by want of memory.
 abbrev pub StopsFiles : {T : Type 0} → ℕ → ℕ → ℕ → ℕ → Result T Stop → Type 0
 StopsFiles files_before files_now out_before out_now (Ok done) = (files_now ≡ files_before) × (out_now ≡ out_before)
 StopsFiles files_before files_now out_before out_now (Err Read) = Rose files_before files_now × (out_now ≡ out_before)

@@ -89,8 +89,8 @@ fn check_each<C: FileCheck, F: Files, O: Sink>(
     Ok(refused)
 }
 
-/// Checks files one after another, the next one also after a bad one, and ends with status 1 exactly where one is refused.
-/// What is told of a file is written before the next one is loaded.
+/// Checks files one after another, the next one also after a bad one, and ends with status 1
+/// exactly where one is refused. What is told of a file is written before the next one is loaded.
 pub fn check_files<C: FileCheck, F: Files, O: Sink>(
     alloc: Global,
     check: &C,

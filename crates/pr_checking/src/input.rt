@@ -69,7 +69,8 @@ fn check_all<C: InputCheck, I: Source, O: Sink>(
     Ok(verdict)
 }
 
-/// Checks the whole input, and ends with the status of its verdict. What is told is written at once when all is read.
+/// Checks the whole input, and ends with the status of its verdict. What is told is written at once
+/// when all is read.
 pub fn check_input<C: InputCheck, I: Source, O: Sink>(
     alloc: Global,
     check: &C,

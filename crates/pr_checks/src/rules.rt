@@ -12,8 +12,8 @@ use pr_rulefile::{Problem, RuleError, check};
 use pr_text::push_number;
 use std::alloc::{AllocError, Global};
 
-/// The check of rule files: each is read whole, and all its problems are told. (Prometheus: `promtool check rules`; the kinds
-/// and their order are an own choice.)
+/// The check of rule files: each is read whole, and all its problems are told. (Prometheus:
+/// `promtool check rules`; the kinds and their order are an own choice.)
 pub struct RuleFiles;
 
 #[tactic(auto, unfolding(crate::specs::RuleFiles::checking_text))]

@@ -6,7 +6,6 @@ use Rattle.std.proofs.lemmas.List.{length-map}
 use Rattle.pr_labels.specs.declared.pair.Pair.{Pair}
 use Rattle.pr_labels.specs.declared.item.Item.{Item}
 use Rattle.pr_labels.specs.Rising.{IsBelowFirstSet, IsRising}
-use Rattle.pr_labels.proofs.LabelOrder.{labels_total}
 use Rattle.pr_history.specs.declared.entry.Entry.{Entry}
 use Rattle.pr_history.specs.declared.spot.Spot.{Spot}
 use Rattle.pr_history.specs.Lookback.{spot_at}
@@ -17,8 +16,10 @@ use Rattle.pr_head.proofs.Newest.{newest_is_shown}
 use Rattle.pr_head.proofs.Simulation.{set_at}
 use Rattle.pr_ast.specs.declared.selector.Selector.{Selector}
 use Rattle.pr_num.specs.declared.value.Num.{Num}
+use Rattle.pr_labels.proofs.LabelOrder.{below_next}
 use Rattle.pr_meaning.specs.Vectors.{IsVector, label_sets}
 use Rattle.pr_query.specs.Selection.{chosen_by, moment_of, selected_spots, shown_as, spots_at, valued}
+use Rattle.pr_query.proofs.Selecting.{sets_in}
 use Rattle.pr_eval.specs.Looks.{KeepsAt}
 use Rattle.pr_ranged.specs.Choosing.{labels_of_series}
 use Rattle.pr_eval.specs.Reading.{items_read, spot_read}
@@ -58,12 +59,6 @@ items_are head history x (i ∷ numbers) keeps known =
     ∙ ap (cons_option (option_map (shown_as labels) (spot_at history x labels))) (items_are head history x numbers keeps (λ k d h. known (suc k) d (omega arith)))
 
 -- what is read of series in label order is in label order
-abbrev sets_in : List (Item Spot) → List (List Pair)
-sets_in items = map (λ e. e.labels) items
-
-below_next : (labels first : List Pair) (rest : List (List Pair)) → IsBelowFirstSet labels (first ∷ rest) → IsBelowFirstSet first rest → IsBelowFirstSet labels rest
-below_next labels first [] h k = tt
-below_next labels first (second ∷ rest) h k = labels_total.trans labels first second h k
 
 below_read : (head : List Series) (x : ℤ) (labels : List Pair) (numbers : List ℕ) → IsBelowFirstSet labels (map (labels_of_series head) numbers) → IsRising (map (labels_of_series head) numbers)
     → IsBelowFirstSet labels (sets_in (items_read head x numbers))

@@ -1,5 +1,5 @@
 -- What is known of the parts of a tree.
-use Rattle.std.proofs.Common.{◌≡◌, ◌≢◌, ℕ, zero, suc, ◌+◌, ◌<◌, ◌≤◌, max, pos, ◌-ℤ◌, ◌≤ℤ◌, Bool, true, false, ◌&&◌, List, [], ◌∷◌, ◌++◌, length, slice_get, Option, Some, Result, Ok, Err, is_ok, refl, sym, ap, subst, ◌∙◌, length-append, arith}
+use Rattle.std.proofs.Common.{◌≡◌, ◌≢◌, ℕ, zero, suc, ◌+◌, ◌<◌, ◌≤◌, max, pos, ◌-ℤ◌, ◌≤ℤ◌, Bool, true, false, List, [], ◌∷◌, ◌++◌, length, slice_get, Option, Some, Result, Ok, Err, is_ok, refl, sym, ap, subst, ◌∙◌, length-append, arith}
 use Rattle.std.proofs.lemmas.Option.{slice_get_within}
 use Rattle.pr_labels.specs.declared.pair.Pair.{Pair}
 use Rattle.pr_labels.specs.declared.grouping.Grouping.{Grouping}
@@ -16,6 +16,7 @@ use Rattle.pr_ast.specs.declared.names.Func.{Func}
 use Rattle.pr_ast.specs.declared.names.Func.TheVariants as fn
 use Rattle.pr_ast.specs.declared.selector.Selector.{Selector}
 use Rattle.pr_num.specs.declared.value.Num.{Num}
+use Rattle.pr_labels.proofs.LabelOrder.{both}
 use Rattle.pr_ast.specs.Tree.{Tree, number, text, select, range, sub, neg, binary, call, aggregate, none, more}
 use Rattle.pr_ast.specs.Reach.{reads_back}
 use Rattle.pr_ast.specs.Steps.{has_steps}
@@ -152,9 +153,6 @@ more_of t ts u is = subst (λ v. AreTwo v ts u) (sym is) (record {
 })
 
 -- where their selectors, ranges and patterns stand
-both : (a b : Bool) → (a && b) ≡ true → (a ≡ true) × (b ≡ true)
-both true b h = (refl, h)
-both false b h = cc
 
 module _ (whole : Tree) (n : Counts) where
   pub one_part : (t u : Tree) (own : List (List ℕ)) (f : RangeFn → RangeFn) → IsOne t u own f → IsPart whole n t → IsPart whole n u

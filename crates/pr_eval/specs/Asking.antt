@@ -40,8 +40,9 @@ pub record Sought : Type 0 where
 abbrev pub sought : List Entry → RangeFn → ℤ → ℤ → List (List Pair) → Sought
 sought history func from to sets = record { ask = record { func = func; from = from; to = to }; numbers = map (number_of history) sets }
 
--- What is asked at a time for each range selector of a tree, in the order of their numbers; nothing that stays for one inside a
--- subquery. A range selector is asked for the function that it is an argument of.
+-- What is asked at a time for each range selector of a tree, in the order of their numbers; nothing
+-- that stays for one inside a subquery. A range selector is asked for the function that it is an
+-- argument of.
 abbrev pub asks_in : Bool → List Entry → RangeFn → Tree → ℕ → List (Option Sought)
 asks_in inside history func (range p s d) time = cond inside None (Some (sought history func (moment_of s time -ℤ pos d) (moment_of s time) (chosen_by s history))) ∷ []
 asks_in inside history func (sub p t d i o) time = asks_in true history func t time

@@ -21,7 +21,8 @@ use Rattle.pr_eval.specs.Looks.{KeepsFor}
 abbrev pub passed_by : Bool → List Entry → Passed → PassedFor
 passed_by inside history passed k labels = cond inside 0 (passed k (number_of history labels))
 
--- The ask may follow the last ones of its range selector: the function stays, and the range does not begin or end earlier.
+-- The ask may follow the last ones of its range selector: the function stays, and the range does
+-- not begin or end earlier.
 abbrev pub MayFollow : LastAsk → (ℕ → Option LastAsk) → Type 0
 MayFollow a last = (s : ℕ) (b : LastAsk) → last s ≡ Some b → (b.func ≡ a.func) × ((b.from ≤ℤ a.from) × (b.to ≤ℤ a.to))
 
@@ -33,7 +34,8 @@ IsReadyFor last k (Some q) = MayFollow q.ask (last k)
 abbrev pub AreReady : LastAsks → ℕ → List (Option Sought) → Type 0
 AreReady last node asks = EachAt (IsReadyFor last) node asks
 
--- An expression that may be evaluated: the head tells all that it looks at, what is kept of ranges is true, and what it asks may come.
+-- An expression that may be evaluated: the head tells all that it looks at, what is kept of ranges
+-- is true, and what it asks may come.
 pub record MayEval (head : List (List Pair × Stored)) (history : List Entry) (t : Tree) (time : ℕ) (asks : List (Option Sought)) (node : ℕ) (Fits : Type 0) (last : LastAsks) : Type 0 where
   pub keeps : KeepsFor head history t time
   pub fits : Fits
@@ -49,8 +51,8 @@ pub record IsSame (k : ℕ) (before after : Kept) : Type 0 where
   pub last : after.last k ≡ before.last k
   pub passed : after.passed k ≡ before.passed k
 
--- Where asks are remembered, this is the last one of each of these series of a range selector, and all of the series until its end
--- count as passed; what is known of other series stays.
+-- Where asks are remembered, this is the last one of each of these series of a range selector, and
+-- all of the series until its end count as passed; what is known of other series stays.
 pub record AreRows (keeps : Bool) (history : List Entry) (a : LastAsk) (numbers : List ℕ) (last last' : ℕ → Option LastAsk) (passed passed' : ℕ → ℕ) : Type 0 where
   pub asks : (s : ℕ) → last' s ≡ cond (keeps && is_number_among s numbers) (Some a) (last s)
   pub passing : (s : ℕ) → passed' s ≡ cond (keeps && is_number_among s numbers) (entries_until history (labels_at (arrivals history) s) a.to) (passed s)
@@ -69,14 +71,15 @@ pub record AreAsked (keeps : Bool) (history : List Entry) (whole : Bool) (asks :
   pub others : (k : ℕ) → (k < node) ⊎ (node + length asks ≤ k) → IsSame k before after
   pub own : EachAt (IsAsked keeps history whole before after) node asks
 
--- What is known after a part was evaluated, but for its answer: how many samples were read at most, and where memory did not run out,
--- that what is kept of ranges is true, and what was asked.
+-- What is known after a part was evaluated, but for its answer: how many samples were read at most,
+-- and where memory did not run out, that what is kept of ranges is true, and what was asked.
 pub record Takes {A : Type 0} (keeps : Bool) (history : List Entry) (asks : List (Option Sought)) (node most : ℕ) (before after : Kept) (Fits : Type 0) (reads reads' : ℕ) (result : Result A EvalError) : Type 0 where
   pub few : reads' ≤ reads + most
   pub fits : result ≢ Err Memory → Fits
   pub asked : result ≢ Err Memory → AreAsked keeps history (is_ok result) asks node before after
 
--- The same of an expression at a time, whose first range selector has the number `node`, inside a subquery or not.
+-- The same of an expression at a time, whose first range selector has the number `node`, inside a
+-- subquery or not.
 abbrev pub MayTake : List (List Pair × Stored) → Bool → List Entry → RangeFn → Tree → ℕ → ℕ → Type 0 → LastAsks → Type 0
 MayTake head inside history func t time node Fits last = MayEval head history t time (asks_in inside history func t time) node Fits last
 

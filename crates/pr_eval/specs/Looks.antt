@@ -9,8 +9,8 @@ use Rattle.pr_head.specs.Reads.{IsPast}
 use Rattle.pr_ast.specs.Tree.{Tree}
 use Rattle.pr_ast.specs.Reach.{reads_back}
 
--- The head stands for a lawful history, and nothing is forgotten above a moment that lies as far before the time as the
--- expression reads back, or further.
+-- The head stands for a lawful history, and nothing is forgotten above a moment that lies as far
+-- before the time as the expression reads back, or further.
 pub record KeepsFor (head : List (List Pair × Stored)) (history : List Entry) (t : Tree) (time : ℕ) : Type 0 where
   pub lawful : IsLawful history
   pub holds : Holds head history

@@ -25,8 +25,8 @@ StandAt all from own = EachAt (λ k tests. slice_get all k ≡ Some tests) from 
 abbrev pub PatternsAt : List (List ℕ) → ℕ → List (List ℕ) → Type 0
 PatternsAt all from own = EachAt (λ k pattern. slice_get all k ≡ Some pattern) from own
 
--- A part of an expression: the selectors, range selectors and patterns of the part are those of the whole from these numbers on, and
--- no step in it is 0.
+-- A part of an expression: the selectors, range selectors and patterns of the part are those of the
+-- whole from these numbers on, and no step in it is 0.
 pub record IsPart (whole : Tree) (at : Counts) (t : Tree) : Type 0 where
   pub selectors : StandAt (tests_in whole) at.selectors (tests_in t)
   pub ranges : at.ranges + ranges_in t ≤ ranges_in whole
@@ -57,7 +57,8 @@ pub record AreTwo (t l r : Tree) : Type 0 where
   pub asks : (inside : Bool) (history : List Entry) (func : RangeFn) (time : ℕ) → asks_in inside history func t time ≡ asks_in inside history func l time ++ asks_in inside history func r time
   pub costs : (step : ℕ) (history : List Entry) (u : PassedFor) (node time : ℕ) → cost step history u t node time ≡ cost step history u l node time + cost step history u r (node + ranges_in l) time
 
--- A tree of one part, which may have a pattern of its own behind it. Its ranges are asked for another function.
+-- A tree of one part, which may have a pattern of its own behind it. Its ranges are asked for
+-- another function.
 pub record IsOne (t u : Tree) (own : List (List ℕ)) (func_of : RangeFn → RangeFn) : Type 0 where
   pub back : reads_back t ≡ reads_back u
   pub steps : has_steps t ≡ has_steps u

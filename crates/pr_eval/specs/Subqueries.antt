@@ -23,8 +23,8 @@ range_of p span offset time =
     let to = pos time -ℤ pos offset in
     record { place = p; from = to -ℤ pos span; to = to }
 
--- An expression that may be evaluated at each of these times: the head tells all that it looks at then, and what is kept of
--- ranges is true.
+-- An expression that may be evaluated at each of these times: the head tells all that it looks at
+-- then, and what is kept of ranges is true.
 pub record MayTakeEach (head : List (List Pair × Stored)) (history : List Entry) (t : Tree) (times : List ℕ) (Fits : Type 0) : Type 0 where
   pub keeps : (i time : ℕ) → slice_get times i ≡ Some time → KeepsFor head history t time
   pub fits : Fits
@@ -33,8 +33,9 @@ pub record MayTakeEach (head : List (List Pair × Stored)) (history : List Entry
 abbrev pub AreSame : Kept → Kept → Type 0
 AreSame before after = (k : ℕ) → IsSame k before after
 
--- What is known after an evaluation inside a subquery, but for its answer: how many samples were read at most, and where memory
--- did not run out, that what is kept of ranges is true and as it was.
+-- What is known after an evaluation inside a subquery, but for its answer: how many samples were
+-- read at most, and where memory did not run out, that what is kept of ranges is true and as it
+-- was.
 pub record TakesInside {A : Type 0} (most : ℕ) (before after : Kept) (Fits : Type 0) (reads reads' : ℕ) (result : Result A EvalError) : Type 0 where
   pub few : reads' ≤ reads + most
   pub fits : result ≢ Err error.Memory → Fits

@@ -29,8 +29,8 @@ use pr_words::{Items, Steps};
 use std::alloc::Global;
 use std::sync::ledger::Ledger;
 
-// The value of a part of an expression. Its first selector, range selector and pattern have these numbers in the whole, which are
-// counted up by as many as the part has.
+// The value of a part of an expression. Its first selector, range selector and pattern have these
+// numbers in the whole, which are counted up by as many as the part has.
 #[cycle(evaluation)]
 pub(crate) fn eval_at<R: Ranges, G: Ledger>(
     scope: &Scope<'_>,
@@ -103,15 +103,17 @@ pub(crate) fn eval_at<R: Ranges, G: Ledger>(
     }
 }
 
-/// What a checked expression gives at a time, over a head: a scalar, a vector in label order, or the first fault in the order
-/// of the text with the place of its node. It is what the expression means over each history that the head stands for, as
-/// long as nothing was forgotten that it looks at, and `ranges` may be asked. A sample is read for each series that a selector
-/// chooses, and for a range selector those of its range that were not passed for it.
-/// The step is that of subqueries which give none; it is not 0. (Prometheus: Querying basics, and Operators; the order of faults is own
-/// choice.)
+/// What a checked expression gives at a time, over a head: a scalar, a vector in label order, or
+/// the first fault in the order of the text with the place of its node. It is what the expression
+/// means over each history that the head stands for, as long as nothing was forgotten that it looks
+/// at, and `ranges` may be asked. A sample is read for each series that a selector chooses, and for
+/// a range selector those of its range that were not passed for it. The step is that of subqueries
+/// which give none; it is not 0. (Prometheus: Querying basics, and Operators; the order of faults
+/// is own choice.)
 ///
 /// # Errors
-/// `Fault` with the first fault, or `Memory` where memory runs out. What `ranges` keep is true afterwards but for want of memory.
+/// `Fault` with the first fault, or `Memory` where memory runs out. What `ranges` keep is true
+/// afterwards but for want of memory.
 pub fn eval<R: Ranges, G: Ledger>(
     alloc: Global,
     e: &Checked,

@@ -47,14 +47,16 @@ use pr_words::Steps;
 use std::alloc::{AllocError, Global};
 use std::sync::ledger::Ledger;
 
-/// What is made of a range: what a function gives of its series, or one element with these labels where none has a value.
+/// What is made of a range: what a function gives of its series, or one element with these labels
+/// where none has a value.
 #[derive(Drop)]
 pub(crate) enum RangeUse {
     Answers { call: RangeCall },
     Absence { place: Place, labels: Labels },
 }
 
-/// The operands of a function of a range, in the order of the text: the range alone, behind a scalar, or before one.
+/// The operands of a function of a range, in the order of the text: the range alone, behind a
+/// scalar, or before one.
 #[derive(Drop)]
 pub(crate) enum RangeOperands<'a> {
     Alone { range: &'a Expr },
@@ -348,8 +350,8 @@ fn over_range<R: Ranges, G: Ledger>(
     }
 }
 
-// `predict_linear`: its range stands before its scalar. The series of a range selector have no fault before that of the scalar, so
-// they are asked after it.
+// `predict_linear`: its range stands before its scalar. The series of a range selector have no
+// fault before that of the scalar, so they are asked after it.
 #[cycle(evaluation)]
 fn prediction<R: Ranges, G: Ledger>(
     scope: &Scope<'_>,
@@ -421,8 +423,8 @@ fn prediction<R: Ranges, G: Ledger>(
     }
 }
 
-/// A call of a function of a range. Operands are taken in the order of the text, and the series of a range selector are asked
-/// behind them all.
+/// A call of a function of a range. Operands are taken in the order of the text, and the series of
+/// a range selector are asked behind them all.
 #[cycle(evaluation)]
 pub(crate) fn range_call<R: Ranges, G: Ledger>(
     scope: &Scope<'_>,

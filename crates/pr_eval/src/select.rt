@@ -108,7 +108,8 @@ fn read_all<G: Ledger>(
     Ok(items)
 }
 
-/// The chosen series with what they show at a time less the offset, each with the time of its value.
+/// The chosen series with what they show at a time less the offset, each with the time of its
+/// value.
 #[tactic(auto, using(crate::proofs::Reading::spots_are, crate::proofs::Reading::spots_rise, crate::proofs::Reading::as_many))]
 pub(crate) fn selected_spots<G: Ledger>(
     alloc: Global,

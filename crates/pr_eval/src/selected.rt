@@ -29,7 +29,8 @@ use pr_words::Steps;
 use std::alloc::AllocError;
 use std::sync::ledger::Ledger;
 
-// What a selector shows, with the times of the values; its number is that among the selectors of the whole expression.
+// What a selector shows, with the times of the values; its number is that among the selectors of
+// the whole expression.
 fn spots<G: Ledger>(
     scope: &Scope<'_>,
     selector: &Selector,

@@ -173,7 +173,8 @@ fn value_at<R: Ranges, G: Ledger>(
     eval_at(&then, inner, &mut number, ranges, reads)
 }
 
-// The series of the expression of a subquery at each of its times, one after another. The first fault ends.
+// The series of the expression of a subquery at each of its times, one after another. The first
+// fault ends.
 #[cycle(evaluation)]
 fn gathered<R: Ranges, G: Ledger>(
     scope: &Scope<'_>,
@@ -207,12 +208,14 @@ fn gathered<R: Ranges, G: Ledger>(
     Ok(series)
 }
 
-/// The series of a subquery, whose expression is evaluated at each of its times in turn: the multiples of its step in its
-/// range. The first fault ends. Inside a subquery nothing that stays is asked of ranges. (Prometheus: Querying basics,
-/// Subquery. Own choice: too many times are told before any is taken, at the place of the subquery.)
+/// The series of a subquery, whose expression is evaluated at each of its times in turn: the
+/// multiples of its step in its range. The first fault ends. Inside a subquery nothing that stays
+/// is asked of ranges. (Prometheus: Querying basics, Subquery. Own choice: too many times are told
+/// before any is taken, at the place of the subquery.)
 ///
 /// # Errors
-/// `RangeTooLong` with the number of times, where it is above 2^20; or the first fault of the expression, or `Memory`.
+/// `RangeTooLong` with the number of times, where it is above 2^20; or the first fault of the
+/// expression, or `Memory`.
 #[cycle(evaluation)]
 pub(crate) fn series_of<R: Ranges, G: Ledger>(
     scope: &Scope<'_>,

@@ -8,7 +8,7 @@ cancel : (xs ys zs : List ℕ) → xs ++ ys ≡ xs ++ zs → ys ≡ zs
 cancel [] ys zs h = h
 cancel (x ∷ xs) ys zs h = cancel xs ys zs (let k : xs ++ ys ≡ xs ++ zs = cc in k)
 
-not_true : (b : Bool) → (b ≡ true → ⊥) → b ≡ false
+pub not_true : (b : Bool) → (b ≡ true → ⊥) → b ≡ false
 not_true true h = absurd (h refl)
 not_true false h = refl
 

@@ -21,7 +21,7 @@ or_assoc false b c = refl
 both_assoc : (a b c : Marks) → both (both a b) c ≡ both a (both b c)
 both_assoc a b c = rw (or_assoc a.le b.le c.le, or_assoc a.quantile b.quantile c.quantile, or_assoc a.wide b.wide c.wide) refl
 
-or_false : (a : Bool) → (a || false) ≡ a
+pub or_false : (a : Bool) → (a || false) ≡ a
 or_false true = refl
 or_false false = refl
 

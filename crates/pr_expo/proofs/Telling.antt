@@ -19,21 +19,15 @@ use Rattle.pr_expo.specs.declared.exposition.Line.{Line}
 use Rattle.pr_expo.specs.declared.known.Known.{Known}
 use Rattle.pr_expo.specs.Families.{Arrival, arrivals, arrivals_after, arrived, ends_in, family_by, family_by_kinds, family_names, family_of, first_type, has_late_type, has_parts, is_among, is_help, is_late, is_sample, is_sampled, is_type, kind_of, mentioned, mentioned_after, mentions, sample_at, sample_of, samples_after, samples_by, type_at, types_of, whole_of, without_ending}
 use Rattle.pr_expo.specs.Keeping.{AreApart, Entries, HasRoom, Tells, entries_after, family_from, kept_family, kept_kind, known_by, known_of, nothing_known, put, samples_kept, with_help, with_sample, with_type}
+use Rattle.pr_expo.proofs.Marking.{or_false}
+use Rattle.pr_expo.proofs.Endings.{not_true}
 
 -- names are the same, or not
 same_name : (a b : List ℕ) → bytes_eq a b ≡ true → a ≡ b
 same_name a b h = (bytes_eq-Decides a b).0 h
 
-not_true : (b : Bool) → (b ≡ true → ⊥) → b ≡ false
-not_true true h = absurd (h refl)
-not_true false h = refl
-
 turned : (a b : List ℕ) → bytes_eq a b ≡ false → bytes_eq b a ≡ false
 turned a b h = not_true (bytes_eq b a) (λ t. let p : true ≡ false = sym (alike a) ∙ ap (bytes_eq a) (sym (same_name b a t)) ∙ h in cc)
-
-or_false : (a : Bool) → (a || false) ≡ a
-or_false true = refl
-or_false false = refl
 
 or_none : (a b : Bool) → (a || b) ≡ false → (a ≡ false) × (b ≡ false)
 or_none true b h = cc

@@ -1,4 +1,5 @@
--- The families of an exposition and its samples, by what its lines read as. What a line means depends on the lines before it.
+-- The families of an exposition and its samples, by what its lines read as. What a line means
+-- depends on the lines before it.
 use Rattle.std.specs.Prelude.{◌≡◌, ℕ, ◌-◌, ◌==◌, ◌&&◌, Bool, true, false, cond, Option, Some, None, unwrap_or, Result, Ok, Err, List, [], ◌∷◌, ◌++◌, length, take, filter, flat_map, fold, map, codes}
 use Rattle.std.specs.List.{list_any, position_or_len, ends_with}
 use Rattle.std.specs.Option.{option_map, option_or}
@@ -72,8 +73,8 @@ abbrev pub whole_of : (List ℕ → FamilyKind) → Bool → List ℕ → List �
 whole_of kinds in_summaries ending name =
     cond (ends_in ending name) (cond (has_parts in_summaries (kinds (without_ending ending name))) (Some (without_ending ending name)) None) None
 
--- The family of a sample with this name, by the kinds of names: the histogram of which it is a bucket, or the histogram or summary of
--- which it is the sum or the count, or that of its own name.
+-- The family of a sample with this name, by the kinds of names: the histogram of which it is a
+-- bucket, or the histogram or summary of which it is the sum or the count, or that of its own name.
 abbrev pub family_by_kinds : (List ℕ → FamilyKind) → List ℕ → List ℕ
 family_by_kinds kinds name =
     unwrap_or (option_or (whole_of kinds false (codes "_bucket") name)
@@ -155,7 +156,8 @@ value_by (Ok value) = Some value
 value_by (Err TooWide) = None
 value_by (Err NotNumber) = None
 
--- The sample of a line, with the place of its family: an empty value is no label, and a time is a sign and digits.
+-- The sample of a line, with the place of its family: an empty value is no label, and a time is a
+-- sign and digits.
 abbrev pub sample_of : Measured → Option (List ℕ) → ℕ → Line
 sample_of m time place = record {
   labels = labels_of (pair_of metric_label m.head.name ∷ m.head.labels);

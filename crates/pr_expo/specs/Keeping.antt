@@ -1,4 +1,5 @@
--- What is kept of the lines so far while an exposition is read. Private contracts cite this: a reader can pass it over.
+-- What is kept of the lines so far while an exposition is read. Private contracts cite this: a
+-- reader can pass it over.
 use Rattle.std.specs.Prelude.{◌≡◌, ℕ, ◌+◌, ◌<◌, ◌≤◌, ◌^◌, ◌==◌, ◌||◌, true, false, unwrap_or, Result, Ok, Err, List, [], ◌∷◌, ◌++◌, length, filter, fold, if◌then◌else◌}
 use Rattle.std.specs.Map.{lookup, keys_of}
 use Rattle.std.specs.Str.{bytes_eq}
@@ -79,7 +80,8 @@ known_by before name = record {
   sampled = is_sampled before name;
 }
 
--- The entries and samples tell what the lines before say: the samples also whatever families more lines mention.
+-- The entries and samples tell what the lines before say: the samples also whatever families more
+-- lines mention.
 pub record Tells (entries : Entries) (lines : List Line) (before : List Read) : Type 0 where
   pub names : keys_of entries ≡ family_names before
   pub each : (name : List ℕ) → known_of entries name ≡ known_by before name

@@ -67,7 +67,8 @@ is_wide line = not (is_some line.value)
 abbrev pub lines_of_family : ℕ → List Line → List Line
 lines_of_family place lines = filter (λ line. line.family == place) lines
 
--- what is seen on the samples of a family: a label `le`, a label `quantile`, a value that is too wide
+-- what is seen on the samples of a family: a label `le`, a label `quantile`, a value that is too
+-- wide
 abbrev pub marks_of : List Line → Marks
 marks_of own = record {
   le = list_any (has_label (codes "le")) own;

@@ -1,4 +1,5 @@
--- What is seen on samples one after the other. Private contracts cite this: a reader can pass it over.
+-- What is seen on samples one after the other. Private contracts cite this: a reader can pass it
+-- over.
 use Rattle.std.specs.Prelude.{◌||◌, false, List, [], ◌∷◌, set, get_or, codes}
 use Rattle.pr_expo.specs.declared.exposition.Line.{Line}
 use Rattle.pr_expo.specs.declared.marks.Marks.{Marks}

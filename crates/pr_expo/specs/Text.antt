@@ -20,7 +20,8 @@ ended [] = []
 ended (part ∷ []) = part ∷ []
 ended (part ∷ next ∷ parts) = without_return part ∷ ended (next ∷ parts)
 
--- the lines: what stands between line feeds; after the last of them stands a line too, which may be empty
+-- the lines: what stands between line feeds; after the last of them stands a line too, which may be
+-- empty
 unfoldable pub text_lines : List ℕ → List (List ℕ)
 text_lines bytes = ended (slice_split is_feed bytes)
 
@@ -35,6 +36,7 @@ abbrev pub reads_from : ℕ → List (List ℕ) → Result (List Read) ExpoError
 reads_from number [] = Ok []
 reads_from number (line ∷ lines) = joined number (line_read line) (reads_from (suc number) lines)
 
--- What the lines of a text read as, one after the other, or the number of the first that is bad, and how it is.
+-- What the lines of a text read as, one after the other, or the number of the first that is bad,
+-- and how it is.
 unfoldable pub text_reads : List ℕ → Result (List Read) ExpoError
 text_reads bytes = reads_from 1 (text_lines bytes)

@@ -9,8 +9,6 @@ mod known;
 mod marks;
 mod reader;
 mod sample;
-#[cfg(test)]
-mod tests;
 mod text;
 
 pub use complaints::lint;

@@ -1,4 +1,5 @@
--- What a line of a sample is so far, at each place of it: so what is read as a sample is the line of one.
+-- What a line of a sample is so far, at each place of it: so what is read as a sample is the line
+-- of one.
 use Rattle.std.proofs.Common.{◌≡◌, refl, sym, ap, ◌∙◌, subst, ℕ, ◌<◌, List, [], ◌∷◌, ◌++◌, length-append, Bool, true, false, ◌&&◌, ◌||◌, Option, Some, None, Ok, append_assoc, append-nil, arith, lit<, encode_utf8, codes, nat_lt}
 use Prim.Native.Char.{code}
 use Rattle.std.specs.Prelude.{◌==◌, if◌then◌else◌}

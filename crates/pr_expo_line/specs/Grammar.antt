@@ -1,4 +1,5 @@
--- The lines of an exposition as a grammar: its rules are the places of a line, and each reads a character and what stands after it.
+-- The lines of an exposition as a grammar: its rules are the places of a line, and each reads a
+-- character and what stands after it.
 use Rattle.std.specs.Prelude.{ℕ, Bool, true, false, Option, Some, None, is_some, List, [], ◌∷◌}
 use Rattle.pr_forms.specs.Form.{Form, token, nothing, pair, either, chosen, rule, Reads, IsFirstBad}
 use Rattle.pr_forms.specs.Table.{Table}

@@ -1,5 +1,5 @@
--- The lines of an exposition. A line is a grammar's text whose rules are the places of a line: each character leads from a place to
--- the next, or no line goes on with it.
+-- The lines of an exposition. A line is a grammar's text whose rules are the places of a line: each
+-- character leads from a place to the next, or no line goes on with it.
 use Rattle.std.specs.Prelude.{◌≡◌, ℕ, suc, ◌==◌, ◌&&◌, ◌||◌, nat_lt, Bool, true, false, Option, Some, None, Result, Ok, Err, List, [], ◌∷◌, ◌++◌, take, codes, encode_utf8, if◌then◌else◌}
 use Rattle.std.specs.List.{list_any, starts_with}
 use Rattle.std.specs.Str.{bytes_eq, chars, is_utf8}
@@ -267,8 +267,8 @@ ends (AfterList head) = None
 ends (BeforeNumber head) = None
 ends (AfterSign m text) = None
 
--- What is bad where no line goes on from the place: with a character, or at the line's end. A name that ends a line wants what
--- follows it.
+-- What is bad where no line goes on from the place: with a character, or at the line's end. A name
+-- that ends a line wants what follows it.
 abbrev pub fault_at : Place → ExpoKind
 fault_at (BeforeType name) = BadType
 fault_at (InType name text) = BadType
@@ -302,7 +302,8 @@ end_fault (InFamily w name) = BadType
 end_fault (InName name) = BadValue
 end_fault place = fault_at place
 
--- Where the characters lead: to a place, or to one from which no line goes on with the next of them.
+-- Where the characters lead: to a place, or to one from which no line goes on with the next of
+-- them.
 pub data Way : Type 0 where
   comes : Place → Way
   stops : ExpoKind → Way
@@ -330,8 +331,8 @@ outcome_of false (comes place) = Err NotText
 abbrev pub text_front : List ℕ → List ℕ
 text_front line = take (utf8_valid_len line) line
 
--- What a line reads as, or how it is bad at its first bad place: the first character with which no line goes on, the first byte that
--- is no text, or the end, whichever comes first.
+-- What a line reads as, or how it is bad at its first bad place: the first character with which no
+-- line goes on, the first byte that is no text, or the end, whichever comes first.
 unfoldable pub line_read : List ℕ → Result Read ExpoKind
 line_read line = outcome_of (is_utf8 line) (way Start (chars (text_front line)))
 

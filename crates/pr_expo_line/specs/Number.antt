@@ -1,5 +1,6 @@
--- The number texts of a line: an optional sign, and digits with an optional point, of which there is one digit at least, and
--- optionally `e`, an optional sign and digits; or `inf` or `infinity` after an optional sign, or `nan`, in any case.
+-- The number texts of a line: an optional sign, and digits with an optional point, of which there
+-- is one digit at least, and optionally `e`, an optional sign and digits; or `inf` or `infinity`
+-- after an optional sign, or `nan`, in any case.
 use Rattle.std.specs.Prelude.{ℕ, ◌==◌, Bool, true, false, Option, Some, None, if◌then◌else◌}
 use Rattle.pr_expo_line.specs.declared.number.NumberPlace.{NumberPlace}
 use Rattle.pr_expo_line.specs.declared.number.NumberPlace.TheVariants.{Signed, Whole, Point, Fraction, Exponent, ExponentSign, ExponentDigits, I, In, Inf, Infi, Infin, Infini, Infinit, Infinity, N, Na, Nan}

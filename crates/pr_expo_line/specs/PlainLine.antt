@@ -1,4 +1,5 @@
--- The line of a sample as a person reads it, part by part. Its text is a list of characters; what is read of it is kept as bytes.
+-- The line of a sample as a person reads it, part by part. Its text is a list of characters; what
+-- is read of it is kept as bytes.
 use Rattle.std.specs.Prelude.{◌≡◌, ℕ, ◌<◌, ◌==◌, true, false, Option, Some, None, List, [], ◌∷◌, ◌++◌, length, codes, encode_utf8}
 use Prim.Native.Char.{code}
 use Rattle.std.specs.List.{list_all}
@@ -33,7 +34,8 @@ pub record SomeBlanks (text : List ℕ) : Type 0 where
   pub some : 0 < length text
   pub blanks : Blanks text
 
--- What stands between the quotes of a value, with its bytes: each character stands for itself, but behind a backslash for what it escapes.
+-- What stands between the quotes of a value, with its bytes: each character stands for itself, but
+-- behind a backslash for what it escapes.
 pub data Value : List ℕ → List ℕ → Type 0 where
   empty_value : Value [] []
   character : (value text : List ℕ) (c : ℕ) → Value value text → (c == code "\"") ≡ false → (c == code "\\") ≡ false → Value (value ++ encode_utf8 c) (text ++ c ∷ [])
@@ -48,7 +50,8 @@ pub data Labels : List Pair → List ℕ → Type 0 where
   one : (p : Pair) (text : List ℕ) → Label p text → Labels (p ∷ []) text
   more : (ps : List Pair) (p : Pair) (front label text : List ℕ) → Labels ps front → Label p label → text ≡ (front ++ codes ",") ++ label → Labels (ps ++ p ∷ []) text
 
--- what may stand behind a name: nothing, or labels in braces, which may have a comma behind the last
+-- what may stand behind a name: nothing, or labels in braces, which may have a comma behind the
+-- last
 pub data LabelList : List Pair → List ℕ → Type 0 where
   no_list : LabelList [] []
   no_labels : (text : List ℕ) → (Is (codes "{") ▸ Blanks ▸ Is (codes "}")) text → LabelList [] text

@@ -1,5 +1,5 @@
--- What holds of every line that is read: the names of its labels are label names and stand once, its number is a number text, and its
--- time is short.
+-- What holds of every line that is read: the names of its labels are label names and stand once,
+-- its number is a number text, and its time is short.
 use Rattle.std.specs.Prelude.{◌≡◌, ℕ, ◌<◌, ◌≤◌, Option, Some, None, List, ◌∷◌, ◌++◌, length}
 use Rattle.pr_labels.specs.LabelSet.{metric_label, pair_of}
 use Rattle.pr_labels.specs.Edits.{first_fault}

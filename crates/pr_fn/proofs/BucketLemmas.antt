@@ -20,27 +20,20 @@ use Rattle.pr_num.proofs.Algebra.{order_is_total, order_tells_apart, joined_list
 use Rattle.pr_labels.specs.declared.pair.Pair.{Pair}
 use Rattle.pr_labels.specs.declared.item.Item.{Item}
 use Rattle.pr_labels.specs.Order.{labels_cmp}
-use Rattle.pr_labels.specs.Rising.{placed, with_labels}
-use Rattle.pr_labels.proofs.LabelOrder.{labels_total, tied}
+use Rattle.pr_labels.proofs.LabelOrder.{labels_total}
+use Rattle.pr_labels.proofs.LabelMaps.{tie, same_labels}
+use Rattle.pr_labels.proofs.Sorted.{equal_of}
 use Rattle.pr_meaning.specs.declared.bucket.Bucket.{Bucket}
 use Rattle.pr_meaning.specs.declared.function_fault.FunctionFault.{FunctionFault}
 use Rattle.pr_meaning.specs.Vectors.{IsVector}
 use Rattle.pr_meaning.specs.Histogram.{bound_of, bound_placed, bucket, bucket_of, buckets_in, count_at, counted_at, elements_by, histogram_labels, histogram_quantiles, histogram_value, is_bucket, merged, next_bucket, quantile_in, quantile_of_merged, next_element, with_bound}
 use Rattle.pr_fn.specs.Buckets.{before_buckets, before_elements, bound_in, buckets_of, buckets_with, count_in, counted_entries, tally_of, tally_with, valued_entries}
 use Rattle.pr_fn.specs.Gathered.{AreGathered, of_key, with_key}
-use Rattle.pr_fn.proofs.LabelMaps.{tie}
 use Rattle.pr_fn.proofs.Gathering.{gathered_more}
-
-equal_of : (o : Ordering) → is_eq o ≡ true → o ≡ Equal
-equal_of Less h = cc
-equal_of Equal h = refl
-equal_of Greater h = cc
+use Rattle.pr_fn.proofs.LabelKeys.{labels_key}
 
 same_value : (a b : Num) → is_eq (order_of a b) ≡ true → a ≡ b
 same_value a b h = (order_tells_apart a b).0 (equal_of (order_of a b) h)
-
-same_labels : (a b : List Pair) → is_eq (labels_cmp a b) ≡ true → a ≡ b
-same_labels a b h = tied a b (equal_of (labels_cmp a b) h)
 
 -- counts added up
 tally_more : (xs : List Bucket) (x : Bucket) → Some (tally_with (tally_of xs) x.count) ≡ tally_of (xs ++ x ∷ [])
@@ -131,15 +124,6 @@ bound_put Greater bound first rest more other h = ap (λ (r : List Num). first �
 bound_key : (known : List Num) (bound : Num) → with_bound known bound ≡ with_key order_of known bound
 bound_key [] bound = refl
 bound_key (first ∷ rest) bound = bound_put (order_of bound first) bound first rest (with_bound rest bound) (with_key order_of rest bound) (bound_key rest bound)
-
-labels_put : (o : Ordering) (labels first : List Pair) (rest more other : List (List Pair)) → more ≡ other → placed o labels first rest more ≡ match_ordering o (labels ∷ first ∷ rest) (first ∷ rest) (first ∷ other)
-labels_put Less labels first rest more other h = refl
-labels_put Equal labels first rest more other h = refl
-labels_put Greater labels first rest more other h = ap (λ (r : List (List Pair)). first ∷ r) h
-
-labels_key : (known : List (List Pair)) (labels : List Pair) → with_labels known labels ≡ with_key labels_cmp known labels
-labels_key [] labels = refl
-labels_key (first ∷ rest) labels = labels_put (labels_cmp labels first) labels first rest (with_labels rest labels) (with_key labels_cmp rest labels) (labels_key rest labels)
 
 -- the sums of a histogram are its merged buckets
 total_is : (bs : List Bucket) (t : Tally) → tally_of bs ≡ Some t → total_of (map count_in bs) ≡ t

@@ -1,8 +1,8 @@
 -- A key that is there changes no keys.
-use Rattle.std.proofs.Common.{◌≡◌, Bool, true, false, ◌||◌, List, [], ◌∷◌, is_some, refl, sym, ap, ◌∙◌, subst}
+use Rattle.std.proofs.Common.{◌≡◌, true, ◌||◌, List, [], ◌∷◌, is_some, refl, sym, ap, ◌∙◌}
 use Rattle.std.proofs.lemmas.Map.Keys.{sorted_head, sorted_tail}
 use Rattle.std.proofs.lemmas.Map.Made.{is_some-lookup}
-use Rattle.std.specs.List.{AllByRecursion, list_any}
+use Rattle.std.specs.List.{list_any}
 use Rattle.std.specs.List.Sorted.{IsStrictlySortedBy}
 use Rattle.std.specs.Ordering.{is_eq, match_ordering, ordering_reverse}
 use Rattle.std.specs.declared.cmp.Ordering.{Ordering}
@@ -11,20 +11,9 @@ use Rattle.std.specs.Map.{keys_of, lookup}
 use Rattle.std.specs.BTreeMap.{is_at}
 use Rattle.pr_labels.specs.declared.pair.Pair.{Pair}
 use Rattle.pr_labels.specs.Order.{labels_cmp}
-use Rattle.pr_labels.proofs.LabelOrder.{labels_total, tied}
+use Rattle.pr_labels.proofs.LabelOrder.{labels_total}
+use Rattle.pr_labels.proofs.LabelMaps.{below_some}
 use Rattle.pr_fn.specs.Gathered.{with_key}
-
-equal_of : (o : Ordering) → is_eq o ≡ true → o ≡ Equal
-equal_of Less h = cc
-equal_of Equal h = refl
-equal_of Greater h = cc
-
-below_some : (x k : List Pair) (xs : List (List Pair)) → AllByRecursion (λ y. labels_cmp x y ≡ Less) xs → list_any (is_at (labels_cmp k)) xs ≡ true → labels_cmp x k ≡ Less
-below_some x k [] a h = cc
-below_some x k (y ∷ ys) a h = by_test (is_at (labels_cmp k) y) refl h (below_some x k ys a.1) where
-  by_test : (b : Bool) → is_at (labels_cmp k) y ≡ b → (b || list_any (is_at (labels_cmp k)) ys) ≡ true → (list_any (is_at (labels_cmp k)) ys ≡ true → labels_cmp x k ≡ Less) → labels_cmp x k ≡ Less
-  by_test true e g more = subst (λ (z : List Pair). labels_cmp x z ≡ Less) (sym (tied k y (equal_of (labels_cmp k y) e))) a.0
-  by_test false e g more = more g
 
 with_same : (sets : List (List Pair)) (k : List Pair) → IsStrictlySortedBy labels_cmp sets → list_any (is_at (labels_cmp k)) sets ≡ true → with_key labels_cmp sets k ≡ sets
 with_same [] k s h = cc

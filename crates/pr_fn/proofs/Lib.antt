@@ -1,9 +1,9 @@
-pub mod LabelMaps
 pub mod RowLemmas
 pub mod Ordered
 pub mod Mapping
 pub mod CivilDates
 pub mod Separating
+pub mod LabelKeys
 pub mod Gathering
 pub mod Known
 pub mod BucketLemmas

@@ -3,7 +3,8 @@ use Rattle.std.specs.Prelude.{◌≡◌, ℕ, pos}
 use Rattle.jiff_core.specs.declared.civil.date.Date.{Date}
 use Rattle.pr_meaning.specs.Calendar.{date_after}
 
--- jiff's date has the year, the month and the day of the one so many days after 1 January of the year 1
+-- jiff's date has the year, the month and the day of the one so many days after 1 January of the
+-- year 1
 pub record IsDateAfter (days : ℕ) (d : Date) : Type 0 where
   pub year : d.year ≡ pos (date_after days).year
   pub month : d.month ≡ (date_after days).month

@@ -1,8 +1,8 @@
 use pr_labels::Labels;
 use std::alloc::AllocError;
 
-/// Why a function of a vector has no result. (Prometheus: Querying, Functions; that the least labels are told, and after
-/// a value that is too wide, is own choice.)
+/// Why a function of a vector has no result. (Prometheus: Querying, Functions; that the least
+/// labels are told, and after a value that is too wide, is own choice.)
 #[derive(Debug, Drop)]
 pub enum FnFault {
     /// Two elements of the result have these labels, the least such in label order.

@@ -229,13 +229,14 @@ fn quantiles(
     Ok(items)
 }
 
-/// The quantile `phi` of each histogram, in label order. An element is a bucket where its label `le` is a number; buckets with
-/// equal labels but for the metric's name and `le` are one histogram. (Prometheus: Querying, Functions, `histogram_quantile`;
-/// that each operation is exact or rounded by itself is own choice.)
+/// The quantile `phi` of each histogram, in label order. An element is a bucket where its label
+/// `le` is a number; buckets with equal labels but for the metric's name and `le` are one
+/// histogram. (Prometheus: Querying, Functions, `histogram_quantile`; that each operation is exact
+/// or rounded by itself is own choice.)
 ///
 /// # Errors
-/// `TooWide` exactly where a sum of counts of equal bounds, or an operation of the formula, is too wide; never `SameLabels`.
-/// `Memory` where memory runs out.
+/// `TooWide` exactly where a sum of counts of equal bounds, or an operation of the formula, is too
+/// wide; never `SameLabels`. `Memory` where memory runs out.
 pub fn histogram_quantile(
     alloc: Global,
     phi: Num,

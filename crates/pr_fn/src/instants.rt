@@ -76,9 +76,10 @@ fn field_at(part: Part, since: i128) -> Num
     Num::whole(field(part, seconds / SECONDS_IN_DAY, seconds % SECONDS_IN_DAY))
 }
 
-/// A field of the date and the time of day, in UTC, of an instant that is given as seconds since 1970. The seconds are cut to
-/// whole seconds, toward zero; it is NaN unless these are in the years 1 to 9999 of the Gregorian calendar. (Prometheus:
-/// Querying, Functions, `minute` to `year`; the years that have fields are own choice.)
+/// A field of the date and the time of day, in UTC, of an instant that is given as seconds since
+/// 1970. The seconds are cut to whole seconds, toward zero; it is NaN unless these are in the years
+/// 1 to 9999 of the Gregorian calendar. (Prometheus: Querying, Functions, `minute` to `year`; the
+/// years that have fields are own choice.)
 pub fn calendar(part: Part, seconds: Num) -> Num
     ensures { result ≡ calendar_of part seconds }
 {

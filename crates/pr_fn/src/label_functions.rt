@@ -57,12 +57,14 @@ fn with_expansion(
     }
 }
 
-/// The elements with the label `dst` set to the expanded template, where the pattern matches the whole text of the label
-/// `src`; other elements stay. An absent label is the empty text, and an empty expansion removes the label. (Prometheus:
-/// Querying, Functions, `label_replace`; which texts are patterns is that of `pr_match`.)
+/// The elements with the label `dst` set to the expanded template, where the pattern matches the
+/// whole text of the label `src`; other elements stay. An absent label is the empty text, and an
+/// empty expansion removes the label. (Prometheus: Querying, Functions, `label_replace`; which
+/// texts are patterns is that of `pr_match`.)
 ///
 /// # Errors
-/// `SameLabels` exactly where two elements come to have equal labels, with the least such. `Memory` where memory runs out.
+/// `SameLabels` exactly where two elements come to have equal labels, with the least such. `Memory`
+/// where memory runs out.
 pub fn label_replace(
     alloc: Global,
     vector: &[Item<Num>],
@@ -121,11 +123,13 @@ fn joined_text(
     }
 }
 
-/// The elements with the label `dst` set to the texts of the labels `names` with the separator between each two. An absent
-/// label is the empty text, and an empty result removes the label. (Prometheus: Querying, Functions, `label_join`.)
+/// The elements with the label `dst` set to the texts of the labels `names` with the separator
+/// between each two. An absent label is the empty text, and an empty result removes the label.
+/// (Prometheus: Querying, Functions, `label_join`.)
 ///
 /// # Errors
-/// `SameLabels` exactly where two elements come to have equal labels, with the least such. `Memory` where memory runs out.
+/// `SameLabels` exactly where two elements come to have equal labels, with the least such. `Memory`
+/// where memory runs out.
 pub fn label_join(
     alloc: Global,
     vector: &[Item<Num>],

@@ -1,9 +1,10 @@
-//! Laws of the definitions that contracts of this crate cite. A law is a function that does nothing,
-//! and its contract is the theorem.
+//! Laws of the definitions that contracts of this crate cite. A law is a function that does
+//! nothing, and its contract is the theorem.
 ghost use Rattle.std.specs.Prelude.{◌≡◌};
 ghost use Rattle.pr_meaning.specs.Calendar.{date, date_after};
 
-/// Well-known dates by the days from 1 January of the year 1 to them: the walk of the calendar comes to them.
+/// Well-known dates by the days from 1 January of the year 1 to them: the walk of the calendar
+/// comes to them.
 pub fn dates_by_example()
     ensures epoch { date_after 719162 ≡ date 1970 1 1 }
     ensures leap { date_after 730178 ≡ date 2000 2 29 }

@@ -1,5 +1,5 @@
-//! Functions of instant vectors: of each value, of labels, of a whole vector, and the calendar. A call equals its
-//! definition in `pr_meaning`, faults included.
+//! Functions of instant vectors: of each value, of labels, of a whole vector, and the calendar. A
+//! call equals its definition in `pr_meaning`, faults included.
 #![tactic(auto)]
 
 mod bound;
@@ -10,8 +10,6 @@ mod label_functions;
 mod laws;
 mod quantiles;
 mod rows;
-#[cfg(test)]
-mod tests;
 mod values;
 
 pub use fn_fault::FnFault;

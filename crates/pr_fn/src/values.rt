@@ -7,8 +7,9 @@ ghost use Rattle.pr_num.specs.declared.value.Num.{Num};
 ghost use Rattle.pr_num.specs.Order.{compared};
 ghost use Rattle.pr_labels.specs.declared.item.Item.{Item};
 ghost use Rattle.pr_labels.specs.Order.{labels_cmp};
+ghost use Rattle.pr_labels.specs.SeriesText.{unnamed};
 ghost use Rattle.pr_meaning.specs.Vectors.{IsVector};
-ghost use Rattle.pr_meaning.specs.Functions.{ValueFunction, are_crossed, clamped, is_too_wide, mapped, scalar_of, sign_of, at_least, at_most, within, unnamed, with_value};
+ghost use Rattle.pr_meaning.specs.Functions.{ValueFunction, are_crossed, clamped, is_too_wide, mapped, scalar_of, sign_of, at_least, at_most, within, with_value};
 ghost use Rattle.pr_fn.specs.Faults.{fault_told};
 ghost use Rattle.pr_fn.specs.Rows.{AreRows};
 ghost use Rattle.pr_fn.specs.ValueFunctions.{WorksBy};
@@ -74,11 +75,13 @@ fn map_all<O: Fn(Num) -> Result<Num, TooWide>>(
     Ok(rows)
 }
 
-/// What a function gives of each value, in label order, without the metric's name. (Prometheus: Querying, Functions.)
+/// What a function gives of each value, in label order, without the metric's name. (Prometheus:
+/// Querying, Functions.)
 ///
 /// # Errors
-/// `TooWide` exactly where the function answers so of a value; else `SameLabels` exactly where two elements have
-/// equal labels without their names, with the least such. `Memory` where memory runs out.
+/// `TooWide` exactly where the function answers so of a value; else `SameLabels` exactly where two
+/// elements have equal labels without their names, with the least such. `Memory` where memory runs
+/// out.
 pub fn map_values<O: Fn(Num) -> Result<Num, TooWide>>(
     alloc: Global,
     vector: &[Item<Num>],
@@ -108,8 +111,8 @@ pub fn sign(value: Num) -> Num
     }
 }
 
-/// The greater of a value and a limit, and NaN where one of them is. (Prometheus: Querying, Functions, `clamp_min`; NaN is own
-/// choice.)
+/// The greater of a value and a limit, and NaN where one of them is. (Prometheus: Querying,
+/// Functions, `clamp_min`; NaN is own choice.)
 pub fn at_least(least: &Num, value: &Num) -> Num
     ensures { result ≡ at_least least.now value.now }
 {
@@ -120,8 +123,8 @@ pub fn at_least(least: &Num, value: &Num) -> Num
     }
 }
 
-/// The lesser of a value and a limit, and NaN where one of them is. (Prometheus: Querying, Functions, `clamp_max`; NaN is own
-/// choice.)
+/// The lesser of a value and a limit, and NaN where one of them is. (Prometheus: Querying,
+/// Functions, `clamp_max`; NaN is own choice.)
 pub fn at_most(most: &Num, value: &Num) -> Num
     ensures { result ≡ at_most most.now value.now }
 {
@@ -132,8 +135,8 @@ pub fn at_most(most: &Num, value: &Num) -> Num
     }
 }
 
-/// A value brought between two limits, and NaN where one of the three is. (Prometheus: Querying, Functions, `clamp`; NaN is
-/// own choice.)
+/// A value brought between two limits, and NaN where one of the three is. (Prometheus: Querying,
+/// Functions, `clamp`; NaN is own choice.)
 pub fn within(least: &Num, most: &Num, value: &Num) -> Num
     ensures { result ≡ within least.now most.now value.now }
 {
@@ -146,12 +149,12 @@ fn are_crossed(least: &Num, most: &Num) -> bool
     matches!(least.compare(*most), Some(Ordering::Greater))
 }
 
-/// Each value brought between two limits, without the metric's name, and nothing where the lower limit is above the upper one.
-/// (Prometheus: Querying, Functions, `clamp`.)
+/// Each value brought between two limits, without the metric's name, and nothing where the lower
+/// limit is above the upper one. (Prometheus: Querying, Functions, `clamp`.)
 ///
 /// # Errors
-/// `SameLabels` exactly where two elements have equal labels without their names, with the least such. `Memory` where memory
-/// runs out.
+/// `SameLabels` exactly where two elements have equal labels without their names, with the least
+/// such. `Memory` where memory runs out.
 pub fn clamp(
     alloc: Global,
     vector: &[Item<Num>],
@@ -173,7 +176,8 @@ pub fn clamp(
     )
 }
 
-/// The value of the only element, and NaN where there is none or more than one. (Prometheus: Querying, Functions, `scalar`.)
+/// The value of the only element, and NaN where there is none or more than one. (Prometheus:
+/// Querying, Functions, `scalar`.)
 pub fn scalar(vector: &[Item<Num>]) -> Num
     ensures { result ≡ scalar_of vector.now }
 {

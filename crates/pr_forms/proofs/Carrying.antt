@@ -41,7 +41,8 @@ module _ {T N V : Type 0} {G : N → Form T N V} {S : Table T N} where
   pub carry_of : {X Y : Type 0} {f g : Form T N V} {ts rest : List T} {made given : Y → V} (of : X → Y) → Carries G S f ts made g rest given → Carries G S f ts (λ x. made (of x)) g rest (λ x. given (of x))
   carry_of of h = record { reads = λ x end k. h.reads (of x) end k; fails = h.fails }
 
-  -- a rule, the second part of a sequence, a side of a choice, turns after their base, and the turns after one
+  -- a rule, the second part of a sequence, a side of a choice, turns after their base, and the
+  -- turns after one
   pub carry_rule : {n : N} {ts : List T} → Carries G S (rule n) ts (λ v. v) (G n) ts (λ v. v)
   carry_rule = record { reads = λ v end k. run_rule k; fails = λ end k. run_rule k }
 
@@ -70,7 +71,8 @@ module _ {T N V : Type 0} {G : N → Form T N V} {S : Table T N} where
       Lacks G S (token p) ts → Carries G S (either (pair c (token p) f) g) ts (λ w. w) g ts (λ w. w)
   carry_other {c} {p} {f} {ts = ts} h = carry_right (next_pair S c (token p) f ts false refl h.next)
 
-  -- a loop over turns that each begin with a token: its start, a turn, a turn that fails, and its end
+  -- a loop over turns that each begin with a token: its start, a turn, a turn that fails, and its
+  -- end
   pub turns_begin : {c : V → V → V} {n : N} {f g : Form T N V} {ts mid : List T} {v : V} → Runs G S f ts (good v mid) → G n ≡ fold c f g → Carries G S (rule n) ts (λ w. w) (turns c v g) mid (λ w. w)
   turns_begin {n = n} {ts = ts} h e = leading (λ o k. run_rule (subst (λ form. Runs G S form ts o) (sym e) (run_fold h k)))
 

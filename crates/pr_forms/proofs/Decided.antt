@@ -1,4 +1,5 @@
--- A grammar that one token ahead decides: a run is the only reading, and no beginning goes past its bad place.
+-- A grammar that one token ahead decides: a run is the only reading, and no beginning goes past its
+-- bad place.
 use Rattle.std.proofs.Common.{◌≡◌, ◌≤◌, List, [], ◌∷◌, length, Option, Some, Bool, true, false, refl, sym, ◌∙◌, subst, arith}
 use Rattle.std.specs.Prelude.{◌&&◌}
 use Rattle.pr_forms.specs.Form.{Form, token, nothing, pair, either, turns, fold, rule, chosen, Reads, is_chosen, is_token, is_nothing, is_pair, is_left, is_right, is_stop, is_turn, is_fold, is_rule}

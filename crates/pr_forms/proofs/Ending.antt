@@ -1,4 +1,5 @@
--- Every text has a run, where one token ahead decides the grammar and the grammar ends: so the reading is a function of the text.
+-- Every text has a run, where one token ahead decides the grammar and the grammar ends: so the
+-- reading is a function of the text.
 use Rattle.std.proofs.Common.{◌≡◌, ℕ, zero, suc, ◌+◌, ◌*◌, ◌-◌, ◌≤◌, ◌<◌, List, [], ◌∷◌, length, Option, Some, None, Bool, true, false, refl, sym, ap, subst, ◌∙◌, arith, inl, inr, pred, mul-le-mul_left, mul-suc}
 use Rattle.std.specs.Prelude.{◌&&◌, ◌||◌, ◌⊎◌}
 use Rattle.std.proofs.lemmas.Bool.{leb-true, le-leb}

@@ -33,7 +33,8 @@ pub record Next {T N V : Type 0} (S : Table T N) (f : Form T N V) (ts : List T) 
 pub record More {T N V : Type 0} (S : Table T N) (f : Form T N V) (ts : List T) : Type 0 where
   pub is : is_more S f ts ≡ true
 
--- what a reading starts with: nothing is read, and the form may be empty, or the next token starts it
+-- what a reading starts with: nothing is read, and the form may be empty, or the next token starts
+-- it
 pub data Starts {T N V : Type 0} (S : Table T N) (f : Form T N V) (ts : List T) : List T → Type 0 where
   empty : Empty S f → Starts S f ts ts
   next : {rest : List T} → Next S f ts → Starts S f ts rest

@@ -1,4 +1,5 @@
--- The ways through a side of a choice that begins with a token and is a sequence in a sequence, as parentheses with what follows them.
+-- The ways through a side of a choice that begins with a token and is a sequence in a sequence, as
+-- parentheses with what follows them.
 use Rattle.std.proofs.Common.{Option, List, true, false, refl}
 use Rattle.pr_forms.specs.Form.{Form, token, pair, either}
 use Rattle.pr_forms.specs.Table.{Table}
@@ -28,7 +29,8 @@ module _ {T N V : Type 0} {G : N → Form T N V} {S : Table T N} where
       Takes G S (token p) ts v mid → Runs G S f mid (good w next) → Carries G S (either (pair d (pair c (token p) f) k) g) ts (d (c v w)) k next (λ x. x)
   carry_nested h a = record { reads = λ x end b. take_nested h a b; fails = λ end b. nested_bad h a b }
 
-  -- a sequence that begins with a token and has two parts more, as what an opening sign, a form and a closing sign are
+  -- a sequence that begins with a token and has two parts more, as what an opening sign, a form and
+  -- a closing sign are
   pub take_closed : {c d : V → V → V} {p : T → Option V} {f k : Form T N V} {ts mid next rest : List T} {v w x : V} →
       Takes G S (token p) ts v mid → Runs G S f mid (good w next) → Runs G S k next (good x rest) → Runs G S (pair c (token p) (pair d f k)) ts (good (c v (d w x)) rest)
   take_closed h a b = run_pair h.gives (run_pair a b)

@@ -1,5 +1,6 @@
--- What the clauses of a public reader want, from the run of its rule: the whole text is read, no other value is derived from it, and
--- the place where the run stopped is the first bad one. `see` is what the grammar sees of one of the code's tokens.
+-- What the clauses of a public reader want, from the run of its rule: the whole text is read, no
+-- other value is derived from it, and the place where the run stopped is the first bad one. `see`
+-- is what the grammar sees of one of the code's tokens.
 use Rattle.std.proofs.Common.{◌≡◌, ℕ, ◌≤◌, ◌-◌, List, [], ◌∷◌, length, map, Bool, true, false, refl, ap, sym, ◌∙◌, subst, arith}
 use Rattle.std.proofs.lemmas.List.{length-map}
 use Rattle.std.specs.Prelude.{◌==◌}

@@ -1,4 +1,5 @@
--- The ways of a reader through sequences that begin with a single token, as its functions take them.
+-- The ways of a reader through sequences that begin with a single token, as its functions take
+-- them.
 use Rattle.std.proofs.Common.{◌≡◌, Option, List, true, false, refl, Result, Ok, Err, sym, subst}
 use Rattle.std.specs.Result.{MatchResult, IsErrAnd}
 use Rattle.pr_forms.specs.Form.{Form, token, pair, either}

@@ -1,4 +1,5 @@
--- A grammar within another one is decided as it is alone, and what it runs, reads and begins alone it does there.
+-- A grammar within another one is decided as it is alone, and what it runs, reads and begins alone
+-- it does there.
 use Rattle.std.proofs.Common.{◌≡◌, ℕ, zero, suc, pred, ◌≤◌, ◌-◌, nat_le, false, List, [], ◌∷◌, length, map, Option, Some, None, Bool, true, refl, ap, sym, ◌∙◌, subst, arith}
 use Rattle.std.proofs.lemmas.List.{length-map}
 use Rattle.std.specs.Prelude.{is_some, ◌||◌, ◌&&◌}
@@ -312,7 +313,8 @@ module _ {T N V U M W : Type 0} (p : Embedding T N V U M W) (G : N → Form T N 
       pub place_within : (rank : N → ℕ) (limit : ℕ) → Ends G S rank limit → (us : List U) (n : N) (k : ℕ) → IsFirstBad G (rule n) (map p.token_of us) k → IsFirstBad H (rule (p.rule_of n)) us k
       place_within rank limit ends us n k b = let r = rule_answered G S known rank limit ends n (map p.token_of us) in place_from us n r.outcome k r.runs b
 
--- What stands before the end of some of the code's tokens, as a language sees them, is those tokens as it sees them.
+-- What stands before the end of some of the code's tokens, as a language sees them, is those tokens
+-- as it sees them.
 suffix_seen : {A U : Type 0} (see : A → U) {r us : List U} → Suffix r us → (ts : List A) → map see ts ≡ us → (xs : List A) × (map see xs ≡ r)
 suffix_seen see here ts e = (ts, e)
 suffix_seen see (there h) [] e = absurd (cc)

@@ -4,8 +4,9 @@ use Rattle.pr_forms.specs.Form.{Form}
 use Rattle.pr_forms.specs.Table.{Table}
 use Rattle.pr_forms.specs.Run.{Runs, good, bad}
 
--- After a part the rest decides: what the second form gives at the rest, the first one gives at its own tokens, with the value changed,
--- and where the second one fails, the first one does. The values are told by what they are made of: `given x` becomes `made x`.
+-- After a part the rest decides: what the second form gives at the rest, the first one gives at its
+-- own tokens, with the value changed, and where the second one fails, the first one does. The
+-- values are told by what they are made of: `given x` becomes `made x`.
 pub record Carries {T N V X : Type 0} (G : N → Form T N V) (S : Table T N) (f : Form T N V) (ts : List T) (made : X → V) (g : Form T N V) (rest : List T) (given : X → V) : Type 0 where
   pub reads : (x : X) (end : List T) → Runs G S g rest (good (given x) end) → Runs G S f ts (good (made x) end)
   pub fails : (end : List T) → Runs G S g rest (bad end) → Runs G S f ts (bad end)

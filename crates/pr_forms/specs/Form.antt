@@ -1,7 +1,9 @@
--- Forms of texts over any kind of token: what they read, what is a beginning of them, and the first bad place.
+-- Forms of texts over any kind of token: what they read, what is a beginning of them, and the first
+-- bad place.
 use Rattle.std.specs.Prelude.{◌≡◌, ◌≤◌, ◌<◌, ℕ, Option, Some, List, ◌∷◌, length, drop, Bool}
 
--- A form over tokens T, with rules named by N and values V. A grammar is a function from the names of its rules to forms.
+-- A form over tokens T, with rules named by N and values V. A grammar is a function from the names
+-- of its rules to forms.
 pub data Form (T N V : Type 0) : Type 0 where
   -- one token that has a value
   token : (T → Option V) → Form T N V
@@ -15,7 +17,8 @@ pub data Form (T N V : Type 0) : Type 0 where
   turns : (V → V → V) → V → Form T N V → Form T N V
   -- a form, and then turns of another from its value on: what associates to the left
   fold : (V → V → V) → Form T N V → Form T N V → Form T N V
-  -- the rule that the next token chooses, which reads that token too; the test says what may go on after such a rule
+  -- the rule that the next token chooses, which reads that token too; the test says what may go on
+  -- after such a rule
   chosen : (T → Option N) → (T → Bool) → Form T N V
   -- the form of a rule
   rule : N → Form T N V
@@ -37,7 +40,8 @@ pub data Reads {T N V : Type 0} (G : N → Form T N V) : Form T N V → List T �
       q t ≡ Some n → length rest ≤ length ts → Reads G (G n) (t ∷ ts) v rest → Reads G (chosen q m) (t ∷ ts) v rest
   is_rule : {n : N} {ts rest : List T} {v : V} → Reads G (G n) ts v rest → Reads G (rule n) ts v rest
 
--- The tokens before `rest` are a beginning of the form, whether or not any more tokens could make it whole.
+-- The tokens before `rest` are a beginning of the form, whether or not any more tokens could make
+-- it whole.
 pub data Begins {T N V : Type 0} (G : N → Form T N V) : Form T N V → List T → List T → Type 0 where
   -- none at all, and all of a form that is read whole
   at_start : {f : Form T N V} {rest : List T} → Begins G f rest rest
@@ -62,7 +66,8 @@ pub data Begins {T N V : Type 0} (G : N → Form T N V) : Form T N V → List T 
       q t ≡ Some n → Begins G (G n) (t ∷ ts) rest → Begins G (chosen q m) (t ∷ ts) rest
   in_rule : {n : N} {ts rest : List T} → Begins G (G n) ts rest → Begins G (rule n) ts rest
 
--- The first bad place: the tokens before it can go on, and with its own they cannot. Where all can, it is the end.
+-- The first bad place: the tokens before it can go on, and with its own they cannot. Where all can,
+-- it is the end.
 pub record IsFirstBad {T N V : Type 0} (G : N → Form T N V) (f : Form T N V) (ts : List T) (place : ℕ) : Type 0 where
   pub within : place ≤ length ts
   pub before : (k : ℕ) → k ≤ place → Begins G f ts (drop k ts)

@@ -1,5 +1,5 @@
--- A language: its grammar, what one token ahead tells of it, and how it sees the code's tokens; and what the functions of its reader
--- say of themselves, in the code's tokens.
+-- A language: its grammar, what one token ahead tells of it, and how it sees the code's tokens; and
+-- what the functions of its reader say of themselves, in the code's tokens.
 use Rattle.std.specs.Prelude.{ℕ, List, [], map, Option, Bool}
 use Rattle.pr_forms.specs.Form.{Form, rule, Reads, IsFirstBad as IsFirstBadBy}
 use Rattle.pr_forms.specs.Table.{Table, IsDecided, is_next}
@@ -9,7 +9,8 @@ use Rattle.pr_forms.specs.Reader.{FailsBy}
 use Rattle.pr_forms.specs.Reading.{reading, bad_place}
 use Rattle.pr_forms.specs.declared.reader.Fault.{Fault}
 
--- A language over the code's tokens A, which its grammar sees as tokens T, with rules named by N and values V.
+-- A language over the code's tokens A, which its grammar sees as tokens T, with rules named by N
+-- and values V.
 pub record Language (A T N V : Type 0) : Type 0 where
   pub production : N → Form T N V
   pub table : Table T N
@@ -66,7 +67,8 @@ ReadsWhole L n text v = Reads L.production (rule n) (seen L text) v []
 abbrev pub IsFirstBad : {A T N V : Type 0} → Language A T N V → N → List A → ℕ → Type 0
 IsFirstBad L n text place = IsFirstBadBy L.production (rule n) (seen L text) place
 
--- The value of a text and its first bad place as functions of it, where a rule comes to a token within so many steps.
+-- The value of a text and its first bad place as functions of it, where a rule comes to a token
+-- within so many steps.
 abbrev pub value_in : {A T N V : Type 0} → Language A T N V → ℕ → N → List A → Option V
 value_in L limit n text = reading L.production L.table limit (rule n) (seen L text)
 

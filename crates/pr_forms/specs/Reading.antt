@@ -1,4 +1,5 @@
--- What a reader gives, as a function of the text: the reader looks one token ahead, never goes back, and makes so many steps at most.
+-- What a reader gives, as a function of the text: the reader looks one token ahead, never goes
+-- back, and makes so many steps at most.
 use Rattle.std.specs.Prelude.{◌≡◌, ℕ, zero, suc, pred, ◌*◌, ◌-◌, nat_le, Option, Some, None, List, [], ◌∷◌, Bool, true, false, length, if◌then◌else◌}
 use Rattle.pr_forms.specs.Form.{Form, token, nothing, pair, either, turns, fold, rule, chosen}
 use Rattle.pr_forms.specs.Table.{Table, is_next, empty_of}
@@ -52,7 +53,8 @@ abbrev pub tokens_left : {T V : Type 0} → Option (Outcome T V) → ℕ
 tokens_left (Some o) = length (left_of o)
 tokens_left None = 0
 
--- The value of the text, where it is of the form whole. The limit is how many steps come at most before a token is read.
+-- The value of the text, where it is of the form whole. The limit is how many steps come at most
+-- before a token is read.
 unfoldable pub reading : {T N V : Type 0} → (N → Form T N V) → Table T N → ℕ → Form T N V → List T → Option V
 reading G S limit f ts = whole_value (run_in G S (limit * suc (length ts)) f ts)
 
@@ -65,8 +67,8 @@ abbrev pub after_part : Bool → ℕ → ℕ → ℕ
 after_part true limit steps = steps
 after_part false limit steps = limit
 
--- Within so many steps the form comes to a token or to its end. Each rule has a rank, the steps that it wants; once a token is read,
--- there are as many steps as the limit.
+-- Within so many steps the form comes to a token or to its end. Each rule has a rank, the steps
+-- that it wants; once a token is read, there are as many steps as the limit.
 abbrev pub EndsIn : {T N V : Type 0} → Table T N → (N → ℕ) → ℕ → ℕ → Form T N V → Type 0
 EndsIn S rank limit zero f = ⊥
 EndsIn S rank limit (suc b) (token p) = Unit {0}

@@ -1,4 +1,5 @@
--- A reader of forms that looks at one token ahead and never goes back: what the functions of a parser say of themselves.
+-- A reader of forms that looks at one token ahead and never goes back: what the functions of a
+-- parser say of themselves.
 use Rattle.std.specs.Prelude.{◌≡◌, Option, Some, None, List, [], ◌∷◌, Bool, true, false, length, ◌<◌, ◌≤◌}
 use Rattle.pr_forms.specs.Form.{Form, token, nothing, pair, either, turns, fold, rule, chosen}
 use Rattle.pr_forms.specs.Table.{Table, is_next}

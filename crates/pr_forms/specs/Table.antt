@@ -1,8 +1,10 @@
--- What one token ahead decides: whether a form may be empty, what may start it, and what may go on after it.
+-- What one token ahead decides: whether a form may be empty, what may start it, and what may go on
+-- after it.
 use Rattle.std.specs.Prelude.{◌≡◌, Some, List, [], ◌∷◌, Bool, true, false, ◌||◌, ◌&&◌, is_some}
 use Rattle.pr_forms.specs.Form.{Form, token, nothing, pair, either, turns, fold, rule, chosen}
 
--- What is said of each rule of a grammar: whether it may read nothing, what it can start with, and what can go on after a whole one.
+-- What is said of each rule of a grammar: whether it may read nothing, what it can start with, and
+-- what can go on after a whole one.
 pub record Table (T N : Type 0) : Type 0 where
   pub empty : N → Bool
   pub starts : N → T → Bool
@@ -55,8 +57,8 @@ abbrev pub negation : Bool → Bool
 negation true = false
 negation false = true
 
--- whether no two ways through the form are open at the token: the sides of a choice start apart, and what may go on after a part
--- does not start the next one
+-- whether no two ways through the form are open at the token: the sides of a choice start apart,
+-- and what may go on after a part does not start the next one
 abbrev pub parts_at : {T N V : Type 0} → Table T N → Form T N V → T → Bool
 parts_at S (token p) t = true
 parts_at S (nothing v) t = true
@@ -106,7 +108,8 @@ pub record Decides {T N V : Type 0} (S : Table T N) (f : Form T N V) : Type 0 wh
   pub solid : is_solid S f ≡ true
   pub binds : Binds S f
 
--- One token ahead decides the grammar: the table is what the productions compute, and each production is decided.
+-- One token ahead decides the grammar: the table is what the productions compute, and each
+-- production is decided.
 pub record IsDecided {T N V : Type 0} (G : N → Form T N V) (S : Table T N) : Type 0 where
   pub empty : (n : N) → empty_of S (G n) ≡ S.empty n
   pub starts : (n : N) (t : T) → starts_of S (G n) t ≡ S.starts n t

@@ -1,4 +1,5 @@
--- What is said of the next of the code's tokens, behind the reference to it, by what a test of it gives.
+-- What is said of the next of the code's tokens, behind the reference to it, by what a test of it
+-- gives.
 use Rattle.std.specs.Prelude.{◌≡◌, Option, Some, None, List, [], ◌∷◌}
 use Rattle.std.specs.Borrow.{Bor}
 

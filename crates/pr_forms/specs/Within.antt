@@ -1,11 +1,12 @@
--- A grammar within another one: its rules and values stand among those of the other, it sees the other's tokens as its own, and its
--- forms read what they read alone.
+-- A grammar within another one: its rules and values stand among those of the other, it sees the
+-- other's tokens as its own, and its forms read what they read alone.
 use Rattle.std.specs.Prelude.{◌≡◌, Option, Some, None}
 use Rattle.pr_forms.specs.Form.{Form, token, nothing, pair, either, turns, fold, chosen, rule}
 use Rattle.pr_forms.specs.Table.{Table}
 use Rattle.pr_forms.specs.Language.{Language}
 
--- How a grammar over tokens T, with rules N and values V, stands in one over tokens U, with rules M and values W.
+-- How a grammar over tokens T, with rules N and values V, stands in one over tokens U, with rules M
+-- and values W.
 pub record Embedding (T N V U M W : Type 0) : Type 0 where
   -- what the grammar sees of the other's tokens
   pub token_of : U → T

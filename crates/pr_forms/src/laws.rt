@@ -1,5 +1,6 @@
-//! The laws of grammars. Each stands as the contract of a function that does nothing, at any tokens `T`, rule
-//! names `N` and values `V`; callers' proofs cite the lemmas of `proofs/` that prove them.
+//! The laws of grammars. Each stands as the contract of a function that does nothing, at any tokens
+//! `T`, rule names `N` and values `V`; callers' proofs cite the lemmas of `proofs/` that prove
+//! them.
 ghost use Rattle.std.specs.Prelude.{◌≡◌, Some, ℕ, List, [], ◌++◌, ◌<◌, ◌≤◌, ◌-◌, length, take, drop, map, false};
 ghost use Rattle.pr_forms.specs.Form.{Form, rule, Reads, Begins, IsFirstBad};
 ghost use Rattle.pr_forms.specs.Table.{Table, more_of, Decides, IsDecided};
@@ -68,7 +69,8 @@ pub fn beginning_before_another_rest<T, N, V>()
         Begins G f (front ++ r) r → Begins G f (front ++ s) s }
 {}
 
-/// A bad place within a front of the tokens is the first bad one of all: so a reader may look at a front alone.
+/// A bad place within a front of the tokens is the first bad one of all: so a reader may look at a
+/// front alone.
 pub fn bad_place_of_a_front<T, N, V>()
     ensures { (G : N → Form T N V) (f : Form T N V) (ts : List T) (m k : ℕ) → k < m → m ≤ length ts →
         IsFirstBad G f (take m ts) k → IsFirstBad G f ts k }
@@ -80,8 +82,8 @@ pub fn every_text_has_a_run<T, N, V>()
         (o : Outcome T V) × Runs G S (rule n) ts o }
 {}
 
-/// The reading of a text is a function of it, where the grammar ends: what the function gives is the reading, and each
-/// reading is given.
+/// The reading of a text is a function of it, where the grammar ends: what the function gives is
+/// the reading, and each reading is given.
 pub fn reading_is_a_function<T, N, V>()
     ensures reads { (G : N → Form T N V) (S : Table T N) (rank : N → ℕ) (limit : ℕ) (n : N) (ts : List T) (v : V) →
         IsDecided G S → Ends G S rank limit → reading G S limit (rule n) ts ≡ Some v → Reads G (rule n) ts v [] }

@@ -4,8 +4,8 @@ ghost use Rattle.pr_forms.specs.Take.{IsMissed, IsTaken};
 
 use std::alloc::{AllocError, AllocFailed};
 
-/// Why a reader that goes by recursion gives no value: the tokens from the first bad one on, or want of memory.
-/// A reader that takes no memory hands back the tokens themselves.
+/// Why a reader that goes by recursion gives no value: the tokens from the first bad one on, or
+/// want of memory. A reader that takes no memory hands back the tokens themselves.
 #[derive(Drop, Debug)]
 pub enum Fault<'a, T> {
     Bad(&'a [T]),
@@ -40,7 +40,8 @@ pub fn place_of<T>(tokens: &[T], left: &[T]) -> usize
     tokens.len() - left.len()
 }
 
-/// The value of the next token, where it has one, and what follows that token: how a reader takes a token, or looks at it.
+/// The value of the next token, where it has one, and what follows that token: how a reader takes a
+/// token, or looks at it.
 pub fn take<T, V, F: Fn(&T) -> Option<V>>(tokens: &[T], value: F) -> Option<(V, &[T])>
     requires { F.IsAlwaysCallable value }
     ensures { MatchOption result (IsMissed (F.post value) tokens.now) (λ x. IsTaken (F.post value) x.0 tokens.now x.1.now) }

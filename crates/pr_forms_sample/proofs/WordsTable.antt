@@ -1,4 +1,5 @@
--- One byte ahead decides the grammars of strings and of words, and each rule of theirs comes to a byte.
+-- One byte ahead decides the grammars of strings and of words, and each rule of theirs comes to a
+-- byte.
 use Rattle.std.proofs.Common.{◌≡◌, ℕ, suc, nat_le, List, [], ◌∷◌, ◌++◌, Some, Bool, true, false, refl, ap, ◌∙◌, subst}
 use Prim.Native.Char.{code}
 use Rattle.std.specs.Prelude.{◌==◌, if◌then◌else◌}

@@ -1,4 +1,5 @@
--- How many signs a text may have that deepen its tree: so that no text makes the parser, or what goes over a tree, call itself too often.
+-- How many signs a text may have that deepen its tree: so that no text makes the parser, or what
+-- goes over a tree, call itself too often.
 use Rattle.std.specs.Prelude.{◌≡◌, ◌+◌, ◌-◌, ℕ, zero, suc, Bool, true, false, Option, Some, None, List, [], ◌∷◌, drop, length, option_map}
 use Rattle.pr_forms.specs.Form.{rule, Reads, Begins}
 use Rattle.pr_forms_sample.specs.declared.tree.Sign.{Sign as SignKind}
@@ -44,7 +45,8 @@ first_too_deep n (t ∷ ts) = too_many_at (deepens t) n (first_too_deep (left_af
 abbrev pub IsTooDeep : List Seen → ℕ → Type 0
 IsTooDeep ts place = first_too_deep limit ts ≡ Some place
 
--- Why there is no tree: the first bad place; a sign too many, up to which all can go on; or want of memory.
+-- Why there is no tree: the first bad place; a sign too many, up to which all can go on; or want of
+-- memory.
 abbrev pub Refuses : List Seen → ParseError → Type 0
 Refuses ts (Bad place) = IsBadPlace ts place
 Refuses ts (TooDeep place) = IsTooDeep ts place × Begins production (rule (Binary Sum)) ts (drop (suc place) ts)
@@ -61,7 +63,8 @@ abbrev pub later_by : ℕ → Option ℕ → Option ℕ
 later_by n None = None
 later_by n (Some k) = Some (n + k)
 
--- What the parser comes to, where it may read all the tokens: their one tree, or no tree and the first bad place.
+-- What the parser comes to, where it may read all the tokens: their one tree, or no tree and the
+-- first bad place.
 abbrev pub IsReading : List Token → Reading → Type 0
 IsReading ts (Whole tree) = Derives (seen ts) (tree_of tree) × ((v : Value) → Reads production (rule (Binary Sum)) (seen ts) v [] → HasTree v (tree_of tree)) × IsBadPlace (seen ts) (length ts)
 IsReading ts (BadReading place) = ((v : Value) → Reads production (rule (Binary Sum)) (seen ts) v [] → ⊥) × IsBadPlace (seen ts) place

@@ -22,7 +22,8 @@ pub record BreaksOff (text rest : List ℕ) : Type 0 where
 abbrev pub bytes_of : List WordOf → List (List ℕ)
 bytes_of = map (λ w. w.bytes.items)
 
--- Why a text has no words: the first bad place, or want of memory, which alone keeps words from being answered.
+-- Why a text has no words: the first bad place, or want of memory, which alone keeps words from
+-- being answered.
 abbrev pub Refuses : List ℕ → WordsError → Type 0
 Refuses text (Bad place) = IsFirstBad lists Words text place
 Refuses text Memory = Unit {0}

@@ -27,7 +27,8 @@ seen_token t = seen_kind t.place t.kind
 abbrev pub seen : List Token → List Seen
 seen = map seen_token
 
--- A tree with the places of its parts. The arguments of a call are a tree too: none, or some and one more.
+-- A tree with the places of its parts. The arguments of a call are a tree too: none, or some and
+-- one more.
 pub data Tree : Type 0 where
   number : Place → ℕ → Tree
   name : Place → List ℕ → Tree

@@ -1,4 +1,5 @@
--- Lists of words with commas between them. A word is letters, or a string, whose language stands within this one.
+-- Lists of words with commas between them. A word is letters, or a string, whose language stands
+-- within this one.
 use Prim.Native.Char.{code}
 use Rattle.std.specs.Prelude.{ℕ, Option, Some, None, option_map, List, [], ◌∷◌, ◌++◌, Bool, true, false}
 use Rattle.pr_forms.specs.Form.{Form, token, nothing, pair, either, fold, chosen, rule}
@@ -142,7 +143,8 @@ words_of text = words_in (value_in lists steps Words text)
 unfoldable pub bad_byte : List ℕ → ℕ
 bad_byte text = first_bad_in lists steps Words text
 
--- Words as they are written: each as a string, with a backslash before a quote and before a backslash, and commas between them.
+-- Words as they are written: each as a string, with a backslash before a quote and before a
+-- backslash, and commas between them.
 abbrev pub escaped_as : Sort → ℕ → List ℕ
 escaped_as Plain b = b ∷ []
 escaped_as s b = code "\\" ∷ b ∷ []

@@ -1,6 +1,7 @@
-//! A small language of sums, products, names and calls, read as every format of the product is: its grammar is data, its
-//! parser is a plain recursive descent, and the public call says by that grammar what it answers. Its tokens hold
-//! strings and places, and each node of its trees has a place. A change of `pr_forms` is felt here first.
+//! A small language of sums, products, names and calls, read as every format of the product is: its
+//! grammar is data, its parser is a plain recursive descent, and the public call says by that
+//! grammar what it answers. Its tokens hold strings and places, and each node of its trees has a
+//! place. A change of `pr_forms` is felt here first.
 #![tactic(auto)]
 
 mod depth;
@@ -9,8 +10,6 @@ mod glyph;
 pub mod laws;
 mod parser;
 mod string;
-#[cfg(test)]
-mod tests;
 mod tree;
 mod words;
 mod writer;

@@ -62,10 +62,11 @@ struct Part {
 /// Why tokens have no tree.
 #[derive(Clone, Copy, PartialEq, Eq, Debug)]
 pub enum ParseError {
-    /// The tokens before this index begin some text, and with the one there they begin none. The number of tokens, where
-    /// they end too early.
+    /// The tokens before this index begin some text, and with the one there they begin none. The
+    /// number of tokens, where they end too early.
     Bad { index: usize },
-    /// The tokens before this index can go on with the one there, but it is an operator or an opening parenthesis too many.
+    /// The tokens before this index can go on with the one there, but it is an operator or an
+    /// opening parenthesis too many.
     TooDeep { index: usize },
     Memory,
 }
@@ -417,8 +418,8 @@ fn bad_place_of(alloc: Global, tokens: &[Token]) -> Option<usize>
     }
 }
 
-/// The tree of the tokens, or the first bad place. A text with more signs than `LIMIT` is read up to the first one too
-/// many.
+/// The tree of the tokens, or the first bad place. A text with more signs than `LIMIT` is read up
+/// to the first one too many.
 pub fn parse(alloc: Global, tokens: &[Token]) -> Result<Expr, ParseError>
     // A tree that is answered is derived, and has no sign too many.
     ensures tree { IfOk result (λ e. Derives (seen tokens.now) (tree_of e)) }

@@ -78,8 +78,8 @@ fn any_in(text: &[u8]) -> Option<(u8, &[u8])>
     )
 }
 
-/// The byte that the piece at the front means, and what follows it, or nothing where the string has no more pieces; the
-/// text from the first bad byte on, where a backslash is the last one.
+/// The byte that the piece at the front means, and what follows it, or nothing where the string has
+/// no more pieces; the text from the first bad byte on, where a backslash is the last one.
 fn piece_in(text: &[u8]) -> Result<Option<(u8, &[u8])>, &[u8]>
     ensures read { MatchResult result (HasPiece text.now) (λ rest. BreaksOff text.now rest.now) }
     ensures shorter { IfOk result (λ o. IfSome o (λ x. length x.1.now < length text.now)) }

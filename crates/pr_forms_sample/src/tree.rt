@@ -41,8 +41,9 @@ pub enum Operator {
     Multiply,
 }
 
-/// An expression with its place: that of its text without parentheses around it. An operation begins where the text of
-/// its left operand does, parentheses included, and ends where that of its right operand does.
+/// An expression with its place: that of its text without parentheses around it. An operation
+/// begins where the text of its left operand does, parentheses included, and ends where that of its
+/// right operand does.
 #[cycle(tree)]
 #[derive(Drop, Debug)]
 pub struct Expr {

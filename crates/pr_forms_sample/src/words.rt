@@ -21,7 +21,8 @@ pub struct Word {
 /// Why a text is no list of words.
 #[derive(Clone, Copy, PartialEq, Eq, Debug)]
 pub enum WordsError {
-    /// The first byte with which no list of words can go on, or the length, where it ends too early.
+    /// The first byte with which no list of words can go on, or the length, where it ends too
+    /// early.
     Bad { place: usize },
     Memory,
 }
@@ -44,7 +45,8 @@ fn after_comma(text: &[u8]) -> Option<((), &[u8])>
     )
 }
 
-/// The letter at the front, and what follows it. With the letters before it chooses the rest of a word.
+/// The letter at the front, and what follows it. With the letters before it chooses the rest of a
+/// word.
 fn letter_in(text: &[u8]) -> Option<(u8, &[u8])>
     ensures read { (before : List ℕ) → MatchOption result (ChoosesNone lists (letter_at before) text.now)
         (λ x. Chooses lists (letter_at before) (letters_with before x.0) text.now x.1.now) }

@@ -1,4 +1,5 @@
--- What the head answers is what the history has: counts, places, and the newest sample until a moment.
+-- What the head answers is what the history has: counts, places, and the newest sample until a
+-- moment.
 use Rattle.std.proofs.Common.{◌≡◌, ℕ, zero, suc, ℤ, pos, negsuc, ◌+◌, ◌-◌, ◌≤◌, ◌<◌, nat_le, nat_lt, Bool, true, false, cond, ◌&&◌, List, [], ◌∷◌, ◌++◌, length, get_or, map, take, drop, filter, find, reverse, slice_get, Option, Some, None, option_and_then, refl, sym, ap, subst, ◌∙◌, arith}
 use Rattle.std.specs.List.Sorted.{IsStrictlyIncreasing}
 use Rattle.std.specs.Option.{option_map, option_or}
@@ -35,12 +36,13 @@ sample_is history labels s place k h =
     let not_below : nat_lt place s.first ≡ false = grind (arith, common_steps) in
     ap (λ b. cond b None (slice_get s.held (place - s.first))) not_below ∙ ap (λ l. slice_get l (place - s.first)) k.held ∙ drop_at s.first place (samples_of history labels) h
 
--- times rise
+-- times do not fall, from a first one on
 abbrev pub Rises : ℕ → List Timed → Type 0
 Rises t [] = Unit {0}
 Rises t (x ∷ xs) = (t ≤ x.time) × Rises x.time xs
 
-abbrev UpTo : ℕ → List Timed → Type 0
+-- no time is above one
+abbrev pub UpTo : ℕ → List Timed → Type 0
 UpTo u [] = Unit {0}
 UpTo u (x ∷ xs) = (x.time ≤ u) × UpTo u xs
 

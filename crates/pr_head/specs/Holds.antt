@@ -1,4 +1,5 @@
--- What a head stands for: the history, of which it may have forgotten the oldest samples of each series.
+-- What a head stands for: the history, of which it may have forgotten the oldest samples of each
+-- series.
 use Rattle.std.specs.Prelude.{◌≡◌, ℕ, ◌≤◌, Bool, cond, ℤ, List, [], ◌∷◌, ◌++◌, length, get_or, map, filter, fold, drop, slice_get, Some}
 use Rattle.std.specs.Option.{option_map}
 use Rattle.pr_num.specs.declared.value.Point.{Point}
@@ -39,17 +40,20 @@ labels_at sets series = get_or sets series []
 abbrev pub chosen_of : (List Pair → Bool) → List (List Pair) → List (List Pair)
 chosen_of test sets = fold with_labels [] (filter test sets)
 
--- What is held of a series are its samples without some first ones; the last is that of the history.
+-- What is held of a series are its samples without some first ones; the last is that of the
+-- history.
 pub record IsKept (history : List Entry) (labels : List Pair) (s : Stored) : Type 0 where
   pub first : s.first ≤ length (samples_of history labels)
   pub held : s.held ≡ drop s.first (samples_of history labels)
   pub last : option_map timed (last_entry (is_of labels) history) ≡ Some s.last
 
--- A head stands for a history: its series are those of the history, numbered by first arrival, and each is kept.
+-- A head stands for a history: its series are those of the history, numbered by first arrival, and
+-- each is kept.
 pub record Holds (head : List (List Pair × Stored)) (history : List Entry) : Type 0 where
   pub numbered : sets_of head ≡ arrivals history
   pub each : (i : ℕ) (e : List Pair × Stored) → slice_get head i ≡ Some e → IsKept history e.0 e.1
 
--- Nothing above a moment is forgotten: what is no longer held of a series are entries until that moment.
+-- Nothing above a moment is forgotten: what is no longer held of a series are entries until that
+-- moment.
 abbrev pub IsWhole : List (List Pair × Stored) → List Entry → ℤ → Type 0
 IsWhole head history x = (i : ℕ) (e : List Pair × Stored) → slice_get head i ≡ Some e → e.1.first ≤ entries_until history e.0 x

@@ -13,6 +13,7 @@ IsPast y x = (time : ℕ) → is_until y time ≡ true → is_recent x time ≡ 
 abbrev pub shown_of : Timed → Option Spot
 shown_of t = option_map (spot_of t.time) (number_in t.point)
 
--- what a series shows at a moment, by its newest sample until then: the value of that sample where it is recent
+-- what a series shows at a moment, by its newest sample until then: the value of that sample where
+-- it is recent
 abbrev pub spot_shown : ℤ → Option Timed → Option Spot
 spot_shown x newest = option_and_then (λ t. cond (is_recent x t.time) (shown_of t) None) newest

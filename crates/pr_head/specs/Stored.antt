@@ -59,7 +59,8 @@ begun x = stored 0 (x ∷ []) x
 abbrev pub after_push : Stored → Timed → Stored
 after_push s x = stored s.first (s.held ++ x ∷ []) x
 
--- a series of which the samples at or before a moment are forgotten: the later ones are held, and the last stays
+-- a series of which the samples at or before a moment are forgotten: the later ones are held, and
+-- the last stays
 abbrev pub held_after : Stored → ℤ → List Timed
 held_after s before = filter (λ x. is_after before x.time) s.held
 

@@ -13,7 +13,8 @@ use std::alloc::{AllocError, Global};
 use std::marker::Model;
 use std::sync::ledger::Ledger;
 
-/// The samples that are held. Contracts see the list of the series, each with its labels and what is held of it.
+/// The samples that are held. Contracts see the list of the series, each with its labels and what
+/// is held of it.
 #[derive(Drop)]
 pub struct Head {
     series: IndexMap<Labels, Series>,
@@ -222,9 +223,9 @@ impl Head {
         }
     }
 
-    /// Adds a sample to its series, unless it is refused, and answers what became of it. Nothing is forgotten on the way.
-    /// Without memory nothing has changed. (Own choice: a sample is added at a later time alone; out-of-order samples
-    /// are refused.)
+    /// Adds a sample to its series, unless it is refused, and answers what became of it. Nothing is
+    /// forgotten on the way. Without memory nothing has changed. (Own choice: a sample is added at
+    /// a later time alone; out-of-order samples are refused.)
     pub fn append(&mut self, labels: &Labels, time: Ms, point: Point) -> Result<Append, AllocError>
         ensures answer { (history : List Entry) → Holds self.old history → IfOk result (λ a. a ≡ admit history labels.now time point) }
         ensures holds { (history : List Entry) → Holds self.old history → OnOk result (Holds self.new (put history (entry_of labels.now time point))) }
@@ -242,8 +243,9 @@ impl Head {
         }
     }
 
-    /// Forgets the samples at or before a time. Each series keeps its labels, its count, its last time and its last point,
-    /// so that an old sample is refused as before. Takes no memory. (Own choice: what no query can see is forgotten.)
+    /// Forgets the samples at or before a time. Each series keeps its labels, its count, its last
+    /// time and its last point, so that an old sample is refused as before. Takes no memory. (Own
+    /// choice: what no query can see is forgotten.)
     pub fn trim(&mut self, before: i64)
         ensures later { self.new ≡ trimmed before self.old }
         ensures holds { (history : List Entry) → Holds self.old history → Holds self.new history }

@@ -8,8 +8,8 @@ ghost use Rattle.pr_head.specs.Stored.{Stored, count_of, newest_at, sample_at};
 ghost use Rattle.pr_head.specs.Holds.{samples_of, Holds, IsWhole};
 ghost use Rattle.pr_head.specs.Reads.{spot_shown, IsPast};
 
-/// The count of a series is that of its entries, and the sample at a place that is not forgotten is the one that arrived
-/// there.
+/// The count of a series is that of its entries, and the sample at a place that is not forgotten is
+/// the one that arrived there.
 pub fn places_are_those_of_the_history()
     ensures count { (head : List (List Pair × Stored)) (history : List Entry) (i : ℕ) (e : List Pair × Stored) → Holds head history → slice_get head i ≡ Some e
         → count_of e.1 ≡ length (entries_of e.0 history) }
@@ -17,8 +17,8 @@ pub fn places_are_those_of_the_history()
         → e.1.first ≤ place → sample_at e.1 place ≡ slice_get (samples_of history e.0) place }
 {}
 
-/// What a series shows at a moment is told by its newest sample until then, with the time of that sample: where nothing is
-/// forgotten but what is not seen any more, one read a series is enough.
+/// What a series shows at a moment is told by its newest sample until then, with the time of that
+/// sample: where nothing is forgotten but what is not seen any more, one read a series is enough.
 pub fn the_newest_sample_is_what_is_shown()
     ensures { (head : List (List Pair × Stored)) (history : List Entry) (x y : ℤ) (i : ℕ) (e : List Pair × Stored) → IsLawful history → Holds head history
         → IsWhole head history y → IsPast y x → slice_get head i ≡ Some e → spot_at history x e.0 ≡ spot_shown x (newest_at e.1 x) }

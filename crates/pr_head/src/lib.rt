@@ -1,12 +1,11 @@
-//! The samples that are held: series in order of arrival, each with its newest samples in order of time.
+//! The samples that are held: series in order of arrival, each with its newest samples in order of
+//! time.
 #![tactic(auto)]
 
 mod head;
 mod laws;
 mod names;
 mod series;
-#[cfg(test)]
-mod tests;
 mod timed;
 
 pub use head::Head;

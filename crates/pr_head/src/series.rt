@@ -12,7 +12,8 @@ use std::alloc::{AllocError, Global};
 use std::collections::VecDeque;
 use std::marker::Model;
 
-/// The samples of a series that are held, how many came before them, and the last of all. Contracts see these three.
+/// The samples of a series that are held, how many came before them, and the last of all. Contracts
+/// see these three.
 #[derive(Drop)]
 pub(crate) struct Series {
     first: u64,

@@ -1,4 +1,3 @@
-pub mod LabelMaps
 pub mod Keys
 pub mod Placing
 pub mod Taken

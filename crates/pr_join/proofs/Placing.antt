@@ -18,10 +18,10 @@ use Rattle.pr_labels.specs.Order.{labels_cmp, labels_eq}
 use Rattle.pr_labels.proofs.LabelOrder.{labels_decide}
 use Rattle.pr_labels.proofs.LabelOrder.{labels_total}
 use Rattle.pr_labels.specs.Rising.{with_labels}
+use Rattle.pr_labels.proofs.LabelMaps.{keys_insert, tie}
 use Rattle.pr_meaning.specs.Matching.{has_key, is_shared, key_of, key_set, least_shared}
 use Rattle.pr_join.specs.declared.places.Place.{Place}
 use Rattle.pr_join.specs.Places.{IsPlaceOf, IsIndexOf, place_with, is_flagged}
-use Rattle.pr_join.proofs.LabelMaps.{keys_insert, tie}
 
 key_set_more : (how : Matching) (front : List (Item Num)) (x : Item Num) → key_set how (front ++ x ∷ []) ≡ with_labels (key_set how front) (key_of how x)
 key_set_more how front x =

@@ -144,16 +144,17 @@ fn join_sides<O: Fn(Num, Num) -> Result<Option<Num>, TooWide>>(
     }
 }
 
-/// What an operator gives of two vectors, in label order: by the key of `how` each element of one side is
-/// paired with the one of the other side that has this key, and the operator is applied to the left and the
-/// right value. It answers a value, none where a filter drops the pair, or that the value is too wide. The
-/// metric's name is kept where `keep_name` says so. (Prometheus: Querying, Operators, Vector matching.)
+/// What an operator gives of two vectors, in label order: by the key of `how` each element of one
+/// side is paired with the one of the other side that has this key, and the operator is applied to
+/// the left and the right value. It answers a value, none where a filter drops the pair, or that
+/// the value is too wide. The metric's name is kept where `keep_name` says so. (Prometheus:
+/// Querying, Operators, Vector matching.)
 ///
 /// # Errors
-/// `ManyToMany` with the least key that two elements of the one side have, unless the other side is empty;
-/// else what befalls the first element of the other side that has a fault: `TooWide` where the operator
-/// answers so, `ManyToMany` where in one-to-one matching its key was kept before, `NotUnique` where its
-/// labels were. `Memory` where memory runs out.
+/// `ManyToMany` with the least key that two elements of the one side have, unless the other side is
+/// empty; else what befalls the first element of the other side that has a fault: `TooWide` where
+/// the operator answers so, `ManyToMany` where in one-to-one matching its key was kept before,
+/// `NotUnique` where its labels were. `Memory` where memory runs out.
 pub fn join<O: Fn(Num, Num) -> Result<Option<Num>, TooWide>>(
     alloc: Global,
     left: &[Item<Num>],

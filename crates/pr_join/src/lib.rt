@@ -1,6 +1,6 @@
-//! Operators between two vectors: arithmetic, comparisons and set operators by matching keys. A call equals
-//! its definition in `pr_meaning`; keys are looked up in ordered maps, so that the work grows with the
-//! elements and not with their pairs.
+//! Operators between two vectors: arithmetic, comparisons and set operators by matching keys. A
+//! call equals its definition in `pr_meaning`; keys are looked up in ordered maps, so that the work
+//! grows with the elements and not with their pairs.
 #![tactic(auto)]
 
 mod join_fault;
@@ -9,8 +9,6 @@ mod labels;
 mod places;
 mod rows;
 mod sets;
-#[cfg(test)]
-mod tests;
 
 pub use join_fault::JoinFault;
 pub use joins::join;

@@ -15,7 +15,8 @@ use pr_num::Num;
 use std::alloc::{AllocError, Global};
 use std::collections::BTreeMap;
 
-/// The elements so far by their labels, and in one-to-one matching the keys of the pairs that gave them.
+/// The elements so far by their labels, and in one-to-one matching the keys of the pairs that gave
+/// them.
 #[derive(Drop)]
 pub struct Rows {
     pub items: BTreeMap<Labels, Num>,

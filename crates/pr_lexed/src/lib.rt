@@ -1,5 +1,5 @@
-//! What a text of the query language gives, as a function of it: its tokens, or its first fault. `pr_lex` has the law that says so;
-//! here are worked texts.
+//! What a text of the query language gives, as a function of it: its tokens, or its first fault.
+//! `pr_lex` has the law that says so; here are worked texts.
 #![tactic(auto)]
 
 pub mod examples;

@@ -35,7 +35,8 @@ first_match source text =
 unfoldable pub matches_whole : List ℕ → List ℕ → Bool
 matches_whole pattern text = is_some (first_match (anchored pattern) text)
 
--- a template with the groups of that match in the place of its references; nothing where there is no match
+-- a template with the groups of that match in the place of its references; nothing where there is
+-- no match
 unfoldable pub expanded : List ℕ → List ℕ → List ℕ → Option (List ℕ)
 expanded pattern text template =
     option_map (λ found. written_after found.1 (group_bytes text found.0) template 0) (first_match (anchored pattern) text)

@@ -8,7 +8,8 @@ use crate::pattern::{Pattern, Searcher};
 use pr_words::Text;
 use std::alloc::{AllocError, Global};
 
-/// A condition on a value: the operator of a matcher with its text, which is a pattern where the operator wants one.
+/// A condition on a value: the operator of a matcher with its text, which is a pattern where the
+/// operator wants one.
 #[derive(Drop)]
 pub(crate) enum Condition {
     Equal(Text),

@@ -1,5 +1,5 @@
-//! Laws of the definitions that contracts of this crate cite. A law is a function that does nothing,
-//! and its contract is the theorem.
+//! Laws of the definitions that contracts of this crate cite. A law is a function that does
+//! nothing, and its contract is the theorem.
 ghost use Rattle.std.specs.Prelude.{◌≡◌, ℕ, List, [], map, codes, nat_eq, not, true, false, None, Some};
 ghost use Rattle.std.specs.List.{list_all, list_any, slice_get};
 ghost use Rattle.std.specs.Str.{bytes_eq};
@@ -18,8 +18,8 @@ pub fn operators_are_opposite()
         → meets (label_test name NotLike pattern) labels ≡ not (meets (label_test name Like pattern) labels) }
 {}
 
-/// A label that a set has not is as one with an empty value: what a matcher says of it is what it says of the set
-/// without labels, and that is what its operator says of the empty text.
+/// A label that a set has not is as one with an empty value: what a matcher says of it is what it
+/// says of the set without labels, and that is what its operator says of the empty text.
 #[tactic(auto, unfolding(crate::specs::Matcher::meets))]
 pub fn an_absent_label_is_empty()
     ensures absent { (test : LabelTest) (labels : List Pair)

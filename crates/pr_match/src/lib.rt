@@ -8,8 +8,6 @@ mod matcher;
 mod op;
 mod pattern;
 mod selection;
-#[cfg(test)]
-mod tests;
 
 pub use fault::MatchError;
 pub use laws::{

@@ -10,7 +10,8 @@ use pr_words::Text;
 use std::alloc::{AllocError, Global};
 use std::marker::Model;
 
-/// A test of one label of a label set. Contracts see it as it is written: a name, an operator and a text.
+/// A test of one label of a label set. Contracts see it as it is written: a name, an operator and a
+/// text.
 #[derive(Drop)]
 pub struct Matcher {
     name: Text,
@@ -27,8 +28,9 @@ impl Model for Matcher {
 }
 
 impl Matcher {
-    /// The matcher of a name, an operator and a text. Unless memory runs out, it is `BadPattern` exactly where the
-    /// operator is `Like` or `NotLike` and the text is no pattern (`Pattern::build`). Any text may be the name.
+    /// The matcher of a name, an operator and a text. Unless memory runs out, it is `BadPattern`
+    /// exactly where the operator is `Like` or `NotLike` and the text is no pattern
+    /// (`Pattern::build`). Any text may be the name.
     pub fn build(alloc: Global, name: &str, op: MatchOp, text: &str) -> Result<Matcher, MatchError>
         ensures made { IfOk result (λ m. m ≡ label_test name.now op text.now) }
         ensures good { OnOk result (may_follow op text.now ≡ true) }
@@ -40,7 +42,8 @@ impl Matcher {
         })
     }
 
-    /// The same matcher, ready to be asked of many label sets. It costs much more to make than to ask.
+    /// The same matcher, ready to be asked of many label sets. It costs much more to make than to
+    /// ask.
     pub fn searcher(&self, alloc: Global) -> Result<LabelSearcher<'_>, AllocError>
         ensures { IfOk result (λ s. s ≡ self.now) }
     {
@@ -50,8 +53,9 @@ impl Matcher {
         })
     }
 
-    /// Whether a label set meets the matcher. A label that it has not is as one with an empty value. (Prometheus:
-    /// Querying basics, "Instant vector selectors".) Where many sets are asked about, use one `searcher`.
+    /// Whether a label set meets the matcher. A label that it has not is as one with an empty
+    /// value. (Prometheus: Querying basics, "Instant vector selectors".) Where many sets are asked
+    /// about, use one `searcher`.
     pub fn matches(&self, alloc: Global, labels: &Labels) -> Result<bool, AllocError>
         ensures { IfOk result (λ found. found ≡ meets self.now labels.now) }
     {
@@ -59,7 +63,8 @@ impl Matcher {
         Ok(searcher.matches(labels))
     }
 
-    /// Whether the matcher is met by an empty value, and so by each label set that has not the label.
+    /// Whether the matcher is met by an empty value, and so by each label set that has not the
+    /// label.
     pub fn matches_empty(&self, alloc: Global) -> Result<bool, AllocError>
         ensures { IfOk result (λ found. found ≡ meets self.now []) }
     {

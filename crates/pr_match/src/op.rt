@@ -1,5 +1,5 @@
-/// How a matcher compares the value of a label with its text. (Prometheus: Querying basics, "Instant vector
-/// selectors".)
+/// How a matcher compares the value of a label with its text. (Prometheus: Querying basics,
+/// "Instant vector selectors".)
 #[derive(Clone, Copy, PartialEq, Eq, Debug)]
 pub enum MatchOp {
     /// `=`: the value is the text.

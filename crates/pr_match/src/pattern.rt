@@ -10,8 +10,8 @@ use regex_syntax::{Config, ErrorKind, parse};
 use std::alloc::{AllocError, Global};
 use std::marker::Model;
 
-/// A pattern that is met by whole texts, line feeds included. (Prometheus: Querying basics.) Contracts see it as its
-/// text.
+/// A pattern that is met by whole texts, line feeds included. (Prometheus: Querying basics.)
+/// Contracts see it as its text.
 #[derive(Drop)]
 pub struct Pattern {
     regex: Regex,
@@ -31,9 +31,10 @@ impl Model for Pattern {
 }
 
 impl Pattern {
-    /// The pattern of a text. Unless memory runs out, it is `BadPattern` exactly where the text, alone or anchored
-    /// as `^(?s:text)$`, is no regular expression of the crate `regex`, or is nested in more than 250 levels. A
-    /// pattern that is too large to compile wants memory. (Own choice: Prometheus reads RE2's syntax.)
+    /// The pattern of a text. Unless memory runs out, it is `BadPattern` exactly where the text,
+    /// alone or anchored as `^(?s:text)$`, is no regular expression of the crate `regex`, or is
+    /// nested in more than 250 levels. A pattern that is too large to compile wants memory. (Own
+    /// choice: Prometheus reads RE2's syntax.)
     #[tactic(auto, unfolding(crate::specs::Pattern::is_pattern))]
     pub fn build(alloc: Global, text: &str) -> Result<Pattern, MatchError>
         ensures text { IfOk result (λ p. p ≡ text.now) }
@@ -58,7 +59,8 @@ impl Pattern {
         })
     }
 
-    /// Whether the pattern matches the whole text. Where many texts are asked about, use one `searcher`.
+    /// Whether the pattern matches the whole text. Where many texts are asked about, use one
+    /// `searcher`.
     pub fn matches(&self, alloc: Global, text: &str) -> Result<bool, AllocError>
         ensures { IfOk result (λ found. found ≡ matches_whole self.now text.now) }
     {
@@ -66,9 +68,9 @@ impl Pattern {
         Ok(searcher.matches(text))
     }
 
-    /// The template with what each group matched in the place of `$1`, `${1}`, `$name` and `${name}`, and `$` in
-    /// that of `$$`. It is `None` exactly where the pattern does not match the whole text. (Prometheus: Query
-    /// functions, `label_replace`.)
+    /// The template with what each group matched in the place of `$1`, `${1}`, `$name` and
+    /// `${name}`, and `$` in that of `$$`. It is `None` exactly where the pattern does not match
+    /// the whole text. (Prometheus: Query functions, `label_replace`.)
     pub fn expand(
         &self,
         alloc: Global,
@@ -90,7 +92,8 @@ impl Pattern {
     }
 }
 
-/// A searcher for one pattern, to be asked about many texts. Contracts see it as the pattern's text.
+/// A searcher for one pattern, to be asked about many texts. Contracts see it as the pattern's
+/// text.
 #[derive(Drop)]
 pub struct Searcher<'p> {
     matcher: Matcher<'p>,
@@ -118,7 +121,8 @@ impl<'p> Searcher<'p> {
     }
 }
 
-// Reads a source, to see that it can be read: that takes a small part of the time that compiling takes.
+// Reads a source, to see that it can be read: that takes a small part of the time that compiling
+// takes.
 fn read(alloc: Global, source: &str) -> Result<(), MatchError>
     ensures good { OnOk result (is_readable source.now ≡ true) }
     ensures bad { result ≡ Err MatchError.BadPattern → is_readable source.now ≡ false }
@@ -152,7 +156,8 @@ fn compile(alloc: Global, source: &str) -> Result<Regex, MatchError>
     }
 }
 
-// What a refusal to compile means: each fault of syntax, the limit on nesting among them, is the text's.
+// What a refusal to compile means: each fault of syntax, the limit on nesting among them, is the
+// text's.
 fn fault_of(error: &Error) -> MatchError
     ensures { result ≡ fault_of error.now }
 {

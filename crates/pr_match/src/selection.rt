@@ -7,8 +7,8 @@ use pr_labels::Labels;
 use std::alloc::{AllocError, Global};
 use std::marker::Model;
 
-/// Matchers that are asked together of many label sets, with one searcher for each. Contracts see the list of
-/// the matchers.
+/// Matchers that are asked together of many label sets, with one searcher for each. Contracts see
+/// the list of the matchers.
 #[derive(Drop)]
 pub struct Selection<'m> {
     searchers: Vec<LabelSearcher<'m>>,

@@ -1,9 +1,7 @@
-//! A small caller of pr_match, so that a change of what callers rest on is felt. It names no other crate's words for
-//! patterns. It stands on the model of the history too, and says which series matchers choose from it.
+//! A small caller of pr_match, so that a change of what callers rest on is felt. It names no other
+//! crate's words for patterns. It stands on the model of the history too, and says which series
+//! matchers choose from it.
 #![tactic(auto)]
-
-#[cfg(test)]
-mod tests;
 
 ghost use Rattle.std.specs.Prelude.{◌≡◌, ◌&&◌, true, false, List, map, IfOk, OnOk};
 ghost use Rattle.std.specs.List.{slice_get};

@@ -13,8 +13,9 @@ use Rattle.pr_history.specs.Lookback.{entries_until, is_after, is_until, spot_in
 use Rattle.pr_head.specs.Holds.{timed, samples_of}
 use Rattle.pr_history.proofs.Lawful.{of_entries}
 use Rattle.pr_head.proofs.Arrivals.{samples_more, samples_other, last_more, last_other, eq_from, apart_from}
+use Rattle.pr_head.proofs.Newest.{Rises, UpTo}
 use Rattle.pr_range.specs.Spots.{spots_of}
-use Rattle.pr_range.proofs.Timeline.{Rises, StrictlyRises, UpTo, up_to_more, up_to_last, strict_last, rises_of_strict, until, between}
+use Rattle.pr_range.proofs.Timeline.{StrictlyRises, up_to_more, up_to_last, strict_last, rises_of_strict, until, between}
 
 lawful_last : (before rest : List Entry) (e : Entry) → IsLawfulAfter before (rest ++ e ∷ []) → IsLawfulAfter before rest × (admit (before ++ rest) e.labels e.time e.point ≡ Added)
 lawful_last before [] e h = (tt, subst (λ l. admit l e.labels e.time e.point ≡ Added) (sym (append-nil before)) h.0)

@@ -34,7 +34,8 @@ until_is_below (negsuc b) t h = cc
 above : (t u : ℕ) → suc t ≤ u → pos t <ℤ pos u
 above t u h = omega (arith, ints)
 
--- The values of a range rise from its start, or from a moment that is before all of those that are left.
+-- The values of a range rise from its start, or from a moment that is before all of those that are
+-- left.
 spots_inside : (a b c : ℤ) (t : ℕ) (xs : List Timed) → StrictlyRises t xs → ((u : ℕ) → t ≤ u → is_after a u ≡ true → c <ℤ pos u) → AreWithin c b (spots_of (between a b xs))
 spots_inside a b c t [] h low = tt
 spots_inside a b c t (x ∷ xs) h low =

@@ -1,4 +1,5 @@
--- Times that are not all one are spread: n times the sum of their squares is above the square of their sum.
+-- Times that are not all one are spread: n times the sum of their squares is above the square of
+-- their sum.
 use Rattle.std.proofs.Common.{◌≡◌, ℕ, zero, suc, ◌+◌, ◌*◌, ◌<◌, ◌≤◌, List, [], ◌∷◌, length, sym, ap, subst, ◌∙◌, arith}
 use Rattle.std.specs.List.{sum_by}
 use Rattle.std.proofs.Math.Nat.{mul-le-mul_left}

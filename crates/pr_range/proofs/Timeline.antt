@@ -4,16 +4,7 @@ use Rattle.std.specs.List.{position_or_len}
 use Rattle.std.proofs.lemmas.Grind.{common_steps}
 use Rattle.pr_history.specs.Lookback.{is_after, is_until}
 use Rattle.pr_head.specs.declared.timed.Timed.{Timed}
-
--- times do not fall, from a first one on
-abbrev pub Rises : ℕ → List Timed → Type 0
-Rises t [] = Unit {0}
-Rises t (x ∷ xs) = (t ≤ x.time) × Rises x.time xs
-
--- no time is above one
-abbrev pub UpTo : ℕ → List Timed → Type 0
-UpTo u [] = Unit {0}
-UpTo u (x ∷ xs) = (x.time ≤ u) × UpTo u xs
+use Rattle.pr_head.proofs.Newest.{Rises, UpTo}
 
 pub up_to_more : (u v : ℕ) (xs : List Timed) → u ≤ v → UpTo u xs → UpTo v xs
 up_to_more u v [] h k = tt

@@ -31,22 +31,25 @@ pub record LastAsk : Type 0 where
 abbrev pub remembered : Ask → LastAsk
 remembered a = record { func = a.func; from = a.from; to = a.to }
 
--- The last ask outside subqueries of each node and series, and how many samples of the series were passed for the node.
+-- The last ask outside subqueries of each node and series, and how many samples of the series were
+-- passed for the node.
 abbrev pub LastAsks : Type 0
 LastAsks = ℕ → ℕ → Option LastAsk
 
 abbrev pub Passed : Type 0
 Passed = ℕ → ℕ → ℕ
 
--- A head stands for a lawful history, has the series, and has forgotten nothing above the start of the range.
+-- A head stands for a lawful history, has the series, and has forgotten nothing above the start of
+-- the range.
 pub record MayAsk (head : List (List Pair × Stored)) (history : List Entry) (series : ℕ) (labels : List Pair) (a : Ask) : Type 0 where
   pub lawful : IsLawful history
   pub holds : Holds head history
   pub named : slice_get (sets_of head) series ≡ Some labels
   pub whole : IsWhole head history a.from
 
--- An ask outside subqueries may follow the last ones: the function of its node stays, and its range does not begin or end earlier
--- than the last one of its node and series. One inside a subquery may always come.
+-- An ask outside subqueries may follow the last ones: the function of its node stays, and its range
+-- does not begin or end earlier than the last one of its node and series. One inside a subquery may
+-- always come.
 pub record IsLater (last : LastAsks) (node series : ℕ) (a : Ask) : Type 0 where
   pub same : (s : ℕ) (b : LastAsk) → last node s ≡ Some b → b.func ≡ a.func
   pub from : (b : LastAsk) → last node series ≡ Some b → b.from ≤ℤ a.from
@@ -59,7 +62,8 @@ IsReady last node series a = a.inside ≡ false → IsLater last node series a
 abbrev pub passed_for : Ask → ℕ → ℕ
 passed_for a passed = cond a.inside 0 passed
 
--- The answer is that of the history, and no more samples are read than those of the range that were not passed.
+-- The answer is that of the history, and no more samples are read than those of the range that were
+-- not passed.
 pub record IsAnswer (history : List Entry) (labels : List Pair) (a : Ask) (passed : ℕ) (before after : ℕ) (result : Result (Option Num) RangeFault) : Type 0 where
   pub value : Answers (answer_to history labels a) result
   pub reads : after ≤ before + ask_cost history labels a (passed_for a passed)
@@ -68,8 +72,8 @@ pub record IsAnswer (history : List Entry) (labels : List Pair) (a : Ask) (passe
 abbrev pub is_kept : Bool → Ask → ℕ → ℕ → ℕ → ℕ → Bool
 is_kept keeps a node series k s = keeps && (not a.inside && ((node == k) && (series == s)))
 
--- Where asks are remembered, one outside subqueries becomes the last one of its node and series, and all until its end count as
--- passed; what is known of the others stays.
+-- Where asks are remembered, one outside subqueries becomes the last one of its node and series,
+-- and all until its end count as passed; what is known of the others stays.
 pub record AreMoved (keeps : Bool) (node series : ℕ) (a : Ask) (until : ℕ) (last last' : LastAsks) (passed passed' : Passed) : Type 0 where
   pub asks : (k s : ℕ) → last' k s ≡ cond (is_kept keeps a node series k s) (Some (remembered a)) (last k s)
   pub passing : (k s : ℕ) → passed' k s ≡ cond (is_kept keeps a node series k s) until (passed k s)

@@ -93,7 +93,8 @@ fn gained(first: &Spot, rest: &[Spot]) -> i128
     difference(first, rest) + lost(first, rest)
 }
 
-// How many milliseconds lie between the start of the range and the first value, and between the last one and the end.
+// How many milliseconds lie between the start of the range and the first value, and between the
+// last one and the end.
 fn ms_before(ask: &Ask, first: &Spot) -> u128
     ensures value { result ≡ ms_between ask.now.from (pos first.now.time) }
     ensures small { result < 2 ^ 65 }
@@ -126,8 +127,8 @@ fn reach(distance: u128, covered: u64, steps: u64) -> u64
     }
 }
 
-/// The time from the first value to the last and how far they are taken to go on before and after, in parts of which there are
-/// two for each step from one value to the next.
+/// The time from the first value to the last and how far they are taken to go on before and after,
+/// in parts of which there are two for each step from one value to the next.
 #[derive(Drop)]
 pub(crate) struct Stretch {
     covered: u64,

@@ -1,4 +1,5 @@
-//! Functions of the values of a series in a range, asked of a head, and what may be kept from one question to the next.
+//! Functions of the values of a series in a range, asked of a head, and what may be kept from one
+//! question to the next.
 #![tactic(auto)]
 
 mod fault;
@@ -9,8 +10,6 @@ mod plain;
 mod ranges;
 mod read;
 mod steps;
-#[cfg(test)]
-mod tests;
 mod values;
 
 pub use fault::RangeFault;

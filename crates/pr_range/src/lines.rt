@@ -116,7 +116,8 @@ fn sum_y(first: &Spot, rest: &[Spot]) -> Parted
     sum
 }
 
-// A sum with the product of a time and a difference more; nothing where the magnitudes pass 128 bits.
+// A sum with the product of a time and a difference more; nothing where the magnitudes pass 128
+// bits.
 fn with_product(sum: Parted, time: u64, units: i128) -> Option<Parted>
     requires units { unsigned_abs units ≤ 2 * 10 ^ 29 }
     requires small { sum.up + sum.down < 2 ^ 128 }
@@ -155,8 +156,8 @@ fn sum_xy(first: &Spot, rest: &[Spot]) -> Option<Parted>
     Some(sum)
 }
 
-// Above and below zero, a count times a sum of products less a sum of times times a sum of differences; nothing where the
-// magnitudes are 10^35 together.
+// Above and below zero, a count times a sum of products less a sum of times times a sum of
+// differences; nothing where the magnitudes are 10^35 together.
 fn parts_of_top(count: u64, x: u128, xy: &Parted, y: &Parted) -> Option<Parted>
     requires count { count < 2 ^ 21 }
     requires x { x < 2 ^ 62 }

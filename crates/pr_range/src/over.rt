@@ -33,8 +33,8 @@ fn argument(ask: &Ask) -> Num
     }
 }
 
-// Whether the range has a length, and the last value comes after the first and after the one before it, as two values of a series
-// or more do.
+// Whether the range has a length, and the last value comes after the first and after the one before
+// it, as two values of a series or more do.
 fn is_rising(first: &Spot, rest: &[Spot], ask: &Ask) -> bool
     ensures range { IsTrue result → ask.now.from <ℤ ask.now.to }
     ensures rising { IsTrue result → first.now.time < (last_of first.now rest.now).time }
@@ -150,14 +150,17 @@ fn over_some(
     }
 }
 
-/// The function of a list of values, and nothing for none. A formula over two values or more gives nothing for one. (Prometheus:
-/// Querying, Functions. Own choice: exact decimals, and their rounding; docs/LANGUAGE.md has the formulas.)
+/// The function of a list of values, and nothing for none. A formula over two values or more gives
+/// nothing for one. (Prometheus: Querying, Functions. Own choice: exact decimals, and their
+/// rounding; docs/LANGUAGE.md has the formulas.)
 ///
-/// The answer is pinned where the times of the values rise and lie in the range of the ask, as those of a series do.
+/// The answer is pinned where the times of the values rise and lie in the range of the ask, as
+/// those of a series do.
 ///
 /// # Errors
-/// `RangeTooLong` exactly where there are more than 2^20 values, else `TooWide` where the value is 10^20 or more in magnitude, and
-/// `Memory` for the quantile alone, which sorts a copy of the values.
+/// `RangeTooLong` exactly where there are more than 2^20 values, else `TooWide` where the value is
+/// 10^20 or more in magnitude, or a slope or a time ahead is refused, and `Memory` for the quantile
+/// alone, which sorts a copy of the values.
 #[tactic(auto, unfolding(pr_meaning::specs::Ranges::over))]
 pub fn over_list(alloc: Global, spots: &[Spot], ask: &Ask) -> Result<Option<Num>, RangeFault>
     requires { HasArgument ask.now }

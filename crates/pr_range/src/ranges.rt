@@ -15,8 +15,9 @@ use std::sync::ledger::Ledger;
 
 /// What answers functions of ranges. It may keep something from one ask to the next.
 ///
-/// Contracts see whether it remembers asks (`keeps`), the last ask outside subqueries of each node and series (`last`), how
-/// many samples of a series were passed for a node (`passed`), and of which histories what it keeps is true (`fits`).
+/// Contracts see whether it remembers asks (`keeps`), the last ask outside subqueries of each node
+/// and series (`last`), how many samples of a series were passed for a node (`passed`), and of
+/// which histories what it keeps is true (`fits`).
 pub trait Ranges {
     ghost keeps: { Bool };
 
@@ -26,8 +27,9 @@ pub trait Ranges {
 
     ghost fits: { Self → List Entry → Type 0 };
 
-    /// The function of the values of a series in a range, nothing where it has none there. `node` is the number of the range
-    /// selector in its expression, and `series` that of the series in the head. A read of a sample is a step.
+    /// The function of the values of a series in a range, nothing where it has none there. `node`
+    /// is the number of the range selector in its expression, and `series` that of the series in
+    /// the head. A read of a sample is a step.
     ///
     /// What stands afterwards is known after each answer but want of memory.
     fn ask<G: Ledger>(

@@ -5,7 +5,7 @@ use Rattle.std.proofs.lemmas.List.Elements.{All-filter}
 use Rattle.pr_labels.specs.declared.pair.Pair.{Pair}
 use Rattle.pr_labels.specs.LabelSet.{pair_of, text_at}
 use Rattle.pr_labels.specs.Rising.{IsBelowFirstSet, IsRising, is_among}
-use Rattle.pr_labels.proofs.LabelOrder.{among_filter, labels_total, same_rising}
+use Rattle.pr_labels.proofs.LabelOrder.{among_filter, labels_total, same_rising, both}
 use Rattle.pr_labels.specs.Order.{labels_cmp}
 use Rattle.std.specs.declared.cmp.Ordering.TheVariants.{Less}
 use Rattle.pr_history.specs.declared.entry.Entry.{Entry}
@@ -26,10 +26,7 @@ use Rattle.pr_ranged.specs.Equalities.{asked_pair, asked_pairs, name_pairs, pair
 abbrev Series : Type 0
 Series = List Pair × Stored
 
--- both parts of a conjunction hold, and a conjunction of which both hold
-both : (a b : Bool) → (a && b) ≡ true → (a ≡ true) × (b ≡ true)
-both true b h = (refl, h)
-both false b h = cc
+-- a conjunction of which both parts hold
 
 together : (a b : Bool) → a ≡ true → b ≡ true → (a && b) ≡ true
 together true b h k = k

@@ -12,36 +12,27 @@ use Rattle.std.proofs.lemmas.Map.Keys.{sorted_head, sorted_tail}
 use Rattle.std.specs.List.{AllByRecursion}
 use Rattle.std.specs.List.Sorted.{IsStrictlySortedBy}
 use Rattle.std.specs.Map.{keys_of}
-use Rattle.std.specs.Ordering.{is_eq, match_ordering}
-use Rattle.std.specs.declared.cmp.Ordering.{Ordering}
-use Rattle.std.specs.declared.cmp.Ordering.TheVariants.{Less, Equal, Greater}
+use Rattle.std.specs.declared.cmp.Ordering.TheVariants.{Less}
 use Rattle.std.specs.BTreeMap.{BTreeMap, IsOrdered, get, is_at, keys, Updates}
 use Rattle.pr_num.specs.declared.value.Num.{Num}
 use Rattle.pr_labels.specs.declared.pair.Pair.{Pair}
 use Rattle.pr_labels.specs.declared.item.Item.{Item}
 use Rattle.pr_labels.specs.Order.{labels_cmp, labels_eq}
-use Rattle.pr_labels.specs.Rising.{IsBelowFirstSet, IsRising, placed, with_labels}
-use Rattle.pr_labels.proofs.LabelOrder.{labels_decide, labels_total, tied}
+use Rattle.pr_labels.specs.Rising.{IsBelowFirstSet, IsRising}
+use Rattle.pr_labels.proofs.LabelOrder.{labels_decide, labels_total}
+use Rattle.pr_labels.proofs.LabelMaps.{tie, same_labels}
 use Rattle.pr_history.specs.declared.spot.Spot.{Spot}
 use Rattle.pr_history.specs.Lookback.{spot_of}
 use Rattle.pr_meaning.specs.Vectors.{IsVector, element, in_label_order, label_sets}
 use Rattle.pr_query.specs.Subqueries.{Taken, all_taken, series_taken, spot_taken}
 use Rattle.pr_range.specs.Spots.{AreWithin}
 use Rattle.pr_fn.specs.Gathered.{of_key, with_key}
-use Rattle.pr_fn.proofs.LabelMaps.{tie}
 use Rattle.pr_fn.proofs.Gathering.{gathered_more}
+use Rattle.pr_fn.proofs.LabelKeys.{labels_key}
 use Rattle.pr_ranged.specs.Taken.{AreAllWithin, AreTaken, IsGathered, all_timed, entry_series, labels_in, series_in, spots_listed, spots_with, taken, timed, timed_in}
 use Rattle.pr_ranged.specs.Times.{AreTimesWithin}
 use Rattle.pr_ranged.proofs.AskedSeries.{rising_without}
 use Rattle.pr_ranged.proofs.ToldApart.{not_equal, skip}
-
-equal_of : (o : Ordering) → is_eq o ≡ true → o ≡ Equal
-equal_of Less h = cc
-equal_of Equal h = refl
-equal_of Greater h = cc
-
-same_labels : (a b : List Pair) → is_eq (labels_cmp a b) ≡ true → a ≡ b
-same_labels a b h = tied a b (equal_of (labels_cmp a b) h)
 
 -- one more element
 spots_more : (es : List (Item Spot)) (x : Item Spot) → Some (spots_with (spots_listed es) x.value) ≡ spots_listed (es ++ x ∷ [])
@@ -71,16 +62,6 @@ taken_more ts time items m n h vector gathered = record {
   gathered = subst (λ l. IsGathered l n) (sym (timed_more ts (taken time items))) gathered;
   vectors = vectors_more ts (taken time items) h.vectors vector;
 }
-
--- keys in label order
-labels_put : (o : Ordering) (labels first : List Pair) (rest more other : List (List Pair)) → more ≡ other → placed o labels first rest more ≡ match_ordering o (labels ∷ first ∷ rest) (first ∷ rest) (first ∷ other)
-labels_put Less labels first rest more other h = refl
-labels_put Equal labels first rest more other h = refl
-labels_put Greater labels first rest more other h = ap (λ (r : List (List Pair)). first ∷ r) h
-
-labels_key : (known : List (List Pair)) (labels : List Pair) → with_labels known labels ≡ with_key labels_cmp known labels
-labels_key [] labels = refl
-labels_key (first ∷ rest) labels = labels_put (labels_cmp labels first) labels first rest (with_labels rest labels) (with_key labels_cmp rest labels) (labels_key rest labels)
 
 timed_labels : (time : ℕ) (items : List (Item Num)) → map labels_in (map (timed time) items) ≡ label_sets items
 timed_labels time [] = refl

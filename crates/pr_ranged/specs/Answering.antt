@@ -3,11 +3,11 @@ use Rattle.std.specs.Prelude.{◌≡◌, ◌++◌, ℕ, List, [], ◌∷◌, map
 use Rattle.pr_num.specs.declared.value.Num.{Num}
 use Rattle.pr_labels.specs.declared.pair.Pair.{Pair}
 use Rattle.pr_labels.specs.declared.item.Item.{Item}
+use Rattle.pr_labels.specs.SeriesText.{unnamed}
 use Rattle.pr_history.specs.declared.spot.Spot.{Spot}
 use Rattle.pr_meaning.specs.declared.range.Ask.{Ask}
 use Rattle.pr_meaning.specs.declared.range.AskFault.{AskFault}
 use Rattle.pr_meaning.specs.declared.range.AskFault.TheVariants as fault
-use Rattle.pr_meaning.specs.Functions.{unnamed}
 use Rattle.pr_meaning.specs.Ranges.{over}
 use Rattle.pr_meaning.specs.Vectors.{element}
 use Rattle.pr_range.specs.declared.fault.RangeFault.{RangeFault}

@@ -26,8 +26,8 @@ ask_at func arg s span time inside =
     let to = moment_of s time in
     record { from = to -ℤ pos span; to = to; func = func; arg = arg; inside = inside }
 
--- A head stands for a lawful history and has forgotten nothing above the start of the range, what is kept is true of the
--- history, and every series may be asked.
+-- A head stands for a lawful history and has forgotten nothing above the start of the range, what
+-- is kept is true of the history, and every series may be asked.
 pub record MayAskEach (head : List (List Pair × Stored)) (history : List Entry) (a : Ask) (Fits : Type 0) (last : LastAsks) (node : ℕ) : Type 0 where
   pub lawful : IsLawful history
   pub holds : Holds head history
@@ -35,7 +35,8 @@ pub record MayAskEach (head : List (List Pair × Stored)) (history : List Entry)
   pub fits : Fits
   pub ready : (s : ℕ) → IsReady last node s a
 
--- the number of a series of the history, by first arrival, and those of the series that a selector chooses, in label order
+-- the number of a series of the history, by first arrival, and those of the series that a selector
+-- chooses, in label order
 abbrev pub number_of : List Entry → List Pair → ℕ
 number_of history labels = position_or_len (labels_eq labels) (arrivals history)
 
@@ -53,8 +54,8 @@ passed_by history passed node labels = passed node (number_of history labels)
 abbrev pub asks_cost : List Entry → Ask → (List Pair → ℕ) → List (List Pair) → ℕ
 asks_cost history a passed sets = sum_by (λ labels. ask_cost history labels a (passed_for a (passed labels))) sets
 
--- Where asks are remembered, one outside subqueries is now the last one of its node and of each of these series, and all of the
--- series until its end count as passed; what is known of others stays.
+-- Where asks are remembered, one outside subqueries is now the last one of its node and of each of
+-- these series, and all of the series until its end count as passed; what is known of others stays.
 abbrev pub is_asked : Bool → Ask → ℕ → List ℕ → ℕ → ℕ → Bool
 is_asked keeps a node numbers k s = keeps && (not a.inside && ((node == k) && is_number_among s numbers))
 

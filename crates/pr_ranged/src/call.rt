@@ -4,8 +4,8 @@ use pr_meaning::RangeFn;
 use pr_num::Num;
 use pr_time::{Ms, Span};
 
-/// A function of a range at its node: the place of the call, and the argument of `quantile_over_time` or
-/// `predict_linear`.
+/// A function of a range at its node: the place of the call, and the argument of
+/// `quantile_over_time` or `predict_linear`.
 #[derive(Clone, Copy, Debug)]
 pub struct RangeCall {
     pub place: Place,

@@ -98,8 +98,8 @@ fn met(
     Ok(met)
 }
 
-/// The series that a selector chooses, in label order, by its matchers. What it asks for by `=` is found by the
-/// head, and its other matchers are asked of what is found.
+/// The series that a selector chooses, in label order, by its matchers. What it asks for by `=` is
+/// found by the head, and its other matchers are asked of what is found.
 #[tactic(auto, using(crate::proofs::Choosing::known_met, crate::proofs::Choosing::rising_met, crate::proofs::Choosing::chosen_met))]
 pub fn chosen_series(
     alloc: Global,

@@ -92,8 +92,9 @@ fn take_one(
     add_spot(alloc, series, labels, time, &value)
 }
 
-/// Puts the elements of one more time into their series, each at the end: a step of work for each, by a search of
-/// the map. An element without a series begins one. After want of memory the series are good for nothing.
+/// Puts the elements of one more time into their series, each at the end: a step of work for each,
+/// by a search of the map. An element without a series begins one. After want of memory the series
+/// are good for nothing.
 pub fn take_elements(
     alloc: Global,
     series: &mut BTreeMap<Labels, Items<Spot>>,

@@ -1,5 +1,6 @@
-//! Functions of ranges at a node of an expression: of the series that a range selector chooses, asked of a head in
-//! order, and of the series of a subquery, gathered from the values of its expression at each of its times.
+//! Functions of ranges at a node of an expression: of the series that a range selector chooses,
+//! asked of a head in order, and of the series of a subquery, gathered from the values of its
+//! expression at each of its times.
 #![tactic(auto)]
 
 mod asking;

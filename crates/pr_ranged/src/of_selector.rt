@@ -135,13 +135,14 @@ fn answers<R: Ranges, G: Ledger>(
     answers_to(alloc, range, &ask, head, ranges, reads)
 }
 
-/// A function of the series that a range selector chooses, each asked once, in label order, of what answers ranges.
-/// The first fault ends: a range with too many values has the place of the range selector, a value that is too wide
-/// and equal labels, which are told last, that of the call. (Prometheus: Querying, Functions; the order of faults
-/// is own choice.)
+/// A function of the series that a range selector chooses, each asked once, in label order, of what
+/// answers ranges. The first fault ends: a range with too many values has the place of the range
+/// selector, a value that is too wide and equal labels, which are told last, that of the call.
+/// (Prometheus: Querying, Functions; the order of faults is own choice.)
 ///
-/// What is kept of ranges stays true of the history but for want of memory. Those that were asked are all of the
-/// chosen series where there is an answer, and some first ones of them where there is a fault.
+/// What is kept of ranges stays true of the history but for want of memory. Those that were asked
+/// are all of the chosen series where there is an answer, and some first ones of them where there
+/// is a fault.
 ///
 /// # Errors
 /// `Fault` with the first fault, or `Memory` where memory runs out.
@@ -178,9 +179,14 @@ pub fn over_selector<R: Ranges, G: Ledger>(
     }
 }
 
-/// `absent_over_time` of the series that a range selector chooses: one element of value 1 with these labels where
-/// none of them has a value in the range, and else nothing. The series are asked as those of any function of a
-/// range, for `PresentOverTime`. (Prometheus: Querying, Functions, `absent_over_time`.)
+/// `absent_over_time` of the series that a range selector chooses: one element of value 1 with
+/// these labels where none of them has a value in the range, and else nothing. The series are asked
+/// as those of any function of a range, for `PresentOverTime`. (Prometheus: Querying, Functions,
+/// `absent_over_time`.)
+///
+/// # Errors
+/// `Fault` with `RangeTooLong` at the range for the first series with too many values, or `Memory`
+/// where memory runs out.
 pub fn absent_over_selector<R: Ranges, G: Ledger>(
     alloc: Global,
     place: Place,

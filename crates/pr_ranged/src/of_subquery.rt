@@ -92,9 +92,10 @@ fn elements(
     Ok(elements)
 }
 
-/// A function of the series that a subquery gathered, in label order. The first fault ends: a series with too many
-/// values has the place of the subquery, a value that is too wide and equal labels, which are told last, that of
-/// the call. (Prometheus: Querying, Functions, and Querying basics, Subquery; the order of faults is own choice.)
+/// A function of the series that a subquery gathered, in label order. The first fault ends: a
+/// series with too many values has the place of the subquery, a value that is too wide and equal
+/// labels, which are told last, that of the call. (Prometheus: Querying, Functions, and Querying
+/// basics, Subquery; the order of faults is own choice.)
 ///
 /// # Errors
 /// `Fault` with the first fault, or `Memory` where memory runs out.
@@ -117,8 +118,13 @@ pub fn over_series(
     }
 }
 
-/// `absent_over_time` of the series that a subquery gathered: one element of value 1 with these labels where there
-/// is no value, and else nothing. (Prometheus: Querying, Functions, `absent_over_time`.)
+/// `absent_over_time` of the series that a subquery gathered: one element of value 1 with these
+/// labels where there is no value, and else nothing. (Prometheus: Querying, Functions,
+/// `absent_over_time`.)
+///
+/// # Errors
+/// `Fault` with `RangeTooLong` at the subquery for the first series with too many values, or
+/// `Memory` where memory runs out.
 pub fn absent_over_series(
     alloc: Global,
     place: Place,

@@ -6,7 +6,8 @@ ghost use Rattle.pr_ranged.specs.Times.{AreTimesWithin, multiples_until};
 use pr_time::{Ms, Span};
 use std::marker::Model;
 
-/// Times that are multiples of a step, one after another. Contracts see the list, which is never made.
+/// Times that are multiples of a step, one after another. Contracts see the list, which is never
+/// made.
 #[derive(Drop, Debug)]
 pub struct SubqueryTimes {
     step: u64,
@@ -61,8 +62,9 @@ impl SubqueryTimes {
     }
 }
 
-/// The times at which a subquery takes its expression: the multiples of its step in its range that are at least 0.
-/// They are counted and not listed. (Prometheus: Querying basics, Subquery. Own choice: no time is below 0.)
+/// The times at which a subquery takes its expression: the multiples of its step in its range that
+/// are at least 0. They are counted and not listed. (Prometheus: Querying basics, Subquery. Own
+/// choice: no time is below 0.)
 pub fn subquery_times(step: Span, from: i64, to: i64) -> SubqueryTimes
     requires step { 0 < step }
     requires to { to <ℤ pos (2 ^ 42) }

@@ -1,4 +1,5 @@
--- What the tokens of a printed tree add to the part that they stand in: operators, and the heights of closed parts.
+-- What the tokens of a printed tree add to the part that they stand in: operators, and the heights
+-- of closed parts.
 use Rattle.std.proofs.Common.{◌≡◌, ℕ, suc, ◌+◌, ◌≤◌, max, Bool, true, false, Option, Some, None, List, [], ◌∷◌, map, refl, ap, ◌∙◌, subst, arith}
 use Rattle.std.specs.Prelude.{◌==◌, codes, if◌then◌else◌, pos, negsuc}
 use Rattle.pr_num.specs.declared.value.Num.{Num}

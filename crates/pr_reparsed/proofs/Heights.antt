@@ -7,7 +7,8 @@ use Rattle.pr_grammar.specs.declared.kind.Kind.TheVariants.{Sign}
 use Rattle.pr_parse.specs.Open.{Open}
 use Rattle.pr_parse.specs.Deep.{is_counted, close, close_and_open, count, after_kind, after_kinds, greatest_from, operators, depth_now, depth_from}
 
--- the height of the whole text, were all parts closed now, the innermost with a part of this height inside
+-- the height of the whole text, were all parts closed now, the innermost with a part of this height
+-- inside
 abbrev pub total : ℕ → List Open → ℕ
 total h [] = h
 total h (p ∷ ps) = total (1 + p.operators + max h p.closed) ps

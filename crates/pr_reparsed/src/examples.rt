@@ -1,4 +1,5 @@
-//! What the definitions say of small trees. An example is a function that does nothing, and its contract is what it shows.
+//! What the definitions say of small trees. An example is a function that does nothing, and its
+//! contract is what it shows.
 ghost use Rattle.std.specs.Prelude.{◌≡◌, codes, None, false, map, []};
 ghost use Rattle.pr_num.specs.declared.value.Num.TheVariants.{PosInf};
 ghost use Rattle.pr_ast.specs.declared.names.BinOp.TheVariants as op;
@@ -19,7 +20,8 @@ pub fn small_trees_have_so_many_nodes()
     ensures argument { nodes (call nowhere func.ClampMin (two (neg nowhere (metric (codes "x"))) (number nowhere PosInf))) ≡ 3 }
 {}
 
-/// Each sign of a printed infinity is an operator: `+Inf + +Inf` has a depth of 4, and `(+Inf + +Inf) + +Inf` one of 7.
+/// Each sign of a printed infinity is an operator: `+Inf + +Inf` has a depth of 4, and `(+Inf +
+/// +Inf) + +Inf` one of 7.
 #[tactic(auto, unfolding(pr_lex::specs::Words::word_of, pr_lex::specs::Words::words, pr_lex::specs::Words::is_word, pr_lex::specs::Words::word_text))]
 pub fn signs_of_infinities_are_deep()
     ensures two { depth (map kind_of (tree_kinds (binary nowhere op.Add false None (number nowhere PosInf) (number nowhere PosInf)) [])) ≡ 4 }

@@ -13,8 +13,9 @@ ghost use Rattle.pr_types.specs.Typed.{typed, checked};
 ghost use Rattle.pr_reparsed.specs.Nodes.{nodes};
 ghost use Rattle.pr_reparsed.specs.Shallow.{IsShallow};
 
-/// The printed text of a tree that was read from the tokens of a text is parsed as the same tree, but for places, unless it is too
-/// deep. (What is read may be too deep to be parsed itself, as where parentheses that mean nothing go away.)
+/// The printed text of a tree that was read from the tokens of a text is parsed as the same tree,
+/// but for places, unless it is too deep. (What is read may be too deep to be parsed itself, as
+/// where parentheses that mean nothing go away.)
 pub fn printed_trees_are_parsed_again()
     ensures { (text : List ℕ) (tokens : List Token) (t : Tree) → HasTokens text tokens → Derives (seen_tokens tokens) t → IsShallow (tree_text t) →
         (u : Tree) × ((parsed (tree_text t) ≡ gives_tree u) × IsSameButPlaces u t) }

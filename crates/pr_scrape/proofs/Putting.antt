@@ -62,7 +62,8 @@ front_if (Err e) a b history es p = p
 pub next_of : {X : Type 0} (items : List X) (i : ℕ) (x : X) → i < length items → x ≡ get_or items i x → take (i + 1) items ≡ take i items ++ x ∷ []
 next_of {X} items i x h is = take_more items i x h ∙ ap (λ (y : X). take i items ++ y ∷ []) (sym is)
 
--- A loop over items, of which each has its entries: one more item is put, or memory is wanting at it.
+-- A loop over items, of which each has its entries: one more item is put, or memory is wanting at
+-- it.
 pub next_puts : {X : Type 0} (g : List X → List Entry) → ((xs ys : List X) → g (xs ++ ys) ≡ g xs ++ g ys)
     → (items : List X) (i : ℕ) (x : X) → i < length items → x ≡ get_or items i x
     → (a m b : Series) (r s t history : List Entry) → Puts a m r s history (g (take i items)) → Puts m b s t (put_all history (g (take i items))) (g (x ∷ []))

@@ -1,4 +1,5 @@
--- What becomes of a head, and of the entries that were added, when entries are put one after another.
+-- What becomes of a head, and of the entries that were added, when entries are put one after
+-- another.
 use Rattle.std.specs.Prelude.{◌≡◌, ℤ, List, ◌++◌}
 use Rattle.pr_labels.specs.declared.pair.Pair.{Pair}
 use Rattle.pr_history.specs.declared.entry.Entry.{Entry}
@@ -10,7 +11,8 @@ use Rattle.pr_world.specs.Scrapes.{admitted}
 abbrev pub Series : Type 0
 Series = List (List Pair × Stored)
 
--- Of a history that the old head held, the new one holds what putting the entries leaves, and nothing more is forgotten.
+-- Of a history that the old head held, the new one holds what putting the entries leaves, and
+-- nothing more is forgotten.
 pub record HasTaken (old new : Series) (history entries : List Entry) : Type 0 where
   pub holds : Holds new (put_all history entries)
   pub whole : (x : ℤ) → IsWhole old history x → IsWhole new (put_all history entries) x

@@ -179,16 +179,19 @@ fn scrape_body(
     }
 }
 
-/// Scrapes a target at a time: puts the samples of the body that it offered, in order, then a stale marker for each series
-/// that was tracked of it and is not offered any more, then the series `up` and `scrape_samples_scraped`. `tracked` is what
-/// is tracked of the target, before and after. No body is a scrape that failed. (Prometheus: Jobs and instances; Querying,
-/// Basics, Staleness. That these two series alone are written is an own choice, and so is which samples are dropped.)
+/// Scrapes a target at a time: puts the samples of the body that it offered, in order, then a stale
+/// marker for each series that was tracked of it and is not offered any more, then the series `up`
+/// and `scrape_samples_scraped`. `tracked` is what is tracked of the target, before and after. No
+/// body is a scrape that failed. (Prometheus: Jobs and instances; Querying, Basics, Staleness. That
+/// these two series alone are written is an own choice, and so is which samples are dropped.)
 ///
-/// A label that the target has too is kept under its name with `exported_` before it. The work grows with the body and with
-/// what was tracked, and for each series by the logarithm of what is tracked.
+/// A label that the target has too is kept under its name with `exported_` before it. The work
+/// grows with the body and with what was tracked, and for each series by the logarithm of what is
+/// tracked.
 ///
 /// # Errors
-/// Want of memory: then the head has the first ones of the entries, and `tracked` is of no use any more.
+/// Want of memory: then the head has the first ones of the entries, and `tracked` is of no use any
+/// more.
 pub fn scrape(
     alloc: Global,
     head: &mut Head,
@@ -209,11 +212,13 @@ pub fn scrape(
     }
 }
 
-/// Ends a target: puts a stale marker for each series that is tracked of it, and for `up` and `scrape_samples_scraped`; then
-/// nothing is tracked of it. (Prometheus: Querying, Basics, Staleness.)
+/// Ends a target: puts a stale marker for each series that is tracked of it, and for `up` and
+/// `scrape_samples_scraped`; then nothing is tracked of it. (Prometheus: Querying, Basics,
+/// Staleness.)
 ///
 /// # Errors
-/// Want of memory: then the head has the first ones of the markers, and `tracked` is of no use any more.
+/// Want of memory: then the head has the first ones of the markers, and `tracked` is of no use any
+/// more.
 pub fn gone(
     alloc: Global,
     head: &mut Head,

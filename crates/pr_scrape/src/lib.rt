@@ -1,4 +1,5 @@
-//! Scrapes: the samples that a target offers are put into the head, and what it no longer offers goes stale.
+//! Scrapes: the samples that a target offers are put into the head, and what it no longer offers
+//! goes stale.
 #![tactic(auto)]
 
 mod calls;
@@ -7,8 +8,6 @@ mod named;
 mod offered;
 mod put;
 mod tally;
-#[cfg(test)]
-mod tests;
 
 pub use calls::{gone, scrape};
 pub use pr_world::{BodyFault, Scraped};

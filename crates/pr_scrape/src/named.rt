@@ -86,7 +86,8 @@ fn renamed(alloc: Global, target: &Labels, labels: &Labels) -> Result<Labels, Al
     Ok(renamed)
 }
 
-/// The labels of a sample that a target offers: those that the target has too are renamed, and the target's are set.
+/// The labels of a sample that a target offers: those that the target has too are renamed, and the
+/// target's are set.
 pub(crate) fn scraped_labels(
     alloc: Global,
     target: &Labels,

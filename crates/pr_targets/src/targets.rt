@@ -17,8 +17,8 @@ use pr_words::Items;
 use std::alloc::{AllocError, Global};
 use std::marker::Model;
 
-/// The targets that are known. Contracts see a list of them, each with the series that are tracked of it, and say of each list of targets
-/// that it stands for what becomes of it.
+/// The targets that are known. Contracts see a list of them, each with the series that are tracked
+/// of it, and say of each list of targets that it stands for what becomes of it.
 #[derive(Drop)]
 pub struct Targets {
     tracked: IndexMap<Labels, Items<Labels>>,
@@ -123,12 +123,13 @@ impl Targets {
         Ok(scraped)
     }
 
-    /// Scrapes a target that offers this body. What it offers is put into the head, and the target is known from then on.
-    /// (Prometheus: Jobs and instances.) The work grows with the body and with what was tracked of the target, and not with the number
-    /// of targets.
+    /// Scrapes a target that offers this body. What it offers is put into the head, and the target
+    /// is known from then on. (Prometheus: Jobs and instances.) The work grows with the body and
+    /// with what was tracked of the target, and not with the number of targets.
     ///
     /// # Errors
-    /// Want of memory: then the head has the first ones of the entries, and the targets are of no use any more.
+    /// Want of memory: then the head has the first ones of the entries, and the targets are of no
+    /// use any more.
     pub fn scrape(
         &mut self,
         alloc: Global,
@@ -153,7 +154,8 @@ impl Targets {
     /// Notes that a target did not answer. It is known from then on too.
     ///
     /// # Errors
-    /// Want of memory: then the head has the first ones of the entries, and the targets are of no use any more.
+    /// Want of memory: then the head has the first ones of the entries, and the targets are of no
+    /// use any more.
     pub fn fail(
         &mut self,
         alloc: Global,
@@ -173,10 +175,12 @@ impl Targets {
         self.scrape_by(alloc, head, target, time, None)
     }
 
-    /// Ends a target: what was tracked of it goes stale, and it is unknown from then on. That of an unknown target is nothing.
+    /// Ends a target: what was tracked of it goes stale, and it is unknown from then on. That of an
+    /// unknown target is nothing.
     ///
     /// # Errors
-    /// Want of memory: then the head has the first ones of the markers, and the targets are of no use any more.
+    /// Want of memory: then the head has the first ones of the markers, and the targets are of no
+    /// use any more.
     pub fn gone(
         &mut self,
         alloc: Global,

@@ -71,7 +71,8 @@ fault_word fault.TooWide = codes "TooWide"
 abbrev pub number_text : ℕ → List ℕ
 number_text n = codes " " ++ decimal n
 
--- the numbers of arguments that there are, and at least and at most; milliseconds that are needed, and kept
+-- the numbers of arguments that there are, and at least and at most; milliseconds that are needed,
+-- and kept
 abbrev pub type_numbers : TypeKind → List ℕ
 type_numbers (typing.Arguments have least most) = number_text have ++ number_text least ++ number_text most
 type_numbers (typing.Reach needed kept) = number_text needed ++ number_text kept

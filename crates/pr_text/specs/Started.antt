@@ -6,7 +6,8 @@ use Rattle.pr_text.specs.declared.order.Started.{Started}
 use Rattle.pr_text.specs.declared.order.Started.TheVariants.{Whole, Scrape}
 use Rattle.pr_world.specs.declared.event.Event.TheVariants as event
 
--- A line that takes no body is the whole order. One that takes a body is a scrape, whatever the body is.
+-- A line that takes no body is the whole order. One that takes a body is a scrape, whatever the
+-- body is.
 abbrev pub Starts : List ℕ → Started → Type 0
 Starts line (Whole order) = (takes_body line ≡ false) × (order ≡ order_by (event_of line []))
 Starts line (Scrape time target) = (takes_body line ≡ true) × ((body : List ℕ) → event_of line body ≡ Some (event.Scrape time target body))

@@ -19,8 +19,9 @@ ghost use Rattle.pr_text.specs.Printed.{shown_report, bad_line_text};
 ghost use Rattle.pr_text.specs.Script.{event_of};
 ghost use Rattle.pr_text.specs.declared.order.Order.TheVariants.{Event, Bad};
 
-/// The body lines that directly follow a line that takes a body are one order with it. Any other line ends the body, also
-/// an empty one, and a body line after that stands alone. Lines keep their numbers.
+/// The body lines that directly follow a line that takes a body are one order with it. Any other
+/// line ends the body, also an empty one, and a body line after that stands alone. Lines keep their
+/// numbers.
 pub fn a_body_belongs_to_its_line()
     ensures whole { blocks_by (bytes_eq (codes "s")) 0 (codes "s" ∷ codes "|a" ∷ codes "|b" ∷ codes "x" ∷ [])
         ≡ (record { number = 1; line = codes "s"; body = codes "|a" ∷ codes "|b" ∷ [] })
@@ -33,7 +34,8 @@ pub fn a_body_belongs_to_its_line()
         ∷ (record { number = 2; line = codes "s"; body = [] }) ∷ (record { number = 3; line = codes "s"; body = codes "|b" ∷ [] }) ∷ [] }
 {}
 
-/// A scrape has what its body lines give: each gives what stands behind its bar, with the blanks at its end, and a line feed.
+/// A scrape has what its body lines give: each gives what stands behind its bar, with the blanks at
+/// its end, and a line feed.
 pub fn a_scrape_has_its_body()
     ensures { orders_of (codes "scrape 7 {a='b'}" ∷ codes "|m 1 " ∷ codes "|" ∷ [] ∷ codes "|n" ∷ [])
         ≡ (record { number = 1; order = Event (event.Scrape 7 (pair_of (codes "a") (codes "b") ∷ []) (codes "m 1 \n\n")) })
@@ -54,7 +56,7 @@ pub fn lines_that_ask_for_nothing_are_counted()
         ≡ (record { number = 3; order = Bad }) ∷ (record { number = 4; order = Bad }) ∷ [] }
 {}
 
-/// What is written for each report to line 70, and for a line that spells no order.
+/// What is written for each report, and for a line that spells no order.
 #[tactic(auto, unfolding(crate::proofs::Computing::computing))]
 pub fn reports_are_written_so()
     ensures opened { shown_report (Opened 12) ≡ codes "opened 12\n" }

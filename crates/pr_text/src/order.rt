@@ -44,7 +44,8 @@ fn whole_order(event: Option<Event>) -> Order
     }
 }
 
-/// Reads the order of a line, without its line feed, that is not passed over. Want of memory alone is an error.
+/// Reads the order of a line, without its line feed, that is not passed over. Want of memory alone
+/// is an error.
 #[tactic(auto, unfolding(crate::specs::Script::takes_body))]
 pub fn read_order(alloc: Global, line: &[u8]) -> Result<Started, AllocError>
     ensures { IfOk result (Starts line.now) }

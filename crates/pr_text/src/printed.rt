@@ -244,7 +244,8 @@ pub fn push_report(text: &mut Vec<u8>, report: &Report) -> Result<(), AllocError
     }
 }
 
-/// Appends the line that says that the line of this number spells no order. Want of memory alone is an error.
+/// Appends the line that says that the line of this number spells no order. Want of memory alone is
+/// an error.
 pub fn push_bad_line(text: &mut Vec<u8>, n: u64) -> Result<(), AllocError>
     ensures { OnOk result (text.new.items ≡ text.old.items ++ bad_line_text n) }
 {

@@ -218,7 +218,8 @@ fn body_line(line: &[u8]) -> Option<&str>
     }
 }
 
-/// Appends what a line gives to a body, and says whether it is a body line. Want of memory alone is an error.
+/// Appends what a line gives to a body, and says whether it is a body line. Want of memory alone is
+/// an error.
 pub fn push_body_line(body: &mut String, line: &[u8]) -> Result<bool, AllocError>
     ensures test { IfOk result (λ is. is ≡ is_body_line line.now) }
     ensures text { IfOk result (λ is. is ≡ true → string_bytes body.new ≡ string_bytes body.old ++ body_text line.now) }

@@ -48,7 +48,8 @@ asked_keeps k w time (accept report rows) a keeps h = record {
 }
 asked_keeps k w time (accept_target report rows targets) a keeps h = absurd h
 
--- after an order about a target the head holds what was admitted, and the map knows the targets after it
+-- after an order about a target the head holds what was admitted, and the map knows the targets
+-- after it
 abbrev pub KeepsAfter : Series → Tracked → World → ℕ → TargetStep → Type 0
 KeepsAfter head tracked w time step = KeepsWorld (record { head = head; last = Some time; targets = tracked })
     (record { history = w.history ++ step.answer.admitted; last = Some time; targets = step.targets })

@@ -36,15 +36,15 @@ command_of (word ∷ []) = one_word word
 command_of (first ∷ second ∷ []) = two_words first second
 command_of (first ∷ second ∷ name ∷ names) = more_words first second (name ∷ names)
 
--- A run was whole: it wrote what is told, its status is 1 exactly where an order was refused and else 0, and nothing is
--- left of the input.
+-- A run was whole: it wrote what is told, its status is 1 exactly where an order was refused and
+-- else 0, and nothing is left of the input.
 pub record IsWholeRun (content : Content) (rows : List Entry) (bytes : List ℕ) (left old new : Option (List ℕ)) (result : Status) : Type 0 where
   pub written : Appends old new (told content rows bytes)
   pub ends : result ≡ verdict (refuses content rows bytes)
   pub read : left ≡ Some []
 
--- What `run` promises over these rows at the start, by what the input told before and after, what the output took
--- before and after, and the counts of refused calls before and after.
+-- What `run` promises over these rows at the start, by what the input told before and after, what
+-- the output took before and after, and the counts of refused calls before and after.
 pub record MeansRun (content : Content) (rows : List Entry) (keeps : Option (List Entry)) (left_old left_new old new : Option (List ℕ))
     (before now : Faults) (result : Status) : Type 0 where
   -- the input is shorter than 2^32 bytes, no call was refused, and memory sufficed
@@ -61,7 +61,8 @@ pub record MeansRun (content : Content) (rows : List Entry) (keeps : Option (Lis
   pub long : result ≡ status.TooLong → IsLong left_old
   pub long_exactly : IfSome left_old (λ bytes. 2 ^ 32 ≤ length bytes → AreCalm before now → result ≢ status.Memory → result ≡ status.TooLong)
 
--- What is promised where the words are none of the forms, by what the output took and the counts of refused calls.
+-- What is promised where the words are none of the forms, by what the output took and the counts of
+-- refused calls.
 pub record MeansUsage (old new : Option (List ℕ)) (before now : Faults) (result : Status) : Type 0 where
   pub exactly : AreCalm before now → result ≢ status.Memory → result ≡ status.Usage
   pub text : result ≡ status.Usage → Appends old new usage_text

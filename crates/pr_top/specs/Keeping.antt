@@ -1,4 +1,5 @@
--- Which world the engine stands for: it keeps a head in place of the history, and a map in place of the list of targets.
+-- Which world the engine stands for: it keeps a head in place of the history, and a map in place of
+-- the list of targets.
 use Rattle.std.specs.Prelude.{◌≡◌, ℕ, ℤ, Bool, true, false, ◌||◌, List, Option}
 use Rattle.pr_labels.specs.declared.pair.Pair.{Pair}
 use Rattle.pr_history.specs.declared.entry.Entry.{Entry}
@@ -11,7 +12,8 @@ use Rattle.pr_top.specs.Standing.{Progress}
 use Rattle.pr_top.specs.Told.{turn}
 use Rattle.pr_world.specs.World.{World}
 
--- the series that are held, the time of the last event, and the targets with what is tracked of each
+-- the series that are held, the time of the last event, and the targets with what is tracked of
+-- each
 pub record Kept : Type 0 where
   pub head : List (List Pair × Stored)
   pub last : Option ℕ
@@ -28,7 +30,8 @@ pub record KeepsWorld (k : Kept) (w : World) : Type 0 where
   pub last : k.last ≡ w.last
   pub targets : Knows k.targets w.targets
 
--- What want of memory leaves of what is kept, while an event is taken: all of it, or, where the event is about a target, the last time.
+-- What want of memory leaves of what is kept, while an event is taken: all of it, or, where the
+-- event is about a target, the last time.
 abbrev pub IsLeft : Bool → Kept → Kept → Type 0
 IsLeft true old new = new.last ≡ old.last
 IsLeft false old new = new ≡ old

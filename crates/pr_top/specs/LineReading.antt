@@ -31,7 +31,8 @@ without_feed [] = []
 without_feed (b ∷ []) = cond (b == code "\n") [] (b ∷ [])
 without_feed (b ∷ c ∷ bytes) = b ∷ without_feed (c ∷ bytes)
 
--- Bytes moved to the end of a line: those up to a line feed, which is passed over, or all that there were.
+-- Bytes moved to the end of a line: those up to a line feed, which is passed over, or all that
+-- there were.
 pub record TakesPart (ended : Bool) (held_old held_new line_old line_new : List ℕ) : Type 0 where
   pub part : List ℕ
   pub joined : line_new ≡ line_old ++ part

@@ -19,7 +19,8 @@ unread r = r.waiting.items ++ held r.lines
 abbrev pub IsWaiting : List ℕ → Option (List ℕ) → Type 0
 IsWaiting line rest = line ≢ [] → IsNext line rest
 
--- Each line that was handed out had a byte at least; the last one has so many bytes that are not counted yet.
+-- Each line that was handed out had a byte at least; the last one has so many bytes that are not
+-- counted yet.
 pub record IsReady (bytes : ℕ) (r : Reader) (left : Option (List ℕ)) : Type 0 where
   pub within : r.lines.at ≤ length r.lines.piece.items
   pub number : r.number + bytes + length (unread r) ≤ r.lines.count
@@ -27,8 +28,8 @@ pub record IsReady (bytes : ℕ) (r : Reader) (left : Option (List ℕ)) : Type 
   pub end : KnowsEnd r.lines left
   pub waits : IsWaiting r.waiting.items (ahead (held r.lines) left)
 
--- Lines were taken of bytes. Each ended with a line feed, but for one behind which nothing is left. They spell these orders,
--- also where of what is left only whole lines at its front follow.
+-- Lines were taken of bytes. Each ended with a line feed, but for one behind which nothing is left.
+-- They spell these orders, also where of what is left only whole lines at its front follow.
 pub record TakesOrders (bytes rest : List ℕ) (before after : ℕ) (orders : List Numbered) : Type 0 where
   pub lines : List ℕ
   pub taken : bytes ≡ lines ++ rest

@@ -24,7 +24,8 @@ Splits rows (Some bytes) None done w lines = ⊥
 Splits rows (Some bytes) (Some rest) done w lines =
     answers (start rows) (orders_of (lines_of bytes)) ≡ done ++ answers w (orders_after lines (lines_of rest))
 
--- Some orders are answered whole, what was written is what is told of them, and their lines were taken of the input.
+-- Some orders are answered whole, what was written is what is told of them, and their lines were
+-- taken of the input.
 pub record Stands (rows : List Entry) (before now old new : Option (List ℕ)) (lines : ℕ) (progress : Progress) : Type 0 where
   pub done : List Answer
   pub orders : List Numbered

@@ -1,4 +1,5 @@
--- What was taken of an input: whole lines, an order whose body may go on, and what there is of the next line.
+-- What was taken of an input: whole lines, an order whose body may go on, and what there is of the
+-- next line.
 use Rattle.std.specs.Prelude.{◌≡◌, ℕ, ◌≤◌, Bool, true, not, ◌&&◌, ◌==◌, List, [], ◌∷◌, ◌++◌, length}
 use Prim.Native.Char.{code}
 use Rattle.std.specs.List.{list_all}
@@ -20,8 +21,9 @@ abbrev pub may_go_on : List (List ℕ) → Bool
 may_go_on [] = true
 may_go_on (line ∷ body) = takes_body line && list_all is_body_line body
 
--- Of bytes that follow so many other lines a rest is left. What was taken are whole lines that hold at most so many
--- orders; then, in whole lines too, an order whose body may go on, or nothing; then what there is of the next line.
+-- Of bytes that follow so many other lines a rest is left. What was taken are whole lines that hold
+-- at most so many orders; then, in whole lines too, an order whose body may go on, or nothing; then
+-- what there is of the next line.
 pub record IsPrompt (before : ℕ) (bytes rest : List ℕ) (orders : ℕ) : Type 0 where
   pub lines : List ℕ
   pub waiting : List ℕ

@@ -48,7 +48,8 @@ abbrev pub answers : World → List Numbered → List Answer
 answers w [] = []
 answers w (o ∷ orders) = (turn w o).answer ∷ answers (turn w o).world orders
 
--- The answers to all orders of an input, over these rows at the start. So far no order asks for a file.
+-- The answers to all orders of an input, over these rows at the start. So far no order asks for a
+-- file.
 abbrev pub answers_to : Content → List Entry → List ℕ → List Answer
 answers_to content rows bytes = answers (start rows) (orders_of (lines_of bytes))
 

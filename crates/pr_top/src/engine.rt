@@ -26,7 +26,8 @@ use std::marker::Model;
 // A body has fewer bytes, so that its lines can be counted.
 const BODY_LIMIT: usize = 0x1_0000_0000;
 
-/// The engine. Contracts see what it keeps, and say of each world that it stands for what becomes of it.
+/// The engine. Contracts see what it keeps, and say of each world that it stands for what becomes
+/// of it.
 #[derive(Drop)]
 pub(crate) struct Engine {
     head: Head,
@@ -150,7 +151,8 @@ impl Engine {
         Ok(answered)
     }
 
-    // Takes what a target offers. Since an input is shorter, a body that is too long is want of memory.
+    // Takes what a target offers. Since an input is shorter, a body that is too long is want of
+    // memory.
     fn take_scrape(
         &mut self,
         alloc: Global,
@@ -234,7 +236,8 @@ impl Engine {
     /// Takes an event, and answers it.
     ///
     /// # Errors
-    /// Want of memory: then nothing has changed, unless the event is about a target; after such a one what is kept is of no use any more.
+    /// Want of memory: then nothing has changed, unless the event is about a target; after such a
+    /// one what is kept is of no use any more.
     #[tactic(auto, unfolding(pr_world::specs::Step::next))]
     pub(crate) fn apply(&mut self, alloc: Global, event: Event) -> Result<Answered, AllocError>
         ensures report { (w : World) → KeepsWorld self.old w → IfOk result (λ a. a.report ≡ (next of_a_run w event).report) }

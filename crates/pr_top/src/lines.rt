@@ -16,8 +16,8 @@ const INPUT_LIMIT: u64 = 0x1_0000_0000;
 // At most so many bytes are read at once.
 const PIECE: usize = 4096;
 
-/// What was read of the input and not yet handed out, which stands in the last piece from a place on; and how many bytes
-/// were read; and whether the input's end was met.
+/// What was read of the input and not yet handed out, which stands in the last piece from a place
+/// on; and how many bytes were read; and whether the input's end was met.
 #[derive(Drop)]
 pub(crate) struct LineReader {
     piece: Vec<u8>,
@@ -128,7 +128,8 @@ impl LineReader {
         Ok(read > 0)
     }
 
-    /// Hands out the next line with its line feed, which the last one may lack, and says whether there is one. It reads no further.
+    /// Hands out the next line with its line feed, which the last one may lack, and says whether
+    /// there is one. It reads no further.
     pub(crate) fn next_line<I: Source>(
         &mut self,
         input: &mut I,

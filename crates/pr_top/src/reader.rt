@@ -14,7 +14,8 @@ use pr_world::Event;
 use std::alloc::Global;
 use std::mem::swap;
 
-/// The lines of the input; the line that was read ahead, or none; and how many lines were handed out.
+/// The lines of the input; the line that was read ahead, or none; and how many lines were handed
+/// out.
 #[derive(Drop)]
 pub(crate) struct Reader {
     lines: LineReader,
@@ -112,8 +113,9 @@ impl Reader {
         }
     }
 
-    /// Hands out the next order, if there is one more. It reads no further than that order needs: of an order that takes a
-    /// body, up to the first line that is no body line; of any other, no further than its line.
+    /// Hands out the next order, if there is one more. It reads no further than that order needs:
+    /// of an order that takes a body, up to the first line that is no body line; of any other, no
+    /// further than its line.
     pub(crate) fn next_order<I: Source>(
         &mut self,
         alloc: Global,

@@ -82,10 +82,11 @@ fn refuse_words<O: Sink>(out: &mut O) -> Status
     }
 }
 
-/// Does all that the program does. The words are those after the program's name, `out` is the standard
-/// output, and the status is what the process ends with. The forms are `run`, which reads a script from `input` and answers
-/// it; `check metrics`, which checks the exposition that `input` is; and `check rules FILE..`, which checks rule files, one
-/// after another. Want of memory alone may come at any time.
+/// Does all that the program does. The words are those after the program's name, `out` is the
+/// standard output, and the status is what the process ends with. The forms are `run`, which reads
+/// a script from `input` and answers it; `check metrics`, which checks the exposition that `input`
+/// is; and `check rules FILE..`, which checks rule files, one after another. Want of memory alone
+/// may come at any time.
 pub fn promtool<I: Source, F: Files, K: Keeper, O: Sink>(
     alloc: Global,
     words: &[String],

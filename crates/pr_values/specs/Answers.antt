@@ -5,7 +5,8 @@ use Rattle.pr_query.specs.Answers.{fault}
 use Rattle.pr_values.specs.declared.error.EvalError.{EvalError}
 use Rattle.pr_values.specs.declared.error.EvalError.TheVariants as error
 
--- An answer is what is meant: the value, or the first fault with its place. Of want of memory nothing is said.
+-- An answer is what is meant: the value, or the first fault with its place. Of want of memory
+-- nothing is said.
 abbrev pub AnswersTo : {A : Type 0} → Result A Fault → Result A EvalError → Type 0
 AnswersTo meant (Ok value) = meant ≡ Ok value
 AnswersTo meant (Err (error.Fault place kind)) = meant ≡ Err (fault place kind)

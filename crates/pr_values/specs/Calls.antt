@@ -5,7 +5,8 @@ use Rattle.pr_ast.specs.declared.names.Func.TheVariants.{Timestamp, AbsentOverTi
 use Rattle.pr_ast.specs.Tree.{Tree}
 use Rattle.pr_query.specs.Calls.{selector_argument}
 
--- all but those of functions of ranges, and that of `timestamp` of a selector, which wants the times of its samples
+-- all but those of functions of ranges, and that of `timestamp` of a selector, which wants the
+-- times of its samples
 abbrev pub is_plain_call : Func → Tree → Bool
 is_plain_call Timestamp ts = is_none (selector_argument ts)
 is_plain_call AbsentOverTime ts = false

@@ -79,7 +79,8 @@ fn told_pairs(alloc: Global, matchers: &[MatchText]) -> Result<Vec<Pair>, AllocE
     Ok(pairs)
 }
 
-// The labels that matchers tell. (The label of a matcher is a label name; where one is none, there is no such label set.)
+// The labels that matchers tell. (The label of a matcher is a label name; where one is none, there
+// is no such label set.)
 fn told_labels(alloc: Global, matchers: &[MatchText]) -> Result<Labels, AllocError>
     ensures { IfOk result (λ l. l ≡ labels_of (told_pairs [] matchers.now)) }
 {
@@ -100,8 +101,9 @@ fn absent_labels(alloc: Global, e: &Expr) -> Result<Labels, AllocError>
     }
 }
 
-/// The labels that what is absent has, by the one argument of a call: those that its matchers by `=` tell, where it is a
-/// selector or a range selector. (Prometheus: Querying, Functions, `absent`.)
+/// The labels that what is absent has, by the one argument of a call: those that its matchers by
+/// `=` tell, where it is a selector or a range selector. (Prometheus: Querying, Functions,
+/// `absent`.)
 #[tactic(auto, using(crate::proofs::Absences::none_told, crate::proofs::Absences::many_told))]
 pub fn labels_of_argument(alloc: Global, args: &[Expr]) -> Result<Labels, AllocError>
     ensures { IfOk result (λ l. l ≡ labels_of_argument (trees_of args.now)) }

@@ -27,12 +27,13 @@ use pr_query::Value;
 use pr_time::Ms;
 use std::alloc::Global;
 
-/// What a call gives of the values of its arguments, and of their texts. It is the call of no function of ranges; where it is
-/// that of `timestamp`, its argument is no selector. The pattern is that of `label_replace`, built. (Prometheus: Querying,
-/// Functions.)
+/// What a call gives of the values of its arguments, and of their texts. It is the call of no
+/// function of ranges; where it is that of `timestamp`, its argument is no selector. The pattern is
+/// that of `label_replace`, built. (Prometheus: Querying, Functions.)
 ///
 /// # Errors
-/// `Fault` where two elements of the result have equal labels or a value is too wide, or `Memory` where memory runs out.
+/// `Fault` where two elements of the result have equal labels or a value is too wide, or `Memory`
+/// where memory runs out.
 pub fn called(
     alloc: Global,
     place: Place,

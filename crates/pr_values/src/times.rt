@@ -92,11 +92,12 @@ fn times_of(alloc: Global, items: Vec<Item<Spot>>) -> Result<Vec<Item<Num>>, All
     Ok(times)
 }
 
-/// What `timestamp` gives of a selector: the time of each value that it shows, in seconds, without the metric's name.
-/// (Prometheus: Querying, Functions, `timestamp`.)
+/// What `timestamp` gives of a selector: the time of each value that it shows, in seconds, without
+/// the metric's name. (Prometheus: Querying, Functions, `timestamp`.)
 ///
 /// # Errors
-/// `Fault` where two elements have equal labels without their names, or `Memory` where memory runs out.
+/// `Fault` where two elements have equal labels without their names, or `Memory` where memory runs
+/// out.
 pub fn stamped(alloc: Global, place: Place, items: Vec<Item<Spot>>) -> Result<Value, EvalError>
     ensures answer { AnswersTo (function_at place (told_apart (map with_time items.items))) result }
     ensures vector { IfOk result IsAnswer }

@@ -4,8 +4,6 @@
 mod fold;
 mod folded;
 mod laws;
-#[cfg(test)]
-mod tests;
 
 pub use fold::Fold;
 pub use folded::fold_items;

@@ -1,4 +1,5 @@
-//! The program: it makes the real objects, hands the words to `pr_top::promtool`, and ends with its status.
+//! The program: it makes the real objects, hands the words to `pr_top::promtool`, and ends with its
+//! status.
 #![tactic(auto)]
 
 ghost use Rattle.std.specs.Prelude.{◌≡◌};

@@ -4,8 +4,8 @@ use std::env::FillError;
 use std::rt::Env;
 use std::str;
 
-// The word of this index, or nothing past the last. One that is not UTF-8 is the empty word, which no form
-// has, and so is one of more than 2^30 bytes, far above what a system passes.
+// The word of this index, or nothing past the last. One that is not UTF-8 is the empty word, which
+// no form has, and so is one of more than 2^30 bytes, far above what a system passes.
 fn word_at<R: Env>(alloc: Global, rt: &R, index: usize) -> Result<Option<String>, AllocError> {
     for power in 8..31u32 {
         let mut bytes = Vec::from_elem(alloc, 0u8, 1usize << power)?;

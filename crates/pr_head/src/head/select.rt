@@ -128,7 +128,8 @@ impl Head {
         self.names.places(name)
     }
 
-    // The series that have all these labels, in order of arrival. No two series have the same labels.
+    // The series that have all these labels, in order of arrival. No two series have the same
+    // labels.
     fn matching(&self, equal: &[Pair]) -> Result<Vec<usize>, AllocError>
         ensures known { IfOk result (λ v. All (λ i. i < length self.now) v.items) }
         ensures sets { IfOk result (λ v. map (labels_at (sets_of self.now)) v.items ≡ filter (has_values equal.now) (sets_of self.now)) }
@@ -141,9 +142,10 @@ impl Head {
         }
     }
 
-    /// The series that have all these labels, in label order, no two with the same labels. An empty value asks for series
-    /// without the label. (Prometheus: Querying, Basics, Instant vector selectors.) The work is that of asking each series
-    /// of the metric's name, or each series where none is asked for, and of a sort of those that are chosen.
+    /// The series that have all these labels, in label order, no two with the same labels. An empty
+    /// value asks for series without the label. (Prometheus: Querying, Basics, Instant vector
+    /// selectors.) The work is that of asking each series of the metric's name, or each series
+    /// where none is asked for, and of a sort of those that are chosen.
     pub fn select(&self, equal: &[Pair]) -> Result<Vec<usize>, AllocError>
         ensures known { IfOk result (λ v. All (λ i. i < length self.now) v.items) }
         ensures in_order { IfOk result (λ v. IsRising (map (labels_at (sets_of self.now)) v.items)) }

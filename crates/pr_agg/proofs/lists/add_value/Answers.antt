@@ -3,7 +3,7 @@ use Rattle.std.specs.Map.{keys_of}
 use Rattle.pr_num.specs.declared.value.Num.{Num}
 use Rattle.pr_labels.specs.declared.pair.Pair.{Pair}
 use Rattle.pr_labels.specs.Rising.{with_labels}
-use Rattle.pr_agg.proofs.LabelMaps.{keys_insert}
+use Rattle.pr_labels.proofs.LabelMaps.{keys_insert}
 use Rattle.pr_agg.proofs.Known.{known_some}
 use Rattle.pr_agg.proofs.lists.add_value.Goals as goal
 
