@@ -16,7 +16,7 @@ use Rattle.std.proofs.lemmas.Str.{IsUtf8-from_is_utf8}
 use Rattle.pr_expo_line.specs.Line.{goes, ends, fault_at, Way, way, way_on, comes, stops, outcome_of, text_front, line_read}
 use Rattle.pr_expo_line.specs.Line as lines
 use Rattle.pr_expo_line.proofs.Fronts.{whole_front, is_whole}
-use Rattle.pr_expo_line.specs.Grammar.{Rule, at, by, by_of, leads, anything, ending, production, table, left, left_on, way_read, IsBadPlace, ReadsLine}
+use Rattle.pr_expo_line.specs.Grammar.{Rule, at, by, by_of, leads, anything, ending, production, table, way_read, IsBadPlace, ReadsLine}
 
 ending_empty : (o : Option Read) → empty_of table (ending o) ≡ is_some o
 ending_empty None = refl
@@ -104,6 +104,15 @@ runs : (place : Place) (text : List ℕ) → Runs production table (rule (at pla
 runs place [] = run_rule (run_right refl (end_runs (ends place) []))
 runs place (c ∷ cs) = step_runs place c cs (goes place c) refl (λ next. runs next cs)
 
+-- the characters from the first one on with which no line goes on from the place
+abbrev pub left_on : Option Place → List ℕ → (Place → List ℕ) → List ℕ
+left_on None text on = text
+left_on (Some next) text on = on next
+
+abbrev pub left : Place → List ℕ → List ℕ
+left place [] = []
+left place (c ∷ cs) = left_on (goes place c) (c ∷ cs) (λ next. left next cs)
+
 end_left : (o : Option Read) (text : List ℕ) → left_of (at_end o text) ≡ text
 end_left None text = refl
 end_left (Some read) text = refl
@@ -156,7 +165,7 @@ run_only : (place : Place) (text : List ℕ) (read : Read) → run place text �
 run_only place [] read h = end_only (ends place) read h
 run_only place (c ∷ cs) read h = step_only place c cs read (goes place c) (λ next. run_only next cs read) h
 
-way_only : (text : List ℕ) (read : Read) → ReadsLine text read → way_read (way Start text) ≡ Some read
+pub way_only : (text : List ℕ) (read : Read) → ReadsLine text read → way_read (way Start text) ≡ Some read
 way_only text read d = run_only Start text read (only_reading production table known (at Start) text (run Start text) (Some read) (runs Start text) d)
 
 outcome_by : (w : Way) (read : Read) → way_read w ≡ Some read → outcome_of true w ≡ Ok read
@@ -170,7 +179,7 @@ way_reads text read (comes place) e h = reads_so text place read e (ended (ends 
   ended (Some r) k j = cc
 way_reads text read (stops kind) e h = cc
 
-front_is : (line : List ℕ) → IsUtf8 line → text_front line ≡ line
+pub front_is : (line : List ℕ) → IsUtf8 line → text_front line ≡ line
 front_is line u = sym (whole_front line line (refl, u))
 
 -- a line of text reads as its characters do

@@ -36,44 +36,44 @@ use Rattle.pr_expo_line.proofs.Sound.{digit_small, label_small, letter_small}
 abbrev pub Leads : Place → Place → List ℕ → Type 0
 Leads p q t = (rest : List ℕ) → way p (t ++ rest) ≡ way q rest
 
-stays : (p : Place) → Leads p p []
+pub stays : (p : Place) → Leads p p []
 stays p = λ rest. refl
 
-steps : (p q : Place) (c : ℕ) → goes p c ≡ Some q → Leads p q (c ∷ [])
+pub steps : (p q : Place) (c : ℕ) → goes p c ≡ Some q → Leads p q (c ∷ [])
 steps p q c e = λ rest. ap (λ o. way_on o (fault_at p) (λ next. way next rest)) e
 
-follows : (p q r : Place) (t u : List ℕ) → Leads p q t → Leads q r u → Leads p r (t ++ u)
+pub follows : (p q r : Place) (t u : List ℕ) → Leads p q t → Leads q r u → Leads p r (t ++ u)
 follows p q r t u f g = λ rest. ap (way p) (append_assoc t u rest) ∙ f (u ++ rest) ∙ g rest
 
 -- a text of two parts
-leads : (p q r : Place) (P X : List ℕ → Type 0) (t : List ℕ) → Then P X t → ((u : List ℕ) → P u → Leads p q u) → ((u : List ℕ) → X u → Leads q r u) → Leads p r t
+pub leads : (p q r : Place) (P X : List ℕ → Type 0) (t : List ℕ) → Then P X t → ((u : List ℕ) → P u → Leads p q u) → ((u : List ℕ) → X u → Leads q r u) → Leads p r t
 leads p q r P X t h f g = subst (Leads p r) (sym h.parts) (follows p q r h.front h.rest (f h.front h.first) (g h.rest h.second))
 
-leads_is : (p q : Place) (wanted t : List ℕ) → Leads p q wanted → Is wanted t → Leads p q t
+pub leads_is : (p q : Place) (wanted t : List ℕ) → Leads p q wanted → Is wanted t → Leads p q t
 leads_is p q wanted t f e = subst (Leads p q) (sym e) f
 
-both : (a b : Bool) → (a && b) ≡ true → (a ≡ true) × (b ≡ true)
+pub both : (a b : Bool) → (a && b) ≡ true → (a ≡ true) × (b ≡ true)
 both true b h = (refl, h)
 both false b h = cc
 
 -- blanks
-leads_blanks : (p : Place) → ((c : ℕ) → is_blank c ≡ true → goes p c ≡ Some p) → (t : List ℕ) → Blanks t → Leads p p t
+pub leads_blanks : (p : Place) → ((c : ℕ) → is_blank c ≡ true → goes p c ≡ Some p) → (t : List ℕ) → Blanks t → Leads p p t
 leads_blanks p f [] b = stays p
 leads_blanks p f (c ∷ cs) b = let k = both (is_blank c) (list_all is_blank cs) b in follows p p p (c ∷ []) cs (steps p p c (f c k.0)) (leads_blanks p f cs k.1)
 
-leads_some : (p q : Place) → ((c : ℕ) → is_blank c ≡ true → goes p c ≡ Some q) → ((c : ℕ) → is_blank c ≡ true → goes q c ≡ Some q) → (t : List ℕ) → SomeBlanks t → Leads p q t
+pub leads_some : (p q : Place) → ((c : ℕ) → is_blank c ≡ true → goes p c ≡ Some q) → ((c : ℕ) → is_blank c ≡ true → goes q c ≡ Some q) → (t : List ℕ) → SomeBlanks t → Leads p q t
 leads_some p q f g [] s = absurd (omega (arith, s.some))
 leads_some p q f g (c ∷ cs) s = let k = both (is_blank c) (list_all is_blank cs) s.blanks in follows p q q (c ∷ []) cs (steps p q c (f c k.0)) (leads_blanks q g cs k.1)
 
 -- choices
-yes : (b : Bool) (x y : Option Place) → b ≡ true → (if b then x else y) ≡ x
+pub yes : (b : Bool) (x y : Option Place) → b ≡ true → (if b then x else y) ≡ x
 yes b x y e = ap (λ t. if t then x else y) e
 
-no : (b : Bool) (x y : Option Place) → b ≡ false → (if b then x else y) ≡ y
+pub no : (b : Bool) (x y : Option Place) → b ≡ false → (if b then x else y) ≡ y
 no b x y e = ap (λ t. if t then x else y) e
 
 -- classes of characters apart
-metric_not_blank : (c : ℕ) → is_metric_byte c ≡ true → is_blank c ≡ false
+pub metric_not_blank : (c : ℕ) → is_metric_byte c ≡ true → is_blank c ≡ false
 metric_not_blank c h = grind (arith, nat_tests)
 
 metric_no_brace : (c : ℕ) → is_metric_byte c ≡ true → (c == code "{") ≡ false
@@ -91,7 +91,7 @@ letter_no_brace c h = grind (arith, nat_tests)
 blank_no_label : (c : ℕ) → is_blank c ≡ true → is_label_byte c ≡ false
 blank_no_label c h = grind (arith, nat_tests)
 
-digit_no_blank : (c : ℕ) → is_ascii_digit c ≡ true → is_blank c ≡ false
+pub digit_no_blank : (c : ℕ) → is_ascii_digit c ≡ true → is_blank c ≡ false
 digit_no_blank c h = grind (arith, nat_tests)
 
 digit_no_sign : (c : ℕ) → is_ascii_digit c ≡ true → is_sign c ≡ false
@@ -100,14 +100,14 @@ digit_no_sign c h = grind (arith, nat_tests)
 digit_no_letter : (c k : ℕ) → is_ascii_digit c ≡ true → 97 ≤ k → k < 123 → eq_ignore_ascii_case c k ≡ false
 digit_no_letter c k h l s = grind (arith, nat_tests)
 
-metric_letter_byte : (c : ℕ) → is_metric_letter c ≡ true → is_metric_byte c ≡ true
+pub metric_letter_byte : (c : ℕ) → is_metric_letter c ≡ true → is_metric_byte c ≡ true
 metric_letter_byte c h = ap (λ b. b || is_ascii_digit c) h
 
-metric_byte_small : (c : ℕ) → is_metric_byte c ≡ true → c < 128
+pub metric_byte_small : (c : ℕ) → is_metric_byte c ≡ true → c < 128
 metric_byte_small c h = grind (arith, nat_tests)
 
 -- the name of a sample
-leads_name : (n cs : List ℕ) → list_all is_metric_byte cs ≡ true → Leads (InName n) (InName (n ++ cs)) cs
+pub leads_name : (n cs : List ℕ) → list_all is_metric_byte cs ≡ true → Leads (InName n) (InName (n ++ cs)) cs
 leads_name n [] h = subst (λ m. Leads (InName n) (InName m) []) (sym (append-nil n)) (stays (InName n))
 leads_name n (c ∷ cs) h =
     let k = both (is_metric_byte c) (list_all is_metric_byte cs) h in
@@ -117,7 +117,7 @@ leads_name n (c ∷ cs) h =
     subst (λ m. Leads (InName n) (InName m) (c ∷ cs)) (append_assoc n (c ∷ []) cs)
     (follows (InName n) (InName (n ++ c ∷ [])) (InName ((n ++ c ∷ []) ++ cs)) (c ∷ []) cs (steps (InName n) (InName (n ++ c ∷ [])) c goes_on) (leads_name (n ++ c ∷ []) cs k.1))
 
-starts_name : (n : List ℕ) → is_metric_name n ≡ true → Leads Start (InName n) n
+pub starts_name : (n : List ℕ) → is_metric_name n ≡ true → Leads Start (InName n) n
 starts_name [] h = cc
 starts_name (c ∷ cs) h =
     let k = both (is_metric_letter c) (list_all is_metric_byte cs) h in
@@ -127,7 +127,7 @@ starts_name (c ∷ cs) h =
     follows Start (InName (c ∷ [])) (InName (c ∷ cs)) (c ∷ []) cs (steps Start (InName (c ∷ [])) c first) (leads_name (c ∷ []) cs k.1)
 
 -- the name of a label
-leads_label : (head : Head) (n cs : List ℕ) → list_all is_label_byte cs ≡ true → Leads (InLabel head n) (InLabel head (n ++ cs)) cs
+pub leads_label : (head : Head) (n cs : List ℕ) → list_all is_label_byte cs ≡ true → Leads (InLabel head n) (InLabel head (n ++ cs)) cs
 leads_label head n [] h = subst (λ m. Leads (InLabel head n) (InLabel head m) []) (sym (append-nil n)) (stays (InLabel head n))
 leads_label head n (c ∷ cs) h =
     let k = both (is_label_byte c) (list_all is_label_byte cs) h in
@@ -135,7 +135,7 @@ leads_label head n (c ∷ cs) h =
     subst (λ m. Leads (InLabel head n) (InLabel head m) (c ∷ cs)) (append_assoc n (c ∷ []) cs)
     (follows (InLabel head n) (InLabel head (n ++ c ∷ [])) (InLabel head ((n ++ c ∷ []) ++ cs)) (c ∷ []) cs (steps (InLabel head n) (InLabel head (n ++ c ∷ [])) c goes_on) (leads_label head (n ++ c ∷ []) cs k.1))
 
-starts_label : (head : Head) (n : List ℕ) → is_label_name n ≡ true → Leads (BeforeLabel head) (InLabel head n) n
+pub starts_label : (head : Head) (n : List ℕ) → is_label_name n ≡ true → Leads (BeforeLabel head) (InLabel head n) n
 starts_label head [] h = cc
 starts_label head (c ∷ cs) h =
     let k = both (is_letter c) (list_all is_label_byte cs) h in
@@ -242,7 +242,7 @@ fresh name ps p h =
     let g = pair_good (pair_of metric_label name ∷ ps) p s.1 in
     record { before = s.0; is_name = g.0; new = g.1 }
 
-labels_lead : (name : List ℕ) (ps : List Pair) (t : List ℕ) → fault_after [] (pair_of metric_label name ∷ ps) ≡ None → Labels ps t → Leads (BeforeLabel (record { name = name; labels = [] })) (AfterValue (record { name = name; labels = ps })) t
+pub labels_lead : (name : List ℕ) (ps : List Pair) (t : List ℕ) → fault_after [] (pair_of metric_label name ∷ ps) ≡ None → Labels ps t → Leads (BeforeLabel (record { name = name; labels = [] })) (AfterValue (record { name = name; labels = ps })) t
 labels_lead name ps t d (one p u l) = let f = fresh name [] p d in label_leads (record { name = name; labels = [] }) p u f.is_name f.new l
 labels_lead name ps t d (more qs p front label u ls l e) =
     let f = fresh name qs p d in
@@ -255,13 +255,14 @@ labels_lead name ps t d (more qs p front label u ls l e) =
     (label_leads (record { name = name; labels = qs }) p label f.is_name f.new l))
 
 -- a place from which a blank leads to the number
-record ForNumber (head : Head) (p : Place) (t : List ℕ) : Type 0 where
-  place : Place
-  led : Leads p place t
-  blank : (c : ℕ) → is_blank c ≡ true → goes place c ≡ Some (BeforeNumber head)
+pub record ForNumber (head : Head) (p : Place) (t : List ℕ) : Type 0 where
+  pub place : Place
+  pub led : Leads p place t
+  pub blank : (c : ℕ) → is_blank c ≡ true → goes place c ≡ Some (BeforeNumber head)
+  pub braced : 0 < length t → place ≡ AfterList head
 
-list_leads : (name : List ℕ) (ps : List Pair) (t : List ℕ) → fault_after [] (pair_of metric_label name ∷ ps) ≡ None → LabelList ps t → ForNumber (record { name = name; labels = ps }) (InName name) t
-list_leads name ps t d no_list = record { place = InName name; led = stays (InName name); blank = λ c e. yes (is_blank c) _ _ e }
+pub list_leads : (name : List ℕ) (ps : List Pair) (t : List ℕ) → fault_after [] (pair_of metric_label name ∷ ps) ≡ None → LabelList ps t → ForNumber (record { name = name; labels = ps }) (InName name) t
+list_leads name ps t d no_list = record { place = InName name; led = stays (InName name); blank = λ c e. yes (is_blank c) _ _ e; braced = λ some. absurd (omega (arith, some)) }
 list_leads name ps t d (no_labels u h) =
     let begun = BeforeLabel (record { name = name; labels = [] }) in
     let end = AfterList (record { name = name; labels = [] }) in
@@ -271,6 +272,7 @@ list_leads name ps t d (no_labels u h) =
           (λ x k. leads (InName name) begun begun (Is (codes "{")) Blanks x k (λ y e. leads_is (InName name) begun (codes "{") y (steps (InName name) begun (code "{") refl) e) (λ y b. leads_blanks begun (λ c e. yes (is_blank c) _ _ e) y b))
           (λ x e. leads_is begun end (codes "}") x (steps begun end (code "}") refl) e);
       blank = λ c e. yes (is_blank c) _ _ e;
+      braced = λ some. refl;
     }
 list_leads name ps t d (labels qs u h) =
     let begun = BeforeLabel (record { name = name; labels = [] }) in
@@ -282,6 +284,7 @@ list_leads name ps t d (labels qs u h) =
           (λ x k. leads (InName name) begun after (Is (codes "{")) (Labels qs) x k (λ y e. leads_is (InName name) begun (codes "{") y (steps (InName name) begun (code "{") refl) e) (λ y l. labels_lead name qs y d l))
           (λ x e. leads_is after end (codes "}") x (steps after end (code "}") refl) e);
       blank = λ c e. yes (is_blank c) _ _ e;
+      braced = λ some. refl;
     }
 list_leads name ps t d (last_comma qs u h) =
     let begun = BeforeLabel (record { name = name; labels = [] }) in
@@ -298,6 +301,7 @@ list_leads name ps t d (last_comma qs u h) =
           (λ y b. leads_blanks again (λ c e. yes (is_blank c) _ _ e) y b))
           (λ x e. leads_is again end (codes "}") x (steps again end (code "}") refl) e);
       blank = λ c e. yes (is_blank c) _ _ e;
+      braced = λ some. refl;
     }
 
 -- a character of a number
@@ -403,10 +407,10 @@ mantissa_leads head p s (c ∷ cs) (point ds) e w d some = record {
 }
 
 -- a number text has been read
-record Ends (head : Head) (p : Place) (s t : List ℕ) : Type 0 where
-  place : NumberPlace
-  led : Leads p (InNumber head place (s ++ t)) t
-  end : is_number_end place ≡ true
+pub record Ends (head : Head) (p : Place) (s t : List ℕ) : Type 0 where
+  pub place : NumberPlace
+  pub led : Leads p (InNumber head place (s ++ t)) t
+  pub end : is_number_end place ≡ true
 
 -- the sign and the digits of an exponent
 signed : (head : Head) (x : List ℕ) (g d : ℕ) (ds : List ℕ) → AreDigits (d ∷ ds) → g < 128 → is_blank g ≡ false → is_sign g ≡ true →
@@ -565,7 +569,7 @@ signed_leads head g rest small b is f =
       end = e.end;
     }
 
-number_leads : (head : Head) (text : List ℕ) → IsNumberText text → Ends head (BeforeNumber head) [] text
+pub number_leads : (head : Head) (text : List ℕ) → IsNumberText text → Ends head (BeforeNumber head) [] text
 number_leads head text (inl h) = nan_leads head text h
 number_leads head text (inr f) = subst (Ends head (BeforeNumber head) []) (sym f.parts) (by f.sign) where
   by : (sign : Sign) → Ends head (BeforeNumber head) [] (sign_text sign ++ f.rest)
@@ -637,7 +641,7 @@ blanks_end : (p q : Place) (t : List ℕ) (read : Read) → ends p ≡ Some read
 blanks_end p q [] read e f g h b = record { place = p; led = stays p; reads_so = e }
 blanks_end p q (c ∷ cs) read e f g h b = record { place = q; led = leads_some p q g h (c ∷ cs) (record { some = omega arith; blanks = b }); reads_so = f }
 
-number_blank : (head : Head) (p : NumberPlace) (s : List ℕ) → is_number_end p ≡ true → (c : ℕ) → is_blank c ≡ true → goes (InNumber head p s) c ≡ Some (AfterNumber (record { head = head; number = s }))
+pub number_blank : (head : Head) (p : NumberPlace) (s : List ℕ) → is_number_end p ≡ true → (c : ℕ) → is_blank c ≡ true → goes (InNumber head p s) c ≡ Some (AfterNumber (record { head = head; number = s }))
 number_blank head p s e c h = yes (is_number_end p && is_blank c) _ _ (λ i. e i && h i)
 
 end_reads : (m : Measured) (p : NumberPlace) (time : Option (List ℕ)) (t : List ℕ) → is_number_end p ≡ true → IsTime time → End time t → Reads (InNumber m.head p m.number) t (Sample m time)

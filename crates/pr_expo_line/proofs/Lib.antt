@@ -5,3 +5,8 @@ pub mod Numbers
 pub mod Sound
 pub mod Shapes
 pub mod Leading
+pub mod OnLiterals
+pub mod Completes
+pub mod Told
+pub mod FaultParts
+pub mod Faults

@@ -8,10 +8,8 @@ use Rattle.std.proofs.lemmas.Bool.Decides.{nat_tests}
 use Rattle.std.proofs.lemmas.List.{map-append}
 use Rattle.std.proofs.lemmas.List.Folds.{list_all-append}
 use Rattle.std.proofs.lemmas.Str.{encode_ascii}
-use Rattle.std.proofs.Common.{◌≢◌, ◌^◌, nat_lt, Result, Ok, Err}
-use Rattle.pr_num.specs.declared.value.Num.{Num}
+use Rattle.std.proofs.Common.{◌≢◌, ◌^◌, nat_lt, Ok, Err}
 use Rattle.pr_num.specs.declared.value.Num.TheVariants.{Finite, NaN}
-use Rattle.pr_num.specs.declared.text.NumFault.{NumFault}
 use Rattle.pr_num.specs.declared.text.NumFault.TheVariants.{NotNumber, TooWide}
 use Rattle.pr_num.specs.Arithmetic.{infinity}
 use Rattle.pr_num.specs.Half.{signed}

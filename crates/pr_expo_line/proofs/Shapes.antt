@@ -30,11 +30,12 @@ use Rattle.pr_expo_line.specs.declared.place.Word.TheVariants as word
 use Rattle.pr_expo_line.specs.Line.{Way, after_family, after_keyword, at_end, before_equal, comes, ends, fault_at, family_end, escape, goes, grown, is_type_front, keyword_end, line_read, numbered, outcome_of, stands_before, stops, text_front, type_end, type_of, typed, way, way_on, with_label}
 use Rattle.pr_expo_line.specs.Number.{exponent_digit, exponent_start, is_number_end, number_next, number_start, unsigned_start}
 use Rattle.pr_expo_line.specs.PlainLine.{◌▸◌, Blanks, Is, IsSampleLine, Label, LabelList, Labels, SampleText, SomeBlanks, Then, Value, character, empty_value, escaped, labels, last_comma, more, no_labels, no_list, one}
+use Rattle.pr_expo_line.specs.Faults.{Braces, OpenList, continued, opened}
 use Rattle.pr_expo_line.proofs.Fronts.{whole_front}
 use Rattle.pr_expo_line.proofs.Sound.{digit_small, label_small, letter_small, read_is_sound}
 
 -- one character more
-grow : (P X Y : List ℕ → Type 0) (t : List ℕ) (c : ℕ) → Then P X t → ((r : List ℕ) → X r → Y (r ++ c ∷ [])) → Then P Y (t ++ c ∷ [])
+pub grow : (P X Y : List ℕ → Type 0) (t : List ℕ) (c : ℕ) → Then P X t → ((r : List ℕ) → X r → Y (r ++ c ∷ [])) → Then P Y (t ++ c ∷ [])
 grow P X Y t c h f = record {
   front = h.front;
   rest = h.rest ++ c ∷ [];
@@ -43,97 +44,92 @@ grow P X Y t c h f = record {
   second = f h.rest h.second;
 }
 
-add : (P X : List ℕ → Type 0) (t : List ℕ) (c : ℕ) → P t → X (c ∷ []) → Then P X (t ++ c ∷ [])
+pub add : (P X : List ℕ → Type 0) (t : List ℕ) (c : ℕ) → P t → X (c ∷ []) → Then P X (t ++ c ∷ [])
 add P X t c p x = record { front = t; rest = c ∷ []; parts = refl; first = p; second = x }
 
-none : (P X : List ℕ → Type 0) (t : List ℕ) → P t → X [] → Then P X t
+pub none : (P X : List ℕ → Type 0) (t : List ℕ) → P t → X [] → Then P X t
 none P X t p x = record { front = t; rest = []; parts = sym (append-nil t); first = p; second = x }
 
-blank_more : (t : List ℕ) (c : ℕ) → Blanks t → is_blank c ≡ true → Blanks (t ++ c ∷ [])
+pub blank_more : (t : List ℕ) (c : ℕ) → Blanks t → is_blank c ≡ true → Blanks (t ++ c ∷ [])
 blank_more t c b h = list_all-append is_blank t (c ∷ []) ∙ ap (λ x. x && (is_blank c && true)) b ∙ ap (λ x. true && (x && true)) h
 
 blank_one : (c : ℕ) → is_blank c ≡ true → Blanks (c ∷ [])
 blank_one c h = ap (λ x. x && true) h
 
-some_one : (c : ℕ) → is_blank c ≡ true → SomeBlanks (c ∷ [])
+pub some_one : (c : ℕ) → is_blank c ≡ true → SomeBlanks (c ∷ [])
 some_one c h = record { some = lit< tt; blanks = blank_one c h }
 
-some_more : (t : List ℕ) (c : ℕ) → SomeBlanks t → is_blank c ≡ true → SomeBlanks (t ++ c ∷ [])
+pub some_more : (t : List ℕ) (c : ℕ) → SomeBlanks t → is_blank c ≡ true → SomeBlanks (t ++ c ∷ [])
 some_more t c s h = record { some = omega (arith, length-append t (c ∷ [])); blanks = blank_more t c s.blanks h }
 
-same_code : (c k : ℕ) → (c == k) ≡ true → c ∷ [] ≡ k ∷ []
+pub same_code : (c k : ℕ) → (c == k) ≡ true → c ∷ [] ≡ k ∷ []
 same_code c k h = let is : c ≡ k = grind (arith, nat_tests) in ap (λ x. x ∷ []) is
 
 -- a character that is one byte goes on with a text
-is_more : (n r : List ℕ) (c : ℕ) → c < 128 → Is n r → Is (grown n c) (r ++ c ∷ [])
+pub is_more : (n r : List ℕ) (c : ℕ) → c < 128 → Is n r → Is (grown n c) (r ++ c ∷ [])
 is_more n r c s h = λ i. h i ++ sym (encode_ascii c s) i
 
-is_one : (c : ℕ) → c < 128 → Is (encode_utf8 c) (c ∷ [])
+pub is_one : (c : ℕ) → c < 128 → Is (encode_utf8 c) (c ∷ [])
 is_one c s = sym (encode_ascii c s)
 
-metric_letter_small : (c : ℕ) → is_metric_letter c ≡ true → c < 128
+pub metric_letter_small : (c : ℕ) → is_metric_letter c ≡ true → c < 128
 metric_letter_small c h = grind (arith, nat_tests)
 
-metric_small : (c : ℕ) → is_metric_byte c ≡ true → c < 128
+pub metric_small : (c : ℕ) → is_metric_byte c ≡ true → c < 128
 metric_small c h = by (is_metric_letter c) refl where
   by : (b : Bool) → is_metric_letter c ≡ b → c < 128
   by true e = metric_letter_small c e
   by false e = digit_small c (sym (ap (λ b. b || is_ascii_digit c) e) ∙ h)
 
-name_first : (c : ℕ) → is_metric_letter c ≡ true → is_metric_name (encode_utf8 c) ≡ true
+pub name_first : (c : ℕ) → is_metric_letter c ≡ true → is_metric_name (encode_utf8 c) ≡ true
 name_first c h = ap is_metric_name (encode_ascii c (metric_letter_small c h)) ∙ ap (λ b. b && true) h
 
 true_last : (a : Bool) → (a && true) ≡ a
 true_last true = refl
 true_last false = refl
 
-name_more : (n : List ℕ) (c : ℕ) → is_metric_name n ≡ true → is_metric_byte c ≡ true → is_metric_name (grown n c) ≡ true
+pub name_more : (n : List ℕ) (c : ℕ) → is_metric_name n ≡ true → is_metric_byte c ≡ true → is_metric_name (grown n c) ≡ true
 name_more [] c n h = cc
 name_more (b ∷ bs) c n h =
     ap (λ x. is_metric_name ((b ∷ bs) ++ x)) (encode_ascii c (metric_small c h))
     ∙ ap (λ x. is_metric_letter b && x) (list_all-append is_metric_byte bs (c ∷ []) ∙ ap (λ x. list_all is_metric_byte bs && (x && true)) h ∙ true_last (list_all is_metric_byte bs)) ∙ n
 
--- a list so far, where a label or its end may stand
-data OpenList : List Pair → List ℕ → Type 0 where
-  opened : (t : List ℕ) → Is (codes "{") t → OpenList [] t
-  continued : (ps : List Pair) (t : List ℕ) → (Is (codes "{") ▸ Labels ps ▸ Is (codes ",")) t → OpenList ps t
-
 -- a label so far
-abbrev Gapped : List ℕ → List ℕ → Type 0
+abbrev pub Gapped : List ℕ → List ℕ → Type 0
 Gapped n = Blanks ▸ Is n ▸ Blanks
 
-abbrev Equalled : List ℕ → List ℕ → Type 0
+abbrev pub Equalled : List ℕ → List ℕ → Type 0
 Equalled n = Gapped n ▸ Is (codes "=") ▸ Blanks
 
-abbrev Valued : List ℕ → List ℕ → List ℕ → Type 0
+abbrev pub Valued : List ℕ → List ℕ → List ℕ → Type 0
 Valued n v = Equalled n ▸ Is (codes "\"") ▸ Value v
 
 -- a line so far with the name of its head
-record HasShape (head : Head) (X : List ℕ → Type 0) (t : List ℕ) : Type 0 where
-  name : is_metric_name head.name ≡ true
-  text : (Blanks ▸ Is head.name ▸ X) t
+pub record HasShape (head : Head) (X : List ℕ → Type 0) (t : List ℕ) : Type 0 where
+  pub name : is_metric_name head.name ≡ true
+  pub text : (Blanks ▸ Is head.name ▸ X) t
 
-abbrev Numbered : Measured → (List ℕ → Type 0) → List ℕ → Type 0
+abbrev pub Numbered : Measured → (List ℕ → Type 0) → List ℕ → Type 0
 Numbered m X = Blanks ▸ Is m.head.name ▸ LabelList m.head.labels ▸ SomeBlanks ▸ Is m.number ▸ X
 
-record HasNumber (m : Measured) (X : List ℕ → Type 0) (t : List ℕ) : Type 0 where
-  name : is_metric_name m.head.name ≡ true
-  text : Numbered m X t
+pub record HasNumber (m : Measured) (X : List ℕ → Type 0) (t : List ℕ) : Type 0 where
+  pub name : is_metric_name m.head.name ≡ true
+  pub text : Numbered m X t
 
-record HasGap (head : Head) (X : List ℕ → Type 0) (t : List ℕ) : Type 0 where
-  name : is_metric_name head.name ≡ true
-  text : (Blanks ▸ Is head.name ▸ LabelList head.labels ▸ SomeBlanks ▸ X) t
+pub record HasGap (head : Head) (X : List ℕ → Type 0) (t : List ℕ) : Type 0 where
+  pub name : is_metric_name head.name ≡ true
+  pub text : (Blanks ▸ Is head.name ▸ LabelList head.labels ▸ SomeBlanks ▸ X) t
 
-record HasBlanks (head : Head) (t : List ℕ) : Type 0 where
-  name : is_metric_name head.name ≡ true
-  text : (Blanks ▸ Is head.name ▸ LabelList head.labels ▸ SomeBlanks) t
+pub record HasBlanks (head : Head) (t : List ℕ) : Type 0 where
+  pub name : is_metric_name head.name ≡ true
+  pub text : (Blanks ▸ Is head.name ▸ LabelList head.labels ▸ SomeBlanks) t
 
-record IsNamed (n t : List ℕ) : Type 0 where
-  name : is_metric_name n ≡ true
-  text : (Blanks ▸ Is n) t
+pub record IsNamed (n t : List ℕ) : Type 0 where
+  pub name : is_metric_name n ≡ true
+  pub text : (Blanks ▸ Is n) t
 
 -- what a line of a sample is so far, at each place
-abbrev Shape : Place → List ℕ → Type 0
+abbrev pub Shape : Place → List ℕ → Type 0
 Shape Start t = Blanks t
 Shape Hash t = Unit {0}
 Shape Gap t = Unit {0}
@@ -153,7 +149,7 @@ Shape (BeforeQuote head n) t = HasShape head (Then (OpenList head.labels) (Equal
 Shape (InValue head n v) t = HasShape head (Then (OpenList head.labels) (Valued n v)) t
 Shape (InEscape head n v) t = HasShape head (Then (OpenList head.labels) (Valued n v ▸ Is (codes "\\"))) t
 Shape (AfterValue head) t = HasShape head (Is (codes "{") ▸ Labels head.labels) t
-Shape (AfterList head) t = HasShape head (LabelList head.labels) t
+Shape (AfterList head) t = HasShape head (Braces head.labels) t
 Shape (BeforeNumber head) t = HasBlanks head t
 Shape (InNumber head place text) t = HasGap head (Is text) t
 Shape (AfterNumber m) t = HasNumber m SomeBlanks t
@@ -161,7 +157,7 @@ Shape (AfterSign m text) t = HasNumber m (SomeBlanks ▸ Is text) t
 Shape (InTime m text count) t = HasNumber m (SomeBlanks ▸ Is text) t
 Shape (AfterTime m text) t = HasNumber m (SomeBlanks ▸ Is text ▸ Blanks) t
 
-abbrev IfShape : Option Place → List ℕ → Type 0
+abbrev pub IfShape : Option Place → List ℕ → Type 0
 IfShape None t = Unit {0}
 IfShape (Some place) t = Shape place t
 
@@ -177,7 +173,7 @@ shape_more head X Y t c s f = record { name = s.name; text = grow (Blanks ▸ Is
 label_more : (head : Head) (X Y : List ℕ → Type 0) (t : List ℕ) (c : ℕ) → HasShape head (Then (OpenList head.labels) X) t → ((r : List ℕ) → X r → Y (r ++ c ∷ [])) → HasShape head (Then (OpenList head.labels) Y) (t ++ c ∷ [])
 label_more head X Y t c s f = shape_more head (Then (OpenList head.labels) X) (Then (OpenList head.labels) Y) t c s (λ r h. grow (OpenList head.labels) X Y r c h f)
 
-blanks_grow : (c : ℕ) → is_blank c ≡ true → (r : List ℕ) → Blanks r → Blanks (r ++ c ∷ [])
+pub blanks_grow : (c : ℕ) → is_blank c ≡ true → (r : List ℕ) → Blanks r → Blanks (r ++ c ∷ [])
 blanks_grow c h r b = blank_more r c b h
 
 keyword_shape : (text t : List ℕ) → Shape (after_keyword text) t
@@ -232,6 +228,10 @@ closed head n v t c h s = record {
       subst (Is (codes "{") ▸ Labels (head.labels ++ pair_of n v ∷ [])) (sym (ap (λ y. y ++ c ∷ []) x.parts ∙ append_assoc x.front x.rest (c ∷ [])))
       (list_with head.labels (pair_of n v) x.front (x.rest ++ c ∷ []) x.first (quoted n v x.rest c h x.second))
 
+-- a list with its last character
+braces : (ps : List Pair) (r : List ℕ) (c : ℕ) → LabelList ps (r ++ c ∷ []) → Braces ps (r ++ c ∷ [])
+braces ps r c l = record { some = omega (arith, length-append r (c ∷ [])); list = l }
+
 -- the end of a list
 list_ends : (ps : List Pair) (r : List ℕ) (c : ℕ) → (c == code "}") ≡ true → (OpenList ps ▸ Blanks) r → LabelList ps (r ++ c ∷ [])
 list_ends ps r c h x = by ps x.front x.first refl where
@@ -241,7 +241,7 @@ list_ends ps r c h x = by ps x.front x.first refl where
       last_comma ps (r ++ c ∷ []) (add (Is (codes "{") ▸ Labels ps ▸ Is (codes ",") ▸ Blanks) (Is (codes "}")) r c
       (record { front = x.front; rest = x.rest; parts = x.parts; first = subst (Is (codes "{") ▸ Labels ps ▸ Is (codes ",")) (sym f) k; second = x.second }) (same_code c (code "}") h))
 
-change : (P X Y : List ℕ → Type 0) (t : List ℕ) → Then P X t → ((r : List ℕ) → X r → Y r) → Then P Y t
+pub change : (P X Y : List ℕ → Type 0) (t : List ℕ) → Then P X t → ((r : List ℕ) → X r → Y r) → Then P Y t
 change P X Y t h f = record { front = h.front; rest = h.rest; parts = h.parts; first = h.first; second = f h.rest h.second }
 
 -- a name of a label so far, with no blanks behind it yet
@@ -292,7 +292,7 @@ unsigned_small c h =
     (small_ways c (c == code ".") _ _ (λ e. let is : c ≡ code "." = eqb-true c (code ".") e in omega arith)
     (small_ways c (eq_ignore_ascii_case c (code "i")) _ _ (letter_case_small c (code "i") (lit< tt)) (λ n. absurd (n refl)))) h
 
-start_small : (c : ℕ) → (number_start c ≡ None → ⊥) → c < 128
+pub start_small : (c : ℕ) → (number_start c ≡ None → ⊥) → c < 128
 start_small c h = small_ways c (is_sign c) _ _ (sign_small c) (small_ways c (eq_ignore_ascii_case c (code "n")) _ _ (letter_case_small c (code "n") (lit< tt)) (unsigned_small c)) h
 
 exponent_small : (c : ℕ) → (exponent_start c ≡ None → ⊥) → c < 128
@@ -304,7 +304,7 @@ digit_place_small c h = small_ways c (is_ascii_digit c) _ _ (digit_small c) (λ 
 case_small : (c k : ℕ) (p : NumberPlace) → k < 128 → ((if eq_ignore_ascii_case c k then Some p else None) ≡ None → ⊥) → c < 128
 case_small c k p s h = small_ways c (eq_ignore_ascii_case c k) _ _ (letter_case_small c k s) (λ n. absurd (n refl)) h
 
-next_small : (p : NumberPlace) (c : ℕ) → (number_next p c ≡ None → ⊥) → c < 128
+pub next_small : (p : NumberPlace) (c : ℕ) → (number_next p c ≡ None → ⊥) → c < 128
 next_small np.Signed c h = unsigned_small c h
 next_small np.Whole c h =
     small_ways c (is_ascii_digit c) _ _ (digit_small c) (small_ways c (c == code ".") _ _ (λ e. let is : c ≡ code "." = eqb-true c (code ".") e in omega arith) (exponent_small c)) h
@@ -325,7 +325,7 @@ next_small np.N c h = case_small c (code "a") np.Na (lit< tt) h
 next_small np.Na c h = case_small c (code "n") np.Nan (lit< tt) h
 next_small np.Nan c h = absurd (h refl)
 
-some_not_none : (o : Option NumberPlace) (p : NumberPlace) → o ≡ Some p → o ≡ None → ⊥
+pub some_not_none : (o : Option NumberPlace) (p : NumberPlace) → o ≡ Some p → o ≡ None → ⊥
 some_not_none o p e n = let k : Some p ≡ None = sym e ∙ n in cc
 
 numbered_if : (head : Head) (text t : List ℕ) (o : Option NumberPlace) → ((p : NumberPlace) → o ≡ Some p → HasGap head (Is text) t) → IfShape (numbered head text o) t
@@ -372,7 +372,7 @@ shape_goes (InName n) c t s =
     (λ _. ways (t ++ c ∷ []) (is_metric_byte c) _ _ (λ e. record { name = name_more n c s.name e; text = grow Blanks (Is n) (Is (grown n c)) t c s.text (λ r h. is_more n r c (metric_small c e) h) }) (λ _. tt)))
 shape_goes (BeforeLabel head) c t s =
     ways (t ++ c ∷ []) (is_blank c) _ _ (λ e. label_more head Blanks Blanks t c s (blanks_grow c e))
-    (λ _. ways (t ++ c ∷ []) (c == code "}") _ _ (λ e. shape_more head (OpenList head.labels ▸ Blanks) (LabelList head.labels) t c s (λ r h. list_ends head.labels r c e h))
+    (λ _. ways (t ++ c ∷ []) (c == code "}") _ _ (λ e. shape_more head (OpenList head.labels ▸ Blanks) (Braces head.labels) t c s (λ r h. braces head.labels r c (list_ends head.labels r c e h)))
     (λ _. ways (t ++ c ∷ []) (is_letter c) _ _ (λ e. label_more head Blanks (Blanks ▸ Is (encode_utf8 c)) t c s (λ r b. add Blanks (Is (encode_utf8 c)) r c b (is_one c (letter_small c e)))) (λ _. tt)))
 shape_goes (InLabel head n) c t s =
     ways (t ++ c ∷ []) (is_label_byte c) _ _ (λ e. label_more head (Blanks ▸ Is n) (Blanks ▸ Is (grown n c)) t c s (λ r h. grow Blanks (Is n) (Is (grown n c)) r c h (λ q k. is_more n q c (label_small c e) k)))
@@ -393,11 +393,14 @@ shape_goes (AfterValue head) c t s =
     (λ r h. grow (Is (codes "{")) (Labels head.labels) (Labels head.labels) r c h (λ x k. labels_blank head.labels x c e k)))
     (λ _. ways (t ++ c ∷ []) (c == code ",") _ _ (λ e. shape_more head (Is (codes "{") ▸ Labels head.labels) (OpenList head.labels ▸ Blanks) t c s (λ r h. after_comma head.labels r c e h))
     (λ _. ways (t ++ c ∷ []) (c == code "}") _ _
-    (λ e. shape_more head (Is (codes "{") ▸ Labels head.labels) (LabelList head.labels) t c s
-    (λ r h. labels head.labels (r ++ c ∷ []) (add (Is (codes "{") ▸ Labels head.labels) (Is (codes "}")) r c h (same_code c (code "}") e))))
+    (λ e. shape_more head (Is (codes "{") ▸ Labels head.labels) (Braces head.labels) t c s
+    (λ r h. braces head.labels r c (labels head.labels (r ++ c ∷ []) (add (Is (codes "{") ▸ Labels head.labels) (Is (codes "}")) r c h (same_code c (code "}") e)))))
     (λ _. tt)))
 shape_goes (AfterList head) c t s =
-    ways (t ++ c ∷ []) (is_blank c) _ _ (λ e. record { name = s.name; text = add (Blanks ▸ Is head.name ▸ LabelList head.labels) SomeBlanks t c s.text (some_one c e) }) (λ _. tt)
+    ways (t ++ c ∷ []) (is_blank c) _ _ (λ e. record {
+      name = s.name;
+      text = add (Blanks ▸ Is head.name ▸ LabelList head.labels) SomeBlanks t c (change (Blanks ▸ Is head.name) (Braces head.labels) (LabelList head.labels) t s.text (λ r b. b.list)) (some_one c e);
+    }) (λ _. tt)
 shape_goes (BeforeNumber head) c t s =
     ways (t ++ c ∷ []) (is_blank c) _ _ (λ e. record { name = s.name; text = grow (Blanks ▸ Is head.name ▸ LabelList head.labels) SomeBlanks SomeBlanks t c s.text (λ r h. some_more r c h e) })
     (λ _. numbered_if head (encode_utf8 c) (t ++ c ∷ []) (number_start c)
@@ -421,7 +424,7 @@ shape_goes (AfterTime m text) c t s =
     ways (t ++ c ∷ []) (is_blank c) _ _ (λ e. number_more m (SomeBlanks ▸ Is text ▸ Blanks) (SomeBlanks ▸ Is text ▸ Blanks) t c s (λ r h. grow (SomeBlanks ▸ Is text) Blanks Blanks r c h (blanks_grow c e))) (λ _. tt)
 
 -- where a way comes to has its shape
-abbrev IfComes : Way → List ℕ → Type 0
+abbrev pub IfComes : Way → List ℕ → Type 0
 IfComes (comes place) t = Shape place t
 IfComes (stops kind) t = Unit {0}
 
@@ -429,7 +432,7 @@ on_shape : (o : Option Place) (kind : ExpoKind) (on : Place → Way) (t whole : 
 on_shape None kind on t whole s f = tt
 on_shape (Some next) kind on t whole s f = f next s
 
-way_shape : (text : List ℕ) (place : Place) (t : List ℕ) → Shape place t → IfComes (way place text) (t ++ text)
+pub way_shape : (text : List ℕ) (place : Place) (t : List ℕ) → Shape place t → IfComes (way place text) (t ++ text)
 way_shape [] place t s = subst (Shape place) (sym (append-nil t)) s
 way_shape (c ∷ cs) place t s =
     on_shape (goes place c) (fault_at place) (λ next. way next cs) (t ++ c ∷ []) (t ++ c ∷ cs) (shape_goes place c t s)

@@ -247,7 +247,7 @@ on_good : (o : Option Place) (kind : ExpoKind) (on : Place → Way) → IfPlace 
 on_good None kind on g h = tt
 on_good (Some next) kind on g h = h next g
 
-way_good : (text : List ℕ) (place : Place) → Good place → IfComes (way place text)
+pub way_good : (text : List ℕ) (place : Place) → Good place → IfComes (way place text)
 way_good [] place g = g
 way_good (c ∷ cs) place g = on_good (goes place c) (fault_at place) (λ next. way next cs) (goes_good place c g) (λ next h. way_good cs next h)
 

@@ -1,6 +1,6 @@
 -- The lines of an exposition as a grammar: its rules are the places of a line, and each reads a
 -- character and what stands after it.
-use Rattle.std.specs.Prelude.{ℕ, Bool, true, false, Option, Some, None, is_some, List, [], ◌∷◌}
+use Rattle.std.specs.Prelude.{ℕ, Bool, true, false, Option, Some, None, is_some, List, []}
 use Rattle.pr_forms.specs.Form.{Form, token, nothing, pair, either, chosen, rule, Reads, IsFirstBad}
 use Rattle.pr_forms.specs.Table.{Table}
 use Rattle.pr_expo_line.specs.declared.place.Place.{Place}
@@ -54,15 +54,6 @@ more_rule n c = true
 
 abbrev pub table : Table ℕ Rule
 table = record { empty = empty_rule; starts = starts_rule; more = more_rule }
-
--- the characters from the first one on with which no line goes on from the place
-abbrev pub left_on : Option Place → List ℕ → (Place → List ℕ) → List ℕ
-left_on None text on = text
-left_on (Some next) text on = on next
-
-abbrev pub left : Place → List ℕ → List ℕ
-left place [] = []
-left place (c ∷ cs) = left_on (goes place c) (c ∷ cs) (λ next. left next cs)
 
 -- The first place at which no line can go on with the characters.
 abbrev pub IsBadPlace : List ℕ → ℕ → Type 0

@@ -4,3 +4,4 @@ pub mod Line
 pub mod Grammar
 pub mod Sound
 pub mod PlainLine
+pub mod Faults

@@ -1,26 +1,38 @@
 //! The laws of lines, as the contract of a function that does nothing.
-ghost use Rattle.std.specs.Prelude.{◌≡◌, ◌≢◌, ℕ, ◌-◌, Err, Ok, List, Option, length};
+ghost use Rattle.std.specs.Prelude.{◌≡◌, ◌≢◌, ℕ, Err, Ok, List, Option, length};
 ghost use Rattle.std.specs.Str.{IsUtf8, chars};
 ghost use Rattle.pr_forms.specs.Table.{IsDecided};
 ghost use Rattle.pr_num.specs.Reads.{reads};
 ghost use Rattle.pr_num.specs.declared.text.NumFault.{NumFault};
-ghost use Rattle.pr_expo_line.specs.Line.{line_read};
-ghost use Rattle.pr_expo_line.specs.Grammar.{production, table, left, IsBadPlace, ReadsLine};
-ghost use Rattle.pr_expo_line.specs.declared.place.Place.TheVariants.{Start};
+ghost use Rattle.pr_expo_line.specs.Line.{line_read, text_front};
+ghost use Rattle.pr_expo_line.specs.Grammar.{production, table, IsBadPlace, ReadsLine};
+ghost use Rattle.pr_expo_line.specs.Faults.{Stop, IsBeginning, IsBadBehind, HasFault};
+ghost use Rattle.pr_expo_line.specs.declared.place.ExpoKind.{ExpoKind};
+ghost use Rattle.pr_expo_line.specs.declared.place.ExpoKind.TheVariants.{NotText};
 ghost use Rattle.pr_expo_line.specs.PlainLine.{IsSampleLine};
 ghost use Rattle.pr_expo_line.specs.declared.place.Measured.{Measured};
 ghost use Rattle.pr_expo_line.specs.declared.place.Read.TheVariants.{Sample};
 ghost use Rattle.pr_expo_line.specs.declared.place.Read.{Read};
 
 /// One character ahead decides the grammar of lines. A line reads as something exactly where it is
-/// text and its characters are of the grammar, and as what they are there. Where the way through
-/// the characters stops is the first place at which no line can go on.
-#[tactic(auto, using(crate::proofs::Grammar::known, crate::proofs::Grammar::stops_first, crate::proofs::Grammar::line_reads, crate::proofs::Grammar::line_is))]
+/// text and its characters are of the grammar, and as what they are there.
+#[tactic(auto, using(crate::proofs::Grammar::known, crate::proofs::Grammar::line_reads, crate::proofs::Grammar::line_is))]
 pub fn lines_are_those_of_the_grammar()
     ensures decided { IsDecided production table }
     ensures reads { (line : List ℕ) (read : Read) → IsUtf8 line → ReadsLine (chars line) read → line_read line ≡ Ok read }
     ensures only { (line : List ℕ) (read : Read) → line_read line ≡ Ok read → IsUtf8 line × ReadsLine (chars line) read }
-    ensures place { (text : List ℕ) → IsBadPlace text (length text - length (left Start text)) }
+{}
+
+/// A line that is bad is no line of the grammar. Its first bad place is where some line could go on
+/// up to it and none from there; what is bad is told by what stands before that place, and by what
+/// stands there. A line is no text where its first byte that is none comes before any other fault.
+pub fn faults_are_told_by_their_place()
+    ensures unread { (line : List ℕ) (kind : ExpoKind) (read : Read) → line_read line ≡ Err kind → IsUtf8 line → ReadsLine (chars line) read → ⊥ }
+    ensures fault { (line : List ℕ) (kind : ExpoKind) → line_read line ≡ Err kind → HasFault line kind }
+    ensures only { (line : List ℕ) (kind : ExpoKind) → HasFault line kind → line_read line ≡ Err kind }
+    ensures place { (line front : List ℕ) (stop : Stop) → IsBadBehind line front stop → IsBadPlace (chars (text_front line)) (length front) }
+    ensures broken { (line : List ℕ) → (IsUtf8 line → ⊥) → IsBeginning (chars (text_front line)) → line_read line ≡ Err NotText }
+    ensures broken_only { (line : List ℕ) → line_read line ≡ Err NotText → (IsUtf8 line → ⊥) × IsBeginning (chars (text_front line)) }
 {}
 
 /// A line reads as a sample exactly where it is text, and the line of that sample as a person reads
