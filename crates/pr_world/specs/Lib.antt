@@ -1,4 +1,5 @@
 pub mod Scrapes
+pub mod Renaming
 pub mod Targets
 pub mod World
 pub mod Settings

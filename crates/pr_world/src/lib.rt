@@ -23,8 +23,9 @@ pub use scrape_examples::{
     a_time_of_its_own_is_kept, entries_stand_in_this_order,
 };
 pub use scrape_laws::{
-    a_tracked_set_rises, an_order_about_a_target_adds_what_is_admitted,
-    an_order_changes_one_target, what_is_admitted_comes_behind_the_history,
+    a_new_name_is_the_first_free_one, a_tracked_set_rises,
+    an_order_about_a_target_adds_what_is_admitted, an_order_changes_one_target,
+    no_scraped_label_is_lost, what_is_admitted_comes_behind_the_history,
 };
 pub use scraped::{BodyFault, Offer, Scraped};
 pub use target_examples::{

@@ -3,16 +3,29 @@ ghost use Rattle.std.specs.Prelude.{◌≡◌, ℕ, ◌++◌, cond, false, List,
 ghost use Rattle.pr_history.specs.declared.entry.Entry.{Entry};
 ghost use Rattle.pr_history.specs.Admission.{put_all};
 ghost use Rattle.pr_labels.specs.declared.pair.Pair.{Pair};
+ghost use Rattle.pr_labels.specs.LabelSet.{IsLabelSet};
 ghost use Rattle.pr_labels.specs.Order.{labels_eq};
 ghost use Rattle.pr_labels.specs.Rising.{IsRising};
 ghost use Rattle.pr_world.specs.declared.scraped.Offer.{Offer};
-ghost use Rattle.pr_world.specs.Scrapes.{added_count, admitted, tracked_after};
+ghost use Rattle.pr_world.specs.Renaming.{HasAllLabels, IsFirstFree};
+ghost use Rattle.pr_world.specs.Scrapes.{added_count, admitted, free_name, scraped_labels, tracked_after};
 ghost use Rattle.pr_world.specs.Targets.{Target, fail_step, gone_step, tracked_at, scrape_step, with_tracked, without_target};
 
 /// What is admitted comes behind the history, and nothing else; it is as much as is counted.
 pub fn what_is_admitted_comes_behind_the_history()
     ensures behind { (history entries : List Entry) → put_all history entries ≡ history ++ admitted history entries }
     ensures counted { (history entries : List Entry) → length (admitted history entries) ≡ added_count history entries }
+{}
+
+/// A scraped label that the target has too gets the shortest name, with `exported_` before its own
+/// once or more often, that neither label set has.
+pub fn a_new_name_is_the_first_free_one()
+    ensures { (target labels : List Pair) (name : List ℕ) → IsFirstFree target labels name (free_name target labels name) }
+{}
+
+/// A sample has the labels of its target and its own, these under their new names; none is lost.
+pub fn no_scraped_label_is_lost()
+    ensures { (target labels : List Pair) → IsLabelSet target → IsLabelSet labels → HasAllLabels target labels (scraped_labels target labels) }
 {}
 
 /// A tracked set is in label order, each series once.
