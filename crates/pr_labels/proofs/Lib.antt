@@ -10,5 +10,6 @@ pub mod Putting
 pub mod SetValues
 pub mod Sorted
 pub mod GoesOn
+pub mod Fronts
 pub mod KnownNames
 pub mod LabelMaps

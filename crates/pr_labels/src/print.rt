@@ -1,5 +1,7 @@
 // The printed text of a label set.
-ghost use Rattle.std.specs.Prelude.{◌≡◌, ◌++◌, ◌∷◌, List, IfOk, OnOk, flat_map};
+#![tactic(auto, using(crate::proofs::Fronts::front_on, pr_strings::proofs::Fronts::front_after))]
+
+ghost use Rattle.std.specs.Prelude.{◌≡◌, ◌++◌, ◌∷◌, List, IfOk, OnOk, OnErr, flat_map, length, take};
 ghost use Rattle.pr_strings.specs.Reader.{KeepsText};
 ghost use Rattle.pr_labels.specs.LabelSet.{has_name, metric_label};
 ghost use Rattle.pr_labels.specs.SeriesText.{pair_text, following_text, pairs_text, list_text, rest_text, opening, left_text, unnamed, series_text};
@@ -16,6 +18,7 @@ use std::alloc::AllocError;
 fn push_pair(out: &mut Vec<u8>, pair: &Pair) -> Result<(), AllocError>
     ensures ok { OnOk result (out.new.items ≡ out.old.items ++ pair_text pair.now) }
     ensures text { KeepsText out.old.items out.new.items }
+    ensures front { take (length out.old.items) out.new.items ≡ out.old.items }
 {
     out.extend_from_slice(pair.name.as_str().as_bytes())?;
     out.extend_from_slice(b"=")?;
@@ -25,6 +28,7 @@ fn push_pair(out: &mut Vec<u8>, pair: &Pair) -> Result<(), AllocError>
 fn push_following(out: &mut Vec<u8>, pairs: &[Pair]) -> Result<(), AllocError>
     ensures ok { OnOk result (out.new.items ≡ out.old.items ++ flat_map following_text pairs.now) }
     ensures text { KeepsText out.old.items out.new.items }
+    ensures front { take (length out.old.items) out.new.items ≡ out.old.items }
 {
     for pair in pairs {
         out.extend_from_slice(b",")?;
@@ -36,6 +40,7 @@ fn push_following(out: &mut Vec<u8>, pairs: &[Pair]) -> Result<(), AllocError>
 fn push_pairs(out: &mut Vec<u8>, pairs: &[Pair]) -> Result<(), AllocError>
     ensures ok { OnOk result (out.new.items ≡ out.old.items ++ pairs_text pairs.now) }
     ensures text { KeepsText out.old.items out.new.items }
+    ensures front { take (length out.old.items) out.new.items ≡ out.old.items }
 {
     match pairs {
         [] => Ok(()),
@@ -50,6 +55,7 @@ fn push_pairs(out: &mut Vec<u8>, pairs: &[Pair]) -> Result<(), AllocError>
 fn push_list(out: &mut Vec<u8>, pairs: &[Pair]) -> Result<(), AllocError>
     ensures ok { OnOk result (out.new.items ≡ out.old.items ++ list_text pairs.now) }
     ensures text { KeepsText out.old.items out.new.items }
+    ensures front { take (length out.old.items) out.new.items ≡ out.old.items }
 {
     out.extend_from_slice(b"{")?;
     push_pairs(out, pairs)?;
@@ -66,6 +72,7 @@ fn is_metric_pair(pair: &Pair) -> bool
 fn push_separator(out: &mut Vec<u8>, started: bool) -> Result<(), AllocError>
     ensures ok { OnOk result (out.new.items ≡ out.old.items ++ opening started) }
     ensures text { KeepsText out.old.items out.new.items }
+    ensures front { take (length out.old.items) out.new.items ≡ out.old.items }
 {
     if started {
         out.extend_from_slice(b",")
@@ -79,6 +86,7 @@ fn push_separator(out: &mut Vec<u8>, started: bool) -> Result<(), AllocError>
 fn push_other(out: &mut Vec<u8>, started: bool, pair: &Pair) -> Result<bool, AllocError>
     ensures ok { IfOk result (λ s. (ps : List Pair) → out.new.items ++ left_text s ps ≡ out.old.items ++ left_text started (pair.now ∷ ps)) }
     ensures text { KeepsText out.old.items out.new.items }
+    ensures front { take (length out.old.items) out.new.items ≡ out.old.items }
 {
     if is_metric_pair(pair) {
         return Ok(started);
@@ -92,6 +100,7 @@ fn push_other(out: &mut Vec<u8>, started: bool, pair: &Pair) -> Result<bool, All
 fn push_rest(out: &mut Vec<u8>, pairs: &[Pair]) -> Result<(), AllocError>
     ensures ok { OnOk result (out.new.items ≡ out.old.items ++ rest_text (unnamed pairs.now)) }
     ensures text { KeepsText out.old.items out.new.items }
+    ensures front { take (length out.old.items) out.new.items ≡ out.old.items }
 {
     let mut started = false;
     for pair in pairs {
@@ -108,23 +117,39 @@ fn push_rest(out: &mut Vec<u8>, pairs: &[Pair]) -> Result<(), AllocError>
 fn push_named(out: &mut Vec<u8>, name: &str, pairs: &[Pair]) -> Result<(), AllocError>
     ensures ok { OnOk result (out.new.items ≡ out.old.items ++ (name.now ++ rest_text (unnamed pairs.now))) }
     ensures text { KeepsText out.old.items out.new.items }
+    ensures front { take (length out.old.items) out.new.items ≡ out.old.items }
 {
     out.extend_from_slice(name.as_bytes())?;
     push_rest(out, pairs)
 }
 
+// The printed text, without memory a part of it.
+#[tactic(auto, unfolding(crate::specs::SeriesText::series_text))]
+fn push_labels(out: &mut Vec<u8>, labels: &Labels) -> Result<(), AllocError>
+    ensures ok { OnOk result (out.new.items ≡ out.old.items ++ series_text labels.now) }
+    ensures text { KeepsText out.old.items out.new.items }
+    ensures front { take (length out.old.items) out.new.items ≡ out.old.items }
+{
+    match labels.get(METRIC_LABEL) {
+        Some(name) if is_metric_name(name.as_bytes()) => push_named(out, name, labels.pairs()),
+        _ => push_list(out, labels.pairs()),
+    }
+}
+
 impl Labels {
     /// Appends the printed text: the metric's name first where it is a classic name, and the other
-    /// labels in braces, in order of name. Without memory a part of it may be appended.
-    #[tactic(auto, unfolding(crate::specs::SeriesText::series_text))]
+    /// labels in braces, in order of name. Without memory nothing is appended.
     pub fn write(&self, out: &mut Vec<u8>) -> Result<(), AllocError>
         ensures ok { OnOk result (out.new.items ≡ out.old.items ++ series_text self.now) }
-        // A text goes on as a text, also where memory runs out.
+        ensures err { OnErr result (out.new.items ≡ out.old.items) }
+        // A text goes on as a text.
         ensures text { KeepsText out.old.items out.new.items }
     {
-        match self.get(METRIC_LABEL) {
-            Some(name) if is_metric_name(name.as_bytes()) => push_named(out, name, self.pairs()),
-            _ => push_list(out, self.pairs()),
+        let before = out.len();
+        let written = push_labels(out, self);
+        if written.is_err() {
+            out.truncate(before);
         }
+        written
     }
 }
