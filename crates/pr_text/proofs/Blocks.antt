@@ -9,11 +9,11 @@ use Rattle.pr_text.specs.Orders.{Block, body_at, behind_body, with_line, blocks_
 use Rattle.pr_text.specs.Script.{is_passed_over, event_of, occasion_of, takes_by, takes_body, is_body_line, body_of}
 use Rattle.pr_text.specs.Started.{ends_body}
 
-both_left : (a b : Bool) → (a && b) ≡ true → a ≡ true
+pub both_left : (a b : Bool) → (a && b) ≡ true → a ≡ true
 both_left true b h = refl
 both_left false b h = h
 
-both_right : (a b : Bool) → (a && b) ≡ true → b ≡ true
+pub both_right : (a b : Bool) → (a && b) ≡ true → b ≡ true
 both_right true b h = h
 both_right false b h = cc
 

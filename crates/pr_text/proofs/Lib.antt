@@ -3,3 +3,7 @@ pub mod Computing
 pub mod Samples
 pub mod Blocks
 pub mod Targets
+pub mod FieldTexts
+pub mod NumberTexts
+pub mod EventTexts
+pub mod BadLines

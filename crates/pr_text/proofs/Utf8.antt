@@ -1,5 +1,5 @@
 -- Whether bytes are a text, by what reading them answers.
-use Rattle.std.proofs.Common.{◌≡◌, ℕ, Bool, true, false, List, [], ◌∷◌, length, ◌==◌, Some, None, sym, refl, nat_lt, ◌<◌, ltb-true}
+use Rattle.std.proofs.Common.{◌≡◌, ℕ, Bool, true, false, List, [], ◌∷◌, length, ◌==◌, Some, None, sym, refl, nat_lt, ltb-true}
 use Rattle.std.specs.Str.{IsUtf8, is_utf8}
 use Rattle.pr_series.specs.SeriesReading.{series_labels}
 use Rattle.pr_text.specs.Script.{expression_of, series_of}

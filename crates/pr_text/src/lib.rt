@@ -13,7 +13,7 @@ pub use examples::{
     lines_that_ask_for_nothing_are_counted, reports_are_written_so,
 };
 pub use kinds::{expo_word, push_query_kind};
-pub use laws::samples_have_label_sets;
+pub use laws::{lines_that_are_no_text_are_refused, samples_have_label_sets};
 pub use order::{Numbered, Order, Started, read_order};
 pub use printed::{push_bad_line, push_number, push_report};
 pub use script::{is_passed_over, push_body_line};

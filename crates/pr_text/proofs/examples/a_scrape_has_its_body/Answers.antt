@@ -1,7 +1,5 @@
-use Rattle.std.proofs.Common.{◌≡◌, codes, [], ◌∷◌, true, Some, refl}
+use Rattle.std.proofs.Common.{◌≡◌, codes, [], true, refl}
 use Rattle.std.specs.Str.{is_utf8}
-use Rattle.pr_labels.specs.LabelSet.{pair_of}
-use Rattle.pr_series.specs.SeriesReading.{series_labels}
 use Rattle.pr_text.specs.Orders.{orders_after}
 use Rattle.pr_text.specs.Script.{takes_body}
 use Rattle.pr_text.proofs.Targets.{a_is_b}
