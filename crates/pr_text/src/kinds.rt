@@ -1,9 +1,11 @@
 // The printed kinds of faults.
-ghost use Rattle.std.specs.Prelude.{◌≡◌, ◌++◌, OnOk, codes};
+#![tactic(auto, using(pr_labels::proofs::Fronts::front_on, pr_strings::proofs::Fronts::front_after))]
+
+ghost use Rattle.std.specs.Prelude.{◌≡◌, ◌++◌, OnOk, OnErr, codes, length, take};
 ghost use Rattle.pr_labels.specs.SeriesText.{series_text};
 ghost use Rattle.pr_text.specs.Kinds.{lex_word, parse_word, type_word, expo_word, fault_word, number_text, type_numbers, type_text, fault_rest, fault_text, kind_text};
 
-use super::printed::push_number;
+use super::printed::{push_number, whole_or_none};
 use pr_expo_line::ExpoKind;
 use pr_labels::Labels;
 use pr_lex::LexKind;
@@ -98,21 +100,24 @@ fn fault_word(kind: &FaultKind) -> &'static str
 }
 
 fn push_number_after(text: &mut Vec<u8>, n: u64) -> Result<(), AllocError>
-    ensures { OnOk result (text.new.items ≡ text.old.items ++ number_text n) }
+    ensures ok { OnOk result (text.new.items ≡ text.old.items ++ number_text n) }
+    ensures front { take (length text.old.items) text.new.items ≡ text.old.items }
 {
     text.extend_from_slice(b" ")?;
     push_number(text, n)
 }
 
 fn push_labels_after(text: &mut Vec<u8>, labels: &Labels) -> Result<(), AllocError>
-    ensures { OnOk result (text.new.items ≡ text.old.items ++ (codes " " ++ series_text labels.now)) }
+    ensures ok { OnOk result (text.new.items ≡ text.old.items ++ (codes " " ++ series_text labels.now)) }
+    ensures front { take (length text.old.items) text.new.items ≡ text.old.items }
 {
     text.extend_from_slice(b" ")?;
     labels.write(text)
 }
 
 fn push_arguments(text: &mut Vec<u8>, have: u64, least: u32, most: u32) -> Result<(), AllocError>
-    ensures { OnOk result (text.new.items ≡ text.old.items ++ (number_text have ++ number_text least ++ number_text most)) }
+    ensures ok { OnOk result (text.new.items ≡ text.old.items ++ (number_text have ++ number_text least ++ number_text most)) }
+    ensures front { take (length text.old.items) text.new.items ≡ text.old.items }
 {
     push_number_after(text, have)?;
     push_number_after(text, u64::from(least))?;
@@ -120,7 +125,8 @@ fn push_arguments(text: &mut Vec<u8>, have: u64, least: u32, most: u32) -> Resul
 }
 
 fn push_reach(text: &mut Vec<u8>, needed: u64, kept: u64) -> Result<(), AllocError>
-    ensures { OnOk result (text.new.items ≡ text.old.items ++ (number_text needed ++ number_text kept)) }
+    ensures ok { OnOk result (text.new.items ≡ text.old.items ++ (number_text needed ++ number_text kept)) }
+    ensures front { take (length text.old.items) text.new.items ≡ text.old.items }
 {
     push_number_after(text, needed)?;
     push_number_after(text, kept)
@@ -128,7 +134,8 @@ fn push_reach(text: &mut Vec<u8>, needed: u64, kept: u64) -> Result<(), AllocErr
 
 // What is told after the name of a kind.
 fn push_type_numbers(text: &mut Vec<u8>, kind: TypeKind) -> Result<(), AllocError>
-    ensures { OnOk result (text.new.items ≡ text.old.items ++ type_numbers kind) }
+    ensures ok { OnOk result (text.new.items ≡ text.old.items ++ type_numbers kind) }
+    ensures front { take (length text.old.items) text.new.items ≡ text.old.items }
 {
     match kind {
         TypeKind::Arguments { have, least, most } => push_arguments(text, have, least, most),
@@ -138,14 +145,16 @@ fn push_type_numbers(text: &mut Vec<u8>, kind: TypeKind) -> Result<(), AllocErro
 }
 
 fn push_type_kind(text: &mut Vec<u8>, kind: TypeKind) -> Result<(), AllocError>
-    ensures { OnOk result (text.new.items ≡ text.old.items ++ type_text kind) }
+    ensures ok { OnOk result (text.new.items ≡ text.old.items ++ type_text kind) }
+    ensures front { take (length text.old.items) text.new.items ≡ text.old.items }
 {
     text.extend_from_slice(type_word(kind).as_bytes())?;
     push_type_numbers(text, kind)
 }
 
 fn push_fault_rest(text: &mut Vec<u8>, kind: &FaultKind) -> Result<(), AllocError>
-    ensures { OnOk result (text.new.items ≡ text.old.items ++ fault_rest kind.now) }
+    ensures ok { OnOk result (text.new.items ≡ text.old.items ++ fault_rest kind.now) }
+    ensures front { take (length text.old.items) text.new.items ≡ text.old.items }
 {
     match kind {
         FaultKind::ManyToMany { key } => push_labels_after(text, key),
@@ -156,21 +165,34 @@ fn push_fault_rest(text: &mut Vec<u8>, kind: &FaultKind) -> Result<(), AllocErro
     }
 }
 
-/// Appends the kind of a fault of an expression. Want of memory alone is an error.
+// The kind of a fault of an expression, without memory a part of it.
 pub(crate) fn push_fault_kind(text: &mut Vec<u8>, kind: &FaultKind) -> Result<(), AllocError>
-    ensures { OnOk result (text.new.items ≡ text.old.items ++ fault_text kind.now) }
+    ensures ok { OnOk result (text.new.items ≡ text.old.items ++ fault_text kind.now) }
+    ensures front { take (length text.old.items) text.new.items ≡ text.old.items }
 {
     text.extend_from_slice(fault_word(kind).as_bytes())?;
     push_fault_rest(text, kind)
 }
 
-/// Appends why a text is no expression. Want of memory alone is an error.
-pub fn push_query_kind(text: &mut Vec<u8>, kind: QueryKind) -> Result<(), AllocError>
-    ensures { OnOk result (text.new.items ≡ text.old.items ++ kind_text kind) }
+// Why a text is no expression, without memory a part of it.
+fn push_kind(text: &mut Vec<u8>, kind: QueryKind) -> Result<(), AllocError>
+    ensures ok { OnOk result (text.new.items ≡ text.old.items ++ kind_text kind) }
+    ensures front { take (length text.old.items) text.new.items ≡ text.old.items }
 {
     match kind {
         QueryKind::Lex { kind } => text.extend_from_slice(lex_word(kind).as_bytes()),
         QueryKind::Parse { kind } => text.extend_from_slice(parse_word(kind).as_bytes()),
         QueryKind::Typing { kind } => push_type_kind(text, kind),
     }
+}
+
+/// Appends why a text is no expression. Want of memory alone is an error, and then nothing is
+/// appended.
+pub fn push_query_kind(text: &mut Vec<u8>, kind: QueryKind) -> Result<(), AllocError>
+    ensures ok { OnOk result (text.new.items ≡ text.old.items ++ kind_text kind) }
+    ensures err { OnErr result (text.new.items ≡ text.old.items) }
+{
+    let before = text.len();
+    let written = push_kind(text, kind);
+    whole_or_none(text, before, written)
 }

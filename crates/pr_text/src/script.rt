@@ -1,5 +1,5 @@
 // The lines of a script, and the events that they spell.
-ghost use Rattle.std.specs.Prelude.{◌≡◌, ◌++◌, IfOk, MatchOption, codes, string_bytes, true, false};
+ghost use Rattle.std.specs.Prelude.{◌≡◌, ◌++◌, IfOk, OnErr, MatchOption, codes, string_bytes, true, false};
 ghost use Rattle.std.specs.Str.{bytes_eq, is_utf8};
 ghost use Rattle.pr_series.specs.SeriesReading.{series_labels};
 ghost use Rattle.pr_text.specs.Script.{is_comment, is_passed_over, time_of, point_of, series_of, expression_of, add_of, query_of, add_in, query_in, target_by, target_of, occasion_of, fail_in, gone_in, whole_event, is_body_line, body_text};
@@ -219,14 +219,16 @@ fn body_line(line: &[u8]) -> Option<&str>
 }
 
 /// Appends what a line gives to a body, and says whether it is a body line. Want of memory alone is
-/// an error.
+/// an error, and then nothing is appended.
 pub fn push_body_line(body: &mut String, line: &[u8]) -> Result<bool, AllocError>
     ensures test { IfOk result (λ is. is ≡ is_body_line line.now) }
     ensures text { IfOk result (λ is. is ≡ true → string_bytes body.new ≡ string_bytes body.old ++ body_text line.now) }
     ensures other { IfOk result (λ is. is ≡ false → string_bytes body.new ≡ string_bytes body.old) }
+    ensures err { OnErr result (string_bytes body.new ≡ string_bytes body.old) }
 {
     match body_line(line) {
         Some(text) => {
+            body.reserve(text.len() + 1)?;
             body.push_str(text)?;
             body.push_str("\n")?;
             Ok(true)
