@@ -1,3 +1,4 @@
 pub mod Trees
 pub mod Spans
+pub mod Placed
 pub mod Orders

@@ -1,73 +1,55 @@
--- No problem is lost where problems are put in order: their standings differ by their numbers.
-use Rattle.std.proofs.Common.{◌≡◌, ℕ, suc, ◌+◌, ◌<◌, Bool, true, false, cond, eqb, ltb, List, [], ◌∷◌, length, refl, sym, ap, subst, ◌∙◌, arith}
-use Rattle.std.proofs.lemmas.List.{length-map}
-use Rattle.std.specs.Prelude.{fold}
-use Rattle.std.proofs.lemmas.Bool.Decides.{nat_tests}
-use Rattle.std.specs.BTreeMap.{insert_entry}
+-- Problems are told by line and by kind, each line and kind in the order of the text, which is what
+-- a stable sort gives.
+use Rattle.std.proofs.Common.{◌≡◌, ℕ, Bool, true, false, ◌||◌, ◌&&◌, List, arith, subst}
+use Rattle.std.specs.Prelude.{nat_lt, ◌==◌}
+use Rattle.std.specs.Cmp.{IsStrictWeakOrder}
+use Rattle.std.specs.Ordering.{is_lt, nat_cmp, ordering_then}
 use Rattle.std.specs.declared.cmp.Ordering.{Ordering}
-use Rattle.std.specs.declared.cmp.Ordering.TheVariants.{Less, Equal, Greater}
-use Rattle.std.specs.Ordering.{nat_cmp, ordering_then, match_ordering}
-use Rattle.pr_fields.specs.declared.order.Standing.{Standing}
+use Rattle.std.specs.List.Sorted.{IsSortedBy, IsSortedByKey, IsStableBy, IsStableByKey}
+use Rattle.std.proofs.lemmas.Bool.Decides.{nat_tests}
 use Rattle.pr_fields.specs.declared.problem.Problem.{Problem}
-use Rattle.pr_fields.specs.Order.{standing_cmp, standing_of, put_problem, standings, problem_at, in_order}
+use Rattle.pr_fields.specs.Order.{rank, is_told_before, in_order}
+use Rattle.pr_fields.proofs.Placed.{sorted_ordered, ties_ordered, only_ordered}
 
-last_equal : (a b : Ordering) → ordering_then a b ≡ Equal → b ≡ Equal
-last_equal Less b h = cc
-last_equal Equal b h = h
-last_equal Greater b h = cc
+-- by line, then by rank
+abbrev below : ℕ → ℕ → ℕ → ℕ → Bool
+below a b c d = nat_lt a c || (a == c && nat_lt b d)
 
-by_test : (a b : Bool) → cond a Less (cond b Equal Greater) ≡ Equal → b ≡ true
-by_test true b h = cc
-by_test false true h = refl
-by_test false false h = cc
+one_way : (a b c d : ℕ) → below a b c d ≡ true → below c d a b ≡ false
+one_way a b c d h = grind (arith, nat_tests)
 
-same_if : (x y : ℕ) → eqb x y ≡ true → x ≡ y
-same_if x y e = grind (arith, nat_tests)
+chain : (a b c d e f : ℕ) → below a b c d ≡ false → below c d e f ≡ false → below a b e f ≡ false
+chain a b c d e f h i = grind (arith, nat_tests)
 
-same_number : (s t : Standing) → standing_cmp s t ≡ Equal → s.number ≡ t.number
-same_number s t h =
-    same_if s.number t.number (by_test (ltb s.number t.number) (eqb s.number t.number)
-    (last_equal (nat_cmp s.rank t.rank) (nat_cmp s.number t.number) (last_equal (nat_cmp s.line t.line) (ordering_then (nat_cmp s.rank t.rank) (nat_cmp s.number t.number)) h)))
+before_is_weak : IsStrictWeakOrder is_told_before
+before_is_weak = record {
+  one_way = λ p q. one_way p.line (rank p.kind) q.line (rank q.kind);
+  chain = λ p q r. chain p.line (rank p.kind) q.line (rank q.kind) r.line (rank r.kind);
+}
 
--- all numbers are below this one
-abbrev AreBelow : ℕ → List (Standing × Problem) → Type 0
-AreBelow n [] = Unit {0}
-AreBelow n (e ∷ es) = (e.0.number < n) × AreBelow n es
+pub rises : (ps : List Problem) → IsSortedBy is_told_before (in_order ps)
+unfolding in_order
+rises ps = sorted_ordered is_told_before before_is_weak ps
 
-wider : (n : ℕ) (es : List (Standing × Problem)) → AreBelow n es → AreBelow (suc n) es
-wider n [] b = tt
-wider n (e ∷ es) b = (omega (arith, b.0), wider n es b.1)
+pub stable : (ps : List Problem) → IsStableBy is_told_before ps (in_order ps)
+unfolding in_order
+stable ps = ties_ordered is_told_before before_is_weak ps
 
-placed_length : (n : ℕ) (s : Standing) (p : Problem) (e : Standing × Problem) (es : List (Standing × Problem)) (r : Ordering) → s.number ≡ n → e.0.number < n → standing_cmp s e.0 ≡ r →
-    length (insert_entry standing_cmp es s p) ≡ suc (length es) →
-    length (match_ordering r ((s, p) ∷ e ∷ es) ((e.0, p) ∷ es) (e ∷ insert_entry standing_cmp es s p)) ≡ suc (suc (length es))
-placed_length n s p e es Less q l o h = refl
-placed_length n s p e es Equal q l o h = absurd (omega (arith, same_number s e.0 o))
-placed_length n s p e es Greater q l o h = ap suc h
+pub only : (ps qs : List Problem) → IsSortedBy is_told_before qs → IsStableBy is_told_before ps qs → qs ≡ in_order ps
+unfolding in_order
+only ps qs = only_ordered is_told_before before_is_weak ps qs
 
-put_length : (n : ℕ) (s : Standing) (p : Problem) (es : List (Standing × Problem)) → s.number ≡ n → AreBelow n es → length (insert_entry standing_cmp es s p) ≡ suc (length es)
-put_length n s p [] q b = refl
-put_length n s p (e ∷ es) q b = placed_length n s p e es (standing_cmp s e.0) q b.0 refl (put_length n s p es q b.1)
+-- the key that the code sorts by, and the order of keys
+abbrev pub place_of : Problem → ℕ × ℕ
+place_of p = (p.line, rank p.kind)
 
-placed_below : (n : ℕ) (s : Standing) (p : Problem) (e : Standing × Problem) (es : List (Standing × Problem)) (r : Ordering) → s.number ≡ n → AreBelow n (e ∷ es) →
-    AreBelow (suc n) (insert_entry standing_cmp es s p) →
-    AreBelow (suc n) (match_ordering r ((s, p) ∷ e ∷ es) ((e.0, p) ∷ es) (e ∷ insert_entry standing_cmp es s p))
-placed_below n s p e es Less q b h = (omega (arith, q), (omega (arith, b.0), wider n es b.1))
-placed_below n s p e es Equal q b h = (omega (arith, b.0), wider n es b.1)
-placed_below n s p e es Greater q b h = (omega (arith, b.0), h)
+abbrev pub place_cmp : ℕ × ℕ → ℕ × ℕ → Ordering
+place_cmp s t = ordering_then (nat_cmp s.0 t.0) (nat_cmp s.1 t.1)
 
-put_below : (n : ℕ) (s : Standing) (p : Problem) (es : List (Standing × Problem)) → s.number ≡ n → AreBelow n es → AreBelow (suc n) (insert_entry standing_cmp es s p)
-put_below n s p [] q b = (omega (arith, q), tt)
-put_below n s p (e ∷ es) q b = placed_below n s p e es (standing_cmp s e.0) q b (put_below n s p es q b.1)
+tested : (a b c d : ℕ) → is_lt (ordering_then (nat_cmp a c) (nat_cmp b d)) ≡ below a b c d
+tested a b c d = grind (arith, nat_tests)
 
-all_put : (ps : List Problem) (es : List (Standing × Problem)) → AreBelow (length es) es → length (fold put_problem es ps) ≡ length es + length ps
-all_put [] es b = omega arith
-all_put (p ∷ ps) es b =
-    let more : length (put_problem es p) ≡ suc (length es) = put_length (length es) (standing_of (length es) p) p es refl b in
-    let Q : ℕ → Type 0 = λ n. AreBelow n (put_problem es p) in
-    let below : AreBelow (length (put_problem es p)) (put_problem es p) = subst Q (sym more) (put_below (length es) (standing_of (length es) p) p es refl b) in
-    omega (arith, all_put ps (put_problem es p) below, more)
-
-pub none_lost : (ps : List Problem) → length (in_order ps) ≡ length ps
-unfolding standings
-none_lost ps = length-map (fold put_problem [] ps) problem_at ∙ (all_put ps [] tt ∙ omega arith)
+pub sorted : (ps qs : List Problem) → IsSortedByKey place_of place_cmp qs → IsStableByKey place_of place_cmp ps qs → qs ≡ in_order ps
+sorted ps qs up ties =
+    let agree = λ (p q : Problem). tested p.line (rank p.kind) q.line (rank q.kind) in
+    only ps qs (subst (λ lt. IsSortedBy lt qs) (λ i p q. agree p q i) up) (subst (λ lt. IsStableBy lt ps qs) (λ i p q. agree p q i) ties)

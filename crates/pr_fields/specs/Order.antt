@@ -1,9 +1,5 @@
 -- The order in which problems are told.
-use Rattle.std.specs.Prelude.{ℕ, List, [], map, fold, length}
-use Rattle.std.specs.BTreeMap.{insert_entry}
-use Rattle.std.specs.declared.cmp.Ordering.{Ordering}
-use Rattle.std.specs.Ordering.{nat_cmp, then_cmp, on}
-use Rattle.pr_fields.specs.declared.order.Standing.{Standing}
+use Rattle.std.specs.Prelude.{ℕ, Bool, ◌||◌, ◌&&◌, ◌==◌, nat_lt, List, [], ◌∷◌, if◌then◌else◌}
 use Rattle.pr_fields.specs.declared.problem.Problem.{Problem}
 use Rattle.pr_fields.specs.declared.problem.ProblemKind.{ProblemKind}
 use Rattle.pr_fields.specs.declared.problem.ProblemKind.TheVariants as problem
@@ -35,24 +31,20 @@ rank problem.TooManyValues = 21
 rank problem.BadValue = 22
 rank problem.FuzzyCompare = 23
 
--- by line, then by kind, then by number
-abbrev pub standing_cmp : Standing → Standing → Ordering
-standing_cmp = then_cmp (on (λ s. s.line) nat_cmp) (then_cmp (on (λ s. s.rank) nat_cmp) (on (λ s. s.number) nat_cmp))
+-- whether one is told before the other: its line comes before, or on one line its kind
+abbrev pub is_told_before : Problem → Problem → Bool
+is_told_before p q = nat_lt p.line q.line || (p.line == q.line && nat_lt (rank p.kind) (rank q.kind))
 
-abbrev pub standing_of : ℕ → Problem → Standing
-standing_of number p = record { line = p.line; rank = rank p.kind; number = number }
+-- an element put before the first that does not come before it
+abbrev pub placed : {X : Type 0} → (X → X → Bool) → X → List X → List X
+placed before x [] = x ∷ []
+placed before x (y ∷ ys) = if before y x then y ∷ placed before x ys else x ∷ y ∷ ys
 
--- The problems so far in their order, each beside its standing, and one more, whose number is how
--- many there are.
-abbrev pub put_problem : List (Standing × Problem) → Problem → List (Standing × Problem)
-put_problem told p = insert_entry standing_cmp told (standing_of (length told) p) p
-
-unfoldable pub standings : List Problem → List (Standing × Problem)
-standings problems = fold put_problem [] problems
-
-abbrev pub problem_at : Standing × Problem → Problem
-problem_at e = e.1
+-- a list in order, where elements of which none comes before the other stand as they did
+abbrev pub ordered : {X : Type 0} → (X → X → Bool) → List X → List X
+ordered before [] = []
+ordered before (x ∷ xs) = placed before x (ordered before xs)
 
 -- The problems of a text, found in the order of the text, by line and then by kind.
-abbrev pub in_order : List Problem → List Problem
-in_order problems = map problem_at (standings problems)
+unfoldable pub in_order : List Problem → List Problem
+in_order problems = ordered is_told_before problems

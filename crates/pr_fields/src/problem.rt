@@ -6,8 +6,7 @@ use pr_words::Text;
 use pr_yaml_scan::YamlKind;
 
 /// What is wrong at a line of a rule file or a test file. On one line problems stand in this order.
-/// (The kinds are an own
-/// choice.)
+/// (The kinds are an own choice.)
 #[derive(Debug, PartialEq, Eq, Drop)]
 pub enum ProblemKind {
     /// The text has no tree: its first fault, which stands alone.
@@ -64,8 +63,7 @@ pub enum ProblemKind {
 #[derive(Debug, PartialEq, Eq, Drop)]
 pub struct Problem {
     /// The line, from 1, of the value that is spoken of. `Missing`, `NoName` and `TwoNames` have
-    /// the line of their map,
-    /// `UnknownField` and `NotForRecording` that of the key.
+    /// the line of their map, `UnknownField` and `NotForRecording` that of the key.
     pub line: u32,
     pub kind: ProblemKind,
 }
