@@ -1,6 +1,7 @@
 -- Labels and annotations: maps of names to texts.
-use Rattle.std.specs.Prelude.{ℕ, Bool, true, false, not, ◌&&◌, is_some, List, [], ◌∷◌, ◌++◌, Option, Some, None, map, fold, if◌then◌else◌}
+use Rattle.std.specs.Prelude.{◌≡◌, ℕ, Bool, true, false, not, ◌&&◌, is_some, List, [], ◌∷◌, ◌++◌, Option, Some, None, IsSome, All, map, fold, if◌then◌else◌}
 use Rattle.std.specs.List.{flat_map}
+use Rattle.std.specs.List.Sorted.{IsStrictlySortedBy}
 use Rattle.std.specs.BTreeMap.{insert_entry}
 use Rattle.std.specs.Cmp.Lexicographic.{slice_cmp}
 use Rattle.std.specs.Ordering.{nat_cmp}
@@ -64,3 +65,12 @@ pair_at e = pair_of e.0 e.1
 
 abbrev pub pairs_of : List (List ℕ × List ℕ) → List Pair
 pairs_of labels = map pair_at labels
+
+-- Each name is one of a label and not the metric's; each stands once, in order.
+abbrev pub HaveFreeNames : List Pair → Type 0
+HaveFreeNames pairs =
+    All (λ p. is_free_name p.name ≡ true) pairs × IsStrictlySortedBy (slice_cmp nat_cmp) (map (λ p. p.name) pairs)
+
+-- each value is a template
+abbrev pub AreTemplates : List Pair → Type 0
+AreTemplates pairs = All (λ p. IsSome (template_parts p.value)) pairs

@@ -1,7 +1,10 @@
-//! The law of the order of problems, as the contract of a function that does nothing.
-ghost use Rattle.std.specs.Prelude.{◌≡◌, List};
+//! The laws of problems, as the contracts of functions that do nothing.
+ghost use Rattle.std.specs.Prelude.{◌≡◌, Bool, true, List, []};
 ghost use Rattle.std.specs.List.Sorted.{IsSortedBy, IsStableBy};
+ghost use Rattle.pr_yaml.specs.Tree.{Tree};
 ghost use Rattle.pr_fields.specs.declared.problem.Problem.{Problem};
+ghost use Rattle.pr_fields.specs.Nodes.{fields_in};
+ghost use Rattle.pr_fields.specs.Labels.{labels_problems, put_labels, pairs_of, HaveFreeNames, AreTemplates};
 ghost use Rattle.pr_fields.specs.Order.{is_told_before, in_order};
 
 /// Problems are told by line, and on one line by kind; of each line and kind they are those of the
@@ -10,4 +13,11 @@ pub fn problems_are_told_in_order()
     ensures rises { (problems : List Problem) → IsSortedBy is_told_before (in_order problems) }
     ensures stable { (problems : List Problem) → IsStableBy is_told_before problems (in_order problems) }
     ensures only { (problems list : List Problem) → IsSortedBy is_told_before list → IsStableBy is_told_before problems list → list ≡ in_order problems }
+{}
+
+/// A map of labels with which nothing is wrong has labels of free names, and where templates are
+/// wanted the values are such.
+pub fn good_labels_have_free_names()
+    ensures names { (templates : Bool) (t : Tree) → labels_problems templates t ≡ [] → HaveFreeNames (pairs_of (put_labels [] (fields_in t))) }
+    ensures templates { (t : Tree) → labels_problems true t ≡ [] → AreTemplates (pairs_of (put_labels [] (fields_in t))) }
 {}
