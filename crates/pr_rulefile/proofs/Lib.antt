@@ -3,3 +3,5 @@ pub mod Typing
 pub mod Files
 pub mod GroupSteps
 pub mod Whole
+pub mod SoundRules
+pub mod SoundGroups

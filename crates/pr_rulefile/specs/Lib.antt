@@ -3,3 +3,4 @@ pub mod Expressions
 pub mod Rules
 pub mod Groups
 pub mod File
+pub mod Sound

@@ -23,7 +23,7 @@ pub fn files_have_these_problems()
 
 /// Problems of one line are told by their kinds. A field of alerts is told at its key, and not
 /// looked at.
-#[tactic(auto, unfolding(crate::specs::Rules::rule_problems, crate::specs::Rules::rule_in_problems, crate::specs::Rules::rule_field_problems, crate::specs::Rules::rule_value_problems, crate::specs::Rules::naming_of, crate::specs::Expressions::expression_under, pr_fields::specs::Nodes::written, pr_fields::specs::Order::standings, pr_fields::specs::Scalars::span_problems, pr_yaml::specs::Tree::is_absent_text))]
+#[tactic(auto, unfolding(crate::specs::Rules::rule_problems, crate::specs::Rules::rule_in_problems, crate::specs::Rules::rule_field_problems, crate::specs::Rules::rule_value_problems, crate::specs::Rules::naming_of, crate::specs::Expressions::expression_under, pr_fields::specs::Nodes::written, pr_fields::specs::Order::in_order, pr_fields::specs::Scalars::span_problems, pr_yaml::specs::Tree::is_absent_text))]
 pub fn rules_have_these_problems()
     ensures bare { rule_problems (map_node 4 no_entries) ≡ problem 4 NoName ∷ problem 4 (Missing (codes "expr")) ∷ [] }
     ensures by_kind { in_order (problem 4 NoName ∷ problem 4 (Missing (codes "expr")) ∷ problem 3 BadLimit ∷ []) ≡ problem 3 BadLimit ∷ problem 4 (Missing (codes "expr")) ∷ problem 4 NoName ∷ [] }

@@ -6,8 +6,7 @@ use std::alloc::AllocError;
 #[derive(Debug, Drop)]
 pub enum RuleError {
     /// All that is wrong with it, in order of line; on one line in the order of the kinds; and what
-    /// is of one kind in the
-    /// order of the text.
+    /// is of one kind in the order of the text.
     Problems { list: Items<Problem> },
     /// Memory ran out.
     Memory,

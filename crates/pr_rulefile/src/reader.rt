@@ -37,7 +37,7 @@ fn tree_groups<G: GroupSink>(alloc: Global, tree: &Node, groups: &mut G) -> Resu
         return Ok(());
     }
     Err(RuleError::Problems {
-        list: in_order(alloc, found)?,
+        list: in_order(found)?,
     })
 }
 
