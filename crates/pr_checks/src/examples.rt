@@ -1,0 +1,53 @@
+//! What is told of small files and expositions.
+ghost use Rattle.std.specs.Prelude.{◌≡◌, ◌<◌, ◌^◌, ℕ, List, codes, length, true, false, [], Some, None};
+ghost use Rattle.pr_yaml_scan.specs.declared.fault.YamlKind.TheVariants as yaml;
+ghost use Rattle.pr_lex.specs.declared.fault.LexKind.TheVariants as lex;
+ghost use Rattle.pr_parse.specs.declared.fault.ParseKind.TheVariants as parse;
+ghost use Rattle.pr_types.specs.declared.kind.TypeKind.TheVariants as typing;
+ghost use Rattle.pr_fields.specs.declared.problem.ProblemKind.TheVariants.{Yaml, WantMap, DuplicateGroup, BadTemplate, Lex, Parse, Typing};
+ghost use Rattle.pr_fields.specs.Problems.{problem};
+ghost use Rattle.pr_checking.specs.declared.verdict.Verdict.TheVariants.{Good, Complaints, Refused};
+ghost use Rattle.pr_checks.specs.Problems.{problem_line};
+ghost use Rattle.pr_checks.specs.RuleFiles.{rules_told};
+ghost use Rattle.pr_checks.specs.Metrics.{metrics_told};
+
+/// How many rules a file has; that it is not there, or too large. A file that says nothing has no
+/// rules.
+pub fn files_are_told_so()
+    ensures empty { rules_told (codes "a.yml") (Some []) ≡ record { text = codes "Checking a.yml\n  SUCCESS: 0 rules found\n"; refused = false } }
+    ensures one_rule { rules_told (codes "a.yml") (Some (codes "groups:\n- name: g\n  rules:\n  - record: a:b\n    expr: up\n")) ≡ record { text = codes "Checking a.yml\n  SUCCESS: 1 rules found\n"; refused = false } }
+    ensures missing { rules_told (codes "a.yml") None ≡ record { text = codes "Checking a.yml\n  FAILED:\na.yml: Missing\n"; refused = true } }
+    ensures too_large { (bytes : List ℕ) → 2 ^ 26 < length bytes → rules_told (codes "a.yml") (Some bytes) ≡ record { text = codes "Checking a.yml\n  FAILED:\na.yml: TooLarge\n"; refused = true } }
+{}
+
+/// Each problem of a file stands on a line: by the lines of the file, and on one line by kind.
+pub fn problems_are_told_so()
+    ensures unknown { rules_told (codes "rules.yml") (Some (codes "groups:\n- name: g\n  every: 1m\n  rules:\n  - record: a:b\n    expr: up\n")) ≡ record { text = codes "Checking rules.yml\n  FAILED:\nrules.yml: line 3 UnknownField \"every\"\n"; refused = true } }
+    ensures by_line { rules_told (codes "a.yml") (Some (codes "groups:\n- rules:\n  - {}\n")) ≡ record { text = codes "Checking a.yml\n  FAILED:\na.yml: line 2 Missing \"name\"\na.yml: line 3 Missing \"expr\"\na.yml: line 3 NoName\n"; refused = true } }
+    ensures no_tree { rules_told (codes "a.yml") (Some (codes "a: b: c\n")) ≡ record { text = codes "Checking a.yml\n  FAILED:\na.yml: line 1 Colon\n"; refused = true } }
+{}
+
+/// A kind is told by its name and what it tells: a name in double quotes, or a place. A kind of
+/// YAML or of an expression is told in place of the one that holds it.
+#[tactic(auto, unfolding(crate::proofs::Computing::printing))]
+pub fn lines_are_printed_so()
+    ensures alone { problem_line (codes "a.yml") (problem 7 WantMap) ≡ codes "a.yml: line 7 WantMap\n" }
+    ensures name { problem_line (codes "a.yml") (problem 12 (DuplicateGroup (codes "a \"b\"\\"))) ≡ codes "a.yml: line 12 DuplicateGroup \"a \\\"b\\\"\\\\\"\n" }
+    ensures tree { problem_line (codes "a.yml") (problem 1 (Yaml yaml.DuplicateKey)) ≡ codes "a.yml: line 1 DuplicateKey\n" }
+    ensures template { problem_line (codes "a.yml") (problem 3 (BadTemplate 15)) ≡ codes "a.yml: line 3 BadTemplate 15\n" }
+    ensures token { problem_line (codes "a.yml") (problem 3 (Lex lex.BadChar 4)) ≡ codes "a.yml: line 3 BadChar 4\n" }
+    ensures parsed { problem_line (codes "a.yml") (problem 3 (Parse parse.End 0)) ≡ codes "a.yml: line 3 End 0\n" }
+    ensures typed { problem_line (codes "a.yml") (problem 3 (Typing typing.BoolNeeded 0)) ≡ codes "a.yml: line 3 BoolNeeded 0\n" }
+    ensures arguments { problem_line (codes "a.yml") (problem 3 (Typing (typing.Arguments 1 2 2) 7)) ≡ codes "a.yml: line 3 Arguments 1 2 2 7\n" }
+{}
+
+/// A complaint about a family stands on a line, in the order of the kinds. A good exposition is
+/// told by nothing, and the first bad line of what is none by its number.
+pub fn expositions_are_told_so()
+    ensures nothing { metrics_told [] ≡ record { text = []; verdict = Good } }
+    ensures good { metrics_told (codes "# HELP a_total b\n# TYPE a_total counter\na_total 1\n") ≡ record { text = []; verdict = Good } }
+    ensures complaint { metrics_told (codes "# HELP temp Temperature.\n# TYPE temp gauge\ntemp{le=\"1\"} 21\n") ≡ record { text = codes "temp LeLabel\n"; verdict = Complaints } }
+    ensures complaints { metrics_told (codes "# TYPE aB_total gauge\naB_total 1\nc 2\n") ≡ record { text = codes "aB_total NoHelp\naB_total NotCounterTotal\naB_total Camel\nc NoHelp\n"; verdict = Complaints } }
+    ensures bad_line { metrics_told (codes "a{") ≡ record { text = codes "line 1 BadLabels\n"; verdict = Refused } }
+    ensures first_bad_line { metrics_told (codes "a 1\na b\na{\n") ≡ record { text = codes "line 2 BadValue\n"; verdict = Refused } }
+{}
