@@ -1,5 +1,5 @@
 -- What a run of the script writes, keeps and refuses.
-use Rattle.std.specs.Prelude.{ℕ, Bool, true, List, [], ◌∷◌, ◌++◌, length, flat_map, Option}
+use Rattle.std.specs.Prelude.{ℕ, Bool, true, List, [], ◌∷◌, ◌++◌, length, flat_map}
 use Rattle.std.specs.List.{list_any}
 use Rattle.pr_words.specs.Lines.{lines_of}
 use Rattle.pr_history.specs.declared.entry.Entry.{Entry}
@@ -12,10 +12,7 @@ use Rattle.pr_world.specs.declared.report.Report.TheVariants.{Opened}
 use Rattle.pr_world.specs.Settings.{of_a_run}
 use Rattle.pr_world.specs.Step.{Step, next}
 use Rattle.pr_world.specs.World.{World, start}
-
--- what is told of a name: nothing, or that no file has it, or the bytes of its file
-abbrev pub Content : Type 0
-Content = List ℕ → Option (Option (List ℕ))
+use Rattle.pr_checking.specs.FileChecks.{Content}
 
 -- what is told of an order: its text, the rows that are kept for it, and whether it is refused
 pub record Answer : Type 0 where
