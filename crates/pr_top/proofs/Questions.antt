@@ -24,7 +24,7 @@ use Rattle.pr_query.specs.Meaning.{meaning}
 use Rattle.pr_eval.specs.Looks.{KeepsFor}
 use Rattle.pr_eval.specs.Asking.{Sought}
 use Rattle.pr_eval.specs.Evaluated.{AreReady, IsReadyFor, MayBegin, asks_of}
-use Rattle.pr_top.specs.Asked.{IsAnswer}
+use Rattle.pr_top.specs.Asked.{HasOutcome}
 use Rattle.pr_top.specs.Keeping.{IsHeadOf}
 use Rattle.pr_top.specs.declared.answered.Answered.{Answered}
 use Rattle.pr_world.specs.declared.report.Report.{Report}
@@ -62,31 +62,31 @@ pub told_fault : (meant : Result Value Fault) (place : Place) (kind : FaultKind)
 told_fault meant place kind h = ap told_answer (sym h)
 
 -- an expression that has a type
-pub accepted_answer : (report : Report) (a : Answered) → a.report ≡ report → a.refused ≡ false → IsAnswer (accept report []) a
+pub accepted_answer : (report : Report) (a : Answered) → a.report ≡ report → a.refused ≡ false → HasOutcome (accept report []) a
 accepted_answer report a r f = (r, f, refl)
 
 -- whether it has a type
 pub typed_answer : (s : Settings) (history : List Entry) (time : ℕ) (t : Tree) (r : Result ValueType TypeFault) (result : Result Answered AllocError) → is_ok r ≡ true
-    → IfOk result (IsAnswer (accept (told_answer (meaning s.subquery_step history t time)) [])) → IfOk result (IsAnswer (typed_outcome s history time t r))
+    → IfOk result (HasOutcome (accept (told_answer (meaning s.subquery_step history t time)) [])) → IfOk result (HasOutcome (typed_outcome s history time t r))
 typed_answer s history time t (Ok type) result h k = k
 typed_answer s history time t (Err f) result h k = absurd cc
 
 pub untyped_answer : (s : Settings) (history : List Entry) (time : ℕ) (t : Tree) (at : ℕ) (kind : TypeKind) (a : Answered) → checked t ≡ Err (type_fault at kind)
-    → IsAnswer (refuse (QueryRefused at (Typing kind))) a → IsAnswer (typed_outcome s history time t (checked t)) a
-untyped_answer s history time t at kind a h k = subst (λ r. IsAnswer (typed_outcome s history time t r) a) (sym h) k
+    → HasOutcome (refuse (QueryRefused at (Typing kind))) a → HasOutcome (typed_outcome s history time t (checked t)) a
+untyped_answer s history time t at kind a h k = subst (λ r. HasOutcome (typed_outcome s history time t r) a) (sym h) k
 
 -- whether its text has tokens, and a tree
 pub tree_answer : (s : Settings) (history : List Entry) (time : ℕ) (p : Parsed) (t : Tree) (result : Result Answered AllocError) → p ≡ gives_tree t
-    → IfOk result (IsAnswer (typed_outcome s history time t (checked t))) → IfOk result (IsAnswer (parsed_outcome s history time p))
+    → IfOk result (HasOutcome (typed_outcome s history time t (checked t))) → IfOk result (HasOutcome (parsed_outcome s history time p))
 unfolding parsed_outcome
-tree_answer s history time p t result h k = subst (λ q. IfOk result (IsAnswer (parsed_outcome s history time q))) (sym h) k
+tree_answer s history time p t result h k = subst (λ q. IfOk result (HasOutcome (parsed_outcome s history time q))) (sym h) k
 
 pub lex_answer : (s : Settings) (history : List Entry) (time : ℕ) (p : Parsed) (at : ℕ) (kind : LexKind) (a : Answered) → p ≡ gives_lex_fault at kind
-    → IsAnswer (refuse (QueryRefused at (Lex kind))) a → IsAnswer (parsed_outcome s history time p) a
+    → HasOutcome (refuse (QueryRefused at (Lex kind))) a → HasOutcome (parsed_outcome s history time p) a
 unfolding parsed_outcome
-lex_answer s history time p at kind a h k = subst (λ q. IsAnswer (parsed_outcome s history time q) a) (sym h) k
+lex_answer s history time p at kind a h k = subst (λ q. HasOutcome (parsed_outcome s history time q) a) (sym h) k
 
 pub parse_answer : (s : Settings) (history : List Entry) (time : ℕ) (p : Parsed) (at : ℕ) (kind : ParseKind) (a : Answered) → p ≡ gives_fault at kind
-    → IsAnswer (refuse (QueryRefused at (Parse kind))) a → IsAnswer (parsed_outcome s history time p) a
+    → HasOutcome (refuse (QueryRefused at (Parse kind))) a → HasOutcome (parsed_outcome s history time p) a
 unfolding parsed_outcome
-parse_answer s history time p at kind a h k = subst (λ q. IsAnswer (parsed_outcome s history time q) a) (sym h) k
+parse_answer s history time p at kind a h k = subst (λ q. HasOutcome (parsed_outcome s history time q) a) (sym h) k

@@ -6,8 +6,8 @@ use Rattle.pr_history.proofs.Lawful.{put_all_lawful}
 use Rattle.pr_head.specs.Holds.{Holds, IsWhole}
 use Rattle.pr_scrape.specs.Putting.{HasTaken, Series}
 use Rattle.pr_targets.specs.Knowing.{Knows, Tracked}
-use Rattle.pr_top.specs.Asked.{IsAnswer}
-use Rattle.pr_top.specs.Keeping.{Kept, IsHeadOf, KeepsWorld}
+use Rattle.pr_top.specs.Asked.{HasOutcome}
+use Rattle.pr_top.specs.Keeping.{KeptOfWorld, IsHeadOf, KeepsWorld}
 use Rattle.pr_top.specs.declared.answered.Answered.{Answered}
 use Rattle.pr_world.specs.Outcome.{Outcome, refuse, accept, accept_target}
 use Rattle.pr_world.specs.Step.{step_by}
@@ -15,26 +15,26 @@ use Rattle.pr_world.specs.Targets.{TargetStep}
 use Rattle.pr_world.specs.World.{World}
 
 -- an answer is that of the step
-report_is : (w : World) (time : ℕ) (o : Outcome) (a : Answered) → IsAnswer o a → a.report ≡ (step_by w time o).report
+report_is : (w : World) (time : ℕ) (o : Outcome) (a : Answered) → HasOutcome o a → a.report ≡ (step_by w time o).report
 report_is w time (refuse report) a h = h.0
 report_is w time (accept report rows) a h = h.0
 report_is w time (accept_target report rows targets) a h = absurd h
 
-refused_is : (w : World) (time : ℕ) (o : Outcome) (a : Answered) → IsAnswer o a → a.refused ≡ (step_by w time o).refused
+refused_is : (w : World) (time : ℕ) (o : Outcome) (a : Answered) → HasOutcome o a → a.refused ≡ (step_by w time o).refused
 refused_is w time (refuse report) a h = h.1
 refused_is w time (accept report rows) a h = h.1
 refused_is w time (accept_target report rows targets) a h = absurd h
 
-pub answered_report : (result : Result Answered AllocError) (w : World) (time : ℕ) (o : Outcome) → IfOk result (IsAnswer o) → IfOk result (λ a. a.report ≡ (step_by w time o).report)
+pub answered_report : (result : Result Answered AllocError) (w : World) (time : ℕ) (o : Outcome) → IfOk result (HasOutcome o) → IfOk result (λ a. a.report ≡ (step_by w time o).report)
 answered_report (Ok a) w time o h = report_is w time o a h
 answered_report (Err e) w time o h = tt
 
-pub answered_refused : (result : Result Answered AllocError) (w : World) (time : ℕ) (o : Outcome) → IfOk result (IsAnswer o) → IfOk result (λ a. a.refused ≡ (step_by w time o).refused)
+pub answered_refused : (result : Result Answered AllocError) (w : World) (time : ℕ) (o : Outcome) → IfOk result (HasOutcome o) → IfOk result (λ a. a.refused ≡ (step_by w time o).refused)
 answered_refused (Ok a) w time o h = refused_is w time o a h
 answered_refused (Err e) w time o h = tt
 
 -- after a question the head is the same, and the time has moved unless it was refused
-pub asked_keeps : (k : Kept) (w : World) (time : ℕ) (o : Outcome) (a : Answered) → KeepsWorld k w → IsAnswer o a
+pub asked_keeps : (k : KeptOfWorld) (w : World) (time : ℕ) (o : Outcome) (a : Answered) → KeepsWorld k w → HasOutcome o a
     → KeepsWorld (record { head = k.head; last = cond a.refused k.last (Some time); targets = k.targets }) (step_by w time o).world
 asked_keeps k w time (refuse report) a keeps h = record {
   head = keeps.head;
@@ -54,7 +54,7 @@ abbrev pub KeepsAfter : Series → Tracked → World → ℕ → TargetStep → 
 KeepsAfter head tracked w time step = KeepsWorld (record { head = head; last = Some time; targets = tracked })
     (record { history = w.history ++ step.answer.admitted; last = Some time; targets = step.targets })
 
-pub taken_keeps : (k : Kept) (head : Series) (tracked : Tracked) (w : World) (time : ℕ) (step : TargetStep) → KeepsWorld k w
+pub taken_keeps : (k : KeptOfWorld) (head : Series) (tracked : Tracked) (w : World) (time : ℕ) (step : TargetStep) → KeepsWorld k w
     → put_all w.history step.entries ≡ w.history ++ step.answer.admitted → HasTaken k.head head w.history step.entries → Knows tracked step.targets
     → KeepsAfter head tracked w time step
 taken_keeps k head tracked w time step keeps adds taken knows = record {

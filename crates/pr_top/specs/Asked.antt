@@ -5,7 +5,7 @@ use Rattle.pr_top.specs.declared.answered.Answered.{Answered}
 use Rattle.pr_world.specs.Outcome.{Outcome, refuse, accept, accept_target}
 
 -- its report, and whether it is refused; it adds nothing, and is about no target
-abbrev pub IsAnswer : Outcome → Answered → Type 0
-IsAnswer (refuse report) a = (a.report ≡ report) × (a.refused ≡ true)
-IsAnswer (accept report rows) a = (a.report ≡ report) × (a.refused ≡ false) × (rows ≡ [])
-IsAnswer (accept_target report rows targets) a = ⊥
+abbrev pub HasOutcome : Outcome → Answered → Type 0
+HasOutcome (refuse report) a = (a.report ≡ report) × (a.refused ≡ true)
+HasOutcome (accept report rows) a = (a.report ≡ report) × (a.refused ≡ false) × (rows ≡ [])
+HasOutcome (accept_target report rows targets) a = ⊥

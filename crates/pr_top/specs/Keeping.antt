@@ -14,7 +14,7 @@ use Rattle.pr_world.specs.World.{World}
 
 -- the series that are held, the time of the last event, and the targets with what is tracked of
 -- each
-pub record Kept : Type 0 where
+pub record KeptOfWorld : Type 0 where
   pub head : List (List Pair × Stored)
   pub last : Option ℕ
   pub targets : Tracked
@@ -25,20 +25,20 @@ pub record IsHeadOf (head : List (List Pair × Stored)) (history : List Entry) :
   pub whole : (x : ℤ) → IsWhole head history x
   pub lawful : IsLawful history
 
-pub record KeepsWorld (k : Kept) (w : World) : Type 0 where
+pub record KeepsWorld (k : KeptOfWorld) (w : World) : Type 0 where
   pub head : IsHeadOf k.head w.history
   pub last : k.last ≡ w.last
   pub targets : Knows k.targets w.targets
 
 -- What want of memory leaves of what is kept, while an event is taken: all of it, or, where the
 -- event is about a target, the last time.
-abbrev pub IsLeft : Bool → Kept → Kept → Type 0
+abbrev pub IsLeft : Bool → KeptOfWorld → KeptOfWorld → Type 0
 IsLeft true old new = new.last ≡ old.last
 IsLeft false old new = new ≡ old
 
 -- what a run keeps, and how far it has come with it
 pub record Run : Type 0 where
-  pub kept : Kept
+  pub kept : KeptOfWorld
   pub refused : Bool
 
 pub record KeepsProgress (run : Run) (p : Progress) : Type 0 where

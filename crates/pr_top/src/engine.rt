@@ -7,7 +7,7 @@ ghost use Rattle.pr_world.specs.Query.{query_outcome};
 ghost use Rattle.pr_world.specs.Settings.{of_a_run};
 ghost use Rattle.pr_world.specs.Step.{time_of, is_about_target, report_of, rows_by, entry_of, scrape_report, scrape_outcome, fail_outcome, gone_outcome, outcome_in_time, step_by, next};
 ghost use Rattle.pr_world.specs.Targets.{fail_step, gone_step, scrape_step};
-ghost use Rattle.pr_top.specs.Asked.{IsAnswer};
+ghost use Rattle.pr_top.specs.Asked.{HasOutcome};
 ghost use Rattle.pr_top.specs.Keeping.{IsHeadOf, IsLeft, KeepsWorld};
 
 use super::answered::Answered;
@@ -36,9 +36,9 @@ pub(crate) struct Engine {
 }
 
 impl Model for Engine {
-    ghost use Rattle.pr_top.specs.Keeping.{Kept};
+    ghost use Rattle.pr_top.specs.Keeping.{KeptOfWorld};
 
-    ghost Value = { Kept };
+    ghost Value = { KeptOfWorld };
 
     ghost view = { λ e. record { head = e.head; last = e.last; targets = e.targets } };
 }
@@ -141,7 +141,7 @@ impl Engine {
 
     // Answers a question. The time moves, unless it is refused.
     fn take_query(&mut self, alloc: Global, text: &str, time: Ms) -> Result<Answered, AllocError>
-        ensures answered { (w : World) → KeepsWorld self.old w → IfOk result (IsAnswer (query_outcome of_a_run w.history time text.now)) }
+        ensures answered { (w : World) → KeepsWorld self.old w → IfOk result (HasOutcome (query_outcome of_a_run w.history time text.now)) }
         ensures world { (w : World) → KeepsWorld self.old w → OnOk result (KeepsWorld self.new (step_by w time (query_outcome of_a_run w.history time text.now)).world) }
         ensures err { OnErr result (self.new ≡ self.old) }
     {

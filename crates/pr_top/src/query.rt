@@ -8,7 +8,7 @@ ghost use Rattle.pr_query.specs.declared.value.Value.{Value};
 ghost use Rattle.pr_query.specs.Meaning.{meaning};
 ghost use Rattle.pr_types.specs.Typed.{checked};
 ghost use Rattle.pr_values.specs.Answers.{AnswersTo};
-ghost use Rattle.pr_top.specs.Asked.{IsAnswer};
+ghost use Rattle.pr_top.specs.Asked.{HasOutcome};
 ghost use Rattle.pr_top.specs.Keeping.{IsHeadOf};
 ghost use Rattle.pr_world.specs.declared.report.Report.TheVariants.{QueryRefused};
 ghost use Rattle.pr_world.specs.Outcome.{accept, refuse};
@@ -99,7 +99,7 @@ fn ask_checked(
     time: Ms,
 ) -> Result<Answered, AllocError>
     ensures { (history : List Entry) → IsHeadOf head.now history
-        → IfOk result (IsAnswer (accept (told_answer (meaning of_a_run.subquery_step history (tree_of expression.now) time)) [])) }
+        → IfOk result (HasOutcome (accept (told_answer (meaning of_a_run.subquery_step history (tree_of expression.now) time)) [])) }
 {
     Ok(Answered {
         report: answer::<Brand>(alloc, head, expression, time, Blank::new(1))?,
@@ -108,7 +108,7 @@ fn ask_checked(
 }
 
 fn refusal(place: usize, kind: QueryKind) -> Answered
-    ensures { IsAnswer (refuse (QueryRefused place kind)) result }
+    ensures { HasOutcome (refuse (QueryRefused place kind)) result }
 {
     Answered {
         report: Report::QueryRefused { place, kind },
@@ -125,7 +125,7 @@ fn ask_parsed(
     time: Ms,
 ) -> Result<Answered, AllocError>
     ensures { (history : List Entry) → IsHeadOf head.now history
-        → IfOk result (IsAnswer (typed_outcome of_a_run history time (tree_of expression) (checked (tree_of expression)))) }
+        → IfOk result (HasOutcome (typed_outcome of_a_run history time (tree_of expression) (checked (tree_of expression)))) }
 {
     match check(alloc, expression) {
         Ok(expression) => ask_checked(alloc, head, &expression, time),
@@ -138,7 +138,7 @@ fn ask_parsed(
 #[tactic(auto, using(crate::proofs::Questions::lex_answer, crate::proofs::Questions::parse_answer))]
 fn refuse_text(error: ParseError) -> Result<Answered, AllocError>
     ensures { (parsed : Parsed) (history : List Entry) (time : ℕ) → IsFaultOf parsed error
-        → IfOk result (IsAnswer (parsed_outcome of_a_run history time parsed)) }
+        → IfOk result (HasOutcome (parsed_outcome of_a_run history time parsed)) }
 {
     match error {
         ParseError::Lex { at, kind } => Ok(refusal(at, QueryKind::Lex { kind })),
@@ -151,7 +151,7 @@ fn refuse_text(error: ParseError) -> Result<Answered, AllocError>
 #[tactic(auto, using(crate::proofs::Questions::tree_answer))]
 pub(crate) fn ask(alloc: Global, head: &Head, text: &str, time: Ms) -> Result<Answered, AllocError>
     ensures { (history : List Entry) → IsHeadOf head.now history
-        → IfOk result (IsAnswer (query_outcome of_a_run history time text.now)) }
+        → IfOk result (HasOutcome (query_outcome of_a_run history time text.now)) }
 {
     match parse(alloc, text) {
         Ok(expression) => ask_parsed(alloc, head, expression, time),

@@ -1,5 +1,5 @@
 use Rattle.std.proofs.Common.{sym, subst}
-use Rattle.pr_top.specs.Keeping.{Kept, KeepsWorld}
+use Rattle.pr_top.specs.Keeping.{KeptOfWorld, KeepsWorld}
 use Rattle.pr_top.proofs.Values.{taken_keeps}
 use Rattle.pr_world.specs.Targets.{gone_step}
 use Rattle.pr_world.proofs.Targeting.{gone_puts}
@@ -7,8 +7,8 @@ use Rattle.pr_top.proofs.engine.Engine.take_end.Goals as goal
 
 pub returns-clause-world : goal.returns-clause-world
 returns-clause-world c = λ w keeps.
-    let kept : Kept = record { head = c.self.inside.head; last = c.self.inside.last; targets = c.self.inside.targets } in
-    let before : KeepsWorld kept w = subst (λ (k : Kept). KeepsWorld k w) (sym c.self.view_is) keeps in
+    let kept : KeptOfWorld = record { head = c.self.inside.head; last = c.self.inside.last; targets = c.self.inside.targets } in
+    let before : KeepsWorld kept w = subst (λ (k : KeptOfWorld). KeepsWorld k w) (sym c.self.view_is) keeps in
     taken_keeps kept c.gone.new.head c.gone.new.self w c.args.time (gone_step w.targets w.history c.args.target.now c.args.time) before
     (gone_puts w.targets w.history c.args.target.now c.args.time)
     (c.in_ok-ended.ensures.taken w.targets w.history before.targets before.head.holds)

@@ -1,5 +1,5 @@
 use Rattle.std.proofs.Common.{ℕ, List, sym, subst}
-use Rattle.pr_top.specs.Keeping.{Kept, KeepsWorld}
+use Rattle.pr_top.specs.Keeping.{KeptOfWorld, KeepsWorld}
 use Rattle.pr_top.proofs.Values.{KeepsAfter, taken_keeps}
 use Rattle.pr_world.specs.Targets.{scrape_step}
 use Rattle.pr_world.proofs.Targeting.{scrape_puts}
@@ -7,8 +7,8 @@ use Rattle.pr_top.proofs.engine.Engine.take_scrape.Goals as goal
 
 pub returns-clause-world : goal.returns-clause-world
 returns-clause-world c = λ w keeps.
-    let kept : Kept = record { head = c.self.inside.head; last = c.self.inside.last; targets = c.self.inside.targets } in
-    let before : KeepsWorld kept w = subst (λ (k : Kept). KeepsWorld k w) (sym c.self.view_is) keeps in
+    let kept : KeptOfWorld = record { head = c.self.inside.head; last = c.self.inside.last; targets = c.self.inside.targets } in
+    let before : KeepsWorld kept w = subst (λ (k : KeptOfWorld). KeepsWorld k w) (sym c.self.view_is) keeps in
     subst (λ (body : List ℕ). KeepsAfter c.scrape.new.head c.scrape.new.self w c.args.time (scrape_step w.targets w.history c.args.target c.args.time body)) c.as_bytes.ensures.value
     (taken_keeps kept c.scrape.new.head c.scrape.new.self w c.args.time (scrape_step w.targets w.history c.args.target c.args.time c.as_bytes.result.now) before
     (scrape_puts w.targets w.history c.args.target c.args.time c.as_bytes.result.now)
