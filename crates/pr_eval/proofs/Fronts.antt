@@ -15,7 +15,7 @@ use Rattle.pr_meaning.specs.declared.range.RangeFn.{RangeFn}
 use Rattle.pr_eval.specs.Asking.{asks_in}
 use Rattle.pr_query.specs.Cost.{PassedFor, cost}
 use Rattle.pr_values.specs.declared.error.EvalError.{EvalError}
-use Rattle.pr_eval.specs.Evaluated.{AreAsked, AreReady, IsReadyFor, IsTaken, Kept, MayTake, passed_by}
+use Rattle.pr_eval.specs.Evaluated.{AreAsked, AreReady, IsReadyFor, IsTaken, KeptOfRanges, MayTake, passed_by}
 use Rattle.pr_eval.specs.Parts.{AreTwo, IsPart, PatternsAt, StandAt}
 use Rattle.pr_eval.proofs.Each.{front_each}
 use Rattle.pr_eval.proofs.Asked.{asked_first}
@@ -110,7 +110,7 @@ args_part whole n k es h =
       steps = f.steps h.steps;
     }
 
-pub args_may : (head : List (List Pair × Stored)) (inside : Bool) (history : List Entry) (func : RangeFn) (k : ℕ) (es : List Expr) (time n : ℕ) (F : Type 0) (a : Kept) → MayTake head inside history func (trees_of es) time n F a.last
+pub args_may : (head : List (List Pair × Stored)) (inside : Bool) (history : List Entry) (func : RangeFn) (k : ℕ) (es : List Expr) (time n : ℕ) (F : Type 0) (a : KeptOfRanges) → MayTake head inside history func (trees_of es) time n F a.last
     → MayTake head inside history func (trees_of (take k es)) time n F a.last
 args_may head inside history func k es time n F a may =
     let f = first_args k es in
@@ -122,7 +122,7 @@ args_may head inside history func k es time n F a may =
     }
 
 -- a fault among the first ends the evaluation of all
-pub args_taken : {A B : Type 0} (keeps inside : Bool) (step : ℕ) (history : List Entry) (func : RangeFn) (k : ℕ) (es : List Expr) (time n : ℕ) (a b : Kept) (F : Type 0) (r0 r1 : ℕ) (e : EvalError)
+pub args_taken : {A B : Type 0} (keeps inside : Bool) (step : ℕ) (history : List Entry) (func : RangeFn) (k : ℕ) (es : List Expr) (time n : ℕ) (a b : KeptOfRanges) (F : Type 0) (r0 r1 : ℕ) (e : EvalError)
     → IsTaken {A = A} keeps inside step history func (trees_of (take k es)) time n a b F r0 r1 (Err e) → IsTaken {A = B} keeps inside step history func (trees_of es) time n a b F r0 r1 (Err e)
 args_taken {A} {B} keeps inside step history func k es time n a b F r0 r1 e h =
     let f = first_args k es in

@@ -7,7 +7,7 @@ use Rattle.pr_query.specs.Subqueries.{Taken, at_each}
 use Rattle.pr_values.specs.declared.error.EvalError.{EvalError}
 use Rattle.pr_values.specs.declared.error.EvalError.TheVariants as error
 use Rattle.pr_values.specs.Answers.{AnswersTo}
-use Rattle.pr_eval.specs.Evaluated.{Kept}
+use Rattle.pr_eval.specs.Evaluated.{KeptOfRanges}
 use Rattle.pr_eval.specs.Subqueries.{AreGathered, TakesInside}
 use Rattle.pr_eval.proofs.EachTime.{each_ends, sum_next, sum_within}
 use Rattle.pr_eval.proofs.Inside.{same_then_all}
@@ -21,7 +21,7 @@ each_fails expr times i time error.Memory ts at h is = tt
 
 module _ (f : ℕ → ℕ) (times : List ℕ) (i time : ℕ) (at : slice_get times i ≡ Some time) where
   -- one time more
-  pub more_taken : {A B C : Type 0} (j : ℕ) (a b c : Kept) (F G : Type 0) (r0 r1 r2 : ℕ) (x : A) (y : B) (res : Result C EvalError) → j ≡ suc i
+  pub more_taken : {A B C : Type 0} (j : ℕ) (a b c : KeptOfRanges) (F G : Type 0) (r0 r1 r2 : ℕ) (x : A) (y : B) (res : Result C EvalError) → j ≡ suc i
       → TakesInside (sum_by f (take i times)) a b F r0 r1 (Ok x) → TakesInside (f time) b c G r1 r2 (Ok y) → TakesInside (sum_by f (take j times)) a c G r0 r2 res
   more_taken j a b c F G r0 r1 r2 x y res next first second =
       let one : r1 ≤ r0 + sum_by f (take i times) = first.few in
@@ -39,7 +39,7 @@ module _ (f : ℕ → ℕ) (times : List ℕ) (i time : ℕ) (at : slice_get tim
       omega (arith, one, other, all)
 
   -- the last time that is taken
-  pub last_taken : {A B C : Type 0} (a b c : Kept) (F G : Type 0) (r0 r1 r2 : ℕ) (x : A) (e : EvalError) → TakesInside (sum_by f (take i times)) a b F r0 r1 (Ok x) → TakesInside {A = B} (f time) b c G r1 r2 (Err e)
+  pub last_taken : {A B C : Type 0} (a b c : KeptOfRanges) (F G : Type 0) (r0 r1 r2 : ℕ) (x : A) (e : EvalError) → TakesInside (sum_by f (take i times)) a b F r0 r1 (Ok x) → TakesInside {A = B} (f time) b c G r1 r2 (Err e)
       → TakesInside {A = C} (sum_by f times) a c G r0 r2 (Err e)
   last_taken {A} {B} {C} a b c F G r0 r1 r2 x e first second = record {
     few = few_then r0 r1 r2 first.few second.few;
@@ -47,7 +47,7 @@ module _ (f : ℕ → ℕ) (times : List ℕ) (i time : ℕ) (at : slice_get tim
     same = λ no. same_then_all a b c (first.same (λ e. cc)) (second.same (recast B C e no));
   }
 
-  pub last_taken_as : {A B C : Type 0} (a b c : Kept) (F G : Type 0) (r0 r1 r2 : ℕ) (x : A) (y : B) (res : Result C EvalError) → TakesInside (sum_by f (take i times)) a b F r0 r1 (Ok x) → TakesInside (f time) b c G r1 r2 (Ok y)
+  pub last_taken_as : {A B C : Type 0} (a b c : KeptOfRanges) (F G : Type 0) (r0 r1 r2 : ℕ) (x : A) (y : B) (res : Result C EvalError) → TakesInside (sum_by f (take i times)) a b F r0 r1 (Ok x) → TakesInside (f time) b c G r1 r2 (Ok y)
       → TakesInside (sum_by f times) a c G r0 r2 res
   last_taken_as a b c F G r0 r1 r2 x y res first second = record {
     few = few_then r0 r1 r2 first.few second.few;

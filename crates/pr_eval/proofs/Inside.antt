@@ -11,7 +11,7 @@ use Rattle.pr_query.specs.Cost.{cost, nothing_passed}
 use Rattle.pr_values.specs.declared.error.EvalError.{EvalError}
 use Rattle.pr_eval.specs.Asking.{Sought, asked_for, asks_in}
 use Rattle.pr_eval.specs.Each.{EachAt}
-use Rattle.pr_eval.specs.Evaluated.{AreAsked, AreReady, IsAsked, IsReadyFor, IsSame, IsTaken, Kept, MayTake, Takes}
+use Rattle.pr_eval.specs.Evaluated.{AreAsked, AreReady, IsAsked, IsReadyFor, IsSame, IsTaken, KeptOfRanges, MayTake, Takes}
 use Rattle.pr_eval.specs.Looks.{KeepsFor}
 use Rattle.pr_eval.specs.Subqueries.{AreSame, TakesInside}
 use Rattle.pr_eval.proofs.Asked.{same_then, still}
@@ -56,7 +56,7 @@ stands n count k = low (nat_lt k n) refl where
   low true e = inl (inl (ltb-true k n e))
   low false e = high (ltb-false k n e) (nat_lt k (n + count)) refl
 
-module _ (keeps : Bool) (history : List Entry) (whole : Bool) (xs : List (Option Sought)) (n : ℕ) (a b : Kept) where
+module _ (keeps : Bool) (history : List Entry) (whole : Bool) (xs : List (Option Sought)) (n : ℕ) (a b : KeptOfRanges) where
   pub all_same : EachAt IsNone n xs → AreAsked keeps history whole xs n a b → AreSame a b
   all_same nothing asked = λ k. by k (stands n (length xs) k) where
     own : (k i : ℕ) → n + i ≡ k → i < length xs → IsSame k a b
@@ -78,7 +78,7 @@ module _ (keeps : Bool) (history : List Entry) (whole : Bool) (xs : List (Option
 pub inside_may : (head : List (List Pair × Stored)) (history : List Entry) (func : RangeFn) (t : Tree) (time n : ℕ) (F : Type 0) (last : LastAsks) → KeepsFor head history t time → F → MayTake head true history func t time n F last
 inside_may head history func t time n F last keeps fits = record { keeps = keeps; fits = fits; ready = ready_inside history func t time n last }
 
-pub inside_taken : {A : Type 0} (keeps : Bool) (step : ℕ) (history : List Entry) (func : RangeFn) (t : Tree) (time n : ℕ) (a b : Kept) (F : Type 0) (r0 r1 : ℕ) (res : Result A EvalError)
+pub inside_taken : {A : Type 0} (keeps : Bool) (step : ℕ) (history : List Entry) (func : RangeFn) (t : Tree) (time n : ℕ) (a b : KeptOfRanges) (F : Type 0) (r0 r1 : ℕ) (res : Result A EvalError)
     → IsTaken keeps true step history func t time n a b F r0 r1 res → TakesInside (cost step history nothing_passed t n time) a b F r0 r1 res
 inside_taken keeps step history func t time n a b F r0 r1 res h = record {
   few = h.few;
@@ -86,7 +86,7 @@ inside_taken keeps step history func t time n a b F r0 r1 res h = record {
   same = λ other. all_same keeps history (is_ok res) (asks_in true history func t time) n a b (none_asked history func t time n) (h.asked other);
 }
 
-pub outside_taken : {A : Type 0} (keeps : Bool) (history : List Entry) (func : RangeFn) (t : Tree) (time n most : ℕ) (a b : Kept) (F : Type 0) (r0 r1 : ℕ) (res : Result A EvalError)
+pub outside_taken : {A : Type 0} (keeps : Bool) (history : List Entry) (func : RangeFn) (t : Tree) (time n most : ℕ) (a b : KeptOfRanges) (F : Type 0) (r0 r1 : ℕ) (res : Result A EvalError)
     → TakesInside most a b F r0 r1 res → Takes keeps history (asks_in true history func t time) n most a b F r0 r1 res
 outside_taken keeps history func t time n most a b F r0 r1 res h = record {
   few = h.few;
@@ -94,8 +94,8 @@ outside_taken keeps history func t time n most a b F r0 r1 res h = record {
   asked = λ other. asked_none keeps history (is_ok res) (asks_in true history func t time) n a b (none_asked history func t time n) (h.same other);
 }
 
-pub same_all : (a : Kept) → AreSame a a
+pub same_all : (a : KeptOfRanges) → AreSame a a
 same_all a = λ k. still k a
 
-pub same_then_all : (a b c : Kept) → AreSame a b → AreSame b c → AreSame a c
+pub same_then_all : (a b c : KeptOfRanges) → AreSame a b → AreSame b c → AreSame a c
 same_then_all a b c f g = λ k. same_then k a b c (f k) (g k)

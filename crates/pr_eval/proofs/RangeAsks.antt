@@ -27,7 +27,7 @@ use Rattle.pr_values.specs.declared.error.EvalError.TheVariants as error
 use Rattle.pr_values.specs.Answers.{AnswersTo}
 use Rattle.pr_ranged.specs.Asking.{AreAsked as AreAskedOf, MayAskEach, ask_at, asks_cost, is_number_among, numbers_chosen, passed_by as passed_of}
 use Rattle.pr_eval.specs.Asking.{asks_in, sought}
-use Rattle.pr_eval.specs.Evaluated.{AreAsked, AreReady, AreRows, IsAsked, IsReadyFor, IsSame, IsTaken, Kept, MayFollow, MayTake}
+use Rattle.pr_eval.specs.Evaluated.{AreAsked, AreReady, AreRows, IsAsked, IsReadyFor, IsSame, IsTaken, KeptOfRanges, MayFollow, MayTake}
 use Rattle.pr_eval.proofs.Each.{first_of_one, one_each}
 
 abbrev Series : Type 0
@@ -61,7 +61,7 @@ kept_inside : {A : Type 0} (keeps this : Bool) (x y : A) → cond (keeps && (fal
 kept_inside true this x y = refl
 kept_inside false this x y = refl
 
-module _ (keeps : Bool) (history : List Entry) (func : RangeFn) (arg : Option Num) (s : Selector) (span time node : ℕ) (numbers : List ℕ) (before after : Kept) where
+module _ (keeps : Bool) (history : List Entry) (func : RangeFn) (arg : Option Num) (s : Selector) (span time node : ℕ) (numbers : List ℕ) (before after : KeptOfRanges) where
   abbrev Asked : Bool → Type 0
   Asked inside = AreAskedOf history keeps node (ask_at func arg s span time inside) numbers before.last after.last before.passed after.passed
 
@@ -97,13 +97,13 @@ ready_at false history func arg p s span time node last h t =
       to = λ b is. (follows t b is).1.1;
     }
 
-own_all : (keeps : Bool) (history : List Entry) (func : RangeFn) (arg : Option Num) (p : Place) (s : Selector) (span time node : ℕ) (before after : Kept) (inside : Bool)
+own_all : (keeps : Bool) (history : List Entry) (func : RangeFn) (arg : Option Num) (p : Place) (s : Selector) (span time node : ℕ) (before after : KeptOfRanges) (inside : Bool)
     → AreAskedOf history keeps node (ask_at func arg s span time inside) (numbers_chosen history s) before.last after.last before.passed after.passed
     → IsAsked keeps history true before after node (cond inside None (Some (sought history func (moment_of s time -ℤ pos span) (moment_of s time) (chosen_by s history))))
 own_all keeps history func arg p s span time node before after true h = inside_same keeps history func arg s span time node (numbers_chosen history s) before after h node
 own_all keeps history func arg p s span time node before after false h = own_rows keeps history func arg s span time node (numbers_chosen history s) before after h
 
-own_some : (keeps : Bool) (history : List Entry) (func : RangeFn) (arg : Option Num) (p : Place) (s : Selector) (span time node : ℕ) (before after : Kept) (inside : Bool) (n : ℕ)
+own_some : (keeps : Bool) (history : List Entry) (func : RangeFn) (arg : Option Num) (p : Place) (s : Selector) (span time node : ℕ) (before after : KeptOfRanges) (inside : Bool) (n : ℕ)
     → AreAskedOf history keeps node (ask_at func arg s span time inside) (take n (numbers_chosen history s)) before.last after.last before.passed after.passed
     → IsAsked keeps history false before after node (cond inside None (Some (sought history func (moment_of s time -ℤ pos span) (moment_of s time) (chosen_by s history))))
 own_some keeps history func arg p s span time node before after true n h = inside_same keeps history func arg s span time node (take n (numbers_chosen history s)) before after h node
@@ -123,7 +123,7 @@ module _ (inside : Bool) (history : List Entry) (func : RangeFn) (arg : Option N
     ready = ready_at inside history func arg p s span time node last may.ready;
   }
 
-  module _ (keeps : Bool) (step : ℕ) (before after : Kept) (F : Type 0) (r0 r1 : ℕ) where
+  module _ (keeps : Bool) (step : ℕ) (before after : KeptOfRanges) (F : Type 0) (r0 r1 : ℕ) where
     abbrev These : List ℕ → Type 0
     These numbers = AreAskedOf history keeps node (ask_at func arg s span time inside) numbers before.last after.last before.passed after.passed
 
@@ -153,7 +153,7 @@ module _ (inside : Bool) (history : List Entry) (func : RangeFn) (arg : Option N
   pub range_answers : (step : ℕ) (next : Option Ranged → Result Value Fault) (res : Result Value EvalError) → AnswersTo (next (Some (range_at history p s span time))) res → AnswersTo (go_on next (ranges step history t time)) res
   range_answers step next res h = subst (λ (u : Tree). AnswersTo (go_on next (ranges step history u time)) res) (sym is) h
 
-  pub range_takes : {A : Type 0} (keeps : Bool) (step : ℕ) (before after : Kept) (F : Type 0) (r0 r1 : ℕ) (res : Result A EvalError)
+  pub range_takes : {A : Type 0} (keeps : Bool) (step : ℕ) (before after : KeptOfRanges) (F : Type 0) (r0 r1 : ℕ) (res : Result A EvalError)
       → r1 ≤ r0 + asks_cost history (ask_at func arg s span time inside) (passed_of history before.passed node) (chosen_by s history) → (res ≢ Err error.Memory → F)
       → OnOk res (AreAskedOf history keeps node (ask_at func arg s span time inside) (numbers_chosen history s) before.last after.last before.passed after.passed)
       → (res ≢ Err error.Memory → (n : ℕ) × AreAskedOf history keeps node (ask_at func arg s span time inside) (take n (numbers_chosen history s)) before.last after.last before.passed after.passed)

@@ -30,7 +30,7 @@ use Rattle.pr_ranged.specs.Times.{AreTimesWithin}
 use Rattle.pr_values.specs.declared.error.EvalError.{EvalError}
 use Rattle.pr_values.specs.declared.error.EvalError.TheVariants as error
 use Rattle.pr_eval.specs.Each.{EachAt}
-use Rattle.pr_eval.specs.Evaluated.{IsTaken, Kept, MayTake}
+use Rattle.pr_eval.specs.Evaluated.{IsTaken, KeptOfRanges, MayTake}
 use Rattle.pr_eval.specs.Looks.{KeepsFor}
 use Rattle.pr_eval.specs.Parts.{IsPart, counts_after}
 use Rattle.pr_eval.specs.Ranged.{AreSeries}
@@ -76,7 +76,7 @@ module _ (e : Tree) (p : Place) (t : Tree) (span : ℕ) (step : Option ℕ) (off
       back = back_then k.forgotten then (subst (λ u. k.forgotten ≤ℤ (pos time -ℤ pos (reads_back u))) is k.back) after;
     }
 
-    pub each_may : (inside : Bool) (func : RangeFn) (n : ℕ) (F : Type 0) (a : Kept) (r : SubqueryRange) (times : List ℕ) → r ≡ range_of p span offset time → AreTimesWithin r.from r.to times
+    pub each_may : (inside : Bool) (func : RangeFn) (n : ℕ) (F : Type 0) (a : KeptOfRanges) (r : SubqueryRange) (times : List ℕ) → r ≡ range_of p span offset time → AreTimesWithin r.from r.to times
         → MayTake head inside history func e time n F a.last → MayTakeEach head history t times F
     each_may inside func n F a r times ranged within may = record {
       keeps = λ i then at. keeps_then then may.keeps (subst (λ (q : SubqueryRange). q.from <ℤ pos then) ranged (time_after r.from r.to times i then within at));
@@ -132,26 +132,26 @@ module _ (e : Tree) (p : Place) (t : Tree) (span : ℕ) (step : Option ℕ) (off
         sym (ap (λ b. cond b 0 (sum_by (cost default history nothing_passed t n) times)) (le-ltb longest (length times) few)) ∙ ap (cost_at_each (cost default history nothing_passed t n)) same
 
     module _ {A : Type 0} (keeps inside : Bool) (func : RangeFn) (n : ℕ) where
-      as_sub : (a b : Kept) (F : Type 0) (r0 r1 : ℕ) (res : Result A EvalError) → TakesInside (cost_at_each (cost default history nothing_passed t n) own_times) a b F r0 r1 res
+      as_sub : (a b : KeptOfRanges) (F : Type 0) (r0 r1 : ℕ) (res : Result A EvalError) → TakesInside (cost_at_each (cost default history nothing_passed t n) own_times) a b F r0 r1 res
           → IsTaken keeps inside default history func e time n a b F r0 r1 res
       as_sub a b F r0 r1 res h =
           let of_sub : IsTaken keeps inside default history func (sub p t span step offset) time n a b F r0 r1 res =
           outside_taken keeps history func t time n (cost_at_each (cost default history nothing_passed t n) own_times) a b F r0 r1 res h in
           subst (λ u. IsTaken keeps inside default history func u time n a b F r0 r1 res) (sym is) of_sub
 
-      pub each_taken : (a b : Kept) (F : Type 0) (r0 r1 : ℕ) (res : Result A EvalError) (times : List ℕ) → times ≡ own_times → length times ≤ longest
+      pub each_taken : (a b : KeptOfRanges) (F : Type 0) (r0 r1 : ℕ) (res : Result A EvalError) (times : List ℕ) → times ≡ own_times → length times ≤ longest
           → TakesInside (sum_by (cost default history nothing_passed t n) times) a b F r0 r1 res → IsTaken keeps inside default history func e time n a b F r0 r1 res
       each_taken a b F r0 r1 res times same few h = as_sub a b F r0 r1 res (subst (λ most. TakesInside most a b F r0 r1 res) (costs n times same few) h)
 
       -- where nothing was evaluated
-      pub none_taken : (a : Kept) (F : Type 0) (r0 : ℕ) (res : Result A EvalError) → F → IsTaken keeps inside default history func e time n a a F r0 r0 res
+      pub none_taken : (a : KeptOfRanges) (F : Type 0) (r0 : ℕ) (res : Result A EvalError) → F → IsTaken keeps inside default history func e time n a a F r0 r0 res
       none_taken a F r0 res fits = as_sub a a F r0 r0 res (record { few = omega arith; fits = λ other. fits; same = λ other. same_all a })
 
 -- what was taken, where the answer is another
-pub taken_as : {A B : Type 0} (most : ℕ) (a b : Kept) (F : Type 0) (r0 r1 : ℕ) (x : A) (res : Result B EvalError) → TakesInside most a b F r0 r1 (Ok x) → TakesInside most a b F r0 r1 res
+pub taken_as : {A B : Type 0} (most : ℕ) (a b : KeptOfRanges) (F : Type 0) (r0 r1 : ℕ) (x : A) (res : Result B EvalError) → TakesInside most a b F r0 r1 (Ok x) → TakesInside most a b F r0 r1 res
 taken_as most a b F r0 r1 x res h = record { few = h.few; fits = λ other. h.fits (λ e. cc); same = λ other. h.same (λ e. cc) }
 
-pub fault_taken : {A B : Type 0} (most : ℕ) (a b : Kept) (F : Type 0) (r0 r1 : ℕ) (f : EvalError) → TakesInside {A = A} most a b F r0 r1 (Err f) → TakesInside {A = B} most a b F r0 r1 (Err f)
+pub fault_taken : {A B : Type 0} (most : ℕ) (a b : KeptOfRanges) (F : Type 0) (r0 r1 : ℕ) (f : EvalError) → TakesInside {A = A} most a b F r0 r1 (Err f) → TakesInside {A = B} most a b F r0 r1 (Err f)
 fault_taken {A} {B} most a b F r0 r1 f h = record { few = h.few; fits = λ other. h.fits (recast A B f other); same = λ other. h.same (recast A B f other) }
 
 -- The numbers of a part: each is one of the whole, so that they are few.

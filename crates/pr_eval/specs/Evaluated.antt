@@ -42,12 +42,12 @@ pub record MayEval (head : List (List Pair × Stored)) (history : List Entry) (t
   pub ready : AreReady last node asks
 
 -- what ranges remember, as a pair
-pub record Kept : Type 0 where
+pub record KeptOfRanges : Type 0 where
   pub last : LastAsks
   pub passed : Passed
 
 -- what is kept for a range selector is as it was
-pub record IsSame (k : ℕ) (before after : Kept) : Type 0 where
+pub record IsSame (k : ℕ) (before after : KeptOfRanges) : Type 0 where
   pub last : after.last k ≡ before.last k
   pub passed : after.passed k ≡ before.passed k
 
@@ -62,18 +62,18 @@ abbrev pub AreAskedSeries : Bool → Bool → List Entry → Sought → (ℕ →
 AreAskedSeries true keeps history q last last' passed passed' = AreRows keeps history q.ask q.numbers last last' passed passed'
 AreAskedSeries false keeps history q last last' passed passed' = (n : ℕ) × AreRows keeps history q.ask (take n q.numbers) last last' passed passed'
 
-abbrev pub IsAsked : Bool → List Entry → Bool → Kept → Kept → ℕ → Option Sought → Type 0
+abbrev pub IsAsked : Bool → List Entry → Bool → KeptOfRanges → KeptOfRanges → ℕ → Option Sought → Type 0
 IsAsked keeps history whole before after k None = IsSame k before after
 IsAsked keeps history whole before after k (Some q) = AreAskedSeries whole keeps history q (before.last k) (after.last k) (before.passed k) (after.passed k)
 
 -- The range selectors from a number on were asked these, and all others nothing.
-pub record AreAsked (keeps : Bool) (history : List Entry) (whole : Bool) (asks : List (Option Sought)) (node : ℕ) (before after : Kept) : Type 0 where
+pub record AreAsked (keeps : Bool) (history : List Entry) (whole : Bool) (asks : List (Option Sought)) (node : ℕ) (before after : KeptOfRanges) : Type 0 where
   pub others : (k : ℕ) → (k < node) ⊎ (node + length asks ≤ k) → IsSame k before after
   pub own : EachAt (IsAsked keeps history whole before after) node asks
 
 -- What is known after a part was evaluated, but for its answer: how many samples were read at most,
 -- and where memory did not run out, that what is kept of ranges is true, and what was asked.
-pub record Takes {A : Type 0} (keeps : Bool) (history : List Entry) (asks : List (Option Sought)) (node most : ℕ) (before after : Kept) (Fits : Type 0) (reads reads' : ℕ) (result : Result A EvalError) : Type 0 where
+pub record Takes {A : Type 0} (keeps : Bool) (history : List Entry) (asks : List (Option Sought)) (node most : ℕ) (before after : KeptOfRanges) (Fits : Type 0) (reads reads' : ℕ) (result : Result A EvalError) : Type 0 where
   pub few : reads' ≤ reads + most
   pub fits : result ≢ Err Memory → Fits
   pub asked : result ≢ Err Memory → AreAsked keeps history (is_ok result) asks node before after
@@ -83,12 +83,12 @@ pub record Takes {A : Type 0} (keeps : Bool) (history : List Entry) (asks : List
 abbrev pub MayTake : List (List Pair × Stored) → Bool → List Entry → RangeFn → Tree → ℕ → ℕ → Type 0 → LastAsks → Type 0
 MayTake head inside history func t time node Fits last = MayEval head history t time (asks_in inside history func t time) node Fits last
 
-abbrev pub IsTaken : {A : Type 0} → Bool → Bool → ℕ → List Entry → RangeFn → Tree → ℕ → ℕ → Kept → Kept → Type 0 → ℕ → ℕ → Result A EvalError → Type 0
+abbrev pub IsTaken : {A : Type 0} → Bool → Bool → ℕ → List Entry → RangeFn → Tree → ℕ → ℕ → KeptOfRanges → KeptOfRanges → Type 0 → ℕ → ℕ → Result A EvalError → Type 0
 IsTaken keeps inside step history func t time node before after Fits reads reads' result =
     Takes keeps history (asks_in inside history func t time) node (cost step history (passed_by inside history before.passed) t node time) before after Fits reads reads' result
 
 -- what ranges remember
-abbrev pub kept_by : LastAsks → Passed → Kept
+abbrev pub kept_by : LastAsks → Passed → KeptOfRanges
 kept_by last passed = record { last = last; passed = passed }
 
 -- what a whole expression asks, which is no argument of a function

@@ -14,7 +14,7 @@ use Rattle.pr_ranged.specs.declared.of_subquery.SubqueryRange.{SubqueryRange}
 use Rattle.pr_ranged.specs.Taken.{AreTaken}
 use Rattle.pr_values.specs.declared.error.EvalError.{EvalError}
 use Rattle.pr_values.specs.declared.error.EvalError.TheVariants as error
-use Rattle.pr_eval.specs.Evaluated.{IsSame, Kept}
+use Rattle.pr_eval.specs.Evaluated.{IsSame, KeptOfRanges}
 use Rattle.pr_eval.specs.Looks.{KeepsFor}
 
 -- the range of a subquery at a time
@@ -30,13 +30,13 @@ pub record MayTakeEach (head : List (List Pair × Stored)) (history : List Entry
   pub fits : Fits
 
 -- Nothing that stays was asked: what is kept of each range selector is as it was.
-abbrev pub AreSame : Kept → Kept → Type 0
+abbrev pub AreSame : KeptOfRanges → KeptOfRanges → Type 0
 AreSame before after = (k : ℕ) → IsSame k before after
 
 -- What is known after an evaluation inside a subquery, but for its answer: how many samples were
 -- read at most, and where memory did not run out, that what is kept of ranges is true and as it
 -- was.
-pub record TakesInside {A : Type 0} (most : ℕ) (before after : Kept) (Fits : Type 0) (reads reads' : ℕ) (result : Result A EvalError) : Type 0 where
+pub record TakesInside {A : Type 0} (most : ℕ) (before after : KeptOfRanges) (Fits : Type 0) (reads reads' : ℕ) (result : Result A EvalError) : Type 0 where
   pub few : reads' ≤ reads + most
   pub fits : result ≢ Err error.Memory → Fits
   pub same : result ≢ Err error.Memory → AreSame before after
