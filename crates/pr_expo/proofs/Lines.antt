@@ -3,12 +3,13 @@ use Rattle.std.proofs.Common.{◌≡◌, refl, sym, ap, ◌∙◌, ℕ, suc, ◌
 use Rattle.std.specs.Prelude.{◌==◌}
 use Prim.Native.Char.{code}
 use Rattle.std.specs.List.{slice_split, position_or_len, onto_first}
+use Rattle.pr_words.specs.Lines.{is_feed, without_return, ended, text_lines}
 use Rattle.pr_expo_line.specs.declared.place.Read.{Read}
 use Rattle.pr_expo_line.specs.declared.place.ExpoKind.{ExpoKind}
 use Rattle.pr_expo.specs.declared.exposition.ExpoError.{ExpoError}
 use Rattle.pr_expo.specs.declared.exposition.ExpoError.TheVariants.{Fault}
 use Rattle.pr_expo_line.specs.Line.{line_read}
-use Rattle.pr_expo.specs.Text.{is_feed, without_return, ended, text_lines, reads_from, joined, text_reads}
+use Rattle.pr_expo.specs.Text.{reads_from, joined, text_reads}
 use Rattle.pr_expo.specs.Keeping.{after}
 
 -- no parts are empty

@@ -1,5 +1,6 @@
 -- Reading line after line.
 use Rattle.std.proofs.Common.{◌≡◌, refl, sym, ap, ◌∙◌, subst, ℕ, ◌+◌, ◌<◌, ◌≤◌, ◌^◌, true, List, [], ◌∷◌, ◌++◌, length, length-append, append-nil, Option, Some, None, IfSome, MatchOption, Bor, Ok, Err, arith, map}
+use Rattle.pr_words.specs.Lines.{text_lines}
 use Rattle.pr_expo_line.specs.declared.place.Read.{Read}
 use Rattle.pr_expo_line.specs.declared.place.Read.TheVariants.{Nothing}
 use Rattle.std.specs.Str.{chars}
@@ -13,7 +14,6 @@ use Rattle.pr_expo.specs.declared.exposition.Exposition.{Exposition}
 use Rattle.pr_expo.specs.declared.exposition.Line.{Line}
 use Rattle.pr_expo.specs.Families.{Refuses, exposition_if, exposition_of}
 use Rattle.pr_expo.specs.Keeping.{Entries, HasRoom, IsUnderWay, Notes, RefusesLine, Tells, entries_after, family_from, samples_kept}
-use Rattle.pr_expo.specs.Text.{text_lines}
 use Rattle.pr_expo.proofs.Lines.{line_bad, line_first, line_last, line_more}
 use Rattle.pr_expo.proofs.Telling.{families_told, has_room, tells_more, tells_nothing}
 

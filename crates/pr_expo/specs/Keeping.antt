@@ -4,6 +4,7 @@ use Rattle.std.specs.Prelude.{◌≡◌, ℕ, ◌+◌, ◌<◌, ◌≤◌, ◌^�
 use Rattle.std.specs.Map.{lookup, keys_of}
 use Rattle.std.specs.Str.{bytes_eq}
 use Rattle.indexmap.specs.IndexMap.{insert_entry}
+use Rattle.pr_words.specs.Lines.{text_lines}
 use Rattle.pr_expo_line.specs.declared.place.FamilyKind.{FamilyKind}
 use Rattle.pr_expo_line.specs.declared.place.FamilyKind.TheVariants.{Untyped}
 use Rattle.pr_expo_line.specs.declared.place.Read.{Read}
@@ -14,7 +15,7 @@ use Rattle.pr_expo.specs.declared.known.Known.{Known}
 use Rattle.pr_expo_line.specs.Line.{line_read}
 use Rattle.pr_expo.specs.declared.exposition.ExpoError.{ExpoError}
 use Rattle.pr_expo.specs.declared.exposition.ExpoError.TheVariants.{Fault, Memory}
-use Rattle.pr_expo.specs.Text.{reads_from, text_lines, text_reads}
+use Rattle.pr_expo.specs.Text.{reads_from, text_reads}
 use Rattle.pr_expo.specs.Families.{arrived, family_by_kinds, family_names, has_late_type, is_among, is_help, is_sampled, kind_of, sample_by, samples_by, types_of}
 
 -- what was read before, and then the rest

@@ -1,7 +1,7 @@
 // The lines of an exposition.
 ghost use Rattle.std.specs.Prelude.{◌≡◌, ◌-◌, ◌<◌, ◌≤◌, [], ◌∷◌, IfSome, MatchOption, drop, length, position, take};
 ghost use Rattle.std.specs.List.{position_or_len};
-ghost use Rattle.pr_expo.specs.Text.{is_feed, text_lines, without_return};
+ghost use Rattle.pr_words.specs.Lines.{is_feed, text_lines, without_return};
 
 // A line without a carriage return at its end.
 #[tactic(auto, using(crate::proofs::Lines::shorter))]

@@ -6,9 +6,9 @@ use Rattle.std.specs.Prelude.{slice_get, count_by}
 use Rattle.std.specs.List.{slice_split, onto_first, list_all}
 use Rattle.std.specs.Str.{is_utf8}
 use Rattle.std.proofs.lemmas.List.Sums.{sum_by-cons}
+use Rattle.pr_words.specs.Lines.{is_feed, without_return, ended, text_lines}
 use Rattle.pr_words.specs.Fields.{is_blank}
 use Rattle.pr_yaml_scan.specs.Bytes.{without_mark}
-use Rattle.pr_yaml_scan.specs.Lines.{is_feed, without_return, ended, lines_of}
 use Rattle.pr_yaml_scan.specs.Worked.{has_return, with_returns}
 use Rattle.pr_yaml_scan.specs.Rising.{StandsIn, AllStandIn}
 use Rattle.pr_yaml_scan.specs.Scan.{scanned_places}
@@ -60,13 +60,13 @@ ended_front n column (l ∷ []) h = (refl, h)
 ended_front zero column (l ∷ (m ∷ more)) h = return_front column l h
 ended_front (suc n) column (l ∷ (m ∷ more)) h = ended_front n column (m ∷ more) h
 
-line_front : (n column : ℕ) (text : List ℕ) → column ≤ length (get_or (lines_of text) n []) → take column (from_line n text) ≡ take column (get_or (lines_of text) n [])
-unfolding lines_of
+line_front : (n column : ℕ) (text : List ℕ) → column ≤ length (get_or (text_lines text) n []) → take column (from_line n text) ≡ take column (get_or (text_lines text) n [])
+unfolding text_lines
 line_front n column text h =
     let front = ended_front n column (slice_split is_feed text) h in
     split_front n column text front.1 ∙ sym front.0
 
-first_same : (n column : ℕ) (text : List ℕ) → has_return text ≡ false → column ≤ length (get_or (lines_of text) n []) → take column (from_line n (with_returns text)) ≡ take column (from_line n text)
+first_same : (n column : ℕ) (text : List ℕ) → has_return text ≡ false → column ≤ length (get_or (text_lines text) n []) → take column (from_line n (with_returns text)) ≡ take column (from_line n text)
 first_same n column text none h =
     let e = same_lines text none in
     line_front n column (with_returns text) (subst (λ ls. column ≤ length (get_or ls n [])) (sym e) h) ∙ (ap (λ ls. take column (get_or ls n [])) e ∙ sym (line_front n column text h))
@@ -120,11 +120,11 @@ one_stands lines (u ∷ more) zero t h e = let same : u ≡ t = cc in subst (Sta
 one_stands lines (u ∷ more) (suc place) t h e = one_stands lines more place t h.1 e
 
 module _ (text : List ℕ) (none : has_return text ≡ false) (u : is_utf8 (without_mark text) ≡ true) where
-  same_first : (line column : ℕ) → column ≤ length (get_or (lines_of (without_mark text)) (line - 1) []) → is_first_of_line (with_returns text) line column ≡ is_first_of_line text line column
+  same_first : (line column : ℕ) → column ≤ length (get_or (text_lines (without_mark text)) (line - 1) []) → is_first_of_line (with_returns text) line column ≡ is_first_of_line text line column
   unfolding is_first_of_line
   same_first line column h = ap (list_all is_blank) (ap (λ w. take column (from_line (line - 1) w)) (mark_returns text) ∙ first_same (line - 1) column (without_mark text) (return_mark text none) h)
 
-  same_kind : (tokens : List Token) (place : ℕ) (t : Token) → StandsIn (lines_of (without_mark text)) t → token_kind (with_returns text) tokens place t ≡ token_kind text tokens place t
+  same_kind : (tokens : List Token) (place : ℕ) (t : Token) → StandsIn (text_lines (without_mark text)) t → token_kind (with_returns text) tokens place t ≡ token_kind text tokens place t
   unfolding token_kind
   same_kind tokens place t s = rw (same_first t.line t.column (let h = s.within in omega (arith, h))) refl
 
@@ -133,20 +133,20 @@ module _ (text : List ℕ) (none : has_return text ≡ false) (u : is_utf8 (with
   same_at_end tokens None (Some tree) = refl
   same_at_end tokens None None = rw (same_end_line text) refl
 
-  same_at_stop : (tokens : List Token) (bad : Option BadPlace) (place : ℕ) (o : Option Token) → ((t : Token) → o ≡ Some t → StandsIn (lines_of (without_mark text)) t) →
+  same_at_stop : (tokens : List Token) (bad : Option BadPlace) (place : ℕ) (o : Option Token) → ((t : Token) → o ≡ Some t → StandsIn (text_lines (without_mark text)) t) →
       at_stop (with_returns text) tokens bad place o ≡ at_stop text tokens bad place o
   same_at_stop tokens bad place (Some t) h = rw (same_kind tokens place t (h t refl)) refl
   same_at_stop tokens bad place None h = same_at_end tokens bad (tree_in true levels (letters tokens))
 
-  all_stand : AllStandIn (lines_of (without_mark text)) (scanned_places text).0
-  all_stand = subst (λ w. AllStandIn (lines_of w) (scanned_places text).0) (seen_whole (without_mark text) u)
+  all_stand : AllStandIn (text_lines (without_mark text)) (scanned_places text).0
+  all_stand = subst (λ w. AllStandIn (text_lines w) (scanned_places text).0) (seen_whole (without_mark text) u)
       (tokens_stand text (scanned_places text).0 (scanned_places text).1 ((is_function text (scanned_places text).0 (scanned_places text).1).0 refl))
 
-  same_read : (tokens : List Token) (bad : Option BadPlace) → AllStandIn (lines_of (without_mark text)) tokens → read_tokens (with_returns text) tokens bad ≡ read_tokens text tokens bad
+  same_read : (tokens : List Token) (bad : Option BadPlace) → AllStandIn (text_lines (without_mark text)) tokens → read_tokens (with_returns text) tokens bad ≡ read_tokens text tokens bad
   unfolding read_tokens
   same_read tokens bad h =
       let place = stop true levels (letters tokens) in
-      same_at_stop tokens bad place (slice_get tokens place) (λ t e. one_stands (lines_of (without_mark text)) tokens place t h e)
+      same_at_stop tokens bad place (slice_get tokens place) (λ t e. one_stands (text_lines (without_mark text)) tokens place t h e)
 
   pub same_reading : read_of (with_returns text) ≡ read_of text
   unfolding read_of

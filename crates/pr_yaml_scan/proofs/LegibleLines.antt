@@ -7,10 +7,10 @@ use Rattle.std.proofs.Math.Seq.{take-append_seam, get_or-append_seam}
 use Rattle.std.proofs.lemmas.Bool.{cases_lt}
 use Rattle.std.proofs.lemmas.Bool.Decides.{nat_tests}
 use Rattle.std.proofs.lemmas.Str.{IsUtf8-take, IsUtf8-drop, IsCharBoundary-before_ascii, IsCharBoundary-from_take}
+use Rattle.pr_words.specs.Lines.{is_feed, without_return, ended, text_lines}
 use Rattle.pr_strings.proofs.StringUtf8.{before_byte, after_byte}
 use Rattle.pr_words.specs.Fields.{is_blank}
 use Rattle.pr_yaml_scan.specs.Bytes.{no_text, is_bare, blanks_len}
-use Rattle.pr_yaml_scan.specs.Lines.{is_feed, without_return, ended, lines_of}
 use Rattle.pr_yaml_scan.proofs.Shorter.{one_more}
 use Rattle.pr_yaml_scan.proofs.QuotedLines.{first_true}
 use Rattle.pr_yaml_scan.specs.Legible.{legible_part, IsLegible, AreLegible}
@@ -113,14 +113,14 @@ ended_legible (l ∷ []) h = h
 ended_legible (l ∷ (m ∷ more)) h = (return_legible l h.0, ended_legible (m ∷ more) h.1)
 
 -- the lines of a text that is UTF-8, and of one that is so up to a byte that is no text
-pub whole_lines : (text : List ℕ) → IsUtf8 text → AreLegible (lines_of text)
-unfolding lines_of
+pub whole_lines : (text : List ℕ) → IsUtf8 text → AreLegible (text_lines text)
+unfolding text_lines
 whole_lines text u =
     let parts = split_legible [] text [] (λ v h. (subst IsLegible (sym (append-nil v)) (front_legible [] v h), tt)) u in
     ended_legible (slice_split is_feed text) (all_parts (slice_split is_feed text) (subst (λ t. Parts [] (slice_split is_feed t)) (append-nil text) parts))
 
-pub front_lines : (text : List ℕ) → IsUtf8 text → AreLegible (lines_of (text ++ 0xFF ∷ []))
-unfolding lines_of
+pub front_lines : (text : List ℕ) → IsUtf8 text → AreLegible (text_lines (text ++ 0xFF ∷ []))
+unfolding text_lines
 front_lines text u =
     ended_legible (slice_split is_feed (text ++ 0xFF ∷ [])) (all_parts (slice_split is_feed (text ++ 0xFF ∷ []))
     (split_legible [] text (0xFF ∷ []) (λ v h. (subst IsUtf8 (sym (before_no_text v)) (front_legible [] v h), tt)) u))

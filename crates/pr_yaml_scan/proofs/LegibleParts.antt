@@ -4,8 +4,9 @@ use Rattle.std.specs.Str.{IsUtf8}
 use Rattle.std.proofs.lemmas.Bool.{cases_lt}
 use Rattle.std.proofs.lemmas.Bool.Decides.{nat_tests}
 use Rattle.std.proofs.lemmas.Str.{IsUtf8-nil}
+use Rattle.pr_words.specs.Lines.{text_lines}
 use Rattle.pr_yaml_scan.specs.Bytes.{no_text, has_no_text, blanks_len}
-use Rattle.pr_yaml_scan.specs.Lines.{Place, along, end_line, lines_of}
+use Rattle.pr_yaml_scan.specs.Lines.{Place, along, end_line}
 use Rattle.pr_yaml_scan.specs.Legible.{IsLegible, AreLegible, IsLegiblePlace, HasUtf8}
 use Rattle.pr_yaml_scan.specs.Plain.{plain_part, plain_ending, plain_below}
 use Rattle.pr_yaml_scan.specs.Quoted.{quoted_below, quoted_line, cut_fault, after_bytes}
@@ -150,8 +151,8 @@ pub part_leaves : (k : Known) (s : State) → IsLegiblePlace s.place → LeavesL
 unfolding part_at
 part_leaves k s h = by_sign_leaves (sign_of k s) k s h
 
-pub first_legible : (text : List ℕ) → AreLegible (lines_of text) → IsLegiblePlace (first_state text).place
-first_legible text h = start_legible 1 (lines_of text) h
+pub first_legible : (text : List ℕ) → AreLegible (text_lines text) → IsLegiblePlace (first_state text).place
+first_legible text h = start_legible 1 (text_lines text) h
 
 -- The texts that the reader makes are UTF-8.
 pub block_text : (found : Scalar) (style : Style) (chomp : Chomp) (inside : Bool) (parent : Option ℕ) (p : Place) → found ≡ block_below style chomp inside parent p → AreLegible p.below → HasUtf8 found
@@ -199,5 +200,5 @@ next_legible k s next part e f h = subst LeavesLegible (sym e ∙ f) (part_leave
 pub token_legible : (k : Known) (s next : State) (t : Token) (part : Part) → part ≡ part_at k s → part ≡ TokenPart t next → IsLegiblePlace s.place → IsLegiblePlace next.place
 token_legible k s next t part e f h = subst LeavesLegible (sym e ∙ f) (part_leaves k s h)
 
-pub front_of : (text front all : List ℕ) (n : ℕ) → front ≡ take n text → IsUtf8 (take n text) → all ≡ front ++ 0xFF ∷ [] → AreLegible (lines_of all)
-front_of text front all n e u a = subst (λ t. AreLegible (lines_of t)) (sym (a ∙ ap (λ t. t ++ 0xFF ∷ []) e)) (front_lines (take n text) u)
+pub front_of : (text front all : List ℕ) (n : ℕ) → front ≡ take n text → IsUtf8 (take n text) → all ≡ front ++ 0xFF ∷ [] → AreLegible (text_lines all)
+front_of text front all n e u a = subst (λ t. AreLegible (text_lines t)) (sym (a ∙ ap (λ t. t ++ 0xFF ∷ []) e)) (front_lines (take n text) u)

@@ -3,11 +3,11 @@ use Rattle.std.proofs.Common.{◌≡◌, ℕ, zero, suc, ◌-◌, ◌<◌, Bool,
 use Rattle.std.specs.Str.{IsUtf8, is_utf8}
 use Rattle.std.proofs.lemmas.Str.{IsUtf8-append, IsUtf8-from_is_utf8, is_utf8-from_IsUtf8}
 use Rattle.std.proofs.lemmas.Bool.Decides.{nat_tests}
+use Rattle.pr_words.specs.Lines.{is_feed, without_return, ended, text_lines}
 use Rattle.pr_strings.proofs.StringUtf8.{before_byte, after_byte, byte_text}
 use Prim.Native.Char.{code}
 use Rattle.std.specs.List.{slice_split, onto_first}
 use Rattle.std.proofs.Math.Seq.{take-append_seam, get_or-append_seam}
-use Rattle.pr_yaml_scan.specs.Lines.{is_feed, without_return, ended, lines_of}
 use Rattle.pr_yaml_scan.specs.Worked.{tokens_of, is_return, has_return, with_returns}
 use Rattle.pr_yaml_scan.specs.Bytes.{marked, without_mark, legible}
 use Rattle.pr_yaml_scan.specs.Scan.{scanned_places}
@@ -87,8 +87,8 @@ same_ended (l ∷ (m ∷ more)) h = with_rest (returned (m ∷ more)) (returned_
   with_rest : (rs : List (List ℕ)) → 0 < length rs → ended rs ≡ ended (m ∷ more) → ended ((l ++ code "\r" ∷ []) ∷ rs) ≡ without_return l ∷ ended (m ∷ more)
   with_rest rs some e = ended_some (l ++ code "\r" ∷ []) rs some ∙ rw (cut l, kept l h.0, e) refl
 
-pub same_lines : (text : List ℕ) → has_return text ≡ false → lines_of (with_returns text) ≡ lines_of text
-unfolding lines_of
+pub same_lines : (text : List ℕ) → has_return text ≡ false → text_lines (with_returns text) ≡ text_lines text
+unfolding text_lines
 same_lines text h = ap ended (split_returns text) ∙ same_ended (slice_split is_feed text) (bare_lines text h)
 
 pub same_tokens : (text : List ℕ) → has_return text ≡ false → tokens_of (with_returns text) ≡ tokens_of text

@@ -1,10 +1,11 @@
 -- The places that a reader of a text comes to are places of that text, each further on.
 use Rattle.std.proofs.Common.{◌≡◌, ℕ, suc, zero, ◌+◌, ◌-◌, ◌<◌, ◌≤◌, ◌==◌, nat_lt, Bool, true, false, not, ◌&&◌, ◌||◌, if◌then◌else◌, List, [], ◌∷◌, ◌++◌, Option, Some, None, length, drop, get_or, refl, sym, subst, ap, ◌∙◌, arith, drop-drop, length-drop, ◌⊎◌, inl, inr}
 use Rattle.std.proofs.lemmas.Bool.{cases_lt}
+use Rattle.pr_words.specs.Lines.{text_lines}
 use Rattle.pr_yaml_scan.specs.Bytes.{no_text, has_no_text, is_bare, blanks_len, legible, without_mark}
 use Rattle.pr_yaml_scan.specs.Scan.{left, lines_size}
 use Rattle.pr_yaml_scan.specs.Rising.{IsBefore, AreRising, StandsIn, AllStandIn}
-use Rattle.pr_yaml_scan.specs.Lines.{Place, folded_break, along, line_start, end_line, lines_of}
+use Rattle.pr_yaml_scan.specs.Lines.{Place, folded_break, along, line_start, end_line}
 use Rattle.pr_yaml_scan.specs.Plain.{plain_below, plain_part, plain_len, plain_ending, goes_on, by_ending, after_part, indented}
 use Rattle.pr_yaml_scan.specs.Quoted.{quoted_below, quoted_break, quoted_line, by_line, cut_fault, after_bytes}
 use Rattle.pr_yaml_scan.specs.Block.{block_lines, belongs, by_row, row_of, row_break, begins_with_blank, earlier_of, indentation, header_fault, after_chomp, chomp_of}
@@ -278,8 +279,8 @@ module _ (lines : List (List ℕ)) where
       let at = r.1 in
       (at.place, (stands at.place at.is at.some, at.some, (at.line, at.column), at.within, (left next.place, (at.less, scans_fall d r.0))))
 
-  first_falls : (text : List ℕ) → lines ≡ lines_of text → IsOf lines (first_state text).place
-  first_falls text e = by_lines (lines_of text) e where
+  first_falls : (text : List ℕ) → lines ≡ text_lines text → IsOf lines (first_state text).place
+  first_falls text e = by_lines (text_lines text) e where
     by_lines : (ls : List (List ℕ)) → lines ≡ ls → IsOf lines (line_start 1 ls)
     by_lines [] f = inl (refl, refl)
     by_lines (l ∷ more) f = inr (record { from = omega arith; here = sym (ap (λ ls. get_or ls 0 []) f); below = sym (ap (drop 1) f) })
@@ -356,11 +357,11 @@ falls_stand lines n (t ∷ ts) h = (at_byte h.0 h.1.0 h.1.1 h.1.2.0 h.1.2.1, fal
       record { from = omega (arith, a, f); within = rw (a, b) lt }
 
 module _ (text : List ℕ) (tokens : List Token) (bad : Option BadPlace) (d : HasPlaces text tokens bad) where
-  all : Falls (lines_of (legible (without_mark text))) (left (first_state (legible (without_mark text))).place) tokens
-  all = scans_fall (lines_of (legible (without_mark text))) d (first_falls (lines_of (legible (without_mark text))) (legible (without_mark text)) refl)
+  all : Falls (text_lines (legible (without_mark text))) (left (first_state (legible (without_mark text))).place) tokens
+  all = scans_fall (text_lines (legible (without_mark text))) d (first_falls (text_lines (legible (without_mark text))) (legible (without_mark text)) refl)
 
   pub tokens_rise : AreRising tokens
-  tokens_rise = falls_rise (lines_of (legible (without_mark text))) (left (first_state (legible (without_mark text))).place) tokens all
+  tokens_rise = falls_rise (text_lines (legible (without_mark text))) (left (first_state (legible (without_mark text))).place) tokens all
 
-  pub tokens_stand : AllStandIn (lines_of (legible (without_mark text))) tokens
-  tokens_stand = falls_stand (lines_of (legible (without_mark text))) (left (first_state (legible (without_mark text))).place) tokens all
+  pub tokens_stand : AllStandIn (text_lines (legible (without_mark text))) tokens
+  tokens_stand = falls_stand (text_lines (legible (without_mark text))) (left (first_state (legible (without_mark text))).place) tokens all

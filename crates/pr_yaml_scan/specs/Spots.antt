@@ -1,12 +1,13 @@
 -- What the reader keeps of a place in a text: no rule of the format.
 use Rattle.std.specs.Prelude.{ℕ, ◌+◌, ◌^◌, ◌<◌, ◌≤◌, ◌≡◌, Option, Some, None, List, [], ◌∷◌, length}
 use Rattle.std.specs.Borrow.{Bor}
-use Rattle.pr_yaml_scan.specs.Lines.{Place, lines_of}
+use Rattle.pr_words.specs.Lines.{text_lines}
+use Rattle.pr_yaml_scan.specs.Lines.{Place}
 
 -- the lines below a place, as the bytes that they are
 abbrev pub lines_below : Option (Bor (List ℕ)) → List (List ℕ)
 lines_below None = []
-lines_below (Some text) = lines_of text.now
+lines_below (Some text) = text_lines text.now
 
 abbrev pub place_of : ℕ → ℕ → Bor (List ℕ) → Option (Bor (List ℕ)) → Place
 place_of line column here below = record { line = line; column = column; here = here.now; below = lines_below below }
