@@ -10,6 +10,7 @@ use Rattle.std.proofs.lemmas.List.Elements.{filter-append}
 use Rattle.std.proofs.lemmas.List.Folds.{list_any-append}
 use Rattle.std.proofs.lemmas.List.Sums.{fold-append}
 use Rattle.std.proofs.lemmas.Slice.Eq.{bytes_eq-Decides}
+use Rattle.pr_words.specs.Names.{is_among}
 use Rattle.pr_labels.proofs.LabelLaws.{alike}
 use Rattle.pr_expo_line.specs.declared.place.FamilyKind.{FamilyKind}
 use Rattle.pr_expo_line.specs.declared.place.Measured.{Measured}
@@ -17,7 +18,7 @@ use Rattle.pr_expo_line.specs.declared.place.Read.{Read}
 use Rattle.pr_expo_line.specs.declared.place.Read.TheVariants.{Nothing, Help, Typed, Sample}
 use Rattle.pr_expo.specs.declared.exposition.Line.{Line}
 use Rattle.pr_expo.specs.declared.known.Known.{Known}
-use Rattle.pr_expo.specs.Families.{Arrival, arrivals, arrivals_after, arrived, ends_in, family_by, family_by_kinds, family_names, family_of, first_type, has_late_type, has_parts, is_among, is_help, is_late, is_sample, is_sampled, is_type, kind_of, mentioned, mentioned_after, mentions, sample_at, sample_of, samples_after, samples_by, type_at, types_of, whole_of, without_ending}
+use Rattle.pr_expo.specs.Families.{Arrival, arrivals, arrivals_after, arrived, ends_in, family_by, family_by_kinds, family_names, family_of, first_type, has_late_type, has_parts, is_help, is_late, is_sample, is_sampled, is_type, kind_of, mentioned, mentioned_after, mentions, sample_at, sample_of, samples_after, samples_by, type_at, types_of, whole_of, without_ending}
 use Rattle.pr_expo.specs.Keeping.{AreApart, Entries, HasRoom, Tells, entries_after, family_from, kept_family, kept_kind, known_by, known_of, nothing_known, put, samples_kept, with_help, with_sample, with_type}
 use Rattle.pr_expo.proofs.Marking.{or_false}
 use Rattle.pr_expo.proofs.Endings.{not_true}
@@ -28,6 +29,12 @@ same_name a b h = (bytes_eq-Decides a b).0 h
 
 turned : (a b : List ℕ) → bytes_eq a b ≡ false → bytes_eq b a ≡ false
 turned a b h = not_true (bytes_eq b a) (λ t. let p : true ≡ false = sym (alike a) ∙ ap (bytes_eq a) (sym (same_name b a t)) ∙ h in cc)
+
+swapped : (a b : List ℕ) → bytes_eq a b ≡ bytes_eq b a
+swapped a b = by (bytes_eq a b) refl where
+  by : (t : Bool) → bytes_eq a b ≡ t → t ≡ bytes_eq b a
+  by true e = sym (ap (λ x. bytes_eq x a) (sym (same_name a b e)) ∙ alike a)
+  by false e = sym (turned a b e)
 
 or_none : (a b : Bool) → (a || b) ≡ false → (a ≡ false) × (b ≡ false)
 or_none true b h = cc
@@ -169,15 +176,16 @@ put_known (e ∷ es) f v name = by (bytes_eq f e.0) refl (put_known es f v name)
 
 put_names : (es : Entries) (f : List ℕ) (v : Known) → keys_of (put es f v) ≡ arrived (keys_of es) f
 put_names [] f v = refl
-put_names (e ∷ es) f v = by (bytes_eq f e.0) (put_names es f v) where
-  after : (b : Bool) → e.0 ∷ cond b (keys_of es) (keys_of es ++ f ∷ []) ≡ cond b (e.0 ∷ keys_of es) (e.0 ∷ (keys_of es ++ f ∷ []))
-  after true = refl
-  after false = refl
+put_names (e ∷ es) f v =
+    by (bytes_eq f e.0) (put_names es f v) ∙ ap (λ b. cond (b || is_among f (keys_of es)) (e.0 ∷ keys_of es) (e.0 ∷ (keys_of es ++ f ∷ []))) (swapped f e.0) where
+      after : (b : Bool) → e.0 ∷ cond b (keys_of es) (keys_of es ++ f ∷ []) ≡ cond b (e.0 ∷ keys_of es) (e.0 ∷ (keys_of es ++ f ∷ []))
+      after true = refl
+      after false = refl
 
-  by : (b : Bool) → keys_of (put es f v) ≡ arrived (keys_of es) f →
-      keys_of (if b then (e.0, v) ∷ es else e ∷ put es f v) ≡ cond (b || is_among (keys_of es) f) (e.0 ∷ keys_of es) (e.0 ∷ (keys_of es ++ f ∷ []))
-  by true again = refl
-  by false again = ap (λ ns. e.0 ∷ ns) again ∙ after (is_among (keys_of es) f)
+      by : (b : Bool) → keys_of (put es f v) ≡ arrived (keys_of es) f →
+          keys_of (if b then (e.0, v) ∷ es else e ∷ put es f v) ≡ cond (b || is_among f (keys_of es)) (e.0 ∷ keys_of es) (e.0 ∷ (keys_of es ++ f ∷ []))
+      by true again = refl
+      by false again = ap (λ ns. e.0 ∷ ns) again ∙ after (is_among f (keys_of es))
 
 -- names that are mentioned later stand after those before
 record Longer (names more : List (List ℕ)) : Type 0 where
@@ -186,29 +194,29 @@ record Longer (names more : List (List ℕ)) : Type 0 where
 
 longer : (names more : List (List ℕ)) → Longer names (fold arrived names more)
 longer names [] = record { rest = []; is = sym (append-nil names) }
-longer names (m ∷ ms) = by (is_among names m) (λ ns. longer ns ms) where
+longer names (m ∷ ms) = by (is_among m names) (λ ns. longer ns ms) where
   by : (b : Bool) → ((ns : List (List ℕ)) → Longer ns (fold arrived ns ms)) → Longer names (fold arrived (cond b names (names ++ m ∷ [])) ms)
   by true again = again names
   by false again = let l = again (names ++ m ∷ []) in record { rest = m ∷ l.rest; is = l.is ∙ append_assoc names (m ∷ []) l.rest }
 
-place_kept : (f : List ℕ) (names rest : List (List ℕ)) → is_among names f ≡ true → position_or_len (bytes_eq f) (names ++ rest) ≡ position_or_len (bytes_eq f) names
+place_kept : (f : List ℕ) (names rest : List (List ℕ)) → is_among f names ≡ true → position_or_len (bytes_eq f) (names ++ rest) ≡ position_or_len (bytes_eq f) names
 place_kept f [] rest h = cc
-place_kept f (n ∷ ns) rest h = by (bytes_eq f n) h (place_kept f ns rest) where
-  by : (b : Bool) → (b || is_among ns f) ≡ true → (is_among ns f ≡ true → position_or_len (bytes_eq f) (ns ++ rest) ≡ position_or_len (bytes_eq f) ns) → cond (not b) (1 + position_or_len (bytes_eq f) (ns ++ rest)) 0 ≡ cond (not b) (1 + position_or_len (bytes_eq f) ns) 0
+place_kept f (n ∷ ns) rest h = by (bytes_eq f n) (ap (λ b. b || is_among f ns) (swapped f n) ∙ h) (place_kept f ns rest) where
+  by : (b : Bool) → (b || is_among f ns) ≡ true → (is_among f ns ≡ true → position_or_len (bytes_eq f) (ns ++ rest) ≡ position_or_len (bytes_eq f) ns) → cond (not b) (1 + position_or_len (bytes_eq f) (ns ++ rest)) 0 ≡ cond (not b) (1 + position_or_len (bytes_eq f) ns) 0
   by true k again = refl
   by false k again = ap (λ x. 1 + x) (again k)
 
-place_new : (f : List ℕ) (names rest : List (List ℕ)) → is_among names f ≡ false → position_or_len (bytes_eq f) (names ++ f ∷ rest) ≡ position_or_len (bytes_eq f) names
+place_new : (f : List ℕ) (names rest : List (List ℕ)) → is_among f names ≡ false → position_or_len (bytes_eq f) (names ++ f ∷ rest) ≡ position_or_len (bytes_eq f) names
 place_new f [] rest h = ap (λ b. cond (not b) (1 + position_or_len (bytes_eq f) rest) 0) (alike f)
-place_new f (n ∷ ns) rest h = by (bytes_eq f n) h (place_new f ns rest) where
-  by : (b : Bool) → (b || is_among ns f) ≡ false → (is_among ns f ≡ false → position_or_len (bytes_eq f) (ns ++ f ∷ rest) ≡ position_or_len (bytes_eq f) ns) → cond (not b) (1 + position_or_len (bytes_eq f) (ns ++ f ∷ rest)) 0 ≡ cond (not b) (1 + position_or_len (bytes_eq f) ns) 0
+place_new f (n ∷ ns) rest h = by (bytes_eq f n) (ap (λ b. b || is_among f ns) (swapped f n) ∙ h) (place_new f ns rest) where
+  by : (b : Bool) → (b || is_among f ns) ≡ false → (is_among f ns ≡ false → position_or_len (bytes_eq f) (ns ++ f ∷ rest) ≡ position_or_len (bytes_eq f) ns) → cond (not b) (1 + position_or_len (bytes_eq f) (ns ++ f ∷ rest)) 0 ≡ cond (not b) (1 + position_or_len (bytes_eq f) ns) 0
   by true k again = cc
   by false k again = ap (λ x. 1 + x) (again k)
 
 -- the place of a family stays
 place_stays : (f : List ℕ) (names more : List (List ℕ)) → position_or_len (bytes_eq f) (fold arrived (arrived names f) more) ≡ position_or_len (bytes_eq f) names
-place_stays f names more = by (is_among names f) refl where
-  by : (b : Bool) → is_among names f ≡ b → position_or_len (bytes_eq f) (fold arrived (cond b names (names ++ f ∷ [])) more) ≡ position_or_len (bytes_eq f) names
+place_stays f names more = by (is_among f names) refl where
+  by : (b : Bool) → is_among f names ≡ b → position_or_len (bytes_eq f) (fold arrived (cond b names (names ++ f ∷ [])) more) ≡ position_or_len (bytes_eq f) names
   by true e = let l = longer names more in ap (position_or_len (bytes_eq f)) l.is ∙ place_kept f names l.rest e
   by false e =
       let l = longer (names ++ f ∷ []) more in
@@ -295,18 +303,18 @@ pub tells_nothing : Tells [] [] []
 tells_nothing = record { names = refl; each = λ name. refl; samples = λ more. refl }
 
 -- no name stands twice
-apart_more : (names : List (List ℕ)) (f : List ℕ) → AreApart names → is_among names f ≡ false → AreApart (names ++ f ∷ [])
+apart_more : (names : List (List ℕ)) (f : List ℕ) → AreApart names → is_among f names ≡ false → AreApart (names ++ f ∷ [])
 apart_more [] f a h = (refl, tt)
 apart_more (n ∷ ns) f a h =
-    let k = or_none (bytes_eq f n) (is_among ns f) h in (
-      list_any-append (bytes_eq n) ns (f ∷ []) ∙ ap (λ b. b || (bytes_eq n f || false)) a.0 ∙ ap (λ b. b || false) (turned f n k.0),
+    let k = or_none (bytes_eq n f) (is_among f ns) h in (
+      list_any-append (λ m. bytes_eq m n) ns (f ∷ []) ∙ ap (λ b. b || (bytes_eq f n || false)) a.0 ∙ ap (λ b. b || false) (turned n f k.0),
       apart_more ns f a.1 k.1,
     )
 
 apart_arrived : (names more : List (List ℕ)) → AreApart names → AreApart (fold arrived names more)
 apart_arrived names [] a = a
-apart_arrived names (m ∷ ms) a = by (is_among names m) refl (λ ns. apart_arrived ns ms) where
-  by : (b : Bool) → is_among names m ≡ b → ((ns : List (List ℕ)) → AreApart ns → AreApart (fold arrived ns ms)) → AreApart (fold arrived (cond b names (names ++ m ∷ [])) ms)
+apart_arrived names (m ∷ ms) a = by (is_among m names) refl (λ ns. apart_arrived ns ms) where
+  by : (b : Bool) → is_among m names ≡ b → ((ns : List (List ℕ)) → AreApart ns → AreApart (fold arrived ns ms)) → AreApart (fold arrived (cond b names (names ++ m ∷ [])) ms)
   by true e again = again names a
   by false e again = again (names ++ m ∷ []) (apart_more names m a e)
 
@@ -314,10 +322,10 @@ names_apart : (all : List Read) → AreApart (family_names all)
 names_apart all = apart_arrived [] (mentions all) tt
 
 -- an entry is what is known of its name
-found_name : (es : Entries) (name : List ℕ) (k : Known) → lookup (bytes_eq name) es ≡ Some k → is_among (keys_of es) name ≡ true
+found_name : (es : Entries) (name : List ℕ) (k : Known) → lookup (bytes_eq name) es ≡ Some k → is_among name (keys_of es) ≡ true
 found_name [] name k h = cc
-found_name (e ∷ es) name k h = by (bytes_eq name e.0) h (found_name es name k) where
-  by : (b : Bool) → cond b (Some e.1) (lookup (bytes_eq name) es) ≡ Some k → (lookup (bytes_eq name) es ≡ Some k → is_among (keys_of es) name ≡ true) → (b || is_among (keys_of es) name) ≡ true
+found_name (e ∷ es) name k h = ap (λ b. b || is_among name (keys_of es)) (swapped e.0 name) ∙ by (bytes_eq name e.0) h (found_name es name k) where
+  by : (b : Bool) → cond b (Some e.1) (lookup (bytes_eq name) es) ≡ Some k → (lookup (bytes_eq name) es ≡ Some k → is_among name (keys_of es) ≡ true) → (b || is_among name (keys_of es)) ≡ true
   by true j again = refl
   by false j again = again j
 
@@ -328,7 +336,7 @@ all_families (e ∷ es) g a h =
     λ i. family_from (e.0, h e.0 e.1 (ap (λ b. cond b (Some e.1) (lookup (bytes_eq e.0) es)) (alike e.0)) i) ∷ all_families es g a.1 (λ name k f. h name k (later name k f (bytes_eq name e.0) refl)) i where
       later : (name : List ℕ) (k : Known) → lookup (bytes_eq name) es ≡ Some k → (b : Bool) → bytes_eq name e.0 ≡ b → cond (bytes_eq name e.0) (Some e.1) (lookup (bytes_eq name) es) ≡ Some k
       later name k f true t =
-          let p : true ≡ false = sym (found_name es name k f) ∙ ap (is_among (keys_of es)) (same_name name e.0 t) ∙ a.0 in cc
+          let p : true ≡ false = sym (found_name es name k f) ∙ ap (λ n. is_among n (keys_of es)) (same_name name e.0 t) ∙ a.0 in cc
       later name k f false t = ap (λ b. cond b (Some e.1) (lookup (bytes_eq name) es)) t ∙ f
 
 -- The families that are kept are those of the lines.

@@ -5,6 +5,7 @@ use Rattle.std.specs.List.{list_any, position_or_len, ends_with}
 use Rattle.std.specs.Option.{option_map, option_or}
 use Rattle.std.specs.Str.{bytes_eq}
 use Rattle.std.specs.Str.Parse.{signed_digits_value}
+use Rattle.pr_words.specs.Names.{is_among}
 use Rattle.pr_num.specs.declared.value.Num.{Num}
 use Rattle.pr_num.specs.declared.text.NumFault.{NumFault}
 use Rattle.pr_num.specs.declared.text.NumFault.TheVariants.{NotNumber, TooWide}
@@ -98,11 +99,8 @@ abbrev pub mentions : List Read → List (List ℕ)
 mentions all = flat_map mentioned (arrivals all)
 
 -- The names of the families, in order of first mention.
-abbrev pub is_among : List (List ℕ) → List ℕ → Bool
-is_among names name = list_any (bytes_eq name) names
-
 abbrev pub arrived : List (List ℕ) → List ℕ → List (List ℕ)
-arrived names name = cond (is_among names name) names (names ++ name ∷ [])
+arrived names name = cond (is_among name names) names (names ++ name ∷ [])
 
 abbrev pub family_names : List Read → List (List ℕ)
 family_names all = fold arrived [] (mentions all)

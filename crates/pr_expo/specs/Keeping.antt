@@ -4,6 +4,7 @@ use Rattle.std.specs.Prelude.{◌≡◌, ℕ, ◌+◌, ◌<◌, ◌≤◌, ◌^�
 use Rattle.std.specs.Map.{lookup, keys_of}
 use Rattle.std.specs.Str.{bytes_eq}
 use Rattle.indexmap.specs.IndexMap.{insert_entry}
+use Rattle.pr_words.specs.Names.{is_among}
 use Rattle.pr_words.specs.Lines.{text_lines}
 use Rattle.pr_expo_line.specs.declared.place.FamilyKind.{FamilyKind}
 use Rattle.pr_expo_line.specs.declared.place.FamilyKind.TheVariants.{Untyped}
@@ -16,7 +17,7 @@ use Rattle.pr_expo_line.specs.Line.{line_read}
 use Rattle.pr_expo.specs.declared.exposition.ExpoError.{ExpoError}
 use Rattle.pr_expo.specs.declared.exposition.ExpoError.TheVariants.{Fault, Memory}
 use Rattle.pr_expo.specs.Text.{reads_from, text_reads}
-use Rattle.pr_expo.specs.Families.{arrived, family_by_kinds, family_names, has_late_type, is_among, is_help, is_sampled, kind_of, sample_by, samples_by, types_of}
+use Rattle.pr_expo.specs.Families.{arrived, family_by_kinds, family_names, has_late_type, is_help, is_sampled, kind_of, sample_by, samples_by, types_of}
 
 -- what was read before, and then the rest
 abbrev pub after : List Read → Result (List Read) ExpoError → Result (List Read) ExpoError
@@ -115,4 +116,4 @@ pub record IsUnderWay (bytes : List ℕ) (entries : Entries) (lines : List Line)
 -- no name twice
 abbrev pub AreApart : List (List ℕ) → Type 0
 AreApart [] = Unit {0}
-AreApart (name ∷ names) = (is_among names name ≡ false) × AreApart names
+AreApart (name ∷ names) = (is_among name names ≡ false) × AreApart names

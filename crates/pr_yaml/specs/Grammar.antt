@@ -1,7 +1,6 @@
 -- The trees of YAML texts over their tokens, by columns.
 use Rattle.std.specs.Prelude.{ℕ, ◌+◌, ◌-◌, Option, Some, None, Bool, true, false, ◌||◌, ◌&&◌, not, if◌then◌else◌, nat_eq, nat_le, nat_lt, is_some, List, [], ◌∷◌, ◌++◌, map}
-use Rattle.std.specs.List.{list_any}
-use Rattle.std.specs.Str.{bytes_eq}
+use Rattle.pr_words.specs.Names.{is_among}
 use Rattle.pr_forms.specs.Form.{Form, token, nothing, pair, either, rule, chosen}
 use Rattle.pr_yaml_scan.specs.declared.token.Token.{Token}
 use Rattle.pr_yaml_scan.specs.declared.token.TokenKind.{TokenKind}
@@ -114,11 +113,7 @@ list_from column room (dash_at line c) =
     if is_allowed room && nat_eq column c then Some (Items line column (room - 1)) else None
 list_from column room _ = None
 
--- Whether a key stands among others. Where keys are distinct, a key that does is no key of their
--- map.
-abbrev pub is_among : List ℕ → List (List ℕ) → Bool
-is_among key = list_any (λ k. bytes_eq k key)
-
+-- Where keys are distinct, a key that stands among others is no key of their map.
 abbrev pub is_taken : Bool → List ℕ → List (List ℕ) → Bool
 is_taken distinct key keys = distinct && is_among key keys
 

@@ -1,7 +1,7 @@
 // The entries of a map that a reader has found.
 ghost use Rattle.std.specs.Prelude.{◌≡◌, ◌++◌, ◌∷◌, [], ℕ, List, IfOk, map};
+ghost use Rattle.pr_words.specs.Names.{is_among};
 ghost use Rattle.pr_yaml.specs.Tree.{tree_of, entry_tree_of};
-ghost use Rattle.pr_yaml.specs.Grammar.{is_among};
 ghost use Rattle.pr_yaml.specs.Reader.{knows, keys_in};
 
 use crate::node::{Entry, Node};
