@@ -1,5 +1,5 @@
 -- In a map whose keys are distinct a name has one field.
-use Rattle.std.proofs.Common.{◌≡◌, ℕ, List, [], ◌∷◌, ◌++◌, Bool, true, false, not, ◌&&◌, ◌||◌, Some, refl, sym, ap, subst, ◌∙◌, inl, inr}
+use Rattle.std.proofs.Common.{◌≡◌, ℕ, List, [], ◌∷◌, ◌++◌, true, false, not, ◌&&◌, Some, refl, sym, ap, subst, ◌∙◌, inl, inr}
 use Rattle.std.specs.Prelude.{find}
 use Rattle.std.specs.Option.{option_map}
 use Rattle.std.specs.List.{AllByRecursion, flat_map}
@@ -11,16 +11,13 @@ use Rattle.pr_words.specs.Names.{is_among}
 use Rattle.pr_yaml.specs.Tree.{Tree, text_node, list_node, map_node, Trees, no_trees, tree_then, trees_in, EntryTree, EntryTrees, no_entries, entry_then, entries_in, is_absent}
 use Rattle.pr_yaml.specs.Distinct.{has_distinct_keys, have_distinct_keys, are_distinct}
 use Rattle.pr_fields.specs.Nodes.{field, fields_of, is_field, value_of}
+use Rattle.pr_fields.proofs.NoProblems.{or_parts}
 
 module _ {X : Type 0} where
   -- two facts of each make a third
   pub all_both : {P Q R : X → Type 0} (xs : List X) → ((x : X) → P x → Q x → R x) → AllByRecursion P xs → AllByRecursion Q xs → AllByRecursion R xs
   all_both [] f p q = tt
   all_both (x ∷ xs) f p q = (f x p.0 q.0, all_both xs f p.1 q.1)
-
-or_parts : (a b : Bool) → a || b ≡ false → (a ≡ false) × (b ≡ false)
-or_parts true b h = cc
-or_parts false b h = (refl, h)
 
 -- a key that is not among these and one more
 not_among : (key other : List ℕ) (keys : List (List ℕ)) → is_among key (keys ++ other ∷ []) ≡ false → (bytes_eq other key ≡ false) × (is_among key keys ≡ false)

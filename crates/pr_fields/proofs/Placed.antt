@@ -1,4 +1,5 @@
--- A list in order is the one that rises, and in which elements that tie stand as they did.
+-- A list in order rises, and elements of which none comes before the other stand in it as they did.
+-- No other list is such, so a stable sort gives it.
 use Rattle.std.proofs.Common.{◌≡◌, ℕ, zero, suc, ◌<◌, ◌≤◌, Bool, true, false, not, cond, List, [], ◌∷◌, length, get_or, filter, refl, sym, ap, ◌∙◌, add-one, arith, inl, inr, suc-le-suc, zero-le}
 use Rattle.std.proofs.lemmas.Bool.{cond-true, cond-false, cases_Bool, and_parts, and_from, not-true, true≢false}
 use Rattle.std.proofs.lemmas.List.Sorted.{sorted_far}
@@ -18,7 +19,7 @@ module _ {X : Type 0} where
   all_at P [] h = tt
   all_at P (y ∷ ys) h = (h zero y (suc-le-suc zero-le), all_at P ys (λ j d lt. h (suc j) d (suc-le-suc lt)))
 
-  -- each is followed by none that stands before it
+  -- each is followed by none that comes before it
   abbrev Rises : (X → X → Bool) → List X → Type 0
   Rises before [] = Unit {0}
   Rises before (y ∷ ys) = AllByRecursion (λ z. before z y ≡ false) ys × Rises before ys
@@ -54,7 +55,7 @@ module _ {X : Type 0} where
     sorted_from : (xs : List X) → Rises before xs → IsSortedBy before xs
     sorted_from xs h k d low high = ap (λ n. before (get_or xs n d) (get_or xs k d)) (add-one k) ∙ next xs k d (omega arith) h
 
-    -- where one ties with x, x does not stand before an element that none stands before
+    -- x does not come before z, where one that ties with x stands among those that do not
     found : (x z : X) (ys : List X) (w : X) (ws : List X) → AllByRecursion (λ y. before y z ≡ false) ys → filter (ties before x) ys ≡ w ∷ ws → before x z ≡ false
     found x z [] w ws h e = cc
     found x z (y ∷ ys) w ws h e =
@@ -108,7 +109,7 @@ module _ {X : Type 0} where
     rises_ordered [] = tt
     rises_ordered (x ∷ xs) = rises_placed x (ordered before xs) (rises_ordered xs)
 
-    -- elements that tie stand as before where one is put before those that do not stand before it
+    -- elements that tie stand as before where one is put in its place
     filter_placed : (w x : X) (ys : List X) → filter (ties before w) (placed before x ys) ≡ filter (ties before w) (x ∷ ys)
     filter_placed w x [] = refl
     filter_placed w x (y ∷ ys) = by (before y x) refl (filter_placed w x ys) where
@@ -132,7 +133,6 @@ module _ {X : Type 0} where
     pub sorted_ordered : (xs : List X) → IsSortedBy before (ordered before xs)
     sorted_ordered xs = sorted_from (ordered before xs) (rises_ordered xs)
 
-    -- so a stable sort gives it
     pub only_ordered : (xs ys : List X) → IsSortedBy before ys → IsStableBy before xs ys → ys ≡ ordered before xs
     only_ordered xs ys up stable =
         same ys (ordered before xs) (rises_from ys up) (rises_ordered xs) (λ w. stable w ∙ sym (ties_ordered xs w))

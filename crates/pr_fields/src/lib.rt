@@ -2,6 +2,7 @@
 #![tactic(auto)]
 
 mod access;
+pub mod examples;
 mod found;
 mod labels;
 pub mod laws;

@@ -3,7 +3,7 @@ ghost use Rattle.std.specs.Prelude.{◌≡◌, ◌∷◌, [], codes};
 ghost use Rattle.pr_labels.specs.LabelSet.{pair_of};
 ghost use Rattle.pr_yaml.specs.Tree.{list_node, map_node, no_trees, tree_then, no_entries, entry_then, absent_node};
 ghost use Rattle.pr_yaml.specs.Worked.{plain, quoted};
-ghost use Rattle.pr_fields.specs.declared.problem.ProblemKind.TheVariants.{WantMap, UnknownField, Missing, DuplicateGroup, NoName, BadLabel, BadLimit, NotForRecording};
+ghost use Rattle.pr_fields.specs.declared.problem.ProblemKind.TheVariants.{WantMap, UnknownField, Missing, DuplicateGroup, NoName, BadLimit, NotForRecording};
 ghost use Rattle.pr_fields.specs.Problems.{problem};
 ghost use Rattle.pr_fields.specs.Order.{in_order};
 ghost use Rattle.pr_rulefile.specs.declared.fields.Naming.TheVariants.{Record};
@@ -27,7 +27,6 @@ pub fn files_have_these_problems()
 pub fn rules_have_these_problems()
     ensures bare { rule_problems (map_node 4 no_entries) ≡ problem 4 NoName ∷ problem 4 (Missing (codes "expr")) ∷ [] }
     ensures by_kind { in_order (problem 4 NoName ∷ problem 4 (Missing (codes "expr")) ∷ problem 3 BadLimit ∷ []) ≡ problem 3 BadLimit ∷ problem 4 (Missing (codes "expr")) ∷ problem 4 NoName ∷ [] }
-    ensures as_found { in_order (problem 4 (BadLabel (codes "b")) ∷ problem 4 (BadLabel (codes "a")) ∷ []) ≡ problem 4 (BadLabel (codes "b")) ∷ problem 4 (BadLabel (codes "a")) ∷ [] }
     ensures recording { rule_field_problems Record (record { key = codes "for"; line = 6; value = list_node 7 no_trees }) ≡ problem 6 (NotForRecording (codes "for")) ∷ [] }
     ensures absent { rule_field_problems Record (record { key = codes "for"; line = 6; value = absent_node 6 }) ≡ [] }
 {}
