@@ -2,16 +2,8 @@
 //! status.
 #![tactic(auto)]
 
-ghost use Rattle.std.specs.Prelude.{◌≡◌};
-ghost use Rattle.std.specs.Process.{exit_status};
-ghost use Rattle.pr_status.specs.Status.{number_of};
-
-#[cfg(test)]
-mod tests;
-mod words;
-
-use crate::words::words_of;
 use pr_outside::{DiskFiles, StdSink, StdSource, SureKeeper};
+use pr_process::{exit_of, words_of};
 use pr_top::{Status, promtool};
 use std::alloc::Global;
 use std::process::ExitCode;
@@ -22,13 +14,6 @@ fn run(alloc: Global, rt: &HostRuntime, words: &[String]) -> Status {
     let mut files = DiskFiles::new(alloc, rt);
     let mut keeper = SureKeeper::new(Vec::new(alloc));
     promtool(alloc, words, &mut input, &mut files, &mut keeper, &mut out)
-}
-
-// The number of a status, as the process hands it on.
-fn exit_of(status: Status) -> ExitCode
-    ensures { exit_status result ≡ number_of status }
-{
-    ExitCode::from(status.number())
 }
 
 fn main(rt: HostRuntime) -> ExitCode {

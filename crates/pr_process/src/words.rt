@@ -21,8 +21,9 @@ fn word_at<R: Env>(alloc: Global, rt: &R, index: usize) -> Result<Option<String>
     Ok(Some(String::new(alloc)))
 }
 
-/// The words after the program's name.
-pub(crate) fn words_of<R: Env>(alloc: Global, rt: &R) -> Result<Vec<String>, AllocError> {
+/// The words after the program's name. One that is no text, or has more than 2^30 bytes, is the
+/// empty word.
+pub fn words_of<R: Env>(alloc: Global, rt: &R) -> Result<Vec<String>, AllocError> {
     let mut words = Vec::new(alloc);
     for index in 1..usize::MAX {
         match word_at(alloc, rt, index)? {
