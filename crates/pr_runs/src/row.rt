@@ -13,11 +13,12 @@
 // - `*`, a number, and one of these lines, which stands there so often.
 //
 // In lines of files and of the input `·` stands for a blank, `→` for a tab, `¶` for a line feed, `␍`
-// for a carriage return, `�` for a byte that is no text, and `∎` for the end, without a line feed.
+// for a carriage return, `□` for a byte order mark, `�` for a byte that is no text, and `∎` for the
+// end, without a line feed.
 use pr_outside::{HeldFile, MemFiles, MemSink, MemSource, SureKeeper};
 use pr_top::promtool;
 use std::alloc::{AllocError, Global};
-use std::{io, str};
+use std::str;
 
 /// Appends a line of a table.
 pub(crate) fn push_text(bytes: &mut Vec<u8>, text: &str) -> Result<(), AllocError> {
