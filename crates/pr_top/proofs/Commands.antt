@@ -55,6 +55,7 @@ ended content files keeper a left old new i0 i1 o0 o1 true t f short cause = rec
   front = fronted content a left old new true f;
   cause = (cause.0, refl, refl, cause.1);
   not_usage = λ e. absurd (cc);
+  not_lint = λ e. absurd (cc);
   long = λ e. absurd (cc);
   long_exactly = on_told a (λ bytes. 2 ^ 32 ≤ length bytes → AreCalm (counts i0 files keeper o0) (counts i1 files keeper o1) → status.Problem ≢ status.Memory
       → status.Problem ≡ status.TooLong) (λ bytes is many calm some. absurd (omega (arith, many, at_told a (λ bytes. length bytes < 2 ^ 32) bytes is short)));
@@ -66,6 +67,7 @@ ended content files keeper a left old new i0 i1 o0 o1 false t f short cause = re
   front = fronted content a left old new true f;
   cause = (cause.0, refl, refl, cause.1);
   not_usage = λ e. absurd (cc);
+  not_lint = λ e. absurd (cc);
   long = λ e. absurd (cc);
   long_exactly = on_told a (λ bytes. 2 ^ 32 ≤ length bytes → AreCalm (counts i0 files keeper o0) (counts i1 files keeper o1) → status.Done ≢ status.Memory
       → status.Done ≡ status.TooLong) (λ bytes is many calm some. absurd (omega (arith, many, at_told a (λ bytes. length bytes < 2 ^ 32) bytes is short)));
@@ -83,6 +85,7 @@ cut content files keeper a left old new i0 i1 o0 o1 Read f cause long = record {
   front = fronted content a left old new true f;
   cause = inl (cause.0, refl, refl, cause.1);
   not_usage = λ e. absurd (cc);
+  not_lint = λ e. absurd (cc);
   long = λ e. absurd (cc);
   long_exactly = on_told a (λ bytes. 2 ^ 32 ≤ length bytes → AreCalm (counts i0 files keeper o0) (counts i1 files keeper o1) → status.ReadFault ≢ status.Memory
       → status.ReadFault ≡ status.TooLong) (λ bytes is many calm some. absurd (no_rise i0 i1 calm.input cause.0));
@@ -94,6 +97,7 @@ cut content files keeper a left old new i0 i1 o0 o1 Write f cause long = record 
   front = fronted content a left old new false f;
   cause = (cause.0, refl, refl, cause.1);
   not_usage = λ e. absurd (cc);
+  not_lint = λ e. absurd (cc);
   long = λ e. absurd (cc);
   long_exactly = on_told a (λ bytes. 2 ^ 32 ≤ length bytes → AreCalm (counts i0 files keeper o0) (counts i1 files keeper o1) → status.WriteFault ≢ status.Memory
       → status.WriteFault ≡ status.TooLong) (λ bytes is many calm some. absurd (no_rise o0 o1 calm.out cause.1));
@@ -105,6 +109,7 @@ cut content files keeper a left old new i0 i1 o0 o1 Memory f cause long = record
   front = fronted content a left old new false f;
   cause = (cause.0, refl, refl, cause.1);
   not_usage = λ e. absurd (cc);
+  not_lint = λ e. absurd (cc);
   long = λ e. absurd (cc);
   long_exactly = on_told a (λ bytes. 2 ^ 32 ≤ length bytes → AreCalm (counts i0 files keeper o0) (counts i1 files keeper o1) → status.Memory ≢ status.Memory
       → status.Memory ≡ status.TooLong) (λ bytes is many calm some. absurd (some refl));
@@ -117,6 +122,7 @@ cut content files keeper a left old new i0 i1 o0 o1 TooLong f cause long = recor
   front = fronted content a left old new true f;
   cause = (cause.0, refl, refl, cause.1);
   not_usage = λ e. absurd (cc);
+  not_lint = λ e. absurd (cc);
   long = λ e. long refl;
   long_exactly = on_told a (λ bytes. 2 ^ 32 ≤ length bytes → AreCalm (counts i0 files keeper o0) (counts i1 files keeper o1) → status.TooLong ≢ status.Memory
       → status.TooLong ≡ status.TooLong) (λ bytes is many calm some. refl);

@@ -58,6 +58,7 @@ pub record MeansRun (content : Content) (rows : List Entry) (keeps : Option (Lis
   -- each status has its cause
   pub cause : HasCause before now result
   pub not_usage : result ≢ status.Usage
+  pub not_lint : result ≢ status.Lint
   -- 8 exactly where 2^32 bytes come
   pub long : result ≡ status.TooLong → IsLong left_old
   pub long_exactly : IfSome left_old (λ bytes. 2 ^ 32 ≤ length bytes → AreCalm before now → result ≢ status.Memory → result ≡ status.TooLong)
