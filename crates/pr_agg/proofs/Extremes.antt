@@ -4,7 +4,7 @@ use Rattle.std.specs.Ordering.{is_lt, ord_min}
 use Rattle.std.specs.declared.cmp.Ordering.{Ordering}
 use Rattle.std.specs.declared.cmp.Ordering.TheVariants.{Less, Equal, Greater}
 use Rattle.pr_num.specs.declared.value.Num.{Num}
-use Rattle.pr_meaning.specs.Aggregation.{first_value, value_placed, with_placed}
+use Rattle.pr_vectors.specs.Aggregation.{first_value, value_placed, with_placed}
 use Rattle.pr_window.specs.Folding.{and_item}
 use Rattle.pr_agg.specs.Extremes.{itself}
 

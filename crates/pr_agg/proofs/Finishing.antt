@@ -9,8 +9,8 @@ use Rattle.pr_labels.specs.declared.pair.Pair.{Pair}
 use Rattle.pr_labels.specs.declared.item.Item.{Item}
 use Rattle.pr_labels.specs.declared.grouping.Grouping.{Grouping}
 use Rattle.pr_labels.proofs.LabelOrder.{labels_total}
-use Rattle.pr_meaning.specs.Vectors.{element, label_sets}
-use Rattle.pr_meaning.specs.Aggregation.{aggregated, answers, behind, group_of, part, prepended, values_of}
+use Rattle.pr_vectors.specs.Vectors.{element, label_sets}
+use Rattle.pr_vectors.specs.Aggregation.{aggregated, answers, behind, group_of, part, prepended, values_of}
 use Rattle.pr_agg.specs.Parts.{AreParts, after_items, finished, finished_all, fold_and_finish}
 
 -- one element more before the rest

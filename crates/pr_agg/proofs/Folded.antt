@@ -2,7 +2,7 @@
 use Rattle.std.proofs.Common.{◌≡◌, ℕ, ◌+◌, List, [], ◌∷◌, fold, length, refl, ap, arith}
 use Rattle.pr_num.specs.declared.value.Num.{Num}
 use Rattle.pr_num.specs.Total.{joined, one_value}
-use Rattle.pr_meaning.specs.Aggregation.{always, count_of_values, greatest_first, greatest_of_values, least_first, least_of_values, mean_of_values, one_of_values, sum_of_values}
+use Rattle.pr_vectors.specs.Aggregation.{always, count_of_values, greatest_first, greatest_of_values, least_first, least_of_values, mean_of_values, one_of_values, sum_of_values}
 use Rattle.pr_window.specs.Folding.{and_item}
 use Rattle.pr_agg.specs.Counts.{both_parts, one_each}
 use Rattle.pr_agg.specs.Extremes.{greater, itself, lesser}

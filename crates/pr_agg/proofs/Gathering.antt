@@ -13,8 +13,8 @@ use Rattle.pr_labels.specs.Order.{labels_cmp, labels_eq}
 use Rattle.pr_labels.specs.Rising.{with_labels}
 use Rattle.pr_labels.proofs.LabelOrder.{labels_decide}
 use Rattle.pr_labels.proofs.LabelMaps.{keys_insert, tie}
-use Rattle.pr_meaning.specs.Vectors.{in_label_order}
-use Rattle.pr_meaning.specs.Aggregation.{values_of}
+use Rattle.pr_vectors.specs.Vectors.{in_label_order}
+use Rattle.pr_vectors.specs.Aggregation.{values_of}
 use Rattle.pr_window.specs.Folding.{folded, with_next}
 use Rattle.pr_window.proofs.Folding.{folded_more, weight_folded}
 use Rattle.pr_agg.specs.Parts.{AreParts, part_by}

@@ -9,7 +9,7 @@ use Rattle.std.specs.declared.cmp.Ordering.{Ordering}
 use Rattle.std.specs.declared.cmp.Ordering.TheVariants.{Less, Equal, Greater}
 use Rattle.pr_num.specs.declared.value.Num.{Num}
 use Rattle.pr_num.proofs.Algebra.{order_is_total}
-use Rattle.pr_meaning.specs.Aggregation.{greatest_first, least_first, nan_class}
+use Rattle.pr_vectors.specs.Aggregation.{greatest_first, least_first, nan_class}
 
 -- a value alone
 abbrev pub itself : Num → Num

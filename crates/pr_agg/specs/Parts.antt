@@ -9,8 +9,8 @@ use Rattle.pr_num.specs.declared.value.TooWide.{TooWide}
 use Rattle.pr_labels.specs.declared.pair.Pair.{Pair}
 use Rattle.pr_labels.specs.declared.item.Item.{Item}
 use Rattle.pr_labels.specs.Order.{labels_cmp, labels_eq}
-use Rattle.pr_meaning.specs.Vectors.{in_label_order}
-use Rattle.pr_meaning.specs.Aggregation.{behind, values_of}
+use Rattle.pr_vectors.specs.Vectors.{in_label_order}
+use Rattle.pr_vectors.specs.Aggregation.{behind, values_of}
 use Rattle.pr_window.specs.Folding.{folded}
 
 -- each call of the closure on a summary answers what the function gives

@@ -1,4 +1,4 @@
-//! Aggregations of a vector by labels. A call equals its definition in `pr_meaning`, which speaks
+//! Aggregations of a vector by labels. A call equals its definition in `pr_vectors`, which speaks
 //! of the filters of the vector; the parts are gathered in an ordered map, so that the work grows
 //! with the elements and not with the groups.
 #![tactic(auto)]

@@ -2,10 +2,10 @@
 ghost use Rattle.std.specs.Prelude.{◌≡◌, true, false, is_some, Some, Ok, IfOk, OnOk, IsSorted};
 ghost use Rattle.std.specs.BTreeMap.{IsOrdered, Updates, get, keys};
 ghost use Rattle.pr_num.specs.Order.{order_of};
-ghost use Rattle.pr_meaning.specs.Vectors.{IsVector};
+ghost use Rattle.pr_vectors.specs.Vectors.{IsVector};
 ghost use Rattle.pr_labels.specs.Order.{labels_cmp};
 ghost use Rattle.pr_labels.specs.Rising.{with_labels};
-ghost use Rattle.pr_meaning.specs.Aggregation.{aggregated, always, group_of, in_value_order, quantile_of_values};
+ghost use Rattle.pr_vectors.specs.Aggregation.{aggregated, always, group_of, in_value_order, quantile_of_values};
 ghost use Rattle.pr_window.specs.Folding.{with_next};
 ghost use Rattle.pr_agg.specs.Lists.{alone, one_after_other, quantiles_in};
 ghost use Rattle.pr_agg.specs.Parts.{AreParts};

@@ -1,6 +1,6 @@
 // The parts of a vector, each folded to a summary.
 ghost use Rattle.std.specs.Prelude.{◌≡◌, ◌+◌, ◌<◌, ◌^◌, IfOk, IfSome};
-ghost use Rattle.pr_meaning.specs.Aggregation.{group_of};
+ghost use Rattle.pr_vectors.specs.Aggregation.{group_of};
 ghost use Rattle.pr_window.specs.Folding.{Lifts, Combines, with_next};
 ghost use Rattle.pr_agg.specs.Parts.{AreParts};
 

@@ -2,8 +2,8 @@
 ghost use Rattle.std.specs.Prelude.{◌≡◌, ◌≢◌, Ok, Err, IfOk, IfErr, MatchResult};
 ghost use Rattle.pr_num.specs.declared.value.Num.TheVariants.{NaN};
 ghost use Rattle.pr_num.specs.Arithmetic.{too_wide, whole_of};
-ghost use Rattle.pr_meaning.specs.Vectors.{IsVector};
-ghost use Rattle.pr_meaning.specs.Aggregation.{aggregated, always, count_of_values, greatest_of_values, least_of_values, mean_of_values, one_of_values, sum_of_values};
+ghost use Rattle.pr_vectors.specs.Vectors.{IsVector};
+ghost use Rattle.pr_vectors.specs.Aggregation.{aggregated, always, count_of_values, greatest_of_values, least_of_values, mean_of_values, one_of_values, sum_of_values};
 ghost use Rattle.pr_agg.specs.declared.fault.AggFault.TheVariants as fault;
 ghost use Rattle.pr_agg.specs.Extremes.{greater, lesser};
 

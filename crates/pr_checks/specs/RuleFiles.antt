@@ -1,7 +1,7 @@
 -- What `check rules` tells of a file.
 use Rattle.std.specs.Prelude.{ℕ, nat_lt, true, false, List, ◌++◌, cond, codes, decimal, flat_map, length, Option, Some, None}
 use Rattle.pr_outside.specs.Contents.{file_limit}
-use Rattle.pr_checking.specs.FileChecks.{Told}
+use Rattle.pr_check_loops.specs.FileChecks.{Told}
 use Rattle.pr_rulefile.specs.File.{RuleReading, gives_file, gives_problems, rule_file_of}
 use Rattle.pr_rulefile.specs.Groups.{rule_count}
 use Rattle.pr_checks.specs.Problems.{problem_line}

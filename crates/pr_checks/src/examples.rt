@@ -6,7 +6,7 @@ ghost use Rattle.pr_parse.specs.declared.fault.ParseKind.TheVariants as parse;
 ghost use Rattle.pr_types.specs.declared.kind.TypeKind.TheVariants as typing;
 ghost use Rattle.pr_fields.specs.declared.problem.ProblemKind.TheVariants.{Yaml, WantMap, DuplicateGroup, BadTemplate, Lex, Parse, Typing};
 ghost use Rattle.pr_fields.specs.Problems.{problem};
-ghost use Rattle.pr_checking.specs.declared.verdict.Verdict.TheVariants.{Good, Complaints, Refused};
+ghost use Rattle.pr_check_loops.specs.declared.verdict.Verdict.TheVariants.{Good, Complaints, Refused};
 ghost use Rattle.pr_checks.specs.Problems.{problem_line};
 ghost use Rattle.pr_checks.specs.RuleFiles.{rules_told};
 ghost use Rattle.pr_checks.specs.Metrics.{metrics_told};

@@ -6,7 +6,7 @@ ghost use Rattle.pr_checks.specs.Problems.{problem_line};
 ghost use Rattle.pr_checks.specs.RuleFiles.{checking_text, failed, failed_text, found_told, missing, reading_told, rules_found, rules_told, success, success_text, too_large};
 
 use crate::problems::push_problem;
-use pr_checking::FileCheck;
+use pr_check_loops::FileCheck;
 use pr_outside::Found;
 use pr_rulefile::{Problem, RuleError, check};
 use pr_text::push_number;

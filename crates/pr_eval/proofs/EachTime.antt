@@ -6,8 +6,8 @@ use Rattle.pr_query.specs.declared.fault.Fault.{Fault}
 use Rattle.pr_query.specs.declared.value.Value.{Value}
 use Rattle.pr_query.specs.Given.{elements_in}
 use Rattle.pr_query.specs.Subqueries.{Taken, at_each, one_more}
-use Rattle.pr_ranged.specs.Taken.{taken}
-use Rattle.pr_ranged.specs.Times.{AreTimesWithin}
+use Rattle.pr_range_calls.specs.Taken.{taken}
+use Rattle.pr_range_calls.specs.Times.{AreTimesWithin}
 
 -- a list at one of its elements
 some_is : {A : Type 0} (a b : A) → Some a ≡ Some b → a ≡ b

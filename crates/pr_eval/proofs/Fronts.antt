@@ -11,7 +11,7 @@ use Rattle.pr_ast.specs.Steps.{has_steps}
 use Rattle.pr_types.specs.declared.counting.Counts.{Counts}
 use Rattle.pr_types.specs.Built.{tests_in, patterns_in}
 use Rattle.pr_types.specs.Numbers.{ranges_in}
-use Rattle.pr_meaning.specs.declared.range.RangeFn.{RangeFn}
+use Rattle.pr_vectors.specs.declared.range.RangeFn.{RangeFn}
 use Rattle.pr_eval.specs.Asking.{asks_in}
 use Rattle.pr_query.specs.Cost.{PassedFor, cost}
 use Rattle.pr_values.specs.declared.error.EvalError.{EvalError}

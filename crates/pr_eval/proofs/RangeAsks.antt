@@ -12,7 +12,7 @@ use Rattle.pr_head.specs.Holds.{IsWhole, arrivals, labels_at, samples_of}
 use Rattle.pr_ast.specs.declared.place.Place.{Place}
 use Rattle.pr_ast.specs.declared.selector.Selector.{Selector}
 use Rattle.pr_ast.specs.Tree.{Tree, range}
-use Rattle.pr_meaning.specs.declared.range.RangeFn.{RangeFn}
+use Rattle.pr_vectors.specs.declared.range.RangeFn.{RangeFn}
 use Rattle.pr_query.specs.declared.fault.Fault.{Fault}
 use Rattle.pr_query.specs.declared.value.Value.{Value}
 use Rattle.pr_query.specs.Answers.{go_on}
@@ -25,7 +25,7 @@ use Rattle.pr_range.proofs.Timeline.{until_grows}
 use Rattle.pr_values.specs.declared.error.EvalError.{EvalError}
 use Rattle.pr_values.specs.declared.error.EvalError.TheVariants as error
 use Rattle.pr_values.specs.Answers.{AnswersTo}
-use Rattle.pr_ranged.specs.Asking.{AreAsked as AreAskedOf, MayAskEach, ask_at, asks_cost, is_number_among, numbers_chosen, passed_by as passed_of}
+use Rattle.pr_range_calls.specs.Asking.{AreAsked as AreAskedOf, MayAskEach, ask_at, asks_cost, is_number_among, numbers_chosen, passed_by as passed_of}
 use Rattle.pr_eval.specs.Asking.{asks_in, sought}
 use Rattle.pr_eval.specs.Evaluated.{AreAsked, AreReady, AreRows, IsAsked, IsReadyFor, IsSame, IsTaken, KeptOfRanges, MayFollow, MayTake}
 use Rattle.pr_eval.proofs.Each.{first_of_one, one_each}

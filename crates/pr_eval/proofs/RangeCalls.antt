@@ -21,7 +21,7 @@ use Rattle.pr_eval.specs.Parts.{IsValued}
 use Rattle.pr_values.specs.declared.error.EvalError.{EvalError}
 use Rattle.pr_values.specs.declared.error.EvalError.TheVariants as error
 use Rattle.pr_values.specs.Answers.{AnswersTo}
-use Rattle.pr_ranged.specs.Taken.{ranged_of}
+use Rattle.pr_range_calls.specs.Taken.{ranged_of}
 use Rattle.pr_eval.specs.declared.subquery.SubquerySeries.{SubquerySeries}
 use Rattle.pr_eval.specs.Ranged.{AreSeries, HasArgument, call_in, made_of, prediction_by, quantile_by, takes_range, use_alone}
 use Rattle.pr_eval.proofs.Answering.{ends}

@@ -17,11 +17,11 @@ use Rattle.pr_head.proofs.Simulation.{set_at}
 use Rattle.pr_ast.specs.declared.selector.Selector.{Selector}
 use Rattle.pr_num.specs.declared.value.Num.{Num}
 use Rattle.pr_labels.proofs.LabelOrder.{below_next}
-use Rattle.pr_meaning.specs.Vectors.{IsVector, label_sets}
+use Rattle.pr_vectors.specs.Vectors.{IsVector, label_sets}
 use Rattle.pr_query.specs.Selection.{chosen_by, moment_of, selected_spots, shown_as, spots_at, valued}
 use Rattle.pr_query.proofs.Selecting.{sets_in}
 use Rattle.pr_eval.specs.Looks.{KeepsAt}
-use Rattle.pr_ranged.specs.Choosing.{labels_of_series}
+use Rattle.pr_range_calls.specs.Choosing.{labels_of_series}
 use Rattle.pr_eval.specs.Reading.{items_read, spot_read}
 
 abbrev Series : Type 0

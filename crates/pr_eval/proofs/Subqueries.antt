@@ -15,8 +15,8 @@ use Rattle.pr_types.specs.declared.counting.Counts.{Counts}
 use Rattle.pr_types.specs.Built.{tests_in, patterns_in}
 use Rattle.pr_types.specs.Numbers.{counts_in, exact_counts, ranges_in}
 use Rattle.pr_types.proofs.CountLemmas.{counts_exact, ranges_are_selectors}
-use Rattle.pr_meaning.specs.declared.range.RangeFn.{RangeFn}
-use Rattle.pr_meaning.specs.Ranges.{longest}
+use Rattle.pr_vectors.specs.declared.range.RangeFn.{RangeFn}
+use Rattle.pr_vectors.specs.Ranges.{longest}
 use Rattle.pr_query.specs.declared.fault.Fault.{Fault}
 use Rattle.pr_query.specs.declared.fault.FaultKind.TheVariants as kind
 use Rattle.pr_query.specs.Answers.{fault, go_on}
@@ -24,9 +24,9 @@ use Rattle.pr_query.specs.Cost.{cost, cost_at_each, nothing_passed}
 use Rattle.pr_query.specs.Given.{Ranged}
 use Rattle.pr_query.specs.Meaning.{meaning, ranges}
 use Rattle.pr_query.specs.Subqueries.{at_each, multiples}
-use Rattle.pr_ranged.specs.declared.of_subquery.SubqueryRange.{SubqueryRange}
-use Rattle.pr_ranged.specs.Taken.{ranged_of}
-use Rattle.pr_ranged.specs.Times.{AreTimesWithin}
+use Rattle.pr_range_calls.specs.declared.of_subquery.SubqueryRange.{SubqueryRange}
+use Rattle.pr_range_calls.specs.Taken.{ranged_of}
+use Rattle.pr_range_calls.specs.Times.{AreTimesWithin}
 use Rattle.pr_values.specs.declared.error.EvalError.{EvalError}
 use Rattle.pr_values.specs.declared.error.EvalError.TheVariants as error
 use Rattle.pr_eval.specs.Each.{EachAt}

@@ -35,7 +35,7 @@ use Rattle.pr_types.specs.Typed.{checked, content_at, typed}
 use Rattle.pr_types.proofs.Whole.{checked_says}
 use Rattle.pr_types.proofs.Parts.{parts_of_aggregate, parts_of_binary, parts_of_neg, parts_of_sub, text_of_count}
 use Rattle.pr_types.proofs.CountLemmas.{ranges_are_selectors}
-use Rattle.pr_meaning.specs.declared.range.RangeFn.{RangeFn}
+use Rattle.pr_vectors.specs.declared.range.RangeFn.{RangeFn}
 use Rattle.pr_query.specs.Cost.{cost}
 use Rattle.pr_query.specs.Selection.{moment_of}
 use Rattle.pr_eval.specs.Asking.{asked_for}

@@ -5,11 +5,11 @@ use Rattle.pr_history.specs.declared.entry.Entry.{Entry}
 use Rattle.pr_ast.specs.declared.names.Func.{Func}
 use Rattle.pr_ast.specs.declared.names.Func.TheVariants.{Rate, Increase, Delta, Irate, Idelta, Deriv, PredictLinear, Changes, Resets, SumOverTime, AvgOverTime, MinOverTime, MaxOverTime, CountOverTime, LastOverTime, PresentOverTime, QuantileOverTime}
 use Rattle.pr_ast.specs.Tree.{Tree, number, text, select, range, sub, neg, binary, call, aggregate, none, more}
-use Rattle.pr_meaning.specs.declared.range.RangeFn.{RangeFn}
-use Rattle.pr_meaning.specs.declared.range.RangeFn.TheVariants as range_fn
+use Rattle.pr_vectors.specs.declared.range.RangeFn.{RangeFn}
+use Rattle.pr_vectors.specs.declared.range.RangeFn.TheVariants as range_fn
 use Rattle.pr_query.specs.Selection.{chosen_by, moment_of}
 use Rattle.pr_range.specs.Asks.{LastAsk}
-use Rattle.pr_ranged.specs.Asking.{number_of}
+use Rattle.pr_range_calls.specs.Asking.{number_of}
 
 -- the function that a call asks ranges for; `absent_over_time` asks whether there is a value
 abbrev pub asked_for : Func → RangeFn

@@ -10,9 +10,9 @@ use Rattle.pr_range.specs.Asks.{LastAsk, LastAsks, Passed}
 use Rattle.pr_query.specs.Cost.{PassedFor, cost}
 use Rattle.pr_values.specs.declared.error.EvalError.{EvalError}
 use Rattle.pr_values.specs.declared.error.EvalError.TheVariants.{Memory}
-use Rattle.pr_meaning.specs.declared.range.RangeFn.{RangeFn}
-use Rattle.pr_meaning.specs.declared.range.RangeFn.TheVariants.{PresentOverTime}
-use Rattle.pr_ranged.specs.Asking.{is_number_among, number_of}
+use Rattle.pr_vectors.specs.declared.range.RangeFn.{RangeFn}
+use Rattle.pr_vectors.specs.declared.range.RangeFn.TheVariants.{PresentOverTime}
+use Rattle.pr_range_calls.specs.Asking.{is_number_among, number_of}
 use Rattle.pr_eval.specs.Asking.{Sought, asks_in}
 use Rattle.pr_eval.specs.Each.{EachAt}
 use Rattle.pr_eval.specs.Looks.{KeepsFor}

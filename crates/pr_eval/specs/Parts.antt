@@ -12,7 +12,7 @@ use Rattle.pr_types.specs.Numbers.{ranges_in}
 use Rattle.pr_types.specs.declared.kind.ValueType.TheVariants.{Range}
 use Rattle.pr_types.specs.Signatures.{is_type}
 use Rattle.pr_types.specs.Typed.{typed}
-use Rattle.pr_meaning.specs.declared.range.RangeFn.{RangeFn}
+use Rattle.pr_vectors.specs.declared.range.RangeFn.{RangeFn}
 use Rattle.pr_query.specs.Cost.{PassedFor, cost}
 use Rattle.pr_eval.specs.Each.{EachAt}
 use Rattle.pr_eval.specs.Asking.{asks_in}

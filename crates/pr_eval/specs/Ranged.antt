@@ -8,7 +8,7 @@ use Rattle.pr_ast.specs.declared.names.Func.TheVariants.{AbsentOverTime, Rate, I
 use Rattle.pr_ast.specs.Tree.{Tree, none, more, tree_of}
 use Rattle.pr_types.specs.declared.kind.ValueType.TheVariants.{Range, Scalar}
 use Rattle.pr_types.specs.Typed.{typed}
-use Rattle.pr_meaning.specs.declared.range.RangeFn.TheVariants.{PresentOverTime as Present, PredictLinear as Predict, QuantileOverTime as Quantile}
+use Rattle.pr_vectors.specs.declared.range.RangeFn.TheVariants.{PresentOverTime as Present, PredictLinear as Predict, QuantileOverTime as Quantile}
 use Rattle.pr_query.specs.declared.fault.Fault.{Fault}
 use Rattle.pr_query.specs.declared.value.Value.{Value}
 use Rattle.pr_query.specs.declared.value.Value.TheVariants.{Vector}
@@ -21,10 +21,10 @@ use Rattle.pr_query.specs.Subqueries.{Taken}
 use Rattle.pr_range.specs.Asks.{takes_argument}
 use Rattle.pr_values.specs.declared.error.EvalError.{EvalError}
 use Rattle.pr_values.specs.declared.error.EvalError.TheVariants as error
-use Rattle.pr_ranged.specs.declared.call.RangeCall.{RangeCall}
-use Rattle.pr_ranged.specs.Asking.{presence}
-use Rattle.pr_ranged.specs.Taken.{AreTaken, ranged_of}
-use Rattle.pr_ranged.specs.Times.{AreTimesWithin}
+use Rattle.pr_range_calls.specs.declared.call.RangeCall.{RangeCall}
+use Rattle.pr_range_calls.specs.Asking.{presence}
+use Rattle.pr_range_calls.specs.Taken.{AreTaken, ranged_of}
+use Rattle.pr_range_calls.specs.Times.{AreTimesWithin}
 use Rattle.pr_eval.specs.declared.range_call.RangeUse.{RangeUse}
 use Rattle.pr_eval.specs.declared.range_call.RangeUse.TheVariants.{Answers, Absence}
 use Rattle.pr_eval.specs.declared.range_call.RangeOperands.{RangeOperands}

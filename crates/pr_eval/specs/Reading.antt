@@ -8,7 +8,7 @@ use Rattle.pr_history.specs.declared.spot.Spot.{Spot}
 use Rattle.pr_head.specs.Stored.{Stored, newest_at}
 use Rattle.pr_head.specs.Reads.{spot_shown}
 use Rattle.pr_query.specs.Selection.{shown_as}
-use Rattle.pr_ranged.specs.Choosing.{labels_of_series}
+use Rattle.pr_range_calls.specs.Choosing.{labels_of_series}
 
 -- what a series shows at a moment, by its newest sample until then
 abbrev pub spot_read : List (List Pair × Stored) → ℤ → ℕ → Option Spot

@@ -10,8 +10,8 @@ use Rattle.pr_ast.specs.Tree.{Tree}
 use Rattle.pr_query.specs.declared.fault.Fault.{Fault}
 use Rattle.pr_query.specs.Answers.{fault}
 use Rattle.pr_query.specs.Subqueries.{Taken}
-use Rattle.pr_ranged.specs.declared.of_subquery.SubqueryRange.{SubqueryRange}
-use Rattle.pr_ranged.specs.Taken.{AreTaken}
+use Rattle.pr_range_calls.specs.declared.of_subquery.SubqueryRange.{SubqueryRange}
+use Rattle.pr_range_calls.specs.Taken.{AreTaken}
 use Rattle.pr_values.specs.declared.error.EvalError.{EvalError}
 use Rattle.pr_values.specs.declared.error.EvalError.TheVariants as error
 use Rattle.pr_eval.specs.Evaluated.{IsSame, KeptOfRanges}

@@ -5,7 +5,7 @@ ghost use Rattle.pr_history.specs.declared.entry.Entry.{Entry};
 ghost use Rattle.pr_ast.specs.Tree.{Tree, aggregate, more, none, tree_of};
 ghost use Rattle.pr_types.specs.Built.{patterns_in, tests_in};
 ghost use Rattle.pr_types.specs.Typed.{content, content_at};
-ghost use Rattle.pr_meaning.specs.declared.range.RangeFn.{RangeFn};
+ghost use Rattle.pr_vectors.specs.declared.range.RangeFn.{RangeFn};
 ghost use Rattle.pr_query.specs.Answers.{IsAnswer};
 ghost use Rattle.pr_query.specs.Aggregations.{summed_up};
 ghost use Rattle.pr_query.specs.Meaning.{given, meaning};

@@ -7,7 +7,7 @@ ghost use Rattle.pr_head.specs.Holds.{Holds};
 ghost use Rattle.pr_ast.specs.Tree.{call, more, none, select, tree_of, trees_of};
 ghost use Rattle.pr_types.specs.Typed.{content_at};
 ghost use Rattle.pr_types.specs.Built.{own_patterns, patterns_in, tests_in};
-ghost use Rattle.pr_meaning.specs.declared.range.RangeFn.{RangeFn};
+ghost use Rattle.pr_vectors.specs.declared.range.RangeFn.{RangeFn};
 ghost use Rattle.pr_query.specs.Answers.{IsAnswer};
 ghost use Rattle.pr_query.specs.Calls.{called};
 ghost use Rattle.pr_query.specs.Meaning.{meaning, operands};

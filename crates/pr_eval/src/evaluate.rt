@@ -3,7 +3,7 @@ ghost use Rattle.std.specs.Prelude.{◌≡◌, ◌≢◌, ◌+◌, ◌<◌, ◌�
 ghost use Rattle.pr_history.specs.declared.entry.Entry.{Entry};
 ghost use Rattle.pr_ast.specs.Tree.{tree_of};
 ghost use Rattle.pr_types.specs.Built.{tests_in, patterns_in};
-ghost use Rattle.pr_meaning.specs.declared.range.RangeFn.{RangeFn};
+ghost use Rattle.pr_vectors.specs.declared.range.RangeFn.{RangeFn};
 ghost use Rattle.pr_query.specs.Answers.{IsAnswer};
 ghost use Rattle.pr_query.specs.Cost.{cost};
 ghost use Rattle.pr_query.specs.Meaning.{meaning};

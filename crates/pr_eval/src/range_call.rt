@@ -8,8 +8,8 @@ ghost use Rattle.pr_types.specs.declared.kind.ValueType.TheVariants.{Range, Scal
 ghost use Rattle.pr_types.specs.Built.{patterns_in, tests_in};
 ghost use Rattle.pr_types.specs.Selectors.{tests_of};
 ghost use Rattle.pr_types.specs.Typed.{typed};
-ghost use Rattle.pr_meaning.specs.declared.range.RangeFn.{RangeFn};
-ghost use Rattle.pr_meaning.specs.declared.range.RangeFn.TheVariants.{PredictLinear};
+ghost use Rattle.pr_vectors.specs.declared.range.RangeFn.{RangeFn};
+ghost use Rattle.pr_vectors.specs.declared.range.RangeFn.TheVariants.{PredictLinear};
 ghost use Rattle.pr_query.specs.declared.fault.Fault.{Fault};
 ghost use Rattle.pr_query.specs.Answers.{IsAnswer, go_on};
 ghost use Rattle.pr_query.specs.Calls.{called};
@@ -18,7 +18,7 @@ ghost use Rattle.pr_query.specs.Meaning.{meaning, operands, ranges as series_mea
 ghost use Rattle.pr_query.specs.Selection.{chosen_by};
 ghost use Rattle.pr_values.specs.declared.error.EvalError.TheVariants.{Memory};
 ghost use Rattle.pr_values.specs.Answers.{AnswersTo};
-ghost use Rattle.pr_ranged.specs.Asking.{AreAsked, MayAskEach, asked_by, asks_cost, numbers_chosen, passed_by};
+ghost use Rattle.pr_range_calls.specs.Asking.{AreAsked, MayAskEach, asked_by, asks_cost, numbers_chosen, passed_by};
 ghost use Rattle.pr_eval.specs.Asking.{asked_for};
 ghost use Rattle.pr_eval.specs.Evaluated.{IsTaken, MayTake, kept_by};
 ghost use Rattle.pr_eval.specs.Parts.{IsPart, IsValued, counts_after};
@@ -33,16 +33,16 @@ use crate::scope::Scope;
 use crate::subquery::{SubquerySeries, series_of};
 use pr_ast::{Expr, ExprKind, Func, Place, Selector};
 use pr_labels::Labels;
-use pr_meaning::RangeFn;
 use pr_num::Num;
 use pr_query::Value;
 use pr_range::Ranges;
-use pr_ranged::{
+use pr_range_calls::{
     RangeAt, RangeCall, absent_over_selector, absent_over_series, over_selector, over_series,
 };
 use pr_time::Span;
 use pr_types::Counts;
 use pr_values::{EvalError, labels_of_argument};
+use pr_vectors::RangeFn;
 use pr_words::Steps;
 use std::alloc::{AllocError, Global};
 use std::sync::ledger::Ledger;

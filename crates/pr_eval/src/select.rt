@@ -17,7 +17,7 @@ use pr_history::Spot;
 use pr_labels::Item;
 use pr_match::Matcher;
 use pr_num::{Num, Point};
-use pr_ranged::{chosen_series, labels_of_series};
+use pr_range_calls::{chosen_series, labels_of_series};
 use pr_time::Ms;
 use pr_words::Steps;
 use std::alloc::{AllocError, Global};

@@ -8,7 +8,7 @@ use Rattle.std.specs.declared.cmp.Ordering.TheVariants.{Less}
 use Rattle.pr_labels.specs.declared.pair.Pair.{Pair}
 use Rattle.pr_labels.specs.Order.{labels_cmp}
 use Rattle.pr_labels.specs.Rising.{IsBelowFirstSet}
-use Rattle.pr_meaning.specs.Vectors.{IsVector, label_sets}
+use Rattle.pr_vectors.specs.Vectors.{IsVector, label_sets}
 use Rattle.pr_fn.specs.declared.rows.Row.{Row}
 use Rattle.pr_fn.specs.Rows.{row_elements}
 

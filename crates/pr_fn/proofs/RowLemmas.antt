@@ -19,9 +19,9 @@ use Rattle.pr_labels.specs.Order.{labels_cmp, labels_eq}
 use Rattle.pr_labels.specs.Rising.{with_labels}
 use Rattle.pr_labels.proofs.LabelOrder.{labels_decide, labels_total, tied}
 use Rattle.pr_labels.proofs.LabelMaps.{keys_insert, tie}
-use Rattle.pr_meaning.specs.declared.function_fault.FunctionFault.TheVariants as fault
-use Rattle.pr_meaning.specs.Vectors.{element, in_label_order, in_order, item_placed, label_sets, with_element}
-use Rattle.pr_meaning.specs.Functions.{comes_twice, least_twice, told_apart, unless_same}
+use Rattle.pr_vectors.specs.declared.function_fault.FunctionFault.TheVariants as fault
+use Rattle.pr_vectors.specs.Vectors.{element, in_label_order, in_order, item_placed, label_sets, with_element}
+use Rattle.pr_vectors.specs.Functions.{comes_twice, least_twice, told_apart, unless_same}
 use Rattle.pr_fn.specs.declared.rows.Row.{Row}
 use Rattle.pr_fn.specs.Rows.{AreRows, IsRowOf, came_again, row_element, row_elements, row_with, times}
 

@@ -5,7 +5,7 @@ use Rattle.pr_num.specs.declared.value.Num.{Num}
 use Rattle.pr_labels.specs.declared.pair.Pair.{Pair}
 use Rattle.pr_labels.specs.declared.item.Item.{Item}
 use Rattle.pr_labels.specs.Order.{labels_cmp, labels_eq}
-use Rattle.pr_meaning.specs.Vectors.{element, in_label_order, in_order, label_sets}
+use Rattle.pr_vectors.specs.Vectors.{element, in_label_order, in_order, label_sets}
 use Rattle.pr_fn.specs.declared.rows.Row.{Row}
 
 -- the element of an entry

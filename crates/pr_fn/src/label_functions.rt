@@ -4,8 +4,8 @@ ghost use Rattle.pr_labels.specs.Edits.{set_label};
 ghost use Rattle.pr_labels.specs.LabelSet.{text_at};
 ghost use Rattle.pr_labels.specs.Names.{is_label_name};
 ghost use Rattle.pr_match.specs.Pattern.{expanded};
-ghost use Rattle.pr_meaning.specs.Vectors.{IsVector};
-ghost use Rattle.pr_meaning.specs.LabelFunctions.{joined_text, label_joined, label_replaced, set_if_any};
+ghost use Rattle.pr_vectors.specs.Vectors.{IsVector};
+ghost use Rattle.pr_vectors.specs.LabelFunctions.{joined_text, label_joined, label_replaced, set_if_any};
 ghost use Rattle.pr_fn.specs.Faults.{fault_told};
 ghost use Rattle.pr_fn.specs.Separated.{with_rest};
 

@@ -1,5 +1,5 @@
 //! Functions of instant vectors: of each value, of labels, of a whole vector, and the calendar. A
-//! call equals its definition in `pr_meaning`, faults included.
+//! call equals its definition in `pr_vectors`, faults included.
 #![tactic(auto)]
 
 mod bound;
@@ -17,5 +17,5 @@ pub use histograms::histogram_quantile;
 pub use instants::calendar;
 pub use label_functions::{label_join, label_replace};
 pub use laws::dates_by_example;
-pub use pr_meaning::Part;
+pub use pr_vectors::Part;
 pub use values::{at_least, at_most, clamp, map_values, scalar, sign, within};

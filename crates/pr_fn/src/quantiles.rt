@@ -5,10 +5,10 @@ ghost use Rattle.std.specs.List.{list_any};
 ghost use Rattle.pr_num.specs.Arithmetic.{product_of};
 ghost use Rattle.std.specs.Ordering.{is_lt};
 ghost use Rattle.pr_num.specs.Order.{order_of};
-ghost use Rattle.pr_meaning.specs.Histogram.{at_place, at_rank, bucket_at, greatest, has_no_quantile, in_bucket, in_first, inside, is_same, is_special, last_bucket, part_way, place_of, quantile_in, raised, reaches, then_value};
+ghost use Rattle.pr_vectors.specs.Histogram.{at_place, at_rank, bucket_at, greatest, has_no_quantile, in_bucket, in_first, inside, is_same, is_special, last_bucket, part_way, place_of, quantile_in, raised, reaches, then_value};
 
-use pr_meaning::Bucket;
 use pr_num::{Num, TooWide};
+use pr_vectors::Bucket;
 use std::alloc::{AllocError, Global};
 use std::cmp::Ordering;
 

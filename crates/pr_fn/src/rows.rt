@@ -5,8 +5,8 @@ ghost use Rattle.std.specs.BTreeMap.{IsOrdered};
 ghost use Rattle.pr_labels.specs.Order.{labels_cmp};
 ghost use Rattle.pr_num.specs.declared.value.Num.{Num};
 ghost use Rattle.pr_labels.specs.declared.item.Item.{Item};
-ghost use Rattle.pr_meaning.specs.Vectors.{IsVector, element};
-ghost use Rattle.pr_meaning.specs.Functions.{told_apart};
+ghost use Rattle.pr_vectors.specs.Vectors.{IsVector, element};
+ghost use Rattle.pr_vectors.specs.Functions.{told_apart};
 ghost use Rattle.pr_fn.specs.Faults.{fault_told};
 ghost use Rattle.pr_fn.specs.Rows.{AreRows, came_again, row_elements, row_with};
 

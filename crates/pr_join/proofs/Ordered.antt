@@ -10,7 +10,7 @@ use Rattle.pr_labels.specs.declared.pair.Pair.{Pair}
 use Rattle.pr_labels.specs.declared.item.Item.{Item}
 use Rattle.pr_labels.specs.Order.{labels_cmp}
 use Rattle.pr_labels.specs.Rising.{IsBelowFirstSet}
-use Rattle.pr_meaning.specs.Vectors.{IsVector, label_sets}
+use Rattle.pr_vectors.specs.Vectors.{IsVector, label_sets}
 use Rattle.pr_join.specs.Rows.{elements_in}
 
 -- what equals a vector is one

@@ -13,13 +13,13 @@ use Rattle.pr_labels.specs.declared.item.Item.{Item}
 use Rattle.pr_labels.specs.declared.matching.Card.{Card}
 use Rattle.pr_labels.specs.declared.matching.Card.TheVariants.{OneToOne, ManyToOne, OneToMany}
 use Rattle.pr_labels.specs.Order.{labels_cmp}
-use Rattle.pr_meaning.specs.declared.match_fault.MatchFault.{MatchFault}
-use Rattle.pr_meaning.specs.declared.match_fault.MatchFault.TheVariants as fault
+use Rattle.pr_vectors.specs.declared.match_fault.MatchFault.{MatchFault}
+use Rattle.pr_vectors.specs.declared.match_fault.MatchFault.TheVariants as fault
 use Rattle.pr_join.specs.declared.join_fault.JoinFault.{JoinFault}
 use Rattle.pr_join.specs.declared.join_fault.JoinFault.TheVariants.{Memory}
 use Rattle.pr_join.specs.Faults.{fault_told}
-use Rattle.pr_meaning.specs.Vectors.{element, in_order, item_placed, with_element}
-use Rattle.pr_meaning.specs.Matching.{Kept, items_of, key_fault, labels_fault, pair_fault}
+use Rattle.pr_vectors.specs.Vectors.{element, in_order, item_placed, with_element}
+use Rattle.pr_vectors.specs.Matching.{Kept, items_of, key_fault, labels_fault, pair_fault}
 use Rattle.pr_join.specs.Rows.{HasItems, HasTaken, HasKept, elements_in, is_one_to_one, key_in, labels_in}
 use Rattle.pr_labels.proofs.LabelOrder.{tied}
 use Rattle.pr_join.proofs.Keys.{keys_more}

@@ -8,8 +8,8 @@ use Rattle.pr_labels.specs.declared.pair.Pair.{Pair}
 use Rattle.pr_labels.specs.declared.item.Item.{Item}
 use Rattle.pr_labels.specs.declared.matching.Card.{Card}
 use Rattle.pr_labels.specs.declared.matching.Card.TheVariants.{OneToOne, ManyToOne, OneToMany}
-use Rattle.pr_meaning.specs.Vectors.{element, in_order}
-use Rattle.pr_meaning.specs.Matching.{Kept, Operator, fault_after, items_of, kept, outcome, pairs_with}
+use Rattle.pr_vectors.specs.Vectors.{element, in_order}
+use Rattle.pr_vectors.specs.Matching.{Kept, Operator, fault_after, items_of, kept, outcome, pairs_with}
 use Rattle.pr_join.specs.Keys.{HasKeys}
 use Rattle.pr_join.specs.declared.rows.Rows.{Rows}
 

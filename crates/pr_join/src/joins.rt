@@ -3,8 +3,8 @@ ghost use Rattle.std.specs.Prelude.{◌≡◌, ◌≢◌, List, [], ◌∷◌, f
 ghost use Rattle.pr_join.specs.declared.join_fault.JoinFault.TheVariants.{Memory};
 ghost use Rattle.std.specs.BTreeMap.{IsOrdered};
 ghost use Rattle.pr_labels.specs.Order.{labels_cmp};
-ghost use Rattle.pr_meaning.specs.Vectors.{IsVector};
-ghost use Rattle.pr_meaning.specs.Matching.{Operator, Kept, worked, paired, outcome, fault_after, key_of, outcomes_of, joined, joined_sides};
+ghost use Rattle.pr_vectors.specs.Vectors.{IsVector};
+ghost use Rattle.pr_vectors.specs.Matching.{Operator, Kept, worked, paired, outcome, fault_after, key_of, outcomes_of, joined, joined_sides};
 ghost use Rattle.pr_join.specs.Faults.{fault_told};
 ghost use Rattle.pr_join.specs.Operators.{AnswersBy};
 ghost use Rattle.pr_join.specs.Places.{IsIndexOf, is_flagged};

@@ -4,8 +4,8 @@ ghost use Rattle.std.specs.Prelude.{◌≡◌, ◌≢◌, List, [], ◌∷◌, �
 ghost use Rattle.std.specs.BTreeMap.{IsOrdered, Updates, insert_entry};
 ghost use Rattle.pr_labels.specs.Order.{labels_cmp};
 ghost use Rattle.pr_join.specs.declared.join_fault.JoinFault.TheVariants.{Memory};
-ghost use Rattle.pr_meaning.specs.Vectors.{IsVector, element};
-ghost use Rattle.pr_meaning.specs.Matching.{Kept, key_fault, labels_fault, pair_fault};
+ghost use Rattle.pr_vectors.specs.Vectors.{IsVector, element};
+ghost use Rattle.pr_vectors.specs.Matching.{Kept, key_fault, labels_fault, pair_fault};
 ghost use Rattle.pr_join.specs.Faults.{fault_told};
 ghost use Rattle.pr_join.specs.Rows.{HasTaken, HasItems, HasKept, elements, is_one_to_one, kept_with};
 

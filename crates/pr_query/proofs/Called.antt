@@ -13,24 +13,24 @@ use Rattle.pr_ast.specs.declared.names.Func.{Func}
 use Rattle.pr_ast.specs.declared.names.Func.TheVariants as func
 use Rattle.pr_ast.specs.declared.selector.Selector.{Selector}
 use Rattle.pr_ast.specs.Tree.{Tree}
-use Rattle.pr_meaning.specs.declared.part.Part.TheVariants as part
-use Rattle.pr_meaning.specs.declared.range.RangeFn.{RangeFn}
-use Rattle.pr_meaning.specs.declared.range.RangeFn.TheVariants as range_fn
+use Rattle.pr_vectors.specs.declared.part.Part.TheVariants as part
+use Rattle.pr_vectors.specs.declared.range.RangeFn.{RangeFn}
+use Rattle.pr_vectors.specs.declared.range.RangeFn.TheVariants as range_fn
 use Rattle.pr_match.specs.Pattern.{expanded}
 use Rattle.pr_num.specs.Arithmetic.{absolute, whole_of}
 use Rattle.pr_num.specs.Multiples.{ceil_of, floor_of, rounded_to}
 use Rattle.pr_types.specs.Typed.{content_at, contents}
-use Rattle.pr_meaning.specs.Calendar.{calendar_of}
-use Rattle.pr_meaning.specs.LabelFunctions.{with_expansion, with_joined}
-use Rattle.pr_meaning.specs.Aggregation.{aggregated, always, count_of_values, greatest_first, greatest_of_values, is_within, least_first, least_of_values, mean_of_values, one_of_values, quantile_of_values, rank, sum_of_values}
+use Rattle.pr_vectors.specs.Calendar.{calendar_of}
+use Rattle.pr_vectors.specs.LabelFunctions.{with_expansion, with_joined}
+use Rattle.pr_vectors.specs.Aggregation.{aggregated, always, count_of_values, greatest_first, greatest_of_values, is_within, least_first, least_of_values, mean_of_values, one_of_values, quantile_of_values, rank, sum_of_values}
 use Rattle.pr_query.specs.Selection.{selected_spots}
-use Rattle.pr_meaning.specs.Functions.{ValueFunction, at_least, at_most, clamped, mapped, sign_of, told_apart}
-use Rattle.pr_meaning.specs.Histogram.{buckets_in, histogram_labels, histogram_quantiles, histogram_value, histograms, is_bucket}
-use Rattle.pr_meaning.specs.Vectors.{IsVector}
+use Rattle.pr_vectors.specs.Functions.{ValueFunction, at_least, at_most, clamped, mapped, sign_of, told_apart}
+use Rattle.pr_vectors.specs.Histogram.{buckets_in, histogram_labels, histogram_quantiles, histogram_value, histograms, is_bucket}
+use Rattle.pr_vectors.specs.Vectors.{IsVector}
 use Rattle.pr_labels.proofs.LabelOrder.{rising_fold}
-use Rattle.pr_meaning.proofs.Aggregation.{aggregated_is_vector, counted_is_vector}
-use Rattle.pr_meaning.proofs.FunctionAnswers.{apart_vector, clamped_vector, mapped_vector, rising_answer}
-use Rattle.pr_meaning.proofs.Vectors.{vector_filter}
+use Rattle.pr_vectors.proofs.Aggregation.{aggregated_is_vector, counted_is_vector}
+use Rattle.pr_vectors.proofs.FunctionAnswers.{apart_vector, clamped_vector, mapped_vector, rising_answer}
+use Rattle.pr_vectors.proofs.Vectors.{vector_filter}
 use Rattle.pr_query.specs.declared.fault.Fault.{Fault}
 use Rattle.pr_query.specs.declared.value.Value.{Value}
 use Rattle.pr_query.specs.declared.value.Value.TheVariants.{Scalar, Vector}

@@ -13,7 +13,7 @@ use Rattle.pr_history.proofs.Choosing.{chosen_rising}
 use Rattle.pr_ast.specs.declared.selector.Selector.{Selector}
 use Rattle.pr_match.specs.Matcher.{meets_all}
 use Rattle.pr_types.specs.Selectors.{tests_of}
-use Rattle.pr_meaning.specs.Vectors.{IsVector, label_sets}
+use Rattle.pr_vectors.specs.Vectors.{IsVector, label_sets}
 use Rattle.pr_query.specs.Selection.{chosen_by, moment_of, selected_spots, selection, shown_as, spots_at, valued}
 
 abbrev pub sets_in : List (Item Spot) → List (List Pair)

@@ -8,14 +8,14 @@ use Rattle.pr_labels.specs.declared.matching.Matching.{Matching}
 use Rattle.pr_ast.specs.declared.place.Place.{Place}
 use Rattle.pr_ast.specs.declared.names.BinOp.{BinOp}
 use Rattle.pr_ast.specs.declared.names.BinOp.TheVariants as op
-use Rattle.pr_meaning.specs.declared.match_fault.MatchFault.{MatchFault}
-use Rattle.pr_meaning.specs.declared.function_fault.FunctionFault.{FunctionFault}
-use Rattle.pr_meaning.specs.Vectors.{IsVector, in_order}
-use Rattle.pr_meaning.specs.Functions.{ValueFunction, mapped}
-use Rattle.pr_meaning.specs.Matching.{Operator, fault_after, is_matched, items_of, joined, kept, left_alone, many_side, one_side, outcomes_of, side_fault}
-use Rattle.pr_meaning.specs.Operators.{holds}
-use Rattle.pr_meaning.proofs.Vectors.{vector_filter, vector_in_order, vector_unless}
-use Rattle.pr_meaning.proofs.FunctionAnswers.{mapped_vector}
+use Rattle.pr_vectors.specs.declared.match_fault.MatchFault.{MatchFault}
+use Rattle.pr_vectors.specs.declared.function_fault.FunctionFault.{FunctionFault}
+use Rattle.pr_vectors.specs.Vectors.{IsVector, in_order}
+use Rattle.pr_vectors.specs.Functions.{ValueFunction, mapped}
+use Rattle.pr_vectors.specs.Matching.{Operator, fault_after, is_matched, items_of, joined, kept, left_alone, many_side, one_side, outcomes_of, side_fault}
+use Rattle.pr_vectors.specs.Operators.{holds}
+use Rattle.pr_vectors.proofs.Vectors.{vector_filter, vector_in_order, vector_unless}
+use Rattle.pr_vectors.proofs.FunctionAnswers.{mapped_vector}
 use Rattle.std.specs.Option.{option_or}
 use Rattle.pr_query.specs.declared.fault.Fault.{Fault}
 use Rattle.pr_query.specs.declared.value.Value.{Value}

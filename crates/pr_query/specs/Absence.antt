@@ -12,7 +12,7 @@ use Rattle.pr_ast.specs.declared.selector.MatchText.{MatchText}
 use Rattle.pr_ast.specs.declared.selector.MatchSign.{MatchSign}
 use Rattle.pr_ast.specs.declared.selector.MatchSign.TheVariants.{Equal, NotEqual, Like, NotLike}
 use Rattle.pr_ast.specs.Tree.{Tree, select, range, none, more}
-use Rattle.pr_meaning.specs.Vectors.{element}
+use Rattle.pr_vectors.specs.Vectors.{element}
 
 abbrev pub is_equality : MatchSign → Bool
 is_equality Equal = true

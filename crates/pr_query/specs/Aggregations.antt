@@ -9,7 +9,7 @@ use Rattle.pr_ast.specs.declared.names.AggOp.{AggOp}
 use Rattle.pr_ast.specs.declared.names.AggOp.TheVariants.{Sum, Avg, Min, Max, Count, Group, TopK, BottomK, Quantile, CountValues}
 use Rattle.pr_ast.specs.Tree.{Tree}
 use Rattle.pr_types.specs.Typed.{content_at}
-use Rattle.pr_meaning.specs.Aggregation.{aggregated, always, count_of_values, counted, first_of_parts, greatest_first, greatest_of_values, least_first, least_of_values, mean_of_values, one_of_values, quantile_of_values, sum_of_values}
+use Rattle.pr_vectors.specs.Aggregation.{aggregated, always, count_of_values, counted, first_of_parts, greatest_first, greatest_of_values, least_first, least_of_values, mean_of_values, one_of_values, quantile_of_values, sum_of_values}
 use Rattle.pr_query.specs.declared.fault.Fault.{Fault}
 use Rattle.pr_query.specs.declared.fault.FaultKind.TheVariants as kind
 use Rattle.pr_query.specs.declared.value.Value.{Value}

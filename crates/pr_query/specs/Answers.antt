@@ -4,11 +4,11 @@ use Rattle.pr_num.specs.declared.value.Num.{Num}
 use Rattle.pr_num.specs.declared.value.TooWide.{TooWide}
 use Rattle.pr_labels.specs.declared.item.Item.{Item}
 use Rattle.pr_ast.specs.declared.place.Place.{Place}
-use Rattle.pr_meaning.specs.declared.match_fault.MatchFault.{MatchFault}
-use Rattle.pr_meaning.specs.declared.match_fault.MatchFault.TheVariants as match
-use Rattle.pr_meaning.specs.declared.function_fault.FunctionFault.{FunctionFault}
-use Rattle.pr_meaning.specs.declared.function_fault.FunctionFault.TheVariants as function
-use Rattle.pr_meaning.specs.Vectors.{IsVector}
+use Rattle.pr_vectors.specs.declared.match_fault.MatchFault.{MatchFault}
+use Rattle.pr_vectors.specs.declared.match_fault.MatchFault.TheVariants as match
+use Rattle.pr_vectors.specs.declared.function_fault.FunctionFault.{FunctionFault}
+use Rattle.pr_vectors.specs.declared.function_fault.FunctionFault.TheVariants as function
+use Rattle.pr_vectors.specs.Vectors.{IsVector}
 use Rattle.pr_query.specs.declared.fault.Fault.{Fault}
 use Rattle.pr_query.specs.declared.fault.FaultKind.{FaultKind}
 use Rattle.pr_query.specs.declared.fault.FaultKind.TheVariants as kind

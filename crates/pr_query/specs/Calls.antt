@@ -14,15 +14,15 @@ use Rattle.pr_ast.specs.declared.names.Func.{Func}
 use Rattle.pr_ast.specs.declared.names.Func.TheVariants.{Abs, Ceil, Floor, Sgn, Round, Clamp, ClampMin, ClampMax, Time, Vector, Scalar, Timestamp, Absent, AbsentOverTime, Minute, Hour, DayOfWeek, DayOfMonth, DayOfYear, DaysInMonth, Month, Year, LabelReplace, LabelJoin, HistogramQuantile, Rate, Increase, Delta, Irate, Idelta, Deriv, PredictLinear, Changes, Resets, SumOverTime, AvgOverTime, MinOverTime, MaxOverTime, CountOverTime, LastOverTime, PresentOverTime, QuantileOverTime}
 use Rattle.pr_ast.specs.Tree.{Tree, select, none, more}
 use Rattle.pr_types.specs.Typed.{content_at, contents}
-use Rattle.pr_meaning.specs.declared.function_fault.FunctionFault.{FunctionFault}
-use Rattle.pr_meaning.specs.declared.part.Part.{Part}
-use Rattle.pr_meaning.specs.declared.part.Part.TheVariants as part
-use Rattle.pr_meaning.specs.declared.range.RangeFn.TheVariants as range
-use Rattle.pr_meaning.specs.Calendar.{calendar_of}
-use Rattle.pr_meaning.specs.Functions.{abs_of, ceils_of, clamped, clamped_max, clamped_min, floors_of, mapped, rounded_all, scalar_of, signs_of, told_apart}
-use Rattle.pr_meaning.specs.Histogram.{histogram_quantiles}
-use Rattle.pr_meaning.specs.LabelFunctions.{label_joined, label_replaced}
-use Rattle.pr_meaning.specs.Vectors.{element}
+use Rattle.pr_vectors.specs.declared.function_fault.FunctionFault.{FunctionFault}
+use Rattle.pr_vectors.specs.declared.part.Part.{Part}
+use Rattle.pr_vectors.specs.declared.part.Part.TheVariants as part
+use Rattle.pr_vectors.specs.declared.range.RangeFn.TheVariants as range
+use Rattle.pr_vectors.specs.Calendar.{calendar_of}
+use Rattle.pr_vectors.specs.Functions.{abs_of, ceils_of, clamped, clamped_max, clamped_min, floors_of, mapped, rounded_all, scalar_of, signs_of, told_apart}
+use Rattle.pr_vectors.specs.Histogram.{histogram_quantiles}
+use Rattle.pr_vectors.specs.LabelFunctions.{label_joined, label_replaced}
+use Rattle.pr_vectors.specs.Vectors.{element}
 use Rattle.pr_query.specs.declared.fault.Fault.{Fault}
 use Rattle.pr_query.specs.declared.value.Value.{Value}
 use Rattle.pr_query.specs.declared.value.Value.TheVariants as value

@@ -5,7 +5,7 @@ use Rattle.pr_history.specs.declared.entry.Entry.{Entry}
 use Rattle.pr_history.specs.Lookback.{entries_until}
 use Rattle.pr_ast.specs.Tree.{Tree, number, text, select, range, sub, neg, binary, call, aggregate, none, more}
 use Rattle.pr_types.specs.Numbers.{ranges_in}
-use Rattle.pr_meaning.specs.Ranges.{longest}
+use Rattle.pr_vectors.specs.Ranges.{longest}
 use Rattle.pr_query.specs.Selection.{chosen_by, moment_of}
 use Rattle.pr_query.specs.Subqueries.{multiples}
 

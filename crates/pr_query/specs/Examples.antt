@@ -19,8 +19,8 @@ use Rattle.pr_ast.specs.declared.names.Func.TheVariants as func
 use Rattle.pr_ast.specs.Tree.{Tree, number, text, select, range, sub, neg, binary, call, aggregate, none, more_from}
 use Rattle.pr_ast.specs.Places.{nowhere}
 use Rattle.pr_ast.specs.Examples.{chosen, metric, matcher, one}
-use Rattle.pr_meaning.specs.Examples.{x, y, z, sample}
-use Rattle.pr_meaning.specs.AggregationExamples.{by_nothing}
+use Rattle.pr_vectors.specs.Examples.{x, y, z, sample}
+use Rattle.pr_vectors.specs.AggregationExamples.{by_nothing}
 use Rattle.pr_query.specs.declared.fault.Fault.{Fault}
 use Rattle.pr_query.specs.declared.value.Value.{Value}
 use Rattle.pr_query.specs.Meaning.{meaning}

@@ -7,9 +7,9 @@ use Rattle.pr_labels.specs.declared.matching.Matching.{Matching}
 use Rattle.pr_ast.specs.declared.place.Place.{Place}
 use Rattle.pr_ast.specs.declared.names.BinOp.{BinOp}
 use Rattle.pr_ast.specs.declared.names.BinOp.TheVariants.{Or, And, Unless}
-use Rattle.pr_meaning.specs.Operators.{holds, kept_where}
-use Rattle.pr_meaning.specs.Functions.{ValueFunction, mapped}
-use Rattle.pr_meaning.specs.Matching.{joined, both_sides, left_alone, either_side}
+use Rattle.pr_vectors.specs.Operators.{holds, kept_where}
+use Rattle.pr_vectors.specs.Functions.{ValueFunction, mapped}
+use Rattle.pr_vectors.specs.Matching.{joined, both_sides, left_alone, either_side}
 use Rattle.pr_query.specs.declared.fault.Fault.{Fault}
 use Rattle.pr_query.specs.declared.value.Value.{Value}
 use Rattle.pr_query.specs.declared.value.Value.TheVariants.{Scalar, Vector}

@@ -9,8 +9,8 @@ use Rattle.pr_labels.specs.declared.matching.Matching.{Matching}
 use Rattle.pr_ast.specs.declared.names.BinOp.{BinOp}
 use Rattle.pr_ast.specs.declared.names.BinOp.TheVariants as op
 use Rattle.pr_types.specs.Operations.{compares}
-use Rattle.pr_meaning.specs.Matching.{Operator, always_kept}
-use Rattle.pr_meaning.specs.Operators.{Comparison, are_equal, are_unequal, is_less, is_at_most, is_greater, is_at_least, filtering, holds, truth_value}
+use Rattle.pr_vectors.specs.Matching.{Operator, always_kept}
+use Rattle.pr_vectors.specs.Operators.{Comparison, are_equal, are_unequal, is_less, is_at_most, is_greater, is_at_least, filtering, holds, truth_value}
 
 -- what a comparison asks; every other operator asks nothing, and never holds
 abbrev pub comparison_of : BinOp → Comparison

@@ -6,14 +6,14 @@ use Rattle.pr_labels.specs.declared.item.Item.{Item}
 use Rattle.pr_labels.specs.SeriesText.{unnamed}
 use Rattle.pr_history.specs.declared.spot.Spot.{Spot}
 use Rattle.pr_ast.specs.declared.place.Place.{Place}
-use Rattle.pr_meaning.specs.declared.range.Ask.{Ask}
-use Rattle.pr_meaning.specs.declared.range.AskFault.{AskFault}
-use Rattle.pr_meaning.specs.declared.range.AskFault.TheVariants as ask
-use Rattle.pr_meaning.specs.declared.range.RangeFn.{RangeFn}
-use Rattle.pr_meaning.specs.declared.range.RangeFn.TheVariants.{Rate, Increase, Delta, Irate, Idelta, Deriv, PredictLinear, Changes, Resets, SumOverTime, AvgOverTime, MinOverTime, MaxOverTime, CountOverTime, LastOverTime, PresentOverTime, QuantileOverTime}
-use Rattle.pr_meaning.specs.Functions.{told_apart}
-use Rattle.pr_meaning.specs.Ranges.{over}
-use Rattle.pr_meaning.specs.Vectors.{element}
+use Rattle.pr_vectors.specs.declared.range.Ask.{Ask}
+use Rattle.pr_vectors.specs.declared.range.AskFault.{AskFault}
+use Rattle.pr_vectors.specs.declared.range.AskFault.TheVariants as ask
+use Rattle.pr_vectors.specs.declared.range.RangeFn.{RangeFn}
+use Rattle.pr_vectors.specs.declared.range.RangeFn.TheVariants.{Rate, Increase, Delta, Irate, Idelta, Deriv, PredictLinear, Changes, Resets, SumOverTime, AvgOverTime, MinOverTime, MaxOverTime, CountOverTime, LastOverTime, PresentOverTime, QuantileOverTime}
+use Rattle.pr_vectors.specs.Functions.{told_apart}
+use Rattle.pr_vectors.specs.Ranges.{over}
+use Rattle.pr_vectors.specs.Vectors.{element}
 use Rattle.pr_query.specs.declared.fault.Fault.{Fault}
 use Rattle.pr_query.specs.declared.fault.FaultKind.TheVariants as kind
 use Rattle.pr_query.specs.declared.value.Value.{Value}

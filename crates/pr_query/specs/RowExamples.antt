@@ -14,8 +14,8 @@ use Rattle.pr_ast.specs.declared.names.BinOp.{BinOp}
 use Rattle.pr_ast.specs.Tree.{Tree, select, range, sub, neg}
 use Rattle.pr_ast.specs.Places.{nowhere}
 use Rattle.pr_ast.specs.Examples.{chosen, one}
-use Rattle.pr_meaning.specs.RangeExamples.{falling}
-use Rattle.pr_meaning.specs.Vectors.{element}
+use Rattle.pr_vectors.specs.RangeExamples.{falling}
+use Rattle.pr_vectors.specs.Vectors.{element}
 use Rattle.pr_query.specs.declared.fault.Fault.{Fault}
 use Rattle.pr_query.specs.declared.value.Value.{Value}
 use Rattle.pr_query.specs.declared.value.Value.TheVariants.{Vector}

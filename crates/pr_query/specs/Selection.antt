@@ -12,7 +12,7 @@ use Rattle.pr_history.specs.Series.{chosen}
 use Rattle.pr_match.specs.Matcher.{meets_all}
 use Rattle.pr_ast.specs.declared.selector.Selector.{Selector}
 use Rattle.pr_types.specs.Selectors.{tests_of}
-use Rattle.pr_meaning.specs.Vectors.{element}
+use Rattle.pr_vectors.specs.Vectors.{element}
 
 -- the label sets of the history that meet the name and each matcher, in label order, each once
 abbrev pub chosen_by : Selector → List Entry → List (List Pair)

@@ -9,8 +9,8 @@ use Rattle.pr_labels.specs.Order.{labels_eq}
 use Rattle.pr_history.specs.declared.spot.Spot.{Spot}
 use Rattle.pr_history.specs.Lookback.{is_after, spot_of}
 use Rattle.pr_ast.specs.declared.place.Place.{Place}
-use Rattle.pr_meaning.specs.Ranges.{longest}
-use Rattle.pr_meaning.specs.Vectors.{in_label_order, label_sets}
+use Rattle.pr_vectors.specs.Ranges.{longest}
+use Rattle.pr_vectors.specs.Vectors.{in_label_order, label_sets}
 use Rattle.pr_query.specs.declared.fault.Fault.{Fault}
 use Rattle.pr_query.specs.declared.fault.FaultKind.TheVariants as kind
 use Rattle.pr_query.specs.declared.value.Value.{Value}

@@ -9,9 +9,9 @@ ghost use Rattle.pr_ast.specs.Tree.{none as no_arguments};
 ghost use Rattle.pr_ast.specs.Examples.{one, two};
 ghost use Rattle.pr_ast.specs.Places.{nowhere};
 ghost use Rattle.pr_history.specs.Examples.{marked as m_then_marker, three as m_three_times, m as m_labels};
-ghost use Rattle.pr_meaning.specs.Vectors.{element};
-ghost use Rattle.pr_meaning.specs.Examples.{number, x};
-ghost use Rattle.pr_meaning.specs.AggregationExamples.{by_nothing};
+ghost use Rattle.pr_vectors.specs.Vectors.{element};
+ghost use Rattle.pr_vectors.specs.Examples.{number, x};
+ghost use Rattle.pr_vectors.specs.AggregationExamples.{by_nothing};
 ghost use Rattle.pr_query.specs.declared.fault.FaultKind.TheVariants as kind;
 ghost use Rattle.pr_query.specs.declared.value.Value.TheVariants.{Scalar, Vector};
 ghost use Rattle.pr_query.specs.Answers.{fault};
@@ -55,7 +55,7 @@ pub fn vectors_are_aggregated()
 
 /// `round(vector(2.5))`, `year()`, `time()`, `scalar(a)`, `timestamp(m)` of a selector and of what
 /// is none, `absent(c{x="1"})`, `absent(a)`.
-#[tactic(auto, unfolding(pr_match::specs::Matcher::meets, pr_match::specs::Matcher::meets_all, pr_num::specs::Multiples::rounded_to, pr_num::specs::Multiples::floor_quotient, pr_num::specs::Half::half, pr_num::specs::Half::half_abs, pr_num::specs::Arithmetic::sum_of, pr_meaning::specs::Calendar::date_after))]
+#[tactic(auto, unfolding(pr_match::specs::Matcher::meets, pr_match::specs::Matcher::meets_all, pr_num::specs::Multiples::rounded_to, pr_num::specs::Multiples::floor_quotient, pr_num::specs::Half::half, pr_num::specs::Half::half_abs, pr_num::specs::Arithmetic::sum_of, pr_vectors::specs::Calendar::date_after))]
 pub fn functions_are_called()
     ensures round { at_0 [] (call_of func.Round (one (call_of func.Vector (one (units (25 * 10 ^ 8)))))) ≡ Ok (Vector (element [] (number 3) ∷ [])) }
     ensures time { meaning 60000 [] (call_of func.Time no_arguments) 1500 ≡ Ok (Scalar (Finite (pos (15 * 10 ^ 8)))) }
@@ -71,7 +71,7 @@ pub fn functions_are_called()
 /// `absent_over_time({x="1"}[1m])` of two metrics; `sum_over_time(m[2m:1m])`,
 /// `sum_over_time(m[2m:])` and `count_over_time(m[5m:1m])` where m is 1, 2 and 3 at each minute
 /// from 0 on.
-#[tactic(auto, unfolding(pr_match::specs::Matcher::meets, pr_match::specs::Matcher::meets_all, pr_meaning::specs::Ranges::over, pr_meaning::specs::Ranges::function_of, pr_num::specs::Total::value_of))]
+#[tactic(auto, unfolding(pr_match::specs::Matcher::meets, pr_match::specs::Matcher::meets_all, pr_vectors::specs::Ranges::over, pr_vectors::specs::Ranges::function_of, pr_num::specs::Total::value_of))]
 pub fn ranges_are_taken()
     ensures marker { meaning 60000 m_then_marker (call_of func.CountOverTime (one (range_of_m 300000))) 60000 ≡ Ok (Vector (element [] (number 1) ∷ [])) }
     ensures open_below { meaning 60000 m_three_times (call_of func.CountOverTime (one (range_of_m 120000))) 120000 ≡ Ok (Vector (element [] (number 2) ∷ [])) }
@@ -102,7 +102,7 @@ pub fn labels_are_joined()
 
 /// The year of the first second of the year 1, the month of 59 days later, and the second before
 /// them, which has no date.
-#[tactic(auto, unfolding(pr_meaning::specs::Calendar::date_after))]
+#[tactic(auto, unfolding(pr_vectors::specs::Calendar::date_after))]
 pub fn dates_are_told()
     ensures year { at_0 [] (call_of func.Year (one (before_1970 62135596800))) ≡ Ok (Vector (element [] (number 1) ∷ [])) }
     ensures month { at_0 [] (call_of func.Month (one (before_1970 62130499200))) ≡ Ok (Vector (element [] (number 3) ∷ [])) }

@@ -4,7 +4,7 @@ ghost use Rattle.pr_history.specs.Examples.{three as m_three_times};
 ghost use Rattle.pr_ast.specs.declared.names.BinOp.TheVariants as op;
 ghost use Rattle.pr_ast.specs.Tree.{sub};
 ghost use Rattle.pr_ast.specs.Places.{nowhere};
-ghost use Rattle.pr_meaning.specs.Ranges.{longest};
+ghost use Rattle.pr_vectors.specs.Ranges.{longest};
 ghost use Rattle.pr_query.specs.Cost.{cost, cost_at_each, nothing_passed};
 ghost use Rattle.pr_query.specs.Examples.{operation, range_of_m};
 ghost use Rattle.pr_query.specs.RowExamples.{sum_of_m};

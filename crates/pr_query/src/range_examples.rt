@@ -4,10 +4,10 @@ ghost use Rattle.pr_num.specs.declared.value.Num.TheVariants.{Finite};
 ghost use Rattle.pr_ast.specs.declared.names.Func.TheVariants as func;
 ghost use Rattle.pr_ast.specs.Examples.{one, two};
 ghost use Rattle.pr_history.specs.Examples.{m as m_labels, three as m_three_times};
-ghost use Rattle.pr_meaning.specs.declared.range.AskFault.TheVariants as ask;
-ghost use Rattle.pr_meaning.specs.RangeExamples.{falling};
-ghost use Rattle.pr_meaning.specs.Vectors.{element};
-ghost use Rattle.pr_meaning.specs.Examples.{number};
+ghost use Rattle.pr_vectors.specs.declared.range.AskFault.TheVariants as ask;
+ghost use Rattle.pr_vectors.specs.RangeExamples.{falling};
+ghost use Rattle.pr_vectors.specs.Vectors.{element};
+ghost use Rattle.pr_vectors.specs.Examples.{number};
 ghost use Rattle.pr_query.specs.declared.fault.FaultKind.TheVariants as kind;
 ghost use Rattle.pr_query.specs.declared.value.Value.TheVariants.{Vector};
 ghost use Rattle.pr_query.specs.Answers.{fault};
@@ -18,7 +18,7 @@ ghost use Rattle.pr_query.specs.RowExamples.{a_minute_earlier, alone, below_zero
 
 /// Functions of ranges; m is 5, 8, 2 and 4 at each minute from the first on, or 2 and 3. All but
 /// the last value drop the name.
-#[tactic(auto, unfolding(pr_match::specs::Matcher::meets, pr_match::specs::Matcher::meets_all, pr_meaning::specs::Ranges::over, pr_meaning::specs::Ranges::function_of, pr_meaning::specs::Extrapolation::rate_of, pr_meaning::specs::Extrapolation::increase_of, pr_meaning::specs::Extrapolation::delta_of, pr_meaning::specs::Extrapolation::irate_of, pr_meaning::specs::Extrapolation::idelta_of, pr_meaning::specs::Regression::deriv_of, pr_meaning::specs::Regression::predicted, pr_num::specs::Half::half, pr_num::specs::Half::half_abs, pr_num::specs::Order::compared, pr_num::specs::Order::order_of, pr_num::specs::Total::value_of, pr_num::specs::Total::mean_of, pr_num::specs::Quantile::quantile_of, pr_num::specs::Quantile::ranked))]
+#[tactic(auto, unfolding(pr_match::specs::Matcher::meets, pr_match::specs::Matcher::meets_all, pr_vectors::specs::Ranges::over, pr_vectors::specs::Ranges::function_of, pr_vectors::specs::Extrapolation::rate_of, pr_vectors::specs::Extrapolation::increase_of, pr_vectors::specs::Extrapolation::delta_of, pr_vectors::specs::Extrapolation::irate_of, pr_vectors::specs::Extrapolation::idelta_of, pr_vectors::specs::Regression::deriv_of, pr_vectors::specs::Regression::predicted, pr_num::specs::Half::half, pr_num::specs::Half::half_abs, pr_num::specs::Order::compared, pr_num::specs::Order::order_of, pr_num::specs::Total::value_of, pr_num::specs::Total::mean_of, pr_num::specs::Quantile::quantile_of, pr_num::specs::Quantile::ranked))]
 pub fn each_function_of_a_range_has_its_row()
     ensures rate { of_falling func.Rate ≡ alone (Finite (pos 38888889)) }
     ensures increase { of_falling func.Increase ≡ alone (Finite (pos 9333333333)) }
@@ -43,7 +43,7 @@ pub fn each_function_of_a_range_has_its_row()
 
 /// `sum_over_time(m[2m:1m] offset 1m)`; a sum that is too wide, and equal labels, are told at the
 /// call, too many values at the range.
-#[tactic(auto, unfolding(pr_match::specs::Matcher::meets, pr_match::specs::Matcher::meets_all, pr_meaning::specs::Ranges::over, pr_meaning::specs::Ranges::function_of, pr_num::specs::Total::value_of))]
+#[tactic(auto, unfolding(pr_match::specs::Matcher::meets, pr_match::specs::Matcher::meets_all, pr_vectors::specs::Ranges::over, pr_vectors::specs::Ranges::function_of, pr_num::specs::Total::value_of))]
 pub fn ranges_have_offsets_and_faults()
     ensures earlier { meaning 60000 m_three_times (call_of func.SumOverTime (one a_minute_earlier)) 120000 ≡ alone (number 3) }
     ensures wide { meaning 60000 wide_twice (call_at 3 func.SumOverTime (one range_at_7)) 60000 ≡ Err (fault (at 3) kind.TooWide) }

@@ -9,8 +9,8 @@ ghost use Rattle.pr_ast.specs.declared.names.BinOp.TheVariants as op;
 ghost use Rattle.pr_ast.specs.declared.selector.MatchSign.TheVariants.{Equal, NotEqual};
 ghost use Rattle.pr_ast.specs.Tree.{none as no_arguments};
 ghost use Rattle.pr_ast.specs.Examples.{metric, matcher, one, two};
-ghost use Rattle.pr_meaning.specs.Vectors.{element};
-ghost use Rattle.pr_meaning.specs.Examples.{number, x, y};
+ghost use Rattle.pr_vectors.specs.Vectors.{element};
+ghost use Rattle.pr_vectors.specs.Examples.{number, x, y};
 ghost use Rattle.pr_query.specs.declared.value.Value.TheVariants.{Vector};
 ghost use Rattle.pr_query.specs.Meaning.{meaning};
 ghost use Rattle.pr_query.specs.Examples.{a, b, at_0, before_1970, call_of, named, one_three_five, operation, several, text_argument, units, whole, x_only};
@@ -58,7 +58,7 @@ pub fn each_function_of_values_has_its_row()
 
 /// The minute of 02:01, the weekday of the beginning of 1970, and the day of 59 days after that of
 /// the year 1.
-#[tactic(auto, unfolding(pr_meaning::specs::Calendar::date_after, pr_meaning::specs::Calendar::days_before))]
+#[tactic(auto, unfolding(pr_vectors::specs::Calendar::date_after, pr_vectors::specs::Calendar::days_before))]
 pub fn each_part_of_a_date_has_its_row()
     ensures minute { meaning 60000 [] (call_of func.Minute no_arguments) 7260000 ≡ alone (number 1) }
     ensures weekday { at_0 [] (call_of func.DayOfWeek no_arguments) ≡ alone (number 4) }

@@ -7,8 +7,8 @@ use Rattle.std.proofs.lemmas.List.Sums.{fold-append}
 use Rattle.pr_num.specs.Order.{order_of}
 use Rattle.pr_num.specs.declared.value.Num.{Num}
 use Rattle.pr_history.specs.declared.spot.Spot.{Spot}
-use Rattle.pr_meaning.specs.Aggregation.{first_value, greatest_first, greatest_of_values, in_value_order, least_first, least_of_values, value_placed, with_placed}
-use Rattle.pr_meaning.specs.Spots.{numbers_of}
+use Rattle.pr_vectors.specs.Aggregation.{first_value, greatest_first, greatest_of_values, in_value_order, least_first, least_of_values, value_placed, with_placed}
+use Rattle.pr_vectors.specs.Spots.{numbers_of}
 use Rattle.pr_range.specs.Picked.{picked}
 
 -- a value that is put into an order comes first, or the first one stays

@@ -6,7 +6,7 @@ use Rattle.std.proofs.lemmas.Grind.{common_steps}
 use Rattle.pr_num.specs.Half.{below_zero, half, half_abs, round_by_rest, signed}
 use Rattle.pr_num.proofs.Rounding.{parts_of, rest_is}
 use Rattle.pr_num.proofs.Signs.{abs_signed, half-scaled, half_abs_below}
-use Rattle.pr_meaning.specs.Extrapolation.{Fraction, extended, fraction, plus}
+use Rattle.pr_vectors.specs.Extrapolation.{Fraction, extended, fraction, plus}
 use Rattle.pr_range.specs.Stretches.{IsPart}
 
 -- what tests of numbers say

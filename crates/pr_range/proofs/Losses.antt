@@ -6,8 +6,8 @@ use Rattle.pr_num.proofs.Algebra.{joined_groups, nothing_joined_left, nothing_jo
 use Rattle.pr_num.specs.declared.value.Num.{Num}
 use Rattle.pr_history.specs.declared.spot.Spot.{Spot}
 use Rattle.std.specs.List.{list_any}
-use Rattle.pr_meaning.specs.Histogram.{is_special}
-use Rattle.pr_meaning.specs.Spots.{falls, neighbours, numbers_of}
+use Rattle.pr_vectors.specs.Histogram.{is_special}
+use Rattle.pr_vectors.specs.Spots.{falls, neighbours, numbers_of}
 use Rattle.pr_range.proofs.Neighbours.{pairs_more}
 
 pub any_special : (spots : List Spot) → list_any is_special (map (λ (s : Spot). s.value) spots) ≡ list_any (λ s. is_special s.value) spots

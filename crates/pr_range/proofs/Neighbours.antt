@@ -3,8 +3,8 @@ use Rattle.std.proofs.Common.{◌≡◌, ℕ, suc, ◌+◌, ◌-◌, ◌<◌, �
 use Rattle.std.proofs.lemmas.List.{drop_more}
 use Rattle.pr_num.specs.declared.value.Num.{Num}
 use Rattle.pr_history.specs.declared.spot.Spot.{Spot}
-use Rattle.pr_meaning.specs.Extrapolation.{last_two}
-use Rattle.pr_meaning.specs.Spots.{last_of, neighbours, numbers_of}
+use Rattle.pr_vectors.specs.Extrapolation.{last_two}
+use Rattle.pr_vectors.specs.Spots.{last_of, neighbours, numbers_of}
 
 last_at : {X : Type 0} (y : X) (ys : List X) → slice_get (y ∷ ys) (length ys) ≡ Some (last_of y ys)
 last_at y [] = refl

@@ -14,8 +14,8 @@ use Rattle.pr_head.specs.declared.timed.Timed.{Timed}
 use Rattle.pr_head.specs.Stored.{Stored, count_of, position_of}
 use Rattle.pr_head.specs.Holds.{samples_of}
 use Rattle.pr_head.proofs.Simulation.{entry_at}
-use Rattle.pr_meaning.specs.declared.range.Ask.{Ask}
-use Rattle.pr_meaning.specs.Ranges.{ask_cost}
+use Rattle.pr_vectors.specs.declared.range.Ask.{Ask}
+use Rattle.pr_vectors.specs.Ranges.{ask_cost}
 use Rattle.pr_range.specs.Asks.{MayAsk, passed_for}
 use Rattle.pr_history.specs.declared.spot.Spot.{Spot}
 use Rattle.pr_range.specs.Spots.{AreWithin, samples_between, spots_of}

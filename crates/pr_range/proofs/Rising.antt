@@ -2,8 +2,8 @@
 use Rattle.std.proofs.Common.{◌≡◌, ◌<◌, ◌≤◌, ℤ, pos, ◌<ℤ◌, Bool, true, false, None, Result, Ok, List, [], ◌∷◌, length, refl, sym, ◌∙◌, arith}
 use Rattle.std.proofs.lemmas.Int.{ints}
 use Rattle.pr_history.specs.declared.spot.Spot.{Spot}
-use Rattle.pr_meaning.specs.Extrapolation.{last_two}
-use Rattle.pr_meaning.specs.Spots.{last_of, of_two}
+use Rattle.pr_vectors.specs.Extrapolation.{last_two}
+use Rattle.pr_vectors.specs.Spots.{last_of, of_two}
 use Rattle.pr_num.specs.declared.value.Num.{Num}
 use Rattle.pr_num.specs.declared.value.TooWide.{TooWide}
 use Rattle.pr_range.specs.Spots.{AreWithin}

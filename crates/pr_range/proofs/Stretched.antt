@@ -3,8 +3,8 @@ use Rattle.std.proofs.Common.{◌≡◌, ℕ, ◌+◌, ◌*◌, ◌<◌, nat_lt,
 use Rattle.std.specs.Prelude.{int_lt, nat_le, if◌then◌else◌}
 use Rattle.pr_num.specs.Half.{half}
 use Rattle.pr_history.specs.declared.spot.Spot.{Spot}
-use Rattle.pr_meaning.specs.Spots.{last_of, units_in}
-use Rattle.pr_meaning.specs.Extrapolation.{Fraction, begins_at_zero, counter_gain, covered, difference, extended, fraction, gained, gauge_gain, ms_between, plus, reach, reach_after, reach_before}
+use Rattle.pr_vectors.specs.Spots.{last_of, units_in}
+use Rattle.pr_vectors.specs.Extrapolation.{Fraction, begins_at_zero, counter_gain, covered, difference, extended, fraction, gained, gauge_gain, ms_between, plus, reach, reach_after, reach_before}
 use Rattle.pr_range.specs.Stretches.{IsPart, IsStretch}
 use Rattle.pr_range.specs.declared.gains.Stretch.{Stretch}
 use Rattle.pr_range.proofs.Fractions.{extended_same, lt_scaled, plus_part, scaled_lt}

@@ -5,7 +5,7 @@ use Rattle.pr_num.specs.Total.{joined, no_values, one_value, total_of}
 use Rattle.pr_num.proofs.Algebra.{joined_lists, nothing_joined_left, nothing_joined_right}
 use Rattle.pr_num.specs.declared.value.Num.{Num}
 use Rattle.pr_history.specs.declared.spot.Spot.{Spot}
-use Rattle.pr_meaning.specs.Spots.{numbers_of}
+use Rattle.pr_vectors.specs.Spots.{numbers_of}
 
 pub one_alone : (v : Num) → total_of (v ∷ []) ≡ one_value v
 one_alone v = nothing_joined_right (one_value v)

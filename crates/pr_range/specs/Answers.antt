@@ -1,8 +1,8 @@
 -- What a call answers of what is meant.
 use Rattle.std.specs.Prelude.{◌≡◌, Option, Result, Ok, Err}
 use Rattle.pr_num.specs.declared.value.Num.{Num}
-use Rattle.pr_meaning.specs.declared.range.AskFault.{AskFault}
-use Rattle.pr_meaning.specs.declared.range.AskFault.TheVariants as fault
+use Rattle.pr_vectors.specs.declared.range.AskFault.{AskFault}
+use Rattle.pr_vectors.specs.declared.range.AskFault.TheVariants as fault
 use Rattle.pr_range.specs.declared.fault.RangeFault.{RangeFault}
 use Rattle.pr_range.specs.declared.fault.RangeFault.TheVariants.{TooWide, RangeTooLong, Memory}
 

@@ -6,10 +6,10 @@ use Rattle.pr_history.specs.declared.entry.Entry.{Entry}
 use Rattle.pr_history.specs.Admission.{IsLawful}
 use Rattle.pr_head.specs.Stored.{Stored}
 use Rattle.pr_head.specs.Holds.{Holds, IsWhole, sets_of}
-use Rattle.pr_meaning.specs.declared.range.Ask.{Ask}
-use Rattle.pr_meaning.specs.declared.range.RangeFn.{RangeFn}
-use Rattle.pr_meaning.specs.declared.range.RangeFn.TheVariants.{PredictLinear, QuantileOverTime}
-use Rattle.pr_meaning.specs.Ranges.{answer_to, ask_cost}
+use Rattle.pr_vectors.specs.declared.range.Ask.{Ask}
+use Rattle.pr_vectors.specs.declared.range.RangeFn.{RangeFn}
+use Rattle.pr_vectors.specs.declared.range.RangeFn.TheVariants.{PredictLinear, QuantileOverTime}
+use Rattle.pr_vectors.specs.Ranges.{answer_to, ask_cost}
 use Rattle.pr_range.specs.declared.fault.RangeFault.{RangeFault}
 use Rattle.pr_range.specs.Answers.{Answers}
 

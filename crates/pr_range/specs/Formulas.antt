@@ -5,12 +5,12 @@ use Rattle.pr_num.specs.declared.value.Num.TheVariants.{NaN}
 use Rattle.pr_num.specs.declared.value.TooWide.{TooWide}
 use Rattle.pr_history.specs.declared.spot.Spot.{Spot}
 use Rattle.std.specs.Prelude.{List}
-use Rattle.pr_meaning.specs.declared.range.Ask.{Ask}
-use Rattle.pr_meaning.specs.declared.range.RangeFn.{RangeFn}
-use Rattle.pr_meaning.specs.declared.range.RangeFn.TheVariants.{Rate, Increase, Delta, Irate, Idelta, Deriv, PredictLinear}
-use Rattle.pr_meaning.specs.Extrapolation.{delta_of, idelta_of, increase_of, irate_of, rate_of}
-use Rattle.pr_meaning.specs.Regression.{deriv_of, predicted}
-use Rattle.pr_meaning.specs.Ranges.{argument}
+use Rattle.pr_vectors.specs.declared.range.Ask.{Ask}
+use Rattle.pr_vectors.specs.declared.range.RangeFn.{RangeFn}
+use Rattle.pr_vectors.specs.declared.range.RangeFn.TheVariants.{Rate, Increase, Delta, Irate, Idelta, Deriv, PredictLinear}
+use Rattle.pr_vectors.specs.Extrapolation.{delta_of, idelta_of, increase_of, irate_of, rate_of}
+use Rattle.pr_vectors.specs.Regression.{deriv_of, predicted}
+use Rattle.pr_vectors.specs.Ranges.{argument}
 
 -- whether a function is such a formula
 abbrev pub is_formula : RangeFn → Bool

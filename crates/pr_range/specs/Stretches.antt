@@ -1,7 +1,7 @@
 -- The distances of an extrapolation in whole parts of a millisecond, as they are worked out.
 use Rattle.std.specs.Prelude.{◌≡◌, ℕ, ◌*◌, ◌^◌, ◌<◌, ◌≤◌, ℤ, List, length}
 use Rattle.pr_history.specs.declared.spot.Spot.{Spot}
-use Rattle.pr_meaning.specs.Extrapolation.{Fraction, covered, reach_after, reach_before}
+use Rattle.pr_vectors.specs.Extrapolation.{Fraction, covered, reach_after, reach_before}
 use Rattle.pr_range.specs.declared.gains.Stretch.{Stretch}
 
 -- A fraction of milliseconds is a whole number of such parts.

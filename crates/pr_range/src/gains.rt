@@ -5,15 +5,15 @@ ghost use Rattle.std.specs.Option.{SomeIff};
 ghost use Rattle.pr_num.specs.Half.{half};
 ghost use Rattle.pr_num.specs.Total.{joined, one_value};
 ghost use Rattle.pr_num.specs.Units.{IsNano};
-ghost use Rattle.pr_meaning.specs.Extrapolation.{begins_at_zero, counter_gain, covered, delta_of, difference, extended, gained, gauge_gain, idelta_of, increase_of, irate_of, lost, ms_between, rate_of, reach, step_counter, step_gauge};
-ghost use Rattle.pr_meaning.specs.Histogram.{is_special};
-ghost use Rattle.pr_meaning.specs.Spots.{falls, has_special, last_of, numbers_of, units_in};
+ghost use Rattle.pr_vectors.specs.Extrapolation.{begins_at_zero, counter_gain, covered, delta_of, difference, extended, gained, gauge_gain, idelta_of, increase_of, irate_of, lost, ms_between, rate_of, reach, step_counter, step_gauge};
+ghost use Rattle.pr_vectors.specs.Histogram.{is_special};
+ghost use Rattle.pr_vectors.specs.Spots.{falls, has_special, last_of, numbers_of, units_in};
 ghost use Rattle.pr_range.specs.Stretches.{IsPart, IsStretch};
 
 use crate::values::{falls, last_of};
 use pr_history::Spot;
-use pr_meaning::Ask;
 use pr_num::{Num, TooWide, Total, compare_products, half_product, muldiv_units};
+use pr_vectors::Ask;
 use std::cmp::Ordering;
 
 /// The units of a finite value.
@@ -224,7 +224,7 @@ fn counter_gain(first: &Spot, rest: &[Spot], ask: &Ask) -> i128
 }
 
 /// What a gauge gains in the range.
-#[tactic(auto, unfolding(pr_meaning::specs::Extrapolation::delta_of))]
+#[tactic(auto, unfolding(pr_vectors::specs::Extrapolation::delta_of))]
 pub(crate) fn delta(first: &Spot, rest: &[Spot], ask: &Ask) -> Result<Num, TooWide>
     requires some { 0 < length rest.now }
     requires few { length rest.now < 2 ^ 20 }
@@ -238,7 +238,7 @@ pub(crate) fn delta(first: &Spot, rest: &[Spot], ask: &Ask) -> Result<Num, TooWi
 }
 
 /// What a counter gains in the range.
-#[tactic(auto, unfolding(pr_meaning::specs::Extrapolation::increase_of))]
+#[tactic(auto, unfolding(pr_vectors::specs::Extrapolation::increase_of))]
 pub(crate) fn increase(first: &Spot, rest: &[Spot], ask: &Ask) -> Result<Num, TooWide>
     requires some { 0 < length rest.now }
     requires few { length rest.now < 2 ^ 20 }
@@ -263,7 +263,7 @@ fn ms_of(ask: &Ask) -> u64
 }
 
 /// What a counter gains in the range, in a second.
-#[tactic(auto, unfolding(pr_meaning::specs::Extrapolation::rate_of))]
+#[tactic(auto, unfolding(pr_vectors::specs::Extrapolation::rate_of))]
 pub(crate) fn rate(first: &Spot, rest: &[Spot], ask: &Ask) -> Result<Num, TooWide>
     requires some { 0 < length rest.now }
     requires few { length rest.now < 2 ^ 20 }

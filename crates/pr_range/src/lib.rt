@@ -16,5 +16,5 @@ pub use fault::RangeFault;
 pub use over::over_list;
 pub use plain::PlainRanges;
 pub use pr_history::Spot;
-pub use pr_meaning::{Ask, RangeFn};
+pub use pr_vectors::{Ask, RangeFn};
 pub use ranges::Ranges;

@@ -2,14 +2,14 @@
 ghost use Rattle.std.specs.Prelude.{◌≡◌, ◌≢◌, ◌+◌, ◌-◌, ◌*◌, ◌^◌, ◌<◌, ◌≤◌, ◌∷◌, true, false, ℤ, pos, ◌+ℤ◌, ◌-ℤ◌, ◌*ℤ◌, IfSome, IfNone, length, unsigned_abs};
 ghost use Rattle.pr_num.specs.Arithmetic.{fitted};
 ghost use Rattle.pr_num.specs.Half.{half};
-ghost use Rattle.pr_meaning.specs.Regression.{count, deriv_of, is_slope_wide, line_after, line_at, line_in, ms_ahead, predicted, slope_bottom, slope_of, slope_top, sum_abs_xy, sum_abs_y, sum_x, sum_xx, sum_xy, sum_y, time_from, times_ahead, units_from};
-ghost use Rattle.pr_meaning.specs.Spots.{last_of, units_in};
+ghost use Rattle.pr_vectors.specs.Regression.{count, deriv_of, is_slope_wide, line_after, line_at, line_in, ms_ahead, predicted, slope_bottom, slope_of, slope_top, sum_abs_xy, sum_abs_y, sum_x, sum_xx, sum_xy, sum_y, time_from, times_ahead, units_from};
+ghost use Rattle.pr_vectors.specs.Spots.{last_of, units_in};
 ghost use Rattle.pr_range.specs.Parted.{IsParted};
 
 use crate::gains::{has_special, units_of};
 use pr_history::Spot;
-use pr_meaning::Ask;
 use pr_num::{Num, TooWide, half, half_product};
+use pr_vectors::Ask;
 
 // How long after the first value another one stands, in milliseconds.
 fn time_from(first: &Spot, spot: &Spot) -> u64
@@ -232,7 +232,7 @@ fn slope(first: &Spot, rest: &[Spot]) -> Result<Num, TooWide>
 }
 
 /// The slope of the values in a second.
-#[tactic(auto, unfolding(pr_meaning::specs::Regression::deriv_of))]
+#[tactic(auto, unfolding(pr_vectors::specs::Regression::deriv_of))]
 pub(crate) fn deriv(first: &Spot, rest: &[Spot]) -> Result<Num, TooWide>
     requires few { length rest.now < 2 ^ 20 }
     requires rising { first.now.time < (last_of first.now rest.now).time }
@@ -344,7 +344,7 @@ fn ms_ahead(seconds: i128) -> i128
 }
 
 /// Where the straight line is so many seconds after the end of the range.
-#[tactic(auto, unfolding(pr_meaning::specs::Regression::predicted))]
+#[tactic(auto, unfolding(pr_vectors::specs::Regression::predicted))]
 pub(crate) fn predicted(
     seconds: &Num,
     first: &Spot,

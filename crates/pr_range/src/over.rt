@@ -1,9 +1,9 @@
 // Functions of the values of a range.
 ghost use Rattle.std.specs.Prelude.{◌≡◌, ◌≢◌, ◌<◌, ◌≤◌, ◌^◌, ◌∷◌, ◌↔◌, ◌<ℤ◌, true, Err, IsTrue, IfOk, length};
-ghost use Rattle.pr_meaning.specs.declared.range.RangeFn.TheVariants.{QuantileOverTime};
-ghost use Rattle.pr_meaning.specs.Extrapolation.{last_two};
-ghost use Rattle.pr_meaning.specs.Ranges.{argument, function_of, over, over_some, with_fault};
-ghost use Rattle.pr_meaning.specs.Spots.{last_of, of_two, some_value};
+ghost use Rattle.pr_vectors.specs.declared.range.RangeFn.TheVariants.{QuantileOverTime};
+ghost use Rattle.pr_vectors.specs.Extrapolation.{last_two};
+ghost use Rattle.pr_vectors.specs.Ranges.{argument, function_of, over, over_some, with_fault};
+ghost use Rattle.pr_vectors.specs.Spots.{last_of, of_two, some_value};
 ghost use Rattle.pr_range.specs.declared.fault.RangeFault.TheVariants.{Memory};
 ghost use Rattle.pr_range.specs.Answers.{Answers};
 ghost use Rattle.pr_range.specs.Asks.{HasArgument};
@@ -16,8 +16,8 @@ use crate::lines::{deriv, predicted};
 use crate::steps::{idelta, irate, last_two};
 use crate::values::{changes, greatest, last_of, least, quantile, resets, total_of, whole};
 use pr_history::Spot;
-use pr_meaning::{Ask, RangeFn};
 use pr_num::{Num, TooWide};
+use pr_vectors::{Ask, RangeFn};
 use std::alloc::Global;
 
 /// The most values of a range.
@@ -94,7 +94,7 @@ fn over_two(func: RangeFn, first: &Spot, rest: &[Spot], ask: &Ask) -> Result<Opt
 }
 
 // A function of values of which there is one at least, but for the quantile.
-#[tactic(auto, unfolding(pr_meaning::specs::Ranges::function_of))]
+#[tactic(auto, unfolding(pr_vectors::specs::Ranges::function_of))]
 fn function_of(
     func: RangeFn,
     first: &Spot,
@@ -127,7 +127,7 @@ fn function_of(
 }
 
 // The answer of a function over values of which there is one at least.
-#[tactic(auto, unfolding(pr_meaning::specs::Ranges::function_of))]
+#[tactic(auto, unfolding(pr_vectors::specs::Ranges::function_of))]
 fn over_some(
     alloc: Global,
     first: &Spot,
@@ -161,7 +161,7 @@ fn over_some(
 /// `RangeTooLong` exactly where there are more than 2^20 values, else `TooWide` where the value is
 /// 10^20 or more in magnitude, or a slope or a time ahead is refused, and `Memory` for the quantile
 /// alone, which sorts a copy of the values.
-#[tactic(auto, unfolding(pr_meaning::specs::Ranges::over))]
+#[tactic(auto, unfolding(pr_vectors::specs::Ranges::over))]
 pub fn over_list(alloc: Global, spots: &[Spot], ask: &Ask) -> Result<Option<Num>, RangeFault>
     requires { HasArgument ask.now }
     ensures answer { AreWithin ask.now.from ask.now.to spots.now → Answers (over ask.now spots.now) result }

@@ -8,8 +8,8 @@ ghost use Rattle.pr_range.specs.Asks.{AreMoved, HasArgument, IsAnswer, IsReady, 
 
 use crate::fault::RangeFault;
 use pr_head::Head;
-use pr_meaning::Ask;
 use pr_num::Num;
+use pr_vectors::Ask;
 use pr_words::Steps;
 use std::sync::ledger::Ledger;
 

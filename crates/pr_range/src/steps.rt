@@ -1,8 +1,8 @@
 // The last two values of a range.
 ghost use Rattle.std.specs.Prelude.{◌≡◌, ◌+◌, ◌*◌, ◌^◌, ◌<◌, ◌≤◌, ◌∷◌, [], pos, if◌then◌else◌, length, unsigned_abs};
 ghost use Rattle.pr_num.specs.Units.{IsNano};
-ghost use Rattle.pr_meaning.specs.Extrapolation.{idelta_of, idelta_step, irate_of, irate_step, last_two, step_counter, step_gauge};
-ghost use Rattle.pr_meaning.specs.Spots.{has_special};
+ghost use Rattle.pr_vectors.specs.Extrapolation.{idelta_of, idelta_step, irate_of, irate_step, last_two, step_counter, step_gauge};
+ghost use Rattle.pr_vectors.specs.Spots.{has_special};
 
 use crate::gains::{is_special, units_of};
 use crate::values::falls;
@@ -69,7 +69,7 @@ fn irate_step(before: &Spot, last: &Spot) -> Result<Num, TooWide>
 }
 
 /// What a gauge gained from the value before the last one on.
-#[tactic(auto, unfolding(pr_meaning::specs::Extrapolation::idelta_of))]
+#[tactic(auto, unfolding(pr_vectors::specs::Extrapolation::idelta_of))]
 pub(crate) fn idelta(first: &Spot, rest: &[Spot]) -> Result<Num, TooWide>
     ensures { result ≡ idelta_of first.now rest.now }
 {
@@ -78,7 +78,7 @@ pub(crate) fn idelta(first: &Spot, rest: &[Spot]) -> Result<Num, TooWide>
 }
 
 /// What a counter gained from the value before the last one on, in a second.
-#[tactic(auto, unfolding(pr_meaning::specs::Extrapolation::irate_of))]
+#[tactic(auto, unfolding(pr_vectors::specs::Extrapolation::irate_of))]
 pub(crate) fn irate(first: &Spot, rest: &[Spot]) -> Result<Num, TooWide>
     requires { (last_two first.now rest.now).0.time < (last_two first.now rest.now).1.time }
     ensures { result ≡ irate_of first.now rest.now }

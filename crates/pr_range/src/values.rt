@@ -3,9 +3,9 @@ ghost use Rattle.std.specs.Prelude.{◌≡◌, ◌≢◌, ◌<◌, ◌≤◌, �
 ghost use Rattle.pr_num.specs.Arithmetic.{whole_of};
 ghost use Rattle.pr_num.specs.Order.{compared, order_of};
 ghost use Rattle.pr_num.specs.Total.{total_of};
-ghost use Rattle.pr_meaning.specs.Aggregation.{greatest_first, greatest_of_values, least_first, least_of_values, nan_class, quantile_of_values, in_value_order};
-ghost use Rattle.pr_meaning.specs.Ranges.{differ};
-ghost use Rattle.pr_meaning.specs.Spots.{falls, last_of, neighbours, numbers_of};
+ghost use Rattle.pr_vectors.specs.Aggregation.{greatest_first, greatest_of_values, least_first, least_of_values, nan_class, quantile_of_values, in_value_order};
+ghost use Rattle.pr_vectors.specs.Ranges.{differ};
+ghost use Rattle.pr_vectors.specs.Spots.{falls, last_of, neighbours, numbers_of};
 ghost use Rattle.pr_range.specs.Picked.{picked};
 
 use pr_history::Spot;

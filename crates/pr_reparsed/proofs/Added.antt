@@ -28,9 +28,9 @@ use Rattle.pr_grammar.specs.declared.kind.Kind.TheVariants.{Word, Function, Sign
 use Rattle.pr_grammar.specs.Seen.{kind_of, name_kind}
 use Rattle.pr_parse.specs.Open.{Open}
 use Rattle.pr_parse.specs.Deep.{is_counted, count, after_kind, after_kinds}
-use Rattle.pr_printed.specs.Kinds.{op_kind, number_kinds, following_names, names_kinds, labels_kinds, match_kind, matcher_kinds, following_matchers, matchers_kinds, braces_kinds, selected_kinds, step_kinds, select_kinds, span_kinds, sub_kinds, side_kinds, on_kind, matching_kinds, bool_kinds, by_kinds}
-use Rattle.pr_printed.proofs.Reread.{word_offset, word_by, word_without, word_on, word_ignoring, word_left, word_right, word_bool, word_inf, word_nan, func_kind, agg_kind}
-use Rattle.pr_printed.proofs.Origins.{IsNameKind, a_word, a_function, own_name, colon_name, plain_name, name_kind_is}
+use Rattle.pr_print_laws.specs.Kinds.{op_kind, number_kinds, following_names, names_kinds, labels_kinds, match_kind, matcher_kinds, following_matchers, matchers_kinds, braces_kinds, selected_kinds, step_kinds, select_kinds, span_kinds, sub_kinds, side_kinds, on_kind, matching_kinds, bool_kinds, by_kinds}
+use Rattle.pr_print_laws.proofs.Reread.{word_offset, word_by, word_without, word_on, word_ignoring, word_left, word_right, word_bool, word_inf, word_nan, func_kind, agg_kind}
+use Rattle.pr_print_laws.proofs.Origins.{IsNameKind, a_word, a_function, own_name, colon_name, plain_name, name_kind_is}
 
 -- a part outside braces, and one in braces
 abbrev pub part : ℕ → ℕ → Open

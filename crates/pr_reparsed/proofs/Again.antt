@@ -16,10 +16,10 @@ use Rattle.pr_parse.proofs.ParsedLaws.{tree_given}
 use Rattle.pr_types.specs.declared.kind.ValueType.{ValueType}
 use Rattle.pr_types.specs.declared.kind.TypeFault.{TypeFault}
 use Rattle.pr_types.specs.Typed.{typed, checked, go_on, whole}
-use Rattle.pr_printed.specs.Kinds.{tree_kinds}
-use Rattle.pr_printed.proofs.Readable.{IsReadable}
-use Rattle.pr_printed.proofs.Origins.{derived_readable}
-use Rattle.pr_printed.proofs.Printed.{has_kinds, has_tree}
+use Rattle.pr_print_laws.specs.Kinds.{tree_kinds}
+use Rattle.pr_print_laws.proofs.Readable.{IsReadable}
+use Rattle.pr_print_laws.proofs.Origins.{derived_readable}
+use Rattle.pr_print_laws.proofs.Printed.{has_kinds, has_tree}
 use Rattle.pr_reparsed.proofs.Heights.{total, depth_total}
 use Rattle.pr_reparsed.proofs.Added.{part}
 use Rattle.pr_reparsed.proofs.Bounded.{printed}

@@ -25,9 +25,9 @@ use Rattle.pr_types.specs.Signatures.{is_type}
 use Rattle.pr_types.specs.Operations.{compares, is_set, is_scalar, is_grouped, copies_key, is_instant, instant, over_times, operation_fault, operation_type}
 use Rattle.pr_types.specs.Selectors.{selected}
 use Rattle.pr_types.specs.Typed.{go_on, unless, start, operand, content_at, called, aggregated, step_fault, subquery, operation, typed, operands}
-use Rattle.pr_printed.specs.Kinds.{opening, closing, tree_kinds}
-use Rattle.pr_printed.proofs.Readable.{IsMetric, metric_name, function_name, IsSelected, IsReadable, a_number, a_text, a_select, a_range, a_sub, a_neg, a_binary, a_call, an_aggregate, a_parameter, no_args, more_args}
-use Rattle.pr_printed.proofs.Origins.{IsNameKind, a_word, a_function, own_name, colon_name, plain_name, name_kind_is}
+use Rattle.pr_print_laws.specs.Kinds.{opening, closing, tree_kinds}
+use Rattle.pr_print_laws.proofs.Readable.{IsMetric, metric_name, function_name, IsSelected, IsReadable, a_number, a_text, a_select, a_range, a_sub, a_neg, a_binary, a_call, an_aggregate, a_parameter, no_args, more_args}
+use Rattle.pr_print_laws.proofs.Origins.{IsNameKind, a_word, a_function, own_name, colon_name, plain_name, name_kind_is}
 use Rattle.pr_reparsed.specs.Nodes.{nodes}
 use Rattle.pr_reparsed.proofs.Added.{Adds, Lists, HasPlainName, IsPlainName, chain, enclosed, one_part, more_parts, empty_part, in_parens, sub_adds, select_adds, range_adds, number_adds, text_adds, minus_adds, most_of, turn_adds, func_adds, agg_adds, by_adds}
 

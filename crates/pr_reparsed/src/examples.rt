@@ -9,7 +9,7 @@ ghost use Rattle.pr_ast.specs.Places.{nowhere};
 ghost use Rattle.pr_ast.specs.Examples.{metric, two};
 ghost use Rattle.pr_grammar.specs.Seen.{kind_of};
 ghost use Rattle.pr_parse.specs.Deep.{depth};
-ghost use Rattle.pr_printed.specs.Kinds.{tree_kinds};
+ghost use Rattle.pr_print_laws.specs.Kinds.{tree_kinds};
 ghost use Rattle.pr_reparsed.specs.Nodes.{nodes};
 
 /// The nodes of the longest paths of small trees.

@@ -6,7 +6,7 @@ use Rattle.pr_top.specs.Command.{MeansRun, IsWholeRun}
 use Rattle.pr_top.specs.Front.{IsFront}
 use Rattle.pr_status.specs.Status.{Faults, AreCalm, verdict, IsLong}
 use Rattle.pr_status.specs.Stops.{StopsRunning, KnowsLength, stopped_at_input, status_of}
-use Rattle.pr_checking.specs.FileChecks.{Content}
+use Rattle.pr_check_loops.specs.FileChecks.{Content}
 use Rattle.pr_top.specs.Told.{told, refuses, answers_to}
 use Rattle.pr_status.specs.declared.status.Status.TheVariants as status
 use Rattle.pr_status.specs.declared.status.Stop.{Stop}

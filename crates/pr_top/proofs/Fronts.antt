@@ -15,7 +15,7 @@ use Rattle.pr_status.specs.Status.{IsShort}
 use Rattle.pr_top.specs.Standing.{Progress, Splits, Stands, begun}
 use Rattle.pr_status.specs.Stops.{AtInput, StopsWriting, stopped_at_input}
 use Rattle.pr_top.specs.Taken.{IsPrompt}
-use Rattle.pr_checking.specs.FileChecks.{Content}
+use Rattle.pr_check_loops.specs.FileChecks.{Content}
 use Rattle.pr_top.specs.Told.{Answer, answers, told_of, turn, any_refused, answers_to, told, refuses}
 use Rattle.pr_status.specs.declared.status.Stop.{Stop}
 use Rattle.pr_status.specs.declared.status.Stop.TheVariants.{Read, Write, Memory, TooLong}

@@ -7,7 +7,7 @@ use Rattle.std.specs.Io.KnownBytes.{Appends}
 use Rattle.pr_history.specs.declared.entry.Entry.{Entry}
 use Rattle.pr_top.specs.Front.{IsFront}
 use Rattle.pr_status.specs.Status.{Faults, AreCalm, HasCause, IsEnded, IsLong, is_at_input, verdict}
-use Rattle.pr_checking.specs.FileChecks.{Content}
+use Rattle.pr_check_loops.specs.FileChecks.{Content}
 use Rattle.pr_top.specs.Told.{told, refuses, answers_to}
 use Rattle.pr_top.specs.Usage.{usage_text}
 use Rattle.pr_top.specs.declared.command.Command.{Command}

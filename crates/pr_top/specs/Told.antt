@@ -12,7 +12,7 @@ use Rattle.pr_world.specs.declared.report.Report.TheVariants.{Opened}
 use Rattle.pr_world.specs.Settings.{of_a_run}
 use Rattle.pr_world.specs.Step.{Step, next}
 use Rattle.pr_world.specs.World.{World, start}
-use Rattle.pr_checking.specs.FileChecks.{Content}
+use Rattle.pr_check_loops.specs.FileChecks.{Content}
 
 -- what is told of an order: its text, the rows that are kept for it, and whether it is refused
 pub record Answer : Type 0 where

@@ -5,7 +5,7 @@ ghost use Rattle.pr_top.specs.Front.{IsFront};
 ghost use Rattle.pr_top.specs.Keeping.{KeepsProgress, progress_after};
 ghost use Rattle.pr_top.specs.Standing.{Progress};
 ghost use Rattle.pr_status.specs.Stops.{StopsWriting, StopsRunning, KnowsLength, stopped_at_input};
-ghost use Rattle.pr_checking.specs.FileChecks.{Content};
+ghost use Rattle.pr_check_loops.specs.FileChecks.{Content};
 ghost use Rattle.pr_top.specs.Told.{told, told_of, refuses, answers_to, turn};
 
 use super::reader::Reader;

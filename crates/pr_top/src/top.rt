@@ -5,15 +5,15 @@ ghost use Rattle.pr_outside.specs.Causes.{IsCalm};
 ghost use Rattle.pr_top.specs.Command.{command_of, MeansRun, MeansUsage};
 ghost use Rattle.pr_status.specs.Status.{HasCause};
 ghost use Rattle.pr_top.specs.Usage.{usage_text};
-ghost use Rattle.pr_checking.specs.InputChecks.{MeansInputCheck};
-ghost use Rattle.pr_checking.specs.FileChecks.{Content, MeansFileCheck};
+ghost use Rattle.pr_check_loops.specs.InputChecks.{MeansInputCheck};
+ghost use Rattle.pr_check_loops.specs.FileChecks.{Content, MeansFileCheck};
 ghost use Rattle.pr_checks.specs.Metrics.{metrics_told};
 ghost use Rattle.pr_checks.specs.RuleFiles.{rules_told};
 ghost use Rattle.pr_top.specs.declared.command.Command.TheVariants.{Run, CheckMetrics, CheckRules};
 
 use super::command::{Command, command_of, names_in};
 use super::run::run;
-use pr_checking::{check_files, check_input};
+use pr_check_loops::{check_files, check_input};
 use pr_checks::{Metrics, RuleFiles};
 use pr_outside::{Files, Keeper, Sink, SinkError, Source};
 use pr_status::{Status, send, status_of};

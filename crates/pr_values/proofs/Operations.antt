@@ -6,7 +6,7 @@ use Rattle.pr_labels.specs.declared.matching.Matching.{Matching}
 use Rattle.pr_ast.specs.declared.place.Place.{Place}
 use Rattle.pr_ast.specs.declared.names.BinOp.{BinOp}
 use Rattle.pr_ast.specs.declared.names.BinOp.TheVariants as op
-use Rattle.pr_meaning.specs.Matching.{joined}
+use Rattle.pr_vectors.specs.Matching.{joined}
 use Rattle.pr_query.specs.Answers.{joined_at}
 use Rattle.pr_query.specs.Operators.{is_filter, operator_of}
 use Rattle.pr_query.specs.Operations.{between}

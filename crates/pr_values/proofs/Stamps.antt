@@ -3,8 +3,8 @@ use Rattle.std.proofs.Common.{◌≡◌, false, List, [], ◌∷◌, map, Ok, Er
 use Rattle.std.specs.List.{filter_map, list_any}
 use Rattle.pr_labels.specs.declared.item.Item.{Item}
 use Rattle.pr_history.specs.declared.spot.Spot.{Spot}
-use Rattle.pr_meaning.specs.declared.function_fault.FunctionFault.TheVariants as fault
-use Rattle.pr_meaning.specs.Functions.{ValueFunction, is_too_wide, mapped, told_apart, with_value}
+use Rattle.pr_vectors.specs.declared.function_fault.FunctionFault.TheVariants as fault
+use Rattle.pr_vectors.specs.Functions.{ValueFunction, is_too_wide, mapped, told_apart, with_value}
 use Rattle.pr_query.specs.Calls.{with_time}
 use Rattle.pr_values.specs.Timed.{timed}
 

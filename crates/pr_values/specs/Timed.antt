@@ -2,7 +2,7 @@
 use Rattle.pr_num.specs.declared.value.Num.{Num}
 use Rattle.pr_labels.specs.declared.item.Item.{Item}
 use Rattle.pr_history.specs.declared.spot.Spot.{Spot}
-use Rattle.pr_meaning.specs.Vectors.{element}
+use Rattle.pr_vectors.specs.Vectors.{element}
 use Rattle.pr_query.specs.Calls.{seconds_of}
 
 -- a series with the time of its value, in seconds

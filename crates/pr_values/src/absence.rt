@@ -3,7 +3,7 @@ ghost use Rattle.std.specs.Prelude.{◌≡◌, ◌&&◌, [], ◌∷◌, IfOk};
 ghost use Rattle.std.specs.List.{list_any};
 ghost use Rattle.pr_ast.specs.Tree.{tree_of, trees_of};
 ghost use Rattle.pr_labels.specs.Edits.{labels_of};
-ghost use Rattle.pr_meaning.specs.Vectors.{element, IsVector};
+ghost use Rattle.pr_vectors.specs.Vectors.{element, IsVector};
 ghost use Rattle.pr_query.specs.Absence.{absent_labels, absent_of, is_equality, is_on, labels_of_argument, tells, told_pairs};
 ghost use Rattle.pr_query.specs.Answers.{IsAnswer};
 ghost use Rattle.pr_query.specs.Calls.{vector_at};

@@ -1,7 +1,7 @@
 // Operators of two values.
 ghost use Rattle.std.specs.Prelude.{◌≡◌, if◌then◌else◌};
 ghost use Rattle.pr_types.specs.Operations.{compares};
-ghost use Rattle.pr_meaning.specs.Operators.{holds, truth_value};
+ghost use Rattle.pr_vectors.specs.Operators.{holds, truth_value};
 ghost use Rattle.pr_query.specs.Operators.{comparison_of, is_filter, operator_of, result_of};
 ghost use Rattle.pr_values.specs.Besides.{holds_beside, result_beside};
 

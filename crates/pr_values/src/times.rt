@@ -1,8 +1,8 @@
 // Times and dates.
 ghost use Rattle.std.specs.Prelude.{◌≡◌, List, Ok, Err, IfOk, map, Result};
 ghost use Rattle.pr_history.specs.declared.spot.Spot.{Spot};
-ghost use Rattle.pr_meaning.specs.Functions.{mapped, told_apart};
-ghost use Rattle.pr_meaning.specs.Calendar.{calendar_of};
+ghost use Rattle.pr_vectors.specs.Functions.{mapped, told_apart};
+ghost use Rattle.pr_vectors.specs.Calendar.{calendar_of};
 ghost use Rattle.pr_query.specs.Answers.{IsAnswer, function_at};
 ghost use Rattle.pr_query.specs.Calls.{calendars, seconds_of, with_time};
 ghost use Rattle.pr_query.specs.Given.{elements_given};

@@ -3,12 +3,12 @@ ghost use Rattle.std.specs.Prelude.{◌≡◌, List, IfOk, IfSome, MatchResult, 
 ghost use Rattle.pr_num.specs.declared.value.Num.{Num};
 ghost use Rattle.pr_num.specs.Arithmetic.{negated};
 ghost use Rattle.pr_labels.specs.declared.item.Item.{Item};
-ghost use Rattle.pr_meaning.specs.declared.function_fault.FunctionFault.{FunctionFault};
-ghost use Rattle.pr_meaning.specs.declared.match_fault.MatchFault.{MatchFault};
-ghost use Rattle.pr_meaning.specs.Functions.{mapped};
-ghost use Rattle.pr_meaning.specs.Matching.{joined};
-ghost use Rattle.pr_meaning.specs.Operators.{kept_where};
-ghost use Rattle.pr_meaning.specs.Vectors.{IsVector};
+ghost use Rattle.pr_vectors.specs.declared.function_fault.FunctionFault.{FunctionFault};
+ghost use Rattle.pr_vectors.specs.declared.match_fault.MatchFault.{MatchFault};
+ghost use Rattle.pr_vectors.specs.Functions.{mapped};
+ghost use Rattle.pr_vectors.specs.Matching.{joined};
+ghost use Rattle.pr_vectors.specs.Operators.{kept_where};
+ghost use Rattle.pr_vectors.specs.Vectors.{IsVector};
 ghost use Rattle.pr_query.specs.Answers.{IsAnswer, function_at, joined_at, scalar_at};
 ghost use Rattle.pr_query.specs.Operations.{between, negated_value, operated, with_scalar};
 ghost use Rattle.pr_query.specs.Operators.{by_all_labels, is_filter, matching_of, operator_of, result_of};

@@ -6,7 +6,7 @@ use Rattle.pr_ast.proofs.Args.{trees_of-next}
 use Rattle.pr_types.specs.declared.counting.Counts.{Counts}
 use Rattle.pr_types.specs.Built.{own_patterns}
 use Rattle.pr_types.specs.Numbers.{ranges_in}
-use Rattle.pr_meaning.specs.declared.range.RangeFn.TheVariants.{PredictLinear as Predict, PresentOverTime}
+use Rattle.pr_vectors.specs.declared.range.RangeFn.TheVariants.{PredictLinear as Predict, PresentOverTime}
 use Rattle.pr_query.specs.declared.value.Value.{Value}
 use Rattle.pr_query.specs.Aggregations.{summed_up}
 use Rattle.pr_query.specs.Calls.{called}
@@ -35,10 +35,10 @@ use Rattle.std.proofs.lemmas.List.{take_all}
 use Rattle.pr_query.specs.Cost.{cost, nothing_passed}
 use Rattle.pr_query.specs.Given.{elements_in}
 use Rattle.pr_query.specs.Subqueries.{at_each}
-use Rattle.pr_ranged.specs.Taken.{taken}
+use Rattle.pr_range_calls.specs.Taken.{taken}
 use Rattle.pr_eval.proofs.EachTime.{each_more}
 use Rattle.pr_eval.proofs.Gathering.{each_fails, last_taken, last_taken_as, more_taken}
-use Rattle.pr_meaning.specs.Ranges.{longest}
+use Rattle.pr_vectors.specs.Ranges.{longest}
 use Rattle.pr_query.specs.declared.fault.FaultKind.TheVariants as kind
 use Rattle.pr_eval.proofs.Subqueries.{counts_of_sub, each_may, each_taken, fault_given, fault_taken, inner_part, none_taken, series_given, step_given, taken_as, times_same, too_many}
 

@@ -1,7 +1,7 @@
 use Rattle.std.proofs.Common.{◌+◌, ◌*◌, ◌≡◌, List, take, Result, Ok, sum_by}
 use Rattle.pr_history.specs.declared.entry.Entry.{Entry}
 use Rattle.pr_ast.specs.Tree.{trees_of, tree_of}
-use Rattle.pr_meaning.specs.declared.range.RangeFn.{RangeFn}
+use Rattle.pr_vectors.specs.declared.range.RangeFn.{RangeFn}
 use Rattle.pr_query.specs.Meaning.{operands, meaning}
 use Rattle.pr_values.specs.declared.error.EvalError.{EvalError}
 use Rattle.pr_values.specs.Plain.{all_plain}
@@ -13,7 +13,7 @@ use Rattle.std.specs.BTreeMap.{IsOrdered}
 use Rattle.pr_labels.specs.Order.{labels_cmp}
 use Rattle.pr_query.specs.Cost.{cost, nothing_passed}
 use Rattle.pr_query.specs.Subqueries.{Taken, at_each}
-use Rattle.pr_ranged.specs.Taken.{AreTaken}
+use Rattle.pr_range_calls.specs.Taken.{AreTaken}
 use Rattle.pr_eval.specs.Subqueries.{MayTakeEach, TakesInside}
 
 -- how many nodes the part has, and then which function stands above which

@@ -1,7 +1,7 @@
 use Rattle.std.proofs.Common.{IfOk, subst}
-use Rattle.pr_meaning.specs.Aggregation.{aggregated, always, quantile_of_values}
-use Rattle.pr_meaning.specs.Vectors.{IsVector}
-use Rattle.pr_meaning.proofs.Aggregation.{aggregated_is_vector}
+use Rattle.pr_vectors.specs.Aggregation.{aggregated, always, quantile_of_values}
+use Rattle.pr_vectors.specs.Vectors.{IsVector}
+use Rattle.pr_vectors.proofs.Aggregation.{aggregated_is_vector}
 use Rattle.pr_agg.specs.Lists.{quantiles_in}
 use Rattle.pr_agg.proofs.Answered.{as_answered, still_vector}
 use Rattle.pr_agg.proofs.Gathered.{quantiles_are}

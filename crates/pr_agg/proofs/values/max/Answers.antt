@@ -1,6 +1,6 @@
 use Rattle.std.proofs.Common.{rules, Ok, ◌≡◌}
-use Rattle.pr_meaning.specs.Aggregation.{aggregated, always, greatest_of_values}
-use Rattle.pr_meaning.specs.Vectors.{IsVector}
+use Rattle.pr_vectors.specs.Aggregation.{aggregated, always, greatest_of_values}
+use Rattle.pr_vectors.specs.Vectors.{IsVector}
 use Rattle.pr_agg.specs.Extremes.{greater, itself}
 use Rattle.pr_agg.specs.Finished.{value_finished}
 use Rattle.pr_agg.specs.Parts.{fold_and_finish}

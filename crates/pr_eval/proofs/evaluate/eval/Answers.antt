@@ -1,6 +1,6 @@
 use Rattle.std.proofs.Common.{◌+◌, ◌≤◌, false, is_ok, subst, sym}
 use Rattle.pr_ast.specs.Tree.{tree_of}
-use Rattle.pr_meaning.specs.declared.range.RangeFn.TheVariants.{PresentOverTime}
+use Rattle.pr_vectors.specs.declared.range.RangeFn.TheVariants.{PresentOverTime}
 use Rattle.pr_query.specs.Cost.{cost}
 use Rattle.pr_query.specs.Meaning.{meaning}
 use Rattle.pr_values.specs.Answers.{AnswersTo}

@@ -1,7 +1,7 @@
 use Rattle.std.proofs.Common.{map, take}
 use Rattle.std.specs.BTreeMap.{IsOrdered}
 use Rattle.pr_labels.specs.Order.{labels_cmp}
-use Rattle.pr_meaning.specs.LabelFunctions.{with_joined}
+use Rattle.pr_vectors.specs.LabelFunctions.{with_joined}
 use Rattle.pr_fn.specs.Rows.{AreRows}
 use Rattle.pr_fn.proofs.label_functions.label_join.Given as goal
 

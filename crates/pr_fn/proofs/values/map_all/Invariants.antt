@@ -2,7 +2,7 @@ use Rattle.std.proofs.Common.{◌≡◌, false, take}
 use Rattle.std.specs.List.{filter_map, list_any}
 use Rattle.std.specs.BTreeMap.{IsOrdered}
 use Rattle.pr_labels.specs.Order.{labels_cmp}
-use Rattle.pr_meaning.specs.Functions.{ValueFunction, is_too_wide, with_value}
+use Rattle.pr_vectors.specs.Functions.{ValueFunction, is_too_wide, with_value}
 use Rattle.pr_fn.specs.Rows.{AreRows}
 use Rattle.pr_fn.specs.ValueFunctions.{WorksBy}
 use Rattle.pr_fn.proofs.values.map_all.Given as goal

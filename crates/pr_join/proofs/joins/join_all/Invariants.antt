@@ -1,7 +1,7 @@
 use Rattle.std.proofs.Common.{[], take}
 use Rattle.std.specs.BTreeMap.{IsOrdered}
 use Rattle.pr_labels.specs.Order.{labels_cmp}
-use Rattle.pr_meaning.specs.Matching.{Operator, outcomes_of}
+use Rattle.pr_vectors.specs.Matching.{Operator, outcomes_of}
 use Rattle.pr_join.specs.Operators.{AnswersBy}
 use Rattle.pr_join.specs.Rows.{IsTaken}
 use Rattle.pr_join.proofs.joins.join_all.Given as goal

@@ -1,5 +1,5 @@
 use Rattle.std.proofs.Common.{ap, sym, ◌∙◌}
-use Rattle.pr_meaning.specs.declared.match_fault.MatchFault.TheVariants as fault
+use Rattle.pr_vectors.specs.declared.match_fault.MatchFault.TheVariants as fault
 use Rattle.std.proofs.Common.{List, Some}
 use Rattle.pr_labels.specs.declared.pair.Pair.{Pair}
 use Rattle.pr_join.proofs.Taken.{taken_free, taken_more, taken_twice}

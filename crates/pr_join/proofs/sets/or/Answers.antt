@@ -3,9 +3,9 @@ use Rattle.std.proofs.lemmas.List.Sums.{fold-append}
 use Rattle.pr_num.specs.declared.value.Num.{Num}
 use Rattle.pr_labels.specs.declared.pair.Pair.{Pair}
 use Rattle.pr_labels.specs.declared.item.Item.{Item}
-use Rattle.pr_meaning.specs.Vectors.{with_element}
-use Rattle.pr_meaning.specs.Matching.{either_side, left_alone}
-use Rattle.pr_meaning.proofs.Vectors.{vector_in_order}
+use Rattle.pr_vectors.specs.Vectors.{with_element}
+use Rattle.pr_vectors.specs.Matching.{either_side, left_alone}
+use Rattle.pr_vectors.proofs.Vectors.{vector_in_order}
 use Rattle.pr_join.specs.Rows.{elements, elements_in}
 use Rattle.pr_join.proofs.Ordered.{still_vector}
 use Rattle.pr_join.proofs.sets.or.Goals as goal

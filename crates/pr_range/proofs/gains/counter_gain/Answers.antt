@@ -3,8 +3,8 @@ use Rattle.std.specs.Prelude.{int_lt}
 use Rattle.std.specs.Int.{w128}
 use Rattle.std.proofs.lemmas.Int.{to_z-of_z}
 use Rattle.pr_num.specs.Half.{half}
-use Rattle.pr_meaning.specs.Extrapolation.{begins_at_zero, covered, gained, reach_before}
-use Rattle.pr_meaning.specs.Spots.{units_in}
+use Rattle.pr_vectors.specs.Extrapolation.{begins_at_zero, covered, gained, reach_before}
+use Rattle.pr_vectors.specs.Spots.{units_in}
 use Rattle.pr_range.proofs.Stretched.{Stands, begins_same, counter_above_zero, counter_at_zero}
 use Rattle.pr_range.proofs.gains.counter_gain.Goals as goal
 

@@ -2,7 +2,7 @@ use Rattle.std.proofs.Common.{◌≡◌, ◌<◌, [], ◌∷◌, length, drop, a
 use Rattle.std.proofs.lemmas.List.{drop_all}
 use Rattle.std.proofs.lemmas.Int.{to_z-of_z}
 use Rattle.pr_num.specs.Total.{Tally, joined}
-use Rattle.pr_meaning.specs.Spots.{neighbours, numbers_of}
+use Rattle.pr_vectors.specs.Spots.{neighbours, numbers_of}
 use Rattle.pr_range.proofs.Losses.{fallen, fallen_all, fallen_next, fallen_none}
 use Rattle.pr_range.proofs.gains.lost.Goals as goal
 

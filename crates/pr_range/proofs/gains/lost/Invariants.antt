@@ -1,7 +1,7 @@
 use Rattle.std.proofs.Common.{◌≡◌, ◌≤◌, ◌∷◌, drop, map}
 use Rattle.std.specs.Prelude.{filter}
 use Rattle.pr_num.specs.Total.{joined, total_of}
-use Rattle.pr_meaning.specs.Spots.{falls, neighbours, numbers_of}
+use Rattle.pr_vectors.specs.Spots.{falls, neighbours, numbers_of}
 use Rattle.pr_range.proofs.gains.lost.Given as goal
 
 -- what was lost so far with what is to be lost yet

@@ -1,7 +1,7 @@
 use Rattle.std.proofs.Common.{◌≡◌, ◌-◌, ◌*◌, ℕ, pos, length, ap, subst, ◌∙◌, arith}
 use Rattle.pr_history.specs.declared.spot.Spot.{Spot}
-use Rattle.pr_meaning.specs.Extrapolation.{covered, ms_between, reach}
-use Rattle.pr_meaning.specs.Spots.{last_of}
+use Rattle.pr_vectors.specs.Extrapolation.{covered, ms_between, reach}
+use Rattle.pr_vectors.specs.Spots.{last_of}
 use Rattle.pr_range.specs.Stretches.{IsPart}
 use Rattle.pr_range.proofs.Stretching.{parts_some, parts_small, reach_small}
 use Rattle.pr_range.proofs.gains.stretch_of.Goals as goal

@@ -1,5 +1,5 @@
 use Rattle.std.proofs.Common.{◌≡◌, ◌+◌, ◌^◌, ◌<◌, take}
-use Rattle.pr_meaning.specs.Regression.{sum_abs_xy, sum_xy}
+use Rattle.pr_vectors.specs.Regression.{sum_abs_xy, sum_xy}
 use Rattle.pr_range.specs.Parted.{IsParted}
 use Rattle.pr_range.proofs.lines.sum_xy.Given as goal
 

@@ -1,5 +1,5 @@
 use Rattle.std.proofs.Common.{◌≡◌, ◌+◌, ◌*◌, ◌^◌, ◌≤◌, take}
-use Rattle.pr_meaning.specs.Regression.{sum_abs_y, sum_y}
+use Rattle.pr_vectors.specs.Regression.{sum_abs_y, sum_y}
 use Rattle.pr_range.specs.Parted.{IsParted}
 use Rattle.pr_range.proofs.lines.sum_y.Given as goal
 

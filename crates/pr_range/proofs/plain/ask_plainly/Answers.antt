@@ -1,7 +1,7 @@
 use Rattle.std.proofs.Common.{◌≡◌, ◌++◌, ap, sym, subst, ◌∙◌, arith, w64, to_z, of_z}
 use Rattle.std.proofs.lemmas.Int.{to_z-of_z}
 use Rattle.pr_head.specs.Stored.{position_of}
-use Rattle.pr_meaning.specs.Ranges.{over}
+use Rattle.pr_vectors.specs.Ranges.{over}
 use Rattle.pr_range.specs.Answers.{Answers}
 use Rattle.pr_range.specs.Spots.{AreWithin, spots_of, samples_between}
 use Rattle.pr_range.proofs.Reading.{placed, spots_read, reads_plain}

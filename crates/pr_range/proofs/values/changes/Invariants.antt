@@ -1,7 +1,7 @@
 use Rattle.std.proofs.Common.{◌≡◌, ◌+◌, ◌≤◌, ◌∷◌, drop}
 use Rattle.std.specs.Prelude.{count_by}
-use Rattle.pr_meaning.specs.Ranges.{differ}
-use Rattle.pr_meaning.specs.Spots.{neighbours, numbers_of}
+use Rattle.pr_vectors.specs.Ranges.{differ}
+use Rattle.pr_vectors.specs.Spots.{neighbours, numbers_of}
 use Rattle.pr_range.proofs.values.changes.Given as goal
 
 -- the changes so far and those that are to come

@@ -1,6 +1,6 @@
 use Rattle.std.proofs.Common.{◌≡◌, ◌∷◌, take}
-use Rattle.pr_meaning.specs.Aggregation.{least_of_values}
-use Rattle.pr_meaning.specs.Spots.{numbers_of}
+use Rattle.pr_vectors.specs.Aggregation.{least_of_values}
+use Rattle.pr_vectors.specs.Spots.{numbers_of}
 use Rattle.pr_range.proofs.values.least.Given as goal
 
 -- the least value so far

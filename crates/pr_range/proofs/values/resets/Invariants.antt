@@ -1,6 +1,6 @@
 use Rattle.std.proofs.Common.{◌≡◌, ◌+◌, ◌≤◌, ◌∷◌, drop}
 use Rattle.std.specs.Prelude.{count_by}
-use Rattle.pr_meaning.specs.Spots.{falls, neighbours, numbers_of}
+use Rattle.pr_vectors.specs.Spots.{falls, neighbours, numbers_of}
 use Rattle.pr_range.proofs.values.resets.Given as goal
 
 -- the resets so far and those that are to come

@@ -1,6 +1,6 @@
 use Rattle.std.proofs.Common.{◌≡◌, ◌+◌, ◌∷◌, take}
 use Rattle.pr_num.specs.Total.{total_of}
-use Rattle.pr_meaning.specs.Spots.{numbers_of}
+use Rattle.pr_vectors.specs.Spots.{numbers_of}
 use Rattle.pr_range.proofs.values.total_of.Given as goal
 
 -- the values so far

@@ -1,5 +1,5 @@
 use Rattle.std.proofs.Common.{subst}
-use Rattle.pr_checking.specs.FileChecks.{MeansFileCheck}
+use Rattle.pr_check_loops.specs.FileChecks.{MeansFileCheck}
 use Rattle.pr_checks.specs.RuleFiles.{rules_told}
 use Rattle.pr_top.proofs.top.promtool.Goals as goal
 

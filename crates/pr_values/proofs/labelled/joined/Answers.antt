@@ -2,7 +2,7 @@ use Rattle.std.proofs.Common.{ℕ, List, drop, subst, ◌∙◌}
 use Rattle.pr_ast.specs.Tree.{trees_of}
 use Rattle.pr_labels.specs.declared.item.Item.{Item}
 use Rattle.pr_num.specs.declared.value.Num.{Num}
-use Rattle.pr_meaning.specs.LabelFunctions.{label_joined}
+use Rattle.pr_vectors.specs.LabelFunctions.{label_joined}
 use Rattle.pr_query.specs.Answers.{function_at}
 use Rattle.pr_query.specs.Given.{elements_given}
 use Rattle.pr_types.specs.Typed.{content_at, contents}

@@ -4,7 +4,7 @@ use Rattle.pr_labels.specs.Names.{is_label_name}
 use Rattle.pr_labels.specs.declared.item.Item.{Item}
 use Rattle.pr_num.specs.declared.value.Num.{Num}
 use Rattle.pr_match.specs.Pattern.{expanded}
-use Rattle.pr_meaning.specs.LabelFunctions.{label_replaced}
+use Rattle.pr_vectors.specs.LabelFunctions.{label_replaced}
 use Rattle.pr_query.specs.Answers.{function_at}
 use Rattle.pr_query.specs.Given.{elements_given}
 use Rattle.pr_types.specs.Typed.{content_at}

@@ -1,8 +1,8 @@
 use Rattle.std.proofs.Common.{rules, List, Result, ap, subst, ◌∙◌}
 use Rattle.pr_labels.specs.declared.item.Item.{Item}
 use Rattle.pr_num.specs.declared.value.Num.{Num}
-use Rattle.pr_meaning.specs.declared.function_fault.FunctionFault.{FunctionFault}
-use Rattle.pr_meaning.specs.Functions.{mapped}
+use Rattle.pr_vectors.specs.declared.function_fault.FunctionFault.{FunctionFault}
+use Rattle.pr_vectors.specs.Functions.{mapped}
 use Rattle.pr_query.specs.Answers.{function_at}
 use Rattle.pr_values.specs.Answers.{AnswersTo}
 use Rattle.pr_values.proofs.Stamps.{same, stamps}

@@ -1,0 +1,12 @@
+use Rattle.pr_names_laws.proofs.NamesTold.{told, told_anywhere}
+use Rattle.pr_names_laws.proofs.Within.{cut_short}
+use Rattle.pr_names_laws.proofs.laws.tokens_tell_how_names_are_read.Goals as goal
+
+pub returns-clause-whole : goal.returns-clause-whole
+returns-clause-whole c = λ ts place v w h d. told_anywhere ts place v h (cut_short d)
+
+pub returns-clause-put : goal.returns-clause-put
+returns-clause-put c = told_anywhere
+
+pub returns-clause-there : goal.returns-clause-there
+returns-clause-there c = told

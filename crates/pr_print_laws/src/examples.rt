@@ -1,0 +1,26 @@
+//! What the definitions say of small trees. An example is a function that does nothing, and its
+//! contract is what it shows.
+ghost use Rattle.std.specs.Prelude.{◌≡◌, codes, Some, None, false, true, [], ◌∷◌};
+ghost use Rattle.pr_num.specs.declared.value.Num.TheVariants.{PosInf};
+ghost use Rattle.pr_lex.specs.declared.token.TokenKind.TheVariants.{Name, Duration, Text, Sign};
+ghost use Rattle.pr_lex.specs.declared.token.Sign.TheVariants.{LeftBrace, RightBrace, LeftParen, RightParen, LeftBracket, RightBracket, Comma, Colon, NotEqual, NotLike, Plus, Minus, Star};
+ghost use Rattle.pr_labels.specs.declared.matching.Card.TheVariants as card;
+ghost use Rattle.pr_ast.specs.declared.names.BinOp.TheVariants as op;
+ghost use Rattle.pr_ast.specs.declared.names.AggOp.TheVariants as agg;
+ghost use Rattle.pr_ast.specs.declared.selector.MatchSign.TheVariants as sign;
+ghost use Rattle.pr_ast.specs.Tree.{number, select, sub, neg, binary, aggregate};
+ghost use Rattle.pr_ast.specs.Places.{nowhere};
+ghost use Rattle.pr_ast.specs.Examples.{chosen, metric, matcher, one, two, grouped, on_names};
+ghost use Rattle.pr_print_laws.specs.Kinds.{tree_kinds};
+
+/// The tokens of small trees as they are printed.
+#[tactic(auto, unfolding(pr_lex::specs::Words::word_text))]
+pub fn small_trees_have_these_tokens()
+    ensures negation { tree_kinds (binary nowhere op.Mul false None (metric (codes "a")) (neg nowhere (metric (codes "b")))) [] ≡ Name (codes "a") ∷ Sign Star ∷ Sign LeftParen ∷ Sign Minus ∷ Name (codes "b") ∷ Sign RightParen ∷ [] }
+    ensures infinity { tree_kinds (number nowhere PosInf) [] ≡ Sign Plus ∷ Name (codes "Inf") ∷ [] }
+    ensures many { tree_kinds (binary nowhere op.NotEqual true (Some (on_names (codes "l" ∷ codes "m" ∷ []) card.ManyToOne [])) (metric (codes "a")) (metric (codes "b"))) [] ≡ Name (codes "a") ∷ Sign NotEqual ∷ Name (codes "bool") ∷ Name (codes "on") ∷ Sign LeftParen ∷ Name (codes "l") ∷ Sign Comma ∷ Name (codes "m") ∷ Sign RightParen ∷ Name (codes "group_left") ∷ Sign LeftParen ∷ Sign RightParen ∷ Name (codes "b") ∷ [] }
+    ensures grouping { tree_kinds (aggregate nowhere agg.TopK (grouped (codes "a" ∷ [])) (two (metric (codes "x")) (metric (codes "y")))) [] ≡ Name (codes "topk") ∷ Name (codes "by") ∷ Sign LeftParen ∷ Name (codes "a") ∷ Sign RightParen ∷ Sign LeftParen ∷ Name (codes "x") ∷ Sign Comma ∷ Name (codes "y") ∷ Sign RightParen ∷ [] }
+    ensures no_grouping { tree_kinds (aggregate nowhere agg.Sum (grouped []) (one (metric (codes "x")))) [] ≡ Name (codes "sum") ∷ Sign LeftParen ∷ Name (codes "x") ∷ Sign RightParen ∷ [] }
+    ensures matchers { tree_kinds (select nowhere (chosen (codes "m") (matcher (codes "a") sign.NotLike (codes "x") ∷ []) 0)) [] ≡ Name (codes "m") ∷ Sign LeftBrace ∷ Name (codes "a") ∷ Sign NotLike ∷ Text (codes "x") ∷ Sign RightBrace ∷ [] }
+    ensures step { tree_kinds (sub nowhere (metric (codes "m")) 3600000 (Some 60000) 1) [] ≡ Name (codes "m") ∷ Sign LeftBracket ∷ Duration 3600000 ∷ Sign Colon ∷ Duration 60000 ∷ Sign RightBracket ∷ Name (codes "offset") ∷ Duration 1 ∷ [] }
+{}

@@ -1,0 +1,119 @@
+// The series that a selector chooses.
+ghost use Rattle.std.specs.Prelude.{◌≡◌, ◌<◌, ◌++◌, ◌∷◌, [], List, map, filter, IfOk, OnOk, length};
+ghost use Rattle.std.specs.List.{All, filter_map};
+ghost use Rattle.pr_labels.specs.LabelSet.{pair_of};
+ghost use Rattle.pr_labels.specs.Rising.{IsRising};
+ghost use Rattle.pr_history.specs.declared.entry.Entry.{Entry};
+ghost use Rattle.pr_head.specs.Holds.{Holds};
+ghost use Rattle.pr_types.specs.Selectors.{tests_of};
+ghost use Rattle.pr_query.specs.Selection.{chosen_by};
+ghost use Rattle.pr_range_calls.specs.Equalities.{asked_pair, asked_pairs, name_pairs};
+ghost use Rattle.pr_range_calls.specs.Choosing.{is_met_by, labels_of_series};
+
+use pr_ast::{MatchSign, MatchText, Selector};
+use pr_head::Head;
+use pr_labels::{Labels, METRIC_LABEL, Pair};
+use pr_match::{Matcher, Selection};
+use pr_words::Text;
+use std::alloc::{AllocError, Global};
+
+fn pair_of(alloc: Global, name: &str, value: &str) -> Result<Pair, AllocError>
+    ensures { IfOk result (λ p. p ≡ pair_of name.now value.now) }
+{
+    Ok(Pair {
+        name: Text::from_str(alloc, name)?,
+        value: Text::from_str(alloc, value)?,
+    })
+}
+
+fn push_name(alloc: Global, name: &Option<Text>, pairs: &mut Vec<Pair>) -> Result<(), AllocError>
+    ensures { OnOk result (pairs.new.items ≡ pairs.old.items ++ name_pairs name.now) }
+{
+    if let Some(name) = name {
+        pairs.push(pair_of(alloc, METRIC_LABEL, name.as_str())?)?;
+    }
+    Ok(())
+}
+
+fn push_asked(alloc: Global, matcher: &MatchText, pairs: &mut Vec<Pair>) -> Result<(), AllocError>
+    ensures { OnOk result (pairs.new.items ≡ pairs.old.items ++ filter_map asked_pair (matcher.now ∷ [])) }
+{
+    if matches!(matcher.op, MatchSign::Equal) {
+        pairs.push(pair_of(alloc, matcher.label.as_str(), matcher.text.as_str())?)?;
+    }
+    Ok(())
+}
+
+// The pairs that a selector asks for by `=`.
+fn asked_pairs(alloc: Global, selector: &Selector) -> Result<Vec<Pair>, AllocError>
+    ensures { IfOk result (λ v. v.items ≡ asked_pairs selector.now) }
+{
+    let mut pairs = Vec::new(alloc);
+    push_name(alloc, &selector.name, &mut pairs)?;
+    for matcher in selector.matchers.as_slice() {
+        push_asked(alloc, matcher, &mut pairs)?;
+    }
+    Ok(pairs)
+}
+
+/// The labels of a series that is there.
+pub fn labels_of_series(head: &Head, series: usize) -> &Labels
+    requires { series < length head.now }
+    ensures { result.now ≡ labels_of_series head.now series }
+{
+    head.labels(series).unwrap()
+}
+
+fn push_met(
+    head: &Head,
+    selection: &mut Selection<'_>,
+    series: usize,
+    met: &mut Vec<usize>,
+) -> Result<(), AllocError>
+    requires { series < length head.now }
+    ensures same { selection.new ≡ selection.old }
+    ensures met { OnOk result (met.new.items ≡ met.old.items ++ filter (is_met_by selection.old head.now) (series ∷ [])) }
+{
+    if selection.matches(labels_of_series(head, series)) {
+        met.push(series)?;
+    }
+    Ok(())
+}
+
+// Those series that meet all matchers. Searchers are made once.
+fn met(
+    alloc: Global,
+    head: &Head,
+    matchers: &[Matcher],
+    numbers: &[usize],
+) -> Result<Vec<usize>, AllocError>
+    requires { All (λ i. i < length head.now) numbers.now }
+    ensures { IfOk result (λ v. v.items ≡ filter (is_met_by matchers.now head.now) numbers.now) }
+{
+    let mut selection = Selection::of(alloc, matchers)?;
+    let mut met = Vec::new(alloc);
+    for series in numbers {
+        push_met(head, &mut selection, *series, &mut met)?;
+    }
+    Ok(met)
+}
+
+/// The series that a selector chooses, in label order, by its matchers. What it asks for by `=` is
+/// found by the head, and its other matchers are asked of what is found.
+#[tactic(auto, using(crate::proofs::Choosing::known_met, crate::proofs::Choosing::rising_met, crate::proofs::Choosing::chosen_met))]
+pub fn chosen_series(
+    alloc: Global,
+    head: &Head,
+    selector: &Selector,
+    matchers: &[Matcher],
+) -> Result<Vec<usize>, AllocError>
+    requires { matchers.now ≡ tests_of selector.now }
+    ensures known { IfOk result (λ v. All (λ i. i < length head.now) v.items) }
+    ensures rising { IfOk result (λ v. IsRising (map (labels_of_series head.now) v.items)) }
+    ensures chosen { (history : List Entry) → Holds head.now history → IfOk result (λ v. map (labels_of_series head.now) v.items ≡ chosen_by selector.now history) }
+{
+    let pairs = asked_pairs(alloc, selector)?;
+    let numbers = head.select(&pairs)?;
+    let chosen = met(alloc, head, matchers, &numbers)?;
+    Ok(chosen)
+}

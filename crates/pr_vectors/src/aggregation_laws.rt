@@ -1,0 +1,30 @@
+// What aggregations give of any vector.
+ghost use Rattle.std.specs.Prelude.{◌≡◌, ◌≢◌, ℕ, true, List, [], ◌∷◌, IfOk, IsOk, Result};
+ghost use Rattle.pr_num.specs.declared.value.Num.{Num};
+ghost use Rattle.pr_num.specs.declared.value.TooWide.{TooWide};
+ghost use Rattle.std.specs.declared.cmp.Ordering.{Ordering};
+ghost use Rattle.pr_labels.specs.declared.pair.Pair.{Pair};
+ghost use Rattle.pr_labels.specs.declared.grouping.Grouping.{Grouping};
+ghost use Rattle.pr_labels.specs.declared.item.Item.{Item};
+ghost use Rattle.pr_labels.specs.Rising.{is_among};
+ghost use Rattle.pr_vectors.specs.Vectors.{IsVector};
+ghost use Rattle.pr_vectors.specs.Aggregation.{aggregated, always, counted, first_of_parts, groups, part, values_of};
+
+/// The answers are in label order with distinct label sets: what aggregations give whatever stood
+/// there before, what `topk` and `bottomk` keep of a vector that is so.
+#[tactic(auto, using(crate::proofs::Aggregation::aggregated_is_vector, crate::proofs::Aggregation::counted_is_vector))]
+pub fn aggregations_are_vectors()
+    ensures aggregated { (of_values : List Num → Result Num TooWide) (by : Grouping) (vector : List (Item Num)) → IfOk (aggregated of_values by vector) IsVector }
+    ensures counted { (label : List ℕ) (by : Grouping) (vector : List (Item Num)) → IsVector (counted label by vector) }
+    ensures first { (order : Num → Num → Ordering) (k : Num) (by : Grouping) (vector : List (Item Num)) → IsVector vector → IsVector (first_of_parts order k by vector) }
+{}
+
+/// The part of each group has a value, so that aggregations are one that agree on any values that
+/// there are; what always has a value has it for each group.
+#[tactic(auto, using(crate::proofs::Aggregation::parts_not_empty, crate::proofs::Aggregation::aggregated_alike, crate::proofs::Aggregation::always_is_ok))]
+pub fn each_group_has_a_value()
+    ensures some { (by : Grouping) (group : List Pair) (vector : List (Item Num)) → is_among group (groups by vector) ≡ true → values_of (part by vector group) ≢ [] }
+    ensures alike { (f g : List Num → Result Num TooWide) → ((v : Num) (vs : List Num) → f (v ∷ vs) ≡ g (v ∷ vs))
+        → (by : Grouping) (vector : List (Item Num)) → aggregated f by vector ≡ aggregated g by vector }
+    ensures always { (of_values : List Num → Num) (by : Grouping) (vector : List (Item Num)) → IsOk (aggregated (always of_values) by vector) }
+{}
