@@ -10,7 +10,7 @@ use Rattle.pr_labels.specs.declared.grouping.Grouping.{Grouping}
 use Rattle.pr_labels.specs.Rising.{IsRising}
 use Rattle.pr_labels.proofs.LabelOrder.{rising_fold}
 use Rattle.pr_vectors.specs.Vectors.{IsVector, in_label_order, label_sets}
-use Rattle.pr_vectors.specs.Aggregation.{aggregated, always}
+use Rattle.pr_vectors.specs.Aggregation.{of_groups, always}
 use Rattle.pr_vectors.proofs.Aggregation.{aggregated_alike, always_is_ok}
 use Rattle.pr_agg.specs.declared.fault.AggFault.{AggFault}
 use Rattle.pr_agg.specs.declared.fault.AggFault.TheVariants as fault
@@ -47,10 +47,10 @@ module _ {V : Type 0} (items : V → List (Item Num)) where
 
   pub always_answered : (r : Result V AggFault) (g : List Num → Num) (h : List Num → Result Num TooWide) (by : Grouping) (vector : List (Item Num))
       → ((x : Num) (xs : List Num) → h (x ∷ xs) ≡ always g (x ∷ xs))
-      → MatchResult r (λ v. aggregated h by vector ≡ Ok (items v)) (λ e. e ≡ fault.TooWide → aggregated h by vector ≡ Err too_wide)
-      → IsAlways items r (aggregated (always g) by vector)
+      → MatchResult r (λ v. of_groups h by vector ≡ Ok (items v)) (λ e. e ≡ fault.TooWide → of_groups h by vector ≡ Err too_wide)
+      → IsAlways items r (of_groups (always g) by vector)
   always_answered r g h by vector agree m =
-      always_is r (aggregated (always g) by vector) (always_is_ok g by vector)
+      always_is r (of_groups (always g) by vector) (always_is_ok g by vector)
       (subst (λ (x : Result (List (Item Num)) TooWide). MatchResult r (λ v. x ≡ Ok (items v)) (λ e. e ≡ fault.TooWide → x ≡ Err too_wide)) (aggregated_alike h (always g) agree by vector) m)
 
   -- the same answer without faults

@@ -10,7 +10,7 @@ use Rattle.pr_labels.specs.declared.item.Item.{Item}
 use Rattle.pr_labels.specs.declared.grouping.Grouping.{Grouping}
 use Rattle.pr_labels.proofs.LabelOrder.{labels_total}
 use Rattle.pr_vectors.specs.Vectors.{element, label_sets}
-use Rattle.pr_vectors.specs.Aggregation.{aggregated, answers, behind, group_of, part, prepended, values_of}
+use Rattle.pr_vectors.specs.Aggregation.{of_groups, group_answers, behind, group_of, part, prepended, values_of}
 use Rattle.pr_agg.specs.Parts.{AreParts, after_items, finished, finished_all, fold_and_finish}
 
 -- one element more before the rest
@@ -34,12 +34,12 @@ labels_more (e ∷ es) k v rest = ap (λ (sets : List (List Pair)). e.labels ∷
 
 module _ {A : Type 0} (f : A → Result Num TooWide) where
   answers_of : (answer : List Pair → Result Num TooWide) (es : List (List Pair × A)) → ((i : ℕ) (e : List Pair × A) → slice_get es i ≡ Some e → f e.1 ≡ answer e.0)
-      → finished_all f es ≡ answers answer (keys_of es)
+      → finished_all f es ≡ group_answers answer (keys_of es)
   answers_of answer [] h = refl
   answers_of answer (e ∷ es) h = λ j. behind e.0 (h 0 e refl j) (answers_of answer es (λ i x s. h (suc i) x s) j)
 
   pub parts_answer : (lift : Num → A) (combine : A → A → A) (by : Grouping) (vector : List (Item Num)) (m : BTreeMap (List Pair) A) → AreParts lift combine (group_of by) vector m
-      → finished_all f m.entries ≡ aggregated (fold_and_finish lift combine f) by vector
+      → finished_all f m.entries ≡ of_groups (fold_and_finish lift combine f) by vector
   parts_answer lift combine by vector m h =
       answers_of (λ k. fold_and_finish lift combine f (values_of (part by vector k))) m.entries (λ i e s. ap (λ (o : Option A). finished f o) (sym (btree_map_get_place labels_total m i e.0 e.1 h.ordered s) ∙ h.at e.0))
-      ∙ ap (λ (ks : List (List Pair)). answers (λ k. fold_and_finish lift combine f (values_of (part by vector k))) ks) h.known
+      ∙ ap (λ (ks : List (List Pair)). group_answers (λ k. fold_and_finish lift combine f (values_of (part by vector k))) ks) h.known

@@ -10,7 +10,7 @@ use Rattle.pr_labels.specs.declared.pair.Pair.{Pair}
 use Rattle.pr_labels.specs.declared.item.Item.{Item}
 use Rattle.pr_labels.specs.declared.grouping.Grouping.{Grouping}
 use Rattle.pr_vectors.specs.Vectors.{element}
-use Rattle.pr_vectors.specs.Aggregation.{aggregated, always, answers, group_of, in_value_order, part, prepended, quantile_of_values, values_of}
+use Rattle.pr_vectors.specs.Aggregation.{of_groups, always, group_answers, group_of, in_value_order, part, prepended, quantile_of_values, values_of}
 use Rattle.pr_labels.proofs.LabelOrder.{labels_total}
 use Rattle.pr_window.specs.Folding.{and_item, folded}
 use Rattle.pr_agg.specs.Lists.{alone, one_after_other, quantiles_in}
@@ -26,12 +26,12 @@ folded_lists (x ∷ xs) ys h = let same : ys ≡ fold (and_item alone one_after_
 
 module _ (phi : Num) (values : List Pair → List Num) where
   answers_ok : (es : List (List Pair × List Num)) → ((i : ℕ) (e : List Pair × List Num) → slice_get es i ≡ Some e → values e.0 ≡ e.1)
-      → answers (λ k. always (quantile_of_values phi) (values k)) (keys_of es) ≡ Ok (quantiles_in phi es)
+      → group_answers (λ k. always (quantile_of_values phi) (values k)) (keys_of es) ≡ Ok (quantiles_in phi es)
   answers_ok [] h = refl
   answers_ok (e ∷ es) h = λ j. prepended (element e.0 (quantile_of phi (in_value_order order_of (h 0 e refl j)))) (answers_ok es (λ i x s. h (suc i) x s) j)
 
 pub quantiles_are : (phi : Num) (by : Grouping) (vector : List (Item Num)) (m : BTreeMap (List Pair) (List Num)) → AreParts alone one_after_other (group_of by) vector m
-    → aggregated (always (quantile_of_values phi)) by vector ≡ Ok (quantiles_in phi m.entries)
+    → of_groups (always (quantile_of_values phi)) by vector ≡ Ok (quantiles_in phi m.entries)
 quantiles_are phi by vector m h =
-    ap (answers (λ k. always (quantile_of_values phi) (values_of (part by vector k)))) (sym h.known)
+    ap (group_answers (λ k. always (quantile_of_values phi) (values_of (part by vector k)))) (sym h.known)
     ∙ answers_ok phi (λ k. values_of (part by vector k)) m.entries (λ i e s. folded_lists (values_of (part by vector e.0)) e.1 (sym (btree_map_get_place labels_total m i e.0 e.1 h.ordered s) ∙ h.at e.0))

@@ -20,7 +20,7 @@ use Rattle.pr_labels.proofs.LabelMaps.{tie}
 use Rattle.pr_vectors.specs.Vectors.{label_sets}
 use Rattle.pr_vectors.specs.Aggregation.{group_of, is_within, rank}
 use Rattle.pr_agg.specs.declared.firsts.Rank.{Rank}
-use Rattle.pr_agg.specs.Firsts.{AreMarks, AreRanks, AreSeen, IsMarked, in_group, is_first, mark_of, order_by, rank_at, rank_cmp, rank_of, weigh_at}
+use Rattle.pr_agg.specs.Firsts.{AreMarks, AreRanks, AreSeen, IsMarked, in_group, is_first, mark_of, order_toward, rank_at, rank_cmp, rank_of, weigh_at}
 use Rattle.pr_agg.proofs.RanksOf.{equal_if}
 use Rattle.pr_agg.proofs.Seen.{entry_at, seen_is_rank}
 
@@ -155,7 +155,7 @@ module _ (greatest : Bool) (k : Num) (by : Grouping) (vector : List (Item Num)) 
       let at : slice_get vector entry.1 ≡ Some e = there.1 in
       let by_one = one e at in
       let ranked : entry.0 ≡ rank_of greatest e.value entry.1 = entry_place.0 ∙ ap (λ (o : Option (Item Num)). rank_of greatest (unwrap_or (option_map (λ x. x.value) o) NaN) entry.1) at in
-      let before : unwrap_or (get labels_cmp seen (group_of by e)) 0 ≡ rank (order_by greatest) by vector e = s.counts (group_of by e) ∙ seen_is_rank greatest by vector rising m ranks entry.0 entry.1 e ys next split at ranked in (
+      let before : unwrap_or (get labels_cmp seen (group_of by e)) 0 ≡ rank (order_toward greatest) by vector e = s.counts (group_of by e) ∙ seen_is_rank greatest by vector rising m ranks entry.0 entry.1 e ys next split at ranked in (
         rw (values_more ys entry) (seen_more vector by (values_of ys) entry.1 e seen counted at by_one.counted s),
         rw (values_more ys entry) (marks_more greatest k by vector (values_of ys) entry.1 e (is_within k (unwrap_or (get labels_cmp seen (group_of by e)) 0)) marks marked at entry_place.1 (ap (λ (n : ℕ). is_within k n) before) by_one.mark h),
       )

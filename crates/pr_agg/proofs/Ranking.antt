@@ -16,7 +16,7 @@ use Rattle.pr_labels.specs.Rising.{IsBelowFirstSet, IsRising}
 use Rattle.pr_vectors.specs.Vectors.{label_sets}
 use Rattle.pr_vectors.specs.Aggregation.{comes_before, greatest_first, least_first}
 use Rattle.pr_labels.proofs.LabelOrder.{labels_total}
-use Rattle.pr_agg.specs.Firsts.{class_of, order_by, rank_cmp, rank_of, ranked, units_of}
+use Rattle.pr_agg.specs.Firsts.{class_of, order_toward, rank_cmp, rank_of, ranked, units_of}
 
 pub rank_total : IsTotalOrder rank_cmp
 rank_total = then_total (on_total (λ r. r.class) nat_cmp_total) (then_total (on_total (λ r. r.units) int_cmp_total) (on_total (λ r. r.index) nat_cmp_total))
@@ -69,7 +69,7 @@ greatest_is_least NegInf (Finite b) = refl
 greatest_is_least NegInf PosInf = refl
 greatest_is_least NegInf NegInf = refl
 
-order_keys : (greatest : Bool) (a b : Num) → order_by greatest a b ≡ ordering_then (nat_cmp (class_of (ranked greatest a)) (class_of (ranked greatest b))) (int_cmp (units_of (ranked greatest a)) (units_of (ranked greatest b)))
+order_keys : (greatest : Bool) (a b : Num) → order_toward greatest a b ≡ ordering_then (nat_cmp (class_of (ranked greatest a)) (class_of (ranked greatest b))) (int_cmp (units_of (ranked greatest a)) (units_of (ranked greatest b)))
 order_keys true a b = greatest_is_least a b ∙ least_keys (ranked true a) (ranked true b)
 order_keys false a b = least_keys a b
 
@@ -102,7 +102,7 @@ place_order vector i j a b r s t =
 
 -- an element comes before another exactly where its rank is below
 pub before_by_rank : (greatest : Bool) (vector : List (Item Num)) (i j : ℕ) (a b : Item Num) → IsRising (label_sets vector) → slice_get vector i ≡ Some a → slice_get vector j ≡ Some b
-    → comes_before (order_by greatest) a b ≡ is_lt (rank_cmp (rank_of greatest a.value i) (rank_of greatest b.value j))
+    → comes_before (order_toward greatest) a b ≡ is_lt (rank_cmp (rank_of greatest a.value i) (rank_of greatest b.value j))
 before_by_rank greatest vector i j a b r s t =
     ap is_lt ((λ k. ordering_then (order_keys greatest a.value b.value k) (place_order vector i j a b r s t k))
     ∙ sym (then_again (nat_cmp (class_of (ranked greatest a.value)) (class_of (ranked greatest b.value))) (int_cmp (units_of (ranked greatest a.value)) (units_of (ranked greatest b.value))) (nat_cmp i j)))

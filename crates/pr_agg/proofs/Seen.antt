@@ -16,7 +16,7 @@ use Rattle.pr_labels.specs.Rising.{IsRising}
 use Rattle.pr_vectors.specs.Vectors.{label_sets}
 use Rattle.pr_vectors.specs.Aggregation.{comes_before, group_of, rank}
 use Rattle.pr_agg.specs.declared.firsts.Rank.{Rank}
-use Rattle.pr_agg.specs.Firsts.{AreRanks, in_group, order_by, rank_at, rank_cmp, rank_of, weigh_at}
+use Rattle.pr_agg.specs.Firsts.{AreRanks, in_group, order_toward, rank_at, rank_cmp, rank_of, weigh_at}
 use Rattle.pr_labels.proofs.Sorted.{before_entry, sum_cons}
 use Rattle.pr_agg.proofs.Ranking.{before_by_rank, rank_total}
 
@@ -50,26 +50,26 @@ module _ (greatest : Bool) (by : Grouping) (vector : List (Item Num)) (rising : 
   entry_at j e s = entry_ranked (get rank_cmp m e.0) e.0 e.1 (btree_map_get_place rank_total m j e.0 e.1 ranks.ordered s) (ranks.keyed e.0)
 
   weight_before : (item : Item Num) (i : ℕ) → slice_get vector i ≡ Some item → (k : ℕ) (o : Option (Item Num)) → slice_get vector k ≡ o
-      → unwrap_or (option_map (λ o. cond (labels_eq (group_of by o) (group_of by item)) (cond (comes_before (order_by greatest) o item) 1 0) 0) o) 0
+      → unwrap_or (option_map (λ o. cond (labels_eq (group_of by o) (group_of by item)) (cond (comes_before (order_toward greatest) o item) 1 0) 0) o) 0
       ≡ cond (is_lt (rank_cmp (rank_of greatest (unwrap_or (option_map (λ e. e.value) o) NaN) k) (rank_of greatest item.value i))) (unwrap_or (option_map (in_group by (group_of by item)) o) 0) 0
   weight_before item i at k None e = empty (is_lt (rank_cmp (rank_of greatest NaN k) (rank_of greatest item.value i))) where
     empty : (b : Bool) → ◌≡◌ {A = ℕ} 0 (cond b 0 0)
     empty true = refl
     empty false = refl
   weight_before item i at k (Some o) e =
-      exchanged (labels_eq (group_of by o) (group_of by item)) (comes_before (order_by greatest) o item)
+      exchanged (labels_eq (group_of by o) (group_of by item)) (comes_before (order_toward greatest) o item)
       ∙ ap (λ (b : Bool). cond b (in_group by (group_of by item) o) 0) (before_by_rank greatest vector k i o item rising e at)
 
   pub seen_is_rank : (r : Rank) (i : ℕ) (item : Item Num) (ys t : List (Rank × ℕ)) → m.entries ≡ ys ++ (r, i) ∷ t → slice_get vector i ≡ Some item → r ≡ rank_of greatest item.value i
-      → sum_by (weigh_at vector (in_group by (group_of by item))) (values_of ys) ≡ rank (order_by greatest) by vector item
+      → sum_by (weigh_at vector (in_group by (group_of by item))) (values_of ys) ≡ rank (order_toward greatest) by vector item
   seen_is_rank r i item ys t split at ranked =
       sym (before_entry rank_cmp rank_total (weigh_at vector weight) (weigh_at vector (in_group by (group_of by item))) r i ys t (subst (λ (es : List (Rank × ℕ)). IsStrictlySortedBy rank_cmp (keys_of es)) split ranks.ordered) each)
       ∙ ap (λ (es : List (Rank × ℕ)). sum_by (weigh_at vector weight) (values_of es)) (sym split)
       ∙ ranks.sums weight
-      ∙ sym (count_in_part (λ o. comes_before (order_by greatest) o item) (λ o. labels_eq (group_of by o) (group_of by item)) vector)
+      ∙ sym (count_in_part (λ o. comes_before (order_toward greatest) o item) (λ o. labels_eq (group_of by o) (group_of by item)) vector)
     where
       weight : Item Num → ℕ
-      weight o = cond (labels_eq (group_of by o) (group_of by item)) (cond (comes_before (order_by greatest) o item) 1 0) 0
+      weight o = cond (labels_eq (group_of by o) (group_of by item)) (cond (comes_before (order_toward greatest) o item) 1 0) 0
 
       each : (j : ℕ) (e : Rank × ℕ) → slice_get (ys ++ (r, i) ∷ t) j ≡ Some e → weigh_at vector weight e.1 ≡ cond (is_lt (rank_cmp e.0 r)) (weigh_at vector (in_group by (group_of by item)) e.1) 0
       each j e s =

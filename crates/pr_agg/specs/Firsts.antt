@@ -15,9 +15,9 @@ use Rattle.pr_labels.specs.Order.{labels_cmp, labels_eq}
 use Rattle.pr_vectors.specs.Aggregation.{greatest_first, least_first, group_of, is_within, rank}
 use Rattle.pr_agg.specs.declared.firsts.Rank.{Rank}
 
-abbrev pub order_by : Bool → Num → Num → Ordering
-order_by true = greatest_first
-order_by false = least_first
+abbrev pub order_toward : Bool → Num → Num → Ordering
+order_toward true = greatest_first
+order_toward false = least_first
 
 -- The greatest first are the least first of the negated values.
 abbrev pub ranked : Bool → Num → Num
@@ -43,11 +43,11 @@ abbrev pub rank_cmp : Rank → Rank → Ordering
 rank_cmp = then_cmp (on (λ r. r.class) nat_cmp) (then_cmp (on (λ r. r.units) int_cmp) (on (λ r. r.index) nat_cmp))
 
 -- What a place of the vector has.
-abbrev pub value_at : List (Item Num) → ℕ → Num
-value_at vector i = unwrap_or (option_map (λ e. e.value) (slice_get vector i)) NaN
+abbrev pub element_value : List (Item Num) → ℕ → Num
+element_value vector i = unwrap_or (option_map (λ e. e.value) (slice_get vector i)) NaN
 
 abbrev pub rank_at : Bool → List (Item Num) → ℕ → Rank
-rank_at greatest vector i = rank_of greatest (value_at vector i) i
+rank_at greatest vector i = rank_of greatest (element_value vector i) i
 
 abbrev pub weigh_at : List (Item Num) → (Item Num → ℕ) → ℕ → ℕ
 weigh_at vector weight i = unwrap_or (option_map weight (slice_get vector i)) 0
@@ -61,7 +61,7 @@ pub record AreRanks (greatest : Bool) (vector front : List (Item Num)) (m : BTre
 
 -- Whether an element is one of the first k of its part.
 abbrev pub is_first : Bool → Num → Grouping → List (Item Num) → Item Num → Bool
-is_first greatest k by vector e = is_within k (rank (order_by greatest) by vector e)
+is_first greatest k by vector e = is_within k (rank (order_toward greatest) by vector e)
 
 -- The places seen have their marks, and the others none.
 abbrev pub mark_of : List ℕ → ℕ → Bool → Bool

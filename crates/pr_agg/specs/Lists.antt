@@ -14,8 +14,8 @@ abbrev pub one_after_other : List Num → List Num → List Num
 one_after_other a b = a ++ b
 
 -- the quantile of the values of an entry
-abbrev pub quantile_in : Num → List Pair × List Num → Item Num
-quantile_in phi e = element e.0 (quantile_of_values phi e.1)
+abbrev pub group_quantile : Num → List Pair × List Num → Item Num
+group_quantile phi e = element e.0 (quantile_of_values phi e.1)
 
 abbrev pub quantiles_in : Num → List (List Pair × List Num) → List (Item Num)
-quantiles_in phi entries = map (quantile_in phi) entries
+quantiles_in phi entries = map (group_quantile phi) entries

@@ -8,7 +8,7 @@ ghost use Rattle.pr_labels.specs.declared.item.Item.{Item};
 ghost use Rattle.pr_labels.specs.Order.{labels_cmp};
 ghost use Rattle.pr_vectors.specs.Vectors.{IsVector};
 ghost use Rattle.pr_vectors.specs.Aggregation.{first_of_parts, greatest_first, is_within, least_first};
-ghost use Rattle.pr_agg.specs.Firsts.{AreRanks, IsMarked, is_first, order_by, rank_of, ranked};
+ghost use Rattle.pr_agg.specs.Firsts.{AreRanks, IsMarked, is_first, order_toward, rank_of, ranked};
 
 use crate::parts::group_of;
 use pr_labels::{Grouping, Item, Labels};
@@ -186,7 +186,7 @@ fn first_of_parts(
     by: &Grouping,
 ) -> Result<Vec<Item<Num>>, AllocError>
     requires { IsVector vector.now }
-    ensures { IfOk result (λ v. v.items ≡ first_of_parts (order_by greatest) k.now by.now vector.now) }
+    ensures { IfOk result (λ v. v.items ≡ first_of_parts (order_toward greatest) k.now by.now vector.now) }
 {
     let marks = mark_first(alloc, greatest, k, vector, by)?;
     marked_items(alloc, vector, &marks)

@@ -5,7 +5,7 @@ ghost use Rattle.pr_num.specs.declared.value.Num.{Num};
 ghost use Rattle.pr_num.specs.declared.value.TooWide.{TooWide};
 ghost use Rattle.pr_num.specs.Arithmetic.{too_wide};
 ghost use Rattle.pr_vectors.specs.Vectors.{IsVector, element, label_sets};
-ghost use Rattle.pr_vectors.specs.Aggregation.{aggregated};
+ghost use Rattle.pr_vectors.specs.Aggregation.{of_groups};
 ghost use Rattle.pr_window.specs.Folding.{Lifts, Combines};
 ghost use Rattle.pr_agg.specs.declared.fault.AggFault.TheVariants as fault;
 ghost use Rattle.pr_agg.specs.Parts.{Finishes, finished_all, fold_and_finish};
@@ -73,8 +73,8 @@ pub fn group_fold<
     requires combine { Combines C.Fn combine.now M.combine M.weight }
     requires finish { E.IsAlwaysCallable finish.now }
     ensures aggregated { (f : A → Result Num TooWide) → Finishes E.Fn finish.now f → MatchResult result
-        (λ v. aggregated (fold_and_finish M.lift M.combine f) by.now vector.now ≡ Ok v.items)
-        (λ e. e ≡ fault.TooWide → aggregated (fold_and_finish M.lift M.combine f) by.now vector.now ≡ Err too_wide) }
+        (λ v. of_groups (fold_and_finish M.lift M.combine f) by.now vector.now ≡ Ok v.items)
+        (λ e. e ≡ fault.TooWide → of_groups (fold_and_finish M.lift M.combine f) by.now vector.now ≡ Err too_wide) }
     ensures vector { IfOk result (λ v. IsVector v.items) }
 {
     let parts = fold_parts::<A, M, L, C>(alloc, vector, by, lift, combine)?;

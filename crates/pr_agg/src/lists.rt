@@ -5,7 +5,7 @@ ghost use Rattle.pr_num.specs.Order.{order_of};
 ghost use Rattle.pr_vectors.specs.Vectors.{IsVector};
 ghost use Rattle.pr_labels.specs.Order.{labels_cmp};
 ghost use Rattle.pr_labels.specs.Rising.{with_labels};
-ghost use Rattle.pr_vectors.specs.Aggregation.{aggregated, always, group_of, in_value_order, quantile_of_values};
+ghost use Rattle.pr_vectors.specs.Aggregation.{of_groups, always, group_of, in_value_order, quantile_of_values};
 ghost use Rattle.pr_window.specs.Folding.{with_next};
 ghost use Rattle.pr_agg.specs.Lists.{alone, one_after_other, quantiles_in};
 ghost use Rattle.pr_agg.specs.Parts.{AreParts};
@@ -113,7 +113,7 @@ pub fn quantile(
     vector: &[Item<Num>],
     by: &Grouping,
 ) -> Result<Vec<Item<Num>>, AllocError>
-    ensures aggregated { IfOk result (λ v. aggregated (always (quantile_of_values phi)) by.now vector.now ≡ Ok v.items) }
+    ensures aggregated { IfOk result (λ v. of_groups (always (quantile_of_values phi)) by.now vector.now ≡ Ok v.items) }
     ensures vector { IfOk result (λ v. IsVector v.items) }
 {
     let parts = gather(alloc, vector, by)?;

@@ -3,7 +3,7 @@ ghost use Rattle.std.specs.Prelude.{◌≡◌, ◌≢◌, Ok, Err, IfOk, IfErr, 
 ghost use Rattle.pr_num.specs.declared.value.Num.TheVariants.{NaN};
 ghost use Rattle.pr_num.specs.Arithmetic.{too_wide, whole_of};
 ghost use Rattle.pr_vectors.specs.Vectors.{IsVector};
-ghost use Rattle.pr_vectors.specs.Aggregation.{aggregated, always, count_of_values, greatest_of_values, least_of_values, mean_of_values, one_of_values, sum_of_values};
+ghost use Rattle.pr_vectors.specs.Aggregation.{of_groups, always, count_of_values, greatest_of_values, least_of_values, mean_of_values, one_of_values, sum_of_values};
 ghost use Rattle.pr_agg.specs.declared.fault.AggFault.TheVariants as fault;
 ghost use Rattle.pr_agg.specs.Extremes.{greater, lesser};
 
@@ -22,13 +22,13 @@ pub struct Totals;
 
 impl Fold<Num, Total> for Totals {
     ghost use Rattle.pr_num.specs.Total.{joined, one_value};
-    ghost use Rattle.pr_agg.specs.Totals.{count_of, joined_assoc, joined_count, one_count};
+    ghost use Rattle.pr_agg.specs.Totals.{tally_count, joined_assoc, joined_count, one_count};
 
     ghost lift = { one_value };
 
     ghost combine = { joined };
 
-    ghost weight = { count_of };
+    ghost weight = { tally_count };
 
     ghost associative = { joined_assoc };
 
@@ -169,8 +169,8 @@ fn never_wide(answer: Result<Vec<Item<Num>>, AggFault>) -> Result<Vec<Item<Num>>
 /// `TooWide` exactly where the sum of a group is 10^20 or more in magnitude.
 pub fn sum(alloc: Global, vector: &[Item<Num>], by: &Grouping) -> Result<Vec<Item<Num>>, AggFault>
     ensures aggregated { MatchResult result
-        (λ v. aggregated sum_of_values by.now vector.now ≡ Ok v.items)
-        (λ e. e ≡ fault.TooWide → aggregated sum_of_values by.now vector.now ≡ Err too_wide) }
+        (λ v. of_groups sum_of_values by.now vector.now ≡ Ok v.items)
+        (λ e. e ≡ fault.TooWide → of_groups sum_of_values by.now vector.now ≡ Err too_wide) }
     ensures vector { IfOk result (λ v. IsVector v.items) }
 {
     group_fold::<Total, Totals, _, _, _>(
@@ -187,7 +187,7 @@ pub fn sum(alloc: Global, vector: &[Item<Num>], by: &Grouping) -> Result<Vec<Ite
 /// is never too wide, though the sum may be. (Prometheus: Aggregation operators; the rounding is
 /// own choice.)
 pub fn avg(alloc: Global, vector: &[Item<Num>], by: &Grouping) -> Result<Vec<Item<Num>>, AllocError>
-    ensures aggregated { IfOk result (λ v. aggregated (always mean_of_values) by.now vector.now ≡ Ok v.items) }
+    ensures aggregated { IfOk result (λ v. of_groups (always mean_of_values) by.now vector.now ≡ Ok v.items) }
     ensures vector { IfOk result (λ v. IsVector v.items) }
 {
     let answer = group_fold::<Total, Totals, _, _, _>(
@@ -204,7 +204,7 @@ pub fn avg(alloc: Global, vector: &[Item<Num>], by: &Grouping) -> Result<Vec<Ite
 /// The greatest of each group's values; NaN only where all are. (Prometheus: Aggregation
 /// operators.)
 pub fn max(alloc: Global, vector: &[Item<Num>], by: &Grouping) -> Result<Vec<Item<Num>>, AllocError>
-    ensures aggregated { IfOk result (λ v. aggregated (always greatest_of_values) by.now vector.now ≡ Ok v.items) }
+    ensures aggregated { IfOk result (λ v. of_groups (always greatest_of_values) by.now vector.now ≡ Ok v.items) }
     ensures vector { IfOk result (λ v. IsVector v.items) }
 {
     let answer = group_fold::<Num, Greatest, _, _, _>(
@@ -220,7 +220,7 @@ pub fn max(alloc: Global, vector: &[Item<Num>], by: &Grouping) -> Result<Vec<Ite
 
 /// The least of each group's values; NaN only where all are. (Prometheus: Aggregation operators.)
 pub fn min(alloc: Global, vector: &[Item<Num>], by: &Grouping) -> Result<Vec<Item<Num>>, AllocError>
-    ensures aggregated { IfOk result (λ v. aggregated (always least_of_values) by.now vector.now ≡ Ok v.items) }
+    ensures aggregated { IfOk result (λ v. of_groups (always least_of_values) by.now vector.now ≡ Ok v.items) }
     ensures vector { IfOk result (λ v. IsVector v.items) }
 {
     let answer = group_fold::<Num, Least, _, _, _>(
@@ -240,7 +240,7 @@ pub fn count(
     vector: &[Item<Num>],
     by: &Grouping,
 ) -> Result<Vec<Item<Num>>, AllocError>
-    ensures aggregated { IfOk result (λ v. aggregated (always count_of_values) by.now vector.now ≡ Ok v.items) }
+    ensures aggregated { IfOk result (λ v. of_groups (always count_of_values) by.now vector.now ≡ Ok v.items) }
     ensures vector { IfOk result (λ v. IsVector v.items) }
 {
     let answer = group_fold::<u64, Counts, _, _, _>(
@@ -260,7 +260,7 @@ pub fn group(
     vector: &[Item<Num>],
     by: &Grouping,
 ) -> Result<Vec<Item<Num>>, AllocError>
-    ensures aggregated { IfOk result (λ v. aggregated (always one_of_values) by.now vector.now ≡ Ok v.items) }
+    ensures aggregated { IfOk result (λ v. of_groups (always one_of_values) by.now vector.now ≡ Ok v.items) }
     ensures vector { IfOk result (λ v. IsVector v.items) }
 {
     let answer = group_fold::<(), Presence, _, _, _>(

@@ -15,16 +15,16 @@ rules_found = codes " rules found\n"
 abbrev pub success_text : ℕ → List ℕ
 success_text count = success ++ (decimal count ++ rules_found)
 
-unfoldable pub failed : List ℕ
-failed = codes "  FAILED:\n"
+unfoldable pub failed_line : List ℕ
+failed_line = codes "  FAILED:\n"
 
-abbrev pub failed_text : List ℕ → List ℕ
-failed_text lines = failed ++ lines
+abbrev pub problems_text : List ℕ → List ℕ
+problems_text lines = failed_line ++ lines
 
 -- the problems of a file, each on a line
 abbrev pub reading_told : List ℕ → RuleReading → Told
 reading_told name (gives_file groups) = record { text = success_text (rule_count groups); refused = false }
-reading_told name (gives_problems list) = record { text = failed_text (flat_map (problem_line name) list); refused = true }
+reading_told name (gives_problems list) = record { text = problems_text (flat_map (problem_line name) list); refused = true }
 
 -- a file that is missing, or too large
 unfoldable pub missing : List ℕ
@@ -34,10 +34,10 @@ unfoldable pub too_large : List ℕ
 too_large = codes ": TooLarge\n"
 
 abbrev pub missing_text : List ℕ → List ℕ
-missing_text name = failed_text (name ++ missing)
+missing_text name = problems_text (name ++ missing)
 
 abbrev pub too_large_text : List ℕ → List ℕ
-too_large_text name = failed_text (name ++ too_large)
+too_large_text name = problems_text (name ++ too_large)
 
 abbrev pub found_told : List ℕ → Option (List ℕ) → Told
 found_told name None = record { text = missing_text name; refused = true }

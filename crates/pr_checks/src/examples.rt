@@ -4,7 +4,8 @@ ghost use Rattle.pr_yaml_scan.specs.declared.fault.YamlKind.TheVariants as yaml;
 ghost use Rattle.pr_lex.specs.declared.fault.LexKind.TheVariants as lex;
 ghost use Rattle.pr_parse.specs.declared.fault.ParseKind.TheVariants as parse;
 ghost use Rattle.pr_types.specs.declared.kind.TypeKind.TheVariants as typing;
-ghost use Rattle.pr_fields.specs.declared.problem.ProblemKind.TheVariants.{Yaml, WantMap, DuplicateGroup, BadTemplate, Lex, Parse, Typing};
+ghost use Rattle.pr_kinds.specs.declared.kind.QueryKind.TheVariants.{Lex, Parse, Typing};
+ghost use Rattle.pr_fields.specs.declared.problem.ProblemKind.TheVariants.{Yaml, WantMap, DuplicateGroup, BadTemplate, Expression};
 ghost use Rattle.pr_fields.specs.Problems.{problem};
 ghost use Rattle.pr_check_loops.specs.declared.verdict.Verdict.TheVariants.{Good, Complaints, Refused};
 ghost use Rattle.pr_checks.specs.Problems.{problem_line};
@@ -35,10 +36,10 @@ pub fn lines_are_printed_so()
     ensures name { problem_line (codes "a.yml") (problem 12 (DuplicateGroup (codes "a \"b\"\\"))) ≡ codes "a.yml: line 12 DuplicateGroup \"a \\\"b\\\"\\\\\"\n" }
     ensures tree { problem_line (codes "a.yml") (problem 1 (Yaml yaml.DuplicateKey)) ≡ codes "a.yml: line 1 DuplicateKey\n" }
     ensures template { problem_line (codes "a.yml") (problem 3 (BadTemplate 15)) ≡ codes "a.yml: line 3 BadTemplate 15\n" }
-    ensures token { problem_line (codes "a.yml") (problem 3 (Lex lex.BadChar 4)) ≡ codes "a.yml: line 3 BadChar 4\n" }
-    ensures parsed { problem_line (codes "a.yml") (problem 3 (Parse parse.End 0)) ≡ codes "a.yml: line 3 End 0\n" }
-    ensures typed { problem_line (codes "a.yml") (problem 3 (Typing typing.BoolNeeded 0)) ≡ codes "a.yml: line 3 BoolNeeded 0\n" }
-    ensures arguments { problem_line (codes "a.yml") (problem 3 (Typing (typing.Arguments 1 2 2) 7)) ≡ codes "a.yml: line 3 Arguments 1 2 2 7\n" }
+    ensures token { problem_line (codes "a.yml") (problem 3 (Expression (Lex lex.BadChar) 4)) ≡ codes "a.yml: line 3 BadChar 4\n" }
+    ensures parsed { problem_line (codes "a.yml") (problem 3 (Expression (Parse parse.End) 0)) ≡ codes "a.yml: line 3 End 0\n" }
+    ensures typed { problem_line (codes "a.yml") (problem 3 (Expression (Typing typing.BoolNeeded) 0)) ≡ codes "a.yml: line 3 BoolNeeded 0\n" }
+    ensures arguments { problem_line (codes "a.yml") (problem 3 (Expression (Typing (typing.Arguments 1 2 2)) 7)) ≡ codes "a.yml: line 3 Arguments 1 2 2 7\n" }
 {}
 
 /// A complaint about a family stands on a line, in the order of the kinds. A good exposition is

@@ -3,13 +3,13 @@ ghost use Rattle.std.specs.Prelude.{◌≡◌, ◌<◌, ◌≤◌, ◌^◌, ◌+
 ghost use Rattle.pr_outside.specs.Contents.{IsFound, IsWithinLimit, file_limit};
 ghost use Rattle.pr_rulefile.specs.File.{rule_file_of};
 ghost use Rattle.pr_checks.specs.Problems.{problem_line};
-ghost use Rattle.pr_checks.specs.RuleFiles.{checking_text, failed, failed_text, found_told, missing, reading_told, rules_found, rules_told, success, success_text, too_large};
+ghost use Rattle.pr_checks.specs.RuleFiles.{checking_text, failed_line, problems_text, found_told, missing, reading_told, rules_found, rules_told, success, success_text, too_large};
 
 use crate::problems::push_problem;
 use pr_check_loops::FileCheck;
+use pr_kinds::push_number;
 use pr_outside::Found;
 use pr_rulefile::{Problem, RuleError, check};
-use pr_text::push_number;
 use std::alloc::{AllocError, Global};
 
 /// The check of rule files: each is read whole, and all its problems are told. (Prometheus:
@@ -25,9 +25,9 @@ fn push_checking(text: &mut Vec<u8>, name: &str) -> Result<(), AllocError>
     text.extend_from_slice(b"\n")
 }
 
-#[tactic(auto, unfolding(crate::specs::RuleFiles::failed))]
+#[tactic(auto, unfolding(crate::specs::RuleFiles::failed_line))]
 fn push_failed(text: &mut Vec<u8>) -> Result<(), AllocError>
-    ensures { OnOk result (text.new.items ≡ text.old.items ++ failed) }
+    ensures { OnOk result (text.new.items ≡ text.old.items ++ failed_line) }
 {
     text.extend_from_slice(b"  FAILED:\n")
 }
@@ -48,7 +48,7 @@ fn too_large() -> &'static [u8]
 
 // A file that is not read, and why.
 fn push_unread(text: &mut Vec<u8>, name: &str, why: &[u8]) -> Result<(), AllocError>
-    ensures { OnOk result (text.new.items ≡ text.old.items ++ failed_text (name.now ++ why.now)) }
+    ensures { OnOk result (text.new.items ≡ text.old.items ++ problems_text (name.now ++ why.now)) }
 {
     push_failed(text)?;
     text.extend_from_slice(name.as_bytes())?;
@@ -87,7 +87,7 @@ fn push_lines(text: &mut Vec<u8>, name: &str, problems: &[Problem]) -> Result<()
 }
 
 fn push_problems(text: &mut Vec<u8>, name: &str, problems: &[Problem]) -> Result<(), AllocError>
-    ensures { OnOk result (text.new.items ≡ text.old.items ++ failed_text (flat_map (problem_line name.now) problems.now)) }
+    ensures { OnOk result (text.new.items ≡ text.old.items ++ problems_text (flat_map (problem_line name.now) problems.now)) }
 {
     push_failed(text)?;
     push_lines(text, name, problems)

@@ -5,7 +5,7 @@ use Rattle.pr_history.specs.Lookback.{entries_until}
 use Rattle.pr_head.specs.Holds.{arrivals, labels_at}
 use Rattle.pr_range.specs.Asks.{LastAsk}
 use Rattle.pr_eval.specs.Asking.{Sought}
-use Rattle.pr_eval.specs.Evaluated.{AreAsked, AreReady, AreRows, IsAsked, IsReadyFor, IsSame, KeptOfRanges, MayFollow}
+use Rattle.pr_eval.specs.Evaluated.{AreAllAsked, AreReady, AreRowsAsked, IsAsked, IsReadyFor, IsSame, KeptOfRanges, MayFollow}
 use Rattle.pr_eval.proofs.Each.{both_each, front_each, map_each, none_each, rest_each}
 
 pub still : (k : ℕ) (kept : KeptOfRanges) → IsSame k kept kept
@@ -24,7 +24,7 @@ module _ (keeps : Bool) (history : List Entry) where
   weaker true before after k q h = h
   weaker false before after k None h = h
   weaker false before after k (Some q) h =
-      (length q.numbers, subst (λ ns. AreRows keeps history q.ask ns (before.last k) (after.last k) (before.passed k) (after.passed k)) (sym (take_all q.numbers)) h)
+      (length q.numbers, subst (λ ns. AreRowsAsked keeps history q.ask ns (before.last k) (after.last k) (before.passed k) (after.passed k)) (sym (take_all q.numbers)) h)
 
   none_kept : {A : Type 0} (b : Bool) (x y : A) → y ≡ cond (b && false) x y
   none_kept true x y = refl
@@ -42,15 +42,15 @@ module _ (keeps : Bool) (history : List Entry) where
   )
 
   -- what others were asked in the meantime does not matter
-  rows_before : (q : LastAsk) (ns : List ℕ) (a b c : KeptOfRanges) (k : ℕ) → IsSame k b c → AreRows keeps history q ns (a.last k) (b.last k) (a.passed k) (b.passed k) → AreRows keeps history q ns (a.last k) (c.last k) (a.passed k) (c.passed k)
+  rows_before : (q : LastAsk) (ns : List ℕ) (a b c : KeptOfRanges) (k : ℕ) → IsSame k b c → AreRowsAsked keeps history q ns (a.last k) (b.last k) (a.passed k) (b.passed k) → AreRowsAsked keeps history q ns (a.last k) (c.last k) (a.passed k) (c.passed k)
   rows_before q ns a b c k same h =
-      subst (λ l. AreRows keeps history q ns (a.last k) l (a.passed k) (c.passed k)) (sym same.last)
-      (subst (λ p. AreRows keeps history q ns (a.last k) (b.last k) (a.passed k) p) (sym same.passed) h)
+      subst (λ l. AreRowsAsked keeps history q ns (a.last k) l (a.passed k) (c.passed k)) (sym same.last)
+      (subst (λ p. AreRowsAsked keeps history q ns (a.last k) (b.last k) (a.passed k) p) (sym same.passed) h)
 
-  rows_behind : (q : LastAsk) (ns : List ℕ) (a b c : KeptOfRanges) (k : ℕ) → IsSame k a b → AreRows keeps history q ns (b.last k) (c.last k) (b.passed k) (c.passed k) → AreRows keeps history q ns (a.last k) (c.last k) (a.passed k) (c.passed k)
+  rows_behind : (q : LastAsk) (ns : List ℕ) (a b c : KeptOfRanges) (k : ℕ) → IsSame k a b → AreRowsAsked keeps history q ns (b.last k) (c.last k) (b.passed k) (c.passed k) → AreRowsAsked keeps history q ns (a.last k) (c.last k) (a.passed k) (c.passed k)
   rows_behind q ns a b c k same h =
-      subst (λ l. AreRows keeps history q ns l (c.last k) (a.passed k) (c.passed k)) same.last
-      (subst (λ p. AreRows keeps history q ns (b.last k) (c.last k) p (c.passed k)) same.passed h)
+      subst (λ l. AreRowsAsked keeps history q ns l (c.last k) (a.passed k) (c.passed k)) same.last
+      (subst (λ p. AreRowsAsked keeps history q ns (b.last k) (c.last k) p (c.passed k)) same.passed h)
 
   asked_before : (whole : Bool) (a b c : KeptOfRanges) (k : ℕ) (q : Option Sought) → IsSame k b c → IsAsked keeps history whole a b k q → IsAsked keeps history whole a c k q
   asked_before whole a b c k None same h = same_then k a b c h same
@@ -62,7 +62,7 @@ module _ (keeps : Bool) (history : List Entry) where
   asked_behind true a b c k (Some q) same h = rows_behind q.ask q.numbers a b c k same h
   asked_behind false a b c k (Some q) same h = (h.0, rows_behind q.ask (take h.0 q.numbers) a b c k same h.1)
 
-  pub weaker_all : (whole : Bool) (asks : List (Option Sought)) (node : ℕ) (a b : KeptOfRanges) → AreAsked keeps history true asks node a b → AreAsked keeps history whole asks node a b
+  pub weaker_all : (whole : Bool) (asks : List (Option Sought)) (node : ℕ) (a b : KeptOfRanges) → AreAllAsked keeps history true asks node a b → AreAllAsked keeps history whole asks node a b
   weaker_all whole asks node a b h = record {
     others = h.others;
     own = map_each (IsAsked keeps history true a b) (IsAsked keeps history whole a b) node asks (λ k q low high g. weaker whole a b k q g) h.own;
@@ -78,7 +78,7 @@ module _ (keeps : Bool) (history : List Entry) where
     high_of k (inr h) = let all : length (xs ++ ys) ≡ length xs + length ys = length-append xs ys in inr (omega (arith, all, h, is))
 
     -- the first part, then the second
-    pub asked_both : (whole : Bool) (a b c : KeptOfRanges) → AreAsked keeps history true xs n a b → AreAsked keeps history whole ys m b c → AreAsked keeps history whole (xs ++ ys) n a c
+    pub asked_both : (whole : Bool) (a b c : KeptOfRanges) → AreAllAsked keeps history true xs n a b → AreAllAsked keeps history whole ys m b c → AreAllAsked keeps history whole (xs ++ ys) n a c
     asked_both whole a b c first second = record {
       others = λ k h. same_then k a b c (first.others k (low_of k h)) (second.others k (high_of k h));
       own = both_each (IsAsked keeps history whole a c) n m xs ys is
@@ -89,7 +89,7 @@ module _ (keeps : Bool) (history : List Entry) where
     }
 
     -- the second part, then the first
-    pub asked_turned : (whole : Bool) (a b c : KeptOfRanges) → AreAsked keeps history true ys m a b → AreAsked keeps history whole xs n b c → AreAsked keeps history whole (xs ++ ys) n a c
+    pub asked_turned : (whole : Bool) (a b c : KeptOfRanges) → AreAllAsked keeps history true ys m a b → AreAllAsked keeps history whole xs n b c → AreAllAsked keeps history whole (xs ++ ys) n a c
     asked_turned whole a b c first second = record {
       others = λ k h. same_then k a b c (first.others k (high_of k h)) (second.others k (low_of k h));
       own = both_each (IsAsked keeps history whole a c) n m xs ys is
@@ -100,7 +100,7 @@ module _ (keeps : Bool) (history : List Entry) where
     }
 
     -- the first part alone, which a fault ended
-    pub asked_first : (a b : KeptOfRanges) → AreAsked keeps history false xs n a b → AreAsked keeps history false (xs ++ ys) n a b
+    pub asked_first : (a b : KeptOfRanges) → AreAllAsked keeps history false xs n a b → AreAllAsked keeps history false (xs ++ ys) n a b
     asked_first a b first = record {
       others = λ k h. first.others k (low_of k h);
       own = both_each (IsAsked keeps history false a b) n m xs ys is first.own
@@ -108,7 +108,7 @@ module _ (keeps : Bool) (history : List Entry) where
     }
 
     -- the second part alone
-    pub asked_second : (a b : KeptOfRanges) → AreAsked keeps history false ys m a b → AreAsked keeps history false (xs ++ ys) n a b
+    pub asked_second : (a b : KeptOfRanges) → AreAllAsked keeps history false ys m a b → AreAllAsked keeps history false (xs ++ ys) n a b
     asked_second a b second = record {
       others = λ k h. second.others k (high_of k h);
       own = both_each (IsAsked keeps history false a b) n m xs ys is
@@ -128,10 +128,10 @@ module _ (keeps : Bool) (history : List Entry) where
   follow_moved before after k None same h = h
   follow_moved before after k (Some q) same h = subst (λ l. MayFollow q.ask l) (sym same.last) h
 
-  pub ready_moved : (whole : Bool) (xs ys : List (Option Sought)) (n m : ℕ) (a b : KeptOfRanges) → ((k : ℕ) → m ≤ k → k < m + length ys → (k < n) ⊎ (n + length xs ≤ k)) → AreAsked keeps history whole xs n a b
+  pub ready_moved : (whole : Bool) (xs ys : List (Option Sought)) (n m : ℕ) (a b : KeptOfRanges) → ((k : ℕ) → m ≤ k → k < m + length ys → (k < n) ⊎ (n + length xs ≤ k)) → AreAllAsked keeps history whole xs n a b
       → AreReady a.last m ys → AreReady b.last m ys
   ready_moved whole xs ys n m a b apart asked h =
       map_each (IsReadyFor a.last) (IsReadyFor b.last) m ys (λ k q low high g. follow_moved a b k q (asked.others k (apart k low high)) g) h
 
-  pub nothing_asked : (whole : Bool) (node : ℕ) (a : KeptOfRanges) → AreAsked keeps history whole [] node a a
+  pub nothing_asked : (whole : Bool) (node : ℕ) (a : KeptOfRanges) → AreAllAsked keeps history whole [] node a a
   nothing_asked whole node a = record { others = λ k h. still k a; own = none_each (IsAsked keeps history whole a a) node }

@@ -5,7 +5,7 @@ use Rattle.std.proofs.lemmas.List.Sums.{sum_by-append, sum_by-cons}
 use Rattle.pr_query.specs.declared.fault.Fault.{Fault}
 use Rattle.pr_query.specs.declared.value.Value.{Value}
 use Rattle.pr_query.specs.Given.{elements_in}
-use Rattle.pr_query.specs.Subqueries.{Taken, at_each, one_more}
+use Rattle.pr_query.specs.Subqueries.{Taken, at_each, taken_before}
 use Rattle.pr_range_calls.specs.Taken.{taken}
 use Rattle.pr_range_calls.specs.Times.{AreTimesWithin}
 
@@ -46,23 +46,23 @@ listed_is ts us e = cc
 module _ (expr : ℕ → Result Value Fault) (y : ℕ) where
   -- one time more
   at_more : (v : Value) → expr y ≡ Ok v → (xs : List ℕ) (ts : List Taken) → at_each expr xs ≡ Ok ts → at_each expr (xs ++ y ∷ []) ≡ Ok (ts ++ taken y (elements_in v) ∷ [])
-  at_more v is [] ts h = ap (λ r. one_more y r (Ok [])) is ∙ ended ts h where
+  at_more v is [] ts h = ap (λ r. taken_before y r (Ok [])) is ∙ ended ts h where
     ended : (ts : List Taken) → listed [] ≡ listed ts → listed (taken y (elements_in v) ∷ []) ≡ listed (ts ++ taken y (elements_in v) ∷ [])
     ended [] h = refl
     ended (t ∷ ts) h = absurd cc
   at_more v is (x ∷ xs) ts h = by (expr x) (at_each expr xs) h (λ ms e. at_more v is xs ms e) where
-    by : (r : Result Value Fault) (m : Result (List Taken) Fault) → one_more x r m ≡ Ok ts → ((ms : List Taken) → m ≡ Ok ms → at_each expr (xs ++ y ∷ []) ≡ Ok (ms ++ taken y (elements_in v) ∷ []))
-        → one_more x r (at_each expr (xs ++ y ∷ [])) ≡ Ok (ts ++ taken y (elements_in v) ∷ [])
-    by (Ok w) (Ok ms) e more = ap (one_more x (Ok w)) (more ms refl) ∙ ap (λ us. Ok (us ++ taken y (elements_in v) ∷ [])) (listed_is (taken x (elements_in w) ∷ ms) ts e)
+    by : (r : Result Value Fault) (m : Result (List Taken) Fault) → taken_before x r m ≡ Ok ts → ((ms : List Taken) → m ≡ Ok ms → at_each expr (xs ++ y ∷ []) ≡ Ok (ms ++ taken y (elements_in v) ∷ []))
+        → taken_before x r (at_each expr (xs ++ y ∷ [])) ≡ Ok (ts ++ taken y (elements_in v) ∷ [])
+    by (Ok w) (Ok ms) e more = ap (taken_before x (Ok w)) (more ms refl) ∙ ap (λ us. Ok (us ++ taken y (elements_in v) ∷ [])) (listed_is (taken x (elements_in w) ∷ ms) ts e)
     by (Ok w) (Err f) e more = absurd cc
     by (Err f) m e more = absurd cc
 
   -- the fault of one time ends, whatever comes after it
   at_end : (f : Fault) → expr y ≡ Err f → (xs rest : List ℕ) (ts : List Taken) → at_each expr xs ≡ Ok ts → at_each expr (xs ++ y ∷ rest) ≡ Err f
-  at_end f is [] rest ts h = ap (λ r. one_more y r (at_each expr rest)) is
+  at_end f is [] rest ts h = ap (λ r. taken_before y r (at_each expr rest)) is
   at_end f is (x ∷ xs) rest ts h = by (expr x) (at_each expr xs) h (λ ms e. at_end f is xs rest ms e) where
-    by : (r : Result Value Fault) (m : Result (List Taken) Fault) → one_more x r m ≡ Ok ts → ((ms : List Taken) → m ≡ Ok ms → at_each expr (xs ++ y ∷ rest) ≡ Err f) → one_more x r (at_each expr (xs ++ y ∷ rest)) ≡ Err f
-    by (Ok w) (Ok ms) e more = ap (one_more x (Ok w)) (more ms refl)
+    by : (r : Result Value Fault) (m : Result (List Taken) Fault) → taken_before x r m ≡ Ok ts → ((ms : List Taken) → m ≡ Ok ms → at_each expr (xs ++ y ∷ rest) ≡ Err f) → taken_before x r (at_each expr (xs ++ y ∷ rest)) ≡ Err f
+    by (Ok w) (Ok ms) e more = ap (taken_before x (Ok w)) (more ms refl)
     by (Ok w) (Err g) e more = absurd cc
     by (Err g) m e more = absurd cc
 
@@ -81,7 +81,7 @@ times_taken expr [] ts h = none ts h where
   none [] h = refl
   none (t ∷ ts) h = absurd cc
 times_taken expr (x ∷ xs) ts h = by (expr x) (at_each expr xs) h (λ ms e. times_taken expr xs ms e) where
-  by : (r : Result Value Fault) (m : Result (List Taken) Fault) → one_more x r m ≡ Ok ts → ((ms : List Taken) → m ≡ Ok ms → xs ≡ map (λ t. t.time) ms) → x ∷ xs ≡ map (λ t. t.time) ts
+  by : (r : Result Value Fault) (m : Result (List Taken) Fault) → taken_before x r m ≡ Ok ts → ((ms : List Taken) → m ≡ Ok ms → xs ≡ map (λ t. t.time) ms) → x ∷ xs ≡ map (λ t. t.time) ts
   by (Ok w) (Ok ms) e more = ap (λ us. x ∷ us) (more ms refl) ∙ ap (map (λ t. t.time)) (listed_is (taken x (elements_in w) ∷ ms) ts e)
   by (Ok w) (Err f) e more = absurd cc
   by (Err f) m e more = absurd cc

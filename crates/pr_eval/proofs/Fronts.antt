@@ -15,8 +15,8 @@ use Rattle.pr_vectors.specs.declared.range.RangeFn.{RangeFn}
 use Rattle.pr_eval.specs.Asking.{asks_in}
 use Rattle.pr_query.specs.Cost.{PassedFor, cost}
 use Rattle.pr_values.specs.declared.error.EvalError.{EvalError}
-use Rattle.pr_eval.specs.Evaluated.{AreAsked, AreReady, IsReadyFor, IsTaken, KeptOfRanges, MayTake, passed_by}
-use Rattle.pr_eval.specs.Parts.{AreTwo, IsPart, PatternsAt, StandAt}
+use Rattle.pr_eval.specs.Evaluated.{AreAllAsked, AreReady, IsReadyFor, IsEvaluated, KeptOfRanges, MayTake, passed_outside}
+use Rattle.pr_eval.specs.Parts.{AreTwo, IsPartAt, PatternsAt, StandAt}
 use Rattle.pr_eval.proofs.Each.{front_each}
 use Rattle.pr_eval.proofs.Asked.{asked_first}
 use Rattle.pr_eval.proofs.Taking.{keeps_part, recast}
@@ -99,7 +99,7 @@ first_args : (k : ℕ) (es : List Expr) → AreFirst (trees_of (take k es)) (tre
 first_args k es = subst (AreFirst (trees_of (take k es))) (sym (split_from k es none)) (first_from (map tree_of (drop k es)) (trees_of (take k es)))
 
 -- what is known of all is known of the first
-pub args_part : (whole : Tree) (n : Counts) (k : ℕ) (es : List Expr) → IsPart whole n (trees_of es) → IsPart whole n (trees_of (take k es))
+pub args_part : (whole : Tree) (n : Counts) (k : ℕ) (es : List Expr) → IsPartAt whole n (trees_of es) → IsPartAt whole n (trees_of (take k es))
 args_part whole n k es h =
     let f = first_args k es in
     let u = trees_of (take k es) in
@@ -123,18 +123,18 @@ args_may head inside history func k es time n F a may =
 
 -- a fault among the first ends the evaluation of all
 pub args_taken : {A B : Type 0} (keeps inside : Bool) (step : ℕ) (history : List Entry) (func : RangeFn) (k : ℕ) (es : List Expr) (time n : ℕ) (a b : KeptOfRanges) (F : Type 0) (r0 r1 : ℕ) (e : EvalError)
-    → IsTaken {A = A} keeps inside step history func (trees_of (take k es)) time n a b F r0 r1 (Err e) → IsTaken {A = B} keeps inside step history func (trees_of es) time n a b F r0 r1 (Err e)
+    → IsEvaluated {A = A} keeps inside step history func (trees_of (take k es)) time n a b F r0 r1 (Err e) → IsEvaluated {A = B} keeps inside step history func (trees_of es) time n a b F r0 r1 (Err e)
 args_taken {A} {B} keeps inside step history func k es time n a b F r0 r1 e h =
     let f = first_args k es in
     let u = trees_of (take k es) in
     let xs = asks_in inside history func u time in
     let before = f.asks inside history func time in
-    let few : r1 ≤ r0 + cost step history (passed_by inside history a.passed) u n time = h.few in
-    let less : cost step history (passed_by inside history a.passed) u n time ≤ cost step history (passed_by inside history a.passed) (trees_of es) n time = f.costs step history (passed_by inside history a.passed) n time in
+    let few : r1 ≤ r0 + cost step history (passed_outside inside history a.passed) u n time = h.few in
+    let less : cost step history (passed_outside inside history a.passed) u n time ≤ cost step history (passed_outside inside history a.passed) (trees_of es) n time = f.costs step history (passed_outside inside history a.passed) n time in
     record {
       few = omega (arith, few, less);
       fits = λ no. h.fits (recast A B e no);
-      asked = λ no. subst (λ ys. AreAsked keeps history false ys n a b) (sym before.whole_is) (asked_first keeps history xs before.rest n (n + length xs) refl a b (h.asked (recast A B e no)));
+      asked = λ no. subst (λ ys. AreAllAsked keeps history false ys n a b) (sym before.whole_is) (asked_first keeps history xs before.rest n (n + length xs) refl a b (h.asked (recast A B e no)));
     }
 
 -- all of them, at the end

@@ -8,14 +8,14 @@ use Rattle.pr_values.specs.declared.error.EvalError.{EvalError}
 use Rattle.pr_values.specs.declared.error.EvalError.TheVariants as error
 use Rattle.pr_values.specs.Answers.{AnswersTo}
 use Rattle.pr_eval.specs.Evaluated.{KeptOfRanges}
-use Rattle.pr_eval.specs.Subqueries.{AreGathered, TakesInside}
+use Rattle.pr_eval.specs.Subqueries.{AreSeriesGathered, TakesInside}
 use Rattle.pr_eval.proofs.EachTime.{each_ends, sum_next, sum_within}
 use Rattle.pr_eval.proofs.Inside.{same_then_all}
 use Rattle.pr_eval.proofs.Taking.{recast}
 
 -- the fault of one time is that of all
 pub each_fails : (expr : ℕ → Result Value Fault) (times : List ℕ) (i time : ℕ) (f : EvalError) (ts : List Taken) → slice_get times i ≡ Some time → at_each expr (take i times) ≡ Ok ts → AnswersTo (expr time) (Err f)
-    → AreGathered (at_each expr times) (Err f)
+    → AreSeriesGathered (at_each expr times) (Err f)
 each_fails expr times i time (error.Fault p k) ts at h is = each_ends expr times i time (fault p k) ts at h is
 each_fails expr times i time error.Memory ts at h is = tt
 

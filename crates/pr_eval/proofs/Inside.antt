@@ -11,7 +11,7 @@ use Rattle.pr_query.specs.Cost.{cost, nothing_passed}
 use Rattle.pr_values.specs.declared.error.EvalError.{EvalError}
 use Rattle.pr_eval.specs.Asking.{Sought, asked_for, asks_in}
 use Rattle.pr_eval.specs.Each.{EachAt}
-use Rattle.pr_eval.specs.Evaluated.{AreAsked, AreReady, IsAsked, IsReadyFor, IsSame, IsTaken, KeptOfRanges, MayTake, Takes}
+use Rattle.pr_eval.specs.Evaluated.{AreAllAsked, AreReady, IsAsked, IsReadyFor, IsSame, IsEvaluated, KeptOfRanges, MayTake, HasEvaluated}
 use Rattle.pr_eval.specs.Looks.{KeepsFor}
 use Rattle.pr_eval.specs.Subqueries.{AreSame, TakesInside}
 use Rattle.pr_eval.proofs.Asked.{same_then, still}
@@ -57,7 +57,7 @@ stands n count k = low (nat_lt k n) refl where
   low false e = high (ltb-false k n e) (nat_lt k (n + count)) refl
 
 module _ (keeps : Bool) (history : List Entry) (whole : Bool) (xs : List (Option Sought)) (n : ℕ) (a b : KeptOfRanges) where
-  pub all_same : EachAt IsNone n xs → AreAsked keeps history whole xs n a b → AreSame a b
+  pub all_same : EachAt IsNone n xs → AreAllAsked keeps history whole xs n a b → AreSame a b
   all_same nothing asked = λ k. by k (stands n (length xs) k) where
     own : (k i : ℕ) → n + i ≡ k → i < length xs → IsSame k a b
     own k i at within =
@@ -68,7 +68,7 @@ module _ (keeps : Bool) (history : List Entry) (whole : Bool) (xs : List (Option
     by k (inl h) = asked.others k h
     by k (inr h) = own k h.0 h.1.0 h.1.1
 
-  pub asked_none : EachAt IsNone n xs → AreSame a b → AreAsked keeps history whole xs n a b
+  pub asked_none : EachAt IsNone n xs → AreSame a b → AreAllAsked keeps history whole xs n a b
   asked_none nothing same = record {
     others = λ k h. same k;
     own = map_each IsNone (IsAsked keeps history whole a b) n xs (λ k q low high is. subst (IsAsked keeps history whole a b k) (sym is) (same k)) nothing;
@@ -79,7 +79,7 @@ pub inside_may : (head : List (List Pair × Stored)) (history : List Entry) (fun
 inside_may head history func t time n F last keeps fits = record { keeps = keeps; fits = fits; ready = ready_inside history func t time n last }
 
 pub inside_taken : {A : Type 0} (keeps : Bool) (step : ℕ) (history : List Entry) (func : RangeFn) (t : Tree) (time n : ℕ) (a b : KeptOfRanges) (F : Type 0) (r0 r1 : ℕ) (res : Result A EvalError)
-    → IsTaken keeps true step history func t time n a b F r0 r1 res → TakesInside (cost step history nothing_passed t n time) a b F r0 r1 res
+    → IsEvaluated keeps true step history func t time n a b F r0 r1 res → TakesInside (cost step history nothing_passed t n time) a b F r0 r1 res
 inside_taken keeps step history func t time n a b F r0 r1 res h = record {
   few = h.few;
   fits = h.fits;
@@ -87,7 +87,7 @@ inside_taken keeps step history func t time n a b F r0 r1 res h = record {
 }
 
 pub outside_taken : {A : Type 0} (keeps : Bool) (history : List Entry) (func : RangeFn) (t : Tree) (time n most : ℕ) (a b : KeptOfRanges) (F : Type 0) (r0 r1 : ℕ) (res : Result A EvalError)
-    → TakesInside most a b F r0 r1 res → Takes keeps history (asks_in true history func t time) n most a b F r0 r1 res
+    → TakesInside most a b F r0 r1 res → HasEvaluated keeps history (asks_in true history func t time) n most a b F r0 r1 res
 outside_taken keeps history func t time n most a b F r0 r1 res h = record {
   few = h.few;
   fits = h.fits;

@@ -13,7 +13,7 @@ use Rattle.pr_types.specs.Typed.{content_at, typed}
 use Rattle.pr_types.specs.Built.{own_patterns, patterns_in}
 use Rattle.pr_types.proofs.Parts.{parts_of_call, text_of_join, texts_of_replace}
 use Rattle.pr_values.specs.Calls.{is_plain_call}
-use Rattle.pr_eval.specs.Parts.{IsPart, IsValued, PatternsAt, counts_after}
+use Rattle.pr_eval.specs.Parts.{IsPartAt, IsValued, PatternsAt, counts_after}
 use Rattle.pr_eval.proofs.Each.{first_of_one, rest_each}
 use Rattle.pr_eval.proofs.Operands.{argument_at}
 
@@ -104,7 +104,7 @@ module _ (t : Tree) (p : Place) (f : Func) (es : List Expr) (is : t ≡ call p f
   joined_label h same = text_of_join p (trees_of es) h.gives (sym (ap (λ g. typed (call p g (trees_of es))) same) ∙ typed_call h)
 
   -- the pattern of the call stands behind those of its arguments
-  pub own_pattern : (whole : Tree) (n m : Counts) → IsPart whole n t → m ≡ counts_after n (trees_of es) → f ≡ fn.LabelReplace → slice_get (patterns_in whole) m.patterns ≡ Some (content_at (trees_of es) 4)
+  pub own_pattern : (whole : Tree) (n m : Counts) → IsPartAt whole n t → m ≡ counts_after n (trees_of es) → f ≡ fn.LabelReplace → slice_get (patterns_in whole) m.patterns ≡ Some (content_at (trees_of es) 4)
   own_pattern whole n m part after same =
       let all : PatternsAt (patterns_in whole) n.patterns (patterns_in (trees_of es) ++ own_patterns f (trees_of es)) = subst (PatternsAt (patterns_in whole) n.patterns) (ap patterns_in is) part.patterns in
       let own : PatternsAt (patterns_in whole) (n.patterns + length (patterns_in (trees_of es))) (own_patterns f (trees_of es)) =

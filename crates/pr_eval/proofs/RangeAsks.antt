@@ -19,15 +19,15 @@ use Rattle.pr_query.specs.Answers.{go_on}
 use Rattle.pr_query.specs.Given.{Ranged, range_at}
 use Rattle.pr_query.specs.Meaning.{ranges}
 use Rattle.pr_query.specs.Selection.{chosen_by, moment_of}
-use Rattle.pr_range.specs.Asks.{IsReady, LastAsks, remembered}
+use Rattle.pr_range.specs.Asks.{IsReadyToAsk, LastAsks, remembered}
 use Rattle.pr_range.proofs.Lawful.{entries_until_is}
 use Rattle.pr_range.proofs.Timeline.{until_grows}
 use Rattle.pr_values.specs.declared.error.EvalError.{EvalError}
 use Rattle.pr_values.specs.declared.error.EvalError.TheVariants as error
 use Rattle.pr_values.specs.Answers.{AnswersTo}
-use Rattle.pr_range_calls.specs.Asking.{AreAsked as AreAskedOf, MayAskEach, ask_at, asks_cost, is_number_among, numbers_chosen, passed_by as passed_of}
+use Rattle.pr_range_calls.specs.Asking.{AreAsked, MayAskEach, ask_at, asks_cost, is_number_among, numbers_chosen, passed_by}
 use Rattle.pr_eval.specs.Asking.{asks_in, sought}
-use Rattle.pr_eval.specs.Evaluated.{AreAsked, AreReady, AreRows, IsAsked, IsReadyFor, IsSame, IsTaken, KeptOfRanges, MayFollow, MayTake}
+use Rattle.pr_eval.specs.Evaluated.{AreAllAsked, AreReady, AreRowsAsked, IsAsked, IsReadyFor, IsSame, IsEvaluated, KeptOfRanges, MayFollow, MayTake}
 use Rattle.pr_eval.proofs.Each.{first_of_one, one_each}
 
 abbrev Series : Type 0
@@ -63,7 +63,7 @@ kept_inside false this x y = refl
 
 module _ (keeps : Bool) (history : List Entry) (func : RangeFn) (arg : Option Num) (s : Selector) (span time node : ℕ) (numbers : List ℕ) (before after : KeptOfRanges) where
   abbrev Asked : Bool → Type 0
-  Asked inside = AreAskedOf history keeps node (ask_at func arg s span time inside) numbers before.last after.last before.passed after.passed
+  Asked inside = AreAsked history keeps node (ask_at func arg s span time inside) numbers before.last after.last before.passed after.passed
 
   others_same : (inside : Bool) → Asked inside → (k : ℕ) → node ≢ k → IsSame k before after
   others_same inside h k apart = record {
@@ -79,7 +79,7 @@ module _ (keeps : Bool) (history : List Entry) (func : RangeFn) (arg : Option Nu
     passed = λ i t. (h.passing k t ∙ kept_inside keeps ((node == k) && is_number_among t numbers) (entries_until history (labels_at (arrivals history) t) (moment_of s time)) (before.passed k t)) i;
   }
 
-  own_rows : Asked false → AreRows keeps history (remembered (ask_at func arg s span time false)) numbers (before.last node) (after.last node) (before.passed node) (after.passed node)
+  own_rows : Asked false → AreRowsAsked keeps history (remembered (ask_at func arg s span time false)) numbers (before.last node) (after.last node) (before.passed node) (after.passed node)
   own_rows h = record {
     asks = λ t. h.asks node t ∙ ap (λ b. cond (keeps && (b && is_number_among t numbers)) (Some (remembered (ask_at func arg s span time false))) (before.last node t)) (itself node);
     passing = λ t. h.passing node t ∙ ap (λ b. cond (keeps && (b && is_number_among t numbers)) (entries_until history (labels_at (arrivals history) t) (moment_of s time)) (before.passed node t)) (itself node);
@@ -87,7 +87,7 @@ module _ (keeps : Bool) (history : List Entry) (func : RangeFn) (arg : Option Nu
 
 -- what is asked of a range selector, and what is kept for it afterwards
 ready_at : (inside : Bool) (history : List Entry) (func : RangeFn) (arg : Option Num) (p : Place) (s : Selector) (span time node : ℕ) (last : LastAsks) → AreReady last node (asks_in inside history func (range p s span) time)
-    → (t : ℕ) → IsReady last node t (ask_at func arg s span time inside)
+    → (t : ℕ) → IsReadyToAsk last node t (ask_at func arg s span time inside)
 ready_at true history func arg p s span time node last h t = λ outside. absurd cc
 ready_at false history func arg p s span time node last h t =
     let follows : MayFollow (remembered (ask_at func arg s span time false)) (last node) = first_of_one (IsReadyFor last) node (Some (sought history func (moment_of s time -ℤ pos span) (moment_of s time) (chosen_by s history))) h in
@@ -98,13 +98,13 @@ ready_at false history func arg p s span time node last h t =
     }
 
 own_all : (keeps : Bool) (history : List Entry) (func : RangeFn) (arg : Option Num) (p : Place) (s : Selector) (span time node : ℕ) (before after : KeptOfRanges) (inside : Bool)
-    → AreAskedOf history keeps node (ask_at func arg s span time inside) (numbers_chosen history s) before.last after.last before.passed after.passed
+    → AreAsked history keeps node (ask_at func arg s span time inside) (numbers_chosen history s) before.last after.last before.passed after.passed
     → IsAsked keeps history true before after node (cond inside None (Some (sought history func (moment_of s time -ℤ pos span) (moment_of s time) (chosen_by s history))))
 own_all keeps history func arg p s span time node before after true h = inside_same keeps history func arg s span time node (numbers_chosen history s) before after h node
 own_all keeps history func arg p s span time node before after false h = own_rows keeps history func arg s span time node (numbers_chosen history s) before after h
 
 own_some : (keeps : Bool) (history : List Entry) (func : RangeFn) (arg : Option Num) (p : Place) (s : Selector) (span time node : ℕ) (before after : KeptOfRanges) (inside : Bool) (n : ℕ)
-    → AreAskedOf history keeps node (ask_at func arg s span time inside) (take n (numbers_chosen history s)) before.last after.last before.passed after.passed
+    → AreAsked history keeps node (ask_at func arg s span time inside) (take n (numbers_chosen history s)) before.last after.last before.passed after.passed
     → IsAsked keeps history false before after node (cond inside None (Some (sought history func (moment_of s time -ℤ pos span) (moment_of s time) (chosen_by s history))))
 own_some keeps history func arg p s span time node before after true n h = inside_same keeps history func arg s span time node (take n (numbers_chosen history s)) before after h node
 own_some keeps history func arg p s span time node before after false n h = (n, own_rows keeps history func arg s span time node (take n (numbers_chosen history s)) before after h)
@@ -125,23 +125,23 @@ module _ (inside : Bool) (history : List Entry) (func : RangeFn) (arg : Option N
 
   module _ (keeps : Bool) (step : ℕ) (before after : KeptOfRanges) (F : Type 0) (r0 r1 : ℕ) where
     abbrev These : List ℕ → Type 0
-    These numbers = AreAskedOf history keeps node (ask_at func arg s span time inside) numbers before.last after.last before.passed after.passed
+    These numbers = AreAsked history keeps node (ask_at func arg s span time inside) numbers before.last after.last before.passed after.passed
 
-    all_asked : These (numbers_chosen history s) → AreAsked keeps history true (asks_in inside history func (range p s span) time) node before after
+    all_asked : These (numbers_chosen history s) → AreAllAsked keeps history true (asks_in inside history func (range p s span) time) node before after
     all_asked h = record {
       others = λ k apart. others_same keeps history func arg s span time node (numbers_chosen history s) before after inside h k (apart_from node k apart);
       own = one_each (IsAsked keeps history true before after) node (cond inside None (Some (sought history func (moment_of s time -ℤ pos span) (moment_of s time) (chosen_by s history)))) (own_all keeps history func arg p s span time node before after inside h);
     }
 
-    some_asked : (n : ℕ) → These (take n (numbers_chosen history s)) → AreAsked keeps history false (asks_in inside history func (range p s span) time) node before after
+    some_asked : (n : ℕ) → These (take n (numbers_chosen history s)) → AreAllAsked keeps history false (asks_in inside history func (range p s span) time) node before after
     some_asked n h = record {
       others = λ k apart. others_same keeps history func arg s span time node (take n (numbers_chosen history s)) before after inside h k (apart_from node k apart);
       own = one_each (IsAsked keeps history false before after) node (cond inside None (Some (sought history func (moment_of s time -ℤ pos span) (moment_of s time) (chosen_by s history)))) (own_some keeps history func arg p s span time node before after inside n h);
     }
 
-    pub range_taken : {A : Type 0} (res : Result A EvalError) → r1 ≤ r0 + asks_cost history (ask_at func arg s span time inside) (passed_of history before.passed node) (chosen_by s history) → (res ≢ Err error.Memory → F)
+    pub range_taken : {A : Type 0} (res : Result A EvalError) → r1 ≤ r0 + asks_cost history (ask_at func arg s span time inside) (passed_by history before.passed node) (chosen_by s history) → (res ≢ Err error.Memory → F)
         → OnOk res (These (numbers_chosen history s)) → (res ≢ Err error.Memory → (n : ℕ) × These (take n (numbers_chosen history s)))
-        → IsTaken keeps inside step history func (range p s span) time node before after F r0 r1 res
+        → IsEvaluated keeps inside step history func (range p s span) time node before after F r0 r1 res
     range_taken (Ok x) few fits asked until = record { few = few; fits = fits; asked = λ other. all_asked asked }
     range_taken (Err e) few fits asked until = record { few = few; fits = fits; asked = λ other. some_asked (until other).0 (until other).1 }
 
@@ -154,10 +154,10 @@ module _ (inside : Bool) (history : List Entry) (func : RangeFn) (arg : Option N
   range_answers step next res h = subst (λ (u : Tree). AnswersTo (go_on next (ranges step history u time)) res) (sym is) h
 
   pub range_takes : {A : Type 0} (keeps : Bool) (step : ℕ) (before after : KeptOfRanges) (F : Type 0) (r0 r1 : ℕ) (res : Result A EvalError)
-      → r1 ≤ r0 + asks_cost history (ask_at func arg s span time inside) (passed_of history before.passed node) (chosen_by s history) → (res ≢ Err error.Memory → F)
-      → OnOk res (AreAskedOf history keeps node (ask_at func arg s span time inside) (numbers_chosen history s) before.last after.last before.passed after.passed)
-      → (res ≢ Err error.Memory → (n : ℕ) × AreAskedOf history keeps node (ask_at func arg s span time inside) (take n (numbers_chosen history s)) before.last after.last before.passed after.passed)
-      → IsTaken keeps inside step history func t time node before after F r0 r1 res
+      → r1 ≤ r0 + asks_cost history (ask_at func arg s span time inside) (passed_by history before.passed node) (chosen_by s history) → (res ≢ Err error.Memory → F)
+      → OnOk res (AreAsked history keeps node (ask_at func arg s span time inside) (numbers_chosen history s) before.last after.last before.passed after.passed)
+      → (res ≢ Err error.Memory → (n : ℕ) × AreAsked history keeps node (ask_at func arg s span time inside) (take n (numbers_chosen history s)) before.last after.last before.passed after.passed)
+      → IsEvaluated keeps inside step history func t time node before after F r0 r1 res
   range_takes keeps step before after F r0 r1 res few fits asked until =
-      subst (λ (u : Tree). IsTaken keeps inside step history func u time node before after F r0 r1 res) (sym is)
+      subst (λ (u : Tree). IsEvaluated keeps inside step history func u time node before after F r0 r1 res) (sym is)
       (range_taken inside history func arg p s span time node keeps step before after F r0 r1 res few fits asked until)

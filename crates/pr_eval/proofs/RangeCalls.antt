@@ -12,18 +12,18 @@ use Rattle.pr_query.specs.declared.fault.Fault.{Fault}
 use Rattle.pr_query.specs.declared.value.Value.{Value}
 use Rattle.pr_query.specs.declared.value.Value.TheVariants.{Vector}
 use Rattle.pr_query.specs.Answers.{go_on}
-use Rattle.pr_query.specs.Calls.{called}
+use Rattle.pr_query.specs.Calls.{value_of_call}
 use Rattle.pr_query.specs.Given.{Given, Ranged}
 use Rattle.pr_query.specs.Meaning.{given, meaning, operands, ranges}
 use Rattle.pr_range.specs.Asks.{takes_argument}
-use Rattle.pr_eval.specs.Asking.{asked_for}
+use Rattle.pr_eval.specs.Asking.{asked_for, takes_range}
 use Rattle.pr_eval.specs.Parts.{IsValued}
 use Rattle.pr_values.specs.declared.error.EvalError.{EvalError}
 use Rattle.pr_values.specs.declared.error.EvalError.TheVariants as error
 use Rattle.pr_values.specs.Answers.{AnswersTo}
 use Rattle.pr_range_calls.specs.Taken.{ranged_of}
 use Rattle.pr_eval.specs.declared.subquery.SubquerySeries.{SubquerySeries}
-use Rattle.pr_eval.specs.Ranged.{AreSeries, HasArgument, call_in, made_of, prediction_by, quantile_by, takes_range, use_alone}
+use Rattle.pr_eval.specs.Ranged.{AreSeries, HasItsArgument, call_in, made_of, prediction_by, quantile_by, use_alone}
 use Rattle.pr_eval.proofs.Answering.{ends}
 use Rattle.pr_eval.proofs.Operands.{chained, one_more}
 
@@ -48,7 +48,7 @@ range_behind step history ts t time h = λ i. go_on (λ gs. go_on (λ r. go_on (
 
 -- a function of a range alone
 made_alone : (history : List Entry) (p : Place) (f : Func) (ts : Tree) (time : ℕ) (r : Option Ranged) → takes_range f ≡ true → takes_argument (asked_for f) ≡ false
-    → called history p f ts time (given r (Vector []) ∷ []) ≡ made_of (use_alone p f ts) r
+    → value_of_call history p f ts time (given r (Vector []) ∷ []) ≡ made_of (use_alone p f ts) r
 made_alone history p fn.AbsentOverTime ts time None h k = refl
 made_alone history p fn.AbsentOverTime ts time (Some r) h k = refl
 made_alone history p fn.Rate ts time r h k = refl
@@ -89,7 +89,7 @@ use_func p fn.PresentOverTime ts h = refl
 use_func p fn.QuantileOverTime ts h = refl
 use_func p _ ts h = absurd cc
 
-pub use_argument : (p : Place) (f : Func) (ts : Tree) → takes_range f ≡ true → takes_argument (asked_for f) ≡ false → HasArgument (use_alone p f ts)
+pub use_argument : (p : Place) (f : Func) (ts : Tree) → takes_range f ≡ true → takes_argument (asked_for f) ≡ false → HasItsArgument (use_alone p f ts)
 use_argument p fn.AbsentOverTime ts h k = refl
 use_argument p fn.Rate ts h k = refl
 use_argument p fn.Increase ts h k = refl
@@ -109,20 +109,20 @@ use_argument p fn.PresentOverTime ts h k = refl
 use_argument p _ ts h k = absurd cc
 
 pub call_alone : (step : ℕ) (history : List Entry) (p : Place) (f : Func) (t : Tree) (time : ℕ) → takes_range f ≡ true → takes_argument (asked_for f) ≡ false → typed t ≡ Ok Range
-    → go_on (called history p f (more none t) time) (operands step history (more none t) time) ≡ go_on (made_of (use_alone p f (more none t))) (ranges step history t time)
+    → go_on (value_of_call history p f (more none t) time) (operands step history (more none t) time) ≡ go_on (made_of (use_alone p f (more none t))) (ranges step history t time)
 call_alone step history p f t time h k is =
-    ap (go_on (called history p f (more none t) time)) (range_behind step history none t time is)
-    ∙ chained (λ r. Ok (given r (Vector []) ∷ [])) (called history p f (more none t) time) (ranges step history t time)
+    ap (go_on (value_of_call history p f (more none t) time)) (range_behind step history none t time is)
+    ∙ chained (λ r. Ok (given r (Vector []) ∷ [])) (value_of_call history p f (more none t) time) (ranges step history t time)
     ∙ (λ i. go_on (λ r. made_alone history p f (more none t) time r h k i) (ranges step history t time))
 
 -- a scalar before a range
 pub call_behind : (step : ℕ) (history : List Entry) (p : Place) (l t : Tree) (time : ℕ) → IsValued l → typed t ≡ Ok Range
-    → go_on (called history p fn.QuantileOverTime (more (more none l) t) time) (operands step history (more (more none l) t) time) ≡ go_on (λ v. go_on (made_of (quantile_by p v)) (ranges step history t time)) (meaning step history l time)
+    → go_on (value_of_call history p fn.QuantileOverTime (more (more none l) t) time) (operands step history (more (more none l) t) time) ≡ go_on (λ v. go_on (made_of (quantile_by p v)) (ranges step history t time)) (meaning step history l time)
 call_behind step history p l t time valued is =
     ap (go_on next) (range_behind step history (more none l) t time is ∙ ap (go_on (λ gs. go_on (λ r. Ok (gs ++ given r (Vector []) ∷ [])) (ranges step history t time))) (one_more step history none l time valued))
     ∙ by (meaning step history l time) (ranges step history t time) where
       next : List Given → Result Value Fault
-      next = called history p fn.QuantileOverTime (more (more none l) t) time
+      next = value_of_call history p fn.QuantileOverTime (more (more none l) t) time
 
       by : (a : Result Value Fault) (b : Result (Option Ranged) Fault)
           → go_on next (go_on (λ gs. go_on (λ r. Ok (gs ++ given r (Vector []) ∷ [])) b) (go_on (λ gs. go_on (λ v. Ok (gs ++ given None v ∷ [])) a) (Ok []))) ≡ go_on (λ v. go_on (made_of (quantile_by p v)) b) a
@@ -132,12 +132,12 @@ call_behind step history p l t time valued is =
 
 -- a scalar behind a range
 pub call_before : (step : ℕ) (history : List Entry) (p : Place) (t r : Tree) (time : ℕ) → typed t ≡ Ok Range → IsValued r
-    → go_on (called history p fn.PredictLinear (more (more none t) r) time) (operands step history (more (more none t) r) time) ≡ go_on (λ s. go_on (λ v. made_of (prediction_by p v) s) (meaning step history r time)) (ranges step history t time)
+    → go_on (value_of_call history p fn.PredictLinear (more (more none t) r) time) (operands step history (more (more none t) r) time) ≡ go_on (λ s. go_on (λ v. made_of (prediction_by p v) s) (meaning step history r time)) (ranges step history t time)
 call_before step history p t r time is valued =
     ap (go_on next) (one_more step history (more none t) r time valued ∙ ap (go_on (λ gs. go_on (λ v. Ok (gs ++ given None v ∷ [])) (meaning step history r time))) (range_behind step history none t time is))
     ∙ by (ranges step history t time) (meaning step history r time) where
       next : List Given → Result Value Fault
-      next = called history p fn.PredictLinear (more (more none t) r) time
+      next = value_of_call history p fn.PredictLinear (more (more none t) r) time
 
       by : (a : Result (Option Ranged) Fault) (b : Result Value Fault)
           → go_on next (go_on (λ gs. go_on (λ v. Ok (gs ++ given None v ∷ [])) b) (go_on (λ gs. go_on (λ s. Ok (gs ++ given s (Vector []) ∷ [])) a) (Ok []))) ≡ go_on (λ s. go_on (λ v. made_of (prediction_by p v) s) b) a

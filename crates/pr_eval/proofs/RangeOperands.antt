@@ -13,9 +13,8 @@ use Rattle.pr_types.specs.Parts.{AreArguments, arguments}
 use Rattle.pr_types.specs.Typed.{typed}
 use Rattle.pr_types.proofs.Parts.{parts_of_call}
 use Rattle.pr_range.specs.Asks.{takes_argument}
-use Rattle.pr_eval.specs.Asking.{asked_for}
+use Rattle.pr_eval.specs.Asking.{asked_for, takes_range}
 use Rattle.pr_eval.specs.Parts.{IsValued}
-use Rattle.pr_eval.specs.Ranged.{takes_range}
 use Rattle.pr_eval.proofs.Operands.{argument_at, arguments_are}
 
 pub alone_argument : (f : Func) → takes_range f ≡ true → f ≢ fn.QuantileOverTime → f ≢ fn.PredictLinear → takes_argument (asked_for f) ≡ false

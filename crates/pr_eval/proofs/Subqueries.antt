@@ -30,11 +30,11 @@ use Rattle.pr_range_calls.specs.Times.{AreTimesWithin}
 use Rattle.pr_values.specs.declared.error.EvalError.{EvalError}
 use Rattle.pr_values.specs.declared.error.EvalError.TheVariants as error
 use Rattle.pr_eval.specs.Each.{EachAt}
-use Rattle.pr_eval.specs.Evaluated.{IsTaken, KeptOfRanges, MayTake}
+use Rattle.pr_eval.specs.Evaluated.{IsEvaluated, KeptOfRanges, MayTake}
 use Rattle.pr_eval.specs.Looks.{KeepsFor}
-use Rattle.pr_eval.specs.Parts.{IsPart, counts_after}
+use Rattle.pr_eval.specs.Parts.{IsPartAt, counts_after}
 use Rattle.pr_eval.specs.Ranged.{AreSeries}
-use Rattle.pr_eval.specs.Subqueries.{AreGathered, MayTakeEach, TakesInside, range_of}
+use Rattle.pr_eval.specs.Subqueries.{AreSeriesGathered, MayTakeEach, TakesInside, range_of}
 use Rattle.pr_eval.proofs.EachTime.{time_after, times_taken}
 use Rattle.pr_eval.proofs.Inside.{outside_taken, same_all}
 use Rattle.pr_eval.proofs.Taking.{recast}
@@ -51,12 +51,12 @@ some_step step zero h is = absurd (no_step (subst (λ o. is_step o ≡ true) is 
 some_step step (suc n) h is = omega arith
 
 module _ (e : Tree) (p : Place) (t : Tree) (span : ℕ) (step : Option ℕ) (offset : ℕ) (is : e ≡ sub p t span step offset) where
-  pub inner_part : (whole : Tree) (n : Counts) → IsPart whole n e → IsPart whole n t
-  inner_part whole n h = by (subst (IsPart whole n) is h) where
-    by : IsPart whole n (sub p t span step offset) → IsPart whole n t
+  pub inner_part : (whole : Tree) (n : Counts) → IsPartAt whole n e → IsPartAt whole n t
+  inner_part whole n h = by (subst (IsPartAt whole n) is h) where
+    by : IsPartAt whole n (sub p t span step offset) → IsPartAt whole n t
     by k = record { selectors = k.selectors; ranges = k.ranges; patterns = k.patterns; steps = (both (is_step step) (has_steps t) k.steps).1 }
 
-  pub step_given : (whole : Tree) (n : Counts) → IsPart whole n e → is_step step ≡ true
+  pub step_given : (whole : Tree) (n : Counts) → IsPartAt whole n e → is_step step ≡ true
   step_given whole n h = let steps : (is_step step && has_steps t) ≡ true = sym (ap has_steps is) ∙ h.steps in (both (is_step step) (has_steps t) steps).0
 
   pub counts_of_sub : (n m : Counts) → m ≡ counts_after n t → m ≡ counts_after n e
@@ -111,7 +111,7 @@ module _ (e : Tree) (p : Place) (t : Tree) (span : ℕ) (step : Option ℕ) (off
 
     -- what was gathered at all times is what is meant
     pub series_given : (r : SubqueryRange) (times : List ℕ) (series : BTreeMap (List Pair) (List Spot)) → r ≡ range_of p span offset time → times ≡ own_times → length times ≤ longest → AreTimesWithin r.from r.to times
-        → AreGathered (at_each (meaning default history t) times) (Ok series) → AreSeries (ranges default history e time) (Ok (record { range = r; series = series }))
+        → AreSeriesGathered (at_each (meaning default history t) times) (Ok series) → AreSeries (ranges default history e time) (Ok (record { range = r; series = series }))
     series_given r times series ranged same few within h = (
       h.0,
       (
@@ -123,7 +123,7 @@ module _ (e : Tree) (p : Place) (t : Tree) (span : ℕ) (step : Option ℕ) (off
       ),
     )
 
-    pub fault_given : (times : List ℕ) (f : EvalError) → times ≡ own_times → length times ≤ longest → AreGathered (at_each (meaning default history t) times) (Err f) → AreSeries (ranges default history e time) (Err f)
+    pub fault_given : (times : List ℕ) (f : EvalError) → times ≡ own_times → length times ≤ longest → AreSeriesGathered (at_each (meaning default history t) times) (Err f) → AreSeries (ranges default history e time) (Err f)
     fault_given times (error.Fault q k) same few h = few_times times same few ∙ ap (λ m. go_on (λ r. Ok (Some r)) (go_on (λ ts. Ok (ranged_of (range_of p span offset time) ts)) m)) h
     fault_given times error.Memory same few h = tt
 
@@ -133,18 +133,18 @@ module _ (e : Tree) (p : Place) (t : Tree) (span : ℕ) (step : Option ℕ) (off
 
     module _ {A : Type 0} (keeps inside : Bool) (func : RangeFn) (n : ℕ) where
       as_sub : (a b : KeptOfRanges) (F : Type 0) (r0 r1 : ℕ) (res : Result A EvalError) → TakesInside (cost_at_each (cost default history nothing_passed t n) own_times) a b F r0 r1 res
-          → IsTaken keeps inside default history func e time n a b F r0 r1 res
+          → IsEvaluated keeps inside default history func e time n a b F r0 r1 res
       as_sub a b F r0 r1 res h =
-          let of_sub : IsTaken keeps inside default history func (sub p t span step offset) time n a b F r0 r1 res =
+          let of_sub : IsEvaluated keeps inside default history func (sub p t span step offset) time n a b F r0 r1 res =
           outside_taken keeps history func t time n (cost_at_each (cost default history nothing_passed t n) own_times) a b F r0 r1 res h in
-          subst (λ u. IsTaken keeps inside default history func u time n a b F r0 r1 res) (sym is) of_sub
+          subst (λ u. IsEvaluated keeps inside default history func u time n a b F r0 r1 res) (sym is) of_sub
 
       pub each_taken : (a b : KeptOfRanges) (F : Type 0) (r0 r1 : ℕ) (res : Result A EvalError) (times : List ℕ) → times ≡ own_times → length times ≤ longest
-          → TakesInside (sum_by (cost default history nothing_passed t n) times) a b F r0 r1 res → IsTaken keeps inside default history func e time n a b F r0 r1 res
+          → TakesInside (sum_by (cost default history nothing_passed t n) times) a b F r0 r1 res → IsEvaluated keeps inside default history func e time n a b F r0 r1 res
       each_taken a b F r0 r1 res times same few h = as_sub a b F r0 r1 res (subst (λ most. TakesInside most a b F r0 r1 res) (costs n times same few) h)
 
       -- where nothing was evaluated
-      pub none_taken : (a : KeptOfRanges) (F : Type 0) (r0 : ℕ) (res : Result A EvalError) → F → IsTaken keeps inside default history func e time n a a F r0 r0 res
+      pub none_taken : (a : KeptOfRanges) (F : Type 0) (r0 : ℕ) (res : Result A EvalError) → F → IsEvaluated keeps inside default history func e time n a a F r0 r0 res
       none_taken a F r0 res fits = as_sub a a F r0 r0 res (record { few = omega arith; fits = λ other. fits; same = λ other. same_all a })
 
 -- what was taken, where the answer is another
@@ -174,7 +174,7 @@ module _ {A : Type 0} (all own : List A) (from : ℕ) (within : EachAt (λ k x. 
         let last = slice_get_within all (from + length xs) (get_or (x ∷ xs) (length xs) x) (h (length xs) (get_or (x ∷ xs) (length xs) x) (slice_get-get_or (x ∷ xs) (length xs) x at)) in
         omega (arith, last, few)
 
-module _ (whole t : Tree) (at : Counts) (part : IsPart whole at t) (few : length (tests_in whole) < 2 ^ 64) (few_patterns : length (patterns_in whole) < 2 ^ 64) where
+module _ (whole t : Tree) (at : Counts) (part : IsPartAt whole at t) (few : length (tests_in whole) < 2 ^ 64) (few_patterns : length (patterns_in whole) < 2 ^ 64) where
   pub exact_own : counts_in t ≡ exact_counts t
   exact_own = counts_exact t (few_own (tests_in whole) (tests_in t) at.selectors part.selectors few) (few_own (patterns_in whole) (patterns_in t) at.patterns part.patterns few_patterns)
 

@@ -38,10 +38,9 @@ use Rattle.pr_types.proofs.CountLemmas.{ranges_are_selectors}
 use Rattle.pr_vectors.specs.declared.range.RangeFn.{RangeFn}
 use Rattle.pr_query.specs.Cost.{cost}
 use Rattle.pr_query.specs.Selection.{moment_of}
-use Rattle.pr_eval.specs.Asking.{asked_for}
+use Rattle.pr_eval.specs.Asking.{asked_for, takes_range}
 use Rattle.pr_eval.specs.Looks.{KeepsAt, KeepsFor}
-use Rattle.pr_eval.specs.Parts.{AreTwo, IsValued, IsOne, IsPart, PatternsAt, StandAt, counts_after, with_patterns}
-use Rattle.pr_eval.specs.Ranged.{takes_range}
+use Rattle.pr_eval.specs.Parts.{AreTwo, IsValued, IsOne, IsPartAt, PatternsAt, StandAt, counts_after, with_patterns}
 use Rattle.pr_eval.proofs.Each.{first_of_one, front_each, rest_each}
 use Rattle.pr_eval.proofs.Moments.{past_selector}
 
@@ -155,7 +154,7 @@ more_of t ts u is = subst (λ v. AreTwo v ts u) (sym is) (record {
 -- where their selectors, ranges and patterns stand
 
 module _ (whole : Tree) (n : Counts) where
-  pub one_part : (t u : Tree) (own : List (List ℕ)) (f : RangeFn → RangeFn) → IsOne t u own f → IsPart whole n t → IsPart whole n u
+  pub one_part : (t u : Tree) (own : List (List ℕ)) (f : RangeFn → RangeFn) → IsOne t u own f → IsPartAt whole n t → IsPartAt whole n u
   one_part t u own f one h = record {
     selectors = subst (StandAt (tests_in whole) n.selectors) one.selectors h.selectors;
     ranges = (let same : ranges_in t ≡ ranges_in u = one.ranges in let within : n.ranges + ranges_in t ≤ ranges_in whole = h.ranges in omega (arith, same, within));
@@ -163,7 +162,7 @@ module _ (whole : Tree) (n : Counts) where
     steps = sym one.steps ∙ h.steps;
   }
 
-  pub first_part : (t l r : Tree) → AreTwo t l r → IsPart whole n t → IsPart whole n l
+  pub first_part : (t l r : Tree) → AreTwo t l r → IsPartAt whole n t → IsPartAt whole n l
   first_part t l r two h = record {
     selectors = front_each (λ k x. slice_get (tests_in whole) k ≡ Some x) n.selectors (tests_in l) (tests_in r) (subst (StandAt (tests_in whole) n.selectors) two.selectors h.selectors);
     ranges = (let same : ranges_in t ≡ ranges_in l + ranges_in r = two.ranges in let within : n.ranges + ranges_in t ≤ ranges_in whole = h.ranges in omega (arith, same, within));
@@ -171,7 +170,7 @@ module _ (whole : Tree) (n : Counts) where
     steps = (both (has_steps l) (has_steps r) (sym two.steps ∙ h.steps)).0;
   }
 
-  second_here : (t l r : Tree) → AreTwo t l r → IsPart whole n t → IsPart whole (counts_after n l) r
+  second_here : (t l r : Tree) → AreTwo t l r → IsPartAt whole n t → IsPartAt whole (counts_after n l) r
   second_here t l r two h = record {
     selectors = rest_each (λ k x. slice_get (tests_in whole) k ≡ Some x) n.selectors (n.selectors + length (tests_in l)) (tests_in l) (tests_in r) refl (subst (StandAt (tests_in whole) n.selectors) two.selectors h.selectors);
     ranges = (let same : ranges_in t ≡ ranges_in l + ranges_in r = two.ranges in let within : n.ranges + ranges_in t ≤ ranges_in whole = h.ranges in omega (arith, same, within));
@@ -179,8 +178,8 @@ module _ (whole : Tree) (n : Counts) where
     steps = (both (has_steps l) (has_steps r) (sym two.steps ∙ h.steps)).1;
   }
 
-  pub second_part : (m : Counts) (t l r : Tree) → AreTwo t l r → m ≡ counts_after n l → IsPart whole n t → IsPart whole m r
-  second_part m t l r two is h = subst (λ k. IsPart whole k r) (sym is) (second_here t l r two h)
+  pub second_part : (m : Counts) (t l r : Tree) → AreTwo t l r → m ≡ counts_after n l → IsPartAt whole n t → IsPartAt whole m r
+  second_part m t l r two is h = subst (λ k. IsPartAt whole k r) (sym is) (second_here t l r two h)
 
 -- the numbers behind them
 abbrev pub counts : ℕ → ℕ → ℕ → Counts
@@ -253,7 +252,7 @@ pub tests_of_range : (t : Tree) (p : Place) (s : Selector) (d : ℕ) → t ≡ r
 tests_of_range t p s d is = ap tests_in is
 
 -- there are no more range selectors than selectors
-pub range_within : (whole t : Tree) (n : Counts) (p : Place) (s : Selector) (d : ℕ) → t ≡ range p s d → IsPart whole n t → n.ranges < length (tests_in whole)
+pub range_within : (whole t : Tree) (n : Counts) (p : Place) (s : Selector) (d : ℕ) → t ≡ range p s d → IsPartAt whole n t → n.ranges < length (tests_in whole)
 range_within whole t n p s d is h =
     let one : ranges_in t ≡ 1 = ap ranges_in is in
     let within : n.ranges + ranges_in t ≤ ranges_in whole = h.ranges in

@@ -1,36 +1,45 @@
 -- What an expression asks of ranges.
-use Rattle.std.specs.Prelude.{ℕ, ℤ, pos, ◌-ℤ◌, Bool, true, cond, List, [], ◌∷◌, ◌++◌, map, Option, Some, None}
+use Rattle.std.specs.Prelude.{ℕ, ℤ, pos, ◌-ℤ◌, Bool, true, cond, List, [], ◌∷◌, ◌++◌, map, Option, Some, None, is_some, unwrap_or}
 use Rattle.pr_labels.specs.declared.pair.Pair.{Pair}
 use Rattle.pr_history.specs.declared.entry.Entry.{Entry}
 use Rattle.pr_ast.specs.declared.names.Func.{Func}
-use Rattle.pr_ast.specs.declared.names.Func.TheVariants.{Rate, Increase, Delta, Irate, Idelta, Deriv, PredictLinear, Changes, Resets, SumOverTime, AvgOverTime, MinOverTime, MaxOverTime, CountOverTime, LastOverTime, PresentOverTime, QuantileOverTime}
+use Rattle.pr_ast.specs.declared.names.Func.TheVariants.{AbsentOverTime, Rate, Increase, Delta, Irate, Idelta, Deriv, PredictLinear, Changes, Resets, SumOverTime, AvgOverTime, MinOverTime, MaxOverTime, CountOverTime, LastOverTime, PresentOverTime, QuantileOverTime}
 use Rattle.pr_ast.specs.Tree.{Tree, number, text, select, range, sub, neg, binary, call, aggregate, none, more}
 use Rattle.pr_vectors.specs.declared.range.RangeFn.{RangeFn}
-use Rattle.pr_vectors.specs.declared.range.RangeFn.TheVariants as range_fn
+use Rattle.pr_vectors.specs.declared.range.RangeFn.TheVariants as asked
 use Rattle.pr_query.specs.Selection.{chosen_by, moment_of}
 use Rattle.pr_range.specs.Asks.{LastAsk}
-use Rattle.pr_range_calls.specs.Asking.{number_of}
+use Rattle.pr_range_calls.specs.Asking.{series_number}
 
--- the function that a call asks ranges for; `absent_over_time` asks whether there is a value
+-- The function that a call asks ranges for, where it takes one; `absent_over_time` asks whether
+-- there is a value.
+abbrev pub range_fn : Func → Option RangeFn
+range_fn AbsentOverTime = Some asked.PresentOverTime
+range_fn Rate = Some asked.Rate
+range_fn Increase = Some asked.Increase
+range_fn Delta = Some asked.Delta
+range_fn Irate = Some asked.Irate
+range_fn Idelta = Some asked.Idelta
+range_fn Deriv = Some asked.Deriv
+range_fn PredictLinear = Some asked.PredictLinear
+range_fn Changes = Some asked.Changes
+range_fn Resets = Some asked.Resets
+range_fn SumOverTime = Some asked.SumOverTime
+range_fn AvgOverTime = Some asked.AvgOverTime
+range_fn MinOverTime = Some asked.MinOverTime
+range_fn MaxOverTime = Some asked.MaxOverTime
+range_fn CountOverTime = Some asked.CountOverTime
+range_fn LastOverTime = Some asked.LastOverTime
+range_fn PresentOverTime = Some asked.PresentOverTime
+range_fn QuantileOverTime = Some asked.QuantileOverTime
+range_fn _ = None
+
+abbrev pub takes_range : Func → Bool
+takes_range f = is_some (range_fn f)
+
+-- the same of any call, in which a range that stands in no call of its own would be asked
 abbrev pub asked_for : Func → RangeFn
-asked_for Rate = range_fn.Rate
-asked_for Increase = range_fn.Increase
-asked_for Delta = range_fn.Delta
-asked_for Irate = range_fn.Irate
-asked_for Idelta = range_fn.Idelta
-asked_for Deriv = range_fn.Deriv
-asked_for PredictLinear = range_fn.PredictLinear
-asked_for Changes = range_fn.Changes
-asked_for Resets = range_fn.Resets
-asked_for SumOverTime = range_fn.SumOverTime
-asked_for AvgOverTime = range_fn.AvgOverTime
-asked_for MinOverTime = range_fn.MinOverTime
-asked_for MaxOverTime = range_fn.MaxOverTime
-asked_for CountOverTime = range_fn.CountOverTime
-asked_for LastOverTime = range_fn.LastOverTime
-asked_for PresentOverTime = range_fn.PresentOverTime
-asked_for QuantileOverTime = range_fn.QuantileOverTime
-asked_for _ = range_fn.PresentOverTime
+asked_for f = unwrap_or (range_fn f) asked.PresentOverTime
 
 -- what is asked for a range selector: a function over a range, of the series with these numbers
 pub record Sought : Type 0 where
@@ -38,7 +47,7 @@ pub record Sought : Type 0 where
   pub numbers : List ℕ
 
 abbrev pub sought : List Entry → RangeFn → ℤ → ℤ → List (List Pair) → Sought
-sought history func from to sets = record { ask = record { func = func; from = from; to = to }; numbers = map (number_of history) sets }
+sought history func from to sets = record { ask = record { func = func; from = from; to = to }; numbers = map (series_number history) sets }
 
 -- What is asked at a time for each range selector of a tree, in the order of their numbers; nothing
 -- that stays for one inside a subquery. A range selector is asked for the function that it is an

@@ -27,7 +27,7 @@ PatternsAt all from own = EachAt (λ k pattern. slice_get all k ≡ Some pattern
 
 -- A part of an expression: the selectors, range selectors and patterns of the part are those of the
 -- whole from these numbers on, and no step in it is 0.
-pub record IsPart (whole : Tree) (at : Counts) (t : Tree) : Type 0 where
+pub record IsPartAt (whole : Tree) (at : Counts) (t : Tree) : Type 0 where
   pub selectors : StandAt (tests_in whole) at.selectors (tests_in t)
   pub ranges : at.ranges + ranges_in t ≤ ranges_in whole
   pub patterns : PatternsAt (patterns_in whole) at.patterns (patterns_in t)

@@ -1,10 +1,10 @@
 -- Calls of functions of ranges.
-use Rattle.std.specs.Prelude.{◌≡◌, Bool, true, false, is_some, List, [], map, Option, Some, None, unwrap_or, Result, Ok, Err}
+use Rattle.std.specs.Prelude.{◌≡◌, false, is_some, List, [], map, Option, Some, None, unwrap_or, Result, Ok, Err}
 use Rattle.pr_num.specs.declared.value.Num.{Num}
 use Rattle.pr_num.specs.declared.value.Num.TheVariants.{NaN}
 use Rattle.pr_ast.specs.declared.place.Place.{Place}
 use Rattle.pr_ast.specs.declared.names.Func.{Func}
-use Rattle.pr_ast.specs.declared.names.Func.TheVariants.{AbsentOverTime, Rate, Increase, Delta, Irate, Idelta, Deriv, PredictLinear, Changes, Resets, SumOverTime, AvgOverTime, MinOverTime, MaxOverTime, CountOverTime, LastOverTime, PresentOverTime, QuantileOverTime}
+use Rattle.pr_ast.specs.declared.names.Func.TheVariants.{AbsentOverTime, PredictLinear, QuantileOverTime}
 use Rattle.pr_ast.specs.Tree.{Tree, none, more, tree_of}
 use Rattle.pr_types.specs.declared.kind.ValueType.TheVariants.{Range, Scalar}
 use Rattle.pr_types.specs.Typed.{typed}
@@ -15,7 +15,7 @@ use Rattle.pr_query.specs.declared.value.Value.TheVariants.{Vector}
 use Rattle.pr_query.specs.Absence.{absent_of, labels_of_argument}
 use Rattle.pr_query.specs.Answers.{fault, go_on}
 use Rattle.pr_query.specs.Calls.{vector_at}
-use Rattle.pr_query.specs.Given.{Ranged, number_in}
+use Rattle.pr_query.specs.Given.{Ranged, scalar_in}
 use Rattle.pr_query.specs.RangeCalls.{answers_over, over_given, question}
 use Rattle.pr_query.specs.Subqueries.{Taken}
 use Rattle.pr_range.specs.Asks.{takes_argument}
@@ -31,28 +31,6 @@ use Rattle.pr_eval.specs.declared.range_call.RangeOperands.{RangeOperands}
 use Rattle.pr_eval.specs.declared.range_call.RangeOperands.TheVariants.{Alone, Behind, Before}
 use Rattle.pr_eval.specs.declared.subquery.SubquerySeries.{SubquerySeries}
 use Rattle.pr_eval.specs.Asking.{asked_for}
-
--- the functions of ranges
-abbrev pub takes_range : Func → Bool
-takes_range AbsentOverTime = true
-takes_range Rate = true
-takes_range Increase = true
-takes_range Delta = true
-takes_range Irate = true
-takes_range Idelta = true
-takes_range Deriv = true
-takes_range PredictLinear = true
-takes_range Changes = true
-takes_range Resets = true
-takes_range SumOverTime = true
-takes_range AvgOverTime = true
-takes_range MinOverTime = true
-takes_range MaxOverTime = true
-takes_range CountOverTime = true
-takes_range LastOverTime = true
-takes_range PresentOverTime = true
-takes_range QuantileOverTime = true
-takes_range _ = false
 
 -- A range, alone or with a scalar beside it, as the arguments of a call.
 abbrev pub AreRangeOperands : Func → Tree → RangeOperands → Type 0
@@ -72,8 +50,8 @@ made_of (Absence place labels) None = Ok (Vector [])
 made_of (Absence place labels) (Some r) = go_on (λ items. vector_at (absent_of labels items)) (answers_over place r.place (question Present None r) r.series)
 
 -- a function and its argument have one another
-abbrev pub HasArgument : RangeUse → Type 0
-HasArgument u = is_some (call_in u).arg ≡ takes_argument (call_in u).func
+abbrev pub HasItsArgument : RangeUse → Type 0
+HasItsArgument u = is_some (call_in u).arg ≡ takes_argument (call_in u).func
 
 -- what a function of a range alone makes of it
 abbrev pub use_alone : Place → Func → Tree → RangeUse
@@ -82,7 +60,7 @@ use_alone place func ts = Answers (record { place = place; func = asked_for func
 
 -- a scalar as a number
 abbrev pub number_of_value : Value → Num
-number_of_value v = unwrap_or (number_in v) NaN
+number_of_value v = unwrap_or (scalar_in v) NaN
 
 -- what the two functions with a scalar beside the range make of it
 abbrev pub quantile_by : Place → Value → RangeUse

@@ -42,7 +42,7 @@ pub record TakesInside {A : Type 0} (most : ℕ) (before after : KeptOfRanges) (
   pub same : result ≢ Err error.Memory → AreSame before after
 
 -- What was gathered are the elements of each time, or the first fault is meant.
-abbrev pub AreGathered : Result (List Taken) Fault → Result (BTreeMap (List Pair) (List Spot)) EvalError → Type 0
-AreGathered meant (Ok series) = (ts : List Taken) × ((meant ≡ Ok ts) × AreTaken ts series)
-AreGathered meant (Err (error.Fault p k)) = meant ≡ Err (fault p k)
-AreGathered meant (Err error.Memory) = Unit {0}
+abbrev pub AreSeriesGathered : Result (List Taken) Fault → Result (BTreeMap (List Pair) (List Spot)) EvalError → Type 0
+AreSeriesGathered meant (Ok series) = (ts : List Taken) × ((meant ≡ Ok ts) × AreTaken ts series)
+AreSeriesGathered meant (Err (error.Fault p k)) = meant ≡ Err (fault p k)
+AreSeriesGathered meant (Err error.Memory) = Unit {0}

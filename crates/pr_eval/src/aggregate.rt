@@ -10,8 +10,8 @@ ghost use Rattle.pr_query.specs.Answers.{IsAnswer};
 ghost use Rattle.pr_query.specs.Aggregations.{summed_up};
 ghost use Rattle.pr_query.specs.Meaning.{given, meaning};
 ghost use Rattle.pr_values.specs.Answers.{AnswersTo};
-ghost use Rattle.pr_eval.specs.Evaluated.{IsTaken, MayTake, kept_by};
-ghost use Rattle.pr_eval.specs.Parts.{IsPart, IsValued, counts_after};
+ghost use Rattle.pr_eval.specs.Evaluated.{IsEvaluated, MayTake, kept_by};
+ghost use Rattle.pr_eval.specs.Parts.{IsPartAt, IsValued, counts_after};
 
 use crate::evaluate::eval_at;
 use crate::parts::{is_aggregate, is_aggregate_by, stands_at};
@@ -97,7 +97,7 @@ pub(crate) fn aggregation<R: Ranges, G: Ledger>(
     reads: &mut Steps<G>,
 ) -> Result<Value, EvalError>
     requires tree { tree_of e.now ≡ aggregate e.now.place op by.now (more none (tree_of inner.now)) }
-    requires part { IsPart (tree_of scope.now.checked.now) number.old (tree_of e.now) }
+    requires part { IsPartAt (tree_of scope.now.checked.now) number.old (tree_of e.now) }
     requires valued { IsValued (tree_of e.now) }
     requires few { length (tests_in (tree_of scope.now.checked.now)) < 2 ^ 64 }
     requires few_patterns { length (patterns_in (tree_of scope.now.checked.now)) < 2 ^ 64 }
@@ -107,7 +107,7 @@ pub(crate) fn aggregation<R: Ranges, G: Ledger>(
     ensures answer { (history : List Entry) (func : RangeFn) → MayTake scope.now.head.now scope.now.inside history func (tree_of e.now) scope.now.time number.old.ranges (R.fits ranges.old history) (R.last ranges.old)
         → AnswersTo (meaning scope.now.step history (tree_of e.now) scope.now.time) result }
     ensures taken { (history : List Entry) (func : RangeFn) → MayTake scope.now.head.now scope.now.inside history func (tree_of e.now) scope.now.time number.old.ranges (R.fits ranges.old history) (R.last ranges.old)
-        → IsTaken R.keeps scope.now.inside scope.now.step history func (tree_of e.now) scope.now.time number.old.ranges (kept_by (R.last ranges.old) (R.passed ranges.old)) (kept_by (R.last ranges.new) (R.passed ranges.new))
+        → IsEvaluated R.keeps scope.now.inside scope.now.step history func (tree_of e.now) scope.now.time number.old.ranges (kept_by (R.last ranges.old) (R.passed ranges.old)) (kept_by (R.last ranges.new) (R.passed ranges.new))
         (R.fits ranges.new history) reads.old reads.new result }
 {
     is_aggregate(e, op, by, inner);
@@ -132,7 +132,7 @@ pub(crate) fn aggregation_by<R: Ranges, G: Ledger>(
     reads: &mut Steps<G>,
 ) -> Result<Value, EvalError>
     requires tree { tree_of e.now ≡ aggregate e.now.place op by.now (more (more none (tree_of param.now)) (tree_of inner.now)) }
-    requires part { IsPart (tree_of scope.now.checked.now) number.old (tree_of e.now) }
+    requires part { IsPartAt (tree_of scope.now.checked.now) number.old (tree_of e.now) }
     requires valued { IsValued (tree_of e.now) }
     requires few { length (tests_in (tree_of scope.now.checked.now)) < 2 ^ 64 }
     requires few_patterns { length (patterns_in (tree_of scope.now.checked.now)) < 2 ^ 64 }
@@ -142,7 +142,7 @@ pub(crate) fn aggregation_by<R: Ranges, G: Ledger>(
     ensures answer { (history : List Entry) (func : RangeFn) → MayTake scope.now.head.now scope.now.inside history func (tree_of e.now) scope.now.time number.old.ranges (R.fits ranges.old history) (R.last ranges.old)
         → AnswersTo (meaning scope.now.step history (tree_of e.now) scope.now.time) result }
     ensures taken { (history : List Entry) (func : RangeFn) → MayTake scope.now.head.now scope.now.inside history func (tree_of e.now) scope.now.time number.old.ranges (R.fits ranges.old history) (R.last ranges.old)
-        → IsTaken R.keeps scope.now.inside scope.now.step history func (tree_of e.now) scope.now.time number.old.ranges (kept_by (R.last ranges.old) (R.passed ranges.old)) (kept_by (R.last ranges.new) (R.passed ranges.new))
+        → IsEvaluated R.keeps scope.now.inside scope.now.step history func (tree_of e.now) scope.now.time number.old.ranges (kept_by (R.last ranges.old) (R.passed ranges.old)) (kept_by (R.last ranges.new) (R.passed ranges.new))
         (R.fits ranges.new history) reads.old reads.new result }
 {
     is_aggregate_by(e, op, by, param, inner);

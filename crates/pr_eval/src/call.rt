@@ -9,15 +9,15 @@ ghost use Rattle.pr_types.specs.Typed.{content_at};
 ghost use Rattle.pr_types.specs.Built.{own_patterns, patterns_in, tests_in};
 ghost use Rattle.pr_vectors.specs.declared.range.RangeFn.{RangeFn};
 ghost use Rattle.pr_query.specs.Answers.{IsAnswer};
-ghost use Rattle.pr_query.specs.Calls.{called};
+ghost use Rattle.pr_query.specs.Calls.{value_of_call};
 ghost use Rattle.pr_query.specs.Meaning.{meaning, operands};
 ghost use Rattle.pr_values.specs.Answers.{AnswersTo};
 ghost use Rattle.pr_values.specs.Calls.{is_plain_call};
 ghost use Rattle.pr_values.specs.Plain.{all_plain};
-ghost use Rattle.pr_eval.specs.Evaluated.{IsTaken, MayTake, kept_by};
+ghost use Rattle.pr_eval.specs.Asking.{takes_range};
+ghost use Rattle.pr_eval.specs.Evaluated.{IsEvaluated, MayTake, kept_by};
 ghost use Rattle.pr_eval.specs.Operands.{AreGiven};
-ghost use Rattle.pr_eval.specs.Parts.{IsPart, IsValued, counts_after, with_patterns};
-ghost use Rattle.pr_eval.specs.Ranged.{takes_range};
+ghost use Rattle.pr_eval.specs.Parts.{IsPartAt, IsValued, counts_after, with_patterns};
 
 use crate::aggregate::push_value;
 use crate::evaluate::eval_at;
@@ -31,7 +31,7 @@ use pr_query::Value;
 use pr_range::Ranges;
 use pr_time::Ms;
 use pr_types::{Checked, Counts};
-use pr_values::{EvalError, called};
+use pr_values::{EvalError, value_of_call};
 use pr_words::Steps;
 use std::alloc::Global;
 use std::sync::ledger::Ledger;
@@ -75,11 +75,11 @@ fn called_with(
     requires few { length (patterns_in (tree_of checked.now)) < 2 ^ 64 }
     requires pattern { func ≡ Func.LabelReplace → slice_get (patterns_in (tree_of checked.now)) number.old.patterns ≡ Some (content_at (trees_of args.now) 4) }
     ensures count { number.new ≡ with_patterns number.old (own_patterns func (trees_of args.now)) }
-    ensures answer { (history : List Entry) → AnswersTo (called history place func (trees_of args.now) time (all_plain given.now)) result }
+    ensures answer { (history : List Entry) → AnswersTo (value_of_call history place func (trees_of args.now) time (all_plain given.now)) result }
     ensures vector { IfOk result IsAnswer }
 {
     let pattern = own_pattern(checked, func, args, number);
-    called(alloc, place, func, args, pattern, time, given)
+    value_of_call(alloc, place, func, args, pattern, time, given)
 }
 
 // The values of the arguments of a call, in order.
@@ -93,7 +93,7 @@ fn operands<R: Ranges, G: Ledger>(
     given: &mut Vec<Value>,
 ) -> Result<(), EvalError>
     requires none { given.old.items ≡ [] }
-    requires part { IsPart (tree_of scope.now.checked.now) number.old (trees_of args.now) }
+    requires part { IsPartAt (tree_of scope.now.checked.now) number.old (trees_of args.now) }
     requires valued { (i : ℕ) (a : Expr) → slice_get args.now i ≡ Some a → IsValued (tree_of a) }
     requires few { length (tests_in (tree_of scope.now.checked.now)) < 2 ^ 64 }
     requires few_patterns { length (patterns_in (tree_of scope.now.checked.now)) < 2 ^ 64 }
@@ -102,7 +102,7 @@ fn operands<R: Ranges, G: Ledger>(
     ensures answer { (history : List Entry) (func : RangeFn) → MayTake scope.now.head.now scope.now.inside history func (trees_of args.now) scope.now.time number.old.ranges (R.fits ranges.old history) (R.last ranges.old)
         → AreGiven (operands scope.now.step history (trees_of args.now) scope.now.time) given.new.items result }
     ensures taken { (history : List Entry) (func : RangeFn) → MayTake scope.now.head.now scope.now.inside history func (trees_of args.now) scope.now.time number.old.ranges (R.fits ranges.old history) (R.last ranges.old)
-        → IsTaken R.keeps scope.now.inside scope.now.step history func (trees_of args.now) scope.now.time number.old.ranges (kept_by (R.last ranges.old) (R.passed ranges.old)) (kept_by (R.last ranges.new) (R.passed ranges.new))
+        → IsEvaluated R.keeps scope.now.inside scope.now.step history func (trees_of args.now) scope.now.time number.old.ranges (kept_by (R.last ranges.old) (R.passed ranges.old)) (kept_by (R.last ranges.new) (R.passed ranges.new))
         (R.fits ranges.new history) reads.old reads.new result }
 {
     for arg in args {
@@ -129,7 +129,7 @@ fn plain_call<R: Ranges, G: Ledger>(
 ) -> Result<Value, EvalError>
     requires tree { tree_of e.now ≡ call e.now.place func (trees_of args.now) }
     requires plain { is_plain_call func (trees_of args.now) ≡ true }
-    requires part { IsPart (tree_of scope.now.checked.now) number.old (tree_of e.now) }
+    requires part { IsPartAt (tree_of scope.now.checked.now) number.old (tree_of e.now) }
     requires valued { IsValued (tree_of e.now) }
     requires few { length (tests_in (tree_of scope.now.checked.now)) < 2 ^ 64 }
     requires few_patterns { length (patterns_in (tree_of scope.now.checked.now)) < 2 ^ 64 }
@@ -139,7 +139,7 @@ fn plain_call<R: Ranges, G: Ledger>(
     ensures answer { (history : List Entry) (func : RangeFn) → MayTake scope.now.head.now scope.now.inside history func (tree_of e.now) scope.now.time number.old.ranges (R.fits ranges.old history) (R.last ranges.old)
         → AnswersTo (meaning scope.now.step history (tree_of e.now) scope.now.time) result }
     ensures taken { (history : List Entry) (func : RangeFn) → MayTake scope.now.head.now scope.now.inside history func (tree_of e.now) scope.now.time number.old.ranges (R.fits ranges.old history) (R.last ranges.old)
-        → IsTaken R.keeps scope.now.inside scope.now.step history func (tree_of e.now) scope.now.time number.old.ranges (kept_by (R.last ranges.old) (R.passed ranges.old)) (kept_by (R.last ranges.new) (R.passed ranges.new))
+        → IsEvaluated R.keeps scope.now.inside scope.now.step history func (tree_of e.now) scope.now.time number.old.ranges (kept_by (R.last ranges.old) (R.passed ranges.old)) (kept_by (R.last ranges.new) (R.passed ranges.new))
         (R.fits ranges.new history) reads.old reads.new result }
 {
     is_call(e, func, args);
@@ -172,7 +172,7 @@ pub(crate) fn call<R: Ranges, G: Ledger>(
     reads: &mut Steps<G>,
 ) -> Result<Value, EvalError>
     requires tree { tree_of e.now ≡ call e.now.place func (trees_of args.now) }
-    requires part { IsPart (tree_of scope.now.checked.now) number.old (tree_of e.now) }
+    requires part { IsPartAt (tree_of scope.now.checked.now) number.old (tree_of e.now) }
     requires valued { IsValued (tree_of e.now) }
     requires few { length (tests_in (tree_of scope.now.checked.now)) < 2 ^ 64 }
     requires few_patterns { length (patterns_in (tree_of scope.now.checked.now)) < 2 ^ 64 }
@@ -182,7 +182,7 @@ pub(crate) fn call<R: Ranges, G: Ledger>(
     ensures answer { (history : List Entry) (func : RangeFn) → MayTake scope.now.head.now scope.now.inside history func (tree_of e.now) scope.now.time number.old.ranges (R.fits ranges.old history) (R.last ranges.old)
         → AnswersTo (meaning scope.now.step history (tree_of e.now) scope.now.time) result }
     ensures taken { (history : List Entry) (func : RangeFn) → MayTake scope.now.head.now scope.now.inside history func (tree_of e.now) scope.now.time number.old.ranges (R.fits ranges.old history) (R.last ranges.old)
-        → IsTaken R.keeps scope.now.inside scope.now.step history func (tree_of e.now) scope.now.time number.old.ranges (kept_by (R.last ranges.old) (R.passed ranges.old)) (kept_by (R.last ranges.new) (R.passed ranges.new))
+        → IsEvaluated R.keeps scope.now.inside scope.now.step history func (tree_of e.now) scope.now.time number.old.ranges (kept_by (R.last ranges.old) (R.passed ranges.old)) (kept_by (R.last ranges.new) (R.passed ranges.new))
         (R.fits ranges.new history) reads.old reads.new result }
 {
     if takes_range(func) {

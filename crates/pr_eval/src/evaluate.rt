@@ -9,8 +9,8 @@ ghost use Rattle.pr_query.specs.Cost.{cost};
 ghost use Rattle.pr_query.specs.Meaning.{meaning};
 ghost use Rattle.pr_values.specs.declared.error.EvalError.TheVariants.{Memory};
 ghost use Rattle.pr_values.specs.Answers.{AnswersTo};
-ghost use Rattle.pr_eval.specs.Evaluated.{AreAsked, IsTaken, MayBegin, MayTake, asks_of, kept_by, passed_by};
-ghost use Rattle.pr_eval.specs.Parts.{IsPart, IsValued, counts_after};
+ghost use Rattle.pr_eval.specs.Evaluated.{AreAllAsked, IsEvaluated, MayBegin, MayTake, asks_of, kept_by, passed_outside};
+ghost use Rattle.pr_eval.specs.Parts.{IsPartAt, IsValued, counts_after};
 
 use crate::aggregate::{aggregation, aggregation_by};
 use crate::call::call;
@@ -39,7 +39,7 @@ pub(crate) fn eval_at<R: Ranges, G: Ledger>(
     ranges: &mut R,
     reads: &mut Steps<G>,
 ) -> Result<Value, EvalError>
-    requires part { IsPart (tree_of scope.now.checked.now) number.old (tree_of e.now) }
+    requires part { IsPartAt (tree_of scope.now.checked.now) number.old (tree_of e.now) }
     requires valued { IsValued (tree_of e.now) }
     requires few { length (tests_in (tree_of scope.now.checked.now)) < 2 ^ 64 }
     requires few_patterns { length (patterns_in (tree_of scope.now.checked.now)) < 2 ^ 64 }
@@ -49,7 +49,7 @@ pub(crate) fn eval_at<R: Ranges, G: Ledger>(
     ensures answer { (history : List Entry) (func : RangeFn) → MayTake scope.now.head.now scope.now.inside history func (tree_of e.now) scope.now.time number.old.ranges (R.fits ranges.old history) (R.last ranges.old)
         → AnswersTo (meaning scope.now.step history (tree_of e.now) scope.now.time) result }
     ensures taken { (history : List Entry) (func : RangeFn) → MayTake scope.now.head.now scope.now.inside history func (tree_of e.now) scope.now.time number.old.ranges (R.fits ranges.old history) (R.last ranges.old)
-        → IsTaken R.keeps scope.now.inside scope.now.step history func (tree_of e.now) scope.now.time number.old.ranges (kept_by (R.last ranges.old) (R.passed ranges.old)) (kept_by (R.last ranges.new) (R.passed ranges.new))
+        → IsEvaluated R.keeps scope.now.inside scope.now.step history func (tree_of e.now) scope.now.time number.old.ranges (kept_by (R.last ranges.old) (R.passed ranges.old)) (kept_by (R.last ranges.new) (R.passed ranges.new))
         (R.fits ranges.new history) reads.old reads.new result }
 {
     match &e.kind {
@@ -128,11 +128,11 @@ pub fn eval<R: Ranges, G: Ledger>(
         → AnswersTo (meaning step history (tree_of e.now) time) result }
     ensures vector { IfOk result IsAnswer }
     ensures reads { (history : List Entry) → MayBegin head.now history (tree_of e.now) time (R.fits ranges.old history) (R.last ranges.old)
-        → reads.new ≤ reads.old + cost step history (passed_by false history (R.passed ranges.old)) (tree_of e.now) 0 time }
+        → reads.new ≤ reads.old + cost step history (passed_outside false history (R.passed ranges.old)) (tree_of e.now) 0 time }
     ensures fits { (history : List Entry) → MayBegin head.now history (tree_of e.now) time (R.fits ranges.old history) (R.last ranges.old)
         → result ≢ Err Memory → R.fits ranges.new history }
     ensures asked { (history : List Entry) → MayBegin head.now history (tree_of e.now) time (R.fits ranges.old history) (R.last ranges.old)
-        → result ≢ Err Memory → AreAsked R.keeps history (is_ok result) (asks_of history (tree_of e.now) time) 0 (kept_by (R.last ranges.old) (R.passed ranges.old)) (kept_by (R.last ranges.new) (R.passed ranges.new)) }
+        → result ≢ Err Memory → AreAllAsked R.keeps history (is_ok result) (asks_of history (tree_of e.now) time) 0 (kept_by (R.last ranges.old) (R.passed ranges.old)) (kept_by (R.last ranges.new) (R.passed ranges.new)) }
 {
     let counts = e.counts();
     let _selectors = counts.selectors;

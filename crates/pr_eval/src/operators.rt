@@ -7,8 +7,8 @@ ghost use Rattle.pr_vectors.specs.declared.range.RangeFn.{RangeFn};
 ghost use Rattle.pr_query.specs.Answers.{IsAnswer};
 ghost use Rattle.pr_query.specs.Meaning.{meaning};
 ghost use Rattle.pr_values.specs.Answers.{AnswersTo};
-ghost use Rattle.pr_eval.specs.Evaluated.{IsTaken, MayTake, kept_by};
-ghost use Rattle.pr_eval.specs.Parts.{IsPart, IsValued, counts_after};
+ghost use Rattle.pr_eval.specs.Evaluated.{IsEvaluated, MayTake, kept_by};
+ghost use Rattle.pr_eval.specs.Parts.{IsPartAt, IsValued, counts_after};
 
 use crate::evaluate::eval_at;
 use crate::parts::{is_binary, is_neg, stands_at};
@@ -33,7 +33,7 @@ pub(crate) fn negation<R: Ranges, G: Ledger>(
     reads: &mut Steps<G>,
 ) -> Result<Value, EvalError>
     requires tree { tree_of e.now ≡ neg e.now.place (tree_of inner.now) }
-    requires part { IsPart (tree_of scope.now.checked.now) number.old (tree_of e.now) }
+    requires part { IsPartAt (tree_of scope.now.checked.now) number.old (tree_of e.now) }
     requires valued { IsValued (tree_of e.now) }
     requires few { length (tests_in (tree_of scope.now.checked.now)) < 2 ^ 64 }
     requires few_patterns { length (patterns_in (tree_of scope.now.checked.now)) < 2 ^ 64 }
@@ -43,7 +43,7 @@ pub(crate) fn negation<R: Ranges, G: Ledger>(
     ensures answer { (history : List Entry) (func : RangeFn) → MayTake scope.now.head.now scope.now.inside history func (tree_of e.now) scope.now.time number.old.ranges (R.fits ranges.old history) (R.last ranges.old)
         → AnswersTo (meaning scope.now.step history (tree_of e.now) scope.now.time) result }
     ensures taken { (history : List Entry) (func : RangeFn) → MayTake scope.now.head.now scope.now.inside history func (tree_of e.now) scope.now.time number.old.ranges (R.fits ranges.old history) (R.last ranges.old)
-        → IsTaken R.keeps scope.now.inside scope.now.step history func (tree_of e.now) scope.now.time number.old.ranges (kept_by (R.last ranges.old) (R.passed ranges.old)) (kept_by (R.last ranges.new) (R.passed ranges.new))
+        → IsEvaluated R.keeps scope.now.inside scope.now.step history func (tree_of e.now) scope.now.time number.old.ranges (kept_by (R.last ranges.old) (R.passed ranges.old)) (kept_by (R.last ranges.new) (R.passed ranges.new))
         (R.fits ranges.new history) reads.old reads.new result }
 {
     is_neg(e, inner);
@@ -69,7 +69,7 @@ pub(crate) fn operation<R: Ranges, G: Ledger>(
     reads: &mut Steps<G>,
 ) -> Result<Value, EvalError>
     requires tree { tree_of e.now ≡ binary e.now.place op with_bool matching.now (tree_of left.now) (tree_of right.now) }
-    requires part { IsPart (tree_of scope.now.checked.now) number.old (tree_of e.now) }
+    requires part { IsPartAt (tree_of scope.now.checked.now) number.old (tree_of e.now) }
     requires valued { IsValued (tree_of e.now) }
     requires few { length (tests_in (tree_of scope.now.checked.now)) < 2 ^ 64 }
     requires few_patterns { length (patterns_in (tree_of scope.now.checked.now)) < 2 ^ 64 }
@@ -79,7 +79,7 @@ pub(crate) fn operation<R: Ranges, G: Ledger>(
     ensures answer { (history : List Entry) (func : RangeFn) → MayTake scope.now.head.now scope.now.inside history func (tree_of e.now) scope.now.time number.old.ranges (R.fits ranges.old history) (R.last ranges.old)
         → AnswersTo (meaning scope.now.step history (tree_of e.now) scope.now.time) result }
     ensures taken { (history : List Entry) (func : RangeFn) → MayTake scope.now.head.now scope.now.inside history func (tree_of e.now) scope.now.time number.old.ranges (R.fits ranges.old history) (R.last ranges.old)
-        → IsTaken R.keeps scope.now.inside scope.now.step history func (tree_of e.now) scope.now.time number.old.ranges (kept_by (R.last ranges.old) (R.passed ranges.old)) (kept_by (R.last ranges.new) (R.passed ranges.new))
+        → IsEvaluated R.keeps scope.now.inside scope.now.step history func (tree_of e.now) scope.now.time number.old.ranges (kept_by (R.last ranges.old) (R.passed ranges.old)) (kept_by (R.last ranges.new) (R.passed ranges.new))
         (R.fits ranges.new history) reads.old reads.new result }
 {
     is_binary(e, op, with_bool, matching, left, right);

@@ -12,12 +12,11 @@ ghost use Rattle.pr_types.specs.Built.{own_patterns, patterns_in, tests_in};
 ghost use Rattle.pr_types.specs.Selectors.{tests_of};
 ghost use Rattle.pr_types.specs.Typed.{content, content_at, typed};
 ghost use Rattle.pr_values.specs.Calls.{is_plain_call};
-ghost use Rattle.pr_eval.specs.Asking.{asked_for};
+ghost use Rattle.pr_eval.specs.Asking.{asked_for, takes_range};
 ghost use Rattle.pr_query.specs.Selection.{moment_of};
 ghost use Rattle.pr_eval.specs.Looks.{KeepsAt, KeepsFor};
-ghost use Rattle.pr_eval.specs.Parts.{AreTwo, IsOne, IsPart, IsValued, counts_after, with_patterns};
-ghost use Rattle.pr_eval.specs.Ranged.{takes_range};
-ghost use Rattle.pr_eval.specs.Sizes.{is_range_node, nodes};
+ghost use Rattle.pr_eval.specs.Parts.{AreTwo, IsOne, IsPartAt, IsValued, counts_after, with_patterns};
+ghost use Rattle.pr_eval.specs.Sizes.{is_range_node, node_count};
 
 use pr_ast::{AggOp, BinOp, Expr, Func, Place, Selector};
 use pr_labels::{Grouping, Matching};
@@ -35,8 +34,8 @@ pub(crate) fn is_number(e: &Expr, value: Num)
 pub(crate) fn is_select(e: &Expr, selector: &Selector)
     requires { tree_of e.now ≡ select e.now.place selector.now }
     ensures tree { tree_of e.now ≡ select e.now.place selector.now }
-    ensures within { (whole : Tree) (n : Counts) → IsPart whole n (tree_of e.now) → n.selectors < length (tests_in whole) }
-    ensures stands { (whole : Tree) (n : Counts) → IsPart whole n (tree_of e.now) → slice_get (tests_in whole) n.selectors ≡ Some (tests_of selector.now) }
+    ensures within { (whole : Tree) (n : Counts) → IsPartAt whole n (tree_of e.now) → n.selectors < length (tests_in whole) }
+    ensures stands { (whole : Tree) (n : Counts) → IsPartAt whole n (tree_of e.now) → slice_get (tests_in whole) n.selectors ≡ Some (tests_of selector.now) }
     ensures keeps { (head : List (List Pair × Stored)) (history : List Entry) (time : ℕ) → KeepsFor head history (tree_of e.now) time
         → KeepsAt head history (moment_of selector.now time) }
     ensures count { (n : Counts) → let m : Counts = record { selectors = n.selectors + 1; ranges = n.ranges; patterns = n.patterns } in m ≡ counts_after n (tree_of e.now) }
@@ -46,10 +45,10 @@ pub(crate) fn is_neg(e: &Expr, inner: &Expr)
     requires { tree_of e.now ≡ neg e.now.place (tree_of inner.now) }
     ensures tree { tree_of e.now ≡ neg e.now.place (tree_of inner.now) }
     ensures one { IsOne (tree_of e.now) (tree_of inner.now) [] (λ f. f) }
-    ensures part { (whole : Tree) (n : Counts) → IsPart whole n (tree_of e.now) → IsPart whole n (tree_of inner.now) }
+    ensures part { (whole : Tree) (n : Counts) → IsPartAt whole n (tree_of e.now) → IsPartAt whole n (tree_of inner.now) }
     ensures valued { IsValued (tree_of e.now) → IsValued (tree_of inner.now) }
     ensures count { (n m : Counts) → m ≡ counts_after n (tree_of inner.now) → m ≡ counts_after n (tree_of e.now) }
-    ensures smaller { nodes (tree_of inner.now) < nodes (tree_of e.now) }
+    ensures smaller { node_count (tree_of inner.now) < node_count (tree_of e.now) }
 {}
 
 pub(crate) fn is_binary(
@@ -63,13 +62,13 @@ pub(crate) fn is_binary(
     requires { tree_of e.now ≡ binary e.now.place op with_bool matching.now (tree_of left.now) (tree_of right.now) }
     ensures tree { tree_of e.now ≡ binary e.now.place op with_bool matching.now (tree_of left.now) (tree_of right.now) }
     ensures two { AreTwo (tree_of e.now) (tree_of left.now) (tree_of right.now) }
-    ensures left_part { (whole : Tree) (n : Counts) → IsPart whole n (tree_of e.now) → IsPart whole n (tree_of left.now) }
-    ensures right_part { (whole : Tree) (n m : Counts) → m ≡ counts_after n (tree_of left.now) → IsPart whole n (tree_of e.now) → IsPart whole m (tree_of right.now) }
+    ensures left_part { (whole : Tree) (n : Counts) → IsPartAt whole n (tree_of e.now) → IsPartAt whole n (tree_of left.now) }
+    ensures right_part { (whole : Tree) (n m : Counts) → m ≡ counts_after n (tree_of left.now) → IsPartAt whole n (tree_of e.now) → IsPartAt whole m (tree_of right.now) }
     ensures left_valued { IsValued (tree_of e.now) → IsValued (tree_of left.now) }
     ensures right_valued { IsValued (tree_of e.now) → IsValued (tree_of right.now) }
     ensures count { (n m k : Counts) → m ≡ counts_after n (tree_of left.now) → k ≡ counts_after m (tree_of right.now) → k ≡ counts_after n (tree_of e.now) }
-    ensures left_smaller { nodes (tree_of left.now) < nodes (tree_of e.now) }
-    ensures right_smaller { nodes (tree_of right.now) < nodes (tree_of e.now) }
+    ensures left_smaller { node_count (tree_of left.now) < node_count (tree_of e.now) }
+    ensures right_smaller { node_count (tree_of right.now) < node_count (tree_of e.now) }
 {}
 
 pub(crate) fn is_text(e: &Expr, written: &Text)
@@ -83,11 +82,11 @@ pub(crate) fn is_aggregate(e: &Expr, op: AggOp, by: &Grouping, inner: &Expr)
     requires { tree_of e.now ≡ aggregate e.now.place op by.now (more none (tree_of inner.now)) }
     ensures tree { tree_of e.now ≡ aggregate e.now.place op by.now (more none (tree_of inner.now)) }
     ensures one { IsOne (tree_of e.now) (tree_of inner.now) [] (λ f. f) }
-    ensures part { (whole : Tree) (n : Counts) → IsPart whole n (tree_of e.now) → IsPart whole n (tree_of inner.now) }
+    ensures part { (whole : Tree) (n : Counts) → IsPartAt whole n (tree_of e.now) → IsPartAt whole n (tree_of inner.now) }
     ensures valued { IsValued (tree_of e.now) → IsValued (tree_of inner.now) }
     ensures count { (n m : Counts) → m ≡ counts_after n (tree_of inner.now) → m ≡ counts_after n (tree_of e.now) }
     ensures op { IsValued (tree_of e.now) → op ≢ CountValues }
-    ensures smaller { nodes (tree_of inner.now) < nodes (tree_of e.now) }
+    ensures smaller { node_count (tree_of inner.now) < node_count (tree_of e.now) }
 {}
 
 // One with a parameter.
@@ -95,36 +94,36 @@ pub(crate) fn is_aggregate_by(e: &Expr, op: AggOp, by: &Grouping, param: &Expr, 
     requires { tree_of e.now ≡ aggregate e.now.place op by.now (more (more none (tree_of param.now)) (tree_of inner.now)) }
     ensures tree { tree_of e.now ≡ aggregate e.now.place op by.now (more (more none (tree_of param.now)) (tree_of inner.now)) }
     ensures two { AreTwo (tree_of e.now) (tree_of param.now) (tree_of inner.now) }
-    ensures param_part { (whole : Tree) (n : Counts) → IsPart whole n (tree_of e.now) → IsPart whole n (tree_of param.now) }
-    ensures inner_part { (whole : Tree) (n m : Counts) → m ≡ counts_after n (tree_of param.now) → IsPart whole n (tree_of e.now) → IsPart whole m (tree_of inner.now) }
+    ensures param_part { (whole : Tree) (n : Counts) → IsPartAt whole n (tree_of e.now) → IsPartAt whole n (tree_of param.now) }
+    ensures inner_part { (whole : Tree) (n m : Counts) → m ≡ counts_after n (tree_of param.now) → IsPartAt whole n (tree_of e.now) → IsPartAt whole m (tree_of inner.now) }
     ensures param_valued { IsValued (tree_of e.now) → IsValued (tree_of param.now) }
     ensures inner_valued { IsValued (tree_of e.now) → IsValued (tree_of inner.now) }
     ensures count { (n m k : Counts) → m ≡ counts_after n (tree_of param.now) → k ≡ counts_after m (tree_of inner.now) → k ≡ counts_after n (tree_of e.now) }
     ensures label { IsValued (tree_of e.now) → op ≡ CountValues → is_label_name (content (tree_of param.now)) ≡ true }
-    ensures param_smaller { nodes (tree_of param.now) < nodes (tree_of e.now) }
-    ensures inner_smaller { nodes (tree_of inner.now) < nodes (tree_of e.now) }
+    ensures param_smaller { node_count (tree_of param.now) < node_count (tree_of e.now) }
+    ensures inner_smaller { node_count (tree_of inner.now) < node_count (tree_of e.now) }
 {}
 
 pub(crate) fn is_call(e: &Expr, func: Func, args: &[Expr])
     requires { tree_of e.now ≡ call e.now.place func (trees_of args.now) }
     ensures tree { tree_of e.now ≡ call e.now.place func (trees_of args.now) }
     ensures one { IsOne (tree_of e.now) (trees_of args.now) (own_patterns func (trees_of args.now)) (λ g. asked_for func) }
-    ensures part { (whole : Tree) (n : Counts) → IsPart whole n (tree_of e.now) → IsPart whole n (trees_of args.now) }
+    ensures part { (whole : Tree) (n : Counts) → IsPartAt whole n (tree_of e.now) → IsPartAt whole n (trees_of args.now) }
     ensures valued { IsValued (tree_of e.now) → is_plain_call func (trees_of args.now) ≡ true → (i : ℕ) (a : Expr) → slice_get args.now i ≡ Some a → IsValued (tree_of a) }
     ensures count { (n m k : Counts) → m ≡ counts_after n (trees_of args.now) → k ≡ with_patterns m (own_patterns func (trees_of args.now)) → k ≡ counts_after n (tree_of e.now) }
     ensures replaced { IsValued (tree_of e.now) → func ≡ Func.LabelReplace → is_label_name (content_at (trees_of args.now) 1) ≡ true }
     ensures joined { IsValued (tree_of e.now) → func ≡ Func.LabelJoin → is_label_name (content_at (trees_of args.now) 1) ≡ true }
-    ensures pattern { (whole : Tree) (n m : Counts) → IsPart whole n (tree_of e.now) → m ≡ counts_after n (trees_of args.now) → func ≡ Func.LabelReplace
+    ensures pattern { (whole : Tree) (n m : Counts) → IsPartAt whole n (tree_of e.now) → m ≡ counts_after n (trees_of args.now) → func ≡ Func.LabelReplace
         → slice_get (patterns_in whole) m.patterns ≡ Some (content_at (trees_of args.now) 4) }
-    ensures smaller { nodes (trees_of args.now) < nodes (tree_of e.now) }
+    ensures smaller { node_count (trees_of args.now) < node_count (tree_of e.now) }
 {}
 
 // `timestamp` of a selector.
 pub(crate) fn is_stamped(e: &Expr, place: Place, selector: &Selector)
     requires { tree_of e.now ≡ call e.now.place Func.Timestamp (more none (select place selector.now)) }
     ensures tree { tree_of e.now ≡ call e.now.place Func.Timestamp (more none (select place selector.now)) }
-    ensures within { (whole : Tree) (n : Counts) → IsPart whole n (tree_of e.now) → n.selectors < length (tests_in whole) }
-    ensures stands { (whole : Tree) (n : Counts) → IsPart whole n (tree_of e.now) → slice_get (tests_in whole) n.selectors ≡ Some (tests_of selector.now) }
+    ensures within { (whole : Tree) (n : Counts) → IsPartAt whole n (tree_of e.now) → n.selectors < length (tests_in whole) }
+    ensures stands { (whole : Tree) (n : Counts) → IsPartAt whole n (tree_of e.now) → slice_get (tests_in whole) n.selectors ≡ Some (tests_of selector.now) }
     ensures keeps { (head : List (List Pair × Stored)) (history : List Entry) (time : ℕ) → KeepsFor head history (tree_of e.now) time
         → KeepsAt head history (moment_of selector.now time) }
     ensures count { (n : Counts) → let m : Counts = record { selectors = n.selectors + 1; ranges = n.ranges; patterns = n.patterns } in m ≡ counts_after n (tree_of e.now) }
@@ -133,9 +132,9 @@ pub(crate) fn is_stamped(e: &Expr, place: Place, selector: &Selector)
 pub(crate) fn is_range(e: &Expr, selector: &Selector, span: Span)
     requires { tree_of e.now ≡ range_tree e.now.place selector.now span }
     ensures tree { tree_of e.now ≡ range_tree e.now.place selector.now span }
-    ensures within { (whole : Tree) (n : Counts) → IsPart whole n (tree_of e.now) → n.selectors < length (tests_in whole) }
-    ensures ranges { (whole : Tree) (n : Counts) → IsPart whole n (tree_of e.now) → n.ranges < length (tests_in whole) }
-    ensures stands { (whole : Tree) (n : Counts) → IsPart whole n (tree_of e.now) → slice_get (tests_in whole) n.selectors ≡ Some (tests_of selector.now) }
+    ensures within { (whole : Tree) (n : Counts) → IsPartAt whole n (tree_of e.now) → n.selectors < length (tests_in whole) }
+    ensures ranges { (whole : Tree) (n : Counts) → IsPartAt whole n (tree_of e.now) → n.ranges < length (tests_in whole) }
+    ensures stands { (whole : Tree) (n : Counts) → IsPartAt whole n (tree_of e.now) → slice_get (tests_in whole) n.selectors ≡ Some (tests_of selector.now) }
     ensures count { (n : Counts) → let m : Counts = record { selectors = n.selectors + 1; ranges = n.ranges + 1; patterns = n.patterns } in m ≡ counts_after n (tree_of e.now) }
 {}
 
@@ -143,7 +142,7 @@ pub(crate) fn is_sub(e: &Expr, inner: &Expr, span: Span, step: Option<Span>, off
     requires { tree_of e.now ≡ sub e.now.place (tree_of inner.now) span step offset }
     ensures tree { tree_of e.now ≡ sub e.now.place (tree_of inner.now) span step offset }
     ensures valued { typed (tree_of e.now) ≡ Ok Range → IsValued (tree_of inner.now) }
-    ensures smaller { nodes (tree_of inner.now) < nodes (tree_of e.now) }
+    ensures smaller { node_count (tree_of inner.now) < node_count (tree_of e.now) }
 {}
 
 // A call of a function of a range has no pattern of its own.
@@ -152,9 +151,9 @@ pub(crate) fn is_range_call(e: &Expr, func: Func, args: &[Expr])
     requires range { takes_range func ≡ true }
     ensures tree { tree_of e.now ≡ call e.now.place func (trees_of args.now) }
     ensures one { IsOne (tree_of e.now) (trees_of args.now) [] (λ f. asked_for func) }
-    ensures part { (whole : Tree) (n : Counts) → IsPart whole n (tree_of e.now) → IsPart whole n (trees_of args.now) }
+    ensures part { (whole : Tree) (n : Counts) → IsPartAt whole n (tree_of e.now) → IsPartAt whole n (trees_of args.now) }
     ensures count { (n m : Counts) → m ≡ counts_after n (trees_of args.now) → m ≡ counts_after n (tree_of e.now) }
-    ensures smaller { nodes (trees_of args.now) < nodes (tree_of e.now) }
+    ensures smaller { node_count (trees_of args.now) < node_count (tree_of e.now) }
 {}
 
 // One argument, and two.
@@ -162,54 +161,54 @@ pub(crate) fn is_alone(args: &[Expr], only: &Expr)
     requires { trees_of args.now ≡ more none (tree_of only.now) }
     ensures args { trees_of args.now ≡ more none (tree_of only.now) }
     ensures one { IsOne (trees_of args.now) (tree_of only.now) [] (λ f. f) }
-    ensures part { (whole : Tree) (n : Counts) → IsPart whole n (trees_of args.now) → IsPart whole n (tree_of only.now) }
+    ensures part { (whole : Tree) (n : Counts) → IsPartAt whole n (trees_of args.now) → IsPartAt whole n (tree_of only.now) }
     ensures count { (n m : Counts) → m ≡ counts_after n (tree_of only.now) → m ≡ counts_after n (trees_of args.now) }
-    ensures smaller { nodes (tree_of only.now) < nodes (trees_of args.now) }
+    ensures smaller { node_count (tree_of only.now) < node_count (trees_of args.now) }
 {}
 
 pub(crate) fn are_pair(args: &[Expr], first: &Expr, second: &Expr)
     requires { trees_of args.now ≡ more (more none (tree_of first.now)) (tree_of second.now) }
     ensures args { trees_of args.now ≡ more (more none (tree_of first.now)) (tree_of second.now) }
     ensures two { AreTwo (trees_of args.now) (tree_of first.now) (tree_of second.now) }
-    ensures first_part { (whole : Tree) (n : Counts) → IsPart whole n (trees_of args.now) → IsPart whole n (tree_of first.now) }
-    ensures second_part { (whole : Tree) (n m : Counts) → m ≡ counts_after n (tree_of first.now) → IsPart whole n (trees_of args.now) → IsPart whole m (tree_of second.now) }
+    ensures first_part { (whole : Tree) (n : Counts) → IsPartAt whole n (trees_of args.now) → IsPartAt whole n (tree_of first.now) }
+    ensures second_part { (whole : Tree) (n m : Counts) → m ≡ counts_after n (tree_of first.now) → IsPartAt whole n (trees_of args.now) → IsPartAt whole m (tree_of second.now) }
     ensures count { (n m k : Counts) → m ≡ counts_after n (tree_of first.now) → k ≡ counts_after m (tree_of second.now) → k ≡ counts_after n (trees_of args.now) }
-    ensures first_smaller { nodes (tree_of first.now) < nodes (trees_of args.now) }
-    ensures second_smaller { nodes (tree_of second.now) < nodes (trees_of args.now) }
+    ensures first_smaller { node_count (tree_of first.now) < node_count (trees_of args.now) }
+    ensures second_smaller { node_count (tree_of second.now) < node_count (trees_of args.now) }
 {}
 
 // That a part stands at these numbers.
 pub(crate) fn stands_at(checked: &Checked, e: &Expr, number: Counts)
-    requires { IsPart (tree_of checked.now) number (tree_of e.now) }
-    ensures { IsPart (tree_of checked.now) number (tree_of e.now) }
+    requires { IsPartAt (tree_of checked.now) number (tree_of e.now) }
+    ensures { IsPartAt (tree_of checked.now) number (tree_of e.now) }
 {}
 
 // That an argument may be evaluated at these numbers.
 pub(crate) fn arg_stands_at(checked: &Checked, e: &Expr, number: Counts)
-    requires part { IsPart (tree_of checked.now) number (tree_of e.now) }
+    requires part { IsPartAt (tree_of checked.now) number (tree_of e.now) }
     requires valued { IsValued (tree_of e.now) }
-    ensures part { IsPart (tree_of checked.now) number (tree_of e.now) }
+    ensures part { IsPartAt (tree_of checked.now) number (tree_of e.now) }
     ensures valued { IsValued (tree_of e.now) }
 {}
 
 // That an argument is smaller than all of them.
 pub(crate) fn is_among(args: &[Expr], arg: &Expr)
-    requires { nodes (tree_of arg.now) < nodes (trees_of args.now) }
-    ensures { nodes (tree_of arg.now) < nodes (trees_of args.now) }
+    requires { node_count (tree_of arg.now) < node_count (trees_of args.now) }
+    ensures { node_count (tree_of arg.now) < node_count (trees_of args.now) }
 {}
 
 // That all arguments may be.
 pub(crate) fn args_stand_at(checked: &Checked, args: &[Expr], number: Counts)
-    requires part { IsPart (tree_of checked.now) number (trees_of args.now) }
+    requires part { IsPartAt (tree_of checked.now) number (trees_of args.now) }
     requires valued { (i : ℕ) (a : Expr) → slice_get args.now i ≡ Some a → IsValued (tree_of a) }
-    ensures part { IsPart (tree_of checked.now) number (trees_of args.now) }
+    ensures part { IsPartAt (tree_of checked.now) number (trees_of args.now) }
     ensures valued { (i : ℕ) (a : Expr) → slice_get args.now i ≡ Some a → IsValued (tree_of a) }
 {}
 
 // That all arguments stand at these numbers.
 pub(crate) fn all_stand_at(checked: &Checked, args: &[Expr], number: Counts)
-    requires { IsPart (tree_of checked.now) number (trees_of args.now) }
-    ensures { IsPart (tree_of checked.now) number (trees_of args.now) }
+    requires { IsPartAt (tree_of checked.now) number (trees_of args.now) }
+    ensures { IsPartAt (tree_of checked.now) number (trees_of args.now) }
 {}
 
 // An expression of the type of a range is a range selector or a subquery.

@@ -12,17 +12,17 @@ ghost use Rattle.pr_vectors.specs.declared.range.RangeFn.{RangeFn};
 ghost use Rattle.pr_vectors.specs.declared.range.RangeFn.TheVariants.{PredictLinear};
 ghost use Rattle.pr_query.specs.declared.fault.Fault.{Fault};
 ghost use Rattle.pr_query.specs.Answers.{IsAnswer, go_on};
-ghost use Rattle.pr_query.specs.Calls.{called};
+ghost use Rattle.pr_query.specs.Calls.{value_of_call};
 ghost use Rattle.pr_query.specs.Given.{Ranged, range_at};
 ghost use Rattle.pr_query.specs.Meaning.{meaning, operands, ranges as series_meant};
 ghost use Rattle.pr_query.specs.Selection.{chosen_by};
 ghost use Rattle.pr_values.specs.declared.error.EvalError.TheVariants.{Memory};
 ghost use Rattle.pr_values.specs.Answers.{AnswersTo};
 ghost use Rattle.pr_range_calls.specs.Asking.{AreAsked, MayAskEach, asked_by, asks_cost, numbers_chosen, passed_by};
-ghost use Rattle.pr_eval.specs.Asking.{asked_for};
-ghost use Rattle.pr_eval.specs.Evaluated.{IsTaken, MayTake, kept_by};
-ghost use Rattle.pr_eval.specs.Parts.{IsPart, IsValued, counts_after};
-ghost use Rattle.pr_eval.specs.Ranged.{AreRangeOperands, AreSeries, HasArgument, call_in, made_of, number_of_value, prediction_by, quantile_by, takes_range, use_alone};
+ghost use Rattle.pr_eval.specs.Asking.{asked_for, range_fn, takes_range};
+ghost use Rattle.pr_eval.specs.Evaluated.{IsEvaluated, MayTake, kept_by};
+ghost use Rattle.pr_eval.specs.Parts.{IsPartAt, IsValued, counts_after};
+ghost use Rattle.pr_eval.specs.Ranged.{AreRangeOperands, AreSeries, HasItsArgument, call_in, made_of, number_of_value, prediction_by, quantile_by, use_alone};
 
 use crate::evaluate::eval_at;
 use crate::parts::{
@@ -64,56 +64,45 @@ pub(crate) enum RangeOperands<'a> {
     Before { range: &'a Expr, scalar: &'a Expr },
 }
 
+// The function that a call asks ranges for, where it takes one; `absent_over_time` asks whether
+// there is a value.
+fn range_fn(func: Func) -> Option<RangeFn>
+    ensures { result ≡ range_fn func }
+{
+    match func {
+        Func::AbsentOverTime => Some(RangeFn::PresentOverTime),
+        Func::Rate => Some(RangeFn::Rate),
+        Func::Increase => Some(RangeFn::Increase),
+        Func::Delta => Some(RangeFn::Delta),
+        Func::Irate => Some(RangeFn::Irate),
+        Func::Idelta => Some(RangeFn::Idelta),
+        Func::Deriv => Some(RangeFn::Deriv),
+        Func::PredictLinear => Some(RangeFn::PredictLinear),
+        Func::Changes => Some(RangeFn::Changes),
+        Func::Resets => Some(RangeFn::Resets),
+        Func::SumOverTime => Some(RangeFn::SumOverTime),
+        Func::AvgOverTime => Some(RangeFn::AvgOverTime),
+        Func::MinOverTime => Some(RangeFn::MinOverTime),
+        Func::MaxOverTime => Some(RangeFn::MaxOverTime),
+        Func::CountOverTime => Some(RangeFn::CountOverTime),
+        Func::LastOverTime => Some(RangeFn::LastOverTime),
+        Func::PresentOverTime => Some(RangeFn::PresentOverTime),
+        Func::QuantileOverTime => Some(RangeFn::QuantileOverTime),
+        _ => None,
+    }
+}
+
 /// Whether a function is one of a range.
 pub(crate) fn takes_range(func: Func) -> bool
     ensures { result ≡ takes_range func }
 {
-    match func {
-        Func::AbsentOverTime
-        | Func::Rate
-        | Func::Increase
-        | Func::Delta
-        | Func::Irate
-        | Func::Idelta
-        | Func::Deriv
-        | Func::PredictLinear
-        | Func::Changes
-        | Func::Resets
-        | Func::SumOverTime
-        | Func::AvgOverTime
-        | Func::MinOverTime
-        | Func::MaxOverTime
-        | Func::CountOverTime
-        | Func::LastOverTime
-        | Func::PresentOverTime
-        | Func::QuantileOverTime => true,
-        _ => false,
-    }
+    range_fn(func).is_some()
 }
 
-// The function of a range that a call asks for; `absent_over_time` asks whether there is a value.
 fn asked_for(func: Func) -> RangeFn
     ensures { result ≡ asked_for func }
 {
-    match func {
-        Func::Rate => RangeFn::Rate,
-        Func::Increase => RangeFn::Increase,
-        Func::Delta => RangeFn::Delta,
-        Func::Irate => RangeFn::Irate,
-        Func::Idelta => RangeFn::Idelta,
-        Func::Deriv => RangeFn::Deriv,
-        Func::PredictLinear => RangeFn::PredictLinear,
-        Func::Changes => RangeFn::Changes,
-        Func::Resets => RangeFn::Resets,
-        Func::SumOverTime => RangeFn::SumOverTime,
-        Func::AvgOverTime => RangeFn::AvgOverTime,
-        Func::MinOverTime => RangeFn::MinOverTime,
-        Func::MaxOverTime => RangeFn::MaxOverTime,
-        Func::CountOverTime => RangeFn::CountOverTime,
-        Func::LastOverTime => RangeFn::LastOverTime,
-        Func::QuantileOverTime => RangeFn::QuantileOverTime,
-        _ => RangeFn::PresentOverTime,
-    }
+    range_fn(func).unwrap_or(RangeFn::PresentOverTime)
 }
 
 // The operands of a call of a function of a range.
@@ -200,7 +189,7 @@ fn over_chosen<R: Ranges, G: Ledger>(
     reads: &mut Steps<G>,
 ) -> Result<Value, EvalError>
     requires matchers { range.now.matchers.now ≡ tests_of range.now.selector.now }
-    requires argument { HasArgument made.now }
+    requires argument { HasItsArgument made.now }
     ensures answer { (history : List Entry) → MayAskEach scope.now.head.now history (asked_by (call_in made.now) range.now) (R.fits ranges.old history) (R.last ranges.old) range.now.node
         → AnswersTo (made_of made.now (Some (range_at history range.now.place range.now.selector.now range.now.span range.now.time))) result }
     ensures vector { IfOk result IsAnswer }
@@ -243,13 +232,13 @@ fn over_selected<R: Ranges, G: Ledger>(
     reads: &mut Steps<G>,
 ) -> Result<Value, EvalError>
     requires tree { tree_of e.now ≡ range_tree e.now.place selector.now span }
-    requires argument { HasArgument made.now }
-    requires part { IsPart (tree_of scope.now.checked.now) at (tree_of e.now) }
+    requires argument { HasItsArgument made.now }
+    requires part { IsPartAt (tree_of scope.now.checked.now) at (tree_of e.now) }
     ensures vector { IfOk result IsAnswer }
     ensures answer { (history : List Entry) → MayTake scope.now.head.now scope.now.inside history (call_in made.now).func (tree_of e.now) scope.now.time at.ranges (R.fits ranges.old history) (R.last ranges.old)
         → AnswersTo (go_on (made_of made.now) (series_meant scope.now.step history (tree_of e.now) scope.now.time)) result }
     ensures taken { (history : List Entry) → MayTake scope.now.head.now scope.now.inside history (call_in made.now).func (tree_of e.now) scope.now.time at.ranges (R.fits ranges.old history) (R.last ranges.old)
-        → IsTaken R.keeps scope.now.inside scope.now.step history (call_in made.now).func (tree_of e.now) scope.now.time at.ranges (kept_by (R.last ranges.old) (R.passed ranges.old)) (kept_by (R.last ranges.new) (R.passed ranges.new))
+        → IsEvaluated R.keeps scope.now.inside scope.now.step history (call_in made.now).func (tree_of e.now) scope.now.time at.ranges (kept_by (R.last ranges.old) (R.passed ranges.old)) (kept_by (R.last ranges.new) (R.passed ranges.new))
         (R.fits ranges.new history) reads.old reads.new result }
 {
     is_range(e, selector, span);
@@ -268,7 +257,7 @@ fn over_selected<R: Ranges, G: Ledger>(
 // The numbers behind a range selector.
 fn behind_range(scope: &Scope<'_>, e: &Expr, selector: &Selector, span: Span, at: Counts) -> Counts
     requires tree { tree_of e.now ≡ range_tree e.now.place selector.now span }
-    requires part { IsPart (tree_of scope.now.checked.now) at (tree_of e.now) }
+    requires part { IsPartAt (tree_of scope.now.checked.now) at (tree_of e.now) }
     requires few { length (tests_in (tree_of scope.now.checked.now)) < 2 ^ 64 }
     ensures { result ≡ counts_after at (tree_of e.now) }
 {
@@ -286,7 +275,7 @@ fn over_gathered(
     made: &RangeUse,
     gathered: SubquerySeries,
 ) -> Result<Value, EvalError>
-    requires argument { HasArgument made.now }
+    requires argument { HasItsArgument made.now }
     requires ordered { IsOrdered labels_cmp gathered.series }
     ensures answer { (meant : Result (Option Ranged) Fault) → AreSeries meant (Ok gathered) → AnswersTo (go_on (made_of made.now) meant) result }
     ensures vector { IfOk result IsAnswer }
@@ -310,9 +299,9 @@ fn over_range<R: Ranges, G: Ledger>(
     ranges: &mut R,
     reads: &mut Steps<G>,
 ) -> Result<Value, EvalError>
-    requires argument { HasArgument made.now }
+    requires argument { HasItsArgument made.now }
     requires typed { typed (tree_of e.now) ≡ Ok Range }
-    requires part { IsPart (tree_of scope.now.checked.now) number.old (tree_of e.now) }
+    requires part { IsPartAt (tree_of scope.now.checked.now) number.old (tree_of e.now) }
     requires few { length (tests_in (tree_of scope.now.checked.now)) < 2 ^ 64 }
     requires few_patterns { length (patterns_in (tree_of scope.now.checked.now)) < 2 ^ 64 }
     requires step { 0 < scope.now.step }
@@ -321,7 +310,7 @@ fn over_range<R: Ranges, G: Ledger>(
     ensures answer { (history : List Entry) → MayTake scope.now.head.now scope.now.inside history (call_in made.now).func (tree_of e.now) scope.now.time number.old.ranges (R.fits ranges.old history) (R.last ranges.old)
         → AnswersTo (go_on (made_of made.now) (series_meant scope.now.step history (tree_of e.now) scope.now.time)) result }
     ensures taken { (history : List Entry) → MayTake scope.now.head.now scope.now.inside history (call_in made.now).func (tree_of e.now) scope.now.time number.old.ranges (R.fits ranges.old history) (R.last ranges.old)
-        → IsTaken R.keeps scope.now.inside scope.now.step history (call_in made.now).func (tree_of e.now) scope.now.time number.old.ranges (kept_by (R.last ranges.old) (R.passed ranges.old)) (kept_by (R.last ranges.new) (R.passed ranges.new))
+        → IsEvaluated R.keeps scope.now.inside scope.now.step history (call_in made.now).func (tree_of e.now) scope.now.time number.old.ranges (kept_by (R.last ranges.old) (R.passed ranges.old)) (kept_by (R.last ranges.new) (R.passed ranges.new))
         (R.fits ranges.new history) reads.old reads.new result }
 {
     is_a_range(e);
@@ -366,16 +355,16 @@ fn prediction<R: Ranges, G: Ledger>(
     requires args { trees_of args.now ≡ more (more none (tree_of e.now)) (tree_of scalar.now) }
     requires typed { typed (tree_of e.now) ≡ Ok Range }
     requires scalar { typed (tree_of scalar.now) ≡ Ok Scalar }
-    requires part { IsPart (tree_of scope.now.checked.now) number.old (trees_of args.now) }
+    requires part { IsPartAt (tree_of scope.now.checked.now) number.old (trees_of args.now) }
     requires few { length (tests_in (tree_of scope.now.checked.now)) < 2 ^ 64 }
     requires few_patterns { length (patterns_in (tree_of scope.now.checked.now)) < 2 ^ 64 }
     requires step { 0 < scope.now.step }
     ensures count { OnOk result (number.new ≡ counts_after number.old (trees_of args.now)) }
     ensures vector { IfOk result IsAnswer }
     ensures answer { (history : List Entry) → MayTake scope.now.head.now scope.now.inside history PredictLinear (trees_of args.now) scope.now.time number.old.ranges (R.fits ranges.old history) (R.last ranges.old)
-        → let ts = trees_of args.now in AnswersTo (go_on (called history place Func.PredictLinear ts scope.now.time) (operands scope.now.step history ts scope.now.time)) result }
+        → let ts = trees_of args.now in AnswersTo (go_on (value_of_call history place Func.PredictLinear ts scope.now.time) (operands scope.now.step history ts scope.now.time)) result }
     ensures taken { (history : List Entry) → MayTake scope.now.head.now scope.now.inside history PredictLinear (trees_of args.now) scope.now.time number.old.ranges (R.fits ranges.old history) (R.last ranges.old)
-        → IsTaken R.keeps scope.now.inside scope.now.step history PredictLinear (trees_of args.now) scope.now.time number.old.ranges (kept_by (R.last ranges.old) (R.passed ranges.old)) (kept_by (R.last ranges.new) (R.passed ranges.new))
+        → IsEvaluated R.keeps scope.now.inside scope.now.step history PredictLinear (trees_of args.now) scope.now.time number.old.ranges (kept_by (R.last ranges.old) (R.passed ranges.old)) (kept_by (R.last ranges.new) (R.passed ranges.new))
         (R.fits ranges.new history) reads.old reads.new result }
 {
     is_a_range(e);
@@ -437,7 +426,7 @@ pub(crate) fn range_call<R: Ranges, G: Ledger>(
 ) -> Result<Value, EvalError>
     requires tree { tree_of e.now ≡ call e.now.place func (trees_of args.now) }
     requires range { takes_range func ≡ true }
-    requires part { IsPart (tree_of scope.now.checked.now) number.old (tree_of e.now) }
+    requires part { IsPartAt (tree_of scope.now.checked.now) number.old (tree_of e.now) }
     requires valued { IsValued (tree_of e.now) }
     requires few { length (tests_in (tree_of scope.now.checked.now)) < 2 ^ 64 }
     requires few_patterns { length (patterns_in (tree_of scope.now.checked.now)) < 2 ^ 64 }
@@ -447,7 +436,7 @@ pub(crate) fn range_call<R: Ranges, G: Ledger>(
     ensures answer { (history : List Entry) (func : RangeFn) → MayTake scope.now.head.now scope.now.inside history func (tree_of e.now) scope.now.time number.old.ranges (R.fits ranges.old history) (R.last ranges.old)
         → AnswersTo (meaning scope.now.step history (tree_of e.now) scope.now.time) result }
     ensures taken { (history : List Entry) (func : RangeFn) → MayTake scope.now.head.now scope.now.inside history func (tree_of e.now) scope.now.time number.old.ranges (R.fits ranges.old history) (R.last ranges.old)
-        → IsTaken R.keeps scope.now.inside scope.now.step history func (tree_of e.now) scope.now.time number.old.ranges (kept_by (R.last ranges.old) (R.passed ranges.old)) (kept_by (R.last ranges.new) (R.passed ranges.new))
+        → IsEvaluated R.keeps scope.now.inside scope.now.step history func (tree_of e.now) scope.now.time number.old.ranges (kept_by (R.last ranges.old) (R.passed ranges.old)) (kept_by (R.last ranges.new) (R.passed ranges.new))
         (R.fits ranges.new history) reads.old reads.new result }
 {
     is_range_call(e, func, args);

@@ -12,9 +12,9 @@ ghost use Rattle.pr_query.specs.Meaning.{meaning};
 ghost use Rattle.pr_query.specs.Selection.{chosen_by, moment_of, selection, selected_spots};
 ghost use Rattle.pr_values.specs.Answers.{AnswersTo};
 ghost use Rattle.pr_values.specs.Calls.{is_plain_call};
+ghost use Rattle.pr_eval.specs.Asking.{takes_range};
 ghost use Rattle.pr_eval.specs.Looks.{KeepsAt, KeepsFor};
-ghost use Rattle.pr_eval.specs.Parts.{IsPart, counts_after};
-ghost use Rattle.pr_eval.specs.Ranged.{takes_range};
+ghost use Rattle.pr_eval.specs.Parts.{IsPartAt, counts_after};
 
 use crate::parts::{is_select, is_stamped};
 use crate::scope::Scope;
@@ -98,7 +98,7 @@ pub(crate) fn selected<G: Ledger>(
     reads: &mut Steps<G>,
 ) -> Result<Value, EvalError>
     requires tree { tree_of e.now ≡ select e.now.place selector.now }
-    requires part { IsPart (tree_of scope.now.checked.now) number.old (tree_of e.now) }
+    requires part { IsPartAt (tree_of scope.now.checked.now) number.old (tree_of e.now) }
     requires few { length (tests_in (tree_of scope.now.checked.now)) < 2 ^ 64 }
     ensures tree { tree_of e.now ≡ select e.now.place selector.now }
     ensures count { number.new ≡ counts_after number.old (tree_of e.now) }
@@ -155,7 +155,7 @@ pub(crate) fn timestamps<G: Ledger>(
     reads: &mut Steps<G>,
 ) -> Result<Value, EvalError>
     requires tree { tree_of e.now ≡ call e.now.place Func.Timestamp (more none (select argument.now.place argument.now.selector.now)) }
-    requires part { IsPart (tree_of scope.now.checked.now) number.old (tree_of e.now) }
+    requires part { IsPartAt (tree_of scope.now.checked.now) number.old (tree_of e.now) }
     requires few { length (tests_in (tree_of scope.now.checked.now)) < 2 ^ 64 }
     ensures count { number.new ≡ counts_after number.old (tree_of e.now) }
     ensures vector { IfOk result IsAnswer }

@@ -18,11 +18,11 @@ ghost use Rattle.pr_query.specs.Subqueries.{Taken, at_each, multiples};
 ghost use Rattle.pr_range_calls.specs.Taken.{AreTaken, taken};
 ghost use Rattle.pr_range_calls.specs.Times.{AreTimesWithin};
 ghost use Rattle.pr_values.specs.Answers.{AnswersTo};
-ghost use Rattle.pr_eval.specs.Evaluated.{IsTaken, MayTake, kept_by};
+ghost use Rattle.pr_eval.specs.Evaluated.{IsEvaluated, MayTake, kept_by};
 ghost use Rattle.pr_eval.specs.Looks.{KeepsFor};
-ghost use Rattle.pr_eval.specs.Parts.{IsPart, IsValued, counts_after};
+ghost use Rattle.pr_eval.specs.Parts.{IsPartAt, IsValued, counts_after};
 ghost use Rattle.pr_eval.specs.Ranged.{AreSeries};
-ghost use Rattle.pr_eval.specs.Subqueries.{AreGathered, MayTakeEach, TakesInside, range_of};
+ghost use Rattle.pr_eval.specs.Subqueries.{AreSeriesGathered, MayTakeEach, TakesInside, range_of};
 
 use crate::evaluate::eval_at;
 use crate::parts::stands_at;
@@ -119,7 +119,7 @@ fn times_in(range: &SubqueryRange, step: Span) -> SubqueryTimes
 
 // The numbers behind a part that was evaluated at numbers of its own.
 fn numbers_behind(checked: &Checked, e: &Expr, at: Counts) -> Counts
-    requires part { IsPart (tree_of checked.now) at (tree_of e.now) }
+    requires part { IsPartAt (tree_of checked.now) at (tree_of e.now) }
     requires few { length (tests_in (tree_of checked.now)) < 2 ^ 64 }
     requires few_patterns { length (patterns_in (tree_of checked.now)) < 2 ^ 64 }
     ensures { result ≡ counts_after at (tree_of e.now) }
@@ -152,7 +152,7 @@ fn value_at<R: Ranges, G: Ledger>(
     ranges: &mut R,
     reads: &mut Steps<G>,
 ) -> Result<Value, EvalError>
-    requires part { IsPart (tree_of scope.now.checked.now) at (tree_of inner.now) }
+    requires part { IsPartAt (tree_of scope.now.checked.now) at (tree_of inner.now) }
     requires valued { IsValued (tree_of inner.now) }
     requires few { length (tests_in (tree_of scope.now.checked.now)) < 2 ^ 64 }
     requires few_patterns { length (patterns_in (tree_of scope.now.checked.now)) < 2 ^ 64 }
@@ -184,14 +184,14 @@ fn gathered<R: Ranges, G: Ledger>(
     ranges: &mut R,
     reads: &mut Steps<G>,
 ) -> Result<BTreeMap<Labels, Items<Spot>>, EvalError>
-    requires part { IsPart (tree_of scope.now.checked.now) at (tree_of inner.now) }
+    requires part { IsPartAt (tree_of scope.now.checked.now) at (tree_of inner.now) }
     requires valued { IsValued (tree_of inner.now) }
     requires few { length (tests_in (tree_of scope.now.checked.now)) < 2 ^ 64 }
     requires few_patterns { length (patterns_in (tree_of scope.now.checked.now)) < 2 ^ 64 }
     requires step { 0 < scope.now.step }
     ensures ordered { IfOk result (IsOrdered labels_cmp) }
     ensures answer { (history : List Entry) → MayTakeEach scope.now.head.now history (tree_of inner.now) times.now (R.fits ranges.old history)
-        → AreGathered (at_each (meaning scope.now.step history (tree_of inner.now)) times.now) result }
+        → AreSeriesGathered (at_each (meaning scope.now.step history (tree_of inner.now)) times.now) result }
     ensures taken { (history : List Entry) → MayTakeEach scope.now.head.now history (tree_of inner.now) times.now (R.fits ranges.old history)
         → TakesInside (sum_by (cost scope.now.step history nothing_passed (tree_of inner.now) at.ranges) times.now) (kept_by (R.last ranges.old) (R.passed ranges.old)) (kept_by (R.last ranges.new) (R.passed ranges.new))
         (R.fits ranges.new history) reads.old reads.new result }
@@ -229,7 +229,7 @@ pub(crate) fn series_of<R: Ranges, G: Ledger>(
     reads: &mut Steps<G>,
 ) -> Result<SubquerySeries, EvalError>
     requires tree { tree_of e.now ≡ sub e.now.place (tree_of inner.now) span step offset }
-    requires part { IsPart (tree_of scope.now.checked.now) number.old (tree_of e.now) }
+    requires part { IsPartAt (tree_of scope.now.checked.now) number.old (tree_of e.now) }
     requires valued { IsValued (tree_of inner.now) }
     requires few { length (tests_in (tree_of scope.now.checked.now)) < 2 ^ 64 }
     requires few_patterns { length (patterns_in (tree_of scope.now.checked.now)) < 2 ^ 64 }
@@ -239,7 +239,7 @@ pub(crate) fn series_of<R: Ranges, G: Ledger>(
     ensures answer { (history : List Entry) (func : RangeFn) → MayTake scope.now.head.now scope.now.inside history func (tree_of e.now) scope.now.time number.old.ranges (R.fits ranges.old history) (R.last ranges.old)
         → AreSeries (series_meant scope.now.step history (tree_of e.now) scope.now.time) result }
     ensures taken { (history : List Entry) (func : RangeFn) → MayTake scope.now.head.now scope.now.inside history func (tree_of e.now) scope.now.time number.old.ranges (R.fits ranges.old history) (R.last ranges.old)
-        → IsTaken R.keeps scope.now.inside scope.now.step history func (tree_of e.now) scope.now.time number.old.ranges (kept_by (R.last ranges.old) (R.passed ranges.old)) (kept_by (R.last ranges.new) (R.passed ranges.new))
+        → IsEvaluated R.keeps scope.now.inside scope.now.step history func (tree_of e.now) scope.now.time number.old.ranges (kept_by (R.last ranges.old) (R.passed ranges.old)) (kept_by (R.last ranges.new) (R.passed ranges.new))
         (R.fits ranges.new history) reads.old reads.new result }
 {
     let range = range_of(e.place, span, offset, scope.time);

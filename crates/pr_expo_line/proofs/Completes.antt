@@ -10,8 +10,8 @@ use Rattle.std.proofs.lemmas.Slice.Eq.{bytes_eq-Decides, starts_is}
 use Rattle.std.proofs.lemmas.Str.{encode_ascii}
 use Rattle.pr_labels.specs.declared.pair.Pair.{Pair}
 use Rattle.pr_labels.specs.LabelSet.{metric_label}
-use Rattle.pr_labels.specs.Names.{is_label_byte}
-use Rattle.pr_words.specs.Fields.{is_blank, is_field_byte}
+use Rattle.pr_words.specs.Fields.{is_field_byte}
+use Rattle.pr_words.specs.Bytes.{is_blank, is_label_byte}
 use Rattle.pr_expo_line.specs.declared.number.NumberPlace.{NumberPlace}
 use Rattle.pr_expo_line.specs.declared.number.NumberPlace.TheVariants as np
 use Rattle.pr_expo_line.specs.declared.place.Head.{Head}
@@ -23,7 +23,7 @@ use Rattle.pr_expo_line.specs.declared.place.Read.{Read}
 use Rattle.pr_expo_line.specs.declared.place.Read.TheVariants.{Nothing, Typed, Sample}
 use Rattle.pr_expo_line.specs.declared.place.Word.{Word}
 use Rattle.pr_expo_line.specs.declared.place.Word.TheVariants as word
-use Rattle.pr_expo_line.specs.Line.{after_keyword, comes, fault_at, goes, grown, is_among, is_front_of, is_type_front, keyword_end, measured, stands_before, type_end, type_of, way, way_on, with_label}
+use Rattle.pr_expo_line.specs.Line.{after_keyword, comes, fault_at, goes, grown, has_label_named, is_front_of, is_type_front, keyword_end, measured, stands_before, type_end, type_of, way, way_on, with_label}
 use Rattle.pr_expo_line.specs.Grammar.{way_read}
 use Rattle.pr_expo_line.proofs.Leading.{both, leads_label, no, yes}
 
@@ -215,9 +215,9 @@ not_same a b h = not_true (bytes_eq a b) (λ t. omega (arith, h, ap length ((byt
 neither : (a b : Bool) → a ≡ false → b ≡ false → (a || b) ≡ false
 neither a b e f = λ i. e i || f i
 
-longer : (name : List ℕ) (labels : List Pair) → total labels < length name → is_among name labels ≡ false
+longer : (name : List ℕ) (labels : List Pair) → total labels < length name → has_label_named name labels ≡ false
 longer name [] h = refl
-longer name (p ∷ ps) h = neither (bytes_eq p.name name) (is_among name ps) (not_same p.name name (omega (arith, h))) (longer name ps (omega (arith, h)))
+longer name (p ∷ ps) h = neither (bytes_eq p.name name) (has_label_named name ps) (not_same p.name name (omega (arith, h))) (longer name ps (omega (arith, h)))
 
 valued : (head : Head) (name : List ℕ) → way_read (way (BeforeQuote head name) (codes "\"\"} 1")) ≡ Some (Sample (measured (with_label head name []) (codes "1")) None)
 unfolding encoded
@@ -229,7 +229,7 @@ label_completes head name =
     let long = name ++ letters k in
     let size : length long ≡ length name + k = length-append name (letters k) ∙ ap (λ n. length name + n) (letters_length k) in
     let new : stands_before head long ≡ false =
-    neither (bytes_eq metric_label long) (is_among long head.labels) (not_same metric_label long (omega (arith, size))) (longer long head.labels (omega (arith, size))) in
+    neither (bytes_eq metric_label long) (has_label_named long head.labels) (not_same metric_label long (omega (arith, size))) (longer long head.labels (omega (arith, size))) in
     by (InLabel head name) (letters k ++ codes "=\"\"} 1") _ (ap way_read (leads_label head name (letters k) (letters_go_on k) (codes "=\"\"} 1"))
     ∙ ap (λ b. way_read (way_on (if b then None else Some (BeforeQuote head long)) (fault_at (InLabel head long)) (λ next. way next (codes "\"\"} 1")))) new ∙ valued head long)
 

@@ -16,7 +16,8 @@ use Rattle.std.proofs.lemmas.Str.{IsUtf8-from_is_utf8}
 use Rattle.pr_expo_line.specs.Line.{goes, ends, fault_at, Way, way, way_on, comes, stops, outcome_of, text_front, line_read}
 use Rattle.pr_expo_line.specs.Line as lines
 use Rattle.pr_expo_line.proofs.Fronts.{whole_front, is_whole}
-use Rattle.pr_expo_line.specs.Grammar.{Rule, at, by, by_of, leads, anything, ending, production, table, way_read, IsBadPlace, ReadsLine}
+use Rattle.pr_expo_line.specs.Grammar.{Rule, at, by, by_of, leads, anything, ending, production, way_read, IsBadPlace, ReadsLine}
+use Rattle.pr_expo_line.specs.GrammarTable.{table}
 
 ending_empty : (o : Option Read) → empty_of table (ending o) ≡ is_some o
 ending_empty None = refl

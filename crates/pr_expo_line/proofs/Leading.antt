@@ -8,14 +8,14 @@ use Rattle.std.specs.Option.{option_or}
 use Rattle.std.specs.Str.{IsUtf8, bytes_eq, chars, str_to_ascii_lowercase}
 use Rattle.std.proofs.lemmas.Bool.Decides.{nat_tests}
 use Rattle.std.proofs.lemmas.Str.{encode_ascii}
+use Rattle.pr_words.specs.Bytes.{is_blank, is_label_byte, is_letter}
 use Rattle.pr_labels.specs.declared.pair.Pair.{Pair}
 use Rattle.pr_labels.specs.declared.fault.LabelFault.TheVariants.{BadName, Twice}
 use Rattle.pr_labels.specs.LabelSet.{has_name, metric_label, pair_of}
 use Rattle.pr_labels.specs.Edits.{fault_after, pair_fault}
-use Rattle.pr_labels.specs.Names.{is_label_byte, is_label_name, is_letter, is_metric_byte, is_metric_letter, is_metric_name}
+use Rattle.pr_labels.specs.Names.{is_label_name, is_metric_byte, is_metric_letter, is_metric_name}
 use Rattle.pr_labels.proofs.LabelLaws.{first_none}
 use Rattle.pr_num.specs.Forms.{AreDigits, Exponent, Fraction, HasUnsignedForm, IsExponent, IsInfinityWord, IsNumberText, Sign, capital_e, decimals, exponent_part, fraction_part, minus, no_exponent, no_point, no_sign, plus, point, sign_text, small_e}
-use Rattle.pr_words.specs.Fields.{is_blank}
 use Rattle.pr_expo_line.specs.Characters.{is_sign}
 use Rattle.pr_expo_line.specs.declared.number.NumberPlace.{NumberPlace}
 use Rattle.pr_expo_line.specs.declared.number.NumberPlace.TheVariants as np

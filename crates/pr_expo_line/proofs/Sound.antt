@@ -13,13 +13,13 @@ use Rattle.std.specs.Option.{option_or}
 use Rattle.std.specs.Str.{bytes_eq, chars, is_utf8}
 use Rattle.std.proofs.lemmas.Bool.Decides.{nat_tests}
 use Rattle.std.proofs.lemmas.List.Folds.{list_all-append}
+use Rattle.pr_words.specs.Bytes.{is_blank, is_label_byte, is_letter}
 use Rattle.pr_labels.specs.declared.pair.Pair.{Pair}
 use Rattle.pr_labels.specs.declared.fault.LabelFault.{LabelFault}
 use Rattle.pr_labels.specs.declared.fault.LabelFault.TheVariants.{BadName, Twice}
 use Rattle.pr_labels.specs.LabelSet.{metric_label, pair_of, has_name}
 use Rattle.pr_labels.specs.Edits.{fault_after, pair_fault}
-use Rattle.pr_labels.specs.Names.{is_label_byte, is_label_name, is_letter, is_metric_byte, is_metric_letter}
-use Rattle.pr_words.specs.Fields.{is_blank}
+use Rattle.pr_labels.specs.Names.{is_label_name, is_metric_byte, is_metric_letter}
 use Rattle.pr_num.specs.Forms.{IsNumberText, Sign, sign_text, no_sign}
 use Rattle.pr_expo_line.specs.Characters.{is_sign}
 use Rattle.pr_expo_line.specs.declared.number.NumberPlace.{NumberPlace}
@@ -77,14 +77,14 @@ or_none : (a : Option LabelFault) → option_or a None ≡ a
 or_none None = refl
 or_none (Some x) = refl
 
-fault_more : (before ps : List Pair) (p : Pair) → fault_after before ps ≡ None → pair_fault (before ++ ps) p ≡ None → fault_after before (ps ++ p ∷ []) ≡ None
+pub fault_more : (before ps : List Pair) (p : Pair) → fault_after before ps ≡ None → pair_fault (before ++ ps) p ≡ None → fault_after before (ps ++ p ∷ []) ≡ None
 fault_more before [] p f h = or_none (pair_fault before p) ∙ ap (λ x. pair_fault x p) (sym (append-nil before)) ∙ h
 fault_more before (q ∷ ps) p f h =
     let g = first_none (pair_fault before q) (fault_after (before ++ q ∷ []) ps) f in
     ap (λ o. option_or o (fault_after (before ++ q ∷ []) (ps ++ p ∷ []))) g.0
     ∙ fault_more (before ++ q ∷ []) ps p g.1 (ap (λ x. pair_fault x p) (append_assoc before (q ∷ []) ps) ∙ h)
 
-new_fault : (before : List Pair) (p : Pair) → is_label_name p.name ≡ true → list_any (has_name p.name) before ≡ false → pair_fault before p ≡ None
+pub new_fault : (before : List Pair) (p : Pair) → is_label_name p.name ≡ true → list_any (has_name p.name) before ≡ false → pair_fault before p ≡ None
 new_fault before p n h =
     ap (λ b. cond b (cond (list_any (has_name p.name) before) (Some (Twice (length before))) None) (Some (BadName (length before)))) n
     ∙ ap (λ b. cond b (Some (Twice (length before))) None) h

@@ -1,8 +1,7 @@
 -- The lines of an exposition as a grammar: its rules are the places of a line, and each reads a
 -- character and what stands after it.
-use Rattle.std.specs.Prelude.{ℕ, Bool, true, false, Option, Some, None, is_some, List, []}
+use Rattle.std.specs.Prelude.{ℕ, Bool, true, Option, Some, None, List, []}
 use Rattle.pr_forms.specs.Form.{Form, token, nothing, pair, either, chosen, rule, Reads, IsFirstBad}
-use Rattle.pr_forms.specs.Table.{Table}
 use Rattle.pr_expo_line.specs.declared.place.Place.{Place}
 use Rattle.pr_expo_line.specs.declared.place.Place.TheVariants.{Start}
 use Rattle.pr_expo_line.specs.declared.place.Read.{Read}
@@ -40,20 +39,6 @@ ending (Some read) = nothing (Some read)
 abbrev pub production : Rule → Form ℕ Rule (Option Read)
 production (at place) = either (chosen (leads place) anything) (ending (ends place))
 production (by place) = pair second_of (token any_byte) (rule (at place))
-
-abbrev pub starts_rule : Rule → ℕ → Bool
-starts_rule (at place) c = is_some (leads place c)
-starts_rule (by place) c = true
-
-abbrev pub empty_rule : Rule → Bool
-empty_rule (at place) = is_some (ends place)
-empty_rule (by place) = false
-
-abbrev pub more_rule : Rule → ℕ → Bool
-more_rule n c = true
-
-abbrev pub table : Table ℕ Rule
-table = record { empty = empty_rule; starts = starts_rule; more = more_rule }
 
 -- The first place at which no line can go on with the characters.
 abbrev pub IsBadPlace : List ℕ → ℕ → Type 0

@@ -23,8 +23,8 @@ use Rattle.pr_expo_line.specs.declared.line.LineFault.{LineFault}
 use Rattle.pr_expo_line.specs.declared.line.LineFault.TheVariants.{Bad, Memory}
 use Prim.Native.Char.{code}
 use Rattle.std.specs.Char.{is_ascii_digit}
-use Rattle.pr_words.specs.Fields.{is_blank}
-use Rattle.pr_labels.specs.Names.{is_letter, is_label_byte, is_metric_letter, is_metric_byte}
+use Rattle.pr_words.specs.Bytes.{is_blank, is_letter, is_label_byte}
+use Rattle.pr_labels.specs.Names.{is_metric_letter, is_metric_byte}
 use Rattle.pr_expo_line.specs.Characters.{is_sign}
 use Rattle.pr_expo_line.specs.Number.{number_start, number_next, is_number_end}
 
@@ -51,11 +51,11 @@ is_type_front text =
     || (is_front_of (codes "summary") text || is_front_of (codes "untyped") text)))
 
 -- whether a label's name stands before: as that of the metric's name, or among the labels
-abbrev pub is_among : List ℕ → List Pair → Bool
-is_among name labels = list_any (has_name name) labels
+abbrev pub has_label_named : List ℕ → List Pair → Bool
+has_label_named name labels = list_any (has_name name) labels
 
 abbrev pub stands_before : Head → List ℕ → Bool
-stands_before head name = bytes_eq metric_label name || is_among name head.labels
+stands_before head name = bytes_eq metric_label name || has_label_named name head.labels
 
 abbrev pub bare : List ℕ → Head
 bare name = record { name = name; labels = [] }

@@ -2,11 +2,10 @@
 -- is read of it is kept as bytes.
 use Rattle.std.specs.Prelude.{◌≡◌, ℕ, ◌<◌, ◌==◌, true, false, Option, Some, None, List, [], ◌∷◌, ◌++◌, length, codes, encode_utf8}
 use Prim.Native.Char.{code}
-use Rattle.std.specs.List.{list_all}
+use Rattle.pr_words.specs.Bytes.{AreBlanks}
 use Rattle.pr_labels.specs.declared.pair.Pair.{Pair}
 use Rattle.pr_labels.specs.Names.{is_metric_name}
 use Rattle.pr_num.specs.Forms.{IsNumberText}
-use Rattle.pr_words.specs.Fields.{is_blank}
 use Rattle.pr_expo_line.specs.declared.place.Measured.{Measured}
 use Rattle.pr_expo_line.specs.Line.{escape}
 use Rattle.pr_expo_line.specs.Sound.{HasDistinctNames, IsTime}
@@ -28,7 +27,7 @@ abbrev pub Is : List ℕ → List ℕ → Type 0
 Is wanted text = text ≡ wanted
 
 abbrev pub Blanks : List ℕ → Type 0
-Blanks text = list_all is_blank text ≡ true
+Blanks = AreBlanks
 
 pub record SomeBlanks (text : List ℕ) : Type 0 where
   pub some : 0 < length text

@@ -1,7 +1,7 @@
 // The characters of a line.
 ghost use Rattle.std.specs.Prelude.{◌≡◌};
-ghost use Rattle.pr_words.specs.Fields.{is_blank};
-ghost use Rattle.pr_labels.specs.Names.{is_letter, is_label_byte, is_metric_letter, is_metric_byte};
+ghost use Rattle.pr_words.specs.Bytes.{is_blank, is_letter, is_label_byte};
+ghost use Rattle.pr_labels.specs.Names.{is_metric_letter, is_metric_byte};
 ghost use Rattle.pr_expo_line.specs.Characters.{is_sign};
 
 /// A blank: a space, or a tab.

@@ -5,7 +5,7 @@ ghost use Rattle.pr_forms.specs.Table.{IsDecided};
 ghost use Rattle.pr_num.specs.Reads.{reads};
 ghost use Rattle.pr_num.specs.declared.text.NumFault.{NumFault};
 ghost use Rattle.pr_expo_line.specs.Line.{line_read, text_front};
-ghost use Rattle.pr_expo_line.specs.Grammar.{production, table, IsBadPlace, ReadsLine};
+ghost use Rattle.pr_expo_line.specs.Grammar.{production, IsBadPlace, ReadsLine};
 ghost use Rattle.pr_expo_line.specs.Faults.{Stop, IsBeginning, IsBadBehind, HasFault};
 ghost use Rattle.pr_expo_line.specs.declared.place.ExpoKind.{ExpoKind};
 ghost use Rattle.pr_expo_line.specs.declared.place.ExpoKind.TheVariants.{NotText};
@@ -13,6 +13,7 @@ ghost use Rattle.pr_expo_line.specs.PlainLine.{IsSampleLine};
 ghost use Rattle.pr_expo_line.specs.declared.place.Measured.{Measured};
 ghost use Rattle.pr_expo_line.specs.declared.place.Read.TheVariants.{Sample};
 ghost use Rattle.pr_expo_line.specs.declared.place.Read.{Read};
+ghost use Rattle.pr_expo_line.specs.GrammarTable.{table};
 
 /// One character ahead decides the grammar of lines. A line reads as something exactly where it is
 /// text and its characters are of the grammar, and as what they are there.

@@ -5,7 +5,7 @@ ghost use Rattle.pr_expo_line.specs.Line.{
   type_of,
   is_front_of,
   is_type_front,
-  is_among,
+  has_label_named,
   stands_before,
   bare,
   with_label,
@@ -105,8 +105,8 @@ fn is_type_front(text: &str) -> bool
 }
 
 /// Whether one of the labels has the name.
-fn is_among(name: &str, labels: &[Pair]) -> bool
-    ensures { result ≡ is_among name.now labels.now }
+fn has_label_named(name: &str, labels: &[Pair]) -> bool
+    ensures { result ≡ has_label_named name.now labels.now }
 {
     for label in labels {
         if label.name.as_str() == name {
@@ -120,7 +120,7 @@ fn is_among(name: &str, labels: &[Pair]) -> bool
 pub(crate) fn stands_before(head: &Head, name: &str) -> bool
     ensures { result ≡ stands_before head.now name.now }
 {
-    METRIC_LABEL == name || is_among(name, head.labels.as_slice())
+    METRIC_LABEL == name || has_label_named(name, head.labels.as_slice())
 }
 
 fn bare(alloc: Global, name: Text) -> Head

@@ -15,16 +15,16 @@ use Rattle.std.proofs.lemmas.List.Elements.{All-from_recursion}
 use Rattle.pr_labels.specs.declared.pair.Pair.{Pair}
 use Rattle.pr_yaml.specs.Tree.{Tree, EntryTree, is_absent}
 use Rattle.pr_fields.specs.declared.problem.ProblemKind.TheVariants.{BadLabel}
-use Rattle.pr_tmpl.specs.TemplateText.{template_parts, bad_template_place}
+use Rattle.pr_tmpl.specs.TemplateReading.{template_parts, bad_template_place}
 use Rattle.pr_fields.specs.Nodes.{line_of, text_of, fields_of, fields_in}
 use Rattle.pr_fields.specs.Problems.{problem, by_text, by_fields, unless_absent}
-use Rattle.pr_fields.specs.Labels.{is_free_name, name_problems, template_fault, template_problems, by_place, label_problems, labels_problems, value_in, put_value, put_label, put_labels, pairs_of, HaveFreeNames, AreTemplates}
+use Rattle.pr_fields.specs.Labels.{is_free_name, name_problems, template_fault, template_problems, by_place, label_problems, labels_problems, label_value, put_value, put_label, put_labels, pairs_of, HaveFreeNames, AreTemplates}
 use Rattle.pr_fields.proofs.NoProblems.{left, right, unless}
 
 -- a label whose name is free, and whose value is a template where that is asked
 pub record IsFine (templates : Bool) (e : EntryTree) : Type 0 where
   pub name : is_free_name e.key ≡ true
-  pub value : (v : List ℕ) → value_in e.value ≡ Some v → templates ≡ true → IsSome (template_parts v)
+  pub value : (v : List ℕ) → label_value e.value ≡ Some v → templates ≡ true → IsSome (template_parts v)
 
 fine_name : (e : EntryTree) → name_problems e ≡ [] → is_free_name e.key ≡ true
 unfolding name_problems
@@ -37,7 +37,7 @@ is_template line text h = by (is_some (template_parts text)) h where
   by true h = refl
   by false h = cc
 
-fine_value : (templates : Bool) (t : Tree) (v : List ℕ) → unless_absent t (by_text (template_problems templates) (line_of t) (text_of t)) ≡ [] → value_in t ≡ Some v → templates ≡ true → IsSome (template_parts v)
+fine_value : (templates : Bool) (t : Tree) (v : List ℕ) → unless_absent t (by_text (template_problems templates) (line_of t) (text_of t)) ≡ [] → label_value t ≡ Some v → templates ≡ true → IsSome (template_parts v)
 fine_value false t v h q a = cc
 fine_value true t v h q a = by (is_absent t) (text_of t) h q where
   by : (b : Bool) (o : Option (List ℕ)) → cond b [] (by_text (template_problems true) (line_of t) o) ≡ [] → cond b None o ≡ Some v → IsSome (template_parts v)
@@ -112,8 +112,8 @@ rising_put (l ∷ ls) k v s = by (text_cmp k l.0) refl (rising_put ls k v s.1) w
   by Greater e more = (keys_put (λ y. text_cmp l.0 y ≡ Less) ls k v (nat_list_cmp_total.antisymm l.0 k ∙ ap ordering_reverse e) s.0, more)
 
 put_one : (templates : Bool) (ls : List (List ℕ × List ℕ)) (e : EntryTree) → IsFine templates e → AreKept templates ls → AreKept templates (put_label ls e)
-put_one templates ls e h k = by (value_in e.value) refl where
-  by : (o : Option (List ℕ)) → value_in e.value ≡ o → AreKept templates (put_value ls e.key o)
+put_one templates ls e h k = by (label_value e.value) refl where
+  by : (o : Option (List ℕ)) → label_value e.value ≡ o → AreKept templates (put_value ls e.key o)
   by None q = k
   by (Some v) q = record { each = each_put templates ls e.key v (h.name, h.value v q) k.each; rising = rising_put ls e.key v k.rising }
 

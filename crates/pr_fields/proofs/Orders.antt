@@ -8,7 +8,7 @@ use Rattle.std.specs.declared.cmp.Ordering.{Ordering}
 use Rattle.std.specs.List.Sorted.{IsSortedBy, IsSortedByKey, IsStableBy, IsStableByKey}
 use Rattle.std.proofs.lemmas.Bool.Decides.{nat_tests}
 use Rattle.pr_fields.specs.declared.problem.Problem.{Problem}
-use Rattle.pr_fields.specs.Order.{rank, is_told_before, in_order}
+use Rattle.pr_fields.specs.Order.{kind_rank, is_told_before, in_order}
 use Rattle.pr_fields.proofs.Placed.{sorted_ordered, ties_ordered, only_ordered}
 
 -- by line, then by rank
@@ -23,8 +23,8 @@ chain a b c d e f h i = grind (arith, nat_tests)
 
 before_is_weak : IsStrictWeakOrder is_told_before
 before_is_weak = record {
-  one_way = λ p q. one_way p.line (rank p.kind) q.line (rank q.kind);
-  chain = λ p q r. chain p.line (rank p.kind) q.line (rank q.kind) r.line (rank r.kind);
+  one_way = λ p q. one_way p.line (kind_rank p.kind) q.line (kind_rank q.kind);
+  chain = λ p q r. chain p.line (kind_rank p.kind) q.line (kind_rank q.kind) r.line (kind_rank r.kind);
 }
 
 pub rises : (ps : List Problem) → IsSortedBy is_told_before (in_order ps)
@@ -41,7 +41,7 @@ only ps qs = only_ordered is_told_before before_is_weak ps qs
 
 -- the key that the code sorts by, and the order of keys
 abbrev pub place_of : Problem → ℕ × ℕ
-place_of p = (p.line, rank p.kind)
+place_of p = (p.line, kind_rank p.kind)
 
 abbrev pub place_cmp : ℕ × ℕ → ℕ × ℕ → Ordering
 place_cmp s t = ordering_then (nat_cmp s.0 t.0) (nat_cmp s.1 t.1)
@@ -51,5 +51,5 @@ tested a b c d = grind (arith, nat_tests)
 
 pub sorted : (ps qs : List Problem) → IsSortedByKey place_of place_cmp qs → IsStableByKey place_of place_cmp ps qs → qs ≡ in_order ps
 sorted ps qs up ties =
-    let agree = λ (p q : Problem). tested p.line (rank p.kind) q.line (rank q.kind) in
+    let agree = λ (p q : Problem). tested p.line (kind_rank p.kind) q.line (kind_rank q.kind) in
     only ps qs (subst (λ lt. IsSortedBy lt qs) (λ i p q. agree p q i) up) (subst (λ lt. IsStableBy lt ps qs) (λ i p q. agree p q i) ties)

@@ -6,7 +6,7 @@ use Rattle.std.proofs.lemmas.List.Sorted.{sorted_far}
 use Rattle.std.specs.Cmp.{IsStrictWeakOrder}
 use Rattle.std.specs.List.{AllByRecursion}
 use Rattle.std.specs.List.Sorted.{ties, IsSortedBy, IsStableBy}
-use Rattle.pr_fields.specs.Order.{placed, ordered}
+use Rattle.pr_fields.specs.Order.{inserted, ordered}
 
 module _ {X : Type 0} where
   kept : (p : X → Bool) (y : X) (ys : List X) → p y ≡ true → filter p (y ∷ ys) ≡ y ∷ filter p ys
@@ -87,10 +87,10 @@ module _ {X : Type 0} where
         ] in
         ap (λ w. w ∷ xs) head ∙ ap (λ l. y ∷ l) (same xs ys left.1 right.1 tails)
 
-    all_placed : (P : X → Type 0) (x : X) (ys : List X) → P x → AllByRecursion P ys → AllByRecursion P (placed before x ys)
+    all_placed : (P : X → Type 0) (x : X) (ys : List X) → P x → AllByRecursion P ys → AllByRecursion P (inserted before x ys)
     all_placed P x [] h a = (h, tt)
     all_placed P x (y ∷ ys) h a = by (before y x) (all_placed P x ys h a.1) where
-      by : (b : Bool) → AllByRecursion P (placed before x ys) → AllByRecursion P (cond b (y ∷ placed before x ys) (x ∷ y ∷ ys))
+      by : (b : Bool) → AllByRecursion P (inserted before x ys) → AllByRecursion P (cond b (y ∷ inserted before x ys) (x ∷ y ∷ ys))
       by true more = (a.0, more)
       by false more = (h, a)
 
@@ -98,10 +98,10 @@ module _ {X : Type 0} where
     all_behind x y [] h a = tt
     all_behind x y (z ∷ zs) h a = (o.chain z y x a.0 h, all_behind x y zs h a.1)
 
-    rises_placed : (x : X) (ys : List X) → Rises before ys → Rises before (placed before x ys)
+    rises_placed : (x : X) (ys : List X) → Rises before ys → Rises before (inserted before x ys)
     rises_placed x [] r = (tt, tt)
     rises_placed x (y ∷ ys) r = by (before y x) refl (rises_placed x ys r.1) where
-      by : (b : Bool) → before y x ≡ b → Rises before (placed before x ys) → Rises before (cond b (y ∷ placed before x ys) (x ∷ y ∷ ys))
+      by : (b : Bool) → before y x ≡ b → Rises before (inserted before x ys) → Rises before (cond b (y ∷ inserted before x ys) (x ∷ y ∷ ys))
       by true e more = (all_placed (λ z. before z y ≡ false) x ys (o.one_way y x e) r.0, more)
       by false e more = ((e, all_behind x y ys e r.0), r)
 
@@ -110,7 +110,7 @@ module _ {X : Type 0} where
     rises_ordered (x ∷ xs) = rises_placed x (ordered before xs) (rises_ordered xs)
 
     -- elements that tie stand as before where one is put in its place
-    filter_placed : (w x : X) (ys : List X) → filter (ties before w) (placed before x ys) ≡ filter (ties before w) (x ∷ ys)
+    filter_placed : (w x : X) (ys : List X) → filter (ties before w) (inserted before x ys) ≡ filter (ties before w) (x ∷ ys)
     filter_placed w x [] = refl
     filter_placed w x (y ∷ ys) = by (before y x) refl (filter_placed w x ys) where
       swapped : (a b : Bool) (r : List X) → (a ≡ true → b ≡ true → ⊥) → cond a (y ∷ cond b (x ∷ r) r) (cond b (x ∷ r) r) ≡ cond b (x ∷ cond a (y ∷ r) r) (cond a (y ∷ r) r)
@@ -119,8 +119,8 @@ module _ {X : Type 0} where
       swapped false true r h = refl
       swapped false false r h = refl
 
-      by : (b : Bool) → before y x ≡ b → filter (ties before w) (placed before x ys) ≡ filter (ties before w) (x ∷ ys) →
-          filter (ties before w) (cond b (y ∷ placed before x ys) (x ∷ y ∷ ys)) ≡ filter (ties before w) (x ∷ y ∷ ys)
+      by : (b : Bool) → before y x ≡ b → filter (ties before w) (inserted before x ys) ≡ filter (ties before w) (x ∷ ys) →
+          filter (ties before w) (cond b (y ∷ inserted before x ys) (x ∷ y ∷ ys)) ≡ filter (ties before w) (x ∷ y ∷ ys)
       by true e more =
           ap (λ l. cond (ties before w y) (y ∷ l) l) more
           ∙ swapped (ties before w y) (ties before w x) (filter (ties before w) ys) (λ p q. true≢false (sym e ∙ o.chain y w x (tied w y p).1 (tied w x q).0))

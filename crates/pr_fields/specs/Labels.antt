@@ -9,7 +9,7 @@ use Rattle.std.specs.Str.{bytes_eq}
 use Rattle.pr_labels.specs.declared.pair.Pair.{Pair}
 use Rattle.pr_labels.specs.Names.{is_label_name}
 use Rattle.pr_labels.specs.LabelSet.{metric_label, pair_of}
-use Rattle.pr_tmpl.specs.TemplateText.{template_parts, bad_template_place}
+use Rattle.pr_tmpl.specs.TemplateReading.{template_parts, bad_template_place}
 use Rattle.pr_yaml.specs.Tree.{Tree, EntryTree, is_absent}
 use Rattle.pr_fields.specs.declared.problem.Problem.{Problem}
 use Rattle.pr_fields.specs.declared.problem.ProblemKind.TheVariants.{BadLabel, BadTemplate}
@@ -45,15 +45,15 @@ labels_problems templates t = by_fields (flat_map (label_problems templates)) (l
 
 -- Labels so far, by name, and one more, which wins over one of its name. One whose value is absent
 -- is none.
-abbrev pub value_in : Tree → Option (List ℕ)
-value_in t = if is_absent t then None else text_of t
+abbrev pub label_value : Tree → Option (List ℕ)
+label_value t = if is_absent t then None else text_of t
 
 abbrev pub put_value : List (List ℕ × List ℕ) → List ℕ → Option (List ℕ) → List (List ℕ × List ℕ)
 put_value labels name None = labels
 put_value labels name (Some value) = insert_entry (slice_cmp nat_cmp) labels name value
 
 abbrev pub put_label : List (List ℕ × List ℕ) → EntryTree → List (List ℕ × List ℕ)
-put_label labels e = put_value labels e.key (value_in e.value)
+put_label labels e = put_value labels e.key (label_value e.value)
 
 -- the same of each label of a map
 unfoldable pub put_labels : List (List ℕ × List ℕ) → List EntryTree → List (List ℕ × List ℕ)

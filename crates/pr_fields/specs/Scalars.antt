@@ -48,14 +48,14 @@ unfoldable pub limit_problems : Tree → List Problem
 limit_problems t = by_text limit_text_problems (line_of t) (text_of t)
 
 -- the span, and the limit, that a value writes
-abbrev pub span_in : Tree → Option ℕ
-span_in t = option_and_then short_span (text_of t)
+abbrev pub node_span : Tree → Option ℕ
+node_span t = option_and_then short_span (text_of t)
 
 abbrev pub limit_in : Tree → Option ℕ
 limit_in t = option_and_then limit_of (text_of t)
 
 unfoldable pub span_under : Option Tree → Option ℕ
-span_under v = option_and_then span_in v
+span_under v = option_and_then node_span v
 
 unfoldable pub limit_under : Option Tree → Option ℕ
 limit_under v = option_and_then limit_in v

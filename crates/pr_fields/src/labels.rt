@@ -5,7 +5,7 @@ ghost use Rattle.std.specs.Option.{option_copied};
 ghost use Rattle.pr_yaml.specs.Tree.{tree_of, entry_tree_of};
 ghost use Rattle.pr_fields.specs.Problems.{by_text};
 ghost use Rattle.pr_fields.specs.Nodes.{line_of, text_of};
-ghost use Rattle.pr_fields.specs.Labels.{is_free_name, name_problems, template_problems, label_problems, labels_problems, value_in, put_label, put_labels, pairs_of};
+ghost use Rattle.pr_fields.specs.Labels.{is_free_name, name_problems, template_problems, label_problems, labels_problems, label_value, put_label, put_labels, pairs_of};
 
 use crate::access::{fields_of, key_of, line_of, text_of, value_of};
 use crate::found::{push, push_bad_label};
@@ -115,8 +115,8 @@ pub fn labels_problems(
     }
 }
 
-fn value_in(node: &Node) -> Option<&str>
-    ensures { option_copied result ≡ value_in (tree_of node.now) }
+fn label_value(node: &Node) -> Option<&str>
+    ensures { option_copied result ≡ label_value (tree_of node.now) }
 {
     if node.is_absent() {
         None
@@ -132,7 +132,7 @@ fn put_label(
 ) -> Result<(), AllocError>
     ensures { OnOk result (labels.new.entries ≡ put_label labels.old.entries (entry_tree_of entry.now)) }
 {
-    if let Some(value) = value_in(value_of(entry)) {
+    if let Some(value) = label_value(value_of(entry)) {
         let name = Text::from_str(alloc, key_of(entry))?;
         labels.insert(name, Text::from_str(alloc, value)?)?;
     }

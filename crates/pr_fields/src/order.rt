@@ -1,14 +1,26 @@
 // The order in which problems are told.
 ghost use Rattle.std.specs.Prelude.{◌≡◌, IfOk};
-ghost use Rattle.pr_fields.specs.Order.{rank, in_order};
+ghost use Rattle.pr_fields.specs.Order.{expression_rank, kind_rank, in_order};
 
 use crate::problem::{Problem, ProblemKind};
+use pr_kinds::QueryKind;
 use pr_words::Items;
 use std::alloc::AllocError;
 
+// The place of a fault of an expression in the order of kinds.
+fn expression_rank(kind: QueryKind) -> u8
+    ensures { result ≡ expression_rank kind }
+{
+    match kind {
+        QueryKind::Lex { .. } => 14,
+        QueryKind::Parse { .. } => 15,
+        QueryKind::Typing { .. } => 16,
+    }
+}
+
 // The place of a kind in the order of kinds.
-fn rank(kind: &ProblemKind) -> u8
-    ensures { result ≡ rank kind.now }
+fn kind_rank(kind: &ProblemKind) -> u8
+    ensures { result ≡ kind_rank kind.now }
 {
     match kind {
         ProblemKind::Yaml { .. } => 0,
@@ -25,9 +37,7 @@ fn rank(kind: &ProblemKind) -> u8
         ProblemKind::BadSpan => 11,
         ProblemKind::BadLimit => 12,
         ProblemKind::NotForRecording { .. } => 13,
-        ProblemKind::Lex { .. } => 14,
-        ProblemKind::Parse { .. } => 15,
-        ProblemKind::Typing { .. } => 16,
+        ProblemKind::Expression { kind, .. } => expression_rank(*kind),
         ProblemKind::BadTemplate { .. } => 17,
         ProblemKind::BadSeries => 18,
         ProblemKind::DuplicateSeries => 19,
@@ -43,6 +53,6 @@ fn rank(kind: &ProblemKind) -> u8
 pub fn in_order(mut problems: Vec<Problem>) -> Result<Items<Problem>, AllocError>
     ensures { IfOk result (λ list. list ≡ in_order problems.items) }
 {
-    problems.sort_by_key(|problem| (problem.line, rank(&problem.kind)))?;
+    problems.sort_by_key(|problem| (problem.line, kind_rank(&problem.kind)))?;
     Ok(Items::new(problems))
 }

@@ -1,7 +1,5 @@
 // What is wrong with a rule file.
-use pr_lex::LexKind;
-use pr_parse::ParseKind;
-use pr_types::TypeKind;
+use pr_kinds::QueryKind;
 use pr_words::Text;
 use pr_yaml_scan::YamlKind;
 
@@ -37,12 +35,9 @@ pub enum ProblemKind {
     BadLimit,
     /// A field of alerts in a rule that records.
     NotForRecording { name: Text },
-    /// An expression has no tokens: the first fault, and the byte of the text where it is.
-    Lex { kind: LexKind, at: usize },
-    /// An expression has no tree: the same.
-    Parse { kind: ParseKind, at: usize },
-    /// An expression has no type: the same.
-    Typing { kind: TypeKind, at: usize },
+    /// A text is no expression, or has no type: the first fault, and the byte of the text where it
+    /// is. Those without tokens come first, then those without a tree.
+    Expression { kind: QueryKind, at: usize },
     /// A text is no template: the first byte with which no template goes on.
     BadTemplate { at: usize },
     /// A text is no series. Test files alone have this kind and those below.

@@ -2,7 +2,7 @@
 ghost use Rattle.std.specs.Prelude.{◌≡◌, ◌++◌, OnOk, map};
 ghost use Rattle.pr_yaml.specs.Tree.{tree_of, entry_tree_of};
 ghost use Rattle.pr_fields.specs.Nodes.{field};
-ghost use Rattle.pr_fields.specs.Scalars.{text_problems, short_span, span_problems, limit_of, limit_problems, span_in, limit_in, span_under, limit_under};
+ghost use Rattle.pr_fields.specs.Scalars.{text_problems, short_span, span_problems, limit_of, limit_problems, node_span, limit_in, span_under, limit_under};
 
 use crate::access::{field, line_of, text_of};
 use crate::found::push;
@@ -70,8 +70,8 @@ pub fn limit_problems(node: &Node, found: &mut Vec<Problem>) -> Result<(), Alloc
     }
 }
 
-fn span_in(node: &Node) -> Option<Span>
-    ensures { result ≡ span_in (tree_of node.now) }
+fn node_span(node: &Node) -> Option<Span>
+    ensures { result ≡ node_span (tree_of node.now) }
 {
     match text_of(node) {
         Some(text) => short_span(text),
@@ -94,7 +94,7 @@ pub fn span_under(key: &str, entries: &[Entry]) -> Option<Span>
     ensures { result ≡ span_under (field key.now (map entry_tree_of entries.now)) }
 {
     match field(key, entries) {
-        Some(node) => span_in(node),
+        Some(node) => node_span(node),
         None => None,
     }
 }

@@ -6,7 +6,7 @@ use Rattle.pr_fn.specs.declared.fn_fault.FnFault.{FnFault}
 use Rattle.pr_fn.specs.declared.fn_fault.FnFault.TheVariants.{SameLabels, TooWide, Memory}
 
 -- want of memory tells nothing of the definition's answer
-abbrev pub fault_told : FnFault → Option FunctionFault
-fault_told (SameLabels labels) = Some (fault.SameLabels labels)
-fault_told TooWide = Some fault.TooWide
-fault_told Memory = None
+abbrev pub function_told : FnFault → Option FunctionFault
+function_told (SameLabels labels) = Some (fault.SameLabels labels)
+function_told TooWide = Some fault.TooWide
+function_told Memory = None

@@ -5,6 +5,7 @@ use Rattle.pr_num.specs.declared.value.Num.{Num}
 use Rattle.pr_labels.specs.declared.pair.Pair.{Pair}
 use Rattle.pr_labels.specs.declared.item.Item.{Item}
 use Rattle.pr_labels.specs.Order.{labels_cmp, labels_eq}
+use Rattle.pr_labels.specs.SeriesText.{unnamed}
 use Rattle.pr_vectors.specs.Vectors.{element, in_label_order, in_order, label_sets}
 use Rattle.pr_fn.specs.declared.rows.Row.{Row}
 
@@ -14,6 +15,10 @@ row_element e = element e.0 e.1.value
 
 abbrev pub row_elements : List (List Pair × Row) → List (Item Num)
 row_elements entries = map row_element entries
+
+-- the element without the metric's name
+abbrev pub without_metric : Item Num → Item Num
+without_metric e = element (unnamed e.labels) e.value
 
 -- how often label sets come
 abbrev pub times : List Pair → List (List Pair) → ℕ

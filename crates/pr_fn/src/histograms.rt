@@ -8,7 +8,7 @@ ghost use Rattle.pr_labels.specs.Order.{labels_cmp};
 ghost use Rattle.pr_vectors.specs.Vectors.{IsVector, element};
 ghost use Rattle.pr_vectors.specs.Histogram.{bound_of, bucket, histogram_labels, histogram_quantiles, histogram_value, is_bucket, merged, number_read};
 ghost use Rattle.pr_fn.specs.Buckets.{bound_in, buckets_of, buckets_with, counted_entries, tally_of, tally_with, valued_entries};
-ghost use Rattle.pr_fn.specs.Faults.{fault_told};
+ghost use Rattle.pr_fn.specs.Faults.{function_told};
 ghost use Rattle.pr_fn.specs.Gathered.{AreGathered, with_key};
 
 use crate::bound::Bound;
@@ -217,7 +217,7 @@ fn quantiles(
 ) -> Result<Vec<Item<Num>>, FnFault>
     ensures { MatchResult result
         (λ v. valued_entries phi.now parts.entries ≡ Ok v.items)
-        (λ e. IfSome (fault_told e) (λ fault. valued_entries phi.now parts.entries ≡ Err fault)) }
+        (λ e. IfSome (function_told e) (λ fault. valued_entries phi.now parts.entries ≡ Err fault)) }
 {
     let mut items = Vec::new(alloc);
     for (labels, buckets) in parts {
@@ -244,7 +244,7 @@ pub fn histogram_quantile(
 ) -> Result<Vec<Item<Num>>, FnFault>
     ensures quantiles { MatchResult result
         (λ v. histogram_quantiles phi vector.now ≡ Ok v.items)
-        (λ e. IfSome (fault_told e) (λ fault. histogram_quantiles phi vector.now ≡ Err fault)) }
+        (λ e. IfSome (function_told e) (λ fault. histogram_quantiles phi vector.now ≡ Err fault)) }
     ensures vector { IfOk result (λ v. IsVector v.items) }
 {
     let parts = gather(alloc, vector)?;

@@ -1,7 +1,7 @@
 // The calendar: fields of the date and the time of day of an instant.
 ghost use Rattle.std.specs.Prelude.{◌≡◌, ◌<◌, ◌+◌, ◌-◌, ◌+ℤ◌, ℤ, pos, negsuc};
 ghost use Rattle.jiff.specs.Words.{IsBetween, epoch_day};
-ghost use Rattle.pr_vectors.specs.Calendar.{calendar_of, date_after, days_before, field, field_at};
+ghost use Rattle.pr_vectors.specs.Calendar.{calendar_of, date_after, days_before, date_field, field_at};
 ghost use Rattle.pr_fn.specs.Dates.{IsDateAfter};
 
 use jiff::civil::Date;
@@ -48,10 +48,10 @@ fn day_of_year(days: u64) -> i16
 }
 
 // A field by the days before the date, and the second of the day.
-fn field(part: Part, days: u64, second: u64) -> i64
+fn date_field(part: Part, days: u64, second: u64) -> i64
     requires days { days < 3652059 }
     requires second { second < 86400 }
-    ensures { result ≡ pos (field part days second) }
+    ensures { result ≡ pos (date_field part days second) }
 {
     match part {
         Part::Minute => (second / 60 % 60) as i64,
@@ -73,7 +73,7 @@ fn field_at(part: Part, since: i128) -> Num
         return Num::NaN;
     }
     let seconds = since as u64;
-    Num::whole(field(part, seconds / SECONDS_IN_DAY, seconds % SECONDS_IN_DAY))
+    Num::whole(date_field(part, seconds / SECONDS_IN_DAY, seconds % SECONDS_IN_DAY))
 }
 
 /// A field of the date and the time of day, in UTC, of an instant that is given as seconds since

@@ -6,7 +6,7 @@ ghost use Rattle.pr_labels.specs.Names.{is_label_name};
 ghost use Rattle.pr_match.specs.Pattern.{expanded};
 ghost use Rattle.pr_vectors.specs.Vectors.{IsVector};
 ghost use Rattle.pr_vectors.specs.LabelFunctions.{joined_text, label_joined, label_replaced, set_if_any};
-ghost use Rattle.pr_fn.specs.Faults.{fault_told};
+ghost use Rattle.pr_fn.specs.Faults.{function_told};
 ghost use Rattle.pr_fn.specs.Separated.{with_rest};
 
 use crate::fn_fault::FnFault;
@@ -76,7 +76,7 @@ pub fn label_replace(
     requires { is_label_name dst.now ≡ true }
     ensures replaced { MatchResult result
         (λ v. label_replaced dst.now src.now (λ text. expanded pattern.now text template.now) vector.now ≡ Ok v.items)
-        (λ e. IfSome (fault_told e) (λ fault. label_replaced dst.now src.now (λ text. expanded pattern.now text template.now) vector.now ≡ Err fault)) }
+        (λ e. IfSome (function_told e) (λ fault. label_replaced dst.now src.now (λ text. expanded pattern.now text template.now) vector.now ≡ Err fault)) }
     ensures vector { IfOk result (λ v. IsVector v.items) }
 {
     let mut rows = no_rows(alloc);
@@ -140,7 +140,7 @@ pub fn label_join(
     requires { is_label_name dst.now ≡ true }
     ensures joined { MatchResult result
         (λ v. label_joined dst.now separator.now names.now vector.now ≡ Ok v.items)
-        (λ e. IfSome (fault_told e) (λ fault. label_joined dst.now separator.now names.now vector.now ≡ Err fault)) }
+        (λ e. IfSome (function_told e) (λ fault. label_joined dst.now separator.now names.now vector.now ≡ Err fault)) }
     ensures vector { IfOk result (λ v. IsVector v.items) }
 {
     let mut rows = no_rows(alloc);

@@ -5,7 +5,7 @@ ghost use Rattle.std.specs.List.{list_any};
 ghost use Rattle.pr_num.specs.Arithmetic.{product_of};
 ghost use Rattle.std.specs.Ordering.{is_lt};
 ghost use Rattle.pr_num.specs.Order.{order_of};
-ghost use Rattle.pr_vectors.specs.Histogram.{at_place, at_rank, bucket_at, greatest, has_no_quantile, in_bucket, in_first, inside, is_same, is_special, last_bucket, part_way, place_of, quantile_in, raised, reaches, then_value};
+ghost use Rattle.pr_vectors.specs.Histogram.{at_place, at_rank, bucket_at, greatest, has_no_quantile, in_bucket, in_first, inside, is_same, is_special, last_bucket, part_way, bucket_place, quantile_in, raised, reaches, then_value};
 
 use pr_num::{Num, TooWide};
 use pr_vectors::Bucket;
@@ -116,9 +116,9 @@ fn first_reached(rank: &Num, buckets: &[Bucket]) -> Option<usize>
 }
 
 // The bucket of a rank: the first one whose count is at least that, else the last.
-fn place_of(rank: &Num, buckets: &[Bucket]) -> usize
+fn bucket_place(rank: &Num, buckets: &[Bucket]) -> usize
     requires { 0 < length buckets.now }
-    ensures place { result ≡ place_of rank.now buckets.now }
+    ensures place { result ≡ bucket_place rank.now buckets.now }
     ensures within { result < length buckets.now }
 {
     first_reached(rank, buckets).unwrap_or(buckets.len() - 1)
@@ -128,7 +128,7 @@ fn at_rank(buckets: &[Bucket], rank: &Num) -> Result<Num, TooWide>
     requires { 1 < length buckets.now }
     ensures { result ≡ at_rank buckets.now rank.now }
 {
-    let place = place_of(rank, buckets);
+    let place = bucket_place(rank, buckets);
     if place + 1 == buckets.len() {
         Ok(buckets[buckets.len() - 2].bound)
     } else {

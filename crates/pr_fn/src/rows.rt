@@ -7,7 +7,7 @@ ghost use Rattle.pr_num.specs.declared.value.Num.{Num};
 ghost use Rattle.pr_labels.specs.declared.item.Item.{Item};
 ghost use Rattle.pr_vectors.specs.Vectors.{IsVector, element};
 ghost use Rattle.pr_vectors.specs.Functions.{told_apart};
-ghost use Rattle.pr_fn.specs.Faults.{fault_told};
+ghost use Rattle.pr_fn.specs.Faults.{function_told};
 ghost use Rattle.pr_fn.specs.Rows.{AreRows, came_again, row_elements, row_with};
 
 use crate::fn_fault::FnFault;
@@ -80,7 +80,7 @@ fn elements_of(alloc: Global, rows: BTreeMap<Labels, Row>) -> Result<Vec<Item<Nu
 pub fn told_apart(alloc: Global, rows: BTreeMap<Labels, Row>) -> Result<Vec<Item<Num>>, FnFault>
     ensures told { (front : List (Item Num)) → AreRows front rows → MatchResult result
         (λ v. told_apart front ≡ Ok v.items)
-        (λ e. IfSome (fault_told e) (λ fault. told_apart front ≡ Err fault)) }
+        (λ e. IfSome (function_told e) (λ fault. told_apart front ≡ Err fault)) }
     ensures vector { IsOrdered labels_cmp rows → IfOk result (λ v. IsVector v.items) }
 {
     if let Some(labels) = first_again(alloc, &rows)? {

@@ -1,5 +1,5 @@
 // Functions of each value, and the scalar of a vector.
-ghost use Rattle.std.specs.Prelude.{◌≡◌, ◌≢◌, ◌++◌, List, [], true, false, Ok, Err, IfOk, IfSome, OnOk, MatchResult};
+ghost use Rattle.std.specs.Prelude.{◌≡◌, ◌≢◌, ◌++◌, List, [], true, false, Ok, Err, IfOk, IfSome, OnOk, MatchResult, map};
 ghost use Rattle.std.specs.List.{filter_map, list_any};
 ghost use Rattle.std.specs.Option.{option_to_list};
 ghost use Rattle.std.specs.BTreeMap.{IsOrdered};
@@ -9,9 +9,9 @@ ghost use Rattle.pr_labels.specs.declared.item.Item.{Item};
 ghost use Rattle.pr_labels.specs.Order.{labels_cmp};
 ghost use Rattle.pr_labels.specs.SeriesText.{unnamed};
 ghost use Rattle.pr_vectors.specs.Vectors.{IsVector};
-ghost use Rattle.pr_vectors.specs.Functions.{ValueFunction, are_crossed, clamped, is_too_wide, mapped, scalar_of, sign_of, at_least, at_most, within, with_value};
-ghost use Rattle.pr_fn.specs.Faults.{fault_told};
-ghost use Rattle.pr_fn.specs.Rows.{AreRows};
+ghost use Rattle.pr_vectors.specs.Functions.{ValueFunction, are_crossed, clamped, is_too_wide, mapped, scalar_of, sign_of, at_least, at_most, told_apart, within, with_value};
+ghost use Rattle.pr_fn.specs.Faults.{function_told};
+ghost use Rattle.pr_fn.specs.Rows.{AreRows, without_metric};
 ghost use Rattle.pr_fn.specs.ValueFunctions.{WorksBy};
 
 use crate::fn_fault::FnFault;
@@ -90,13 +90,32 @@ pub fn map_values<O: Fn(Num) -> Result<Num, TooWide>>(
     requires { O.IsAlwaysCallable op.now }
     ensures mapped { (f : ValueFunction) → WorksBy O.Fn op.now f → MatchResult result
         (λ v. mapped f vector.now ≡ Ok v.items)
-        (λ e. IfSome (fault_told e) (λ fault. mapped f vector.now ≡ Err fault)) }
+        (λ e. IfSome (function_told e) (λ fault. mapped f vector.now ≡ Err fault)) }
     ensures vector { IfOk result (λ v. IsVector v.items) }
 {
     match map_all(alloc, vector, op) {
         Ok(rows) => told_apart(alloc, rows),
         Err(fault) => Err(fault),
     }
+}
+
+/// The elements in label order, without the metric's name.
+///
+/// # Errors
+/// `SameLabels` exactly where two elements have equal labels without their names, with the least
+/// such. `Memory` where memory runs out.
+pub fn without_metrics(alloc: Global, vector: &[Item<Num>]) -> Result<Vec<Item<Num>>, FnFault>
+    ensures told { MatchResult result
+        (λ v. told_apart (map without_metric vector.now) ≡ Ok v.items)
+        (λ e. IfSome (function_told e) (λ fault. told_apart (map without_metric vector.now) ≡ Err fault)) }
+    ensures vector { IfOk result (λ v. IsVector v.items) }
+{
+    let mut rows = no_rows(alloc);
+    for item in vector {
+        let labels = unnamed(alloc, &item.labels)?;
+        put(&mut rows, labels, item.value)?;
+    }
+    told_apart(alloc, rows)
 }
 
 /// The sign of a value: -1, 0 or 1. NaN stays. (Prometheus: Querying, Functions, `sgn`.)
@@ -163,7 +182,7 @@ pub fn clamp(
 ) -> Result<Vec<Item<Num>>, FnFault>
     ensures clamped { MatchResult result
         (λ v. clamped least most vector.now ≡ Ok v.items)
-        (λ e. IfSome (fault_told e) (λ fault. clamped least most vector.now ≡ Err fault)) }
+        (λ e. IfSome (function_told e) (λ fault. clamped least most vector.now ≡ Err fault)) }
     ensures vector { IfOk result (λ v. IsVector v.items) }
 {
     if are_crossed(&least, &most) {

@@ -4,8 +4,8 @@ use Rattle.pr_forms.specs.Reading.{EndsIn, Ends}
 use Rattle.pr_grammar.specs.declared.kind.Level.{Level}
 use Rattle.pr_grammar.specs.declared.kind.Level.TheVariants.{Or, And, Comparison, Sum, Product}
 use Rattle.pr_grammar.specs.declared.kind.Before.TheVariants.{Selector as Selectors, Range as Ranges, Other as Others}
-use Rattle.pr_grammar.specs.Grammar.{production, table, tighter, Rule, Binary, Modified, Matched, Grouped, Included, Unary, Postfix, Operand, Labels, MoreLabels, Matchers, MoreMatchers, Braced, Selection, Tail, Arguments, Aggregation, Parameters, After, InSelector, SelectorSpan, InOther, Step, Closing, Shift}
-use Rattle.pr_grammar.specs.Ranks.{rank, steps}
+use Rattle.pr_grammar.specs.Grammar.{production, tighter, Rule, Binary, Modified, Matched, Grouped, Included, Unary, Postfix, Operand, Labels, MoreLabels, Matchers, MoreMatchers, Braced, Selection, Tail, Arguments, Aggregation, Parameters, After, InSelector, SelectorSpan, InOther, Step, Closing, Shift}
+use Rattle.pr_grammar.specs.GrammarTable.{table, rank, steps}
 
 -- the operands of each level are reached in time
 low : (l : Level) (p : Bool) → nat_le (rank (tighter l p)) 21 ≡ true

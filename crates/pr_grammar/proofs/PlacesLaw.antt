@@ -18,7 +18,7 @@ use Rattle.pr_grammar.specs.declared.kind.Level.{Level}
 use Rattle.pr_grammar.specs.declared.kind.Before.TheVariants.{Selector as Selectors, Range as Ranges, Other as Others}
 use Rattle.pr_grammar.specs.Seen.{Seen, lexed, seen_token, seen_tokens, kind_of, place_of}
 use Rattle.pr_grammar.specs.Whole.{Derives}
-use Rattle.pr_grammar.specs.Grammar.{production, expression, Rule, F, Value, Suffix, in_range, in_subquery, by_offset, part, at, word, lasting, quoted, operation, operand, turn, matches, sided, included, grouped, paired, signed, names, labels, match_sign, match_text, matching, matchers, ended, braced, bare, suffixes, ranged, stepped, selection, function, arguments, closed, called, aggregator, grouper, grouping, aggregation, mark, through, range_made, offset_set, applied_to, selector_of, Binary, Modified, Matched, Grouped, Included, Unary, Postfix, Operand, Labels, MoreLabels, Matchers, MoreMatchers, Braced, Selection, Tail, Arguments, Aggregation, Parameters, After, InSelector, SelectorSpan, InOther, Step, Closing, Shift, sign_at, word_at, is_sign, is_word, operator_at, operator_of, matching_at, matching_of, grouping_at, grouping_of, minus_at, minus_of, side_at, side_of, match_at, match_of, aggregate_at, aggregate_of, function_at, function_of, is_label, label_at, is_metric, metric_at, literal_of, literal_at, is_text, text_at, is_span, span_at, shift_at, span_of, text_of, second_of, joined, turned, with_bool, unmatched, matched, named_by, ungrouped, grouped_by, including, including_none, signed_by, opened_by, closed_by, name_first, names_closed, match_of_text, match_before, match_first, matchers_closed, matchers_opened, applied, bracketed, range_closed, step_closed, with_step, shifted, selecting, named, unnamed, function_called, argument, arguments_closed, arguments_followed, grouping_made, grouped_before, grouped_after, aggregated, parameter, is_shift}
+use Rattle.pr_grammar.specs.Grammar.{production, expression, Rule, F, Value, Suffix, in_range, in_subquery, by_offset, part, at, word, lasting, quoted, operation, operand, turn, matches, sided, included, grouped, paired, signed, names, labels, match_sign, match_text, matching, matchers, ended, braced, bare, suffixes, ranged, stepped, selection, function, arguments, closed, called, aggregator, grouper, grouping, aggregation, mark, through, range_made, offset_set, applied_to, selector_of, Binary, Modified, Matched, Grouped, Included, Unary, Postfix, Operand, Labels, MoreLabels, Matchers, MoreMatchers, Braced, Selection, Tail, Arguments, Aggregation, Parameters, After, InSelector, SelectorSpan, InOther, Step, Closing, Shift, sign_at, word_at, is_sign, is_word, operator_at, operator_of, matching_at, matching_of, grouping_at, grouping_of, minus_at, minus_of, side_at, side_of, match_at, match_of, aggregate_at, aggregate_of, function_at, function_of, is_label, label_at, is_metric, metric_at, literal_of, literal_at, is_text, text_at, is_span, span_at, shift_at, span_of, text_of, second_of, joined, turned, with_bool, unmatched, matched, named_by, ungrouped, grouped_by, including, including_none, signed_by, opened_by, closed_by, name_first, names_closed, match_of_text, match_before, match_first, matchers_closed, matchers_opened, applied, bracketed, range_closed, step_closed, with_step, shifted, selecting, named, unnamed, function_called, argument, arguments_closed, arguments_followed, grouping_made, grouped_before, grouped_after, aggregation_made, parameter, is_shift}
 
 -- a token at no place
 abbrev moved_token : TokenKind → Token
@@ -275,7 +275,7 @@ grouped_after_free (closed ts q) (grouping g p) = refl
 grouped_after_free (closed ts q) bare = refl
 grouped_after_free _ _ = refl
 
-aggregated_free : Commutes aggregated
+aggregated_free : Commutes aggregation_made
 aggregated_free (aggregator op p) (aggregation g ts q) = refl
 aggregated_free _ _ = refl
 

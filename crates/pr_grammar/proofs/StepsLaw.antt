@@ -14,8 +14,9 @@ use Rattle.pr_ast.specs.Names.{func_of}
 use Rattle.pr_ast.specs.declared.place.Place.{Place}
 use Rattle.pr_ast.specs.Tree.{Tree, number, text, select, range, sub, call}
 use Rattle.pr_ast.specs.Steps.{is_step, has_steps}
-use Rattle.std.specs.Prelude.{option_map, codes}
+use Rattle.std.specs.Prelude.{option_map}
 use Rattle.pr_num.specs.declared.value.Num.TheVariants.{NaN as NaNValue, PosInf}
+use Rattle.pr_labels.specs.LabelSet.{metric_label}
 use Rattle.pr_lex.specs.declared.token.Sign.{Sign as SignKind}
 use Rattle.pr_lex.specs.declared.token.Sign.TheVariants.{LeftBrace, RightBrace, LeftParen, RightParen, LeftBracket, RightBracket, Comma, Colon}
 use Rattle.pr_lex.specs.declared.words.Word.TheVariants.{Bool as BoolWord, Offset, Inf, NaN}
@@ -24,7 +25,7 @@ use Rattle.pr_grammar.specs.declared.kind.Kind.TheVariants.{Number, Text, Span, 
 use Rattle.pr_grammar.specs.declared.kind.Level.{Level}
 use Rattle.pr_grammar.specs.declared.kind.Before.TheVariants.{Selector as Selectors, Range as Ranges, Other as Others}
 use Rattle.pr_grammar.specs.Seen.{Seen, lexed, seen_tokens, kind_of, word_kind, function_kind, has_colon, place_of}
-use Rattle.pr_grammar.specs.Grammar.{production, expression, Rule, F, Value, Suffix, in_range, in_subquery, by_offset, part, at, word, lasting, quoted, operation, operand, turn, matches, sided, included, grouped, paired, signed, names, labels, match_sign, match_text, matching, matchers, ended, braced, bare, suffixes, ranged, stepped, selection, function, arguments, closed, called, aggregator, grouper, grouping, aggregation, through, range_made, offset_set, applied_to, selector_of, Binary, Modified, Matched, Grouped, Included, Unary, Postfix, Operand, Labels, MoreLabels, Matchers, MoreMatchers, Braced, Selection, Tail, Arguments, Aggregation, Parameters, After, InSelector, SelectorSpan, InOther, Step, Closing, Shift, sign_at, word_at, is_sign, is_word, operator_at, operator_of, matching_at, matching_of, grouping_at, grouping_of, minus_at, minus_of, side_at, side_of, match_at, match_of, aggregate_at, aggregate_of, function_at, function_of, is_label, label_at, is_metric, metric_at, literal_of, literal_at, is_text, text_at, span_at, span_of, text_of, shifted, second_of, joined, turned, with_bool, unmatched, matched, named_by, ungrouped, grouped_by, including, including_none, signed_by, opened_by, closed_by, name_first, names_closed, match_of_text, match_before, match_first, matchers_closed, matchers_opened, applied, bracketed, range_closed, step_closed, with_step, selecting, named, unnamed, function_called, argument, arguments_closed, arguments_followed, grouping_made, grouped_before, grouped_after, aggregated, parameter, number_of}
+use Rattle.pr_grammar.specs.Grammar.{production, expression, Rule, F, Value, Suffix, in_range, in_subquery, by_offset, part, at, word, lasting, quoted, operation, operand, turn, matches, sided, included, grouped, paired, signed, names, labels, match_sign, match_text, matching, matchers, ended, braced, bare, suffixes, ranged, stepped, selection, function, arguments, closed, called, aggregator, grouper, grouping, aggregation, through, range_made, offset_set, applied_to, selector_of, Binary, Modified, Matched, Grouped, Included, Unary, Postfix, Operand, Labels, MoreLabels, Matchers, MoreMatchers, Braced, Selection, Tail, Arguments, Aggregation, Parameters, After, InSelector, SelectorSpan, InOther, Step, Closing, Shift, sign_at, word_at, is_sign, is_word, operator_at, operator_of, matching_at, matching_of, grouping_at, grouping_of, minus_at, minus_of, side_at, side_of, match_at, match_of, aggregate_at, aggregate_of, function_at, function_of, is_label, label_at, is_metric, metric_at, literal_of, literal_at, is_text, text_at, span_at, span_of, text_of, shifted, second_of, joined, turned, with_bool, unmatched, matched, named_by, ungrouped, grouped_by, including, including_none, signed_by, opened_by, closed_by, name_first, names_closed, match_of_text, match_before, match_first, matchers_closed, matchers_opened, applied, bracketed, range_closed, step_closed, with_step, selecting, named, unnamed, function_called, argument, arguments_closed, arguments_followed, grouping_made, grouped_before, grouped_after, aggregation_made, parameter, number_of}
 
 -- A token is seen with its own kind.
 abbrev IsOwn : Seen → Type 0
@@ -243,7 +244,7 @@ grouped_after_good (closed ts q) (grouping g p) h k = h
 grouped_after_good (closed ts q) bare h k = h
 grouped_after_good _ _ h k = refl
 
-aggregated_good : Joins aggregated
+aggregated_good : Joins aggregation_made
 aggregated_good (aggregator op p) (aggregation g ts q) h k = k
 aggregated_good _ _ h k = refl
 
@@ -325,7 +326,7 @@ other_no_span false false e = cc
 
 function_no_span : (o : Option Func) (n : List ℕ) → function_kind o n ≡ Span → ⊥
 function_no_span (Some f) n e = cc
-function_no_span None n e = other_no_span (bytes_eq n (codes "__name__")) (has_colon n) e
+function_no_span None n e = other_no_span (bytes_eq n metric_label) (has_colon n) e
 
 word_no_span : (o : Option WordOf) (n : List ℕ) → word_kind o n ≡ Span → ⊥
 word_no_span (Some w) n e = cc

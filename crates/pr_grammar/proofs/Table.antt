@@ -8,7 +8,8 @@ use Rattle.pr_grammar.specs.declared.kind.Kind.TheVariants.{Word, Sign}
 use Rattle.pr_grammar.specs.declared.kind.Level.TheVariants.{Or, And, Comparison, Sum, Product}
 use Rattle.pr_grammar.specs.declared.kind.Before.TheVariants.{Selector as Selectors, Range as Ranges, Other as Others}
 use Rattle.pr_grammar.specs.Seen.{Seen, lexed}
-use Rattle.pr_grammar.specs.Grammar.{production, table, Rule, Binary, Modified, Matched, Grouped, Included, Unary, Postfix, Operand, Labels, MoreLabels, Matchers, MoreMatchers, Braced, Selection, Tail, Arguments, Aggregation, Parameters, After, InSelector, SelectorSpan, InOther, Step, Closing, Shift}
+use Rattle.pr_grammar.specs.Grammar.{production, Rule, Binary, Modified, Matched, Grouped, Included, Unary, Postfix, Operand, Labels, MoreLabels, Matchers, MoreMatchers, Braced, Selection, Tail, Arguments, Aggregation, Parameters, After, InSelector, SelectorSpan, InOther, Step, Closing, Shift}
+use Rattle.pr_grammar.specs.GrammarTable.{table}
 
 starts_known : (n : Rule) (t : Seen) → starts_of table (production n) t ≡ table.starts n t
 starts_known (Binary Or true) (lexed (Sign Comma) t) = refl

@@ -1,9 +1,8 @@
 -- The grammar of the query language.
-use Rattle.std.specs.Prelude.{ℕ, ◌||◌, ◌&&◌, Bool, true, false, Option, Some, None, is_some, List, [], ◌∷◌, option_map, if◌then◌else◌}
+use Rattle.std.specs.Prelude.{ℕ, Bool, true, false, Option, Some, None, List, [], ◌∷◌, option_map, if◌then◌else◌}
 use Rattle.pr_num.specs.declared.value.Num.{Num}
 use Rattle.pr_num.specs.declared.value.Num.TheVariants.{NaN as NaNValue, PosInf}
 use Rattle.pr_forms.specs.Form.{Form, token, nothing, pair, either, fold, rule}
-use Rattle.pr_forms.specs.Table.{Table}
 use Rattle.pr_lex.specs.declared.token.TokenKind.{TokenKind}
 use Rattle.pr_lex.specs.declared.token.TokenKind.TheVariants.{Name as NameToken, Number as NumberToken, Duration as DurationToken, Text as TextToken}
 use Rattle.pr_lex.specs.declared.token.Sign.{Sign as SignKind}
@@ -535,9 +534,9 @@ grouped_after (closed ts q) (grouping g p) = aggregation g ts p
 grouped_after (closed ts q) bare = aggregation no_grouping ts q
 grouped_after _ _ = mark
 
-abbrev pub aggregated : Value → Value → Value
-aggregated (aggregator op p) (aggregation g ts q) = part (through p q) (aggregate (through p q) op g ts)
-aggregated _ _ = mark
+abbrev pub aggregation_made : Value → Value → Value
+aggregation_made (aggregator op p) (aggregation g ts q) = part (through p q) (aggregate (through p q) op g ts)
+aggregation_made _ _ = mark
 
 abbrev pub parameter : Value → Value → Value
 parameter (part p t) (part q u) = arguments (more (more none t) u)
@@ -621,27 +620,29 @@ some_arguments = fold argument (pair argument (nothing (arguments none)) (rule e
 --   postfix = primary { "[" duration "]" | "[" duration ":" [duration] "]" | "offset" duration }
 --   primary = number | string | "(" expr ")" | name [braces] | braces
 --           | function "(" [ expr { "," expr } ] ")"
---           | aggregation [group] "(" expr ["," expr] ")" | aggregation "(" expr ["," expr] ")" group
---   group   = ("by" | "without") labels braces  = "{" [ matcher { "," matcher } [","] ] "}" matcher
---   = label ("=" | "!=" | "=~" | "!~") string How it is split, so that one token ahead decides it:
---   expr, and, cmp, sum, prod   Binary of a level. Its flag says whether a parenthesis may come
---   first: not after a `group_left` or
---                               `group_right` without labels, whose labels that parenthesis would begin.
---   mods                        Modified ("bool"), Matched ("on" labels), Grouped ("group_left"),
---   Included (its labels): each with
---                               all that follows up to the right side's end, since the flag of the right side depends on them.
---   unary, postfix              Unary, and Postfix for parentheses. primary
---   Operand, with what may follow it: Selection (a name's braces), Tail (a function's arguments, or
---   a
---                               metric with the name of a function), Aggregation (a group before or after), Parameters (its one or
---                               two arguments), Arguments.
---   what follows a primary      After a selector, a range or subquery, or anything else: so a range
---   stands directly after a selector,
---                               and an offset once, after a selector, a range or a subquery. InSelector, SelectorSpan, InOther, Step,
---                               Closing and Shift are what stands in brackets and after "offset".
---   labels, braces              `label_list` with Labels and MoreLabels, `matcher_list` with
---   Matchers and MoreMatchers: with a comma
---                               before more of them or before the end. The flag of Matchers says that a metric's name stands before.
+--           | aggregation [group] "(" expr ["," expr] ")"
+--           | aggregation "(" expr ["," expr] ")" group
+--   group   = ("by" | "without") labels
+--   braces  = "{" [ matcher { "," matcher } [","] ] "}"
+--   matcher = label ("=" | "!=" | "=~" | "!~") string
+-- How it is split, so that one token ahead decides it:
+--   expr .. prod    Binary of a level. Its flag says whether a parenthesis may come first: not
+--                   after a `group_left` or `group_right` without labels, whose labels that
+--                   parenthesis would begin.
+--   mods            Modified ("bool"), Matched ("on" labels), Grouped ("group_left"), Included
+--                   (its labels): each with all that follows up to the right side's end, since
+--                   the flag of the right side depends on them.
+--   unary, postfix  Unary, and Postfix for parentheses.
+--   primary         Operand, with what may follow it: Selection (a name's braces), Tail (a
+--                   function's arguments, or a metric with the name of a function), Aggregation
+--                   (a group before or after), Parameters (its one or two arguments), Arguments.
+--   after it        After a selector, a range or subquery, or anything else: so a range stands
+--                   directly after a selector, and an offset once, after a selector, a range or
+--                   a subquery. InSelector, SelectorSpan, InOther, Step, Closing and Shift are
+--                   what stands in brackets and after "offset".
+--   labels, braces  `label_list` with Labels and MoreLabels, `matcher_list` with Matchers and
+--                   MoreMatchers: with a comma before more of them or before the end. The flag
+--                   of Matchers says that a metric's name stands before.
 abbrev pub production : Rule → F
 production (Binary l p) = fold joined (rule (tighter l p)) (right_side l)
 production (Modified l) = either (pair with_bool (the_word BoolWord) (rule (Matched l))) (rule (Matched l))
@@ -654,7 +655,7 @@ production (Postfix false) = rule Operand
 production Operand = either (pair applied (token literal_at) (rule (After Others)))
     (either (pair named (token metric_at) (rule Selection))
     (either (pair function_called (token function_at) (rule Tail))
-    (either (pair applied (pair aggregated (token aggregate_at) (rule Aggregation)) (rule (After Others)))
+    (either (pair applied (pair aggregation_made (token aggregate_at) (rule Aggregation)) (rule (After Others)))
     unnamed_selector)))
 production Labels = either (pair name_first (token (label_at false)) (rule MoreLabels)) (nothing (names []))
 production MoreLabels = either (pair second_of (sign Comma) (rule Labels)) (nothing (names []))
@@ -675,139 +676,3 @@ production InOther = pair bracketed (token span_at) (pair second_of (sign Colon)
 production Step = either (pair with_step (token span_at) (rule Closing)) (rule Closing)
 production Closing = pair step_closed (sign RightBracket) (rule (After Ranges))
 production Shift = pair shifted (token shift_at) (rule (After Others))
-
--- What one token ahead tells of the rules.
-abbrev pub starts_operand : Kind → Bool
-starts_operand Number = true
-starts_operand Text = true
-starts_operand (Word Inf) = true
-starts_operand (Word NaN) = true
-starts_operand (Sign LeftBrace) = true
-starts_operand (Function f) = true
-starts_operand k = is_metric k || is_some (aggregate_of k)
-
-abbrev pub starts_unary : Bool → Kind → Bool
-starts_unary p k = starts_operand k || is_some (minus_of k) || (p && is_sign LeftParen k)
-
-abbrev pub starts_selection : Kind → Bool
-starts_selection k = is_sign LeftBrace k || is_sign LeftBracket k || is_word Offset k
-
-abbrev pub starts_after : Before → Kind → Bool
-starts_after Selectors k = is_sign LeftBracket k || is_word Offset k
-starts_after Ranges k = is_sign LeftBracket k || is_word Offset k
-starts_after Others k = is_sign LeftBracket k
-
-abbrev pub starts_kind : Rule → Kind → Bool
-starts_kind (Binary l p) k = starts_unary p k
-starts_kind (Modified l) k = is_word BoolWord k || is_some (matching_of k) || starts_unary true k
-starts_kind (Matched l) k = is_some (matching_of k) || starts_unary true k
-starts_kind (Grouped l) k = is_some (side_of k) || starts_unary true k
-starts_kind (Included l) k = starts_unary true k
-starts_kind (Unary p) k = starts_unary p k
-starts_kind (Postfix p) k = starts_operand k || (p && is_sign LeftParen k)
-starts_kind Operand k = starts_operand k
-starts_kind Labels k = is_label false k
-starts_kind MoreLabels k = is_sign Comma k
-starts_kind (Matchers named) k = is_label named k
-starts_kind (MoreMatchers named) k = is_sign Comma k
-starts_kind Braced k = is_sign LeftBrace k
-starts_kind Selection k = starts_selection k
-starts_kind Tail k = is_sign LeftParen k || starts_selection k
-starts_kind Arguments k = starts_unary true k
-starts_kind Aggregation k = is_some (grouping_of k) || is_sign LeftParen k
-starts_kind Parameters k = starts_unary true k
-starts_kind (After b) k = starts_after b k
-starts_kind InSelector k = is_span k
-starts_kind SelectorSpan k = is_sign RightBracket k || is_sign Colon k
-starts_kind InOther k = is_span k
-starts_kind Step k = is_span k || is_sign RightBracket k
-starts_kind Closing k = is_sign RightBracket k
-starts_kind Shift k = is_shift k
-
-abbrev pub starts_rule : Rule → Seen → Bool
-starts_rule n (lexed k t) = starts_kind n k
-
-abbrev pub empty_rule : Rule → Bool
-empty_rule Labels = true
-empty_rule MoreLabels = true
-empty_rule (Matchers named) = true
-empty_rule (MoreMatchers named) = true
-empty_rule Braced = true
-empty_rule Selection = true
-empty_rule Tail = true
-empty_rule Arguments = true
-empty_rule (After b) = true
-empty_rule _ = false
-
--- an operand goes on with what may follow it, or with the grouping of an aggregation
-abbrev pub more_suffixes : Kind → Bool
-more_suffixes k = is_sign LeftBracket k || is_word Offset k
-
-abbrev pub more_selection : Kind → Bool
-more_selection k = is_sign LeftBrace k || more_suffixes k
-
-abbrev pub more_operand : Kind → Bool
-more_operand k = more_selection k || is_sign LeftParen k || is_some (grouping_of k)
-
--- with the operators of a level and of the tighter ones
-abbrev pub more_products : Kind → Bool
-more_products k = is_some (operator_of Product k) || more_operand k
-
-abbrev pub more_sums : Kind → Bool
-more_sums k = is_some (operator_of Sum k) || more_products k
-
-abbrev pub more_comparisons : Kind → Bool
-more_comparisons k = is_some (operator_of Comparison k) || more_sums k
-
-abbrev pub more_ands : Kind → Bool
-more_ands k = is_some (operator_of And k) || more_comparisons k
-
-abbrev pub more_ors : Kind → Bool
-more_ors k = is_some (operator_of Or k) || more_ands k
-
-abbrev pub more_level : Level → Kind → Bool
-more_level Or k = more_ors k
-more_level And k = more_ands k
-more_level Comparison k = more_comparisons k
-more_level Sum k = more_sums k
-more_level Product k = more_products k
-
-abbrev pub more_right : Level → Kind → Bool
-more_right Or k = more_ands k
-more_right And k = more_comparisons k
-more_right Comparison k = more_sums k
-more_right Sum k = more_products k
-more_right Product k = more_operand k
-
-abbrev pub more_kind : Rule → Kind → Bool
-more_kind (Binary l p) k = more_level l k
-more_kind (Modified l) k = more_right l k
-more_kind (Matched l) k = more_right l k
-more_kind (Grouped l) k = more_right l k
-more_kind (Included l) k = more_right l k
-more_kind (Unary p) k = more_operand k
-more_kind (Postfix p) k = more_operand k
-more_kind Operand k = more_operand k
-more_kind Labels k = is_label false k || is_sign Comma k
-more_kind MoreLabels k = is_label false k || is_sign Comma k
-more_kind (Matchers named) k = is_label named k || is_sign Comma k
-more_kind (MoreMatchers named) k = is_label named k || is_sign Comma k
-more_kind Braced k = is_sign LeftBrace k
-more_kind Selection k = more_selection k
-more_kind Tail k = is_sign LeftParen k || more_selection k
-more_kind Arguments k = starts_unary true k || more_ors k || is_sign Comma k
-more_kind Aggregation k = is_some (grouping_of k)
-more_kind Parameters k = more_ors k || is_sign Comma k
-more_kind (After b) k = more_suffixes k
-more_kind InSelector k = more_suffixes k
-more_kind SelectorSpan k = more_suffixes k
-more_kind InOther k = more_suffixes k
-more_kind Step k = more_suffixes k
-more_kind Closing k = more_suffixes k
-more_kind Shift k = more_suffixes k
-
-abbrev pub more_rule : Rule → Seen → Bool
-more_rule n (lexed k t) = more_kind n k
-
-abbrev pub table : Table Seen Rule
-table = record { empty = empty_rule; starts = starts_rule; more = more_rule }

@@ -1,5 +1,5 @@
 pub mod Seen
 pub mod Grammar
 pub mod Reader
-pub mod Ranks
+pub mod GrammarTable
 pub mod Whole

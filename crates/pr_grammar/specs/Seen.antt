@@ -1,8 +1,9 @@
 -- Tokens as the grammar sees them.
-use Rattle.std.specs.Prelude.{ℕ, ◌==◌, Bool, Option, Some, None, List, map, codes, if◌then◌else◌}
+use Rattle.std.specs.Prelude.{ℕ, ◌==◌, Bool, Option, Some, None, List, map, if◌then◌else◌}
 use Prim.Native.Char.{code}
 use Rattle.std.specs.List.{list_any}
 use Rattle.std.specs.Str.{bytes_eq}
+use Rattle.pr_labels.specs.LabelSet.{metric_label}
 use Rattle.pr_lex.specs.declared.token.Token.{Token}
 use Rattle.pr_lex.specs.declared.token.TokenKind.{TokenKind}
 use Rattle.pr_lex.specs.declared.token.TokenKind.TheVariants.{Name, Number as NumberToken, Duration, Text as TextToken, Sign as SignToken}
@@ -19,7 +20,7 @@ abbrev pub has_colon : List ℕ → Bool
 has_colon text = list_any (λ b. b == code ":") text
 
 abbrev pub other_name : List ℕ → Kind
-other_name text = if bytes_eq text (codes "__name__") then OwnName else (if has_colon text then WithColon else Plain)
+other_name text = if bytes_eq text metric_label then OwnName else (if has_colon text then WithColon else Plain)
 
 abbrev pub function_kind : Option Func → List ℕ → Kind
 function_kind (Some func) text = Function func

@@ -4,6 +4,7 @@ ghost use Rattle.pr_grammar.specs.Seen.{kind_of, name_kind, other_name, has_colo
 ghost use Rattle.pr_grammar.specs.Grammar.{through};
 
 use pr_ast::{Func, Place, func_of};
+use pr_labels::METRIC_LABEL;
 use pr_lex::{Sign, Token, TokenKind, Word, word_of};
 use std::alloc::{AllocError, Global};
 
@@ -63,7 +64,7 @@ fn has_colon(text: &[u8]) -> bool
 fn other_name(text: &str) -> Kind
     ensures { result ≡ other_name text.now }
 {
-    if text == "__name__" {
+    if text == METRIC_LABEL {
         Kind::OwnName
     } else if has_colon(text.as_bytes()) {
         Kind::WithColon

@@ -7,8 +7,8 @@ ghost use Rattle.pr_lex.specs.Spaced.{kinds};
 ghost use Rattle.pr_ast.specs.Tree.{Tree};
 ghost use Rattle.pr_ast.specs.Places.{IsSameButPlaces};
 ghost use Rattle.pr_ast.specs.Steps.{has_steps};
-ghost use Rattle.pr_grammar.specs.Grammar.{production, table};
-ghost use Rattle.pr_grammar.specs.Ranks.{rank, steps};
+ghost use Rattle.pr_grammar.specs.Grammar.{production};
+ghost use Rattle.pr_grammar.specs.GrammarTable.{table, rank, steps};
 ghost use Rattle.pr_grammar.specs.Seen.{seen_tokens};
 ghost use Rattle.pr_grammar.specs.Whole.{Derives};
 

@@ -2,10 +2,11 @@
 ghost use Rattle.std.specs.Prelude.{◌≡◌, ◌<◌, ◌≤◌, length, IfOk, IfSome, MatchOption, MatchResult};
 ghost use Rattle.pr_forms.specs.Form.{rule};
 ghost use Rattle.pr_forms.specs.Run.{good};
+ghost use Rattle.pr_forms.specs.Language.{Gives, FailsAt};
 ghost use Rattle.pr_grammar.specs.Seen.{seen};
 ghost use Rattle.pr_ast.specs.declared.place.Place.{Place as PlaceOf};
 ghost use Rattle.pr_grammar.specs.Grammar.{Labels, Matchers, names, labels, matchers, match_text, ended, through, label_list, matchers_end, sign_and_text};
-ghost use Rattle.pr_grammar.specs.Reader.{Gives, FailsAt};
+ghost use Rattle.pr_grammar.specs.GrammarTable.{queries};
 
 use crate::kind::{Lexed, through};
 use crate::tokens::{after, label_in, match_in, text_in};
@@ -18,7 +19,7 @@ use std::alloc::{AllocError, Global};
 /// The labels at the front, with commas between them and maybe one more, and what follows them.
 #[tactic(auto, using(pr_forms::proofs::Ways::ways))]
 fn names_in(alloc: Global, tokens: &[Lexed]) -> Result<(Vec<Text>, &[Lexed]), AllocError>
-    ensures read { IfOk result (λ x. Gives (rule Labels) tokens.now (good (names x.0.items) (seen x.1.now))) }
+    ensures read { IfOk result (λ x. Gives queries (rule Labels) tokens.now (good (names x.0.items) (seen x.1.now))) }
     ensures shorter { IfOk result (λ x. length x.1.now ≤ length tokens.now) }
 {
     let mut found = Vec::new(alloc);
@@ -40,7 +41,7 @@ pub fn labels_in(
     alloc: Global,
     tokens: &[Lexed],
 ) -> Result<(Items<Text>, Place, &[Lexed]), Fault<'_, Lexed>>
-    ensures read { MatchResult result (λ x. Gives label_list tokens.now (good (labels x.0 x.1) (seen x.2.now))) (FailsAt label_list tokens.now) }
+    ensures read { MatchResult result (λ x. Gives queries label_list tokens.now (good (labels x.0 x.1) (seen x.2.now))) (FailsAt queries label_list tokens.now) }
     ensures shorter { IfOk result (λ x. length x.2.now < length tokens.now) }
 {
     let Some((_open, following)) = after(Sign::LeftParen, tokens) else {
@@ -60,7 +61,7 @@ fn matcher_in<'a>(
     label: &str,
     tokens: &'a [Lexed],
 ) -> Result<(MatchText, &'a [Lexed]), Fault<'a, Lexed>>
-    ensures read { MatchResult result (λ x. (x.0.label ≡ label.now) × Gives sign_and_text tokens.now (good (match_text x.0.op x.0.text) (seen x.1.now))) (FailsAt sign_and_text tokens.now) }
+    ensures read { MatchResult result (λ x. (x.0.label ≡ label.now) × Gives queries sign_and_text tokens.now (good (match_text x.0.op x.0.text) (seen x.1.now))) (FailsAt queries sign_and_text tokens.now) }
     ensures shorter { IfOk result (λ x. length x.1.now < length tokens.now) }
 {
     let Some((op, following)) = match_in(tokens) else {
@@ -82,7 +83,7 @@ fn matchers_in(
     named: bool,
     tokens: &[Lexed],
 ) -> Result<(Vec<MatchText>, &[Lexed]), Fault<'_, Lexed>>
-    ensures read { MatchResult result (λ x. Gives (rule (Matchers named)) tokens.now (good (matchers x.0.items) (seen x.1.now))) (FailsAt (rule (Matchers named)) tokens.now) }
+    ensures read { MatchResult result (λ x. Gives queries (rule (Matchers named)) tokens.now (good (matchers x.0.items) (seen x.1.now))) (FailsAt queries (rule (Matchers named)) tokens.now) }
     ensures shorter { IfOk result (λ x. length x.1.now ≤ length tokens.now) }
 {
     let mut found = Vec::new(alloc);
@@ -107,7 +108,7 @@ pub fn braces_in(
     opening: Place,
     tokens: &[Lexed],
 ) -> Result<(Items<MatchText>, Place, &[Lexed]), Fault<'_, Lexed>>
-    ensures read { MatchResult result (λ x. (q : PlaceOf) × Gives (matchers_end named) tokens.now (good (ended x.0 q) (seen x.2.now)) × (x.1 ≡ through opening q)) (FailsAt (matchers_end named) tokens.now) }
+    ensures read { MatchResult result (λ x. (q : PlaceOf) × Gives queries (matchers_end named) tokens.now (good (ended x.0 q) (seen x.2.now)) × (x.1 ≡ through opening q)) (FailsAt queries (matchers_end named) tokens.now) }
     ensures shorter { IfOk result (λ x. length x.2.now < length tokens.now) }
 {
     let (found, after_matchers) = matchers_in(alloc, named, tokens)?;

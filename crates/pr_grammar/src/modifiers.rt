@@ -1,9 +1,11 @@
 // What stands between an operator and its right side.
 ghost use Rattle.std.specs.Prelude.{◌≡◌, ◌≤◌, length, IfOk, MatchResult, false};
 ghost use Rattle.pr_forms.specs.Form.{rule};
+ghost use Rattle.pr_forms.specs.Language.{FailsAt};
 ghost use Rattle.pr_grammar.specs.declared.kind.Level.{Level as LevelOf};
 ghost use Rattle.pr_grammar.specs.Grammar.{Modified, Matched, Grouped, Included, operand, grouped, included, tighter};
-ghost use Rattle.pr_grammar.specs.Reader.{FailsAt, Carries};
+ghost use Rattle.pr_grammar.specs.GrammarTable.{queries};
+ghost use Rattle.pr_grammar.specs.Reader.{HasSide};
 
 use crate::kind::Lexed;
 use crate::lists::labels_in;
@@ -30,7 +32,7 @@ fn included_in(
     alloc: Global,
     tokens: &[Lexed],
 ) -> Result<(Items<Text>, bool, &[Lexed]), Fault<'_, Lexed>>
-    ensures read { (l : LevelOf) → MatchResult result (λ x. Carries (rule (Included l)) tokens.now (included x.0) (rule (tighter l x.1)) x.2.now) (FailsAt (rule (Included l)) tokens.now) }
+    ensures read { (l : LevelOf) → MatchResult result (λ x. HasSide (rule (Included l)) tokens.now (included x.0) (rule (tighter l x.1)) x.2.now) (FailsAt queries (rule (Included l)) tokens.now) }
     ensures shorter { IfOk result (λ x. length x.2.now ≤ length tokens.now) }
 {
     let Some((_open, _following)) = after(Sign::LeftParen, tokens) else {
@@ -47,7 +49,7 @@ fn sides_in(
     alloc: Global,
     tokens: &[Lexed],
 ) -> Result<(Card, Items<Text>, bool, &[Lexed]), Fault<'_, Lexed>>
-    ensures read { (l : LevelOf) → MatchResult result (λ x. Carries (rule (Grouped l)) tokens.now (grouped x.0 x.1) (rule (tighter l x.2)) x.3.now) (FailsAt (rule (Grouped l)) tokens.now) }
+    ensures read { (l : LevelOf) → MatchResult result (λ x. HasSide (rule (Grouped l)) tokens.now (grouped x.0 x.1) (rule (tighter l x.2)) x.3.now) (FailsAt queries (rule (Grouped l)) tokens.now) }
     ensures shorter { IfOk result (λ x. length x.3.now ≤ length tokens.now) }
 {
     let Some((card, following)) = side_in(tokens) else {
@@ -65,7 +67,7 @@ fn matched_in(
     with_bool: bool,
     tokens: &[Lexed],
 ) -> Result<(Modifiers, &[Lexed]), Fault<'_, Lexed>>
-    ensures read { (l : LevelOf) → MatchResult result (λ x. (x.0.with_bool ≡ with_bool) × Carries (rule (Matched l)) tokens.now (operand false x.0.matching) (rule (tighter l x.0.opens)) x.1.now) (FailsAt (rule (Matched l)) tokens.now) }
+    ensures read { (l : LevelOf) → MatchResult result (λ x. (x.0.with_bool ≡ with_bool) × HasSide (rule (Matched l)) tokens.now (operand false x.0.matching) (rule (tighter l x.0.opens)) x.1.now) (FailsAt queries (rule (Matched l)) tokens.now) }
     ensures shorter { IfOk result (λ x. length x.1.now ≤ length tokens.now) }
 {
     let Some((on, following)) = matching_in(tokens) else {
@@ -102,7 +104,7 @@ pub fn modifiers_in(
     alloc: Global,
     tokens: &[Lexed],
 ) -> Result<(Modifiers, &[Lexed]), Fault<'_, Lexed>>
-    ensures read { (l : LevelOf) → MatchResult result (λ x. Carries (rule (Modified l)) tokens.now (operand x.0.with_bool x.0.matching) (rule (tighter l x.0.opens)) x.1.now) (FailsAt (rule (Modified l)) tokens.now) }
+    ensures read { (l : LevelOf) → MatchResult result (λ x. HasSide (rule (Modified l)) tokens.now (operand x.0.with_bool x.0.matching) (rule (tighter l x.0.opens)) x.1.now) (FailsAt queries (rule (Modified l)) tokens.now) }
     ensures shorter { IfOk result (λ x. length x.1.now ≤ length tokens.now) }
 {
     match after_word(Word::Bool, tokens) {

@@ -1,6 +1,7 @@
 // Taking single tokens.
 ghost use Rattle.std.specs.Prelude.{◌≡◌, ◌<◌, length, IfOk, IfSome, MatchOption, option_map, Some, None, true};
 ghost use Rattle.pr_forms.specs.Form.{token};
+ghost use Rattle.pr_forms.specs.Language.{Takes, Lacks};
 ghost use Rattle.pr_grammar.specs.Seen.{see, place_of};
 ghost use Rattle.pr_grammar.specs.Grammar.{
   same_sign,
@@ -55,9 +56,9 @@ ghost use Rattle.pr_grammar.specs.Grammar.{
   text_at,
   span_at,
   shift_at,
-  starts_unary,
 };
-ghost use Rattle.pr_grammar.specs.Reader.{Takes, Lacks, argument_starts};
+ghost use Rattle.pr_grammar.specs.Reader.{argument_starts};
+ghost use Rattle.pr_grammar.specs.GrammarTable.{starts_unary, queries};
 
 use crate::kind::{Kind, Level, Lexed, place_of};
 use pr_ast::{AggOp, BinOp, Func, MatchSign, Place};
@@ -286,7 +287,7 @@ fn is_shift(kind: Kind) -> bool
 
 /// The place of the sign at the front, where it is this one, and what follows it.
 pub fn after(wanted: Sign, tokens: &[Lexed]) -> Option<(Place, &[Lexed])>
-    ensures read { MatchOption result (Lacks (sign wanted) tokens.now) (λ x. Takes (sign wanted) tokens.now (at x.0) x.1.now) }
+    ensures read { MatchOption result (Lacks queries (sign wanted) tokens.now) (λ x. Takes queries (sign wanted) tokens.now (at x.0) x.1.now) }
     ensures shorter { IfSome result (λ x. length x.1.now < length tokens.now) }
 {
     take(
@@ -305,7 +306,7 @@ pub fn after(wanted: Sign, tokens: &[Lexed]) -> Option<(Place, &[Lexed])>
 
 /// The place of the word at the front, where it is this one, and what follows it.
 pub fn after_word(wanted: Word, tokens: &[Lexed]) -> Option<(Place, &[Lexed])>
-    ensures read { MatchOption result (Lacks (the_word wanted) tokens.now) (λ x. Takes (the_word wanted) tokens.now (at x.0) x.1.now) }
+    ensures read { MatchOption result (Lacks queries (the_word wanted) tokens.now) (λ x. Takes queries (the_word wanted) tokens.now (at x.0) x.1.now) }
     ensures shorter { IfSome result (λ x. length x.1.now < length tokens.now) }
 {
     take(
@@ -324,7 +325,7 @@ pub fn after_word(wanted: Word, tokens: &[Lexed]) -> Option<(Place, &[Lexed])>
 
 /// The operator of the level at the front, and what follows it.
 pub fn operator_in(level: Level, tokens: &[Lexed]) -> Option<(BinOp, &[Lexed])>
-    ensures read { MatchOption result (Lacks (operator level) tokens.now) (λ x. Takes (operator level) tokens.now (operation x.0) x.1.now) }
+    ensures read { MatchOption result (Lacks queries (operator level) tokens.now) (λ x. Takes queries (operator level) tokens.now (operation x.0) x.1.now) }
     ensures shorter { IfSome result (λ x. length x.1.now < length tokens.now) }
 {
     take(
@@ -337,7 +338,7 @@ pub fn operator_in(level: Level, tokens: &[Lexed]) -> Option<(BinOp, &[Lexed])>
 
 /// Whether `on` or `ignoring` is at the front, and what follows it.
 pub fn matching_in(tokens: &[Lexed]) -> Option<(bool, &[Lexed])>
-    ensures read { MatchOption result (Lacks (token matching_at) tokens.now) (λ x. Takes (token matching_at) tokens.now (matches x.0) x.1.now) }
+    ensures read { MatchOption result (Lacks queries (token matching_at) tokens.now) (λ x. Takes queries (token matching_at) tokens.now (matches x.0) x.1.now) }
     ensures shorter { IfSome result (λ x. length x.1.now < length tokens.now) }
 {
     take(
@@ -350,7 +351,7 @@ pub fn matching_in(tokens: &[Lexed]) -> Option<(bool, &[Lexed])>
 
 /// Whether `by` or `without` is at the front, and what follows it.
 pub fn grouping_in(tokens: &[Lexed]) -> Option<(bool, &[Lexed])>
-    ensures read { MatchOption result (Lacks (token grouping_at) tokens.now) (λ x. Takes (token grouping_at) tokens.now (grouper x.0) x.1.now) }
+    ensures read { MatchOption result (Lacks queries (token grouping_at) tokens.now) (λ x. Takes queries (token grouping_at) tokens.now (grouper x.0) x.1.now) }
     ensures shorter { IfSome result (λ x. length x.1.now < length tokens.now) }
 {
     take(
@@ -363,7 +364,7 @@ pub fn grouping_in(tokens: &[Lexed]) -> Option<(bool, &[Lexed])>
 
 /// The side that `group_left` or `group_right` at the front names, and what follows it.
 pub fn side_in(tokens: &[Lexed]) -> Option<(Card, &[Lexed])>
-    ensures read { MatchOption result (Lacks (token side_at) tokens.now) (λ x. Takes (token side_at) tokens.now (sided x.0) x.1.now) }
+    ensures read { MatchOption result (Lacks queries (token side_at) tokens.now) (λ x. Takes queries (token side_at) tokens.now (sided x.0) x.1.now) }
     ensures shorter { IfSome result (λ x. length x.1.now < length tokens.now) }
 {
     take(
@@ -376,7 +377,7 @@ pub fn side_in(tokens: &[Lexed]) -> Option<(Card, &[Lexed])>
 
 /// The sign of a matcher at the front, and what follows it.
 pub fn match_in(tokens: &[Lexed]) -> Option<(MatchSign, &[Lexed])>
-    ensures read { MatchOption result (Lacks (token match_at) tokens.now) (λ x. Takes (token match_at) tokens.now (match_sign x.0) x.1.now) }
+    ensures read { MatchOption result (Lacks queries (token match_at) tokens.now) (λ x. Takes queries (token match_at) tokens.now (match_sign x.0) x.1.now) }
     ensures shorter { IfSome result (λ x. length x.1.now < length tokens.now) }
 {
     take(
@@ -389,7 +390,7 @@ pub fn match_in(tokens: &[Lexed]) -> Option<(MatchSign, &[Lexed])>
 
 /// Whether the unary sign at the front is a minus, with its place, and what follows it.
 pub fn minus_in(tokens: &[Lexed]) -> Option<((bool, Place), &[Lexed])>
-    ensures read { MatchOption result (Lacks (token minus_at) tokens.now) (λ x. Takes (token minus_at) tokens.now (signed x.0.0 x.0.1) x.1.now) }
+    ensures read { MatchOption result (Lacks queries (token minus_at) tokens.now) (λ x. Takes queries (token minus_at) tokens.now (signed x.0.0 x.0.1) x.1.now) }
     ensures shorter { IfSome result (λ x. length x.1.now < length tokens.now) }
 {
     take(
@@ -405,7 +406,7 @@ pub fn minus_in(tokens: &[Lexed]) -> Option<((bool, Place), &[Lexed])>
 
 /// The aggregation at the front with its place, and what follows it.
 pub fn aggregate_in(tokens: &[Lexed]) -> Option<((AggOp, Place), &[Lexed])>
-    ensures read { MatchOption result (Lacks (token aggregate_at) tokens.now) (λ x. Takes (token aggregate_at) tokens.now (aggregator x.0.0 x.0.1) x.1.now) }
+    ensures read { MatchOption result (Lacks queries (token aggregate_at) tokens.now) (λ x. Takes queries (token aggregate_at) tokens.now (aggregator x.0.0 x.0.1) x.1.now) }
     ensures shorter { IfSome result (λ x. length x.1.now < length tokens.now) }
 {
     take(
@@ -421,7 +422,7 @@ pub fn aggregate_in(tokens: &[Lexed]) -> Option<((AggOp, Place), &[Lexed])>
 
 /// The span at the front, which is not 0, with its place, and what follows it.
 pub fn span_in(tokens: &[Lexed]) -> Option<(Lasting, &[Lexed])>
-    ensures read { MatchOption result (Lacks (token span_at) tokens.now) (λ x. Takes (token span_at) tokens.now (lasting x.0.place x.0.span) x.1.now) }
+    ensures read { MatchOption result (Lacks queries (token span_at) tokens.now) (λ x. Takes queries (token span_at) tokens.now (lasting x.0.place x.0.span) x.1.now) }
     ensures shorter { IfSome result (λ x. length x.1.now < length tokens.now) }
 {
     take(
@@ -443,7 +444,7 @@ pub fn span_in(tokens: &[Lexed]) -> Option<(Lasting, &[Lexed])>
 
 /// The span at the front with its place, and what follows it.
 pub fn shift_in(tokens: &[Lexed]) -> Option<(Lasting, &[Lexed])>
-    ensures read { MatchOption result (Lacks (token shift_at) tokens.now) (λ x. Takes (token shift_at) tokens.now (lasting x.0.place x.0.span) x.1.now) }
+    ensures read { MatchOption result (Lacks queries (token shift_at) tokens.now) (λ x. Takes queries (token shift_at) tokens.now (lasting x.0.place x.0.span) x.1.now) }
     ensures shorter { IfSome result (λ x. length x.1.now < length tokens.now) }
 {
     take(
@@ -465,7 +466,7 @@ pub fn shift_in(tokens: &[Lexed]) -> Option<(Lasting, &[Lexed])>
 
 /// The label at the front with its place, and what follows it.
 pub fn label_in(named: bool, tokens: &[Lexed]) -> Option<((Place, &str), &[Lexed])>
-    ensures read { MatchOption result (Lacks (token (label_at named)) tokens.now) (λ x. Takes (token (label_at named)) tokens.now (word x.0.0 x.0.1.now) x.1.now) }
+    ensures read { MatchOption result (Lacks queries (token (label_at named)) tokens.now) (λ x. Takes queries (token (label_at named)) tokens.now (word x.0.0 x.0.1.now) x.1.now) }
     ensures shorter { IfSome result (λ x. length x.1.now < length tokens.now) }
 {
     let Some((first, rest)) = tokens.split_first() else {
@@ -480,7 +481,7 @@ pub fn label_in(named: bool, tokens: &[Lexed]) -> Option<((Place, &str), &[Lexed
 
 /// The metric's name at the front, where it is no function's, with its place, and what follows it.
 pub fn metric_in(tokens: &[Lexed]) -> Option<((Place, &str), &[Lexed])>
-    ensures read { MatchOption result (Lacks (token metric_at) tokens.now) (λ x. Takes (token metric_at) tokens.now (word x.0.0 x.0.1.now) x.1.now) }
+    ensures read { MatchOption result (Lacks queries (token metric_at) tokens.now) (λ x. Takes queries (token metric_at) tokens.now (word x.0.0 x.0.1.now) x.1.now) }
     ensures shorter { IfSome result (λ x. length x.1.now < length tokens.now) }
 {
     let Some((first, rest)) = tokens.split_first() else {
@@ -495,7 +496,7 @@ pub fn metric_in(tokens: &[Lexed]) -> Option<((Place, &str), &[Lexed])>
 
 /// The string at the front, and what follows it.
 pub fn text_in(tokens: &[Lexed]) -> Option<(&str, &[Lexed])>
-    ensures read { MatchOption result (Lacks (token text_at) tokens.now) (λ x. Takes (token text_at) tokens.now (quoted x.0.now) x.1.now) }
+    ensures read { MatchOption result (Lacks queries (token text_at) tokens.now) (λ x. Takes queries (token text_at) tokens.now (quoted x.0.now) x.1.now) }
     ensures shorter { IfSome result (λ x. length x.1.now < length tokens.now) }
 {
     let Some((first, rest)) = tokens.split_first() else {
@@ -510,7 +511,7 @@ pub fn text_in(tokens: &[Lexed]) -> Option<(&str, &[Lexed])>
 
 /// The name of a function at the front, with the function and its place, and what follows it.
 pub fn function_in(tokens: &[Lexed]) -> Option<((Func, Place, &str), &[Lexed])>
-    ensures read { MatchOption result (Lacks (token function_at) tokens.now) (λ x. Takes (token function_at) tokens.now (function x.0.0 x.0.1 x.0.2.now) x.1.now) }
+    ensures read { MatchOption result (Lacks queries (token function_at) tokens.now) (λ x. Takes queries (token function_at) tokens.now (function x.0.0 x.0.1 x.0.2.now) x.1.now) }
     ensures shorter { IfSome result (λ x. length x.1.now < length tokens.now) }
 {
     let Some((first, rest)) = tokens.split_first() else {

@@ -19,7 +19,7 @@ use Rattle.pr_history.specs.declared.append.Append.{Append}
 use Rattle.pr_history.specs.Admission.{is_of, last_entry, admit, admit_after, put, put_by}
 use Rattle.pr_labels.specs.Rising.{is_among}
 use Rattle.pr_head.specs.declared.timed.Timed.{Timed}
-use Rattle.pr_head.specs.Stored.{Stored, admitted, after_push, begun, stored}
+use Rattle.pr_head.specs.Stored.{Stored, admission, after_push, begun, stored}
 use Rattle.pr_head.specs.Holds.{timed, samples_of, arrivals, sets_of, IsKept, Holds, IsWhole}
 use Rattle.pr_head.proofs.Arrivals.{arrivals_more, arrivals_apart, among_arrivals, among_at, samples_more, samples_other, last_more, last_other, filter_none, last_none, eq_from}
 
@@ -129,13 +129,13 @@ kept_first history e none = record {
 }
 
 -- the answer to a sample is that of the history
-pub admitted_as : (history : List Entry) (labels : List Pair) (s : Stored) (x : Timed) → IsKept history labels s → admitted s x ≡ admit history labels x.time x.point
+pub admitted_as : (history : List Entry) (labels : List Pair) (s : Stored) (x : Timed) → IsKept history labels s → admission s x ≡ admit history labels x.time x.point
 admitted_as history labels s x k = by (last_entry (is_of labels) history) k.last where
-  by : (o : Option Entry) → option_map timed o ≡ Some s.last → admitted s x ≡ admit_after o x.time x.point
+  by : (o : Option Entry) → option_map timed o ≡ Some s.last → admission s x ≡ admit_after o x.time x.point
   by None h = cc
-  by (Some e) h = let same : timed e ≡ s.last = cc in ap (λ (l : Timed). admitted (stored s.first s.held l) x) (sym same)
+  by (Some e) h = let same : timed e ≡ s.last = cc in ap (λ (l : Timed). admission (stored s.first s.held l) x) (sym same)
 
-pub added_later : (s : Stored) (x : Timed) → admitted s x ≡ Added → s.last.time < x.time
+pub added_later : (s : Stored) (x : Timed) → admission s x ≡ Added → s.last.time < x.time
 added_later s x h = by (nat_lt s.last.time x.time) refl (s.last.time == x.time) (same_point s.last.point x.point) h where
   by : (b : Bool) → nat_lt s.last.time x.time ≡ b → (t u : Bool) → cond b Added (cond t (cond u Same (Conflict s.last.point)) (OutOfOrder s.last.time)) ≡ Added → s.last.time < x.time
   by true e t u h = grind (arith, common_steps)

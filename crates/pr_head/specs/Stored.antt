@@ -49,8 +49,8 @@ held_before held zero = None
 held_before held (suc n) = slice_get held n
 
 -- what becomes of a sample
-abbrev pub admitted : Stored → Timed → Append
-admitted s x = cond (nat_lt s.last.time x.time) Added (cond (s.last.time == x.time) (cond (same_point s.last.point x.point) Same (Conflict s.last.point)) (OutOfOrder s.last.time))
+abbrev pub admission : Stored → Timed → Append
+admission s x = cond (nat_lt s.last.time x.time) Added (cond (s.last.time == x.time) (cond (same_point s.last.point x.point) Same (Conflict s.last.point)) (OutOfOrder s.last.time))
 
 -- a series with its first sample, and one with one more
 abbrev pub begun : Timed → Stored

@@ -46,7 +46,7 @@ ghost use Rattle.pr_labels.specs.LabelSet.{metric_label, text_at};
 ghost use Rattle.pr_labels.specs.Order.{labels_eq};
 ghost use Rattle.pr_history.specs.declared.entry.Entry.{Entry};
 ghost use Rattle.pr_history.specs.Admission.{admit, put, IsLawful};
-ghost use Rattle.pr_head.specs.Stored.{Stored, admitted, after_push, begun, count_of, newest_at, position_of, sample_at, trimmed};
+ghost use Rattle.pr_head.specs.Stored.{Stored, admission, after_push, begun, count_of, newest_at, position_of, sample_at, trimmed};
 ghost use Rattle.pr_head.specs.Holds.{entry_of, sets_of, Holds, IsWhole};
 
 // The metric's name, empty where the set has none.
@@ -187,7 +187,7 @@ impl Head {
     // What becomes of a sample of a series.
     fn admit(&self, series: usize, sample: &Timed) -> Append
         requires { series < length self.now }
-        ensures { (e : List Pair × Stored) → slice_get self.now series ≡ Some e → result ≡ admitted e.1 sample.now }
+        ensures { (e : List Pair × Stored) → slice_get self.now series ≡ Some e → result ≡ admission e.1 sample.now }
     {
         self.series[series].admit(sample)
     }

@@ -2,7 +2,7 @@
 ghost use Rattle.std.specs.Prelude.{◌≡◌, ◌+◌, ◌<◌, ◌≤◌, drop, length, slice_get, IfOk, OnOk, OnErr};
 ghost use Rattle.std.specs.List.Sorted.{IsNonDecreasingBy};
 ghost use Rattle.pr_history.specs.Lookback.{is_until};
-ghost use Rattle.pr_head.specs.Stored.{admitted, after_push, after_trim, begun, count_of, held_before, newest_at, position_of, sample_at};
+ghost use Rattle.pr_head.specs.Stored.{admission, after_push, after_trim, begun, count_of, held_before, newest_at, position_of, sample_at};
 
 use crate::timed::Timed;
 use pr_history::Append;
@@ -99,7 +99,7 @@ impl Series {
 
     /// What becomes of a sample.
     pub(crate) fn admit(&self, sample: &Timed) -> Append
-        ensures { result ≡ admitted self.now sample.now }
+        ensures { result ≡ admission self.now sample.now }
     {
         let last = self.last_time.get();
         let time = sample.time.get();

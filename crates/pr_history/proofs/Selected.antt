@@ -9,7 +9,7 @@ use Rattle.pr_history.specs.declared.entry.Entry.{Entry}
 use Rattle.pr_labels.specs.Rising.{IsBelowFirstSet, IsRising}
 use Rattle.pr_labels.proofs.LabelOrder.{below_next}
 use Rattle.pr_history.specs.Lookback.{value_at}
-use Rattle.pr_history.specs.Series.{has_values, item_of, items_of, chosen, selected}
+use Rattle.pr_history.specs.Series.{has_values, item_of, items_of, chosen, values_shown}
 use Rattle.pr_history.proofs.Choosing.{chosen_rising}
 
 abbrev sets_in : List (Item Num) → List (List Pair)
@@ -34,5 +34,5 @@ items_rising history x (first ∷ rest) h = by (value_at history x first) (below
   by (Some v) below more = (below, more)
   by None below more = more
 
-pub selected_rising : (history : List Entry) (equal : List Pair) (x : ℤ) → IsRising (sets_in (selected history equal x))
+pub selected_rising : (history : List Entry) (equal : List Pair) (x : ℤ) → IsRising (sets_in (values_shown history equal x))
 selected_rising history equal x = items_rising history x (chosen (has_values equal) history) (chosen_rising (has_values equal) history)

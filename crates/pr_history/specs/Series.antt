@@ -27,5 +27,5 @@ abbrev pub items_of : List Entry → ℤ → List (List Pair) → List (Item Num
 items_of history x sets = filter_map (λ labels. option_map (item_of labels) (value_at history x labels)) sets
 
 -- the chosen series that have a value at a moment
-abbrev pub selected : List Entry → List Pair → ℤ → List (Item Num)
-selected history equal x = items_of history x (chosen (has_values equal) history)
+abbrev pub values_shown : List Entry → List Pair → ℤ → List (Item Num)
+values_shown history equal x = items_of history x (chosen (has_values equal) history)

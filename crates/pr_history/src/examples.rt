@@ -2,15 +2,15 @@
 ghost use Rattle.std.specs.Prelude.{◌≡◌, pos, negsuc, [], ◌∷◌, Some, None, true, false, codes};
 ghost use Rattle.pr_history.specs.Admission.{admit, put};
 ghost use Rattle.pr_history.specs.Lookback.{entries_until, recent_entry, spot_at, spot_of, spots_within, value_at, values_within};
-ghost use Rattle.pr_history.specs.Series.{has_values, selected, item_of};
+ghost use Rattle.pr_history.specs.Series.{has_values, values_shown, item_of};
 ghost use Rattle.pr_history.specs.Examples.{m, job, number, whole, entry_at, one, marked, three};
 ghost use Rattle.pr_history.specs.declared.append.Append.TheVariants.{Added, Same, OutOfOrder, Conflict};
 ghost use Rattle.pr_num.specs.declared.value.Point.TheVariants.{Stale};
 
 /// A value is seen for five minutes, and no millisecond longer.
 pub fn lookback_is_five_minutes()
-    ensures seen { selected one m (pos 299999) ≡ item_of m (number 1) ∷ [] }
-    ensures gone { selected one m (pos 300000) ≡ [] }
+    ensures seen { values_shown one m (pos 299999) ≡ item_of m (number 1) ∷ [] }
+    ensures gone { values_shown one m (pos 300000) ≡ [] }
     ensures before { value_at marked (negsuc 0) m ≡ None }
 {}
 
@@ -57,7 +57,7 @@ pub fn an_older_point_is_out_of_order()
 
 /// A marker hides the value before it, and is no value of a range.
 pub fn a_marker_hides()
-    ensures hidden { selected marked m (pos 60000) ≡ [] }
+    ensures hidden { values_shown marked m (pos 60000) ≡ [] }
     ensures before { value_at marked (pos 59999) m ≡ Some (number 1) }
     ensures range { values_within marked m (negsuc 0) (pos 60000) ≡ number 1 ∷ [] }
     ensures open_below { values_within marked m (pos 0) (pos 60000) ≡ [] }

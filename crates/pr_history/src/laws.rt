@@ -4,7 +4,7 @@ ghost use Rattle.std.specs.List.Sorted.{IsStrictlyIncreasing};
 ghost use Rattle.pr_labels.specs.declared.pair.Pair.{Pair};
 ghost use Rattle.pr_history.specs.Admission.{put, put_all, times_of, IsLawful, IsLawfulAfter};
 ghost use Rattle.pr_labels.specs.Rising.{IsRising, is_among};
-ghost use Rattle.pr_history.specs.Series.{chosen, selected};
+ghost use Rattle.pr_history.specs.Series.{chosen, values_shown};
 ghost use Rattle.pr_history.specs.declared.entry.Entry.{Entry};
 
 /// What `put` leaves of a lawful history is lawful.
@@ -35,5 +35,5 @@ pub fn chosen_are_those_that_pass()
 
 /// What a selector shows is in label order, each label set once.
 pub fn selected_series_rise()
-    ensures { (history : List Entry) (equal : List Pair) (x : ℤ) → IsRising (map (λ i. i.labels) (selected history equal x)) }
+    ensures { (history : List Entry) (equal : List Pair) (x : ℤ) → IsRising (map (λ i. i.labels) (values_shown history equal x)) }
 {}

@@ -18,13 +18,13 @@ use Rattle.pr_vectors.specs.declared.match_fault.MatchFault.TheVariants as fault
 use Rattle.pr_join.specs.declared.join_fault.JoinFault.{JoinFault}
 use Rattle.pr_join.specs.declared.join_fault.JoinFault.TheVariants.{Memory}
 use Rattle.pr_join.specs.declared.join_fault.JoinFault.TheVariants as cause
-use Rattle.pr_join.specs.Faults.{fault_told}
+use Rattle.pr_join.specs.Faults.{match_told}
 use Rattle.pr_vectors.specs.Vectors.{in_order}
-use Rattle.pr_vectors.specs.Matching.{Kept, Operator, Paired, has_key, items_of, joined, joined_sides, many_side, one_side, kept, kept_of, kept_if, key_of, least_shared, outcome, outcomes_of, paired, pairs, pairs_with, pair_fault, fault_after, result_of, side_fault, unless_fault}
+use Rattle.pr_vectors.specs.Matching.{Kept, Operator, Paired, has_key, items_kept, joined, joined_sides, many_side, one_side, kept_pairs, kept_of, kept_if, key_of, least_shared, pair_outcome, outcomes_of, paired, pairs, pairs_with, outcome_fault, fault_of_outcomes, joined_result, side_fault, unless_fault}
 use Rattle.pr_join.specs.declared.rows.Rows.{Rows}
 use Rattle.pr_join.specs.declared.places.Place.{Place}
 use Rattle.pr_join.specs.Places.{IsIndexOf, is_flagged}
-use Rattle.pr_join.specs.Rows.{HasKept, IsTaken, elements, outcomes_with}
+use Rattle.pr_join.specs.Rows.{HasKept, AreRowsTaken, elements, outcomes_with}
 use Rattle.pr_join.proofs.Placing.{first_flag}
 
 pub or_none : (x : Option MatchFault) → option_or x None ≡ x
@@ -40,7 +40,7 @@ cons_is None ks = refl
 cons_is (Some k) ks = refl
 
 -- what a call tells is the first fault
-told_first : (e : JoinFault) (z : Option MatchFault) → e ≢ Memory → option_or (fault_told e) z ≡ fault_told e
+told_first : (e : JoinFault) (z : Option MatchFault) → e ≢ Memory → option_or (match_told e) z ≡ match_told e
 told_first (cause.ManyToMany key) z m = refl
 told_first (cause.NotUnique labels) z m = refl
 told_first cause.TooWide z m = refl
@@ -48,47 +48,47 @@ told_first Memory z m = absurd (m refl)
 
 -- pairs after pairs
 pub fault_append : (card : Card) (before : List Kept) (xs ys : List (Result (Option Kept) TooWide))
-    → fault_after card before (xs ++ ys) ≡ option_or (fault_after card before xs) (fault_after card (before ++ kept xs) ys)
-fault_append card before [] ys = ap (λ (b : List Kept). fault_after card b ys) (sym (append-nil before))
+    → fault_of_outcomes card before (xs ++ ys) ≡ option_or (fault_of_outcomes card before xs) (fault_of_outcomes card (before ++ kept_pairs xs) ys)
+fault_append card before [] ys = ap (λ (b : List Kept). fault_of_outcomes card b ys) (sym (append-nil before))
 fault_append card before (o ∷ xs) ys =
-    ap (λ (x : Option MatchFault). option_or (pair_fault card before o) x)
+    ap (λ (x : Option MatchFault). option_or (outcome_fault card before o) x)
     (fault_append card (before ++ option_to_list (kept_of o)) xs ys
-    ∙ ap (λ (b : List Kept). option_or (fault_after card (before ++ option_to_list (kept_of o)) xs) (fault_after card b ys)) (append_assoc before (option_to_list (kept_of o)) (kept xs) ∙ ap (λ (ks : List Kept). before ++ ks) (sym (cons_is (kept_of o) (kept xs)))))
-    ∙ or_assoc (pair_fault card before o) (fault_after card (before ++ option_to_list (kept_of o)) xs) (fault_after card (before ++ cons_option (kept_of o) (kept xs)) ys)
+    ∙ ap (λ (b : List Kept). option_or (fault_of_outcomes card (before ++ option_to_list (kept_of o)) xs) (fault_of_outcomes card b ys)) (append_assoc before (option_to_list (kept_of o)) (kept_pairs xs) ∙ ap (λ (ks : List Kept). before ++ ks) (sym (cons_is (kept_of o) (kept_pairs xs)))))
+    ∙ or_assoc (outcome_fault card before o) (fault_of_outcomes card (before ++ option_to_list (kept_of o)) xs) (fault_of_outcomes card (before ++ cons_option (kept_of o) (kept_pairs xs)) ys)
 
 -- one pair
 module _ (how : Matching) (keep_name : Bool) (p : Paired) (before : List Kept) where
-  pub pair_wide : (r : Result (Option Num) TooWide) (e : TooWide) → r ≡ Err e → fault_after how.card before (kept_if how keep_name p r ∷ []) ≡ Some fault.TooWide
-  pair_wide r e h = ap (λ (x : Result (Option Num) TooWide). fault_after how.card before (kept_if how keep_name p x ∷ [])) h
+  pub pair_wide : (r : Result (Option Num) TooWide) (e : TooWide) → r ≡ Err e → fault_of_outcomes how.card before (kept_if how keep_name p r ∷ []) ≡ Some fault.TooWide
+  pair_wide r e h = ap (λ (x : Result (Option Num) TooWide). fault_of_outcomes how.card before (kept_if how keep_name p x ∷ [])) h
 
-  pub pair_dropped : (r : Result (Option Num) TooWide) (rows : Rows) → r ≡ Ok None → HasKept how.card before rows → IsTaken how.card before (kept_if how keep_name p r ∷ []) rows
+  pub pair_dropped : (r : Result (Option Num) TooWide) (rows : Rows) → r ≡ Ok None → HasKept how.card before rows → AreRowsTaken how.card before (kept_if how keep_name p r ∷ []) rows
   pair_dropped r rows h k = record {
-    faultless = ap (λ (x : Result (Option Num) TooWide). fault_after how.card before (kept_if how keep_name p x ∷ [])) h;
-    holds = subst (λ (b : List Kept). HasKept how.card b rows) (sym (ap (λ (x : Result (Option Num) TooWide). before ++ kept (kept_if how keep_name p x ∷ [])) h ∙ append-nil before)) k;
+    faultless = ap (λ (x : Result (Option Num) TooWide). fault_of_outcomes how.card before (kept_if how keep_name p x ∷ [])) h;
+    holds = subst (λ (b : List Kept). HasKept how.card b rows) (sym (ap (λ (x : Result (Option Num) TooWide). before ++ kept_pairs (kept_if how keep_name p x ∷ [])) h ∙ append-nil before)) k;
   }
 
-pub fault_one : (card : Card) (before : List Kept) (o : Result (Option Kept) TooWide) → fault_after card before (o ∷ []) ≡ pair_fault card before o
-fault_one card before o = or_none (pair_fault card before o)
+pub fault_one : (card : Card) (before : List Kept) (o : Result (Option Kept) TooWide) → fault_of_outcomes card before (o ∷ []) ≡ outcome_fault card before o
+fault_one card before o = or_none (outcome_fault card before o)
 
-pub taken_one : (card : Card) (before : List Kept) (o : Result (Option Kept) TooWide) (k : Kept) (rows : Rows) → o ≡ Ok (Some k) → pair_fault card before (Ok (Some k)) ≡ None → HasKept card (before ++ k ∷ []) rows
-    → IsTaken card before (o ∷ []) rows
+pub taken_one : (card : Card) (before : List Kept) (o : Result (Option Kept) TooWide) (k : Kept) (rows : Rows) → o ≡ Ok (Some k) → outcome_fault card before (Ok (Some k)) ≡ None → HasKept card (before ++ k ∷ []) rows
+    → AreRowsTaken card before (o ∷ []) rows
 taken_one card before o k rows e h holds = record {
-  faultless = fault_one card before o ∙ ap (pair_fault card before) e ∙ h;
-  holds = subst (λ (x : Result (Option Kept) TooWide). HasKept card (before ++ kept (x ∷ [])) rows) (sym e) holds;
+  faultless = fault_one card before o ∙ ap (outcome_fault card before) e ∙ h;
+  holds = subst (λ (x : Result (Option Kept) TooWide). HasKept card (before ++ kept_pairs (x ∷ [])) rows) (sym e) holds;
 }
 
 -- the pairs of an element by what is found on the one side
 pub outcomes_found : (how : Matching) (keep_name : Bool) (f : Operator) (ones : List (Item Num)) (m : Item Num) (o : Option (Item Num)) → filter (has_key how (key_of how m)) ones ≡ option_to_list o
-    → outcomes_with how keep_name f ones m ≡ map (λ x. outcome how keep_name f (paired m x)) (option_to_list o)
+    → outcomes_with how keep_name f ones m ≡ map (λ x. pair_outcome how keep_name f (paired m x)) (option_to_list o)
 outcomes_found how keep_name f ones m None e =
-    ap (λ (xs : List (Item Num)). map (outcome how keep_name f) (map (paired m) xs)) e
+    ap (λ (xs : List (Item Num)). map (pair_outcome how keep_name f) (map (paired m) xs)) e
 outcomes_found how keep_name f ones m (Some x) e =
-    ap (λ (xs : List (Item Num)). map (outcome how keep_name f) (map (paired m) xs)) e
+    ap (λ (xs : List (Item Num)). map (pair_outcome how keep_name f) (map (paired m) xs)) e
 
-pub taken_none : (card : Card) (before : List Kept) (os : List (Result (Option Kept) TooWide)) (rows : Rows) → os ≡ [] → HasKept card before rows → IsTaken card before os rows
+pub taken_none : (card : Card) (before : List Kept) (os : List (Result (Option Kept) TooWide)) (rows : Rows) → os ≡ [] → HasKept card before rows → AreRowsTaken card before os rows
 taken_none card before os rows e h = record {
-  faultless = ap (fault_after card before) e;
-  holds = subst (λ (b : List Kept). HasKept card b rows) (sym (ap (λ (x : List (Result (Option Kept) TooWide)). before ++ kept x) e ∙ append-nil before)) h;
+  faultless = ap (fault_of_outcomes card before) e;
+  holds = subst (λ (b : List Kept). HasKept card b rows) (sym (ap (λ (x : List (Result (Option Kept) TooWide)). before ++ kept_pairs x) e ∙ append-nil before)) h;
 }
 
 -- one element more
@@ -96,45 +96,45 @@ module _ (how : Matching) (keep_name : Bool) (f : Operator) (ones : List (Item N
   pub outcomes_more : (front : List (Item Num)) (m : Item Num) (rest : List (Item Num)) → outcomes_of how keep_name f (front ++ m ∷ rest) ones
       ≡ outcomes_of how keep_name f front ones ++ (outcomes_with how keep_name f ones m ++ outcomes_of how keep_name f rest ones)
   outcomes_more front m rest =
-      ap (map (outcome how keep_name f)) (flat_map-append (pairs_with how ones) front (m ∷ rest))
-      ∙ map-append (outcome how keep_name f) (pairs how front ones) (pairs how (m ∷ rest) ones)
-      ∙ ap (λ (x : List (Result (Option Kept) TooWide)). outcomes_of how keep_name f front ones ++ x) (map-append (outcome how keep_name f) (pairs_with how ones m) (pairs how rest ones))
+      ap (map (pair_outcome how keep_name f)) (flat_map-append (pairs_with how ones) front (m ∷ rest))
+      ∙ map-append (pair_outcome how keep_name f) (pairs how front ones) (pairs how (m ∷ rest) ones)
+      ∙ ap (λ (x : List (Result (Option Kept) TooWide)). outcomes_of how keep_name f front ones ++ x) (map-append (pair_outcome how keep_name f) (pairs_with how ones m) (pairs how rest ones))
 
-  pub fault_at : (front : List (Item Num)) (m : Item Num) (rest : List (Item Num)) (e : JoinFault) → e ≢ Memory → fault_after how.card [] (outcomes_of how keep_name f front ones) ≡ None
-      → fault_after how.card (kept (outcomes_of how keep_name f front ones)) (outcomes_with how keep_name f ones m) ≡ fault_told e
-      → fault_after how.card [] (outcomes_of how keep_name f (front ++ m ∷ rest) ones) ≡ fault_told e
+  pub fault_at : (front : List (Item Num)) (m : Item Num) (rest : List (Item Num)) (e : JoinFault) → e ≢ Memory → fault_of_outcomes how.card [] (outcomes_of how keep_name f front ones) ≡ None
+      → fault_of_outcomes how.card (kept_pairs (outcomes_of how keep_name f front ones)) (outcomes_with how keep_name f ones m) ≡ match_told e
+      → fault_of_outcomes how.card [] (outcomes_of how keep_name f (front ++ m ∷ rest) ones) ≡ match_told e
   fault_at front m rest e lacks clear at =
-      ap (fault_after how.card []) (outcomes_more front m rest)
+      ap (fault_of_outcomes how.card []) (outcomes_more front m rest)
       ∙ fault_append how.card [] (outcomes_of how keep_name f front ones) (outcomes_with how keep_name f ones m ++ outcomes_of how keep_name f rest ones)
-      ∙ ap (λ (x : Option MatchFault). option_or x (fault_after how.card (kept (outcomes_of how keep_name f front ones)) (outcomes_with how keep_name f ones m ++ outcomes_of how keep_name f rest ones))) clear
-      ∙ fault_append how.card (kept (outcomes_of how keep_name f front ones)) (outcomes_with how keep_name f ones m) (outcomes_of how keep_name f rest ones)
-      ∙ ap (λ (x : Option MatchFault). option_or x (fault_after how.card (kept (outcomes_of how keep_name f front ones) ++ kept (outcomes_with how keep_name f ones m)) (outcomes_of how keep_name f rest ones))) at
-      ∙ told_first e (fault_after how.card (kept (outcomes_of how keep_name f front ones) ++ kept (outcomes_with how keep_name f ones m)) (outcomes_of how keep_name f rest ones)) lacks
+      ∙ ap (λ (x : Option MatchFault). option_or x (fault_of_outcomes how.card (kept_pairs (outcomes_of how keep_name f front ones)) (outcomes_with how keep_name f ones m ++ outcomes_of how keep_name f rest ones))) clear
+      ∙ fault_append how.card (kept_pairs (outcomes_of how keep_name f front ones)) (outcomes_with how keep_name f ones m) (outcomes_of how keep_name f rest ones)
+      ∙ ap (λ (x : Option MatchFault). option_or x (fault_of_outcomes how.card (kept_pairs (outcomes_of how keep_name f front ones) ++ kept_pairs (outcomes_with how keep_name f ones m)) (outcomes_of how keep_name f rest ones))) at
+      ∙ told_first e (fault_of_outcomes how.card (kept_pairs (outcomes_of how keep_name f front ones) ++ kept_pairs (outcomes_with how keep_name f ones m)) (outcomes_of how keep_name f rest ones)) lacks
 
-  pub taken_more : (front : List (Item Num)) (m : Item Num) (rows : Rows) → fault_after how.card [] (outcomes_of how keep_name f front ones) ≡ None
-      → IsTaken how.card (kept (outcomes_of how keep_name f front ones)) (outcomes_with how keep_name f ones m) rows
-      → IsTaken how.card [] (outcomes_of how keep_name f (front ++ m ∷ []) ones) rows
+  pub taken_more : (front : List (Item Num)) (m : Item Num) (rows : Rows) → fault_of_outcomes how.card [] (outcomes_of how keep_name f front ones) ≡ None
+      → AreRowsTaken how.card (kept_pairs (outcomes_of how keep_name f front ones)) (outcomes_with how keep_name f ones m) rows
+      → AreRowsTaken how.card [] (outcomes_of how keep_name f (front ++ m ∷ []) ones) rows
   taken_more front m rows clear h = record {
-    faultless = ap (fault_after how.card []) whole ∙ fault_append how.card [] (outcomes_of how keep_name f front ones) (outcomes_with how keep_name f ones m)
-        ∙ ap (λ (x : Option MatchFault). option_or x (fault_after how.card (kept (outcomes_of how keep_name f front ones)) (outcomes_with how keep_name f ones m))) clear ∙ h.faultless;
-    holds = subst (λ (b : List Kept). HasKept how.card b rows) (sym (ap kept whole ∙ filter_map-append kept_of (outcomes_of how keep_name f front ones) (outcomes_with how keep_name f ones m))) h.holds;
+    faultless = ap (fault_of_outcomes how.card []) whole ∙ fault_append how.card [] (outcomes_of how keep_name f front ones) (outcomes_with how keep_name f ones m)
+        ∙ ap (λ (x : Option MatchFault). option_or x (fault_of_outcomes how.card (kept_pairs (outcomes_of how keep_name f front ones)) (outcomes_with how keep_name f ones m))) clear ∙ h.faultless;
+    holds = subst (λ (b : List Kept). HasKept how.card b rows) (sym (ap kept_pairs whole ∙ filter_map-append kept_of (outcomes_of how keep_name f front ones) (outcomes_with how keep_name f ones m))) h.holds;
   } where
     whole : outcomes_of how keep_name f (front ++ m ∷ []) ones ≡ outcomes_of how keep_name f front ones ++ outcomes_with how keep_name f ones m
     whole = outcomes_more front m [] ∙ ap (λ (x : List (Result (Option Kept) TooWide)). outcomes_of how keep_name f front ones ++ x) (append-nil (outcomes_with how keep_name f ones m))
 
 pub taken_result : (card : Card) (before : List Kept) (o : Result (Option Kept) TooWide) (k : Kept) (r : Result (Unit {0}) JoinFault) (rows : Rows) → o ≡ Ok (Some k)
-    → MatchResult r (λ _. (pair_fault card before (Ok (Some k)) ≡ None) × HasKept card (before ++ k ∷ []) rows) (λ e. e ≢ Memory → pair_fault card before (Ok (Some k)) ≡ fault_told e)
-    → MatchResult r (λ _. IsTaken card before (o ∷ []) rows) (λ e. e ≢ Memory → fault_after card before (o ∷ []) ≡ fault_told e)
+    → MatchResult r (λ _. (outcome_fault card before (Ok (Some k)) ≡ None) × HasKept card (before ++ k ∷ []) rows) (λ e. e ≢ Memory → outcome_fault card before (Ok (Some k)) ≡ match_told e)
+    → MatchResult r (λ _. AreRowsTaken card before (o ∷ []) rows) (λ e. e ≢ Memory → fault_of_outcomes card before (o ∷ []) ≡ match_told e)
 taken_result card before o k (Ok u) rows e h = taken_one card before o k rows e h.0 h.1
 taken_result card before o k (Err x) rows e h =
-    λ m. fault_one card before o ∙ ap (pair_fault card before) e ∙ h m
+    λ m. fault_one card before o ∙ ap (outcome_fault card before) e ∙ h m
 
 -- what an element gives by what is found for it
 pub result_found : (card : Card) (before : List Kept) (os ps : List (Result (Option Kept) TooWide)) (r : Result (Unit {0}) JoinFault) (rows : Rows) → os ≡ ps
-    → MatchResult r (λ _. IsTaken card before ps rows) (λ e. e ≢ Memory → fault_after card before ps ≡ fault_told e)
-    → MatchResult r (λ _. IsTaken card before os rows) (λ e. e ≢ Memory → fault_after card before os ≡ fault_told e)
-result_found card before os ps (Ok u) rows e h = subst (λ (x : List (Result (Option Kept) TooWide)). IsTaken card before x rows) (sym e) h
-result_found card before os ps (Err x) rows e h = λ m. ap (fault_after card before) e ∙ h m
+    → MatchResult r (λ _. AreRowsTaken card before ps rows) (λ e. e ≢ Memory → fault_of_outcomes card before ps ≡ match_told e)
+    → MatchResult r (λ _. AreRowsTaken card before os rows) (λ e. e ≢ Memory → fault_of_outcomes card before os ≡ match_told e)
+result_found card before os ps (Ok u) rows e h = subst (λ (x : List (Result (Option Kept) TooWide)). AreRowsTaken card before x rows) (sym e) h
+result_found card before os ps (Err x) rows e h = λ m. ap (fault_of_outcomes card before) e ∙ h m
 
 -- the sides whole
 pub side_fault_some : (how : Matching) (manys ones : List (Item Num)) → false ≡ (length manys == 0) → side_fault how manys ones ≡ option_map fault.ManyToMany (least_shared how ones)
@@ -145,7 +145,7 @@ module _ (how : Matching) (keep_name : Bool) (f : Operator) (manys ones : List (
   pub sides_shared : (key : List Pair) → false ≡ (length manys == 0) → Some key ≡ option_map (λ e. e.0) (find is_flagged places.entries)
       → joined_sides how keep_name f manys ones ≡ Err (fault.ManyToMany key)
   sides_shared key some h =
-      ap (λ (x : Option MatchFault). result_of how.card (outcomes_of how keep_name f manys ones) x)
+      ap (λ (x : Option MatchFault). joined_result how.card (outcomes_of how keep_name f manys ones) x)
       (side_fault_some how manys ones some ∙ ap (λ (x : Option (List Pair)). option_map fault.ManyToMany x) (sym (h ∙ first_flag how ones places index)))
 
   no_side_fault : false ≡ (length manys == 0) → None ≡ option_map (λ e. e.0) (find is_flagged places.entries) → side_fault how manys ones ≡ None
@@ -153,24 +153,24 @@ module _ (how : Matching) (keep_name : Bool) (f : Operator) (manys ones : List (
       side_fault_some how manys ones some ∙ ap (λ (x : Option (List Pair)). option_map fault.ManyToMany x) (sym (h ∙ first_flag how ones places index))
 
   fault_case : (e : MatchFault) → false ≡ (length manys == 0) → None ≡ option_map (λ e. e.0) (find is_flagged places.entries)
-      → fault_after how.card [] (outcomes_of how keep_name f manys ones) ≡ Some e → joined_sides how keep_name f manys ones ≡ Err e
+      → fault_of_outcomes how.card [] (outcomes_of how keep_name f manys ones) ≡ Some e → joined_sides how keep_name f manys ones ≡ Err e
   fault_case e some h at =
-      ap (λ (x : Option MatchFault). result_of how.card (outcomes_of how keep_name f manys ones) x) (no_side_fault some h)
-      ∙ ap (λ (x : Option MatchFault). unless_fault x (in_order (items_of (kept (outcomes_of how keep_name f manys ones))))) at
+      ap (λ (x : Option MatchFault). joined_result how.card (outcomes_of how keep_name f manys ones) x) (no_side_fault some h)
+      ∙ ap (λ (x : Option MatchFault). unless_fault x (in_order (items_kept (kept_pairs (outcomes_of how keep_name f manys ones))))) at
 
   pub sides_fault : (e : JoinFault) → false ≡ (length manys == 0) → None ≡ option_map (λ e. e.0) (find is_flagged places.entries)
-      → (e ≢ Memory → fault_after how.card [] (outcomes_of how keep_name f manys ones) ≡ fault_told e)
-      → IfSome (fault_told e) (λ fault. joined_sides how keep_name f manys ones ≡ Err fault)
+      → (e ≢ Memory → fault_of_outcomes how.card [] (outcomes_of how keep_name f manys ones) ≡ match_told e)
+      → IfSome (match_told e) (λ fault. joined_sides how keep_name f manys ones ≡ Err fault)
   sides_fault (cause.ManyToMany key) some h at = fault_case (fault.ManyToMany key) some h (at (λ m. cc))
   sides_fault (cause.NotUnique labels) some h at = fault_case (fault.NotUnique labels) some h (at (λ m. cc))
   sides_fault cause.TooWide some h at = fault_case fault.TooWide some h (at (λ m. cc))
   sides_fault Memory some h at = tt
 
   pub sides_kept : (rows : Rows) (items : List (Item Num)) → false ≡ (length manys == 0) → None ≡ option_map (λ e. e.0) (find is_flagged places.entries)
-      → IsTaken how.card [] (outcomes_of how keep_name f manys ones) rows → items ≡ elements rows.items → joined_sides how keep_name f manys ones ≡ Ok items
+      → AreRowsTaken how.card [] (outcomes_of how keep_name f manys ones) rows → items ≡ elements rows.items → joined_sides how keep_name f manys ones ≡ Ok items
   sides_kept rows items some h t is =
-      ap (λ (x : Option MatchFault). result_of how.card (outcomes_of how keep_name f manys ones) x) (no_side_fault some h)
-      ∙ ap (λ (x : Option MatchFault). unless_fault x (in_order (items_of (kept (outcomes_of how keep_name f manys ones))))) t.faultless
+      ap (λ (x : Option MatchFault). joined_result how.card (outcomes_of how keep_name f manys ones) x) (no_side_fault some h)
+      ∙ ap (λ (x : Option MatchFault). unless_fault x (in_order (items_kept (kept_pairs (outcomes_of how keep_name f manys ones))))) t.faultless
       ∙ ap (λ (x : List (Item Num)). Ok x) (sym (is ∙ t.holds.items.listed))
 
 -- the left side is the many side but for `group_right`

@@ -6,8 +6,8 @@ use Rattle.pr_join.specs.declared.join_fault.JoinFault.{JoinFault}
 use Rattle.pr_join.specs.declared.join_fault.JoinFault.TheVariants.{ManyToMany, NotUnique, TooWide, Memory}
 
 -- want of memory tells nothing of the definition's answer
-abbrev pub fault_told : JoinFault → Option MatchFault
-fault_told (ManyToMany key) = Some (fault.ManyToMany key)
-fault_told (NotUnique labels) = Some (fault.NotUnique labels)
-fault_told TooWide = Some fault.TooWide
-fault_told Memory = None
+abbrev pub match_told : JoinFault → Option MatchFault
+match_told (ManyToMany key) = Some (fault.ManyToMany key)
+match_told (NotUnique labels) = Some (fault.NotUnique labels)
+match_told TooWide = Some fault.TooWide
+match_told Memory = None

@@ -9,16 +9,16 @@ use Rattle.pr_labels.specs.declared.item.Item.{Item}
 use Rattle.pr_labels.specs.declared.matching.Card.{Card}
 use Rattle.pr_labels.specs.declared.matching.Card.TheVariants.{OneToOne, ManyToOne, OneToMany}
 use Rattle.pr_vectors.specs.Vectors.{element, in_order}
-use Rattle.pr_vectors.specs.Matching.{Kept, Operator, fault_after, items_of, kept, outcome, pairs_with}
+use Rattle.pr_vectors.specs.Matching.{Kept, Operator, fault_of_outcomes, items_kept, kept_pairs, pair_outcome, pairs_with}
 use Rattle.pr_join.specs.Keys.{HasKeys}
 use Rattle.pr_join.specs.declared.rows.Rows.{Rows}
 
 -- the elements of a map
-abbrev pub elements_in : List (List Pair × Num) → List (Item Num)
-elements_in entries = map (λ e. element e.0 e.1) entries
+abbrev pub elements_of_entries : List (List Pair × Num) → List (Item Num)
+elements_of_entries entries = map (λ e. element e.0 e.1) entries
 
 abbrev pub elements : BTreeMap (List Pair) Num → List (Item Num)
-elements m = elements_in m.entries
+elements m = elements_of_entries m.entries
 
 abbrev pub is_one_to_one : Card → Bool
 is_one_to_one OneToOne = true
@@ -39,16 +39,16 @@ labels_in k = k.item.labels
 
 -- the elements that the pairs before gave, by their labels
 pub record HasItems (before : List Kept) (m : BTreeMap (List Pair) Num) : Type 0 where
-  pub listed : elements m ≡ in_order (items_of before)
+  pub listed : elements m ≡ in_order (items_kept before)
   pub labels : HasKeys labels_in before m
 
 -- the keys of the pairs before, where each may come once
-pub record HasTaken (card : Card) (before : List Kept) (m : BTreeMap (List Pair) (Unit {0})) : Type 0 where
+pub record HasTakenKeys (card : Card) (before : List Kept) (m : BTreeMap (List Pair) (Unit {0})) : Type 0 where
   pub keys : HasKeys key_in (keyed card before) m
 
 pub record HasKept (card : Card) (before : List Kept) (rows : Rows) : Type 0 where
   pub items : HasItems before rows.items
-  pub taken : HasTaken card before rows.taken
+  pub taken : HasTakenKeys card before rows.taken
 
 -- a kept pair by its parts
 abbrev pub kept_with : List Pair → List Pair → Num → Kept
@@ -56,9 +56,9 @@ kept_with key labels value = record { key = key; item = element labels value }
 
 -- what becomes of the pairs of an element of the many side
 abbrev pub outcomes_with : Matching → Bool → Operator → List (Item Num) → Item Num → List (Result (Option Kept) TooWide)
-outcomes_with how keep_name f ones m = map (outcome how keep_name f) (pairs_with how ones m)
+outcomes_with how keep_name f ones m = map (pair_outcome how keep_name f) (pairs_with how ones m)
 
 -- pairs without a fault after those kept before them, and what is kept then
-pub record IsTaken (card : Card) (before : List Kept) (outcomes : List (Result (Option Kept) TooWide)) (rows : Rows) : Type 0 where
-  pub faultless : fault_after card before outcomes ≡ None
-  pub holds : HasKept card (before ++ kept outcomes) rows
+pub record AreRowsTaken (card : Card) (before : List Kept) (outcomes : List (Result (Option Kept) TooWide)) (rows : Rows) : Type 0 where
+  pub faultless : fault_of_outcomes card before outcomes ≡ None
+  pub holds : HasKept card (before ++ kept_pairs outcomes) rows

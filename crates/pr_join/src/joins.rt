@@ -4,11 +4,11 @@ ghost use Rattle.pr_join.specs.declared.join_fault.JoinFault.TheVariants.{Memory
 ghost use Rattle.std.specs.BTreeMap.{IsOrdered};
 ghost use Rattle.pr_labels.specs.Order.{labels_cmp};
 ghost use Rattle.pr_vectors.specs.Vectors.{IsVector};
-ghost use Rattle.pr_vectors.specs.Matching.{Operator, Kept, worked, paired, outcome, fault_after, key_of, outcomes_of, joined, joined_sides};
-ghost use Rattle.pr_join.specs.Faults.{fault_told};
+ghost use Rattle.pr_vectors.specs.Matching.{Operator, Kept, worked, paired, pair_outcome, fault_of_outcomes, key_of, outcomes_of, joined, joined_sides};
+ghost use Rattle.pr_join.specs.Faults.{match_told};
 ghost use Rattle.pr_join.specs.Operators.{AnswersBy};
 ghost use Rattle.pr_join.specs.Places.{IsIndexOf, is_flagged};
-ghost use Rattle.pr_join.specs.Rows.{HasKept, IsTaken, outcomes_with};
+ghost use Rattle.pr_join.specs.Rows.{HasKept, AreRowsTaken, outcomes_with};
 
 use crate::join_fault::JoinFault;
 use crate::labels::result_labels;
@@ -49,8 +49,8 @@ fn join_pair<O: Fn(Num, Num) -> Result<Option<Num>, TooWide>>(
     requires callable { O.IsAlwaysCallable op.now }
     requires key { key ≡ key_of how.now many.now }
     ensures taken { (f : Operator) (before : List Kept) → AnswersBy O.Fn op.now f → HasKept how.now.card before rows.old → MatchResult result
-        (λ _. IsTaken how.now.card before (outcome how.now keep_name f (paired many.now one.now) ∷ []) rows.new)
-        (λ e. e ≢ Memory → fault_after how.now.card before (outcome how.now keep_name f (paired many.now one.now) ∷ []) ≡ fault_told e) }
+        (λ _. AreRowsTaken how.now.card before (pair_outcome how.now keep_name f (paired many.now one.now) ∷ []) rows.new)
+        (λ e. e ≢ Memory → fault_of_outcomes how.now.card before (pair_outcome how.now keep_name f (paired many.now one.now) ∷ []) ≡ match_told e) }
     ensures ordered { IsOrdered labels_cmp rows.old.items → OnOk result (IsOrdered labels_cmp rows.new.items) }
 {
     match worked(how.card, op, many, one) {
@@ -78,8 +78,8 @@ fn join_one<O: Fn(Num, Num) -> Result<Option<Num>, TooWide>>(
     requires index { IsIndexOf how.now ones.now ones.now places.now }
     requires unshared { find is_flagged places.now.entries ≡ None }
     ensures taken { (f : Operator) (before : List Kept) → AnswersBy O.Fn op.now f → HasKept how.now.card before rows.old → MatchResult result
-        (λ _. IsTaken how.now.card before (outcomes_with how.now keep_name f ones.now many.now) rows.new)
-        (λ e. e ≢ Memory → fault_after how.now.card before (outcomes_with how.now keep_name f ones.now many.now) ≡ fault_told e) }
+        (λ _. AreRowsTaken how.now.card before (outcomes_with how.now keep_name f ones.now many.now) rows.new)
+        (λ e. e ≢ Memory → fault_of_outcomes how.now.card before (outcomes_with how.now keep_name f ones.now many.now) ≡ match_told e) }
     ensures ordered { IsOrdered labels_cmp rows.old.items → OnOk result (IsOrdered labels_cmp rows.new.items) }
 {
     let key = key_of(alloc, how, many)?;
@@ -103,8 +103,8 @@ fn join_all<O: Fn(Num, Num) -> Result<Option<Num>, TooWide>>(
     requires index { IsIndexOf how.now ones.now ones.now places.now }
     requires unshared { find is_flagged places.now.entries ≡ None }
     ensures taken { (f : Operator) → AnswersBy O.Fn op.now f → MatchResult result
-        (IsTaken how.now.card [] (outcomes_of how.now keep_name f manys.now ones.now))
-        (λ e. e ≢ Memory → fault_after how.now.card [] (outcomes_of how.now keep_name f manys.now ones.now) ≡ fault_told e) }
+        (AreRowsTaken how.now.card [] (outcomes_of how.now keep_name f manys.now ones.now))
+        (λ e. e ≢ Memory → fault_of_outcomes how.now.card [] (outcomes_of how.now keep_name f manys.now ones.now) ≡ match_told e) }
     ensures ordered { IfOk result (λ rows. IsOrdered labels_cmp rows.items) }
 {
     let mut rows = no_rows(alloc);
@@ -128,7 +128,7 @@ fn join_sides<O: Fn(Num, Num) -> Result<Option<Num>, TooWide>>(
     requires { O.IsAlwaysCallable op.now }
     ensures joined { (f : Operator) → AnswersBy O.Fn op.now f → MatchResult result
         (λ v. joined_sides how.now keep_name f manys.now ones.now ≡ Ok v.items)
-        (λ e. IfSome (fault_told e) (λ fault. joined_sides how.now keep_name f manys.now ones.now ≡ Err fault)) }
+        (λ e. IfSome (match_told e) (λ fault. joined_sides how.now keep_name f manys.now ones.now ≡ Err fault)) }
     ensures vector { IfOk result (λ v. IsVector v.items) }
 {
     if manys.is_empty() {
@@ -166,7 +166,7 @@ pub fn join<O: Fn(Num, Num) -> Result<Option<Num>, TooWide>>(
     requires { O.IsAlwaysCallable op.now }
     ensures joined { (f : Operator) → AnswersBy O.Fn op.now f → MatchResult result
         (λ v. joined how.now keep_name f left.now right.now ≡ Ok v.items)
-        (λ e. IfSome (fault_told e) (λ fault. joined how.now keep_name f left.now right.now ≡ Err fault)) }
+        (λ e. IfSome (match_told e) (λ fault. joined how.now keep_name f left.now right.now ≡ Err fault)) }
     ensures vector { IfOk result (λ v. IsVector v.items) }
 {
     match how.card {

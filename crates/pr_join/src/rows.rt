@@ -5,9 +5,9 @@ ghost use Rattle.std.specs.BTreeMap.{IsOrdered, Updates, insert_entry};
 ghost use Rattle.pr_labels.specs.Order.{labels_cmp};
 ghost use Rattle.pr_join.specs.declared.join_fault.JoinFault.TheVariants.{Memory};
 ghost use Rattle.pr_vectors.specs.Vectors.{IsVector, element};
-ghost use Rattle.pr_vectors.specs.Matching.{Kept, key_fault, labels_fault, pair_fault};
-ghost use Rattle.pr_join.specs.Faults.{fault_told};
-ghost use Rattle.pr_join.specs.Rows.{HasTaken, HasItems, HasKept, elements, is_one_to_one, kept_with};
+ghost use Rattle.pr_vectors.specs.Matching.{Kept, key_fault, labels_fault, outcome_fault};
+ghost use Rattle.pr_join.specs.Faults.{match_told};
+ghost use Rattle.pr_join.specs.Rows.{HasTakenKeys, HasItems, HasKept, elements, is_one_to_one, kept_with};
 
 use crate::join_fault::JoinFault;
 use pr_labels::{Card, Item, Labels};
@@ -56,9 +56,9 @@ fn is_one_to_one(card: Card) -> bool
 
 // Takes a key, which in one-to-one matching may come once.
 fn take_key(taken: &mut BTreeMap<Labels, ()>, card: Card, key: Labels) -> Result<(), JoinFault>
-    ensures { (before : List Kept) (k : Kept) → k.key ≡ key → HasTaken card before taken.old → MatchResult result
-        (λ _. (key_fault card before k ≡ None) × HasTaken card (before ++ k ∷ []) taken.new)
-        (λ e. e ≢ Memory → key_fault card before k ≡ fault_told e) }
+    ensures { (before : List Kept) (k : Kept) → k.key ≡ key → HasTakenKeys card before taken.old → MatchResult result
+        (λ _. (key_fault card before k ≡ None) × HasTakenKeys card (before ++ k ∷ []) taken.new)
+        (λ e. e ≢ Memory → key_fault card before k ≡ match_told e) }
 {
     if !is_one_to_one(card) {
         return Ok(());
@@ -74,7 +74,7 @@ fn take_key(taken: &mut BTreeMap<Labels, ()>, card: Card, key: Labels) -> Result
 fn take_item(items: &mut BTreeMap<Labels, Num>, labels: Labels, value: Num) -> Result<(), JoinFault>
     ensures taken { (before : List Kept) (k : Kept) → k.item ≡ element labels value → HasItems before items.old → MatchResult result
         (λ _. (labels_fault before k ≡ None) × HasItems (before ++ k ∷ []) items.new)
-        (λ e. e ≢ Memory → labels_fault before k ≡ fault_told e) }
+        (λ e. e ≢ Memory → labels_fault before k ≡ match_told e) }
     ensures ordered { OnOk result (IsOrdered labels_cmp items.new) }
 {
     if items.contains_key(&labels) {
@@ -93,8 +93,8 @@ pub fn take(
     value: Num,
 ) -> Result<(), JoinFault>
     ensures taken { (before : List Kept) (k : Kept) → k ≡ kept_with key labels value → HasKept card before rows.old → MatchResult result
-        (λ _. (pair_fault card before (Ok (Some k)) ≡ None) × HasKept card (before ++ k ∷ []) rows.new)
-        (λ e. e ≢ Memory → pair_fault card before (Ok (Some k)) ≡ fault_told e) }
+        (λ _. (outcome_fault card before (Ok (Some k)) ≡ None) × HasKept card (before ++ k ∷ []) rows.new)
+        (λ e. e ≢ Memory → outcome_fault card before (Ok (Some k)) ≡ match_told e) }
     ensures ordered { OnOk result (IsOrdered labels_cmp rows.new.items) }
 {
     take_key(&mut rows.taken, card, key)?;

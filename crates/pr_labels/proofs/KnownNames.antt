@@ -6,7 +6,7 @@ use Rattle.std.specs.Cmp.Lexicographic.{slice_cmp, texts_ties}
 use Rattle.std.specs.Ordering.{nat_cmp, is_eq}
 use Rattle.std.specs.declared.cmp.Ordering.{Ordering}
 use Rattle.std.specs.Str.{bytes_eq}
-use Rattle.pr_labels.specs.Known.{knows}
+use Rattle.pr_words.specs.Names.{knows}
 
 abbrev pub name_cmp : Bor (List ℕ) → Bor (List ℕ) → Ordering
 name_cmp x y = slice_cmp nat_cmp x.now y.now

@@ -4,4 +4,3 @@ pub mod Edits
 pub mod Order
 pub mod Rising
 pub mod SeriesText
-pub mod Known

@@ -1,15 +1,9 @@
 -- Names: of labels, and of metrics.
-use Rattle.std.specs.Prelude.{ℕ, Bool, false, ◌&&◌, ◌||◌, List, [], ◌∷◌, codes}
+use Rattle.std.specs.Prelude.{ℕ, Bool, false, ◌&&◌, ◌||◌, ◌==◌, List, [], ◌∷◌}
+use Prim.Native.Char.{code}
 use Rattle.std.specs.List.{list_all}
-use Rattle.std.specs.Char.{is_ascii_alphabetic, is_ascii_digit}
-use Rattle.std.specs.Str.{bytes_eq}
-
--- a letter, or an underscore
-abbrev pub is_letter : ℕ → Bool
-is_letter b = is_ascii_alphabetic b || bytes_eq (b ∷ []) (codes "_")
-
-abbrev pub is_label_byte : ℕ → Bool
-is_label_byte b = is_letter b || is_ascii_digit b
+use Rattle.std.specs.Char.{is_ascii_digit}
+use Rattle.pr_words.specs.Bytes.{is_letter, is_label_byte}
 
 -- the name of a label: letters, underscores and digits, of which the first is no digit
 abbrev pub is_label_name : List ℕ → Bool
@@ -18,7 +12,7 @@ is_label_name (b ∷ bs) = is_letter b && list_all is_label_byte bs
 
 -- the name of a metric may have colons too
 abbrev pub is_metric_letter : ℕ → Bool
-is_metric_letter b = is_letter b || bytes_eq (b ∷ []) (codes ":")
+is_metric_letter b = is_letter b || b == code ":"
 
 abbrev pub is_metric_byte : ℕ → Bool
 is_metric_byte b = is_metric_letter b || is_ascii_digit b

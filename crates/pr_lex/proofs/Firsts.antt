@@ -5,16 +5,18 @@ use Rattle.std.specs.Prelude.{if◌then◌else◌, ◌==◌, ◌⊎◌}
 use Rattle.std.proofs.lemmas.List.Sums.{prefix_len-le-length}
 use Rattle.std.specs.List.{prefix_len}
 use Rattle.std.proofs.lemmas.Bool.Decides.{nat_tests}
+use Rattle.std.specs.Char.{is_ascii_digit}
+use Rattle.pr_words.specs.Bytes.{is_whitespace}
 use Rattle.pr_forms.specs.Form.{Reads, is_rule, is_left, is_right, is_pair, is_fold, rule}
 use Rattle.pr_num.specs.declared.value.Num.{Num}
 use Rattle.pr_num.specs.Reads.{reads}
 use Rattle.pr_time.specs.SpanText.{production, Text as SpanText, Value, ReadsSpan}
-use Rattle.pr_lex.specs.declared.part.Class.TheVariants.{Digit, Blank, Line}
+use Rattle.pr_lex.specs.declared.part.Class.TheVariants.{Digit, Whitespace, Line}
 use Rattle.pr_lex.specs.declared.part.Lexeme.{Lexeme}
 use Rattle.pr_lex.specs.declared.part.Lexeme.TheVariants.{Name, Number, Duration, Text, Sign}
 use Rattle.pr_lex.specs.declared.part.Part.{Part}
 use Rattle.pr_lex.specs.declared.part.Part.TheVariants.{Gap, Token}
-use Rattle.pr_lex.specs.Bytes.{is_of, is_blank, is_quote, is_digit, name_class, front_len, starts_name, starts_unit, lexeme_at, part_at}
+use Rattle.pr_lex.specs.Bytes.{is_of, is_quote, name_class, front_len, starts_name, starts_unit, lexeme_at, part_at}
 
 past_gaps : (x y : Bool) (g h : ℕ) (p : Part) (l : Lexeme) → (if x then Gap g else (if y then Gap h else p)) ≡ Token l → p ≡ Token l
 past_gaps true y g h p l e = cc
@@ -31,7 +33,7 @@ pub record First (inside : Bool) (text : List ℕ) (l : Lexeme) : Type 0 where
 pub first : (inside : Bool) (text : List ℕ) (l : Lexeme) → part_at inside text ≡ Token l → First inside text l
 first inside [] l e = cc
 first inside (b ∷ rest) l e =
-    let h : Token (lexeme_at inside b (b ∷ rest)) ≡ Token l = past_gaps (is_blank b) (b == 35) _ _ _ l e in
+    let h : Token (lexeme_at inside b (b ∷ rest)) ≡ Token l = past_gaps (is_whitespace b) (b == 35) _ _ _ l e in
     record { byte = b; rest = rest; is = refl; begins = cc }
 
 digits_no_name : (x : Bool) → (if x then Duration else Number) ≡ Name → ⊥
@@ -67,7 +69,7 @@ long_front p b rest e = let k : 0 < cond true (1 + prefix_len p rest) 0 = omega 
 pub name_long : (inside : Bool) (text : List ℕ) → part_at inside text ≡ Token Name → 0 < front_len (name_class inside) text
 name_long inside text e =
     let f = first inside text Name e in
-    let h = only_name (starts_name inside f.byte) (is_digit f.byte) (f.byte == 46) (is_quote f.byte) (starts_unit (drop (front_len Digit text) text)) f.begins in
+    let h = only_name (starts_name inside f.byte) (is_ascii_digit f.byte) (f.byte == 46) (is_quote f.byte) (starts_unit (drop (front_len Digit text) text)) f.begins in
     subst (λ t. 0 < front_len (name_class inside) t) (sym f.is) (long_front (is_of (name_class inside)) f.byte f.rest (letter_in_name inside f.byte h))
 
 quote_small : (b : ℕ) → is_quote b ≡ true → b < 128
@@ -77,7 +79,7 @@ quote_small b h = grind (arith, nat_tests)
 pub text_first : (inside : Bool) (text : List ℕ) → part_at inside text ≡ Token Text → (b : ℕ) × (rest : List ℕ) × (text ≡ b ∷ rest) × (b < 128)
 text_first inside text e =
     let f = first inside text Text e in
-    let h = only_text (starts_name inside f.byte) (is_digit f.byte) (f.byte == 46) (is_quote f.byte) (starts_unit (drop (front_len Digit text) text)) f.begins in
+    let h = only_text (starts_name inside f.byte) (is_ascii_digit f.byte) (f.byte == 46) (is_quote f.byte) (starts_unit (drop (front_len Digit text) text)) f.begins in
     (f.byte, f.rest, f.is, quote_small f.byte h)
 
 -- no number and no duration is empty
@@ -109,14 +111,14 @@ gap_is text false false g h n l e = cc
 
 pub gap_long : (inside : Bool) (text : List ℕ) (n : ℕ) → part_at inside text ≡ Gap n → 0 < n
 gap_long inside [] n e = cc
-gap_long inside (b ∷ rest) n e = elim (gap_is (b ∷ rest) (is_blank b) (b == 35) _ _ n _ e) [
-  | inl x ↦ subst (λ k. 0 < k) x.1 (long_front (is_of Blank) b rest x.0)
+gap_long inside (b ∷ rest) n e = elim (gap_is (b ∷ rest) (is_whitespace b) (b == 35) _ _ n _ e) [
+  | inl x ↦ subst (λ k. 0 < k) x.1 (long_front (is_of Whitespace) b rest x.0)
   | inr x ↦ subst (λ k. 0 < k) x.1 (long_front (is_of Line) b rest (line_byte b x.0))
 ]
 
 pub gap_within : (inside : Bool) (text : List ℕ) (n : ℕ) → part_at inside text ≡ Gap n → n ≤ length text
 gap_within inside [] n e = cc
-gap_within inside (b ∷ rest) n e = elim (gap_is (b ∷ rest) (is_blank b) (b == 35) _ _ n _ e) [
-  | inl x ↦ subst (λ k. k ≤ length (b ∷ rest)) x.1 (prefix_len-le-length (is_of Blank) (b ∷ rest))
+gap_within inside (b ∷ rest) n e = elim (gap_is (b ∷ rest) (is_whitespace b) (b == 35) _ _ n _ e) [
+  | inl x ↦ subst (λ k. k ≤ length (b ∷ rest)) x.1 (prefix_len-le-length (is_of Whitespace) (b ∷ rest))
   | inr x ↦ subst (λ k. k ≤ length (b ∷ rest)) x.1 (prefix_len-le-length (is_of Line) (b ∷ rest))
 ]

@@ -31,6 +31,7 @@ use Rattle.pr_lex.specs.declared.part.Part.{Part}
 use Rattle.pr_lex.specs.declared.part.Part.TheVariants.{End, Gap, Token as TokenPart}
 use Rattle.pr_lex.specs.Bytes.{part_at}
 use Rattle.pr_lex.specs.Number as numbers
+use Rattle.pr_lex.specs.NumberTable as number_tables
 use Rattle.pr_lex.specs.SignAt.{sign_at}
 use Rattle.pr_lex.specs.Tokens.{IsTokenOf, IsFaultOf, IsLeftOpen, AreTokens, no_more, past_gap, one_more, inside_after, IsFirstFault, fault_here, fault_past_gap, fault_past_token, HasTokens, HasFault}
 use Rattle.pr_lex.proofs.NumberTable.{known}
@@ -51,7 +52,7 @@ number_tells : (inside : Bool) (text : List ℕ) → Tells Number inside text (n
 number_tells inside text = by_value (reads (take (number_place text) text)) refl
   where
     end : numbers.IsNumberEnd text (number_place text)
-    end = given_place numbers.production numbers.table known number_ends.rank number_ends.steps number_ends.ends numbers.Number (numbers.seen text)
+    end = given_place numbers.production number_tables.table known number_ends.rank number_ends.steps number_ends.ends numbers.Number (numbers.seen text)
 
     by_value : (r : Result Num NumFault) → reads (take (number_place text) text) ≡ r → Tells Number inside text (number_by (number_place text) r)
     by_value (Ok v) e = record { longest = end; value = v; whole = e; is = refl }

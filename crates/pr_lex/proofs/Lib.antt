@@ -25,3 +25,4 @@ pub mod SpelledSpans
 pub mod TakenSigns
 pub mod OpenStrings
 pub mod LexedLaws
+mod WorkedTexts

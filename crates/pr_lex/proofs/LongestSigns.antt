@@ -5,7 +5,7 @@ use Rattle.std.proofs.lemmas.Bool.Decides.{nat_tests}
 use Rattle.pr_lex.specs.declared.token.Sign.{Sign}
 use Rattle.pr_lex.specs.declared.token.Sign.TheVariants.{LeftBrace, RightBrace, LeftParen, RightParen, LeftBracket, RightBracket, Comma, Colon, Assign, NotEqual, Like, NotLike, Equal, Less, LessEqual, Greater, GreaterEqual, Plus, Minus, Star, Slash, Percent}
 use Rattle.pr_lex.specs.SignAt.{two_byte_sign, one_byte_sign, mark_sign, bracket_sign, arithmetic_sign, or_else, longer_sign, shorter_sign, longest_sign, sign_at}
-use Rattle.pr_lex.specs.Signs.{sign_text, BeginsWith, IsLongestSign}
+use Rattle.pr_lex.specs.Signs.{sign_text, BeginsWithSign, IsLongestSign}
 
 pub is_byte : (a k : ℕ) → (a == k) ≡ true → a ≡ k
 is_byte a k h = grind (arith, nat_tests)
@@ -164,10 +164,10 @@ only_one : (a n : ℕ) → n ≡ 2 → take n (a ∷ []) ≡ a ∷ []
 only_one a n e = rw e refl
 
 -- what begins a text is found by the tests
-begins_one : (a : ℕ) (rest : List ℕ) (s : Sign) → length (sign_text s) ≡ 1 → BeginsWith (a ∷ rest) s → one_byte_sign a ≡ Some s
+begins_one : (a : ℕ) (rest : List ℕ) (s : Sign) → length (sign_text s) ≡ 1 → BeginsWithSign (a ∷ rest) s → one_byte_sign a ≡ Some s
 begins_one a rest s e h = found_one a s (sym (first_of a _ rest e) ∙ h)
 
-begins_two : (a : ℕ) (rest : List ℕ) (s : Sign) → length (sign_text s) ≡ 2 → BeginsWith (a ∷ rest) s → longer_sign a rest ≡ Some s
+begins_two : (a : ℕ) (rest : List ℕ) (s : Sign) → length (sign_text s) ≡ 2 → BeginsWithSign (a ∷ rest) s → longer_sign a rest ≡ Some s
 begins_two a (b ∷ rest) s e h = found_two a b s (sym (first_two a b _ rest e) ∙ h)
 begins_two a [] s e h = let k : 1 ≡ length (sign_text s) = ap length (sym (only_one a _ e) ∙ h) in absurd (omega (arith, e, k))
 
@@ -219,7 +219,7 @@ bad_longer a place None e = (refl, bad_shorter a place (one_byte_sign a) e)
 nothing_taken : (n k : ℕ) → n ≡ k → take {A = ℕ} k [] ≡ [] → take {A = ℕ} n [] ≡ []
 nothing_taken n k e h = rw e h
 
-pub not_taken : (text : List ℕ) (place : ℕ) → sign_at text ≡ Err place → (other : Sign) → BeginsWith text other → ⊥
+pub not_taken : (text : List ℕ) (place : ℕ) → sign_at text ≡ Err place → (other : Sign) → BeginsWithSign text other → ⊥
 not_taken [] place e other h = elim (size other) [ one k ↦ no_empty other (sym (nothing_taken _ 1 k refl) ∙ h) | two k ↦ no_empty other (sym (nothing_taken _ 2 k refl) ∙ h) ]
 not_taken (a ∷ rest) place e other h =
     let b = bad_longer a place (longer_sign a rest) e in

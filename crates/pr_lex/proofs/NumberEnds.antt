@@ -1,7 +1,8 @@
 -- The grammar of numbers ends: each rule comes to a byte in a few steps.
 use Rattle.std.proofs.Common.{◌≡◌, ℕ, suc, nat_le, true, refl}
 use Rattle.pr_forms.specs.Reading.{EndsIn, Ends}
-use Rattle.pr_lex.specs.Number.{production, table, Rule, Number, Tail, Fraction, Power, Exponent, Digits}
+use Rattle.pr_lex.specs.Number.{production, Rule, Number, Tail, Fraction, Power, Exponent, Digits}
+use Rattle.pr_lex.specs.NumberTable.{table}
 
 abbrev pub rank : Rule → ℕ
 rank Number = 5

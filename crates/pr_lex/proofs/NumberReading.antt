@@ -6,10 +6,11 @@ use Rattle.pr_forms.specs.Run.{good, bad, run_rule, run_pair, run_first, run_sec
 use Rattle.pr_forms.proofs.Ways.{take_side, take_side_bad, other_side, take_pair, no_pair}
 use Rattle.pr_forms.proofs.Carrying.{carry_start, turn_taken, tokens_over}
 use Rattle.pr_forms.proofs.Public.{rest_place, bad_place, left_short}
-use Rattle.pr_lex.specs.Number.{production, table, letter_of, seen, mark, Number, Fraction, Power, Exponent, Digits, Tail, digit_at, point_at, e_at, plus_minus_at, digits, IsNumberEnd}
+use Rattle.pr_lex.specs.Number.{production, letter_of, seen, mark, Number, Fraction, Power, Exponent, Digits, Tail, digit_at, point_at, e_at, plus_minus_at, digits, IsNumberEnd}
 use Rattle.pr_forms.specs.Language.{Gives, Takes, Lacks, Leads}
 use Rattle.pr_lex.specs.Reader.{numbers, Ends}
 use Rattle.pr_lex.proofs.NumberTable.{known}
+use Rattle.pr_lex.specs.NumberTable.{table}
 
 pub no_digits : (text : List ℕ) → Leads numbers digits text digits text
 no_digits text = carry_start

@@ -4,7 +4,8 @@ use Rattle.pr_forms.specs.Table.{empty_of, starts_of, more_of, parts_at, Decides
 use Rattle.pr_forms.proofs.Decided.{plain_binds}
 use Rattle.pr_lex.specs.declared.number.Letter.{Letter}
 use Rattle.pr_lex.specs.declared.number.Letter.TheVariants.{Digit}
-use Rattle.pr_lex.specs.Number.{production, table, Rule, Number, Fraction, Power, Exponent, Digits, Tail}
+use Rattle.pr_lex.specs.Number.{production, Rule, Number, Fraction, Power, Exponent, Digits, Tail}
+use Rattle.pr_lex.specs.NumberTable.{table}
 
 starts_known : (n : Rule) (t : Letter) → starts_of table (production n) t ≡ table.starts n t
 starts_known Number Digit = refl

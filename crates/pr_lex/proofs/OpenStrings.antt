@@ -12,9 +12,10 @@ use Rattle.pr_strings.specs.declared.kind.Mark.{Mark}
 use Rattle.pr_strings.specs.declared.kind.Mark.TheVariants.{Double, Single, Back}
 use Rattle.pr_strings.specs.declared.kind.Kind.{Kind}
 use Rattle.pr_strings.specs.declared.kind.Kind.TheVariants.{Quote}
-use Rattle.pr_strings.specs.Strings.{production, table, rank, steps, kind_of, Letter, letter, letter_of, seen, Value, content, mark, joined, first_of, Rule, Text, Quoted, quote_at, piece, IsOpenAt}
+use Rattle.pr_strings.specs.Strings.{production, kind_of, Letter, letter, letter_of, seen, Value, content, mark, joined, first_of, Rule, Text, Quoted, quote_at, piece, IsOpenAt}
 use Rattle.pr_strings.proofs.StringTable.{known}
 use Rattle.pr_strings.proofs.StringEnds.{ends}
+use Rattle.pr_strings.specs.StringTable.{table, rank, steps}
 use Rattle.pr_lex.specs.Lexed.{would_end}
 
 -- whole pieces and then the last quote

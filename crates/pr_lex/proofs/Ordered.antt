@@ -5,7 +5,8 @@ use Rattle.std.proofs.lemmas.List.Sums.{prefix_len-le-length}
 use Rattle.std.proofs.lemmas.Bool.Decides.{nat_tests}
 use Rattle.std.specs.Prelude.{if◌then◌else◌, ◌==◌}
 use Rattle.std.specs.List.{prefix_len}
-use Rattle.pr_lex.specs.declared.part.Class.TheVariants.{Blank, Line}
+use Rattle.pr_words.specs.Bytes.{is_whitespace}
+use Rattle.pr_lex.specs.declared.part.Class.TheVariants.{Whitespace, Line}
 use Rattle.pr_forms.specs.Form.{Reads, rule, is_rule, is_left, is_right, is_pair, is_token}
 use Rattle.pr_forms.proofs.Suffixes.{reads_suffix, suffix_length}
 use Rattle.pr_strings.specs.Strings.{production, Text as StringText, Letter, letter_of, seen, Value}
@@ -17,10 +18,10 @@ use Rattle.pr_lex.specs.declared.token.Sign.{Sign as SignName}
 use Rattle.pr_lex.specs.declared.part.Lexeme.{Lexeme}
 use Rattle.pr_lex.specs.declared.part.Lexeme.TheVariants.{Name, Number, Duration, Text, Sign}
 use Rattle.pr_lex.specs.declared.part.Part.TheVariants.{End, Gap, Token as TokenPart}
-use Rattle.pr_lex.specs.Bytes.{part_at, is_of, is_blank, front_len, name_class}
+use Rattle.pr_lex.specs.Bytes.{part_at, is_of, front_len, name_class}
 use Rattle.pr_lex.specs.Tokens.{IsTokenOf, AreTokens, no_more, past_gap, one_more}
 use Rattle.pr_lex.specs.SignAt.{sign_at, longer_sign, longest_sign, shorter_sign, one_byte_sign}
-use Rattle.pr_lex.specs.Order.{AreBlanks, no_blank, a_blank, a_comment, AreInOrder, none_left, next_token}
+use Rattle.pr_lex.specs.Order.{AreGaps, no_gap, a_whitespace, a_comment, AreInOrder, none_left, next_token}
 use Rattle.pr_lex.proofs.Firsts.{name_long, number_long, span_long, gap_is, gap_within}
 use Rattle.pr_lex.proofs.TakenSigns.{sign_known}
 
@@ -63,10 +64,10 @@ token_part Text inside text n token e x = record {
 token_part Sign inside text n token e x = sign_part text x.sign n (sign_known text x.sign n x.longest x.whole)
 
 -- what is passed over between tokens
-blanks_trans : {a b c : List ℕ} → AreBlanks a b → AreBlanks b c → AreBlanks a c
-blanks_trans no_blank y = y
-blanks_trans (a_blank e x) y = a_blank e (blanks_trans x y)
-blanks_trans (a_comment x) y = a_comment (blanks_trans x y)
+gaps_trans : {a b c : List ℕ} → AreGaps a b → AreGaps b c → AreGaps a c
+gaps_trans no_gap y = y
+gaps_trans (a_whitespace e x) y = a_whitespace e (gaps_trans x y)
+gaps_trans (a_comment x) y = a_comment (gaps_trans x y)
 
 pub drop_one : (n k b : ℕ) (rest : List ℕ) → n ≡ 1 + k → drop n (b ∷ rest) ≡ drop k rest
 drop_one n k b rest e = let h : n ≡ suc k = omega (arith, e) in rw h refl
@@ -74,27 +75,27 @@ drop_one n k b rest e = let h : n ≡ suc k = omega (arith, e) in rw h refl
 pub one_longer : (p : ℕ → Bool) (b : ℕ) (rest : List ℕ) → p b ≡ true → prefix_len p (b ∷ rest) ≡ 1 + prefix_len p rest
 one_longer p b rest e = rw e refl
 
-blanks_from : (b : ℕ) (rest : List ℕ) → AreBlanks rest (drop (front_len Blank rest) rest) → (x : Bool) → is_blank b ≡ x → AreBlanks (b ∷ rest) (drop (front_len Blank (b ∷ rest)) (b ∷ rest))
-blanks_from b rest tail true e =
-    subst (λ t. AreBlanks (b ∷ rest) t) (sym (drop_one (front_len Blank (b ∷ rest)) (front_len Blank rest) b rest (one_longer (is_of Blank) b rest e))) (a_blank e tail)
-blanks_from b rest tail false e = subst (λ x. AreBlanks (b ∷ rest) (drop (cond x (1 + front_len Blank rest) 0) (b ∷ rest))) (sym e) no_blank
+whitespace_from : (b : ℕ) (rest : List ℕ) → AreGaps rest (drop (front_len Whitespace rest) rest) → (x : Bool) → is_whitespace b ≡ x → AreGaps (b ∷ rest) (drop (front_len Whitespace (b ∷ rest)) (b ∷ rest))
+whitespace_from b rest tail true e =
+    subst (λ t. AreGaps (b ∷ rest) t) (sym (drop_one (front_len Whitespace (b ∷ rest)) (front_len Whitespace rest) b rest (one_longer (is_of Whitespace) b rest e))) (a_whitespace e tail)
+whitespace_from b rest tail false e = subst (λ x. AreGaps (b ∷ rest) (drop (cond x (1 + front_len Whitespace rest) 0) (b ∷ rest))) (sym e) no_gap
 
-all_blanks : (text : List ℕ) → AreBlanks text (drop (front_len Blank text) text)
-all_blanks [] = no_blank
-all_blanks (b ∷ rest) = blanks_from b rest (all_blanks rest) (is_blank b) refl
+all_whitespace : (text : List ℕ) → AreGaps text (drop (front_len Whitespace text) text)
+all_whitespace [] = no_gap
+all_whitespace (b ∷ rest) = whitespace_from b rest (all_whitespace rest) (is_whitespace b) refl
 
 hash : (b : ℕ) → (b == 35) ≡ true → b ≡ 35
 hash b h = grind (arith, nat_tests)
 
-comment : (b : ℕ) (rest : List ℕ) → b ≡ 35 → AreBlanks (b ∷ rest) (drop (front_len Line (b ∷ rest)) (b ∷ rest))
-comment b rest e = subst (λ c. AreBlanks (c ∷ rest) (drop (front_len Line (c ∷ rest)) (c ∷ rest))) (sym e)
-    (subst (λ t. AreBlanks (35 ∷ rest) t) (sym (drop_one (front_len Line (35 ∷ rest)) (front_len Line rest) 35 rest (one_longer (is_of Line) 35 rest refl))) (a_comment no_blank))
+comment : (b : ℕ) (rest : List ℕ) → b ≡ 35 → AreGaps (b ∷ rest) (drop (front_len Line (b ∷ rest)) (b ∷ rest))
+comment b rest e = subst (λ c. AreGaps (c ∷ rest) (drop (front_len Line (c ∷ rest)) (c ∷ rest))) (sym e)
+    (subst (λ t. AreGaps (35 ∷ rest) t) (sym (drop_one (front_len Line (35 ∷ rest)) (front_len Line rest) 35 rest (one_longer (is_of Line) 35 rest refl))) (a_comment no_gap))
 
-pub gap_blanks : (inside : Bool) (text : List ℕ) (n : ℕ) → part_at inside text ≡ Gap n → AreBlanks text (drop n text)
-gap_blanks inside [] n e = cc
-gap_blanks inside (b ∷ rest) n e = elim (gap_is (b ∷ rest) (is_blank b) (b == 35) _ _ n _ e) [
-  | inl x ↦ subst (λ k. AreBlanks (b ∷ rest) (drop k (b ∷ rest))) x.1 (all_blanks (b ∷ rest))
-  | inr x ↦ subst (λ k. AreBlanks (b ∷ rest) (drop k (b ∷ rest))) x.1 (comment b rest (hash b x.0))
+pub gap_is_gaps : (inside : Bool) (text : List ℕ) (n : ℕ) → part_at inside text ≡ Gap n → AreGaps text (drop n text)
+gap_is_gaps inside [] n e = cc
+gap_is_gaps inside (b ∷ rest) n e = elim (gap_is (b ∷ rest) (is_whitespace b) (b == 35) _ _ n _ e) [
+  | inl x ↦ subst (λ k. AreGaps (b ∷ rest) (drop k (b ∷ rest))) x.1 (all_whitespace (b ∷ rest))
+  | inr x ↦ subst (λ k. AreGaps (b ∷ rest) (drop k (b ∷ rest))) x.1 (comment b rest (hash b x.0))
 ]
 
 over_past : (x y : Bool) (g h : ℕ) (l : Lexeme) → (if x then Gap g else (if y then Gap h else TokenPart l)) ≡ End → ⊥
@@ -104,23 +105,23 @@ over_past false false g h l e = cc
 
 ended : (inside : Bool) (text : List ℕ) → part_at inside text ≡ End → text ≡ []
 ended inside [] e = refl
-ended inside (b ∷ rest) e = absurd (over_past (is_blank b) (b == 35) _ _ _ e)
+ended inside (b ∷ rest) e = absurd (over_past (is_whitespace b) (b == 35) _ _ _ e)
 
 module _ (whole : List ℕ) where
   pub next_text : (at n : ℕ) (text : List ℕ) → text ≡ drop at whole → drop n text ≡ drop (at + n) whole
   next_text at n text e = ap (λ t. drop n t) e ∙ drop-drop n at whole
 
-  pub in_order : {inside : Bool} {at : ℕ} {text : List ℕ} {tokens : List Token} (from : ℕ) → text ≡ drop at whole → from ≤ at → at ≤ length whole → AreBlanks (drop from whole) text →
+  pub in_order : {inside : Bool} {at : ℕ} {text : List ℕ} {tokens : List Token} (from : ℕ) → text ≡ drop at whole → from ≤ at → at ≤ length whole → AreGaps (drop from whole) text →
       AreTokens inside at text tokens → AreInOrder whole from tokens
-  in_order {inside} {at} {text} from is le within b (no_more e) = none_left (subst (λ t. AreBlanks (drop from whole) t) (ended inside text e) b)
+  in_order {inside} {at} {text} from is le within b (no_more e) = none_left (subst (λ t. AreGaps (drop from whole) t) (ended inside text e) b)
   in_order {inside} {at} {text} from is le within b (past_gap n e d) =
       let w = gap_within inside text n e in
       let l : length text ≡ length whole - at = ap length is ∙ length-drop at whole in
-      in_order from (next_text at n text is) (omega arith) (omega (arith, w, l, within)) (blanks_trans b (gap_blanks inside text n e)) d
+      in_order from (next_text at n text is) (omega arith) (omega (arith, w, l, within)) (gaps_trans b (gap_is_gaps inside text n e)) d
   in_order {inside} {at} {text} from is le within b (one_more n token l e x d) =
       let p = token_part l inside text n token e x in
       let w = p.within in
       let k : length text ≡ length whole - at = ap length is ∙ length-drop at whole in
       let end : at + n ≤ length whole = omega (arith, w, k, within) in
-      next_token le (subst (λ t. AreBlanks (drop from whole) t) is b) (omega (arith, p.long)) end
-      (in_order (at + n) (next_text at n text is) (omega arith) end (subst (λ t. AreBlanks t (drop n text)) (next_text at n text is) no_blank) d)
+      next_token le (subst (λ t. AreGaps (drop from whole) t) is b) (omega (arith, p.long)) end
+      (in_order (at + n) (next_text at n text is) (omega arith) end (subst (λ t. AreGaps t (drop n text)) (next_text at n text is) no_gap) d)

@@ -13,6 +13,7 @@ use Rattle.pr_forms.proofs.Decided.{Agrees, same, goes_on, agrees, rule_decides}
 use Rattle.pr_num.specs.Reads.{reads}
 use Rattle.pr_time.specs.SpanText as spans
 use Rattle.pr_strings.specs.Strings as strings
+use Rattle.pr_strings.specs.StringTable as string_tables
 use Rattle.pr_strings.proofs.StringTable as string_table
 use Rattle.pr_strings.proofs.StringEnds as string_ends
 use Rattle.pr_lex.specs.declared.part.Lexeme.{Lexeme}
@@ -86,7 +87,7 @@ same_sign (a ∷ []) r more s pos e = ap (longest_sign a) (no_space a) ∙ one_s
 same_sign (a ∷ b ∷ front) r more s pos e = e
 
 -- strings
-left_is : {o : Outcome strings.Letter strings.Value} {c : List ℕ} {s : List strings.Letter} → Agrees strings.table (rule strings.Text) o (strings.content c) s → left_of o ≡ s
+left_is : {o : Outcome strings.Letter strings.Value} {c : List ℕ} {s : List strings.Letter} → Agrees string_tables.table (rule strings.Text) o (strings.content c) s → left_of o ≡ s
 left_is same = refl
 left_is (goes_on i) = absurd (no_longer_string _ i.is)
 
@@ -101,11 +102,11 @@ module _ (content front r s : List ℕ) (d : strings.IsString (front ++ r) conte
 
   string_ends_again : strings.IsBadPlace (front ++ s) (length front)
   string_ends_again =
-      let a = rule_answered strings.production strings.table string_table.known strings.rank strings.steps string_ends.ends strings.Text (strings.seen (front ++ s)) in
-      let left : left_of a.outcome ≡ strings.seen s = left_is (agrees strings.production strings.table string_table.known (rule_decides strings.table strings.Text) a.runs string_again) in
+      let a = rule_answered strings.production string_tables.table string_table.known string_tables.rank string_tables.steps string_ends.ends strings.Text (strings.seen (front ++ s)) in
+      let left : left_of a.outcome ≡ strings.seen s = left_is (agrees strings.production string_tables.table string_table.known (rule_decides string_tables.table strings.Text) a.runs string_again) in
       let l : length (strings.seen (front ++ s)) - length (left_of a.outcome) ≡ length front =
       rw left (omega (arith, length-map (front ++ s) strings.letter_of, length-map s strings.letter_of, length-append front s)) in
-      subst (λ k. strings.IsBadPlace (front ++ s) k) l (run_place strings.production strings.table string_table.known strings.Text (strings.seen (front ++ s)) a.outcome a.runs)
+      subst (λ k. strings.IsBadPlace (front ++ s) k) l (run_place strings.production string_tables.table string_table.known strings.Text (strings.seen (front ++ s)) a.outcome a.runs)
 
 -- each kind of token
 module _ (inside : Bool) (front r more : List ℕ) (token : TokenKind) (pos : 0 < length front) where

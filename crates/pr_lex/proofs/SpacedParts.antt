@@ -4,14 +4,16 @@ use Rattle.std.specs.Prelude.{if◌then◌else◌, ◌==◌, ◌||◌}
 use Rattle.std.proofs.lemmas.List.{length-map, drop-map, drop-drop}
 use Rattle.std.proofs.lemmas.Bool.{cases_lt}
 use Rattle.std.proofs.lemmas.Bool.Decides.{nat_tests}
+use Rattle.std.specs.Char.{is_ascii_digit}
+use Rattle.pr_words.specs.Bytes.{is_whitespace}
 use Rattle.pr_forms.specs.Form.{Form, either, pair, rule, turns, Reads, is_token, is_stop, is_turn, is_fold, Begins, at_whole, in_first, in_second, in_left, in_right, in_rule}
 use Rattle.pr_time.specs.SpanText as spans
-use Rattle.pr_lex.specs.declared.part.Class.TheVariants.{Digit, Blank, Line}
+use Rattle.pr_lex.specs.declared.part.Class.TheVariants.{Digit, Whitespace, Line}
 use Rattle.pr_lex.specs.declared.part.Lexeme.{Lexeme}
 use Rattle.pr_lex.specs.declared.part.Lexeme.TheVariants.{Name, Number, Duration, Text, Sign}
 use Rattle.pr_lex.specs.declared.part.Part.TheVariants.{Gap, Token as TokenPart}
 use Rattle.pr_lex.specs.declared.token.TokenKind.{TokenKind}
-use Rattle.pr_lex.specs.Bytes.{is_of, is_blank, is_quote, is_digit, is_unit_letter, starts_name, starts_unit, front_len, digits_lexeme, lexeme_at, part_at}
+use Rattle.pr_lex.specs.Bytes.{is_of, is_quote, is_unit_letter, starts_name, starts_unit, front_len, digits_lexeme, lexeme_at, part_at}
 use Rattle.pr_lex.specs.Tokens.{IsTokenOf}
 use Rattle.pr_lex.proofs.Ordered.{drop_one, one_longer}
 use Rattle.pr_lex.proofs.LongestSigns.{is_byte}
@@ -20,10 +22,10 @@ use Rattle.pr_lex.proofs.LongestSigns.{is_byte}
 abbrev past_digits : List ℕ → List ℕ
 past_digits text = drop (front_len Digit text) text
 
-past_digit : (b : ℕ) (rest : List ℕ) → is_digit b ≡ true → past_digits (b ∷ rest) ≡ past_digits rest
+past_digit : (b : ℕ) (rest : List ℕ) → is_ascii_digit b ≡ true → past_digits (b ∷ rest) ≡ past_digits rest
 past_digit b rest e = drop_one (front_len Digit (b ∷ rest)) (front_len Digit rest) b rest (one_longer (is_of Digit) b rest e)
 
-past_none : (b : ℕ) (rest : List ℕ) → is_digit b ≡ false → past_digits (b ∷ rest) ≡ b ∷ rest
+past_none : (b : ℕ) (rest : List ℕ) → is_ascii_digit b ≡ false → past_digits (b ∷ rest) ≡ b ∷ rest
 past_none b rest e = rw e refl
 
 -- Digits and a unit letter begin a duration. This rule reads the unit; its name is found in its
@@ -56,19 +58,19 @@ unit_begins u z e = any_of (u == 121) (u == 119) (u == 100) (u == 104) (u == 109
     at : (k : ℕ) → (u == k) ≡ true → Begins spans.production (rule from_year) (spans.seen (k ∷ z)) (spans.seen z) → Begins spans.production (rule from_year) (spans.seen (u ∷ z)) (spans.seen z)
     at k i b = subst (λ c. Begins spans.production (rule from_year) (spans.seen (c ∷ z)) (spans.seen z)) (sym (is_byte u k i)) b
 
-digit_value : (b : ℕ) → is_digit b ≡ true → spans.digit_at (spans.letter_of b) ≡ Some (spans.count (b - 48))
+digit_value : (b : ℕ) → is_ascii_digit b ≡ true → spans.digit_at (spans.letter_of b) ≡ Some (spans.count (b - 48))
 digit_value b e = rw e refl
 
 zero_value : (b : ℕ) → b ≡ 48 → spans.zero_at (spans.letter_of b) ≡ Some spans.mark
 zero_value b e = rw e refl
 
-other_value : (b : ℕ) → is_digit b ≡ true → 48 < b → spans.other_digit_at (spans.letter_of b) ≡ Some (spans.count (b - 48))
+other_value : (b : ℕ) → is_ascii_digit b ≡ true → 48 < b → spans.other_digit_at (spans.letter_of b) ≡ Some (spans.count (b - 48))
 other_value b e lt = let k : b - 48 ≡ suc (b - 49) = omega arith in rw (e, k) refl
 
 abbrev DigitsRead : spans.Value → List ℕ → Type 0
 DigitsRead v text = (w : spans.Value) × Reads spans.production (turns spans.shifted v spans.digit) (spans.seen text) w (spans.seen (past_digits text))
 
-one_more : (v : spans.Value) (b : ℕ) (rest : List ℕ) → ((w : spans.Value) → DigitsRead w rest) → (x : Bool) → is_digit b ≡ x → DigitsRead v (b ∷ rest)
+one_more : (v : spans.Value) (b : ℕ) (rest : List ℕ) → ((w : spans.Value) → DigitsRead w rest) → (x : Bool) → is_ascii_digit b ≡ x → DigitsRead v (b ∷ rest)
 one_more v b rest again true e =
     let d = again (spans.shifted v (spans.count (b - 48))) in
     (d.0, subst (λ t. Reads spans.production (turns spans.shifted v spans.digit) (spans.seen (b ∷ rest)) d.0 (spans.seen t)) (sym (past_digit b rest e)) (is_turn (is_token (digit_value b e)) d.1))
@@ -76,12 +78,12 @@ one_more v b rest again false e = (v, subst (λ t. Reads spans.production (turns
 
 digits_read : (v : spans.Value) (text : List ℕ) → DigitsRead v text
 digits_read v [] = (v, is_stop)
-digits_read v (b ∷ rest) = one_more v b rest (λ w. digits_read w rest) (is_digit b) refl
+digits_read v (b ∷ rest) = one_more v b rest (λ w. digits_read w rest) (is_ascii_digit b) refl
 
 digits_before : (v : spans.Value) (text after : List ℕ) → past_digits text ≡ after → (w : spans.Value) × Reads spans.production (turns spans.shifted v spans.digit) (spans.seen text) w (spans.seen after)
 digits_before v text after e = let d = digits_read v text in (d.0, subst (λ t. Reads spans.production (turns spans.shifted v spans.digit) (spans.seen text) d.0 (spans.seen t)) e d.1)
 
-duration_begins : (b : ℕ) (rest : List ℕ) (u : ℕ) (z : List ℕ) → is_digit b ≡ true → past_digits rest ≡ u ∷ z → is_unit_letter u ≡ true → Begins spans.production (rule spans.Text) (spans.seen (b ∷ rest)) (spans.seen z)
+duration_begins : (b : ℕ) (rest : List ℕ) (u : ℕ) (z : List ℕ) → is_ascii_digit b ≡ true → past_digits rest ≡ u ∷ z → is_unit_letter u ≡ true → Begins spans.production (rule spans.Text) (spans.seen (b ∷ rest)) (spans.seen z)
 duration_begins b rest u z e after unit = elim (cases_lt 48 b) [
   | inl lt ↦ let d = digits_before (spans.count (b - 48)) rest (u ∷ z) after in in_rule (in_right (in_second (is_fold (is_token (other_value b e lt)) d.1) (unit_begins u z unit)))
   | inr ge ↦ let d = digits_before (spans.count 0) rest (u ∷ z) after in
@@ -90,7 +92,7 @@ duration_begins b rest u z e after unit = elim (cases_lt 48 b) [
 ]
 
 -- so a duration goes on past its first digits
-past_unit : (b : ℕ) (rest : List ℕ) (n : ℕ) → is_digit b ≡ true → spans.IsBadPlace (b ∷ rest) n → (k : ℕ) (after : List ℕ) → past_digits rest ≡ after → drop k (b ∷ rest) ≡ after → starts_unit after ≡ true → k < n
+past_unit : (b : ℕ) (rest : List ℕ) (n : ℕ) → is_ascii_digit b ≡ true → spans.IsBadPlace (b ∷ rest) n → (k : ℕ) (after : List ℕ) → past_digits rest ≡ after → drop k (b ∷ rest) ≡ after → starts_unit after ≡ true → k < n
 past_unit b rest n e bad k [] h i unit = absurd (cc)
 past_unit b rest n e bad k (u ∷ z) h i unit = elim (cases_lt k n) [
   | inl lt ↦ lt
@@ -103,23 +105,23 @@ past_unit b rest n e bad k (u ∷ z) h i unit = elim (cases_lt k n) [
     is : spans.seen z ≡ drop (k + 1) (spans.seen (b ∷ rest))
     is = ap (λ t. spans.seen (drop 1 t)) (sym i) ∙ (ap spans.seen (drop-drop 1 k (b ∷ rest)) ∙ sym (drop-map spans.letter_of (k + 1) (b ∷ rest)))
 
-pub long_duration : (b : ℕ) (rest : List ℕ) (n : ℕ) → is_digit b ≡ true → spans.IsBadPlace (b ∷ rest) n → starts_unit (past_digits (b ∷ rest)) ≡ true → front_len Digit (b ∷ rest) < n
+pub long_duration : (b : ℕ) (rest : List ℕ) (n : ℕ) → is_ascii_digit b ≡ true → spans.IsBadPlace (b ∷ rest) n → starts_unit (past_digits (b ∷ rest)) ≡ true → front_len Digit (b ∷ rest) < n
 long_duration b rest n e bad unit = past_unit b rest n e bad (front_len Digit (b ∷ rest)) (past_digits (b ∷ rest)) (sym (past_digit b rest e)) refl unit
 
 -- What follows the digits of a front is the same byte before another rest, or the space.
 no_unit : (front r more : List ℕ) → starts_unit (past_digits (front ++ r)) ≡ false → starts_unit (past_digits (front ++ 32 ∷ more)) ≡ false
 no_unit [] r more e = refl
-no_unit (b ∷ front) r more e = by_digit (no_unit front r more) (is_digit b) refl
+no_unit (b ∷ front) r more e = by_digit (no_unit front r more) (is_ascii_digit b) refl
   where
-    by_digit : (starts_unit (past_digits (front ++ r)) ≡ false → starts_unit (past_digits (front ++ 32 ∷ more)) ≡ false) → (k : Bool) → is_digit b ≡ k → starts_unit (past_digits (b ∷ front ++ 32 ∷ more)) ≡ false
+    by_digit : (starts_unit (past_digits (front ++ r)) ≡ false → starts_unit (past_digits (front ++ 32 ∷ more)) ≡ false) → (k : Bool) → is_ascii_digit b ≡ k → starts_unit (past_digits (b ∷ front ++ 32 ∷ more)) ≡ false
     by_digit again true d = ap starts_unit (past_digit b (front ++ 32 ∷ more) d) ∙ again (sym (ap starts_unit (past_digit b (front ++ r) d)) ∙ e)
     by_digit again false d = ap starts_unit (past_none b (front ++ 32 ∷ more) d) ∙ (sym (ap starts_unit (past_none b (front ++ r) d)) ∙ e)
 
 same_unit : (front r s : List ℕ) → front_len Digit (front ++ r) < length front → starts_unit (past_digits (front ++ s)) ≡ starts_unit (past_digits (front ++ r))
 same_unit [] r s lt = absurd (omega arith)
-same_unit (b ∷ front) r s lt = by_digit (same_unit front r s) (is_digit b) refl
+same_unit (b ∷ front) r s lt = by_digit (same_unit front r s) (is_ascii_digit b) refl
   where
-    by_digit : (front_len Digit (front ++ r) < length front → starts_unit (past_digits (front ++ s)) ≡ starts_unit (past_digits (front ++ r))) → (k : Bool) → is_digit b ≡ k →
+    by_digit : (front_len Digit (front ++ r) < length front → starts_unit (past_digits (front ++ s)) ≡ starts_unit (past_digits (front ++ r))) → (k : Bool) → is_ascii_digit b ≡ k →
         starts_unit (past_digits (b ∷ front ++ s)) ≡ starts_unit (past_digits (b ∷ front ++ r))
     by_digit again true d =
         let h = one_longer (is_of Digit) b (front ++ r) d in
@@ -139,7 +141,7 @@ digits_no_other true l n d e = d (sym e)
 digits_no_other false l n d e = n (sym e)
 
 -- digits begin the same lexeme again
-same_digits : (inside : Bool) (b : ℕ) (front r more : List ℕ) (token : TokenKind) → is_digit b ≡ true → (l : Lexeme) → IsTokenOf l inside (b ∷ front ++ r) (length (b ∷ front)) token →
+same_digits : (inside : Bool) (b : ℕ) (front r more : List ℕ) (token : TokenKind) → is_ascii_digit b ≡ true → (l : Lexeme) → IsTokenOf l inside (b ∷ front ++ r) (length (b ∷ front)) token →
     digits_lexeme (b ∷ front ++ r) ≡ l → digits_lexeme (b ∷ front ++ 32 ∷ more) ≡ l
 same_digits inside b front r more token d Number x e =
     ap (λ k. if k then Duration else Number) (no_unit (b ∷ front) r more (by_unit (starts_unit (past_digits (b ∷ front ++ r))) e))
@@ -162,14 +164,14 @@ token_byte false true g h l o e = cc
 token_byte false false g h l o e = (refl, (refl, cc))
 
 module _ (inside : Bool) (b : ℕ) (front r more : List ℕ) (token : TokenKind) (l : Lexeme) (e : part_at inside (b ∷ front ++ r) ≡ TokenPart l) where
-  first_byte : (is_blank b ≡ false) × (((b == 35) ≡ false) × (lexeme_at inside b (b ∷ front ++ r) ≡ l))
-  first_byte = token_byte (is_blank b) (b == 35) (front_len Blank (b ∷ front ++ r)) (front_len Line (b ∷ front ++ r)) l (lexeme_at inside b (b ∷ front ++ r)) e
+  first_byte : (is_whitespace b ≡ false) × (((b == 35) ≡ false) × (lexeme_at inside b (b ∷ front ++ r) ≡ l))
+  first_byte = token_byte (is_whitespace b) (b == 35) (front_len Whitespace (b ∷ front ++ r)) (front_len Line (b ∷ front ++ r)) l (lexeme_at inside b (b ∷ front ++ r)) e
 
   pub part_again : IsTokenOf l inside (b ∷ front ++ r) (length (b ∷ front)) token → part_at inside (b ∷ front ++ 32 ∷ more) ≡ TokenPart l
   part_again x =
-      let h : lexeme_at inside b (b ∷ front ++ 32 ∷ more) ≡ l = by_tests (starts_name inside b) (is_digit b) (b == 46) (is_quote b) (digits_lexeme (b ∷ front ++ r)) (digits_lexeme (b ∷ front ++ 32 ∷ more)) l
+      let h : lexeme_at inside b (b ∷ front ++ 32 ∷ more) ≡ l = by_tests (starts_name inside b) (is_ascii_digit b) (b == 46) (is_quote b) (digits_lexeme (b ∷ front ++ r)) (digits_lexeme (b ∷ front ++ 32 ∷ more)) l
       (λ d i. same_digits inside b front r more token d l x i) first_byte.1.1 in
       rw (first_byte.0, first_byte.1.0) (ap TokenPart h)
 
-  pub no_blank_first : front_len Blank (b ∷ front ++ 32 ∷ more) ≡ 0
+  pub no_blank_first : front_len Whitespace (b ∷ front ++ 32 ∷ more) ≡ 0
   no_blank_first = rw first_byte.0 refl

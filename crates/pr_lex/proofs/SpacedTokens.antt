@@ -2,7 +2,7 @@
 use Rattle.std.proofs.Common.{◌≡◌, ℕ, ◌+◌, ◌<◌, List, [], ◌∷◌, ◌++◌, Bool, length, take, drop, refl, ap, ap₂, sym, ◌∙◌, subst, subst₂, arith, append_assoc, take-append-drop, length-take}
 use Rattle.pr_lex.specs.declared.token.Token.{Token}
 use Rattle.pr_lex.specs.declared.token.TokenKind.{TokenKind}
-use Rattle.pr_lex.specs.declared.part.Class.TheVariants.{Blank}
+use Rattle.pr_lex.specs.declared.part.Class.TheVariants.{Whitespace}
 use Rattle.pr_lex.specs.declared.part.Lexeme.{Lexeme}
 use Rattle.pr_lex.specs.declared.part.Part.TheVariants.{Token as TokenPart}
 use Rattle.pr_lex.specs.Bytes.{front_len, part_at}
@@ -18,7 +18,7 @@ pub record IsAgain (inside : Bool) (text more : List ℕ) (n : ℕ) (token : Tok
   pub part : part_at inside text ≡ TokenPart l
   pub is : IsTokenOf l inside text n token
   pub rest : drop n text ≡ 32 ∷ more
-  pub first : front_len Blank text ≡ 0
+  pub first : front_len Whitespace text ≡ 0
 
 front_again : (inside : Bool) (front r more : List ℕ) (token : TokenKind) (l : Lexeme) → 0 < length front → part_at inside (front ++ r) ≡ TokenPart l → IsTokenOf l inside (front ++ r) (length front) token →
     IsAgain inside (front ++ 32 ∷ more) more (length front) token l
@@ -50,10 +50,10 @@ pub record HasAgain (inside : Bool) (at : ℕ) (text : List ℕ) (tokens : List 
   pub again : List Token
   pub are : AreTokens inside at text again
   pub alike : kinds again ≡ kinds tokens
-  pub first : front_len Blank text ≡ 0
+  pub first : front_len Whitespace text ≡ 0
 
 -- a space before them
-after_space : (inside : Bool) (at : ℕ) (more : List ℕ) (tokens : List Token) → front_len Blank more ≡ 0 → AreTokens inside (at + 1) more tokens → AreTokens inside at (32 ∷ more) tokens
+after_space : (inside : Bool) (at : ℕ) (more : List ℕ) (tokens : List Token) → front_len Whitespace more ≡ 0 → AreTokens inside (at + 1) more tokens → AreTokens inside at (32 ∷ more) tokens
 after_space inside at more tokens e d = past_gap 1 (rw e refl) d
 
 one_again : (inside : Bool) (from at n : ℕ) (text more : List ℕ) (token : TokenKind) (l : Lexeme) (tokens : List Token) → IsAgain inside text more n token l → HasAgain (inside_after inside token) (at + n + 1) more tokens →

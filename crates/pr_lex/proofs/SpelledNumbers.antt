@@ -7,6 +7,7 @@ use Rattle.std.proofs.lemmas.List.{length-map, map-append, append-nil}
 use Rattle.std.proofs.lemmas.Fmt.{decimal_is_IsNumeral_wide}
 use Rattle.std.proofs.lemmas.Bool.Decides.{nat_tests}
 use Rattle.pr_words.proofs.Decimals.{own}
+use Rattle.pr_words.specs.Bytes.{is_whitespace}
 use Rattle.pr_forms.specs.Form.{rule, Reads}
 use Rattle.pr_forms.specs.Table.{is_more}
 use Rattle.pr_forms.proofs.Ending.{rule_answered}
@@ -26,38 +27,39 @@ use Rattle.pr_lex.specs.declared.part.Class.TheVariants.{Digit}
 use Rattle.pr_lex.specs.declared.part.Lexeme.{Lexeme}
 use Rattle.pr_lex.specs.declared.part.Lexeme.TheVariants.{Number as NumberLexeme}
 use Rattle.pr_lex.specs.declared.part.Part.TheVariants.{Token as TokenPart}
-use Rattle.pr_lex.specs.Bytes.{part_at, is_blank, is_digit, is_of, is_unit_letter, starts_name, starts_unit, digits_lexeme, front_len}
-use Rattle.pr_lex.specs.Number.{production, table, letter_of, seen, Value, mark, Number, IsNumberEnd}
+use Rattle.pr_lex.specs.Bytes.{part_at, is_of, is_unit_letter, starts_name, starts_unit, digits_lexeme, front_len}
+use Rattle.pr_lex.specs.Number.{production, letter_of, seen, Value, mark, Number, IsNumberEnd}
 use Rattle.pr_lex.specs.Spelled.{Spells, a_token, ends_number}
 use Rattle.pr_lex.proofs.NumberTable.{known}
 use Rattle.pr_lex.proofs.NumberEnds.{ends, rank, steps}
 use Rattle.pr_lex.proofs.NumberForms.{form_read}
 use Rattle.pr_lex.proofs.Spelling.{both_left, both_right, not_true, take_front, drop_front}
 use Rattle.pr_lex.proofs.SpelledTexts.{longest, front_length}
+use Rattle.pr_lex.specs.NumberTable.{table}
 
 -- digits before what is none
 abbrev pub stops : List ℕ → Bool
 stops [] = true
-stops (b ∷ rest) = not (is_digit b)
+stops (b ∷ rest) = not (is_ascii_digit b)
 
-front_digits : (ds more : List ℕ) → list_all is_digit ds ≡ true → stops more ≡ true → prefix_len (is_of Digit) (ds ++ more) ≡ length ds
+front_digits : (ds more : List ℕ) → list_all is_ascii_digit ds ≡ true → stops more ≡ true → prefix_len (is_of Digit) (ds ++ more) ≡ length ds
 front_digits [] [] e h = refl
-front_digits [] (b ∷ more) e h = rw (not_true (is_digit b) h) refl
+front_digits [] (b ∷ more) e h = rw (not_true (is_ascii_digit b) h) refl
 front_digits (d ∷ ds) more e h =
-    let k : is_digit d ≡ true = both_left (is_digit d) (list_all is_digit ds) e in
-    let r : prefix_len (is_of Digit) (ds ++ more) ≡ length ds = front_digits ds more (both_right (is_digit d) (list_all is_digit ds) e) h in
+    let k : is_ascii_digit d ≡ true = both_left (is_ascii_digit d) (list_all is_ascii_digit ds) e in
+    let r : prefix_len (is_of Digit) (ds ++ more) ≡ length ds = front_digits ds more (both_right (is_ascii_digit d) (list_all is_ascii_digit ds) e) h in
     rw k (omega (arith, r))
 
-pub past_digits : (ds more : List ℕ) → list_all is_digit ds ≡ true → stops more ≡ true → drop (front_len Digit (ds ++ more)) (ds ++ more) ≡ more
+pub past_digits : (ds more : List ℕ) → list_all is_ascii_digit ds ≡ true → stops more ≡ true → drop (front_len Digit (ds ++ more)) (ds ++ more) ≡ more
 past_digits ds more e h = rw (front_digits ds more e h) (drop_front ds more)
 
-no_blank : (b : ℕ) → is_digit b ≡ true → is_blank b ≡ false
+no_blank : (b : ℕ) → is_ascii_digit b ≡ true → is_whitespace b ≡ false
 no_blank b h = grind (arith, nat_tests)
 
-no_comment : (b : ℕ) → is_digit b ≡ true → b == 35 ≡ false
+no_comment : (b : ℕ) → is_ascii_digit b ≡ true → b == 35 ≡ false
 no_comment b h = grind (arith, nat_tests)
 
-no_name : (inside : Bool) (b : ℕ) → is_digit b ≡ true → starts_name inside b ≡ false
+no_name : (inside : Bool) (b : ℕ) → is_ascii_digit b ≡ true → starts_name inside b ≡ false
 no_name true b h = grind (arith, nat_tests)
 no_name false b h = grind (arith, nat_tests)
 
@@ -65,10 +67,10 @@ when : (b : Bool) (x y : Lexeme) → b ≡ true → (if b then x else y) ≡ x
 when true x y e = refl
 when false x y e = cc
 
-pub digit_part : (inside : Bool) (d : ℕ) (rest : List ℕ) (l : Lexeme) → is_digit d ≡ true → digits_lexeme (d ∷ rest) ≡ l → part_at inside (d ∷ rest) ≡ TokenPart l
-digit_part inside d rest l h e = rw (no_blank d h, no_comment d h, no_name inside d h) (ap TokenPart (when (is_digit d) (digits_lexeme (d ∷ rest)) _ h ∙ e))
+pub digit_part : (inside : Bool) (d : ℕ) (rest : List ℕ) (l : Lexeme) → is_ascii_digit d ≡ true → digits_lexeme (d ∷ rest) ≡ l → part_at inside (d ∷ rest) ≡ TokenPart l
+digit_part inside d rest l h e = rw (no_blank d h, no_comment d h, no_name inside d h) (ap TokenPart (when (is_ascii_digit d) (digits_lexeme (d ∷ rest)) _ h ∙ e))
 
-number_lexeme : (ds more : List ℕ) → list_all is_digit ds ≡ true → stops more ≡ true → starts_unit more ≡ false → digits_lexeme (ds ++ more) ≡ NumberLexeme
+number_lexeme : (ds more : List ℕ) → list_all is_ascii_digit ds ≡ true → stops more ≡ true → starts_unit more ≡ false → digits_lexeme (ds ++ more) ≡ NumberLexeme
 number_lexeme ds more e h k = rw (past_digits ds more e h) (rw k refl)
 
 -- what follows the first digits of a number is neither a digit nor a unit letter
@@ -79,10 +81,10 @@ record Follows (more : List ℕ) : Type 0 where
 of_rest : (rest : List ℕ) → ends_number rest ≡ true → Follows rest
 of_rest [] h = record { stop = refl; unit = refl }
 of_rest (b ∷ rest) h =
-    let x = both_right (not (is_digit b)) (not (b == 46) && (not (b == 101 || b == 69) && not (is_unit_letter b))) h in
+    let x = both_right (not (is_ascii_digit b)) (not (b == 46) && (not (b == 101 || b == 69) && not (is_unit_letter b))) h in
     let y = both_right (not (b == 46)) (not (b == 101 || b == 69) && not (is_unit_letter b)) x in
     let z = both_right (not (b == 101 || b == 69)) (not (is_unit_letter b)) y in
-    record { stop = both_left (not (is_digit b)) (not (b == 46) && (not (b == 101 || b == 69) && not (is_unit_letter b))) h; unit = not_true (is_unit_letter b) z }
+    record { stop = both_left (not (is_ascii_digit b)) (not (b == 46) && (not (b == 101 || b == 69) && not (is_unit_letter b))) h; unit = not_true (is_unit_letter b) z }
 
 follows : (f : Fraction) (e : Exponent) (rest : List ℕ) → ends_number rest ≡ true → Follows ((fraction_part f ++ exponent_part e) ++ rest)
 follows (point ds) e rest h = record { stop = refl; unit = refl }
@@ -99,7 +101,7 @@ number_part inside (d ∷ ds) f e rest h k =
     let x = follows f e rest k in
     let q : (d ∷ ds) ++ more ≡ ((d ∷ ds) ++ (fraction_part f ++ exponent_part e)) ++ rest = sym (append_assoc (d ∷ ds) (fraction_part f ++ exponent_part e) rest) in
     subst (λ t. part_at inside t ≡ TokenPart NumberLexeme) q
-    (digit_part inside d (ds ++ more) NumberLexeme (both_left (is_digit d) (list_all is_digit ds) h.whole_digits) (number_lexeme (d ∷ ds) more h.whole_digits x.stop x.unit))
+    (digit_part inside d (ds ++ more) NumberLexeme (both_left (is_ascii_digit d) (list_all is_ascii_digit ds) h.whole_digits) (number_lexeme (d ∷ ds) more h.whole_digits x.stop x.unit))
 
 -- the number is read before the rest, which does not go on it
 before_rest : (text rest : List ℕ) → Reads production (rule Number) (seen text) mark [] → Reads production (rule Number) (seen (text ++ rest)) mark (seen rest)
@@ -114,9 +116,9 @@ plus_minus false = refl
 no_more : (rest : List ℕ) → ends_number rest ≡ true → is_more {V = Value} table (rule Number) (seen rest) ≡ false
 no_more [] h = refl
 no_more (b ∷ rest) h =
-    let x = both_right (not (is_digit b)) (not (b == 46) && (not (b == 101 || b == 69) && not (is_unit_letter b))) h in
+    let x = both_right (not (is_ascii_digit b)) (not (b == 46) && (not (b == 101 || b == 69) && not (is_unit_letter b))) h in
     let y = both_right (not (b == 46)) (not (b == 101 || b == 69) && not (is_unit_letter b)) x in
-    let d = not_true (is_digit b) (both_left (not (is_digit b)) (not (b == 46) && (not (b == 101 || b == 69) && not (is_unit_letter b))) h) in
+    let d = not_true (is_ascii_digit b) (both_left (not (is_ascii_digit b)) (not (b == 46) && (not (b == 101 || b == 69) && not (is_unit_letter b))) h) in
     let p = not_true (b == 46) (both_left (not (b == 46)) (not (b == 101 || b == 69) && not (is_unit_letter b)) x) in
     let e = not_true (b == 101 || b == 69) (both_left (not (b == 101 || b == 69)) (not (is_unit_letter b)) y) in
     rw (d, p, e) (plus_minus (b == 43 || b == 45))
@@ -158,7 +160,7 @@ digit_first : (c : ℕ) (bs : List ℕ) → is_ascii_digit c ≡ true → IsNumb
 digit_first c bs d (inl h) = absurd (let e = not_word c 110 bs (codes "an") d (omega arith) in cc)
 digit_first c bs d (inr s) = by_sign c bs d s.sign s.rest s.parts s.form
 
-pub decimal_digits : (n : ℕ) → n < 10 ^ 64 → list_all is_digit (decimal n) ≡ true
+pub decimal_digits : (n : ℕ) → n < 10 ^ 64 → list_all is_ascii_digit (decimal n) ≡ true
 decimal_digits n h = own.from (decimal n) (decimal_is_IsNumeral_wide n h).0.1
 
 pub decimal_some : (n : ℕ) → n < 10 ^ 64 → 0 < length (decimal n)

@@ -4,21 +4,22 @@ use Rattle.std.specs.Prelude.{not, ◌==◌, ◌||◌, if◌then◌else◌, deci
 use Rattle.std.specs.List.{list_all}
 use Rattle.std.proofs.lemmas.List.{length-map, map-append, append-nil}
 use Rattle.std.proofs.lemmas.Bool.Decides.{nat_tests}
+use Rattle.std.specs.Char.{is_ascii_digit}
 use Rattle.pr_forms.specs.Form.{rule, Reads}
 use Rattle.pr_forms.specs.Table.{is_more}
 use Rattle.pr_forms.proofs.Ending.{rule_answered}
 use Rattle.pr_forms.proofs.Parts.{other_rest}
-use Rattle.pr_time.specs.SpanText.{production, table, letter_of, seen, Value, span, Text, ReadsSpan, IsBadPlace}
-use Rattle.pr_time.specs.SpanAnswer.{step_rank, steps}
+use Rattle.pr_time.specs.SpanText.{production, letter_of, seen, Value, span, Text, ReadsSpan, IsBadPlace}
 use Rattle.pr_time.specs.SpanShown.{part_text, parts_text, shown_span}
 use Rattle.pr_time.proofs.SpanTable.{known}
 use Rattle.pr_time.proofs.SpanTotal.{ends}
 use Rattle.pr_time.proofs.SpanRead.{shown_reads}
+use Rattle.pr_time.specs.SpanTable.{table, step_rank, steps}
 use Rattle.pr_lex.specs.declared.token.TokenKind.{TokenKind}
 use Rattle.pr_lex.specs.declared.token.TokenKind.TheVariants.{Duration as DurationKind}
 use Rattle.pr_lex.specs.declared.part.Lexeme.TheVariants.{Duration}
 use Rattle.pr_lex.specs.declared.part.Part.TheVariants.{Token as TokenPart}
-use Rattle.pr_lex.specs.Bytes.{part_at, is_digit, is_unit_letter, digits_lexeme}
+use Rattle.pr_lex.specs.Bytes.{part_at, is_unit_letter, digits_lexeme}
 use Rattle.pr_lex.specs.Spelled.{Spells, a_token, ends_span}
 use Rattle.pr_lex.proofs.Spelling.{both_left, both_right, not_true, take_front, drop_front}
 use Rattle.pr_lex.proofs.SpelledTexts.{longest, front_length}
@@ -36,14 +37,14 @@ other_of false false false false false true s t y' w' d' h' m' s' o e k = cc
 other_of false false false false false false true t y' w' d' h' m' s' o e k = cc
 other_of false false false false false false false t y' w' d' h' m' s' o e k = refl
 
-other_letter : (b : ℕ) → is_digit b ≡ false → is_unit_letter b ≡ false → letter_of b ≡ letter_of 0
-other_letter b d u = other_of (is_digit b) (b == 121) (b == 119) (b == 100) (b == 104) (b == 109) (b == 115) _ _ _ _ _ _ _ _ d u
+other_letter : (b : ℕ) → is_ascii_digit b ≡ false → is_unit_letter b ≡ false → letter_of b ≡ letter_of 0
+other_letter b d u = other_of (is_ascii_digit b) (b == 121) (b == 119) (b == 100) (b == 104) (b == 109) (b == 115) _ _ _ _ _ _ _ _ d u
 
 no_more : (rest : List ℕ) → ends_span rest ≡ true → is_more {V = Value} table (rule Text) (seen rest) ≡ false
 no_more [] h = refl
 no_more (b ∷ rest) h =
-    let d = not_true (is_digit b) (both_left (not (is_digit b)) (not (is_unit_letter b)) h) in
-    let u = not_true (is_unit_letter b) (both_right (not (is_digit b)) (not (is_unit_letter b)) h) in
+    let d = not_true (is_ascii_digit b) (both_left (not (is_ascii_digit b)) (not (is_unit_letter b)) h) in
+    let u = not_true (is_unit_letter b) (both_right (not (is_ascii_digit b)) (not (is_unit_letter b)) h) in
     ap (λ t. is_more {V = Value} table (rule Text) (t ∷ seen rest)) (other_letter b d u)
 
 before_rest : (text rest : List ℕ) (ms : ℕ) → ReadsSpan text ms → Reads production (rule Text) (seen (text ++ rest)) (span ms) (seen rest)
@@ -60,14 +61,14 @@ span_end text rest ms d h =
     subst (λ k. IsBadPlace (text ++ rest) k) e p
 
 -- digits and a unit letter begin a duration
-no_digit : (u : ℕ) → is_unit_letter u ≡ true → not (is_digit u) ≡ true
+no_digit : (u : ℕ) → is_unit_letter u ≡ true → not (is_ascii_digit u) ≡ true
 no_digit u h = grind (arith, nat_tests)
 
-digits_part : (inside : Bool) (ds : List ℕ) (u : ℕ) (more : List ℕ) → 0 < length ds → list_all is_digit ds ≡ true → is_unit_letter u ≡ true → part_at inside (ds ++ u ∷ more) ≡ TokenPart Duration
+digits_part : (inside : Bool) (ds : List ℕ) (u : ℕ) (more : List ℕ) → 0 < length ds → list_all is_ascii_digit ds ≡ true → is_unit_letter u ≡ true → part_at inside (ds ++ u ∷ more) ≡ TokenPart Duration
 digits_part inside [] u more some d h = absurd (omega arith)
 digits_part inside (c ∷ ds) u more some d h =
     let l : digits_lexeme ((c ∷ ds) ++ u ∷ more) ≡ Duration = rw (past_digits (c ∷ ds) (u ∷ more) d (no_digit u h)) (rw h refl) in
-    digit_part inside c (ds ++ u ∷ more) Duration (both_left (is_digit c) (list_all is_digit ds) d) l
+    digit_part inside c (ds ++ u ∷ more) Duration (both_left (is_ascii_digit c) (list_all is_ascii_digit ds) d) l
 
 -- the first part of a printed span that is not left out
 lead : (inside : Bool) (n u : ℕ) (us more : List ℕ) → n < 10 ^ 64 → is_unit_letter u ≡ true → (n ≡ 0 → part_at inside more ≡ TokenPart Duration) → (b : Bool) → n == 0 ≡ b →

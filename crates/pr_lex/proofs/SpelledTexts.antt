@@ -8,11 +8,12 @@ use Rattle.pr_forms.specs.Run.{Runs, Outcome}
 use Rattle.pr_forms.proofs.Decided.{rule_decides, Agrees, same, goes_on, agrees}
 use Rattle.pr_forms.proofs.Places.{run_place}
 use Rattle.pr_forms.proofs.Ending.{rule_answered}
-use Rattle.pr_strings.specs.Strings.{IsString, IsBadPlace, Letter, letter_of, seen, production, table, rank, steps, Text, content, Value}
+use Rattle.pr_strings.specs.Strings.{IsString, IsBadPlace, Letter, letter_of, seen, production, Text, content, Value}
 use Rattle.pr_strings.specs.Quoted.{quoted_text}
 use Rattle.pr_strings.proofs.StringTable.{known}
 use Rattle.pr_strings.proofs.StringEnds.{ends}
 use Rattle.pr_strings.proofs.Written.{quoted_reads}
+use Rattle.pr_strings.specs.StringTable.{table, rank, steps}
 use Rattle.pr_lex.specs.declared.token.TokenKind.{TokenKind}
 use Rattle.pr_lex.specs.declared.token.TokenKind.TheVariants.{Text as TextKind}
 use Rattle.pr_lex.specs.declared.part.Lexeme.TheVariants.{Text as TextLexeme}

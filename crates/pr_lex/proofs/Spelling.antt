@@ -3,15 +3,16 @@ use Rattle.std.proofs.Common.{◌≡◌, ℕ, ◌+◌, Bool, true, false, List, 
 use Rattle.std.specs.Prelude.{not, ◌==◌, ◌&&◌, Ok}
 use Rattle.std.specs.List.{list_all, prefix_len}
 use Rattle.std.proofs.lemmas.Bool.Decides.{nat_tests}
+use Rattle.pr_words.specs.Bytes.{is_whitespace}
 use Rattle.pr_lex.specs.declared.token.Token.{Token}
 use Rattle.pr_lex.specs.declared.token.TokenKind.{TokenKind}
 use Rattle.pr_lex.specs.declared.token.TokenKind.TheVariants.{Name as NameKind, Sign as SignKind}
 use Rattle.pr_lex.specs.declared.token.Sign.{Sign}
 use Rattle.pr_lex.specs.declared.token.Sign.TheVariants.{LeftBrace, RightBrace, LeftParen, RightParen, LeftBracket, RightBracket, Comma, Colon, Assign, NotEqual, Like, NotLike, Equal, Less, LessEqual, Greater, GreaterEqual, Plus, Minus, Star, Slash, Percent}
-use Rattle.pr_lex.specs.declared.part.Class.TheVariants.{Blank}
+use Rattle.pr_lex.specs.declared.part.Class.TheVariants.{Whitespace}
 use Rattle.pr_lex.specs.declared.part.Lexeme.TheVariants.{Name, Sign as SignLexeme}
 use Rattle.pr_lex.specs.declared.part.Part.TheVariants.{Gap, Token as TokenPart}
-use Rattle.pr_lex.specs.Bytes.{part_at, is_blank, is_of, starts_name, name_class, front_len}
+use Rattle.pr_lex.specs.Bytes.{part_at, is_of, starts_name, name_class, front_len}
 use Rattle.pr_lex.specs.Signs.{sign_text}
 use Rattle.pr_lex.specs.Spaced.{kinds}
 use Rattle.pr_lex.specs.Tokens.{AreTokens, no_more, past_gap, one_more, inside_after}
@@ -19,7 +20,7 @@ use Rattle.pr_lex.specs.SignAt.{sign_at}
 use Rattle.pr_lex.specs.Spelled.{Spells, all_spelled, a_blank, a_token, begins_blank, ends_sign, IsNameText, name_text, ends_name}
 use Rattle.pr_lex.proofs.TakenSigns.{sign_is}
 
-no_front : (text : List ℕ) → begins_blank text ≡ false → front_len Blank text ≡ 0
+no_front : (text : List ℕ) → begins_blank text ≡ false → front_len Whitespace text ≡ 0
 no_front [] e = refl
 no_front (b ∷ rest) e = rw e refl
 
@@ -66,7 +67,7 @@ pub drop_front : (xs ys : List ℕ) → drop (length xs) (xs ++ ys) ≡ ys
 drop_front [] ys = refl
 drop_front (x ∷ xs) ys = drop_front xs ys
 
-no_blank_starts : (inside : Bool) (b : ℕ) → starts_name inside b ≡ true → is_blank b ≡ false
+no_blank_starts : (inside : Bool) (b : ℕ) → starts_name inside b ≡ true → is_whitespace b ≡ false
 no_blank_starts true b h = grind (arith, nat_tests)
 no_blank_starts false b h = grind (arith, nat_tests)
 

@@ -20,6 +20,7 @@ use Rattle.pr_strings.specs.declared.kind.Mark.{Mark}
 use Rattle.pr_strings.specs.declared.kind.Kind.{Kind}
 use Rattle.pr_strings.specs.declared.kind.Kind.TheVariants.{Quote}
 use Rattle.pr_strings.specs.Strings as strings
+use Rattle.pr_strings.specs.StringTable as string_tables
 use Rattle.pr_strings.proofs.StringTable as string_table
 use Rattle.pr_strings.proofs.StringEnds as string_ends
 use Rattle.pr_strings.proofs.StringOpen.{pieces_after, step_on, no_step, open_on}
@@ -35,6 +36,7 @@ use Rattle.pr_lex.specs.declared.part.Part.{Part}
 use Rattle.pr_lex.specs.declared.part.Part.TheVariants.{End, Gap, Token as TokenPart}
 use Rattle.pr_lex.specs.Bytes.{part_at, front_len, name_class}
 use Rattle.pr_lex.specs.Number as numbers
+use Rattle.pr_lex.specs.NumberTable as number_tables
 use Rattle.pr_lex.specs.Tokens.{IsTokenOf, IsFaultOf, AreTokens, no_more, past_gap, one_more, inside_after, IsFirstFault, fault_here, fault_past_gap, fault_past_token}
 use Rattle.pr_lex.specs.SignAt.{sign_at}
 use Rattle.pr_lex.proofs.NumberTable.{known}
@@ -52,14 +54,14 @@ pub data IsReadable (l : Lexeme) (inside : Bool) (text : List ℕ) : Type 0 wher
 number_readable : (inside : Bool) (text : List ℕ) → IsReadable Number inside text
 number_readable inside text = by_value (number_reads (take n text)) refl
   where
-    a : Answered numbers.production numbers.table (rule numbers.Number) (numbers.seen text)
-    a = rule_answered numbers.production numbers.table known number_ends.rank number_ends.steps number_ends.ends numbers.Number (numbers.seen text)
+    a : Answered numbers.production number_tables.table (rule numbers.Number) (numbers.seen text)
+    a = rule_answered numbers.production number_tables.table known number_ends.rank number_ends.steps number_ends.ends numbers.Number (numbers.seen text)
 
     n : ℕ
     n = length (numbers.seen text) - length (left_of a.outcome)
 
     end : numbers.IsNumberEnd text n
-    end = run_place numbers.production numbers.table known numbers.Number (numbers.seen text) a.outcome a.runs
+    end = run_place numbers.production number_tables.table known numbers.Number (numbers.seen text) a.outcome a.runs
 
     by_value : (r : Result Num NumFault) → number_reads (take n text) ≡ r → IsReadable Number inside text
     by_value (Ok v) e = has_token n (NumberKind v) (record { longest = end; value = v; whole = e; is = refl })
@@ -94,16 +96,16 @@ module _ (m : Mark) (target all : List strings.Letter) (t : Suffix target all) w
   abbrev Decided : strings.Value → List strings.Letter → Type 0
   Decided w ts = (Reach m w ts target) ⊎ (Reach m w ts target → ⊥)
 
-  next_piece : (w x : strings.Value) (ts rest : List strings.Letter) → length target < length ts → Runs strings.production strings.table (strings.piece m) ts (good x rest) → Decided (strings.joined w x) rest → Decided w ts
+  next_piece : (w x : strings.Value) (ts rest : List strings.Letter) → length target < length ts → Runs strings.production string_tables.table (strings.piece m) ts (good x rest) → Decided (strings.joined w x) rest → Decided w ts
   next_piece w x ts rest lt q (inl p) = inl (p.0, is_turn (reads (meets q)) p.1)
   next_piece w x ts rest lt q (inr h) = inr (λ p. h (p.0, step_on m w x p.0 ts rest target q lt p.1))
 
   by_piece : (w : strings.Value) (ts : List strings.Letter) → Suffix ts all → ((v : strings.Value) (us : List strings.Letter) → length us < length ts → Suffix us all → Decided v us) →
-      length target < length ts → (o : Outcome strings.Letter strings.Value) → Runs strings.production strings.table (strings.piece m) ts o → Decided w ts
+      length target < length ts → (o : Outcome strings.Letter strings.Value) → Runs strings.production string_tables.table (strings.piece m) ts o → Decided w ts
   by_piece w ts s again lt (bad rest) q = inr (λ p. no_step m w p.0 ts rest target q lt p.1)
   by_piece w ts s again lt (good x rest) q =
       let d = reads (meets q) in
-      next_piece w x ts rest lt q (again (strings.joined w x) rest (consumes strings.production strings.table string_table.known d refl) (suffix_trans (reads_suffix d) s))
+      next_piece w x ts rest lt q (again (strings.joined w x) rest (consumes strings.production string_tables.table string_table.known d refl) (suffix_trans (reads_suffix d) s))
 
   at_target : (w : strings.Value) (ts : List strings.Letter) → Suffix ts all → length ts ≤ length target → (length ts < length target) ⊎ (length target ≤ length ts) → Decided w ts
   at_target w ts s ge (inl lt) = inr (λ p. let h = suffix_length (reads_suffix p.1) in absurd (omega arith))
@@ -111,7 +113,7 @@ module _ (m : Mark) (target all : List strings.Letter) (t : Suffix target all) w
 
   decided_by : (w : strings.Value) (ts : List strings.Letter) → Suffix ts all → ((v : strings.Value) (us : List strings.Letter) → length us < length ts → Suffix us all → Decided v us) → Decided w ts
   decided_by w ts s again =
-      let a = form_answered strings.production strings.table string_table.known strings.rank strings.steps string_ends.ends (strings.piece m) ts (decides_turn strings.table (decides_first strings.table (string_table.known.decides (strings.Quoted m)))) (tt, (tt, refl)) in
+      let a = form_answered strings.production string_tables.table string_table.known string_tables.rank string_tables.steps string_ends.ends (strings.piece m) ts (decides_turn string_tables.table (decides_first string_tables.table (string_table.known.decides (strings.Quoted m)))) (tt, (tt, refl)) in
       elim (cases_lt (length target) (length ts)) [ inl lt ↦ by_piece w ts s again lt a.outcome a.runs | inr ge ↦ at_target w ts s ge (cases_lt (length ts) (length target)) ]
 
   decided : (l : ℕ) (w : strings.Value) (ts : List strings.Letter) → length ts ≤ l → Suffix ts all → Decided w ts
@@ -151,25 +153,25 @@ text_broken inside text n end broken le = elim (cases_lt n (length text)) [
     by_open lt (inl o) = has_fault 0 OpenText (record { end = n; longest = end; broken = broken; fault = (refl, inr o) })
     by_open lt (inr h) = has_fault n BadEscape (record { end = n; longest = end; broken = broken; fault = (refl, λ x. elim x [ inl e ↦ absurd (omega arith) | inr o ↦ h o ]) })
 
-no_mark : {c : List ℕ} {r s : List strings.Letter} → Agrees strings.table (rule strings.Text) (good strings.mark r) (strings.content c) s → ⊥
+no_mark : {c : List ℕ} {r s : List strings.Letter} → Agrees string_tables.table (rule strings.Text) (good strings.mark r) (strings.content c) s → ⊥
 no_mark (goes_on i) = no_longer_string _ i.is
 
-no_bad : {v : strings.Value} {r s : List strings.Letter} → Agrees strings.table (rule strings.Text) (bad r) v s → ⊥
+no_bad : {v : strings.Value} {r s : List strings.Letter} → Agrees string_tables.table (rule strings.Text) (bad r) v s → ⊥
 no_bad (goes_on i) = no_longer_string _ i.is
 
 text_readable : (inside : Bool) (text : List ℕ) → IsReadable Text inside text
-text_readable inside text = let a = rule_answered strings.production strings.table string_table.known strings.rank strings.steps string_ends.ends strings.Text (strings.seen text) in by_outcome a.outcome a.runs
+text_readable inside text = let a = rule_answered strings.production string_tables.table string_table.known string_tables.rank string_tables.steps string_ends.ends strings.Text (strings.seen text) in by_outcome a.outcome a.runs
   where
-    end : (o : Outcome strings.Letter strings.Value) → Runs strings.production strings.table (rule strings.Text) (strings.seen text) o → strings.IsBadPlace text (length (strings.seen text) - length (left_of o))
-    end o q = run_place strings.production strings.table string_table.known strings.Text (strings.seen text) o q
+    end : (o : Outcome strings.Letter strings.Value) → Runs strings.production string_tables.table (rule strings.Text) (strings.seen text) o → strings.IsBadPlace text (length (strings.seen text) - length (left_of o))
+    end o q = run_place strings.production string_tables.table string_table.known strings.Text (strings.seen text) o q
 
     short : (o : Outcome strings.Letter strings.Value) → length (strings.seen text) - length (left_of o) ≤ length text
     short o = omega (arith, length-map text strings.letter_of)
 
-    by_outcome : (o : Outcome strings.Letter strings.Value) → Runs strings.production strings.table (rule strings.Text) (strings.seen text) o → IsReadable Text inside text
-    by_outcome (bad rest) q = text_broken inside text _ (end (bad rest) q) (λ c d. no_bad (agrees strings.production strings.table string_table.known (rule_decides strings.table strings.Text) q d)) (short (bad rest))
+    by_outcome : (o : Outcome strings.Letter strings.Value) → Runs strings.production string_tables.table (rule strings.Text) (strings.seen text) o → IsReadable Text inside text
+    by_outcome (bad rest) q = text_broken inside text _ (end (bad rest) q) (λ c d. no_bad (agrees strings.production string_tables.table string_table.known (rule_decides string_tables.table strings.Text) q d)) (short (bad rest))
     by_outcome (good strings.mark rest) q =
-        text_broken inside text _ (end (good strings.mark rest) q) (λ c d. no_mark (agrees strings.production strings.table string_table.known (rule_decides strings.table strings.Text) q d)) (short (good strings.mark rest))
+        text_broken inside text _ (end (good strings.mark rest) q) (λ c d. no_mark (agrees strings.production string_tables.table string_table.known (rule_decides string_tables.table strings.Text) q d)) (short (good strings.mark rest))
     by_outcome (good (strings.content c) rest) q =
         let d = reads (meets q) in
         let n : ℕ = length (strings.seen text) - length rest in

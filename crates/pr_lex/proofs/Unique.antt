@@ -10,8 +10,10 @@ use Rattle.pr_num.specs.declared.text.NumFault.{NumFault}
 use Rattle.pr_num.specs.declared.text.NumFault.TheVariants.{NotNumber, TooWide as WideNumber}
 use Rattle.pr_num.specs.Reads.{reads}
 use Rattle.pr_time.specs.SpanText as spans
+use Rattle.pr_time.specs.SpanTable as span_tables
 use Rattle.pr_time.proofs.SpanTable as span_table
 use Rattle.pr_strings.specs.Strings as strings
+use Rattle.pr_strings.specs.StringTable as string_tables
 use Rattle.pr_strings.proofs.StringTable as string_table
 use Rattle.pr_lex.specs.declared.token.TokenKind.{TokenKind}
 use Rattle.pr_lex.specs.declared.token.TokenKind.TheVariants.{Name as NameKind, Number as NumberKind, Duration as DurationKind, Text as TextKind, Sign as SignKind}
@@ -40,20 +42,20 @@ string_end text n m = one_place strings.production (rule strings.Text) (strings.
 
 -- what each kind means
 one_span : (text : List ℕ) (a b : ℕ) → spans.ReadsSpan text a → spans.ReadsSpan text b → a ≡ b
-one_span text a b d e = let h : spans.span a ≡ spans.span b = one_reading spans.production spans.table span_table.known spans.Text (spans.seen text) (spans.span a) (spans.span b) d e in cc
+one_span text a b d e = let h : spans.span a ≡ spans.span b = one_reading spans.production span_tables.table span_table.known spans.Text (spans.seen text) (spans.span a) (spans.span b) d e in cc
 
-pub no_longer_string : (ts : List strings.Letter) → is_more {V = strings.Value} strings.table (rule strings.Text) ts ≡ true → ⊥
+pub no_longer_string : (ts : List strings.Letter) → is_more {V = strings.Value} string_tables.table (rule strings.Text) ts ≡ true → ⊥
 no_longer_string [] h = cc
 no_longer_string (t ∷ ts) h = cc
 
-same_value : (v w : strings.Value) (r s : List strings.Letter) → Alike strings.table (rule strings.Text) v r w s → v ≡ w
+same_value : (v w : strings.Value) (r s : List strings.Letter) → Alike string_tables.table (rule strings.Text) v r w s → v ≡ w
 same_value v w r s alike = refl
 same_value v w r s (first_goes_on i) = absurd (no_longer_string r i.is)
 same_value v w r s (second_goes_on i) = absurd (no_longer_string s i.is)
 
 one_content : (text rest a b : List ℕ) → strings.IsString text a rest → strings.IsString text b rest → a ≡ b
 one_content text rest a b d e =
-    let h : strings.content a ≡ strings.content b = same_value _ _ _ _ (readings_alike strings.production strings.table string_table.known (rule_decides strings.table strings.Text) d e) in cc
+    let h : strings.content a ≡ strings.content b = same_value _ _ _ _ (readings_alike strings.production string_tables.table string_table.known (rule_decides string_tables.table strings.Text) d e) in cc
 
 same_sign : (r : Result (SignName × ℕ) ℕ) (s t : SignName) (n m : ℕ) → r ≡ Ok (s, n) → r ≡ Ok (t, m) → (s ≡ t) × (n ≡ m)
 same_sign r s t n m e h =

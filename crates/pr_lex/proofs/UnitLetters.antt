@@ -2,14 +2,16 @@
 use Rattle.std.proofs.Common.{◌≡◌, ℕ, zero, suc, ◌+◌, ◌-◌, ◌*◌, ◌<◌, Option, Some, Bool, true, false, List, [], ◌∷◌, ◌++◌, length, refl, ap, sym, subst, arith, inl, inr, eqb-true}
 use Rattle.std.specs.Prelude.{◌⊎◌, ◌==◌, ◌||◌}
 use Rattle.std.specs.List.{list_all}
+use Rattle.std.specs.Char.{is_ascii_digit}
 use Rattle.pr_forms.specs.Form.{Form, token, pair, either, turns, rule, Reads, Begins, is_token, is_nothing, is_pair, is_left, is_right, is_stop, is_turn, is_fold, is_rule}
 use Rattle.pr_forms.specs.Table.{Table}
 use Rattle.pr_forms.specs.Run.{Runs, Outcome, good, bad, left_of, run_rule, run_left, run_right, run_pair, run_first, run_second, run_token, run_other, run_nothing, run_stop, run_turn, run_fold}
 use Rattle.pr_forms.proofs.Places.{no_beginning_passes}
 use Rattle.pr_num.proofs.RoundTrip.{and_first, and_second}
-use Rattle.pr_time.specs.SpanText.{production, table, letter_of, seen, Text, AfterZero, count, scaled, span, mark, digit, digit_at, zero_at, other_digit_at, shifted, ReadsSpan}
+use Rattle.pr_time.specs.SpanText.{production, letter_of, seen, Text, AfterZero, count, scaled, span, mark, digit, digit_at, zero_at, other_digit_at, shifted, ReadsSpan}
 use Rattle.pr_time.proofs.SpanTable.{known}
-use Rattle.pr_lex.specs.Bytes.{is_digit, is_unit_letter}
+use Rattle.pr_time.specs.SpanTable.{table}
+use Rattle.pr_lex.specs.Bytes.{is_unit_letter}
 
 -- What follows the digits in a choice of forms: the unit in a text.
 abbrev after_digits : {T N V : Type 0} → Form T N V → Form T N V
@@ -18,21 +20,21 @@ after_digits f = f
 
 -- digits
 abbrev AreDigits : List ℕ → Type 0
-AreDigits ds = list_all is_digit ds ≡ true
+AreDigits ds = list_all is_ascii_digit ds ≡ true
 
-first : (d : ℕ) (ds : List ℕ) → AreDigits (d ∷ ds) → is_digit d ≡ true
-first d ds h = and_first (is_digit d) (list_all is_digit ds) h
+first : (d : ℕ) (ds : List ℕ) → AreDigits (d ∷ ds) → is_ascii_digit d ≡ true
+first d ds h = and_first (is_ascii_digit d) (list_all is_ascii_digit ds) h
 
 others : (d : ℕ) (ds : List ℕ) → AreDigits (d ∷ ds) → AreDigits ds
-others d ds h = and_second (is_digit d) (list_all is_digit ds) h
+others d ds h = and_second (is_ascii_digit d) (list_all is_ascii_digit ds) h
 
-any_digit : (d : ℕ) → is_digit d ≡ true → digit_at (letter_of d) ≡ Some (count (d - 48))
+any_digit : (d : ℕ) → is_ascii_digit d ≡ true → digit_at (letter_of d) ≡ Some (count (d - 48))
 any_digit d h = rw h refl
 
-a_zero : (d : ℕ) → is_digit d ≡ true → d - 48 ≡ 0 → zero_at (letter_of d) ≡ Some mark
+a_zero : (d : ℕ) → is_ascii_digit d ≡ true → d - 48 ≡ 0 → zero_at (letter_of d) ≡ Some mark
 a_zero d h e = rw (h, e) refl
 
-no_zero : (d n : ℕ) → is_digit d ≡ true → d - 48 ≡ suc n → other_digit_at (letter_of d) ≡ Some (count (suc n))
+no_zero : (d n : ℕ) → is_ascii_digit d ≡ true → d - 48 ≡ suc n → other_digit_at (letter_of d) ≡ Some (count (suc n))
 no_zero d n h e = rw (h, e) refl
 
 digits_read : (n : ℕ) (ds : List ℕ) (b : ℕ) → AreDigits ds → (m : ℕ) × Reads production (turns shifted (count n) digit) (seen (ds ++ b ∷ [])) (count m) (seen (b ∷ []))
@@ -80,11 +82,11 @@ unit_of b h = elim (either_true _ _ h) [
   ]
 ]
 
-span_read : (d : ℕ) (ds : List ℕ) (b k : ℕ) → is_digit d ≡ true → AreDigits ds → IsUnit b → d - 48 ≡ k → (ms : ℕ) × ReadsSpan (d ∷ (ds ++ b ∷ [])) ms
+span_read : (d : ℕ) (ds : List ℕ) (b k : ℕ) → is_ascii_digit d ≡ true → AreDigits ds → IsUnit b → d - 48 ≡ k → (ms : ℕ) × ReadsSpan (d ∷ (ds ++ b ∷ [])) ms
 span_read d ds b zero i h u e = let x = digits_read 0 ds b h in (x.0 * u.0 + 0, is_rule (is_left (is_pair (is_token (a_zero d i e)) (is_rule (is_left (is_pair x.1 u.1))))))
 span_read d ds b (suc n) i h u e = let x = digits_read (suc n) ds b h in (x.0 * u.0 + 0, is_rule (is_right (is_pair (is_fold (is_token (no_zero d n i e)) x.1) u.1)))
 
-pub with_unit : (ds : List ℕ) (b : ℕ) → 0 < length ds → list_all is_digit ds ≡ true → is_unit_letter b ≡ true → (ms : ℕ) × ReadsSpan (ds ++ b ∷ []) ms
+pub with_unit : (ds : List ℕ) (b : ℕ) → 0 < length ds → list_all is_ascii_digit ds ≡ true → is_unit_letter b ≡ true → (ms : ℕ) × ReadsSpan (ds ++ b ∷ []) ms
 with_unit [] b some h k = absurd (omega arith)
 with_unit (d ∷ ds) b some h k = span_read d ds b (d - 48) (first d ds h) (others d ds h) (unit_of b k) refl
 
@@ -118,20 +120,20 @@ module _ {T N V : Type 0} {G : N → Form T N V} {S : Table T N} where
   by_rule : {n : N} {ts rest : List T} → Stops G S (G n) ts rest → Stops G S (rule n) ts rest
   by_rule x = record { outcome = x.outcome; runs = run_rule x.runs; left = x.left }
 
-text_stops : (d : ℕ) (ds : List ℕ) (k : ℕ) → is_digit d ≡ true → AreDigits ds → d - 48 ≡ k → Stops production table (rule Text) (seen (d ∷ (ds ++ 0 ∷ []))) (seen (0 ∷ []))
+text_stops : (d : ℕ) (ds : List ℕ) (k : ℕ) → is_ascii_digit d ≡ true → AreDigits ds → d - 48 ≡ k → Stops production table (rule Text) (seen (d ∷ (ds ++ 0 ∷ []))) (seen (0 ∷ []))
 text_stops d ds zero i h e = let z = zero_stops ds h in by_rule (past_token _ zero_at _ _ (letter_of d) mark _ _ (a_zero d i e) z.outcome z.runs z.left)
 text_stops d ds (suc n) i h e =
     record { outcome = bad (seen (0 ∷ [])); runs = run_rule (run_right (rw (i, e) refl) (run_second (run_fold (run_token (no_zero d n i e)) (digits_run (suc n) ds h).1) no_unit)); left = refl }
 
 -- a byte that is neither a digit nor a unit letter
-other_letter : (b : ℕ) → is_digit b ≡ false → is_unit_letter b ≡ false → letter_of b ≡ letter_of 0
+other_letter : (b : ℕ) → is_ascii_digit b ≡ false → is_unit_letter b ≡ false → letter_of b ≡ letter_of 0
 other_letter b h k = grind arith
 
 seen_last : (ds : List ℕ) (b k : ℕ) → letter_of b ≡ letter_of k → seen (ds ++ b ∷ []) ≡ seen (ds ++ k ∷ [])
 seen_last [] b k e = ap (λ t. t ∷ []) e
 seen_last (d ∷ ds) b k e = ap (λ ts. letter_of d ∷ ts) (seen_last ds b k e)
 
-no_more : (ds : List ℕ) (b : ℕ) → 0 < length ds → AreDigits ds → is_digit b ≡ false → is_unit_letter b ≡ false → Begins production (rule Text) (seen (ds ++ b ∷ [])) [] → ⊥
+no_more : (ds : List ℕ) (b : ℕ) → 0 < length ds → AreDigits ds → is_ascii_digit b ≡ false → is_unit_letter b ≡ false → Begins production (rule Text) (seen (ds ++ b ∷ [])) [] → ⊥
 no_more [] b some h i j x = absurd (omega arith)
 no_more (d ∷ ds) b some h i j x =
     let z = text_stops d ds (d - 48) (first d ds h) (others d ds h) refl in
@@ -140,7 +142,7 @@ no_more (d ∷ ds) b some h i j x =
     let l : length (left_of z.outcome) ≡ 1 = ap length z.left in
     omega (arith, y, l)
 
-pub goes_on : (ds : List ℕ) (b : ℕ) → 0 < length ds → list_all is_digit ds ≡ true → is_digit b ≡ false → Begins production (rule Text) (seen (ds ++ b ∷ [])) [] → is_unit_letter b ≡ true
+pub goes_on : (ds : List ℕ) (b : ℕ) → 0 < length ds → list_all is_ascii_digit ds ≡ true → is_ascii_digit b ≡ false → Begins production (rule Text) (seen (ds ++ b ∷ [])) [] → is_unit_letter b ≡ true
 goes_on ds b some h i x = by (is_unit_letter b) refl
   where
     by : (k : Bool) → is_unit_letter b ≡ k → is_unit_letter b ≡ true

@@ -1,32 +1,23 @@
 -- What a text begins with, by its bytes.
-use Rattle.std.specs.Prelude.{ℕ, ◌==◌, nat_le, ◌&&◌, ◌||◌, not, Bool, false, List, [], ◌∷◌, drop, if◌then◌else◌}
+use Rattle.std.specs.Prelude.{ℕ, ◌==◌, ◌&&◌, ◌||◌, not, Bool, false, List, [], ◌∷◌, drop, if◌then◌else◌}
 use Prim.Native.Char.{code}
 use Rattle.std.specs.List.{prefix_len}
+use Rattle.std.specs.Char.{is_ascii_digit}
+use Rattle.pr_words.specs.Bytes.{is_whitespace, is_letter, is_label_byte}
 use Rattle.pr_lex.specs.declared.part.Class.{Class}
-use Rattle.pr_lex.specs.declared.part.Class.TheVariants.{Blank, Line, Digit, Name, NameInBrackets}
+use Rattle.pr_lex.specs.declared.part.Class.TheVariants.{Whitespace, Line, Digit, Name, NameInBrackets}
 use Rattle.pr_lex.specs.declared.part.Lexeme.{Lexeme}
 use Rattle.pr_lex.specs.declared.part.Lexeme.TheVariants.{Name as NameLexeme, Number, Duration, Text, Sign}
 use Rattle.pr_lex.specs.declared.part.Part.{Part}
 use Rattle.pr_lex.specs.declared.part.Part.TheVariants.{End, Gap, Token}
 
--- space, tab, line feed and carriage return
-abbrev pub is_blank : ℕ → Bool
-is_blank b = b == code " " || b == code "\t" || b == code "\n" || b == code "\r"
-
-abbrev pub is_digit : ℕ → Bool
-is_digit b = nat_le (code "0") b && nat_le b (code "9")
-
--- a letter or an underscore
-abbrev pub is_letter : ℕ → Bool
-is_letter b = (nat_le (code "a") b && nat_le b (code "z")) || (nat_le (code "A") b && nat_le b (code "Z")) || b == code "_"
-
 -- the bytes of each class
 abbrev pub is_of : Class → ℕ → Bool
-is_of Blank b = is_blank b
+is_of Whitespace b = is_whitespace b
 is_of Line b = not (b == code "\n")
-is_of Digit b = is_digit b
-is_of Name b = is_letter b || is_digit b || b == code ":"
-is_of NameInBrackets b = is_letter b || is_digit b
+is_of Digit b = is_ascii_digit b
+is_of Name b = is_label_byte b || b == code ":"
+is_of NameInBrackets b = is_label_byte b
 
 -- A name has colons, but not between brackets.
 abbrev pub name_class : Bool → Class
@@ -54,14 +45,14 @@ digits_lexeme text = if starts_unit (drop (front_len Digit text) text) then Dura
 abbrev pub is_quote : ℕ → Bool
 is_quote b = b == code "\"" || b == code "'" || b == code "`"
 
--- the token that begins with a byte that is no blank and no `#`
+-- the token that begins with a byte that is no whitespace and no `#`
 abbrev pub lexeme_at : Bool → ℕ → List ℕ → Lexeme
 lexeme_at inside b text =
-    if starts_name inside b then NameLexeme else (if is_digit b then digits_lexeme text else (if b == code "." then Number else (if is_quote b then Text else Sign)))
+    if starts_name inside b then NameLexeme else (if is_ascii_digit b then digits_lexeme text else (if b == code "." then Number else (if is_quote b then Text else Sign)))
 
--- What a text begins with: blanks, a comment from `#` to the line's end, or a token. `inside` says
+-- What a text begins with: whitespace, a comment from `#` to the line's end, or a token. `inside` says
 -- that it stands between a `[` and the next `]`.
 abbrev pub part_at : Bool → List ℕ → Part
 part_at inside [] = End
 part_at inside (b ∷ rest) =
-    if is_blank b then Gap (front_len Blank (b ∷ rest)) else (if b == code "#" then Gap (front_len Line (b ∷ rest)) else Token (lexeme_at inside b (b ∷ rest)))
+    if is_whitespace b then Gap (front_len Whitespace (b ∷ rest)) else (if b == code "#" then Gap (front_len Line (b ∷ rest)) else Token (lexeme_at inside b (b ∷ rest)))

@@ -9,6 +9,7 @@ use Rattle.pr_num.specs.declared.text.NumFault.TheVariants.{NotNumber, TooWide a
 use Rattle.pr_num.specs.Reads.{reads}
 use Rattle.pr_time.specs.SpanAnswer.{span_of, bad_span_place}
 use Rattle.pr_strings.specs.Strings as strings
+use Rattle.pr_strings.specs.StringTable as string_tables
 use Rattle.pr_strings.specs.StringAnswer.{string_of, bad_string_place}
 use Rattle.pr_lex.specs.declared.token.Token.{Token}
 use Rattle.pr_lex.specs.declared.token.TokenKind.{TokenKind}
@@ -22,6 +23,7 @@ use Rattle.pr_lex.specs.declared.part.Part.{Part}
 use Rattle.pr_lex.specs.declared.part.Part.TheVariants.{End, Gap, Token as TokenPart}
 use Rattle.pr_lex.specs.Bytes.{part_at, front_len, name_class}
 use Rattle.pr_lex.specs.Number as numbers
+use Rattle.pr_lex.specs.NumberTable as number_tables
 use Rattle.pr_lex.specs.SignAt.{sign_at}
 use Rattle.pr_lex.specs.Tokens.{inside_after}
 
@@ -39,7 +41,7 @@ pub data First : Type 0 where
 
 -- the first place at which no number can go on
 abbrev pub number_place : List ℕ → ℕ
-number_place text = bad_place numbers.production numbers.table 8 (rule numbers.Number) (numbers.seen text)
+number_place text = bad_place numbers.production number_tables.table 8 (rule numbers.Number) (numbers.seen text)
 
 -- A number, a duration and a string go on up to a place, and what stands before it is whole, or is
 -- none.
@@ -54,7 +56,7 @@ span_by n None = a_fault n BadSpan
 
 -- A string is left open at the text's end, and where its first quote would end it.
 abbrev pub would_end : List ℕ → ℕ → Bool
-would_end text n = is_some (reading strings.production strings.table strings.steps (rule strings.Text) (strings.seen (take n text ++ take 1 text)))
+would_end text n = is_some (reading strings.production string_tables.table string_tables.steps (rule strings.Text) (strings.seen (take n text ++ take 1 text)))
 
 abbrev pub text_by : List ℕ → ℕ → Option (List ℕ) → First
 text_by text n (Some content) = a_token n (TextKind content)

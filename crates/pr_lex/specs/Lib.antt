@@ -1,4 +1,5 @@
 pub mod Number
+pub mod NumberTable
 pub mod Bytes
 pub mod Tokens
 pub mod Reader
@@ -9,3 +10,4 @@ pub mod Spaced
 pub mod Spelled
 pub mod SignAt
 pub mod Lexed
+pub mod Worked

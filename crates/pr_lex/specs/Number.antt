@@ -1,9 +1,8 @@
 -- The texts of numbers as far as they go on: digits with a point among them or before them, and an
 -- exponent. What a whole one is worth is a definition of pr_num.
-use Rattle.std.specs.Prelude.{ℕ, ◌==◌, nat_le, ◌&&◌, ◌||◌, Bool, true, false, Option, Some, None, List, map, if◌then◌else◌}
+use Rattle.std.specs.Prelude.{ℕ, ◌==◌, nat_le, ◌&&◌, ◌||◌, Option, Some, None, List, map, if◌then◌else◌}
 use Prim.Native.Char.{code}
 use Rattle.pr_forms.specs.Form.{Form, token, nothing, pair, either, turns, rule, IsFirstBad}
-use Rattle.pr_forms.specs.Table.{Table}
 use Rattle.pr_lex.specs.declared.number.Letter.{Letter}
 use Rattle.pr_lex.specs.declared.number.Letter.TheVariants.{Digit, Point, E, PlusMinus, Other}
 
@@ -75,38 +74,6 @@ production Fraction = either (pair both (token point_at) (pair both digits (rule
 production Power = either (pair both (token e_at) (rule Exponent)) (nothing mark)
 production Exponent = either (pair both (token plus_minus_at) (rule Digits)) (rule Digits)
 production Digits = pair both digit digits
-
--- What one byte ahead tells of the rules.
-abbrev pub starts_rule : Rule → Letter → Bool
-starts_rule Number Digit = true
-starts_rule Number Point = true
-starts_rule Fraction Point = true
-starts_rule Fraction E = true
-starts_rule Power E = true
-starts_rule Exponent PlusMinus = true
-starts_rule Exponent Digit = true
-starts_rule Digits Digit = true
-starts_rule Tail Digit = true
-starts_rule n t = false
-
-abbrev pub empty_rule : Rule → Bool
-empty_rule Fraction = true
-empty_rule Power = true
-empty_rule _ = false
-
--- after a whole one more digits, a point or an exponent may come
-abbrev pub more_rule : Rule → Letter → Bool
-more_rule n Digit = true
-more_rule Number Point = true
-more_rule Number E = true
-more_rule Fraction Point = true
-more_rule Fraction E = true
-more_rule Power E = true
-more_rule Tail E = true
-more_rule n t = false
-
-abbrev pub table : Table Letter Rule
-table = record { empty = empty_rule; starts = starts_rule; more = more_rule }
 
 -- The place is the first one at which no number can go on.
 abbrev pub IsNumberEnd : List ℕ → ℕ → Type 0

@@ -11,8 +11,9 @@ use Rattle.pr_lex.specs.declared.fault.LexError.{LexError}
 use Rattle.pr_lex.specs.declared.fault.LexError.TheVariants.{Fault, Memory}
 use Rattle.pr_lex.specs.declared.part.Lexeme.{Lexeme}
 use Rattle.pr_lex.specs.declared.part.Lexeme.TheVariants.{Text as TextLexeme}
-use Rattle.pr_lex.specs.Number.{production, table, letter_of, seen, Value, mark, Rule}
+use Rattle.pr_lex.specs.Number.{production, letter_of, seen, Value, mark, Rule}
 use Rattle.pr_lex.specs.Tokens.{IsTokenOf, IsFaultOf, TextFault, HasFault}
+use Rattle.pr_lex.specs.NumberTable.{table}
 
 -- the language of numbers, over bytes
 abbrev pub numbers : Language ℕ Letter Rule Value

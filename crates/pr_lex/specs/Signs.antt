@@ -34,10 +34,10 @@ begun_sign [] = 0
 begun_sign (b ∷ rest) = if b == code "!" then 1 else 0
 
 -- The text begins with the sign.
-abbrev pub BeginsWith : List ℕ → Sign → Type 0
-BeginsWith text sign = take (length (sign_text sign)) text ≡ sign_text sign
+abbrev pub BeginsWithSign : List ℕ → Sign → Type 0
+BeginsWithSign text sign = take (length (sign_text sign)) text ≡ sign_text sign
 
 -- The text begins with the sign, and with no longer one.
 pub record IsLongestSign (text : List ℕ) (sign : Sign) : Type 0 where
-  pub begins : BeginsWith text sign
-  pub longest : (other : Sign) → BeginsWith text other → length (sign_text other) ≤ length (sign_text sign)
+  pub begins : BeginsWithSign text sign
+  pub longest : (other : Sign) → BeginsWithSign text other → length (sign_text other) ≤ length (sign_text sign)

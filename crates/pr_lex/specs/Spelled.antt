@@ -2,18 +2,20 @@
 use Rattle.std.specs.Prelude.{◌≡◌, ℕ, ◌==◌, ◌&&◌, ◌||◌, Bool, true, false, not, List, [], ◌∷◌, drop}
 use Prim.Native.Char.{code}
 use Rattle.std.specs.List.{list_all}
+use Rattle.std.specs.Char.{is_ascii_digit}
+use Rattle.pr_words.specs.Bytes.{is_whitespace}
 use Rattle.pr_lex.specs.declared.token.TokenKind.{TokenKind}
 use Rattle.pr_lex.specs.declared.token.Sign.{Sign}
 use Rattle.pr_lex.specs.declared.token.Sign.TheVariants.{Colon, Assign, Less, Greater}
 use Rattle.pr_lex.specs.declared.part.Lexeme.{Lexeme}
 use Rattle.pr_lex.specs.declared.part.Part.TheVariants.{Token as TokenPart}
-use Rattle.pr_lex.specs.Bytes.{part_at, is_blank, is_digit, is_unit_letter, is_of, starts_name, name_class}
+use Rattle.pr_lex.specs.Bytes.{part_at, is_unit_letter, is_of, starts_name, name_class}
 use Rattle.pr_lex.specs.Tokens.{IsTokenOf, inside_after}
 
 -- whether a text begins with a blank
 abbrev pub begins_blank : List ℕ → Bool
 begins_blank [] = false
-begins_blank (b ∷ rest) = is_blank b
+begins_blank (b ∷ rest) = is_whitespace b
 
 -- The text is these tokens, with single blanks between some of them.
 pub data Spells : Bool → List ℕ → List TokenKind → Type 0 where
@@ -48,9 +50,9 @@ ends_name inside (b ∷ rest) = not (is_of (name_class inside) b)
 -- whether a text goes on no number, and makes no duration of its digits
 abbrev pub ends_number : List ℕ → Bool
 ends_number [] = true
-ends_number (b ∷ rest) = not (is_digit b) && (not (b == code ".") && (not (b == code "e" || b == code "E") && not (is_unit_letter b)))
+ends_number (b ∷ rest) = not (is_ascii_digit b) && (not (b == code ".") && (not (b == code "e" || b == code "E") && not (is_unit_letter b)))
 
 -- whether a text goes on no duration
 abbrev pub ends_span : List ℕ → Bool
 ends_span [] = true
-ends_span (b ∷ rest) = not (is_digit b) && not (is_unit_letter b)
+ends_span (b ∷ rest) = not (is_ascii_digit b) && not (is_unit_letter b)

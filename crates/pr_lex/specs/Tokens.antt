@@ -18,7 +18,7 @@ use Rattle.pr_lex.specs.declared.part.Lexeme.TheVariants.{Name, Number, Duration
 use Rattle.pr_lex.specs.declared.part.Part.TheVariants.{End, Gap, Token as TokenPart}
 use Rattle.pr_lex.specs.Bytes.{name_class, front_len, part_at}
 use Rattle.pr_lex.specs.Number.{IsNumberEnd}
-use Rattle.pr_lex.specs.Signs.{sign_text, BeginsWith, IsLongestSign, begun_sign}
+use Rattle.pr_lex.specs.Signs.{sign_text, BeginsWithSign, IsLongestSign, begun_sign}
 
 -- A name is all the bytes of names that the text begins with.
 pub record IsName (inside : Bool) (text : List ℕ) (n : ℕ) (token : TokenKind) : Type 0 where
@@ -106,7 +106,7 @@ pub record IsTextFault (text : List ℕ) (place : ℕ) (kind : LexKind) : Type 0
 -- The text begins with no sign. With `!` two signs begin, and none is whole: then the byte after it
 -- is the bad one.
 pub record IsSignFault (text : List ℕ) (place : ℕ) (kind : LexKind) : Type 0 where
-  pub none : (sign : Sign) → BeginsWith text sign → ⊥
+  pub none : (sign : Sign) → BeginsWithSign text sign → ⊥
   pub after : place ≡ begun_sign text
   pub is : kind ≡ BadChar
 
@@ -124,7 +124,7 @@ inside_after inside (SignKind LeftBracket) = true
 inside_after inside (SignKind RightBracket) = false
 inside_after inside token = inside
 
--- The tokens of a text that stands at a place: blanks and comments are passed over, and each token
+-- The tokens of a text that stands at a place: whitespace and comments are passed over, and each token
 -- is the longest one where it begins.
 pub data AreTokens : Bool → ℕ → List ℕ → List Token → Type 0 where
   no_more : {inside : Bool} {at : ℕ} {text : List ℕ} → part_at inside text ≡ End → AreTokens inside at text []

@@ -3,11 +3,11 @@ ghost use Rattle.std.specs.Prelude.{◌≡◌, ◌≤◌, ◌^◌, ℕ, List, �
 ghost use Rattle.pr_forms.specs.Table.{IsDecided};
 ghost use Rattle.pr_lex.specs.declared.token.Token.{Token};
 ghost use Rattle.pr_lex.specs.declared.fault.LexKind.{LexKind};
-ghost use Rattle.pr_lex.specs.Number.{production, table};
+ghost use Rattle.pr_lex.specs.Number.{production};
 ghost use Rattle.pr_lex.specs.Tokens.{inside_after, HasTokens, HasFault};
 ghost use Rattle.pr_lex.specs.SignAt.{sign_at};
 ghost use Rattle.pr_lex.specs.declared.token.Sign.{Sign};
-ghost use Rattle.pr_lex.specs.Signs.{sign_text, BeginsWith, IsLongestSign};
+ghost use Rattle.pr_lex.specs.Signs.{sign_text, BeginsWithSign, IsLongestSign};
 ghost use Rattle.pr_lex.specs.Order.{AreInOrder};
 ghost use Rattle.pr_lex.specs.Spaced.{spaced, kinds};
 ghost use Rattle.pr_lex.specs.Lexed.{lexed, gives_tokens, gives_fault};
@@ -22,6 +22,7 @@ ghost use Rattle.pr_num.specs.Reads.{reads};
 ghost use Rattle.pr_num.specs.Shown.{shown};
 ghost use Rattle.pr_time.specs.SpanShown.{shown_span};
 ghost use Rattle.pr_strings.specs.Quoted.{quoted_text};
+ghost use Rattle.pr_lex.specs.NumberTable.{table};
 
 /// One byte ahead decides the grammar of numbers.
 pub fn one_byte_decides_numbers()
@@ -32,7 +33,7 @@ pub fn one_byte_decides_numbers()
 /// begins with none.
 pub fn longest_sign_is_taken()
     ensures taken { (text : List ℕ) (sign : Sign) (n : ℕ) → sign_at text ≡ Ok (sign, n) → (n ≡ length (sign_text sign)) × IsLongestSign text sign }
-    ensures none { (text : List ℕ) (place : ℕ) (sign : Sign) → sign_at text ≡ Err place → BeginsWith text sign → ⊥ }
+    ensures none { (text : List ℕ) (place : ℕ) (sign : Sign) → sign_at text ≡ Err place → BeginsWithSign text sign → ⊥ }
 {}
 
 /// A text has one list of tokens at most, or one first fault, and not both.
@@ -54,7 +55,7 @@ pub fn lexed_is_tokens_or_fault()
 {}
 
 /// The tokens of a text lie in it in their order. None is empty, no two of them overlap, and
-/// before, between and after them are blanks and comments.
+/// nothing but whitespace and comments stands before, between and after them.
 pub fn tokens_lie_in_order()
     ensures { (text : List ℕ) (tokens : List Token) → HasTokens text tokens → AreInOrder text 0 tokens }
 {}

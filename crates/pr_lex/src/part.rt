@@ -1,12 +1,13 @@
 // What a text begins with, by its first bytes.
 ghost use Rattle.std.specs.Prelude.{◌≡◌, ◌≤◌, length};
-ghost use Rattle.pr_lex.specs.Bytes.{is_of, front_len, name_class, starts_name, is_unit_letter, starts_unit, digits_lexeme, is_blank, is_letter, is_quote, lexeme_at, part_at};
+ghost use Rattle.pr_words.specs.Bytes.{is_whitespace, is_letter};
+ghost use Rattle.pr_lex.specs.Bytes.{is_of, front_len, name_class, starts_name, is_unit_letter, starts_unit, digits_lexeme, is_quote, lexeme_at, part_at};
 
 /// The bytes that stand beside each other in a text.
 #[derive(Clone, Copy, PartialEq, Eq, Debug)]
 pub(crate) enum Class {
     /// A space, a tab, a line feed or a carriage return.
-    Blank,
+    Whitespace,
     /// All but the line feed.
     Line,
     Digit,
@@ -31,13 +32,13 @@ pub(crate) enum Lexeme {
 pub(crate) enum Part {
     /// Nothing: the text is empty.
     End,
-    /// So many bytes that are blanks, or a comment.
+    /// So many bytes that are whitespace, or a comment.
     Gap(usize),
     Token(Lexeme),
 }
 
-fn is_blank(byte: u8) -> bool
-    ensures { result ≡ is_blank byte }
+fn is_whitespace(byte: u8) -> bool
+    ensures { result ≡ is_whitespace byte }
 {
     matches!(byte, b' ' | b'\t' | b'\n' | b'\r')
 }
@@ -52,7 +53,7 @@ fn is_of(class: Class, byte: u8) -> bool
     ensures { result ≡ is_of class byte }
 {
     match class {
-        Class::Blank => is_blank(byte),
+        Class::Whitespace => is_whitespace(byte),
         Class::Line => byte != b'\n',
         Class::Digit => byte.is_ascii_digit(),
         Class::Name => is_letter(byte) || byte.is_ascii_digit() || byte == b':',
@@ -146,8 +147,8 @@ pub(crate) fn part_at(inside: bool, text: &[u8]) -> Part
     let Some((first, _rest)) = text.split_first() else {
         return Part::End;
     };
-    if is_blank(*first) {
-        Part::Gap(front_len(Class::Blank, text))
+    if is_whitespace(*first) {
+        Part::Gap(front_len(Class::Whitespace, text))
     } else if *first == b'#' {
         Part::Gap(front_len(Class::Line, text))
     } else {

@@ -242,7 +242,7 @@ fn moved(place: usize, fault: LexError) -> LexError
 }
 
 /// The tokens of a text of the query language, in their order, each the longest one where it
-/// begins. Between them stand blanks, which are spaces, tabs, line feeds and carriage returns, and
+/// begins. Between them stand whitespace (spaces, tabs, line feeds and carriage returns) and
 /// comments, from `#` up to the end of the line.
 pub fn tokens(alloc: Global, text: &str) -> Result<Vec<Token>, LexError>
     // What is answered are the tokens of the text.

@@ -2,11 +2,12 @@
 //! function that does nothing.
 ghost use Rattle.std.specs.Prelude.{◌≡◌, ◌<◌, ℕ, List, [], ◌∷◌, ◌++◌, length, true, false};
 ghost use Rattle.std.specs.List.{list_all};
+ghost use Rattle.std.specs.Char.{is_ascii_digit};
 ghost use Rattle.pr_forms.specs.Form.{Reads, Begins, rule};
 ghost use Rattle.pr_num.specs.Forms.{Fraction, Exponent, IsUnsignedForm, HasUnsignedForm, unsigned_text};
 ghost use Rattle.pr_time.specs.SpanText as spans;
 ghost use Rattle.pr_time.specs.SpanText.{Text, ReadsSpan};
-ghost use Rattle.pr_lex.specs.Bytes.{is_digit, is_unit_letter};
+ghost use Rattle.pr_lex.specs.Bytes.{is_unit_letter};
 ghost use Rattle.pr_lex.specs.Number.{production, seen, Value, mark, Number};
 
 /// What the grammar of numbers reads whole are the unsigned number texts: digits with an optional
@@ -21,8 +22,8 @@ pub fn numbers_are_the_unsigned_forms()
 /// are a whole duration, and over another byte that is no digit none can go on. So digits are left
 /// to a number only where no duration goes on after them.
 pub fn unit_letters_go_on()
-    ensures whole { (ds : List ℕ) (b : ℕ) → 0 < length ds → list_all is_digit ds ≡ true → is_unit_letter b ≡ true →
+    ensures whole { (ds : List ℕ) (b : ℕ) → 0 < length ds → list_all is_ascii_digit ds ≡ true → is_unit_letter b ≡ true →
         (ms : ℕ) × ReadsSpan (ds ++ b ∷ []) ms }
-    ensures only { (ds : List ℕ) (b : ℕ) → 0 < length ds → list_all is_digit ds ≡ true → is_digit b ≡ false →
+    ensures only { (ds : List ℕ) (b : ℕ) → 0 < length ds → list_all is_ascii_digit ds ≡ true → is_ascii_digit b ≡ false →
         Begins spans.production (rule Text) (spans.seen (ds ++ b ∷ [])) [] → is_unit_letter b ≡ true }
 {}

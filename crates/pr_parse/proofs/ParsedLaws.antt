@@ -10,7 +10,7 @@ use Rattle.pr_forms.proofs.Ending.{given_reads, reads_given, given_place}
 use Rattle.pr_forms.proofs.Places.{one_place, cut_short}
 use Rattle.pr_lex.specs.declared.fault.LexKind.{LexKind}
 use Rattle.pr_lex.specs.Tokens.{HasFault}
-use Rattle.pr_lexed.specs.Lexed.{Lexed, gives_tokens, gives_fault as gives_first_fault, lexed}
+use Rattle.pr_lex.specs.Lexed.{Lexed, gives_tokens, gives_fault as gives_first_fault, lexed}
 use Rattle.pr_lex.proofs.LexedLaws.{tokens_both, fault_both}
 use Rattle.pr_ast.specs.declared.place.Place.{Place}
 use Rattle.pr_ast.specs.declared.tree.Expr.{Expr}
@@ -21,8 +21,8 @@ use Rattle.pr_parse.specs.declared.fault.ParseError.{ParseError}
 use Rattle.pr_parse.specs.declared.fault.ParseError.TheVariants.{Lex, Fault, Memory}
 use Rattle.pr_grammar.specs.declared.kind.Kind.{Kind}
 use Rattle.pr_grammar.specs.Seen.{Seen, seen_tokens, kinds_seen}
-use Rattle.pr_grammar.specs.Grammar.{production, table, expression, Value, part}
-use Rattle.pr_grammar.specs.Ranks.{rank, steps}
+use Rattle.pr_grammar.specs.Grammar.{production, expression, Value, part}
+use Rattle.pr_grammar.specs.GrammarTable.{table, rank, steps}
 use Rattle.pr_grammar.proofs.Table.{known}
 use Rattle.pr_grammar.proofs.GrammarEnds.{ends}
 use Rattle.pr_parse.specs.declared.fault.ParseKind.{ParseKind}

@@ -4,12 +4,12 @@ use Rattle.std.specs.Prelude.{◌≡◌, ℕ, zero, suc, nat_lt, Bool, true, fal
 use Rattle.pr_forms.specs.Form.{rule}
 use Rattle.pr_forms.specs.Reading.{reading, bad_place}
 use Rattle.pr_lex.specs.declared.fault.LexKind.{LexKind}
-use Rattle.pr_lexed.specs.Lexed.{Lexed, gives_tokens, gives_fault as gives_first_fault, lexed}
+use Rattle.pr_lex.specs.Lexed.{Lexed, gives_tokens, gives_fault as gives_first_fault, lexed}
 use Rattle.pr_ast.specs.Tree.{Tree}
 use Rattle.pr_grammar.specs.declared.kind.Kind.{Kind}
 use Rattle.pr_grammar.specs.Seen.{Seen, seen_tokens, kinds_seen}
-use Rattle.pr_grammar.specs.Grammar.{production, table, expression, Value, part}
-use Rattle.pr_grammar.specs.Ranks.{steps}
+use Rattle.pr_grammar.specs.Grammar.{production, expression, Value, part}
+use Rattle.pr_grammar.specs.GrammarTable.{table, steps}
 use Rattle.pr_parse.specs.declared.depth.OpenPart.{OpenPart}
 use Rattle.pr_parse.specs.declared.fault.ParseError.{ParseError}
 use Rattle.pr_parse.specs.declared.fault.ParseError.TheVariants.{Lex, Fault, Memory}

@@ -2,6 +2,7 @@
 use Rattle.std.specs.Prelude.{◌≡◌, ℕ, List, ◌∷◌, Option, Some, None, option_map}
 use Rattle.pr_forms.specs.Form.{rule}
 use Rattle.pr_forms.specs.Run.{good}
+use Rattle.pr_forms.specs.Language.{Gives}
 use Rattle.pr_ast.specs.declared.place.Place.{Place}
 use Rattle.pr_ast.specs.declared.selector.MatchText.{MatchText}
 use Rattle.pr_ast.specs.Tree.{Tree, tree_of, parts}
@@ -10,7 +11,7 @@ use Rattle.pr_grammar.specs.declared.kind.Level.{Level}
 use Rattle.pr_grammar.specs.declared.kind.Level.TheVariants.{Or, And, Comparison, Sum, Product}
 use Rattle.pr_grammar.specs.Seen.{seen}
 use Rattle.pr_grammar.specs.Grammar.{F, Value, part, suffixes, stepped, Suffix, in_subquery, applied_to, braced, bare, Step, Closing}
-use Rattle.pr_grammar.specs.Reader.{Gives}
+use Rattle.pr_grammar.specs.GrammarTable.{queries}
 use Rattle.pr_parse.specs.declared.made.Part.{Part}
 use Rattle.pr_parse.specs.declared.made.Parameters.{Parameters}
 
@@ -24,17 +25,17 @@ parameters_of x = parts (option_map (λ b. tree_of b.value) x.param) (tree_of x.
 
 -- What the form reads is applied to the part.
 abbrev pub Follows : F → Part → List Lexed → Part → List Lexed → Type 0
-Follows f before ts after rest = (ss : List Suffix) × Gives f ts (good (suffixes ss) (seen rest)) × (value_of after ≡ applied_to before.place (tree_of before.expr) ss)
+Follows f before ts after rest = (ss : List Suffix) × Gives queries f ts (good (suffixes ss) (seen rest)) × (value_of after ≡ applied_to before.place (tree_of before.expr) ss)
 
 -- the same for what stands after the colon of a subquery, and for its end
 abbrev pub StepFollows : Part → ℕ → List Lexed → Part → List Lexed → Type 0
 StepFollows before span ts after rest =
-    (step : Option ℕ) × ((q : Place) × ((ss : List Suffix) × (Gives (rule Step) ts (good (stepped step q ss) (seen rest))
+    (step : Option ℕ) × ((q : Place) × ((ss : List Suffix) × (Gives queries (rule Step) ts (good (stepped step q ss) (seen rest))
     × (value_of after ≡ applied_to before.place (tree_of before.expr) (in_subquery span step q ∷ ss)))))
 
 abbrev pub EndFollows : Part → ℕ → Option ℕ → List Lexed → Part → List Lexed → Type 0
 EndFollows before span step ts after rest =
-    (q : Place) × ((ss : List Suffix) × (Gives (rule Closing) ts (good (stepped None q ss) (seen rest))
+    (q : Place) × ((ss : List Suffix) × (Gives queries (rule Closing) ts (good (stepped None q ss) (seen rest))
     × (value_of after ≡ applied_to before.place (tree_of before.expr) (in_subquery span step q ∷ ss))))
 
 -- matchers in braces, where there are any

@@ -2,6 +2,7 @@
 ghost use Rattle.std.specs.Prelude.{◌≡◌, ◌<◌, ◌≤◌, length, List, IfOk, IfSome, MatchOption, MatchResult, Some, None};
 ghost use Rattle.pr_forms.specs.Form.{rule};
 ghost use Rattle.pr_forms.specs.Run.{good};
+ghost use Rattle.pr_forms.specs.Language.{Gives, FailsAt};
 ghost use Rattle.pr_ast.specs.Tree.{tree_of, trees_of};
 ghost use Rattle.pr_grammar.specs.Seen.{seen};
 ghost use Rattle.pr_grammar.specs.Grammar.{
@@ -17,7 +18,7 @@ ghost use Rattle.pr_grammar.specs.Grammar.{
   at,
   opened_by,
   aggregator,
-  aggregated,
+  aggregation_made,
   tighter,
   function,
   function_called,
@@ -26,7 +27,8 @@ ghost use Rattle.pr_grammar.specs.Grammar.{
   enclosed,
   parameters,
 };
-ghost use Rattle.pr_grammar.specs.Reader.{Gives, FailsAt, argument_starts};
+ghost use Rattle.pr_grammar.specs.Reader.{argument_starts};
+ghost use Rattle.pr_grammar.specs.GrammarTable.{queries};
 ghost use Rattle.pr_parse.specs.Reader.{value_of, parameters_of};
 
 use crate::made::{
@@ -53,7 +55,7 @@ pub(crate) fn binary_at(
     opens: bool,
     tokens: &[Lexed],
 ) -> Result<(Part, &[Lexed]), Fault<'_, Lexed>>
-    ensures read { MatchResult result (λ x. Gives (rule (Binary level opens)) tokens.now (good (value_of x.0) (seen x.1.now))) (FailsAt (rule (Binary level opens)) tokens.now) }
+    ensures read { MatchResult result (λ x. Gives queries (rule (Binary level opens)) tokens.now (good (value_of x.0) (seen x.1.now))) (FailsAt queries (rule (Binary level opens)) tokens.now) }
     ensures shorter { IfOk result (λ x. length x.1.now < length tokens.now) }
 {
     let (mut left, mut rest) = tighter_at(alloc, level, opens, tokens)?;
@@ -81,7 +83,7 @@ fn tighter_at(
     opens: bool,
     tokens: &[Lexed],
 ) -> Result<(Part, &[Lexed]), Fault<'_, Lexed>>
-    ensures read { MatchResult result (λ x. Gives (rule (tighter level opens)) tokens.now (good (value_of x.0) (seen x.1.now))) (FailsAt (rule (tighter level opens)) tokens.now) }
+    ensures read { MatchResult result (λ x. Gives queries (rule (tighter level opens)) tokens.now (good (value_of x.0) (seen x.1.now))) (FailsAt queries (rule (tighter level opens)) tokens.now) }
     ensures shorter { IfOk result (λ x. length x.1.now < length tokens.now) }
 {
     match level {
@@ -100,7 +102,7 @@ fn unary_at(
     opens: bool,
     tokens: &[Lexed],
 ) -> Result<(Part, &[Lexed]), Fault<'_, Lexed>>
-    ensures read { MatchResult result (λ x. Gives (rule (Unary opens)) tokens.now (good (value_of x.0) (seen x.1.now))) (FailsAt (rule (Unary opens)) tokens.now) }
+    ensures read { MatchResult result (λ x. Gives queries (rule (Unary opens)) tokens.now (good (value_of x.0) (seen x.1.now))) (FailsAt queries (rule (Unary opens)) tokens.now) }
     ensures shorter { IfOk result (λ x. length x.1.now < length tokens.now) }
 {
     match minus_in(tokens) {
@@ -119,7 +121,7 @@ fn postfix_at(
     opens: bool,
     tokens: &[Lexed],
 ) -> Result<(Part, &[Lexed]), Fault<'_, Lexed>>
-    ensures read { MatchResult result (λ x. Gives (rule (Postfix opens)) tokens.now (good (value_of x.0) (seen x.1.now))) (FailsAt (rule (Postfix opens)) tokens.now) }
+    ensures read { MatchResult result (λ x. Gives queries (rule (Postfix opens)) tokens.now (good (value_of x.0) (seen x.1.now))) (FailsAt queries (rule (Postfix opens)) tokens.now) }
     ensures shorter { IfOk result (λ x. length x.1.now < length tokens.now) }
 {
     if !opens {
@@ -142,7 +144,7 @@ fn group_at(
     opening: Place,
     tokens: &[Lexed],
 ) -> Result<(Part, &[Lexed]), Fault<'_, Lexed>>
-    ensures read { MatchResult result (λ x. (v : Value) × Gives enclosed tokens.now (good v (seen x.1.now)) × (value_of x.0 ≡ opened_by (at opening) v)) (FailsAt enclosed tokens.now) }
+    ensures read { MatchResult result (λ x. (v : Value) × Gives queries enclosed tokens.now (good v (seen x.1.now)) × (value_of x.0 ≡ opened_by (at opening) v)) (FailsAt queries enclosed tokens.now) }
     ensures shorter { IfOk result (λ x. length x.1.now < length tokens.now) }
 {
     let (inner, following) = binary_at(alloc, Level::Or, true, tokens)?;
@@ -155,7 +157,7 @@ fn group_at(
 #[cycle(parser)]
 #[tactic(auto, using(pr_forms::proofs::Ways::ways, pr_grammar::proofs::Ways::nested))]
 fn operand_at(alloc: Global, tokens: &[Lexed]) -> Result<(Part, &[Lexed]), Fault<'_, Lexed>>
-    ensures read { MatchResult result (λ x. Gives (rule Operand) tokens.now (good (value_of x.0) (seen x.1.now))) (FailsAt (rule Operand) tokens.now) }
+    ensures read { MatchResult result (λ x. Gives queries (rule Operand) tokens.now (good (value_of x.0) (seen x.1.now))) (FailsAt queries (rule Operand) tokens.now) }
     ensures shorter { IfOk result (λ x. length x.1.now < length tokens.now) }
 {
     let found = literal_in(alloc, tokens)?;
@@ -187,8 +189,8 @@ fn tail_at<'a>(
     text: &str,
     tokens: &'a [Lexed],
 ) -> Result<(Part, &'a [Lexed]), Fault<'a, Lexed>>
-    ensures read { MatchResult result (λ x. (v : Value) × Gives (rule Tail) tokens.now (good v (seen x.1.now)) × (value_of x.0 ≡ function_called (function func name text.now) v))
-        (FailsAt (rule Tail) tokens.now) }
+    ensures read { MatchResult result (λ x. (v : Value) × Gives queries (rule Tail) tokens.now (good v (seen x.1.now)) × (value_of x.0 ≡ function_called (function func name text.now) v))
+        (FailsAt queries (rule Tail) tokens.now) }
     ensures shorter { IfOk result (λ x. length x.1.now ≤ length tokens.now) }
 {
     let Some((_opening, following)) = after(Sign::LeftParen, tokens) else {
@@ -204,7 +206,7 @@ fn tail_at<'a>(
 #[cycle(parser)]
 #[tactic(auto, using(pr_forms::proofs::Ways::ways, pr_forms::proofs::Carrying::carrying))]
 fn arguments_at(alloc: Global, tokens: &[Lexed]) -> Result<(Vec<Expr>, &[Lexed]), Fault<'_, Lexed>>
-    ensures read { MatchResult result (λ x. Gives (rule Arguments) tokens.now (good (arguments (trees_of x.0.items)) (seen x.1.now))) (FailsAt (rule Arguments) tokens.now) }
+    ensures read { MatchResult result (λ x. Gives queries (rule Arguments) tokens.now (good (arguments (trees_of x.0.items)) (seen x.1.now))) (FailsAt queries (rule Arguments) tokens.now) }
     ensures shorter { IfOk result (λ x. length x.1.now ≤ length tokens.now) }
 {
     let mut args = Vec::new(alloc);
@@ -230,8 +232,8 @@ fn aggregation_at(
     name: Place,
     tokens: &[Lexed],
 ) -> Result<(Part, &[Lexed]), Fault<'_, Lexed>>
-    ensures read { MatchResult result (λ x. (v : Value) × Gives (rule Aggregation) tokens.now (good v (seen x.1.now)) × (value_of x.0 ≡ aggregated (aggregator op name) v))
-        (FailsAt (rule Aggregation) tokens.now) }
+    ensures read { MatchResult result (λ x. (v : Value) × Gives queries (rule Aggregation) tokens.now (good v (seen x.1.now)) × (value_of x.0 ≡ aggregation_made (aggregator op name) v))
+        (FailsAt queries (rule Aggregation) tokens.now) }
     ensures shorter { IfOk result (λ x. length x.1.now < length tokens.now) }
 {
     match grouping_in(tokens) {
@@ -264,7 +266,7 @@ fn parameters_at(
     alloc: Global,
     tokens: &[Lexed],
 ) -> Result<(Parameters, Place, &[Lexed]), Fault<'_, Lexed>>
-    ensures read { MatchResult result (λ x. Gives parameters tokens.now (good (closed (parameters_of x.0) x.1) (seen x.2.now))) (FailsAt parameters tokens.now) }
+    ensures read { MatchResult result (λ x. Gives queries parameters tokens.now (good (closed (parameters_of x.0) x.1) (seen x.2.now))) (FailsAt queries parameters tokens.now) }
     ensures shorter { IfOk result (λ x. length x.2.now < length tokens.now) }
 {
     let Some((_opening, following)) = after(Sign::LeftParen, tokens) else {
@@ -281,7 +283,7 @@ fn parameters_at(
 #[cycle(parser)]
 #[tactic(auto, using(pr_forms::proofs::Ways::ways))]
 fn parameter_at(alloc: Global, tokens: &[Lexed]) -> Result<(Parameters, &[Lexed]), Fault<'_, Lexed>>
-    ensures read { MatchResult result (λ x. Gives (rule ParametersRule) tokens.now (good (arguments (parameters_of x.0)) (seen x.1.now))) (FailsAt (rule ParametersRule) tokens.now) }
+    ensures read { MatchResult result (λ x. Gives queries (rule ParametersRule) tokens.now (good (arguments (parameters_of x.0)) (seen x.1.now))) (FailsAt queries (rule ParametersRule) tokens.now) }
     ensures shorter { IfOk result (λ x. length x.1.now < length tokens.now) }
 {
     let (first, following) = binary_at(alloc, Level::Or, true, tokens)?;

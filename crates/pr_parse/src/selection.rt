@@ -2,10 +2,11 @@
 ghost use Rattle.std.specs.Prelude.{◌≡◌, ◌<◌, ◌≤◌, length, List, IfOk, IfSome, MatchOption, MatchResult};
 ghost use Rattle.pr_forms.specs.Form.{rule, token};
 ghost use Rattle.pr_forms.specs.Run.{good};
+ghost use Rattle.pr_forms.specs.Language.{Gives, FailsAt, Takes, Lacks};
 ghost use Rattle.pr_ast.specs.Tree.{tree_of};
 ghost use Rattle.pr_grammar.specs.Seen.{seen};
 ghost use Rattle.pr_grammar.specs.Grammar.{Value, Suffix, Braced, Selection, named, word, selection, applied_to, literal_at, unnamed_selector};
-ghost use Rattle.pr_grammar.specs.Reader.{Gives, FailsAt, Takes, Lacks};
+ghost use Rattle.pr_grammar.specs.GrammarTable.{queries};
 ghost use Rattle.pr_parse.specs.Reader.{value_of, braced_value};
 
 use crate::made::{Part, literal_made, selector_made};
@@ -22,7 +23,7 @@ pub(crate) fn literal_in(
     alloc: Global,
     tokens: &[Lexed],
 ) -> Result<Option<(Part, &[Lexed])>, AllocError>
-    ensures read { IfOk result (λ o. MatchOption o (Lacks (token literal_at) tokens.now) (λ x. Takes (token literal_at) tokens.now (value_of x.0) x.1.now)) }
+    ensures read { IfOk result (λ o. MatchOption o (Lacks queries (token literal_at) tokens.now) (λ x. Takes queries (token literal_at) tokens.now (value_of x.0) x.1.now)) }
     ensures shorter { IfOk result (λ o. IfSome o (λ x. length x.1.now < length tokens.now)) }
 {
     let Some((first, rest)) = tokens.split_first() else {
@@ -41,7 +42,7 @@ fn braced_in(
     alloc: Global,
     tokens: &[Lexed],
 ) -> Result<(Option<(Items<MatchText>, Place)>, &[Lexed]), Fault<'_, Lexed>>
-    ensures read { MatchResult result (λ x. Gives (rule Braced) tokens.now (good (braced_value x.0) (seen x.1.now))) (FailsAt (rule Braced) tokens.now) }
+    ensures read { MatchResult result (λ x. Gives queries (rule Braced) tokens.now (good (braced_value x.0) (seen x.1.now))) (FailsAt queries (rule Braced) tokens.now) }
     ensures shorter { IfOk result (λ x. length x.1.now ≤ length tokens.now) }
 {
     match after(Sign::LeftBrace, tokens) {
@@ -78,8 +79,8 @@ pub(crate) fn selection_in<'a>(
     tokens: &'a [Lexed],
 ) -> Result<(Part, &'a [Lexed]), Fault<'a, Lexed>>
     ensures read { MatchResult result
-        (λ x. (v : Value) × ((ss : List Suffix) × (Gives (rule Selection) tokens.now (good (selection v ss) (seen x.1.now)) × (value_of x.0 ≡ named (word name text.now) (selection v ss)))))
-        (FailsAt (rule Selection) tokens.now) }
+        (λ x. (v : Value) × ((ss : List Suffix) × (Gives queries (rule Selection) tokens.now (good (selection v ss) (seen x.1.now)) × (value_of x.0 ≡ named (word name text.now) (selection v ss)))))
+        (FailsAt queries (rule Selection) tokens.now) }
     ensures shorter { IfOk result (λ x. length x.1.now ≤ length tokens.now) }
 {
     let (found, following) = braced_in(alloc, tokens)?;
@@ -93,7 +94,7 @@ pub(crate) fn unnamed_in(
     alloc: Global,
     tokens: &[Lexed],
 ) -> Result<(Part, &[Lexed]), Fault<'_, Lexed>>
-    ensures read { MatchResult result (λ x. Gives unnamed_selector tokens.now (good (value_of x.0) (seen x.1.now))) (FailsAt unnamed_selector tokens.now) }
+    ensures read { MatchResult result (λ x. Gives queries unnamed_selector tokens.now (good (value_of x.0) (seen x.1.now))) (FailsAt queries unnamed_selector tokens.now) }
     ensures shorter { IfOk result (λ x. length x.1.now < length tokens.now) }
 {
     let Some((opening, following)) = after(Sign::LeftBrace, tokens) else {

@@ -1,9 +1,10 @@
 // What may follow a primary: brackets, and an offset.
 ghost use Rattle.std.specs.Prelude.{◌≡◌, ◌≤◌, length, IfOk, MatchResult};
 ghost use Rattle.pr_forms.specs.Form.{rule};
+ghost use Rattle.pr_forms.specs.Language.{FailsAt};
 ghost use Rattle.pr_grammar.specs.declared.kind.Before.TheVariants.{Selector as Selectors, Range as Ranges, Other as Others};
 ghost use Rattle.pr_grammar.specs.Grammar.{After, InSelector, SelectorSpan, InOther, Step, Closing, Shift};
-ghost use Rattle.pr_grammar.specs.Reader.{FailsAt};
+ghost use Rattle.pr_grammar.specs.GrammarTable.{queries};
 ghost use Rattle.pr_parse.specs.Reader.{Follows, StepFollows, EndFollows};
 
 use crate::made::{Part, subquery_made, with_offset, with_range};
@@ -20,7 +21,7 @@ pub(crate) fn after_selector(
     before: Part,
     tokens: &[Lexed],
 ) -> Result<(Part, &[Lexed]), Fault<'_, Lexed>>
-    ensures read { MatchResult result (λ x. Follows (rule (After Selectors)) before tokens.now x.0 x.1.now) (FailsAt (rule (After Selectors)) tokens.now) }
+    ensures read { MatchResult result (λ x. Follows (rule (After Selectors)) before tokens.now x.0 x.1.now) (FailsAt queries (rule (After Selectors)) tokens.now) }
     ensures shorter { IfOk result (λ x. length x.1.now ≤ length tokens.now) }
 {
     if let Some((_open, following)) = after(Sign::LeftBracket, tokens) {
@@ -40,7 +41,7 @@ fn after_range(
     before: Part,
     tokens: &[Lexed],
 ) -> Result<(Part, &[Lexed]), Fault<'_, Lexed>>
-    ensures read { MatchResult result (λ x. Follows (rule (After Ranges)) before tokens.now x.0 x.1.now) (FailsAt (rule (After Ranges)) tokens.now) }
+    ensures read { MatchResult result (λ x. Follows (rule (After Ranges)) before tokens.now x.0 x.1.now) (FailsAt queries (rule (After Ranges)) tokens.now) }
     ensures shorter { IfOk result (λ x. length x.1.now ≤ length tokens.now) }
 {
     match after_word(Word::Offset, tokens) {
@@ -57,7 +58,7 @@ pub(crate) fn after_other(
     before: Part,
     tokens: &[Lexed],
 ) -> Result<(Part, &[Lexed]), Fault<'_, Lexed>>
-    ensures read { MatchResult result (λ x. Follows (rule (After Others)) before tokens.now x.0 x.1.now) (FailsAt (rule (After Others)) tokens.now) }
+    ensures read { MatchResult result (λ x. Follows (rule (After Others)) before tokens.now x.0 x.1.now) (FailsAt queries (rule (After Others)) tokens.now) }
     ensures shorter { IfOk result (λ x. length x.1.now ≤ length tokens.now) }
 {
     match after(Sign::LeftBracket, tokens) {
@@ -73,7 +74,7 @@ fn in_selector(
     before: Part,
     tokens: &[Lexed],
 ) -> Result<(Part, &[Lexed]), Fault<'_, Lexed>>
-    ensures read { MatchResult result (λ x. Follows (rule InSelector) before tokens.now x.0 x.1.now) (FailsAt (rule InSelector) tokens.now) }
+    ensures read { MatchResult result (λ x. Follows (rule InSelector) before tokens.now x.0 x.1.now) (FailsAt queries (rule InSelector) tokens.now) }
     ensures shorter { IfOk result (λ x. length x.1.now ≤ length tokens.now) }
 {
     let Some((lasting, following)) = span_in(tokens) else {
@@ -96,7 +97,7 @@ fn in_other(
     before: Part,
     tokens: &[Lexed],
 ) -> Result<(Part, &[Lexed]), Fault<'_, Lexed>>
-    ensures read { MatchResult result (λ x. Follows (rule InOther) before tokens.now x.0 x.1.now) (FailsAt (rule InOther) tokens.now) }
+    ensures read { MatchResult result (λ x. Follows (rule InOther) before tokens.now x.0 x.1.now) (FailsAt queries (rule InOther) tokens.now) }
     ensures shorter { IfOk result (λ x. length x.1.now ≤ length tokens.now) }
 {
     let Some((lasting, following)) = span_in(tokens) else {
@@ -117,7 +118,7 @@ fn step_at(
     span: Span,
     tokens: &[Lexed],
 ) -> Result<(Part, &[Lexed]), Fault<'_, Lexed>>
-    ensures read { MatchResult result (λ x. StepFollows before span tokens.now x.0 x.1.now) (FailsAt (rule Step) tokens.now) }
+    ensures read { MatchResult result (λ x. StepFollows before span tokens.now x.0 x.1.now) (FailsAt queries (rule Step) tokens.now) }
     ensures shorter { IfOk result (λ x. length x.1.now ≤ length tokens.now) }
 {
     match span_in(tokens) {
@@ -136,7 +137,7 @@ fn closing_at(
     step: Option<Span>,
     tokens: &[Lexed],
 ) -> Result<(Part, &[Lexed]), Fault<'_, Lexed>>
-    ensures read { MatchResult result (λ x. EndFollows before span step tokens.now x.0 x.1.now) (FailsAt (rule Closing) tokens.now) }
+    ensures read { MatchResult result (λ x. EndFollows before span step tokens.now x.0 x.1.now) (FailsAt queries (rule Closing) tokens.now) }
     ensures shorter { IfOk result (λ x. length x.1.now ≤ length tokens.now) }
 {
     match after(Sign::RightBracket, tokens) {
@@ -156,7 +157,7 @@ fn shift_at(
     before: Part,
     tokens: &[Lexed],
 ) -> Result<(Part, &[Lexed]), Fault<'_, Lexed>>
-    ensures read { MatchResult result (λ x. Follows (rule Shift) before tokens.now x.0 x.1.now) (FailsAt (rule Shift) tokens.now) }
+    ensures read { MatchResult result (λ x. Follows (rule Shift) before tokens.now x.0 x.1.now) (FailsAt queries (rule Shift) tokens.now) }
     ensures shorter { IfOk result (λ x. length x.1.now ≤ length tokens.now) }
 {
     match shift_in(tokens) {

@@ -20,7 +20,7 @@ use Rattle.pr_grammar.specs.declared.kind.Level.TheVariants as level
 use Rattle.pr_grammar.specs.declared.kind.Before.TheVariants.{Selector as Selectors, Range as Ranges, Other as Others}
 use Rattle.pr_grammar.specs.Seen.{Seen, lexed, place_of}
 use Rattle.pr_grammar.specs.Grammar as g
-use Rattle.pr_grammar.specs.Grammar.{Value, Rule, F, Suffix, in_range, in_subquery, by_offset, part, at, word, lasting, quoted, operation, operand, turn, matches, sided, included, grouped, signed, names, labels, match_sign, match_text, matchers, braced, bare, suffixes, ranged, stepped, selection, function, arguments, closed, called, aggregator, grouper, grouping, aggregation, production, expression, tighter, sign_at, word_at, operator_at, operator_of, matching_at, matching_of, grouping_at, grouping_of, minus_at, minus_of, side_at, side_of, match_at, match_of, aggregate_at, aggregate_of, function_at, function_of, label_at, is_label, metric_at, is_metric, literal_at, literal_of, text_at, is_text, span_at, is_span, shift_at, is_shift, span_of, text_of, is_sign, is_word, through, applied_to, selector_of, joined, right_side, next_argument, argument, some_arguments, label_list, matcher_list, matcher, group, parameters, applied, aggregated}
+use Rattle.pr_grammar.specs.Grammar.{Value, Rule, F, Suffix, in_range, in_subquery, by_offset, part, at, word, lasting, quoted, operation, operand, turn, matches, sided, included, grouped, signed, names, labels, match_sign, match_text, matchers, braced, bare, suffixes, ranged, stepped, selection, function, arguments, closed, called, aggregator, grouper, grouping, aggregation, production, expression, tighter, sign_at, word_at, operator_at, operator_of, matching_at, matching_of, grouping_at, grouping_of, minus_at, minus_of, side_at, side_of, match_at, match_of, aggregate_at, aggregate_of, function_at, function_of, label_at, is_label, metric_at, is_metric, literal_at, literal_of, text_at, is_text, span_at, is_span, shift_at, is_shift, span_of, text_of, is_sign, is_word, through, applied_to, selector_of, joined, right_side, next_argument, argument, some_arguments, label_list, matcher_list, matcher, group, parameters, applied, aggregation_made}
 use Rattle.pr_grammar.proofs.TokenValues.{IsAt, is_at, IsOperation, is_operation, IsSigned, is_signed, IsMatches, is_matches, IsGrouper, is_grouper, IsAggregator, is_aggregator, IsQuoted, is_quoted, IsMatchSign, is_match_sign}
 use Rattle.pr_plain_laws.specs.Plain.{PlainRule, Expr, And, Cmp, Sum, Prod, Unary, Mods, BareMods, Labels, Postfix, Selector, Primary, Group, Braces, M, Meaning, given, absent, keyed, mods, PF, tok, sg, lift, optional, second, side_named, names_listed, matched_by, modified_by, right_operand, one_more_name, one_more_matcher, name_at, selector_named, selector_alone, matcher_made, call_made, one_after_another, below, side_after, right_sides, operations, names_part, matchers_part, range_part, offset_part, brackets_part, or_none, subquery_part, arguments_part, parameters_part, plain}
 use Rattle.pr_plain_laws.proofs.ByLists.{Holds, by_token, by_nothing, by_pair, by_left, by_right, by_stop, by_turn, by_fold, by_rule, by_lists}
@@ -506,7 +506,7 @@ after_of (is_closed j) (is_group i) = is_aggregation (is_rule (is_right (is_pair
 after_none : {u : Meaning} {ts rest : List Seen} → IsClosed ts u rest → IsAggregation ts (lift g.grouped_after u (given bare)) rest
 after_none (is_closed j) = is_aggregation (is_rule (is_right (is_pair j (is_right is_nothing))))
 
-aggregate_of_token : {u v : Meaning} {ts a mid : List Seen} → IsTok IsAggregator aggregate_at ts u a → IsAggregation a v mid → IsPrimary false ts (lift aggregated u v) mid
+aggregate_of_token : {u v : Meaning} {ts a mid : List Seen} → IsTok IsAggregator aggregate_at ts u a → IsAggregation a v mid → IsPrimary false ts (lift aggregation_made u v) mid
 aggregate_of_token (is_tok is_aggregator i) (is_aggregation j) = is_primary (λ ss rest r. is_rule (is_rule (is_right (is_right (is_right (is_left (is_pair (is_pair i j) r)))))))
 
 -- signs

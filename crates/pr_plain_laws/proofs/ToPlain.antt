@@ -23,7 +23,7 @@ use Rattle.pr_grammar.specs.declared.kind.Level.TheVariants as level
 use Rattle.pr_grammar.specs.declared.kind.Before.TheVariants.{Selector as Selectors, Range as Ranges, Other as Others}
 use Rattle.pr_grammar.specs.Seen.{Seen, lexed, place_of}
 use Rattle.pr_grammar.specs.Grammar as g
-use Rattle.pr_grammar.specs.Grammar.{Value, Rule, F, Suffix, in_range, in_subquery, by_offset, part, at, word, lasting, quoted, operation, operand, turn, matches, sided, included, grouped, signed, names, labels, match_sign, match_text, matchers, braced, bare, suffixes, ranged, stepped, selection, function, arguments, closed, called, aggregator, grouper, grouping, aggregation, production, expression, tighter, sign_at, word_at, operator_at, operator_of, matching_at, matching_of, grouping_at, grouping_of, minus_at, minus_of, side_at, side_of, match_at, match_of, aggregate_at, aggregate_of, function_at, function_of, label_at, is_label, metric_at, is_metric, literal_at, literal_of, text_at, is_text, span_at, is_span, shift_at, is_shift, span_of, text_of, is_sign, is_word, through, applied_to, selector_of, joined, right_side, next_argument, argument, some_arguments, label_list, matcher_list, matcher, group, parameters, applied, aggregated}
+use Rattle.pr_grammar.specs.Grammar.{Value, Rule, F, Suffix, in_range, in_subquery, by_offset, part, at, word, lasting, quoted, operation, operand, turn, matches, sided, included, grouped, signed, names, labels, match_sign, match_text, matchers, braced, bare, suffixes, ranged, stepped, selection, function, arguments, closed, called, aggregator, grouper, grouping, aggregation, production, expression, tighter, sign_at, word_at, operator_at, operator_of, matching_at, matching_of, grouping_at, grouping_of, minus_at, minus_of, side_at, side_of, match_at, match_of, aggregate_at, aggregate_of, function_at, function_of, label_at, is_label, metric_at, is_metric, literal_at, literal_of, text_at, is_text, span_at, is_span, shift_at, is_shift, span_of, text_of, is_sign, is_word, through, applied_to, selector_of, joined, right_side, next_argument, argument, some_arguments, label_list, matcher_list, matcher, group, parameters, applied, aggregation_made}
 use Rattle.pr_grammar.proofs.TokenValues.{IsAt, is_at, IsOperation, is_operation, IsSigned, is_signed, IsMatches, is_matches, IsGrouper, is_grouper, IsAggregator, is_aggregator, IsQuoted, is_quoted, IsMatchSign, is_match_sign}
 use Rattle.pr_plain_laws.specs.Plain.{Expr, Unary, Mods, BareMods, Labels, Postfix, Selector, Primary, Group, Braces, M, Meaning, given, absent, side, keyed, mods, PF, tok, sg, wd, lift, optional, second, side_named, names_listed, matched_by, one_more_name, one_more_matcher, name_at, rule_of, below, right_sides, operations, names_part, matchers_part, no_suffixes, range_part, offset_part, closing_part, subquery_part, after_selector, arguments_part, parameters_part, plain}
 use Rattle.pr_plain_laws.proofs.ByLists.{Holds, by_token, by_nothing, by_pair, by_left, by_right, by_stop, by_turn, by_fold, by_rule, by_lists}
@@ -580,7 +580,7 @@ called_of (function_token {p = p} {n = n} a b) (is_selected (is_selection c h)) 
 literal_of_token : {u v : Value} {ts mid rest : List Seen} → IsLiteral u → RV (tok literal_at) ts u mid → IsTail mid v rest → IsPart (rule (Postfix false)) ts (applied u v) rest
 literal_of_token (is_literal {p = p} {t = t}) a h = by_primary false p t (is_rule (is_left a)) h
 
-aggregate_of_token : {u v w : Value} {ts mid next rest : List Seen} → IsAggregator u → RV (tok aggregate_at) ts u mid → IsAggregation mid v next → IsTail next w rest → IsPart (rule (Postfix false)) ts (applied (aggregated u v) w) rest
+aggregate_of_token : {u v w : Value} {ts mid next rest : List Seen} → IsAggregator u → RV (tok aggregate_at) ts u mid → IsAggregation mid v next → IsTail next w rest → IsPart (rule (Postfix false)) ts (applied (aggregation_made u v) w) rest
 aggregate_of_token (is_aggregator {o = o} {p = p}) a (is_aggregation {gr = gr} {us = us} {q = q} b) h = by_primary false (through p q) (aggregate (through p q) o gr us) (is_rule (is_right (is_right (is_pair a b)))) h
 
 data AreSuffixes : Value → Type 0 where

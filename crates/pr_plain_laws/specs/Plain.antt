@@ -15,7 +15,7 @@ use Rattle.pr_grammar.specs.declared.kind.Kind.{Kind}
 use Rattle.pr_grammar.specs.declared.kind.Level.{Level}
 use Rattle.pr_grammar.specs.declared.kind.Level.TheVariants as level
 use Rattle.pr_grammar.specs.Seen.{Seen, lexed, place_of}
-use Rattle.pr_grammar.specs.Grammar.{Value, part, word, operand, matches, sided, names, labels, match_text, matchers, braced, bare, suffixes, function, arguments, closed, mark, sign_at, word_at, operator_at, matching_at, grouping_at, minus_at, side_at, match_at, aggregate_at, function_at, function_of, label_at, is_metric, literal_at, text_at, span_at, shift_at, text_of, through, selector_of, joined, turned, signed_by, opened_by, closed_by, names_closed, match_of_text, matchers_closed, matchers_opened, applied, shifted, bracketed, range_closed, step_closed, with_step, argument, arguments_closed, grouping_made, grouped_before, grouped_after, aggregated, parameter}
+use Rattle.pr_grammar.specs.Grammar.{Value, part, word, operand, matches, sided, names, labels, match_text, matchers, braced, bare, suffixes, function, arguments, closed, mark, sign_at, word_at, operator_at, matching_at, grouping_at, minus_at, side_at, match_at, aggregate_at, function_at, function_of, label_at, is_metric, literal_at, text_at, span_at, shift_at, text_of, through, selector_of, joined, turned, signed_by, opened_by, closed_by, names_closed, match_of_text, matchers_closed, matchers_opened, applied, shifted, bracketed, range_closed, step_closed, with_step, argument, arguments_closed, grouping_made, grouped_before, grouped_after, aggregation_made, parameter}
 
 -- The rules. A flag of the levels says whether a parenthesis may come first; that of braces and
 -- matchers whether a metric's name stands before.
@@ -215,30 +215,34 @@ call_part = pair (lift call_made) (tok function_at) (pair second (sg LeftParen) 
 
 abbrev pub aggregate_part : PF
 aggregate_part =
-    pair (lift aggregated) (tok aggregate_at) (either (pair (lift grouped_before) (rule Group) parameters_part) (pair (lift grouped_after) parameters_part (either (rule Group) (nothing (given bare)))))
+    pair (lift aggregation_made) (tok aggregate_at) (either (pair (lift grouped_before) (rule Group) parameters_part) (pair (lift grouped_after) parameters_part (either (rule Group) (nothing (given bare)))))
 
 abbrev pub parenthesized : PF
 parenthesized = pair (lift opened_by) (sg LeftParen) (pair (lift closed_by) (rule (Expr true)) (sg RightParen))
 
 -- The grammar:
---   expr    = and { "or" mods and }
---   and     = cmp { ("and" | "unless") mods cmp }
---   cmp     = sum { ("==" | "!=" | "<=" | "<" | ">=" | ">") mods sum }
---   sum     = prod { ("+" | "-") mods prod }
---   prod    = unary { ("*" | "/" | "%") mods unary }
---   unary   = ("+" | "-") unary | postfix
---   mods    = ["bool"] [("on" | "ignoring") labels [("group_left" | "group_right") labels]]
---   labels  = "(" [ label { "," label } [","] ] ")"
---   postfix = selector ["[" duration "]"] ["offset" duration] { subquery } | primary { subquery }
---             where subquery = "[" duration ":" [duration] "]" ["offset" duration]
+--   expr     = and { "or" mods and }
+--   and      = cmp { ("and" | "unless") mods cmp }
+--   cmp      = sum { ("==" | "!=" | "<=" | "<" | ">=" | ">") mods sum }
+--   sum      = prod { ("+" | "-") mods prod }
+--   prod     = unary { ("*" | "/" | "%") mods unary }
+--   unary    = ("+" | "-") unary | postfix
+--   mods     = ["bool"] [("on" | "ignoring") labels [("group_left" | "group_right") labels]]
+--   labels   = "(" [ label { "," label } [","] ] ")"
+--   postfix  = selector ["[" duration "]"] ["offset" duration] { subquery }
+--            | primary { subquery }
+--   subquery = "[" duration ":" [duration] "]" ["offset" duration]
 --   selector = name [braces] | braces
---   primary = number | string | "(" expr ")" | function "(" [ expr { "," expr } ] ")"
---           | aggregation [group] "(" expr ["," expr] ")" | aggregation "(" expr ["," expr] ")" group
---   group   = ("by" | "without") labels braces  = "{" [ m { "," m } [","] ] "}" m       = label
---   ("=" | "!=" | "=~" | "!~") string So a range stands directly after a selector, and an offset
---   once, after a selector, its range, or a subquery. `mods` may end in a bare `group_left` or
---   `group_right` too (BareMods); then what follows begins with no parenthesis, since that would
---   begin labels.
+--   primary  = number | string | "(" expr ")"
+--            | function "(" [ expr { "," expr } ] ")"
+--            | aggregation [group] "(" expr ["," expr] ")"
+--            | aggregation "(" expr ["," expr] ")" group
+--   group    = ("by" | "without") labels
+--   braces   = "{" [ m { "," m } [","] ] "}"
+--   m        = label ("=" | "!=" | "=~" | "!~") string
+-- So a range stands directly after a selector, and an offset once, after a selector, its range, or
+-- a subquery. `mods` may end in a bare `group_left` or `group_right` too (BareMods); then what
+-- follows begins with no parenthesis, since that would begin labels.
 abbrev pub plain : PlainRule → PF
 plain (Expr p) = operations level.Or p
 plain (And p) = operations level.And p

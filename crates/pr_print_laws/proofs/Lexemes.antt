@@ -5,6 +5,7 @@ use Rattle.std.specs.List.{list_all, prefix_len}
 use Rattle.std.specs.Char.{is_ascii_digit}
 use Rattle.std.specs.Str.{str_eq_ignore_ascii_case}
 use Rattle.std.proofs.lemmas.Bool.Decides.{nat_tests}
+use Rattle.pr_words.specs.Bytes.{is_whitespace}
 use Rattle.pr_forms.proofs.ByRules.{Each}
 use Rattle.pr_num.specs.declared.value.Num.{Num}
 use Rattle.pr_num.specs.declared.value.Num.TheVariants.{Finite}
@@ -18,7 +19,7 @@ use Rattle.pr_time.specs.SpanAnswer.{span_of, bad_span_place}
 use Rattle.pr_lex.specs.declared.token.Token.{Token}
 use Rattle.pr_lex.specs.declared.token.TokenKind.{TokenKind}
 use Rattle.pr_lex.specs.declared.token.TokenKind.TheVariants.{Name, Number as NumberToken, Duration, Text as TextToken, Sign as SignToken}
-use Rattle.pr_lex.specs.Bytes.{part_at, is_of, is_blank, is_digit, is_quote, starts_name, starts_unit, name_class, front_len}
+use Rattle.pr_lex.specs.Bytes.{part_at, is_of, is_quote, starts_name, starts_unit, name_class, front_len}
 use Rattle.pr_lex.specs.declared.token.Sign.{Sign}
 use Rattle.pr_lex.specs.declared.fault.LexKind.TheVariants.{OpenText, BadEscape, SpanTooLong}
 use Rattle.pr_lex.specs.Tokens.{HasTokens}
@@ -106,7 +107,7 @@ point_value : (bs : List ℕ) (v : Num) → reads (46 ∷ bs) ≡ Ok v → IsDig
 unfolding reads
 point_value bs v e = no_infinity (46 ∷ bs) v refl refl e
 
-first_value : (c : ℕ) (bs : List ℕ) (v : Num) (d p : Bool) → is_digit c ≡ d → c == 46 ≡ p → d || p ≡ true → reads (c ∷ bs) ≡ Ok v → IsDigits v
+first_value : (c : ℕ) (bs : List ℕ) (v : Num) (d p : Bool) → is_ascii_digit c ≡ d → c == 46 ≡ p → d || p ≡ true → reads (c ∷ bs) ≡ Ok v → IsDigits v
 first_value c bs v true p h k e r = digit_value c bs v h r
 first_value c bs v false true h k e r = let same : c ≡ 46 = grind (arith, nat_tests) in point_value bs v (subst (λ x. reads (x ∷ bs) ≡ Ok v) same r)
 first_value c bs v false false h k e r = absurd (cc)
@@ -115,9 +116,9 @@ no_value : (v : Num) → reads [] ≡ Ok v → ⊥
 unfolding reads
 no_value v e = cc
 
-front_value : (b : ℕ) (rest : List ℕ) (n : ℕ) (v : Num) → is_digit b || b == 46 ≡ true → reads (take n (b ∷ rest)) ≡ Ok v → IsDigits v
+front_value : (b : ℕ) (rest : List ℕ) (n : ℕ) (v : Num) → is_ascii_digit b || b == 46 ≡ true → reads (take n (b ∷ rest)) ≡ Ok v → IsDigits v
 front_value b rest zero v d e = absurd (no_value v e)
-front_value b rest (suc n) v d e = first_value b (take n rest) v (is_digit b) (b == 46) refl refl d e
+front_value b rest (suc n) v d e = first_value b (take n rest) v (is_ascii_digit b) (b == 46) refl refl d e
 
 -- a token before others
 with_inverse : (t : Token) (l : Lexed) (ts : List Token) → with_token t l ≡ gives_tokens ts → (us : List Token) × ((l ≡ gives_tokens us) × (ts ≡ t ∷ us))
@@ -137,7 +138,7 @@ one_proper l ts t next h e =
     subst (λ us. Each IsProper (seen_tokens us)) (sym x.1.1) (record { is = refl; holds = h }, next x.0 x.1.0)
 
 module _ (again : Bool → ℕ → List ℕ → Lexed) (next : Again again) (inside : Bool) (at : ℕ) (ts : List Token) where
-  a_number_here : (b : ℕ) (rest : List ℕ) (n : ℕ) (r : Result Num NumFault) → is_digit b || b == 46 ≡ true → reads (take n (b ∷ rest)) ≡ r → after_first again inside at (b ∷ rest) (number_by n r) ≡ gives_tokens ts → Each IsProper (seen_tokens ts)
+  a_number_here : (b : ℕ) (rest : List ℕ) (n : ℕ) (r : Result Num NumFault) → is_ascii_digit b || b == 46 ≡ true → reads (take n (b ∷ rest)) ≡ r → after_first again inside at (b ∷ rest) (number_by n r) ≡ gives_tokens ts → Each IsProper (seen_tokens ts)
   a_number_here b rest n (Ok v) d h e = one_proper _ ts _ (λ us k. next _ _ _ us k) (front_value b rest n v d h) e
   a_number_here b rest n (Err NotNumber) d h e = absurd (cc)
   a_number_here b rest n (Err TooWide) d h e = absurd (cc)
@@ -172,38 +173,38 @@ module _ (again : Bool → ℕ → List ℕ → Lexed) (next : Again again) (ins
     abbrev Here : Type 0
     Here = by_part again inside at (b ∷ rest) (part_at inside (b ∷ rest)) ≡ gives_tokens ts
 
-    by_quote : (q : Bool) → is_quote b ≡ q → is_blank b ≡ false → b == 35 ≡ false → starts_name inside b ≡ false → is_digit b ≡ false → b == 46 ≡ false → Here → Each IsProper (seen_tokens ts)
+    by_quote : (q : Bool) → is_quote b ≡ q → is_whitespace b ≡ false → b == 35 ≡ false → starts_name inside b ≡ false → is_ascii_digit b ≡ false → b == 46 ≡ false → Here → Each IsProper (seen_tokens ts)
     by_quote true hq hx hy hs hd hp e = a_text_here (b ∷ rest) _ _ (rw (hx, hy, hs, hd, hp, hq) at e)
     by_quote false hq hx hy hs hd hp e = a_sign_here (b ∷ rest) _ (rw (hx, hy, hs, hd, hp, hq) at e)
 
-    by_point : (p : Bool) → b == 46 ≡ p → is_blank b ≡ false → b == 35 ≡ false → starts_name inside b ≡ false → is_digit b ≡ false → Here → Each IsProper (seen_tokens ts)
+    by_point : (p : Bool) → b == 46 ≡ p → is_whitespace b ≡ false → b == 35 ≡ false → starts_name inside b ≡ false → is_ascii_digit b ≡ false → Here → Each IsProper (seen_tokens ts)
     by_point true hp hx hy hs hd e = a_number_here b rest _ _ (rw (hp, hd) refl) refl (rw (hx, hy, hs, hd, hp) at e)
     by_point false hp hx hy hs hd e = by_quote (is_quote b) refl hx hy hs hd hp e
 
-    by_unit : (u : Bool) → starts_unit (drop (prefix_len is_digit (b ∷ rest)) (b ∷ rest)) ≡ u → is_blank b ≡ false → b == 35 ≡ false → starts_name inside b ≡ false → is_digit b ≡ true → Here → Each IsProper (seen_tokens ts)
+    by_unit : (u : Bool) → starts_unit (drop (prefix_len is_ascii_digit (b ∷ rest)) (b ∷ rest)) ≡ u → is_whitespace b ≡ false → b == 35 ≡ false → starts_name inside b ≡ false → is_ascii_digit b ≡ true → Here → Each IsProper (seen_tokens ts)
     by_unit true hu hx hy hs hd e = a_span_here (b ∷ rest) (bad_span_place (b ∷ rest)) (span_of (take (bad_span_place (b ∷ rest)) (b ∷ rest))) (rw (hu, hx, hy, hs, hd) at e)
     by_unit false hu hx hy hs hd e = a_number_here b rest _ _ (rw hd refl) refl (rw (hu, hx, hy, hs, hd) at e)
 
-    by_digit : (d : Bool) → is_digit b ≡ d → is_blank b ≡ false → b == 35 ≡ false → starts_name inside b ≡ false → Here → Each IsProper (seen_tokens ts)
-    by_digit true hd hx hy hs e = by_unit (starts_unit (drop (prefix_len is_digit (b ∷ rest)) (b ∷ rest))) refl hx hy hs hd e
+    by_digit : (d : Bool) → is_ascii_digit b ≡ d → is_whitespace b ≡ false → b == 35 ≡ false → starts_name inside b ≡ false → Here → Each IsProper (seen_tokens ts)
+    by_digit true hd hx hy hs e = by_unit (starts_unit (drop (prefix_len is_ascii_digit (b ∷ rest)) (b ∷ rest))) refl hx hy hs hd e
     by_digit false hd hx hy hs e = by_point (b == 46) refl hx hy hs hd e
 
-    by_name : (s : Bool) → starts_name inside b ≡ s → is_blank b ≡ false → b == 35 ≡ false → Here → Each IsProper (seen_tokens ts)
+    by_name : (s : Bool) → starts_name inside b ≡ s → is_whitespace b ≡ false → b == 35 ≡ false → Here → Each IsProper (seen_tokens ts)
     by_name true hs hx hy e = a_name_here b rest _ refl hs (rw (hx, hy, hs) at e)
-    by_name false hs hx hy e = by_digit (is_digit b) refl hx hy hs e
+    by_name false hs hx hy e = by_digit (is_ascii_digit b) refl hx hy hs e
 
-    by_hash : (y : Bool) → b == 35 ≡ y → is_blank b ≡ false → Here → Each IsProper (seen_tokens ts)
+    by_hash : (y : Bool) → b == 35 ≡ y → is_whitespace b ≡ false → Here → Each IsProper (seen_tokens ts)
     by_hash true hy hx e = next _ _ _ ts (rw (hx, hy) at e)
     by_hash false hy hx e = by_name (starts_name inside b) refl hx hy e
 
-    by_blank : (x : Bool) → is_blank b ≡ x → Here → Each IsProper (seen_tokens ts)
+    by_blank : (x : Bool) → is_whitespace b ≡ x → Here → Each IsProper (seen_tokens ts)
     by_blank true hx e = next _ _ _ ts (rw hx at e)
     by_blank false hx e = by_hash (b == 35) refl hx e
 
 proper_in : (parts : ℕ) → Again (lexed_in parts)
 proper_in zero inside at text ts e = nothing_proper ts e
 proper_in (suc parts) inside at [] ts e = nothing_proper ts e
-proper_in (suc parts) inside at (b ∷ rest) ts e = by_blank (lexed_in parts) (proper_in parts) inside at ts b rest (is_blank b) refl e
+proper_in (suc parts) inside at (b ∷ rest) ts e = by_blank (lexed_in parts) (proper_in parts) inside at ts b rest (is_whitespace b) refl e
 
 given_proper : (text : List ℕ) (tokens : List Token) → lexed text ≡ gives_tokens tokens → Each IsProper (seen_tokens tokens)
 unfolding lexed

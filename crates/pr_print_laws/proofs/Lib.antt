@@ -4,3 +4,7 @@ pub mod Written
 pub mod Lexemes
 pub mod Origins
 pub mod Printed
+pub mod Heights
+pub mod Added
+pub mod Bounded
+pub mod Again

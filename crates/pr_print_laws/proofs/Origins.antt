@@ -2,7 +2,6 @@
 use Rattle.std.proofs.Common.{◌≡◌, ℕ, Option, Some, None, Bool, true, false, List, [], ◌∷◌, refl, ap, sym, ◌∙◌, subst, lit≤}
 use Rattle.std.specs.Prelude.{◌==◌, option_map, if◌then◌else◌}
 use Rattle.std.specs.Str.{bytes_eq}
-use Rattle.std.specs.Prelude.{codes}
 use Rattle.pr_forms.specs.Form.{token, pair, turns, rule}
 use Rattle.pr_forms.proofs.ByRules.{Meets, by_token, by_nothing, by_pair, by_left, by_right, by_stop, by_turn, by_fold, by_rule, by_rules}
 use Rattle.pr_num.specs.declared.value.Num.{Num}
@@ -21,6 +20,7 @@ use Rattle.pr_labels.specs.declared.grouping.Grouping.{Grouping}
 use Rattle.pr_labels.specs.declared.matching.Matching.{Matching}
 use Rattle.pr_labels.specs.declared.matching.Card.{Card}
 use Rattle.pr_labels.specs.declared.matching.Card.TheVariants.{ManyToOne, OneToMany}
+use Rattle.pr_labels.specs.LabelSet.{metric_label}
 use Rattle.pr_ast.specs.declared.place.Place.{Place}
 use Rattle.pr_ast.specs.declared.selector.MatchText.{MatchText}
 use Rattle.pr_ast.specs.declared.names.Func.{Func}
@@ -35,7 +35,7 @@ use Rattle.pr_grammar.specs.declared.kind.Level.TheVariants.{Or, And, Comparison
 use Rattle.pr_grammar.specs.declared.kind.Before.TheVariants.{Selector as Selectors, Range as Ranges, Other as Others}
 use Rattle.pr_grammar.specs.Seen.{Seen, lexed, seen_tokens, kind_of, name_kind, word_kind, function_kind, has_colon, place_of}
 use Rattle.pr_grammar.specs.Whole.{Derives}
-use Rattle.pr_grammar.specs.Grammar.{production, Rule, F, Value, Suffix, in_range, in_subquery, by_offset, part, at, word, lasting, quoted, operation, operand, turn, matches, sided, included, grouped, signed, names, labels, match_sign, matchers, braced, bare, suffixes, ranged, stepped, selection, function, arguments, closed, called, aggregator, grouper, grouping, aggregation, through, range_made, offset_set, applied_to, selector_of, Binary, Modified, Matched, Grouped, Included, Unary, Postfix, Operand, Labels, MoreLabels, Matchers, MoreMatchers, Braced, Selection, Tail, Arguments, Aggregation, Parameters, After, InSelector, SelectorSpan, InOther, Step, Closing, Shift, sign_at, word_at, is_sign, is_word, operator_at, operator_of, matching_at, matching_of, grouping_at, grouping_of, minus_at, minus_of, side_at, side_of, match_at, match_of, aggregate_at, aggregate_of, function_at, function_of, is_label, label_at, is_metric, metric_at, literal_of, literal_at, is_text, text_at, is_span, is_shift, span_at, shift_at, span_of, text_of, number_of, joined, right_side, argument, next_argument, label_list, matcher_list, group, parameters, named, second_of, names_closed, turned, with_bool, unmatched, matched, named_by, ungrouped, grouped_by, including, including_none, signed_by, opened_by, closed_by, name_first, match_of_text, match_before, match_first, matchers_closed, matchers_opened, applied, shifted, bracketed, range_closed, step_closed, with_step, selecting, unnamed, function_called, arguments_closed, arguments_followed, grouping_made, grouped_before, grouped_after, aggregated, parameter, tighter}
+use Rattle.pr_grammar.specs.Grammar.{production, Rule, F, Value, Suffix, in_range, in_subquery, by_offset, part, at, word, lasting, quoted, operation, operand, turn, matches, sided, included, grouped, signed, names, labels, match_sign, matchers, braced, bare, suffixes, ranged, stepped, selection, function, arguments, closed, called, aggregator, grouper, grouping, aggregation, through, range_made, offset_set, applied_to, selector_of, Binary, Modified, Matched, Grouped, Included, Unary, Postfix, Operand, Labels, MoreLabels, Matchers, MoreMatchers, Braced, Selection, Tail, Arguments, Aggregation, Parameters, After, InSelector, SelectorSpan, InOther, Step, Closing, Shift, sign_at, word_at, is_sign, is_word, operator_at, operator_of, matching_at, matching_of, grouping_at, grouping_of, minus_at, minus_of, side_at, side_of, match_at, match_of, aggregate_at, aggregate_of, function_at, function_of, is_label, label_at, is_metric, metric_at, literal_of, literal_at, is_text, text_at, is_span, is_shift, span_at, shift_at, span_of, text_of, number_of, joined, right_side, argument, next_argument, label_list, matcher_list, group, parameters, named, second_of, names_closed, turned, with_bool, unmatched, matched, named_by, ungrouped, grouped_by, including, including_none, signed_by, opened_by, closed_by, name_first, match_of_text, match_before, match_first, matchers_closed, matchers_opened, applied, shifted, bracketed, range_closed, step_closed, with_step, selecting, unnamed, function_called, arguments_closed, arguments_followed, grouping_made, grouped_before, grouped_after, aggregation_made, parameter, tighter}
 use Rattle.pr_grammar.proofs.TokenValues.{IsAt, is_at, IsOperation, is_operation, IsSigned, is_signed, IsMatches, is_matches, IsGrouper, is_grouper, IsAggregator, is_aggregator, IsQuoted, is_quoted, IsMatchSign, is_match_sign}
 use Rattle.pr_print_laws.proofs.Readable.{IsLabel, IsMetric, metric_name, function_name, AllLabels, AllMatchers, IsOffset, IsSpan, IsStep, IsSide, IsMatching, IsUnsigned, IsReadable, a_number, a_text, a_select, a_range, a_sub, a_neg, a_binary, a_call, an_aggregate, a_parameter, no_args, more_args}
 use Rattle.pr_print_laws.proofs.Lexemes.{IsHeld, IsOwn, IsProper, IsDigits, tokens_are_proper}
@@ -197,7 +197,7 @@ other_kind false false = plain_name
 
 function_kind_is : (o : Option Func) (n : List ℕ) → IsNameKind (function_kind o n)
 function_kind_is (Some f) n = a_function
-function_kind_is None n = other_kind (bytes_eq n (codes "__name__")) (has_colon n)
+function_kind_is None n = other_kind (bytes_eq n metric_label) (has_colon n)
 
 word_kind_is : (o : Option WordOf) (n : List ℕ) → IsNameKind (word_kind o n)
 word_kind_is (Some w) n = a_word
@@ -545,7 +545,7 @@ aggregate_given : {p : Place} {o : AggOp} {g : Grouping} {ts : Tree} → AllLabe
 aggregate_given n (one_given h) = an_aggregate n h
 aggregate_given n (two_given h k) = a_parameter n h k
 
-aggregated_is : {v w : Value} → IsAggregator v → IsAggregation w → IsPart (aggregated v w)
+aggregated_is : {v w : Value} → IsAggregator v → IsAggregation w → IsPart (aggregation_made v w)
 aggregated_is is_aggregator (is_aggregation n h) = is_part (aggregate_given n h)
 
 two_are : (v : Value) {u w : Value} → IsPart u → IsPart w → AreParameters (parameter u (second_of v w))

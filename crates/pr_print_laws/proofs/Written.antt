@@ -3,6 +3,8 @@ use Rattle.std.proofs.Common.{◌≡◌, ℕ, ◌<◌, ◌^◌, ◌/◌, ◌%◌
 use Rattle.std.specs.Prelude.{◌==◌, codes, flat_map, if◌then◌else◌, pos, negsuc, decimal}
 use Rattle.std.specs.List.{list_all}
 use Rattle.std.proofs.lemmas.Bool.Decides.{nat_tests}
+use Rattle.std.specs.Char.{is_ascii_digit}
+use Rattle.pr_words.specs.Bytes.{is_whitespace}
 use Rattle.pr_num.specs.declared.value.Num.{Num}
 use Rattle.pr_num.specs.declared.value.Num.TheVariants.{Finite, NaN, PosInf, NegInf}
 use Rattle.pr_num.specs.Arithmetic.{IsFit}
@@ -16,7 +18,7 @@ use Rattle.pr_lex.specs.declared.token.TokenKind.{TokenKind}
 use Rattle.pr_lex.specs.declared.token.TokenKind.TheVariants.{Name, Duration, Text as TextToken, Sign as SignToken}
 use Rattle.pr_lex.specs.declared.token.Sign.{Sign}
 use Rattle.pr_lex.specs.declared.token.Sign.TheVariants.{LeftBrace, RightBrace, LeftParen, RightParen, LeftBracket, RightBracket, Comma, Colon, Plus, Minus, Assign, NotEqual as NotEqualSign, Like as LikeSign, NotLike as NotLikeSign, Equal as EqualSign, LessEqual as LessEqualSign, Less as LessSign, GreaterEqual as GreaterEqualSign, Greater as GreaterSign, Star, Slash, Percent}
-use Rattle.pr_lex.specs.Bytes.{is_blank, is_digit, starts_name}
+use Rattle.pr_lex.specs.Bytes.{starts_name}
 use Rattle.pr_lex.specs.Signs.{sign_text}
 use Rattle.pr_lex.specs.Tokens.{inside_after}
 use Rattle.pr_lex.specs.Spelled.{Spells, all_spelled, a_blank, begins_blank, begins_other, ends_sign, IsNameText, name_text, ends_name, ends_number, ends_span}
@@ -156,18 +158,18 @@ breaks_colon : (rest : List ℕ) → Breaks true (58 ∷ rest)
 breaks_colon rest = record { name = refl; number = refl; span = refl; assign = refl; compare = refl }
 
 -- what begins with no blank
-no_blank_starts : (b : ℕ) → starts_name false b ≡ true → is_blank b ≡ false
+no_blank_starts : (b : ℕ) → starts_name false b ≡ true → is_whitespace b ≡ false
 no_blank_starts b h = grind (arith, nat_tests)
 
-no_blank_digit : (b : ℕ) → is_digit b ≡ true → is_blank b ≡ false
+no_blank_digit : (b : ℕ) → is_ascii_digit b ≡ true → is_whitespace b ≡ false
 no_blank_digit b h = grind (arith, nat_tests)
 
 name_first : {n : List ℕ} → IsNameText false n → Firsts n
 name_first (name_text {b} {bs} h e) rest = no_blank_starts b h
 
-digits_first : (ds after : List ℕ) → 0 < length ds → list_all is_digit ds ≡ true → Firsts (ds ++ after)
+digits_first : (ds after : List ℕ) → 0 < length ds → list_all is_ascii_digit ds ≡ true → Firsts (ds ++ after)
 digits_first [] after s d rest = absurd (omega arith)
-digits_first (c ∷ ds) after s d rest = no_blank_digit c (both_left (is_digit c) (list_all is_digit ds) d)
+digits_first (c ∷ ds) after s d rest = no_blank_digit c (both_left (is_ascii_digit c) (list_all is_ascii_digit ds) d)
 
 number_first : (n : ℕ) → IsFit (Finite (pos n)) → Firsts (shown (Finite (pos n)))
 unfolding shown

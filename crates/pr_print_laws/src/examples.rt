@@ -1,6 +1,6 @@
 //! What the definitions say of small trees. An example is a function that does nothing, and its
 //! contract is what it shows.
-ghost use Rattle.std.specs.Prelude.{◌≡◌, codes, Some, None, false, true, [], ◌∷◌};
+ghost use Rattle.std.specs.Prelude.{◌≡◌, codes, Some, None, false, true, [], ◌∷◌, map};
 ghost use Rattle.pr_num.specs.declared.value.Num.TheVariants.{PosInf};
 ghost use Rattle.pr_lex.specs.declared.token.TokenKind.TheVariants.{Name, Duration, Text, Sign};
 ghost use Rattle.pr_lex.specs.declared.token.Sign.TheVariants.{LeftBrace, RightBrace, LeftParen, RightParen, LeftBracket, RightBracket, Comma, Colon, NotEqual, NotLike, Plus, Minus, Star};
@@ -8,10 +8,14 @@ ghost use Rattle.pr_labels.specs.declared.matching.Card.TheVariants as card;
 ghost use Rattle.pr_ast.specs.declared.names.BinOp.TheVariants as op;
 ghost use Rattle.pr_ast.specs.declared.names.AggOp.TheVariants as agg;
 ghost use Rattle.pr_ast.specs.declared.selector.MatchSign.TheVariants as sign;
-ghost use Rattle.pr_ast.specs.Tree.{number, select, sub, neg, binary, aggregate};
+ghost use Rattle.pr_ast.specs.Tree.{number, select, sub, neg, binary, aggregate, call, none as no_arguments};
 ghost use Rattle.pr_ast.specs.Places.{nowhere};
 ghost use Rattle.pr_ast.specs.Examples.{chosen, metric, matcher, one, two, grouped, on_names};
+ghost use Rattle.pr_ast.specs.declared.names.Func.TheVariants as func;
+ghost use Rattle.pr_grammar.specs.Seen.{kind_of};
+ghost use Rattle.pr_parse.specs.Deep.{depth};
 ghost use Rattle.pr_print_laws.specs.Kinds.{tree_kinds};
+ghost use Rattle.pr_print_laws.specs.TreeHeight.{tree_height};
 
 /// The tokens of small trees as they are printed.
 #[tactic(auto, unfolding(pr_lex::specs::Words::word_text))]
@@ -23,4 +27,20 @@ pub fn small_trees_have_these_tokens()
     ensures no_grouping { tree_kinds (aggregate nowhere agg.Sum (grouped []) (one (metric (codes "x")))) [] ≡ Name (codes "sum") ∷ Sign LeftParen ∷ Name (codes "x") ∷ Sign RightParen ∷ [] }
     ensures matchers { tree_kinds (select nowhere (chosen (codes "m") (matcher (codes "a") sign.NotLike (codes "x") ∷ []) 0)) [] ≡ Name (codes "m") ∷ Sign LeftBrace ∷ Name (codes "a") ∷ Sign NotLike ∷ Text (codes "x") ∷ Sign RightBrace ∷ [] }
     ensures step { tree_kinds (sub nowhere (metric (codes "m")) 3600000 (Some 60000) 1) [] ≡ Name (codes "m") ∷ Sign LeftBracket ∷ Duration 3600000 ∷ Sign Colon ∷ Duration 60000 ∷ Sign RightBracket ∷ Name (codes "offset") ∷ Duration 1 ∷ [] }
+{}
+
+/// The nodes of the longest paths of small trees.
+pub fn small_trees_have_so_many_nodes()
+    ensures one { tree_height (metric (codes "x")) ≡ 1 }
+    ensures no_arguments { tree_height (call nowhere func.Time no_arguments) ≡ 1 }
+    ensures longest { tree_height (binary nowhere op.Add false None (metric (codes "x")) (neg nowhere (sub nowhere (metric (codes "y")) 60000 None 0))) ≡ 4 }
+    ensures argument { tree_height (call nowhere func.ClampMin (two (neg nowhere (metric (codes "x"))) (number nowhere PosInf))) ≡ 3 }
+{}
+
+/// Each sign of a printed infinity is an operator: `+Inf + +Inf` has a depth of 4, and `(+Inf +
+/// +Inf) + +Inf` one of 7.
+#[tactic(auto, unfolding(pr_lex::specs::Words::word_of, pr_lex::specs::Words::words, pr_lex::specs::Words::is_word, pr_lex::specs::Words::word_text))]
+pub fn signs_of_infinities_are_deep()
+    ensures two { depth (map kind_of (tree_kinds (binary nowhere op.Add false None (number nowhere PosInf) (number nowhere PosInf)) [])) ≡ 4 }
+    ensures three { depth (map kind_of (tree_kinds (binary nowhere op.Add false None (binary nowhere op.Add false None (number nowhere PosInf) (number nowhere PosInf)) (number nowhere PosInf)) [])) ≡ 7 }
 {}

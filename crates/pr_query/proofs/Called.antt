@@ -22,7 +22,7 @@ use Rattle.pr_num.specs.Multiples.{ceil_of, floor_of, rounded_to}
 use Rattle.pr_types.specs.Typed.{content_at, contents}
 use Rattle.pr_vectors.specs.Calendar.{calendar_of}
 use Rattle.pr_vectors.specs.LabelFunctions.{with_expansion, with_joined}
-use Rattle.pr_vectors.specs.Aggregation.{aggregated, always, count_of_values, greatest_first, greatest_of_values, is_within, least_first, least_of_values, mean_of_values, one_of_values, quantile_of_values, rank, sum_of_values}
+use Rattle.pr_vectors.specs.Aggregation.{of_groups, always, count_of_values, greatest_first, greatest_of_values, is_within, least_first, least_of_values, mean_of_values, one_of_values, quantile_of_values, rank, sum_of_values}
 use Rattle.pr_query.specs.Selection.{selected_spots}
 use Rattle.pr_vectors.specs.Functions.{ValueFunction, at_least, at_most, clamped, mapped, sign_of, told_apart}
 use Rattle.pr_vectors.specs.Histogram.{buckets_in, histogram_labels, histogram_quantiles, histogram_value, histograms, is_bucket}
@@ -37,7 +37,7 @@ use Rattle.pr_query.specs.declared.value.Value.TheVariants.{Scalar, Vector}
 use Rattle.pr_query.specs.Answers.{IsAnswer, function_at, go_on}
 use Rattle.pr_query.specs.Absence.{absent_of, labels_of_argument}
 use Rattle.pr_query.specs.Aggregations.{aggregated_at, summed_up}
-use Rattle.pr_query.specs.Calls.{absent_given, called, instants, seconds_of, selector_argument, stamped, vector_at, with_time}
+use Rattle.pr_query.specs.Calls.{absent_given, value_of_call, instants, seconds_of, selector_argument, stamped, vector_at, with_time}
 use Rattle.pr_query.specs.Given.{Given, Ranged, elements_given, elements_in, number_given, number_or, ranges_given}
 use Rattle.pr_query.specs.RangeCalls.{answers_over, over_given, question}
 use Rattle.pr_query.proofs.Vectors.{function_answer}
@@ -61,8 +61,8 @@ aggregated_answer : (p : Place) (r : Result (List (Item Num)) TooWide) → IfOk 
 aggregated_answer p (Ok items) h = h
 aggregated_answer p (Err e) h = tt
 
-by_values : (p : Place) (f : List Num → Result Num TooWide) (by : Grouping) (items : List (Item Num)) → IfOk (aggregated_at p (aggregated f by items)) IsAnswer
-by_values p f by items = aggregated_answer p (aggregated f by items) (aggregated_is_vector f by items)
+by_values : (p : Place) (f : List Num → Result Num TooWide) (by : Grouping) (items : List (Item Num)) → IfOk (aggregated_at p (of_groups f by items)) IsAnswer
+by_values p f by items = aggregated_answer p (of_groups f by items) (aggregated_is_vector f by items)
 
 pub summed_answer : (p : Place) (o : AggOp) (by : Grouping) (ts : Tree) (gs : List Given) → AreAnswers gs → IfOk (summed_up p o by ts gs) IsAnswer
 summed_answer p agg.Sum by ts gs h = by_values p sum_of_values by (elements_given gs 0)
@@ -111,7 +111,7 @@ absent_answer p ts (Some r) = by (answers_over p r.place (question range_fn.Pres
   by (Err e) = tt
 
 -- a call
-pub called_answer : (history : List Entry) (p : Place) (f : Func) (ts : Tree) (time : ℕ) (gs : List Given) → AreAnswers gs → IfOk (called history p f ts time gs) IsAnswer
+pub called_answer : (history : List Entry) (p : Place) (f : Func) (ts : Tree) (time : ℕ) (gs : List Given) → AreAnswers gs → IfOk (value_of_call history p f ts time gs) IsAnswer
 called_answer history p func.Abs ts time gs h = by_function p (λ v. Ok (absolute v)) (elements_given gs 0)
 called_answer history p func.Ceil ts time gs h = by_function p ceil_of (elements_given gs 0)
 called_answer history p func.Floor ts time gs h = by_function p floor_of (elements_given gs 0)

@@ -6,7 +6,7 @@ use Rattle.pr_query.specs.Answers.{IsAnswer, go_on}
 use Rattle.pr_query.specs.declared.fault.Fault.{Fault}
 use Rattle.pr_query.specs.declared.value.Value.{Value}
 use Rattle.pr_query.specs.Aggregations.{summed_up}
-use Rattle.pr_query.specs.Calls.{called}
+use Rattle.pr_query.specs.Calls.{value_of_call}
 use Rattle.pr_query.specs.Given.{Given, Ranged}
 use Rattle.pr_query.specs.Meaning.{given, meaning, operands, ranges}
 use Rattle.pr_query.proofs.Called.{AreAnswers, called_answer, summed_answer}
@@ -44,7 +44,7 @@ mutual
       next_answer (λ v. go_on (operated p o b m v) (meaning step history r time)) (meaning step history l time)
       (λ v h. next_answer (operated p o b m v) (meaning step history r time) (λ w k. operated_answer p o b m v w h k) (meaning_answer step history r time))
       (meaning_answer step history l time)
-  meaning_answer step history (call p f ts) time = next_given (called history p f ts time) (operands step history ts time) (called_answer history p f ts time) (operands_answer step history ts time)
+  meaning_answer step history (call p f ts) time = next_given (value_of_call history p f ts time) (operands step history ts time) (called_answer history p f ts time) (operands_answer step history ts time)
   meaning_answer step history (aggregate p o g ts) time = next_given (summed_up p o g ts) (operands step history ts time) (summed_answer p o g ts) (operands_answer step history ts time)
   meaning_answer step history (text p t) time = tt
   meaning_answer step history (range p s d) time = tt

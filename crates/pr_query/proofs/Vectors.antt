@@ -12,7 +12,7 @@ use Rattle.pr_vectors.specs.declared.match_fault.MatchFault.{MatchFault}
 use Rattle.pr_vectors.specs.declared.function_fault.FunctionFault.{FunctionFault}
 use Rattle.pr_vectors.specs.Vectors.{IsVector, in_order}
 use Rattle.pr_vectors.specs.Functions.{ValueFunction, mapped}
-use Rattle.pr_vectors.specs.Matching.{Operator, fault_after, is_matched, items_of, joined, kept, left_alone, many_side, one_side, outcomes_of, side_fault}
+use Rattle.pr_vectors.specs.Matching.{Operator, fault_of_outcomes, is_matched, items_kept, joined, kept_pairs, left_alone, many_side, one_side, outcomes_of, side_fault}
 use Rattle.pr_vectors.specs.Operators.{holds}
 use Rattle.pr_vectors.proofs.Vectors.{vector_filter, vector_in_order, vector_unless}
 use Rattle.pr_vectors.proofs.FunctionAnswers.{mapped_vector}
@@ -22,7 +22,7 @@ use Rattle.pr_query.specs.declared.value.Value.{Value}
 use Rattle.pr_query.specs.declared.value.Value.TheVariants.{Scalar, Vector}
 use Rattle.pr_query.specs.Answers.{IsAnswer, function_at, go_on, joined_at, scalar_at}
 use Rattle.pr_query.specs.Operators.{comparison_of, is_filter, matching_of, operator_of, result_of}
-use Rattle.pr_query.specs.Operations.{between, negated_value, operated, with_scalar}
+use Rattle.pr_query.specs.Operations.{between_vectors, negated_value, operated, with_scalar}
 
 pub next_answer : (next : Value → Result Value Fault) (r : Result Value Fault) → ((v : Value) → IsAnswer v → IfOk (next v) IsAnswer) → IfOk r IsAnswer → IfOk (go_on next r) IsAnswer
 next_answer next (Ok v) h k = h v k
@@ -45,7 +45,7 @@ joined_vector how keep_name f left right =
     let manys = many_side how.card left right in
     let ones = one_side how.card left right in
     let outcomes = outcomes_of how keep_name f manys ones in
-    vector_unless (option_or (side_fault how manys ones) (fault_after how.card [] outcomes)) (in_order (items_of (kept outcomes))) (vector_in_order (items_of (kept outcomes)))
+    vector_unless (option_or (side_fault how manys ones) (fault_of_outcomes how.card [] outcomes)) (in_order (items_kept (kept_pairs outcomes))) (vector_in_order (items_kept (kept_pairs outcomes)))
 
 pub negated_answer : (p : Place) (v : Value) → IsAnswer v → IfOk (negated_value p v) IsAnswer
 negated_answer p (Scalar v) h = tt
@@ -58,7 +58,7 @@ scalar_side p false test f items h = function_answer p (mapped f items) (mapped_
 values_answer : (p : Place) (o : BinOp) (b : Bool) (how : Matching) (left right : List (Item Num)) → IfOk (joined_at p (joined how (is_filter o b) (operator_of o b) left right)) IsAnswer
 values_answer p o b how left right = joined_answer p (joined how (is_filter o b) (operator_of o b) left right) (joined_vector how (is_filter o b) (operator_of o b) left right)
 
-between_answer : (p : Place) (o : BinOp) (b : Bool) (how : Matching) (left right : List (Item Num)) → IsVector left → IfOk (between p o b how left right) IsAnswer
+between_answer : (p : Place) (o : BinOp) (b : Bool) (how : Matching) (left right : List (Item Num)) → IsVector left → IfOk (between_vectors p o b how left right) IsAnswer
 between_answer p op.Or b how left right h = vector_in_order (left ++ left_alone how right left)
 between_answer p op.And b how left right h = vector_filter (is_matched how right) left h
 between_answer p op.Unless b how left right h = vector_filter (λ e. not (is_matched how right e)) left h

@@ -45,16 +45,16 @@ elements_in (Scalar v) = []
 elements_in (Vector items) = items
 
 -- the number of a scalar; a vector has none
-abbrev pub number_in : Value → Option Num
-number_in (Scalar v) = Some v
-number_in (Vector items) = None
+abbrev pub scalar_in : Value → Option Num
+scalar_in (Scalar v) = Some v
+scalar_in (Vector items) = None
 
 -- what the argument at a place gives, as it is wanted there
 abbrev pub elements_given : List Given → ℕ → List (Item Num)
 elements_given gs i = unwrap_or (option_map (λ g. elements_in g.value) (slice_get gs i)) []
 
 abbrev pub number_or : Num → List Given → ℕ → Num
-number_or default gs i = unwrap_or (option_and_then (λ g. number_in g.value) (slice_get gs i)) default
+number_or default gs i = unwrap_or (option_and_then (λ g. scalar_in g.value) (slice_get gs i)) default
 
 abbrev pub number_given : List Given → ℕ → Num
 number_given gs i = number_or NaN gs i

@@ -9,9 +9,9 @@ use Rattle.pr_query.specs.Answers.{go_on}
 use Rattle.pr_query.specs.Selection.{selection}
 use Rattle.pr_query.specs.Operations.{negated_value, operated}
 use Rattle.pr_query.specs.Given.{Given, Ranged, range_at}
-use Rattle.pr_query.specs.Calls.{called}
+use Rattle.pr_query.specs.Calls.{value_of_call}
 use Rattle.pr_query.specs.Aggregations.{summed_up}
-use Rattle.pr_query.specs.Subqueries.{subquery}
+use Rattle.pr_query.specs.Subqueries.{subquery_ranges}
 
 -- What is no value: a text, a range, a list of arguments. An expression that has a type is none of
 -- these.
@@ -31,7 +31,7 @@ abbrev mutual
   meaning step history (select p s) time = Ok (Vector (selection history s time))
   meaning step history (neg p t) time = go_on (negated_value p) (meaning step history t time)
   meaning step history (binary p o b m l r) time = go_on (λ v. go_on (operated p o b m v) (meaning step history r time)) (meaning step history l time)
-  meaning step history (call p f ts) time = go_on (called history p f ts time) (operands step history ts time)
+  meaning step history (call p f ts) time = go_on (value_of_call history p f ts time) (operands step history ts time)
   meaning step history (aggregate p o g ts) time = go_on (summed_up p o g ts) (operands step history ts time)
   meaning step history (text p t) time = nothing
   meaning step history (range p s d) time = nothing
@@ -49,5 +49,5 @@ abbrev mutual
   pub ranges : ℕ → List Entry → Tree → ℕ → Result (Option Ranged) Fault
   ranges step history (range p s d) time = Ok (Some (range_at history p s d time))
   ranges step history (sub p t d i o) time =
-      go_on (λ r. Ok (Some r)) (subquery p (meaning step history t) (unwrap_or i step) ((pos time -ℤ pos o) -ℤ pos d) (pos time -ℤ pos o))
+      go_on (λ r. Ok (Some r)) (subquery_ranges p (meaning step history t) (unwrap_or i step) ((pos time -ℤ pos o) -ℤ pos d) (pos time -ℤ pos o))
   ranges step history _ time = Ok None

@@ -28,14 +28,14 @@ abbrev pub with_scalar : Place → Bool → (Num → Bool) → ValueFunction →
 with_scalar p filters test f items = if filters then Ok (Vector (kept_where test items)) else function_at p (mapped f items)
 
 -- Two vectors. A filter keeps the metric's name, and every other operator on values drops it.
-abbrev pub between : Place → BinOp → Bool → Matching → List (Item Num) → List (Item Num) → Result Value Fault
-between p Or b how left right = Ok (Vector (either_side how left right))
-between p And b how left right = Ok (Vector (both_sides how left right))
-between p Unless b how left right = Ok (Vector (left_alone how left right))
-between p o b how left right = joined_at p (joined how (is_filter o b) (operator_of o b) left right)
+abbrev pub between_vectors : Place → BinOp → Bool → Matching → List (Item Num) → List (Item Num) → Result Value Fault
+between_vectors p Or b how left right = Ok (Vector (either_side how left right))
+between_vectors p And b how left right = Ok (Vector (both_sides how left right))
+between_vectors p Unless b how left right = Ok (Vector (left_alone how left right))
+between_vectors p o b how left right = joined_at p (joined how (is_filter o b) (operator_of o b) left right)
 
 abbrev pub operated : Place → BinOp → Bool → Option Matching → Value → Value → Result Value Fault
 operated p o b m (Scalar x) (Scalar y) = scalar_at p (result_of o x y)
 operated p o b m (Vector v) (Scalar y) = with_scalar p (is_filter o b) (λ x. holds (comparison_of o) x y) (λ x. result_of o x y) v
 operated p o b m (Scalar x) (Vector w) = with_scalar p (is_filter o b) (λ y. holds (comparison_of o) x y) (λ y. result_of o x y) w
-operated p o b m (Vector v) (Vector w) = between p o b (matching_of m) v w
+operated p o b m (Vector v) (Vector w) = between_vectors p o b (matching_of m) v w

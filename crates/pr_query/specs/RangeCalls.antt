@@ -55,15 +55,15 @@ answered_labels func labels = cond (keeps_name func) labels (unnamed labels)
 
 -- The series are taken in order, and the first fault ends; a series without an answer gives
 -- nothing.
-abbrev pub one_more : Place → Place → List Pair → Result (Option Num) AskFault → Result (List (Item Num)) Fault → Result (List (Item Num)) Fault
-one_more p at labels (Err f) more = Err (range_fault p at f)
-one_more p at labels (Ok None) more = more
-one_more p at labels (Ok (Some v)) (Err f) = Err f
-one_more p at labels (Ok (Some v)) (Ok items) = Ok (element labels v ∷ items)
+abbrev pub answer_before : Place → Place → List Pair → Result (Option Num) AskFault → Result (List (Item Num)) Fault → Result (List (Item Num)) Fault
+answer_before p at labels (Err f) more = Err (range_fault p at f)
+answer_before p at labels (Ok None) more = more
+answer_before p at labels (Ok (Some v)) (Err f) = Err f
+answer_before p at labels (Ok (Some v)) (Ok items) = Ok (element labels v ∷ items)
 
 abbrev pub answers_over : Place → Place → Ask → List (Item (List Spot)) → Result (List (Item Num)) Fault
 answers_over p at a [] = Ok []
-answers_over p at a (s ∷ series) = one_more p at (answered_labels a.func s.labels) (over a s.value) (answers_over p at a series)
+answers_over p at a (s ∷ series) = answer_before p at (answered_labels a.func s.labels) (over a s.value) (answers_over p at a series)
 
 -- A function of a range. Equal labels are told after all values.
 abbrev pub over_ranges : Place → RangeFn → Option Num → Ranged → Result Value Fault

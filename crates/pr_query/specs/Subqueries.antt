@@ -39,19 +39,19 @@ abbrev pub all_taken : List Taken → List (Item (List Spot))
 all_taken ts = map (series_taken ts) (in_label_order (flat_map (λ t. label_sets t.items) ts))
 
 -- an expression at each of these times; the first fault ends
-abbrev pub one_more : ℕ → Result Value Fault → Result (List Taken) Fault → Result (List Taken) Fault
-one_more time (Err f) rest = Err f
-one_more time (Ok v) (Err f) = Err f
-one_more time (Ok v) (Ok ts) = Ok (record { time = time; items = elements_in v } ∷ ts)
+abbrev pub taken_before : ℕ → Result Value Fault → Result (List Taken) Fault → Result (List Taken) Fault
+taken_before time (Err f) rest = Err f
+taken_before time (Ok v) (Err f) = Err f
+taken_before time (Ok v) (Ok ts) = Ok (record { time = time; items = elements_in v } ∷ ts)
 
 abbrev pub at_each : (ℕ → Result Value Fault) → List ℕ → Result (List Taken) Fault
 at_each expr [] = Ok []
-at_each expr (time ∷ times) = one_more time (expr time) (at_each expr times)
+at_each expr (time ∷ times) = taken_before time (expr time) (at_each expr times)
 
 -- A subquery over a range, by its expression; its step is the given one, or else the one of
 -- subqueries that give none.
-abbrev pub subquery : Place → (ℕ → Result Value Fault) → ℕ → ℤ → ℤ → Result Ranged Fault
-subquery p expr step from to =
+abbrev pub subquery_ranges : Place → (ℕ → Result Value Fault) → ℕ → ℤ → ℤ → Result Ranged Fault
+subquery_ranges p expr step from to =
     let times = multiples step from to in
     cond (nat_lt longest (length times)) (Err (fault p (kind.RangeTooLong (length times))))
     (go_on (λ ts. Ok (record { place = p; from = from; to = to; series = all_taken ts })) (at_each expr times))

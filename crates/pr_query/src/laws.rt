@@ -1,9 +1,12 @@
 // Laws of what expressions give.
-ghost use Rattle.std.specs.Prelude.{ℕ, ℤ, List, IfOk, map};
-ghost use Rattle.pr_history.specs.declared.entry.Entry.{Entry};
+ghost use Rattle.std.specs.Prelude.{◌≡◌, ℕ, List, IfOk, map};
+ghost use Rattle.pr_labels.specs.declared.pair.Pair.{Pair};
+ghost use Rattle.pr_labels.specs.Rising.{IsRising};
+ghost use Rattle.pr_match.specs.Matcher.{equality, meets_all};
 ghost use Rattle.pr_ast.specs.declared.selector.Selector.{Selector};
 ghost use Rattle.pr_ast.specs.Tree.{Tree};
-ghost use Rattle.pr_labels.specs.Rising.{IsRising};
+ghost use Rattle.pr_history.specs.declared.entry.Entry.{Entry};
+ghost use Rattle.pr_history.specs.Series.{chosen, has_values};
 ghost use Rattle.pr_query.specs.Answers.{IsAnswer};
 ghost use Rattle.pr_query.specs.Selection.{chosen_by, selected_spots};
 ghost use Rattle.pr_query.specs.Meaning.{meaning};
@@ -12,6 +15,12 @@ ghost use Rattle.pr_query.specs.Meaning.{meaning};
 pub fn chosen_series_are_in_label_order()
     ensures chosen { (history : List Entry) (s : Selector) → IsRising (chosen_by s history) }
     ensures shown { (history : List Entry) (s : Selector) (time : ℕ) → IsRising (map (λ e. e.labels) (selected_spots history s time)) }
+{}
+
+/// The series that matchers with `=` choose are those that have the pairs.
+pub fn equalities_choose_series_with_pairs()
+    ensures { (pairs : List Pair) (history : List Entry)
+        → chosen (meets_all (map equality pairs)) history ≡ chosen (has_values pairs) history }
 {}
 
 /// Whatever an expression gives, a vector is in label order with distinct label sets.

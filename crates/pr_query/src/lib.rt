@@ -21,7 +21,9 @@ pub use examples::{
     signs_and_filters_of_vectors, vectors_are_matched, what_a_selector_shows,
 };
 pub use fault::{Fault, FaultKind};
-pub use laws::{answers_are_vectors, chosen_series_are_in_label_order};
+pub use laws::{
+    answers_are_vectors, chosen_series_are_in_label_order, equalities_choose_series_with_pairs,
+};
 pub use range_examples::{each_function_of_a_range_has_its_row, ranges_have_offsets_and_faults};
 pub use row_examples::{
     each_aggregation_has_its_row, each_function_of_values_has_its_row,

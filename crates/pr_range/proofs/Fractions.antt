@@ -7,7 +7,7 @@ use Rattle.pr_num.specs.Half.{below_zero, half, half_abs, round_by_rest, signed}
 use Rattle.pr_num.proofs.Rounding.{parts_of, rest_is}
 use Rattle.pr_num.proofs.Signs.{abs_signed, half-scaled, half_abs_below}
 use Rattle.pr_vectors.specs.Extrapolation.{Fraction, extended, fraction, plus}
-use Rattle.pr_range.specs.Stretches.{IsPart}
+use Rattle.pr_range.specs.Stretches.{IsPartOf}
 
 -- what tests of numbers say
 lt_true : (m n : ℕ) → m < n → nat_lt m n ≡ true
@@ -79,7 +79,7 @@ pub extended_small : (g : ℤ) (c l : ℕ) → 0 < c → l ≤ 4 * c → unsigne
 extended_small g c l some h = half_small g (c + l) c 5 some (omega arith)
 
 -- A gain that goes on for some parts goes on for that fraction of a millisecond.
-pub extended_same : (gain : ℤ) (covered parts n : ℕ) (f : Fraction) → 0 < covered → 0 < parts → 0 < f.bottom → IsPart parts f n
+pub extended_same : (gain : ℤ) (covered parts n : ℕ) (f : Fraction) → 0 < covered → 0 < parts → 0 < f.bottom → IsPartOf parts f n
     → half (gain *ℤ pos (covered * parts + n)) (pos (covered * parts)) ≡ extended gain covered f
 extended_same gain covered parts n f some more over h =
     let bottom : 0 < 1 * f.bottom * covered = omega (arith, scaled_lt 0 f.bottom covered some over) in
@@ -87,7 +87,7 @@ extended_same gain covered parts n f some more over h =
     let part : n * f.bottom * covered ≡ f.top * parts * covered = ap (λ x. x * covered) h in
     half_same gain (covered * parts + n) (covered * parts) (plus (fraction covered 1) f).top ((plus (fraction covered 1) f).bottom * covered) top bottom (omega arith)
 
-pub plus_part : (parts m n : ℕ) (f h : Fraction) → IsPart parts f m → IsPart parts h n → IsPart parts (plus f h) (m + n)
+pub plus_part : (parts m n : ℕ) (f h : Fraction) → IsPartOf parts f m → IsPartOf parts h n → IsPartOf parts (plus f h) (m + n)
 plus_part parts m n f h p q =
     let left : m * f.bottom * h.bottom ≡ f.top * parts * h.bottom = ap (λ x. x * h.bottom) p in
     let right : n * h.bottom * f.bottom ≡ h.top * parts * f.bottom = ap (λ x. x * f.bottom) q in

@@ -5,7 +5,7 @@ use Rattle.pr_num.specs.Half.{half}
 use Rattle.pr_history.specs.declared.spot.Spot.{Spot}
 use Rattle.pr_vectors.specs.Spots.{last_of, units_in}
 use Rattle.pr_vectors.specs.Extrapolation.{Fraction, begins_at_zero, counter_gain, covered, difference, extended, fraction, gained, gauge_gain, ms_between, plus, reach, reach_after, reach_before}
-use Rattle.pr_range.specs.Stretches.{IsPart, IsStretch}
+use Rattle.pr_range.specs.Stretches.{IsPartOf, IsStretch}
 use Rattle.pr_range.specs.declared.gains.Stretch.{Stretch}
 use Rattle.pr_range.proofs.Fractions.{extended_same, lt_scaled, plus_part, scaled_lt}
 
@@ -50,7 +50,7 @@ pub gauge_same : (from to : ℤ) (first : Spot) (rest : List Spot) (s : Stretch)
 gauge_same from to first rest s h k = over_both (difference first rest) from to first rest s h k
 
 -- the test for the zero point in parts
-zero_parts : (value gain : ℕ) (size parts n : ℕ) (f : Fraction) → 0 < parts → 0 < f.bottom → IsPart parts f n
+zero_parts : (value gain : ℕ) (size parts n : ℕ) (f : Fraction) → 0 < parts → 0 < f.bottom → IsPartOf parts f n
     → nat_lt (value * (size * parts)) (gain * n) ≡ nat_lt (value * (size * f.bottom)) (gain * f.top)
 zero_parts value gain size parts n f some more h =
     let part : gain * (n * f.bottom) ≡ gain * (f.top * parts) = ap (λ x. gain * x) h in
@@ -62,7 +62,7 @@ both_ways : (b x y : Bool) → ((b && false) && x) ≡ ((b && false) && y)
 both_ways true x y = refl
 both_ways false x y = refl
 
-zero_same : (gain value : ℤ) (size parts n : ℕ) (f : Fraction) → 0 < parts → 0 < f.bottom → IsPart parts f n
+zero_same : (gain value : ℤ) (size parts n : ℕ) (f : Fraction) → 0 < parts → 0 < f.bottom → IsPartOf parts f n
     → (int_lt (pos 0) gain && not (int_lt value (pos 0)) && int_lt (value *ℤ pos (size * parts)) (gain *ℤ pos n)) ≡ begins_at_zero gain value size f
 zero_same (pos g) (pos v) size parts n f some more h = ap (λ b. (int_lt (pos 0) (pos g) && not (int_lt (pos v) (pos 0))) && b) (zero_parts v g size parts n f some more h)
 zero_same (pos g) (negsuc v) size parts n f some more h = both_ways (int_lt (pos 0) (pos g)) (int_lt (negsuc v *ℤ pos (size * parts)) (pos g *ℤ pos n)) (int_lt (negsuc v *ℤ pos (size * f.bottom)) (pos g *ℤ pos f.top))

@@ -7,8 +7,8 @@ use Rattle.pr_range.specs.declared.fault.RangeFault.{RangeFault}
 use Rattle.pr_range.specs.declared.fault.RangeFault.TheVariants.{TooWide, RangeTooLong, Memory}
 
 -- The value or the fault is the one that is meant; want of memory tells nothing of it.
-abbrev pub Answers : Result (Option Num) AskFault → Result (Option Num) RangeFault → Type 0
-Answers meant (Ok value) = meant ≡ Ok value
-Answers meant (Err TooWide) = meant ≡ Err fault.TooWide
-Answers meant (Err (RangeTooLong have)) = meant ≡ Err (fault.RangeTooLong have)
-Answers meant (Err Memory) = Unit {0}
+abbrev pub AnswersAsk : Result (Option Num) AskFault → Result (Option Num) RangeFault → Type 0
+AnswersAsk meant (Ok value) = meant ≡ Ok value
+AnswersAsk meant (Err TooWide) = meant ≡ Err fault.TooWide
+AnswersAsk meant (Err (RangeTooLong have)) = meant ≡ Err (fault.RangeTooLong have)
+AnswersAsk meant (Err Memory) = Unit {0}

@@ -11,7 +11,7 @@ use Rattle.pr_vectors.specs.declared.range.RangeFn.{RangeFn}
 use Rattle.pr_vectors.specs.declared.range.RangeFn.TheVariants.{PredictLinear, QuantileOverTime}
 use Rattle.pr_vectors.specs.Ranges.{answer_to, ask_cost}
 use Rattle.pr_range.specs.declared.fault.RangeFault.{RangeFault}
-use Rattle.pr_range.specs.Answers.{Answers}
+use Rattle.pr_range.specs.Answers.{AnswersAsk}
 
 -- Two functions take an argument, and no other does.
 abbrev pub takes_argument : RangeFn → Bool
@@ -55,8 +55,8 @@ pub record IsLater (last : LastAsks) (node series : ℕ) (a : Ask) : Type 0 wher
   pub from : (b : LastAsk) → last node series ≡ Some b → b.from ≤ℤ a.from
   pub to : (b : LastAsk) → last node series ≡ Some b → b.to ≤ℤ a.to
 
-abbrev pub IsReady : LastAsks → ℕ → ℕ → Ask → Type 0
-IsReady last node series a = a.inside ≡ false → IsLater last node series a
+abbrev pub IsReadyToAsk : LastAsks → ℕ → ℕ → Ask → Type 0
+IsReadyToAsk last node series a = a.inside ≡ false → IsLater last node series a
 
 -- what counts as passed for an ask
 abbrev pub passed_for : Ask → ℕ → ℕ
@@ -64,16 +64,16 @@ passed_for a passed = cond a.inside 0 passed
 
 -- The answer is that of the history, and no more samples are read than those of the range that were
 -- not passed.
-pub record IsAnswer (history : List Entry) (labels : List Pair) (a : Ask) (passed : ℕ) (before after : ℕ) (result : Result (Option Num) RangeFault) : Type 0 where
-  pub value : Answers (answer_to history labels a) result
+pub record IsAskAnswer (history : List Entry) (labels : List Pair) (a : Ask) (passed : ℕ) (before after : ℕ) (result : Result (Option Num) RangeFault) : Type 0 where
+  pub value : AnswersAsk (answer_to history labels a) result
   pub reads : after ≤ before + ask_cost history labels a (passed_for a passed)
 
 -- whether an ask is remembered, and is that of this node and series
-abbrev pub is_kept : Bool → Ask → ℕ → ℕ → ℕ → ℕ → Bool
-is_kept keeps a node series k s = keeps && (not a.inside && ((node == k) && (series == s)))
+abbrev pub keeps_passed : Bool → Ask → ℕ → ℕ → ℕ → ℕ → Bool
+keeps_passed keeps a node series k s = keeps && (not a.inside && ((node == k) && (series == s)))
 
 -- Where asks are remembered, one outside subqueries becomes the last one of its node and series,
 -- and all until its end count as passed; what is known of the others stays.
 pub record AreMoved (keeps : Bool) (node series : ℕ) (a : Ask) (until : ℕ) (last last' : LastAsks) (passed passed' : Passed) : Type 0 where
-  pub asks : (k s : ℕ) → last' k s ≡ cond (is_kept keeps a node series k s) (Some (remembered a)) (last k s)
-  pub passing : (k s : ℕ) → passed' k s ≡ cond (is_kept keeps a node series k s) until (passed k s)
+  pub asks : (k s : ℕ) → last' k s ≡ cond (keeps_passed keeps a node series k s) (Some (remembered a)) (last k s)
+  pub passing : (k s : ℕ) → passed' k s ≡ cond (keeps_passed keeps a node series k s) until (passed k s)

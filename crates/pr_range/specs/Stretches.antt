@@ -5,14 +5,14 @@ use Rattle.pr_vectors.specs.Extrapolation.{Fraction, covered, reach_after, reach
 use Rattle.pr_range.specs.declared.gains.Stretch.{Stretch}
 
 -- A fraction of milliseconds is a whole number of such parts.
-abbrev pub IsPart : ℕ → Fraction → ℕ → Type 0
-IsPart parts f n = n * f.bottom ≡ f.top * parts
+abbrev pub IsPartOf : ℕ → Fraction → ℕ → Type 0
+IsPartOf parts f n = n * f.bottom ≡ f.top * parts
 
 -- All distances in parts, two for each step from one value to the next.
 pub record IsStretch (from to : ℤ) (first : Spot) (rest : List Spot) (s : Stretch) : Type 0 where
   pub size : s.covered ≡ covered first rest * (2 * length rest)
-  pub before : IsPart (2 * length rest) (reach_before from first rest) s.before
-  pub after : IsPart (2 * length rest) (reach_after to first rest) s.after
+  pub before : IsPartOf (2 * length rest) (reach_before from first rest) s.before
+  pub after : IsPartOf (2 * length rest) (reach_after to first rest) s.after
   pub some : 0 < s.covered
   pub small : s.covered < 2 ^ 63
   pub before_small : (s.before < 2 ^ 45) × (s.before ≤ 2 * s.covered)

@@ -8,7 +8,7 @@ ghost use Rattle.pr_num.specs.Units.{IsNano};
 ghost use Rattle.pr_vectors.specs.Extrapolation.{begins_at_zero, counter_gain, covered, delta_of, difference, extended, gained, gauge_gain, idelta_of, increase_of, irate_of, lost, ms_between, rate_of, reach, step_counter, step_gauge};
 ghost use Rattle.pr_vectors.specs.Histogram.{is_special};
 ghost use Rattle.pr_vectors.specs.Spots.{falls, has_special, last_of, numbers_of, units_in};
-ghost use Rattle.pr_range.specs.Stretches.{IsPart, IsStretch};
+ghost use Rattle.pr_range.specs.Stretches.{IsPartOf, IsStretch};
 
 use crate::values::{falls, last_of};
 use pr_history::Spot;
@@ -116,7 +116,7 @@ fn reach(distance: u128, covered: u64, steps: u64) -> u64
     requires steps { steps < 2 ^ 20 }
     requires covered { covered < 2 ^ 42 }
     requires distance { distance < 2 ^ 65 }
-    ensures part { IsPart (2 * steps) (reach distance covered steps) result }
+    ensures part { IsPartOf (2 * steps) (reach distance covered steps) result }
     ensures small { 5 * result ≤ 11 * covered }
 {
     let steps = steps as u128;

@@ -5,7 +5,7 @@ ghost use Rattle.pr_vectors.specs.Extrapolation.{last_two};
 ghost use Rattle.pr_vectors.specs.Ranges.{argument, function_of, over, over_some, with_fault};
 ghost use Rattle.pr_vectors.specs.Spots.{last_of, of_two, some_value};
 ghost use Rattle.pr_range.specs.declared.fault.RangeFault.TheVariants.{Memory};
-ghost use Rattle.pr_range.specs.Answers.{Answers};
+ghost use Rattle.pr_range.specs.Answers.{AnswersAsk};
 ghost use Rattle.pr_range.specs.Asks.{HasArgument};
 ghost use Rattle.pr_range.specs.Formulas.{formula_of, is_formula};
 ghost use Rattle.pr_range.specs.Spots.{AreWithin};
@@ -135,7 +135,7 @@ fn over_some(
     ask: &Ask,
 ) -> Result<Option<Num>, RangeFault>
     requires { length rest.now < 2 ^ 20 }
-    ensures answer { AreWithin ask.now.from ask.now.to (first.now ∷ rest.now) → Answers (over_some ask.now (first.now ∷ rest.now)) result }
+    ensures answer { AreWithin ask.now.from ask.now.to (first.now ∷ rest.now) → AnswersAsk (over_some ask.now (first.now ∷ rest.now)) result }
     ensures memory { result ≡ Err Memory → ask.now.func ≡ QuantileOverTime }
 {
     match ask.func {
@@ -164,7 +164,7 @@ fn over_some(
 #[tactic(auto, unfolding(pr_vectors::specs::Ranges::over))]
 pub fn over_list(alloc: Global, spots: &[Spot], ask: &Ask) -> Result<Option<Num>, RangeFault>
     requires { HasArgument ask.now }
-    ensures answer { AreWithin ask.now.from ask.now.to spots.now → Answers (over ask.now spots.now) result }
+    ensures answer { AreWithin ask.now.from ask.now.to spots.now → AnswersAsk (over ask.now spots.now) result }
     ensures memory { result ≡ Err Memory → ask.now.func ≡ QuantileOverTime }
 {
     if spots.len() > LONGEST {

@@ -3,7 +3,7 @@ ghost use Rattle.std.specs.Prelude.{◌≡◌, ◌≢◌, ◌<◌, ◌≤ℤ◌,
 ghost use Rattle.pr_labels.specs.declared.pair.Pair.{Pair};
 ghost use Rattle.pr_history.specs.declared.entry.Entry.{Entry};
 ghost use Rattle.pr_head.specs.Stored.{Stored, position_of};
-ghost use Rattle.pr_range.specs.Asks.{HasArgument, IsAnswer, MayAsk};
+ghost use Rattle.pr_range.specs.Asks.{HasArgument, IsAskAnswer, MayAsk};
 
 use crate::fault::RangeFault;
 use crate::over::over_list;
@@ -51,7 +51,7 @@ fn ask_plainly<G: Ledger>(
     requires there { series < length head.now }
     requires ordered { ask.now.from ≤ℤ ask.now.to }
     requires argument { HasArgument ask.now }
-    ensures { (history : List Entry) (labels : List Pair) → MayAsk head.now history series labels ask.now → IsAnswer history labels ask.now 0 reads.old reads.new result }
+    ensures { (history : List Entry) (labels : List Pair) → MayAsk head.now history series labels ask.now → IsAskAnswer history labels ask.now 0 reads.old reads.new result }
 {
     let Ask {
         from: start,

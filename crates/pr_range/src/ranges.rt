@@ -4,7 +4,7 @@ ghost use Rattle.pr_history.specs.declared.entry.Entry.{Entry};
 ghost use Rattle.pr_history.specs.Admission.{IsLawful};
 ghost use Rattle.pr_history.specs.Lookback.{entries_until};
 ghost use Rattle.pr_range.specs.declared.fault.RangeFault.TheVariants.{Memory};
-ghost use Rattle.pr_range.specs.Asks.{AreMoved, HasArgument, IsAnswer, IsReady, LastAsks, MayAsk, Passed};
+ghost use Rattle.pr_range.specs.Asks.{AreMoved, HasArgument, IsAskAnswer, IsReadyToAsk, LastAsks, MayAsk, Passed};
 
 use crate::fault::RangeFault;
 use pr_head::Head;
@@ -43,11 +43,11 @@ pub trait Ranges {
         requires there { series < length head.now }
         requires ordered { ask.now.from ≤ℤ ask.now.to }
         requires argument { HasArgument ask.now }
-        ensures answer { (history : List Entry) (labels : List Pair) → MayAsk head.now history series labels ask.now → fits self.old history → IsReady (last self.old) node series ask.now
-            → IsAnswer history labels ask.now (passed self.old node series) reads.old reads.new result }
-        ensures fits { (history : List Entry) (labels : List Pair) → MayAsk head.now history series labels ask.now → fits self.old history → IsReady (last self.old) node series ask.now
+        ensures answer { (history : List Entry) (labels : List Pair) → MayAsk head.now history series labels ask.now → fits self.old history → IsReadyToAsk (last self.old) node series ask.now
+            → IsAskAnswer history labels ask.now (passed self.old node series) reads.old reads.new result }
+        ensures fits { (history : List Entry) (labels : List Pair) → MayAsk head.now history series labels ask.now → fits self.old history → IsReadyToAsk (last self.old) node series ask.now
             → result ≢ Err Memory → fits self.new history }
-        ensures moved { (history : List Entry) (labels : List Pair) → MayAsk head.now history series labels ask.now → fits self.old history → IsReady (last self.old) node series ask.now
+        ensures moved { (history : List Entry) (labels : List Pair) → MayAsk head.now history series labels ask.now → fits self.old history → IsReadyToAsk (last self.old) node series ask.now
             → result ≢ Err Memory → AreMoved keeps node series ask.now (entries_until history labels ask.now.to) (last self.old) (last self.new) (passed self.old) (passed self.new) };
 
     /// What is kept is true of each later history.

@@ -24,9 +24,9 @@ use Rattle.pr_vectors.specs.declared.range.AskFault.{AskFault}
 use Rattle.pr_vectors.specs.declared.range.AskFault.TheVariants as fault
 use Rattle.pr_range.specs.declared.fault.RangeFault.{RangeFault}
 use Rattle.pr_range.specs.declared.fault.RangeFault.TheVariants.{TooWide, RangeTooLong, Memory}
-use Rattle.pr_range.specs.Answers.{Answers}
+use Rattle.pr_range.specs.Answers.{AnswersAsk}
 use Rattle.pr_vectors.specs.Ranges.{ask_cost}
-use Rattle.pr_range.specs.Asks.{AreMoved, IsLater, IsReady, LastAsk, LastAsks, MayAsk, Passed, is_kept, passed_for, remembered}
+use Rattle.pr_range.specs.Asks.{AreMoved, IsLater, IsReadyToAsk, LastAsk, LastAsks, MayAsk, Passed, keeps_passed, passed_for, remembered}
 use Rattle.pr_range_calls.specs.declared.asking.Answer.{Answer}
 use Rattle.pr_range_calls.specs.Answering.{FaultIs, after, answer, answers_of, one_answer}
 use Rattle.pr_range_calls.specs.Asking.{AreAsked, AreOnce, MayAskEach, is_asked, is_number_among, numbers_cost}
@@ -76,13 +76,13 @@ pub asked_more : (history : List Entry) (keeps : Bool) (node s : ℕ) (a : Ask) 
     → AreAsked history keeps node a (numbers ++ s ∷ []) last last'' passed passed''
 asked_more history keeps node s a numbers last last' last'' passed passed' passed'' h moved = record {
   asks = λ k t.
-      moved.asks k t ∙ ap (λ l. cond (is_kept keeps a node s k t) (Some (remembered a)) l) (h.asks k t)
+      moved.asks k t ∙ ap (λ l. cond (keeps_passed keeps a node s k t) (Some (remembered a)) l) (h.asks k t)
       ∙ one_or_more keeps (not a.inside) (node == k) (is_number_among t numbers) (s == t) (Some (remembered a)) (last k t)
       ∙ ap (λ b. cond (keeps && (not a.inside && ((node == k) && b))) (Some (remembered a)) (last k t)) (sym (among_more t s numbers));
   passing = λ k t.
       moved.passing k t
       ∙ by_number (λ n. entries_until history (labels_at (arrivals history) n) a.to) keeps (not a.inside) (node == k) s t (passed' k t)
-      ∙ ap (λ l. cond (is_kept keeps a node s k t) (entries_until history (labels_at (arrivals history) t) a.to) l) (h.passing k t)
+      ∙ ap (λ l. cond (keeps_passed keeps a node s k t) (entries_until history (labels_at (arrivals history) t) a.to) l) (h.passing k t)
       ∙ one_or_more keeps (not a.inside) (node == k) (is_number_among t numbers) (s == t) (entries_until history (labels_at (arrivals history) t) a.to) (passed k t)
       ∙ ap (λ b. cond (keeps && (not a.inside && ((node == k) && b))) (entries_until history (labels_at (arrivals history) t) a.to) (passed k t)) (sym (among_more t s numbers));
 }
@@ -108,7 +108,7 @@ module _ (history : List Entry) (keeps : Bool) (node s : ℕ) (a : Ask) (numbers
       h.passing node s ∙ ap (λ b. cond b (entries_until history (labels_at (arrivals history) s) a.to) (passed node s)) (not_asked keeps (not a.inside) (node == node) (is_number_among s numbers) apart)
 
   -- a series that was not asked yet may be asked
-  pub still_ready : IsReady last node s a → is_number_among s numbers ≡ false → IsReady last' node s a
+  pub still_ready : IsReadyToAsk last node s a → is_number_among s numbers ≡ false → IsReadyToAsk last' node s a
   still_ready ready apart = λ outside.
       let later : IsLater last node s a = ready outside in
       record {
@@ -234,7 +234,7 @@ rising_step f numbers i done given within h = by given (subst (λ l. IsRising (m
   by (Some v) k = subst IsRising (sym (made_more f done (get_or numbers i 0) v (map f (drop (i + 1) numbers)))) k
 
 -- the first fault
-pub fault_here : (f : ℕ → Result (Option Num) AskFault) (numbers : List ℕ) (i : ℕ) (done : List Answer) (e : RangeFault) → i < length numbers → Answers (f (get_or numbers i 0)) (Err e)
+pub fault_here : (f : ℕ → Result (Option Num) AskFault) (numbers : List ℕ) (i : ℕ) (done : List Answer) (e : RangeFault) → i < length numbers → AnswersAsk (f (get_or numbers i 0)) (Err e)
     → after done (answers_of f (drop i numbers)) ≡ answers_of f numbers → FaultIs (answers_of f numbers) e
 fault_here f numbers i done TooWide within is so_far = sym so_far ∙ answers_fault f numbers i done fault.TooWide within is
 fault_here f numbers i done (RangeTooLong have) within is so_far = sym so_far ∙ answers_fault f numbers i done (fault.RangeTooLong have) within is

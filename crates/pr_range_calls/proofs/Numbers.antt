@@ -13,10 +13,10 @@ use Rattle.pr_head.proofs.Arrivals.{arrivals_apart, eq_from, eq_same}
 use Rattle.pr_vectors.specs.declared.range.Ask.{Ask}
 use Rattle.pr_vectors.specs.Ranges.{ask_cost}
 use Rattle.pr_range.specs.Asks.{passed_for}
-use Rattle.pr_range_calls.specs.Asking.{asks_cost, number_of, numbers_cost}
+use Rattle.pr_range_calls.specs.Asking.{asks_cost, series_number, numbers_cost}
 
 -- the number of the series that has a number
-number_at : (history : List Entry) (n : ℕ) → n < length (arrivals history) → number_of history (labels_at (arrivals history) n) ≡ n
+number_at : (history : List Entry) (n : ℕ) → n < length (arrivals history) → series_number history (labels_at (arrivals history) n) ≡ n
 number_at history n h =
     let sets = arrivals history in
     let here = slice_get-get_or sets n [] h in
@@ -34,19 +34,19 @@ number_at history n h =
 all_tail : (n : ℕ) (numbers : List ℕ) (m : ℕ) → All (λ i. i < m) (n ∷ numbers) → All (λ i. i < m) numbers
 all_tail n numbers m h = λ k d within. h (suc k) d (omega arith)
 
-pub numbers_are : (history : List Entry) (numbers : List ℕ) → All (λ i. i < length (arrivals history)) numbers → map (number_of history) (map (labels_at (arrivals history)) numbers) ≡ numbers
+pub numbers_are : (history : List Entry) (numbers : List ℕ) → All (λ i. i < length (arrivals history)) numbers → map (series_number history) (map (labels_at (arrivals history)) numbers) ≡ numbers
 numbers_are history [] h = refl
 numbers_are history (n ∷ numbers) h = λ i. number_at history n (h 0 0 (omega arith)) i ∷ numbers_are history numbers (all_tail n numbers (length (arrivals history)) h) i
 
 pub cost_is : (history : List Entry) (a : Ask) (p : ℕ → ℕ) (numbers : List ℕ) → All (λ i. i < length (arrivals history)) numbers
-    → asks_cost history a (λ labels. p (number_of history labels)) (map (labels_at (arrivals history)) numbers) ≡ numbers_cost history a p numbers
+    → asks_cost history a (λ labels. p (series_number history labels)) (map (labels_at (arrivals history)) numbers) ≡ numbers_cost history a p numbers
 cost_is history a p [] h = refl
 cost_is history a p (n ∷ numbers) h =
     let f = labels_at (arrivals history) in
-    let by_labels : List Pair → ℕ = λ labels. ask_cost history labels a (passed_for a (p (number_of history labels))) in
+    let by_labels : List Pair → ℕ = λ labels. ask_cost history labels a (passed_for a (p (series_number history labels))) in
     let by_number : ℕ → ℕ = λ m. ask_cost history (f m) a (passed_for a (p m)) in
     let first : by_labels (f n) ≡ by_number n = ap (λ m. ask_cost history (f n) a (passed_for a (p m))) (number_at history n (h 0 0 (omega arith))) in
-    let rest : asks_cost history a (λ labels. p (number_of history labels)) (map f numbers) ≡ numbers_cost history a p numbers = cost_is history a p numbers (all_tail n numbers (length (arrivals history)) h) in
+    let rest : asks_cost history a (λ labels. p (series_number history labels)) (map f numbers) ≡ numbers_cost history a p numbers = cost_is history a p numbers (all_tail n numbers (length (arrivals history)) h) in
     sum_by-cons by_labels (f n) (map f numbers) ∙ (λ i. first i + rest i) ∙ sym (sum_by-cons by_number n numbers)
 
 pub within_arrivals : (head : List (List Pair × Stored)) (history : List Entry) (numbers : List ℕ) → sets_of head ≡ arrivals history → All (λ i. i < length head) numbers → All (λ i. i < length (arrivals history)) numbers

@@ -29,7 +29,7 @@ use Rattle.pr_range.specs.Spots.{AreWithin}
 use Rattle.pr_fn.specs.Gathered.{of_key, with_key}
 use Rattle.pr_fn.proofs.Gathering.{gathered_more}
 use Rattle.pr_fn.proofs.LabelKeys.{labels_key}
-use Rattle.pr_range_calls.specs.Taken.{AreAllWithin, AreTaken, IsGathered, all_timed, entry_series, labels_in, series_in, spots_listed, spots_with, taken, timed, timed_in}
+use Rattle.pr_range_calls.specs.Taken.{AreAllWithin, AreTaken, IsGathered, all_timed, entry_series, spot_labels, series_in, spots_listed, spots_with, taken, item_at, timed_in}
 use Rattle.pr_range_calls.specs.Times.{AreTimesWithin}
 use Rattle.pr_range_calls.proofs.AskedSeries.{rising_without}
 use Rattle.pr_range_calls.proofs.ToldApart.{not_equal, skip}
@@ -42,8 +42,8 @@ spots_more (e ∷ es) x = ap (λ (l : List Spot). Some l) (sym (map-append (λ (
 pub one_gathered : (front : List (Item Spot)) (x : Item Spot) (m n : BTreeMap (List Pair) (List Spot)) → keys n ≡ with_key labels_cmp (keys m) x.labels
     → Updates labels_cmp m n x.labels (Some (spots_with (get labels_cmp m x.labels) x.value)) → IsOrdered labels_cmp n → IsGathered front m → IsGathered (front ++ x ∷ []) n
 one_gathered front x m n known u ordered h =
-    gathered_more labels_cmp same_labels labels_in spots_listed front x m n (spots_with (get labels_cmp m x.labels) x.value)
-    (ap (λ (o : Option (List Spot)). Some (spots_with o x.value)) (h.at x.labels) ∙ spots_more (of_key labels_cmp labels_in x.labels front) x)
+    gathered_more labels_cmp same_labels spot_labels spots_listed front x m n (spots_with (get labels_cmp m x.labels) x.value)
+    (ap (λ (o : Option (List Spot)). Some (spots_with o x.value)) (h.at x.labels) ∙ spots_more (of_key labels_cmp spot_labels x.labels front) x)
     known u ordered h
 
 -- one more time
@@ -56,27 +56,27 @@ vectors_more [] t h k (suc i) u at = cc
 vectors_more (s ∷ ts) t h k zero u at = h 0 u at
 vectors_more (s ∷ ts) t h k (suc i) u at = vectors_more ts t (λ j v e. h (suc j) v e) k i u at
 
-pub taken_more : (ts : List Taken) (time : ℕ) (items : List (Item Num)) (m n : BTreeMap (List Pair) (List Spot)) → AreTaken ts m → IsVector items → IsGathered (all_timed ts ++ map (timed time) items) n
+pub taken_more : (ts : List Taken) (time : ℕ) (items : List (Item Num)) (m n : BTreeMap (List Pair) (List Spot)) → AreTaken ts m → IsVector items → IsGathered (all_timed ts ++ map (item_at time) items) n
     → AreTaken (ts ++ taken time items ∷ []) n
 taken_more ts time items m n h vector gathered = record {
   gathered = subst (λ l. IsGathered l n) (sym (timed_more ts (taken time items))) gathered;
   vectors = vectors_more ts (taken time items) h.vectors vector;
 }
 
-timed_labels : (time : ℕ) (items : List (Item Num)) → map labels_in (map (timed time) items) ≡ label_sets items
+timed_labels : (time : ℕ) (items : List (Item Num)) → map spot_labels (map (item_at time) items) ≡ label_sets items
 timed_labels time [] = refl
 timed_labels time (e ∷ items) = ap (λ l. e.labels ∷ l) (timed_labels time items)
 
-all_labels : (ts : List Taken) → map labels_in (all_timed ts) ≡ flat_map (λ (t : Taken). label_sets t.items) ts
+all_labels : (ts : List Taken) → map spot_labels (all_timed ts) ≡ flat_map (λ (t : Taken). label_sets t.items) ts
 all_labels [] = refl
 all_labels (t ∷ ts) =
-    ap (map labels_in) (flat_map-cons timed_in t ts) ∙ map-append labels_in (timed_in t) (all_timed ts)
+    ap (map spot_labels) (flat_map-cons timed_in t ts) ∙ map-append spot_labels (timed_in t) (all_timed ts)
     ∙ (λ i. timed_labels t.time t.items i ++ all_labels ts i)
     ∙ sym (flat_map-cons (λ (u : Taken). label_sets u.items) t ts)
 
 keys_are : (ts : List Taken) (m : BTreeMap (List Pair) (List Spot)) → IsGathered (all_timed ts) m → in_label_order (flat_map (λ (t : Taken). label_sets t.items) ts) ≡ keys_of m.entries
 keys_are ts m h =
-    ap in_label_order (sym (all_labels ts)) ∙ (λ i. fold (λ known labels. labels_key known labels i) [] (map labels_in (all_timed ts))) ∙ sym h.known
+    ap in_label_order (sym (all_labels ts)) ∙ (λ i. fold (λ known labels. labels_key known labels i) [] (map spot_labels (all_timed ts))) ∙ sym h.known
 
 -- the values of a label set at one time
 abbrev value_of : Item Spot → Spot
@@ -85,37 +85,37 @@ value_of s = s.value
 abbrev found : ℕ → List Pair → List (Item Num) → Option Spot
 found time q items = option_map (λ (e : Item Num). spot_of time e.value) (find (λ (e : Item Num). labels_eq e.labels q) items)
 
-by_test : (q : List Pair) (front : List (Item Spot)) → of_key labels_cmp labels_in q front ≡ filter (λ (e : Item Spot). labels_eq e.labels q) front
+by_test : (q : List Pair) (front : List (Item Spot)) → of_key labels_cmp spot_labels q front ≡ filter (λ (e : Item Spot). labels_eq e.labels q) front
 by_test q front = λ i. filter (λ (e : Item Spot). tie e.labels q i) front
 
-none_of : (time : ℕ) (l : List Pair) (items : List (Item Num)) → IsRising (l ∷ label_sets items) → filter (λ (e : Item Spot). labels_eq e.labels l) (map (timed time) items) ≡ []
+none_of : (time : ℕ) (l : List Pair) (items : List (Item Num)) → IsRising (l ∷ label_sets items) → filter (λ (e : Item Spot). labels_eq e.labels l) (map (item_at time) items) ≡ []
 none_of time l [] h = refl
 none_of time l (e ∷ items) h =
-    ap (λ b. cond b (timed time e ∷ filter (λ (x : Item Spot). labels_eq x.labels l) (map (timed time) items)) (filter (λ (x : Item Spot). labels_eq x.labels l) (map (timed time) items))) (not_equal l e.labels h.0)
+    ap (λ b. cond b (item_at time e ∷ filter (λ (x : Item Spot). labels_eq x.labels l) (map (item_at time) items)) (filter (λ (x : Item Spot). labels_eq x.labels l) (map (item_at time) items))) (not_equal l e.labels h.0)
     ∙ none_of time l items (skip l e.labels (label_sets items) h)
 
 one_time : (time : ℕ) (q : List Pair) (items : List (Item Num)) (rest : List Spot) → IsVector items
-    → map value_of (filter (λ (e : Item Spot). labels_eq e.labels q) (map (timed time) items)) ++ rest ≡ cons_option (found time q items) rest
+    → map value_of (filter (λ (e : Item Spot). labels_eq e.labels q) (map (item_at time) items)) ++ rest ≡ cons_option (found time q items) rest
 one_time time q [] rest h = refl
 one_time time q (e ∷ items) rest h = by (labels_eq e.labels q) refl (one_time time q items rest h.1) where
   by : (b : Bool) → labels_eq e.labels q ≡ b
-      → map value_of (filter (λ (x : Item Spot). labels_eq x.labels q) (map (timed time) items)) ++ rest ≡ cons_option (found time q items) rest
-      → map value_of (cond b (timed time e ∷ filter (λ (x : Item Spot). labels_eq x.labels q) (map (timed time) items)) (filter (λ (x : Item Spot). labels_eq x.labels q) (map (timed time) items))) ++ rest
+      → map value_of (filter (λ (x : Item Spot). labels_eq x.labels q) (map (item_at time) items)) ++ rest ≡ cons_option (found time q items) rest
+      → map value_of (cond b (item_at time e ∷ filter (λ (x : Item Spot). labels_eq x.labels q) (map (item_at time) items)) (filter (λ (x : Item Spot). labels_eq x.labels q) (map (item_at time) items))) ++ rest
       ≡ cons_option (option_map (λ (x : Item Num). spot_of time x.value) (cond b (Some e) (find (λ (x : Item Num). labels_eq x.labels q) items))) rest
   by true here more =
       let same : e.labels ≡ q = (labels_decide e.labels q).0 here in
-      let none : filter (λ (x : Item Spot). labels_eq x.labels q) (map (timed time) items) ≡ [] = none_of time q items (subst (λ l. IsRising (l ∷ label_sets items)) same h) in
-      ap (λ l. map value_of (timed time e ∷ l) ++ rest) none
+      let none : filter (λ (x : Item Spot). labels_eq x.labels q) (map (item_at time) items) ≡ [] = none_of time q items (subst (λ l. IsRising (l ∷ label_sets items)) same h) in
+      ap (λ l. map value_of (item_at time e ∷ l) ++ rest) none
   by false apart more = more
 
 -- the values of a label set at all times
 all_times : (q : List Pair) (ts : List Taken) → ((i : ℕ) (t : Taken) → slice_get ts i ≡ Some t → IsVector t.items)
-    → map value_of (of_key labels_cmp labels_in q (all_timed ts)) ≡ filter_map (spot_taken q) ts
+    → map value_of (of_key labels_cmp spot_labels q (all_timed ts)) ≡ filter_map (spot_taken q) ts
 all_times q [] h = refl
 all_times q (t ∷ ts) h =
-    ap (λ l. map value_of (of_key labels_cmp labels_in q l)) (flat_map-cons timed_in t ts)
-    ∙ ap (map value_of) (filter-append (λ (x : Item Spot). is_at (labels_cmp (labels_in x)) q) (timed_in t) (all_timed ts))
-    ∙ map-append value_of (of_key labels_cmp labels_in q (timed_in t)) (of_key labels_cmp labels_in q (all_timed ts))
+    ap (λ l. map value_of (of_key labels_cmp spot_labels q l)) (flat_map-cons timed_in t ts)
+    ∙ ap (map value_of) (filter-append (λ (x : Item Spot). is_at (labels_cmp (spot_labels x)) q) (timed_in t) (all_timed ts))
+    ∙ map-append value_of (of_key labels_cmp spot_labels q (timed_in t)) (of_key labels_cmp spot_labels q (all_timed ts))
     ∙ (λ i. map value_of (by_test q (timed_in t) i) ++ all_times q ts (λ j u e. h (suc j) u e) i)
     ∙ one_time t.time q t.items (filter_map (spot_taken q) ts) (h 0 t refl)
 
@@ -132,7 +132,7 @@ pub series_taken_are : (ts : List Taken) (m : BTreeMap (List Pair) (List Spot)) 
 series_taken_are ts m h =
     sym (ap (map (series_taken ts)) (keys_are ts m h.gathered)
     ∙ series_are ts m.entries (λ i e s. sym (all_times e.0 ts h.vectors)
-    ∙ listed_are (of_key labels_cmp labels_in e.0 (all_timed ts)) e.1 (sym (h.gathered.at e.0) ∙ btree_map_get_place labels_total m i e.0 e.1 h.gathered.ordered s)))
+    ∙ listed_are (of_key labels_cmp spot_labels e.0 (all_timed ts)) e.1 (sym (h.gathered.at e.0) ∙ btree_map_get_place labels_total m i e.0 e.1 h.gathered.ordered s)))
 
 -- the values of a series rise and lie in the range
 lower : (from later to : ℤ) (spots : List Spot) → from ≤ℤ later → AreWithin later to spots → AreWithin from to spots

@@ -13,21 +13,21 @@ use Rattle.pr_query.specs.RangeCalls.{answers_over, over_ranges, question}
 use Rattle.pr_query.specs.Subqueries.{Taken}
 use Rattle.pr_range_calls.specs.declared.call.RangeCall.{RangeCall}
 use Rattle.pr_range_calls.specs.declared.of_subquery.SubqueryRange.{SubqueryRange}
-use Rattle.pr_range_calls.specs.Answering.{elements_of, named, told}
+use Rattle.pr_range_calls.specs.Answering.{elements_of, relabelled, fault_placed}
 use Rattle.pr_range_calls.specs.Taken.{AreTaken, ranged_of, series_in}
 use Rattle.pr_range_calls.proofs.Named.{after_answers_is, over_is}
 use Rattle.pr_range_calls.proofs.SeriesGathered.{series_taken_are}
 
 pub subquery_is : (call : RangeCall) (range : SubqueryRange) (ts : List Taken) (m : BTreeMap (List Pair) (List Spot)) → AreTaken ts m → over_ranges call.place call.func call.arg (ranged_of range ts)
-    ≡ go_on (λ items. function_at call.place (told_apart (named call.func items))) (told call.place range.place (elements_of (question call.func call.arg (ranged_of range ts)) (series_in m)))
+    ≡ go_on (λ items. function_at call.place (told_apart (relabelled call.func items))) (fault_placed call.place range.place (elements_of (question call.func call.arg (ranged_of range ts)) (series_in m)))
 subquery_is call range ts m h =
     over_is call.place call.func call.arg (ranged_of range ts)
-    ∙ ap (λ l. go_on (λ items. function_at call.place (told_apart (named call.func items))) (told call.place range.place (elements_of (question call.func call.arg (ranged_of range ts)) l))) (sym (series_taken_are ts m h))
+    ∙ ap (λ l. go_on (λ items. function_at call.place (told_apart (relabelled call.func items))) (fault_placed call.place range.place (elements_of (question call.func call.arg (ranged_of range ts)) l))) (sym (series_taken_are ts m h))
 
 pub absent_subquery_is : (labels : List Pair) (p : Place) (range : SubqueryRange) (ts : List Taken) (m : BTreeMap (List Pair) (List Spot)) → AreTaken ts m → let r = ranged_of range ts in
     go_on (λ items. vector_at (absent_of labels items)) (answers_over p r.place (question PresentOverTime None r) r.series)
-    ≡ go_on (λ items. vector_at (absent_of labels (named PresentOverTime items))) (told p range.place (elements_of (question PresentOverTime None r) (series_in m)))
+    ≡ go_on (λ items. vector_at (absent_of labels (relabelled PresentOverTime items))) (fault_placed p range.place (elements_of (question PresentOverTime None r) (series_in m)))
 absent_subquery_is labels p range ts m h =
     let r = ranged_of range ts in
     after_answers_is (λ items. vector_at (absent_of labels items)) p (question PresentOverTime None r) r.place r.series
-    ∙ ap (λ l. go_on (λ items. vector_at (absent_of labels (named PresentOverTime items))) (told p range.place (elements_of (question PresentOverTime None r) l))) (sym (series_taken_are ts m h))
+    ∙ ap (λ l. go_on (λ items. vector_at (absent_of labels (relabelled PresentOverTime items))) (fault_placed p range.place (elements_of (question PresentOverTime None r) l))) (sym (series_taken_are ts m h))

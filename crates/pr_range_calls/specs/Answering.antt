@@ -3,7 +3,6 @@ use Rattle.std.specs.Prelude.{◌≡◌, ◌++◌, ℕ, List, [], ◌∷◌, map
 use Rattle.pr_num.specs.declared.value.Num.{Num}
 use Rattle.pr_labels.specs.declared.pair.Pair.{Pair}
 use Rattle.pr_labels.specs.declared.item.Item.{Item}
-use Rattle.pr_labels.specs.SeriesText.{unnamed}
 use Rattle.pr_history.specs.declared.spot.Spot.{Spot}
 use Rattle.pr_vectors.specs.declared.range.Ask.{Ask}
 use Rattle.pr_vectors.specs.declared.range.AskFault.{AskFault}
@@ -40,19 +39,16 @@ abbrev pub elements_of : Ask → List (Item (List Spot)) → Result (List (Item 
 elements_of a [] = Ok []
 elements_of a (s ∷ series) = one_answer (element s.labels) (over a s.value) (elements_of a series)
 
-abbrev pub item_of : List (List Pair × Stored) → Answer → Item Num
-item_of head x = element (labels_of_series head x.series) x.value
+abbrev pub answer_element : List (List Pair × Stored) → Answer → Item Num
+answer_element head x = element (labels_of_series head x.series) x.value
 
 -- with the labels of the answers, and a fault at its place
-abbrev pub named : RangeFn → List (Item Num) → List (Item Num)
-named func items = map (λ e. element (answered_labels func e.labels) e.value) items
+abbrev pub relabelled : RangeFn → List (Item Num) → List (Item Num)
+relabelled func items = map (λ e. element (answered_labels func e.labels) e.value) items
 
-abbrev pub without_metric : Item Num → Item Num
-without_metric e = element (unnamed e.labels) e.value
-
-abbrev pub told : Place → Place → Result (List (Item Num)) AskFault → Result (List (Item Num)) Fault
-told p at (Ok items) = Ok items
-told p at (Err f) = Err (range_fault p at f)
+abbrev pub fault_placed : Place → Place → Result (List (Item Num)) AskFault → Result (List (Item Num)) Fault
+fault_placed p at (Ok items) = Ok items
+fault_placed p at (Err f) = Err (range_fault p at f)
 
 -- these before others
 abbrev pub after : {A : Type 0} → List A → Result (List A) AskFault → Result (List A) AskFault

@@ -16,7 +16,7 @@ use Rattle.pr_vectors.specs.declared.range.RangeFn.{RangeFn}
 use Rattle.pr_vectors.specs.declared.range.RangeFn.TheVariants.{PresentOverTime}
 use Rattle.pr_vectors.specs.Ranges.{ask_cost}
 use Rattle.pr_query.specs.Selection.{chosen_by, moment_of}
-use Rattle.pr_range.specs.Asks.{IsReady, LastAsks, Passed, passed_for, remembered}
+use Rattle.pr_range.specs.Asks.{IsReadyToAsk, LastAsks, Passed, passed_for, remembered}
 use Rattle.pr_range_calls.specs.declared.call.RangeCall.{RangeCall}
 use Rattle.pr_range_calls.specs.declared.call.RangeAt.{RangeAt}
 
@@ -33,22 +33,22 @@ pub record MayAskEach (head : List (List Pair × Stored)) (history : List Entry)
   pub holds : Holds head history
   pub whole : IsWhole head history a.from
   pub fits : Fits
-  pub ready : (s : ℕ) → IsReady last node s a
+  pub ready : (s : ℕ) → IsReadyToAsk last node s a
 
 -- the number of a series of the history, by first arrival, and those of the series that a selector
 -- chooses, in label order
-abbrev pub number_of : List Entry → List Pair → ℕ
-number_of history labels = position_or_len (labels_eq labels) (arrivals history)
+abbrev pub series_number : List Entry → List Pair → ℕ
+series_number history labels = position_or_len (labels_eq labels) (arrivals history)
 
 abbrev pub numbers_chosen : List Entry → Selector → List ℕ
-numbers_chosen history s = map (number_of history) (chosen_by s history)
+numbers_chosen history s = map (series_number history) (chosen_by s history)
 
 abbrev pub is_number_among : ℕ → List ℕ → Bool
 is_number_among s numbers = list_any (λ n. n == s) numbers
 
 -- how many samples of a series were passed for a node, by the labels of the series
 abbrev pub passed_by : List Entry → Passed → ℕ → List Pair → ℕ
-passed_by history passed node labels = passed node (number_of history labels)
+passed_by history passed node labels = passed node (series_number history labels)
 
 -- how many samples of these series may be read, where so many of each were passed
 abbrev pub asks_cost : List Entry → Ask → (List Pair → ℕ) → List (List Pair) → ℕ

@@ -19,17 +19,17 @@ abbrev pub taken : ℕ → List (Item Num) → Taken
 taken time items = record { time = time; items = items }
 
 -- the elements of one time and of many, each with its time
-abbrev pub timed : ℕ → Item Num → Item Spot
-timed time e = record { labels = e.labels; value = spot_of time e.value }
+abbrev pub item_at : ℕ → Item Num → Item Spot
+item_at time e = record { labels = e.labels; value = spot_of time e.value }
 
 abbrev pub timed_in : Taken → List (Item Spot)
-timed_in t = map (timed t.time) t.items
+timed_in t = map (item_at t.time) t.items
 
 abbrev pub all_timed : List Taken → List (Item Spot)
 all_timed ts = flat_map timed_in ts
 
-abbrev pub labels_in : Item Spot → List Pair
-labels_in e = e.labels
+abbrev pub spot_labels : Item Spot → List Pair
+spot_labels e = e.labels
 
 -- the values of some elements
 abbrev pub spots_listed : List (Item Spot) → Option (List Spot)
@@ -42,7 +42,7 @@ spots_with (Some spots) s = spots ++ s ∷ []
 
 -- A map has the values of each label set that came at one of these times, in order of the times.
 abbrev pub IsGathered : List (Item Spot) → BTreeMap (List Pair) (List Spot) → Type 0
-IsGathered front series = AreGathered labels_cmp labels_in spots_listed front series
+IsGathered front series = AreGathered labels_cmp spot_labels spots_listed front series
 
 pub record AreTaken (ts : List Taken) (series : BTreeMap (List Pair) (List Spot)) : Type 0 where
   pub gathered : IsGathered (all_timed ts) series

@@ -6,16 +6,17 @@ ghost use Rattle.pr_labels.specs.declared.item.Item.{Item};
 ghost use Rattle.pr_vectors.specs.declared.range.AskFault.{AskFault};
 ghost use Rattle.pr_vectors.specs.Functions.{told_apart};
 ghost use Rattle.pr_vectors.specs.Vectors.{IsVector, element};
+ghost use Rattle.pr_fn.specs.Rows.{without_metric};
 ghost use Rattle.pr_query.specs.declared.fault.Fault.{Fault};
 ghost use Rattle.pr_query.specs.declared.value.Value.{Value};
 ghost use Rattle.pr_query.specs.Absence.{absent_of};
 ghost use Rattle.pr_query.specs.Answers.{IsAnswer, function_at, go_on};
 ghost use Rattle.pr_query.specs.Calls.{vector_at};
 ghost use Rattle.pr_values.specs.Answers.{AnswersTo};
-ghost use Rattle.pr_range_calls.specs.Answering.{FaultIs, named, told, without_metric};
+ghost use Rattle.pr_range_calls.specs.Answering.{FaultIs, relabelled, fault_placed};
 
 use pr_ast::Place;
-use pr_fn::map_values;
+use pr_fn::without_metrics;
 use pr_labels::{Item, Labels};
 use pr_num::Num;
 use pr_query::{FaultKind, Value};
@@ -33,7 +34,7 @@ fn fault_at(place: Place, kind: FaultKind) -> EvalError
 /// A fault of a range, at the place of the call or of the range.
 pub(crate) fn error_of(place: Place, range_place: Place, fault: RangeFault) -> EvalError
     ensures told { (meant : Result (List (Item Num)) AskFault) (next : List (Item Num) → Result Value Fault) → FaultIs meant fault
-        → AnswersTo (go_on next (told place range_place meant)) (Err result) }
+        → AnswersTo (go_on next (fault_placed place range_place meant)) (Err result) }
     ensures memory { fault ≡ RangeFault.Memory → result ≡ EvalError.Memory }
 {
     match fault {
@@ -51,8 +52,7 @@ fn unnamed(alloc: Global, place: Place, items: &[Item<Num>]) -> Result<Value, Ev
     ensures answer { AnswersTo (function_at place (told_apart (map without_metric items.now))) result }
     ensures vector { IfOk result IsAnswer }
 {
-    let made = map_values(alloc, items, &|v: Num| Ok(v));
-    made_at(place, made)
+    made_at(place, without_metrics(alloc, items))
 }
 
 /// The answers of all series, told apart by the labels that the function leaves them.
@@ -63,7 +63,7 @@ pub(crate) fn finished(
     items: Vec<Item<Num>>,
 ) -> Result<Value, EvalError>
     requires { IsVector items.items }
-    ensures answer { AnswersTo (function_at place (told_apart (named func items.items))) result }
+    ensures answer { AnswersTo (function_at place (told_apart (relabelled func items.items))) result }
     ensures vector { IfOk result IsAnswer }
 {
     match func {

@@ -8,7 +8,7 @@ ghost use Rattle.pr_history.specs.Lookback.{spot_of};
 ghost use Rattle.pr_vectors.specs.Vectors.{IsVector};
 ghost use Rattle.pr_fn.specs.Gathered.{with_key};
 ghost use Rattle.pr_query.specs.Subqueries.{Taken};
-ghost use Rattle.pr_range_calls.specs.Taken.{AreTaken, IsGathered, spots_with, taken, timed, timed_in};
+ghost use Rattle.pr_range_calls.specs.Taken.{AreTaken, IsGathered, spots_with, taken, item_at, timed_in};
 
 use pr_history::Spot;
 use pr_labels::{Item, Labels};
@@ -85,7 +85,7 @@ fn take_one(
     item: Item<Num>,
 ) -> Result<(), AllocError>
     requires { IsOrdered labels_cmp series.old }
-    ensures gathered { (front : List (Item Spot)) → IsGathered front series.old → OnOk result (IsGathered (front ++ timed time item ∷ []) series.new) }
+    ensures gathered { (front : List (Item Spot)) → IsGathered front series.old → OnOk result (IsGathered (front ++ item_at time item ∷ []) series.new) }
     ensures ordered { OnOk result (IsOrdered labels_cmp series.new) }
 {
     let Item { labels, value } = item;

@@ -14,7 +14,7 @@ ghost use Rattle.pr_vectors.specs.Vectors.{IsVector};
 ghost use Rattle.pr_range.specs.Asks.{HasArgument, takes_argument};
 ghost use Rattle.pr_values.specs.declared.error.EvalError.TheVariants.{Memory};
 ghost use Rattle.pr_values.specs.Answers.{AnswersTo};
-ghost use Rattle.pr_range_calls.specs.Answering.{FaultIs, elements_of, item_of};
+ghost use Rattle.pr_range_calls.specs.Answering.{FaultIs, elements_of, answer_element};
 ghost use Rattle.pr_range_calls.specs.Asking.{AreAsked, MayAskEach, asked_by, asks_cost, numbers_chosen, passed_by, presence};
 
 use crate::asking::{Answer, ask_each};
@@ -48,9 +48,9 @@ fn asked_by(call: &RangeCall, range: &RangeAt<'_>) -> Ask
     }
 }
 
-fn item_of(alloc: Global, head: &Head, answer: &Answer) -> Result<Item<Num>, AllocError>
+fn answer_element(alloc: Global, head: &Head, answer: &Answer) -> Result<Item<Num>, AllocError>
     requires { answer.now.series < length head.now }
-    ensures { IfOk result (λ e. e ≡ item_of head.now answer.now) }
+    ensures { IfOk result (λ e. e ≡ answer_element head.now answer.now) }
 {
     Ok(Item {
         labels: labels_of_series(head, answer.series).copy(alloc)?,
@@ -61,11 +61,11 @@ fn item_of(alloc: Global, head: &Head, answer: &Answer) -> Result<Item<Num>, All
 // The answers with the labels of their series.
 fn items_of(alloc: Global, head: &Head, answers: &[Answer]) -> Result<Vec<Item<Num>>, AllocError>
     requires { All (λ x. x.series < length head.now) answers.now }
-    ensures { IfOk result (λ v. v.items ≡ map (item_of head.now) answers.now) }
+    ensures { IfOk result (λ v. v.items ≡ map (answer_element head.now) answers.now) }
 {
     let mut items = Vec::new(alloc);
     for answer in answers {
-        items.push(item_of(alloc, head, answer)?)?;
+        items.push(answer_element(alloc, head, answer)?)?;
     }
     Ok(items)
 }
@@ -84,9 +84,9 @@ fn answers_to<R: Ranges, G: Ledger>(
     requires argument { HasArgument ask.now }
     ensures answer { (history : List Entry) → MayAskEach head.now history ask.now (R.fits ranges.old history) (R.last ranges.old) range.now.node
         → let meant = elements_of ask.now (map (series_within history ask.now.from ask.now.to) (chosen_by range.now.selector.now history)) in
-        MatchResult result (λ v. meant ≡ Ok (map (item_of head.now) v.items)) (FaultIs meant) }
+        MatchResult result (λ v. meant ≡ Ok (map (answer_element head.now) v.items)) (FaultIs meant) }
     ensures known { IfOk result (λ v. All (λ x. x.series < length head.now) v.items) }
-    ensures vector { IfOk result (λ v. IsVector (map (item_of head.now) v.items)) }
+    ensures vector { IfOk result (λ v. IsVector (map (answer_element head.now) v.items)) }
     ensures reads { (history : List Entry) → MayAskEach head.now history ask.now (R.fits ranges.old history) (R.last ranges.old) range.now.node
         → reads.new ≤ reads.old + asks_cost history ask.now (passed_by history (R.passed ranges.old) range.now.node) (chosen_by range.now.selector.now history) }
     ensures fits { (history : List Entry) → MayAskEach head.now history ask.now (R.fits ranges.old history) (R.last ranges.old) range.now.node
@@ -117,9 +117,9 @@ fn answers<R: Ranges, G: Ledger>(
     requires argument { is_some call.now.arg ≡ takes_argument call.now.func }
     ensures answer { (history : List Entry) → MayAskEach head.now history (asked_by call.now range.now) (R.fits ranges.old history) (R.last ranges.old) range.now.node
         → let a = asked_by call.now range.now in let meant = elements_of a (map (series_within history a.from a.to) (chosen_by range.now.selector.now history)) in
-        MatchResult result (λ v. meant ≡ Ok (map (item_of head.now) v.items)) (FaultIs meant) }
+        MatchResult result (λ v. meant ≡ Ok (map (answer_element head.now) v.items)) (FaultIs meant) }
     ensures known { IfOk result (λ v. All (λ x. x.series < length head.now) v.items) }
-    ensures vector { IfOk result (λ v. IsVector (map (item_of head.now) v.items)) }
+    ensures vector { IfOk result (λ v. IsVector (map (answer_element head.now) v.items)) }
     ensures reads { (history : List Entry) → MayAskEach head.now history (asked_by call.now range.now) (R.fits ranges.old history) (R.last ranges.old) range.now.node
         → reads.new ≤ reads.old + asks_cost history (asked_by call.now range.now) (passed_by history (R.passed ranges.old) range.now.node) (chosen_by range.now.selector.now history) }
     ensures fits { (history : List Entry) → MayAskEach head.now history (asked_by call.now range.now) (R.fits ranges.old history) (R.last ranges.old) range.now.node

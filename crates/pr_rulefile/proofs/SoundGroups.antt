@@ -25,7 +25,7 @@ use Rattle.pr_fields.specs.Problems.{problem, by_text, by_items, by_fields, unle
 use Rattle.pr_fields.specs.Scalars.{any_text, if_short, short_span, limit_of, span_under, limit_under}
 use Rattle.pr_fields.specs.Labels.{labels_problems}
 use Rattle.pr_rulefile.specs.Fields.{group_field}
-use Rattle.pr_rulefile.specs.Expressions.{expression_under, tree_in}
+use Rattle.pr_rulefile.specs.Expressions.{expression_under, tree_found}
 use Rattle.pr_rulefile.specs.Rules.{naming_by, naming_of, is_alert, rule_problems, rule_in_problems, Rule, rule_with, rule_in, rule_by, rule_of}
 use Rattle.pr_rulefile.specs.Groups.{name_in, group_name, no_name, and_name, by_name, group_name_problems, is_alert_rule, has_alerts, group_value_problems, by_group_field, group_field_problems, group_in_problems, group_problems, name_of, groups_problems, Group, rules_by, rules_under, group_in, group_by, group_of}
 use Rattle.pr_rulefile.specs.File.{groups_value_problems, file_field_problems, file_problems, groups_under, file_groups, gives_file, by_problems, by_reading, rule_file_of}
@@ -54,14 +54,14 @@ one_rule : (group : List EntryTree) (t : Tree) (rest : List Rule) → AllByRecur
     (is_alert_rule t ≡ true → has_alerts group ≡ true) → rule_problems t ≡ [] → AllByRecursion IsSound rest → AllByRecursion IsSound (cons_option (rule_of group t) rest)
 unfolding rule_problems rule_of rule_in
 one_rule group t rest g a h all = by (fields_of t) refl h where
-  made : (es : List EntryTree) (o : Option Expression) → fields_of t ≡ Some es → rule_in_problems (line_of t) es ≡ [] → tree_in (expression_under (line_of t) (written (codes "expr") es)) ≡ o →
+  made : (es : List EntryTree) (o : Option Expression) → fields_of t ≡ Some es → rule_in_problems (line_of t) es ≡ [] → tree_found (expression_under (line_of t) (written (codes "expr") es)) ≡ o →
       AllByRecursion IsSound (cons_option (option_map (rule_with group es) o) rest)
   made es None q h e = all
   made es (Some x) q h e = (sound_rule (has_alerts group) group es (line_of t) x g (λ n. a (alert_there t es q n)) h e, all)
 
   by : (o : Option (List EntryTree)) → fields_of t ≡ o → by_fields (rule_in_problems (line_of t)) (line_of t) o ≡ [] → AllByRecursion IsSound (cons_option (rule_by group (line_of t) o) rest)
   by None q h = cc
-  by (Some es) q h = made es (tree_in (expression_under (line_of t) (written (codes "expr") es))) q h refl
+  by (Some es) q h = made es (tree_found (expression_under (line_of t) (written (codes "expr") es))) q h refl
 
 each_rule : (group : List EntryTree) (ts : List Tree) → AllByRecursion (IsFine (has_alerts group)) (fields_under (field (codes "labels") group)) →
     AllByRecursion (λ t. is_alert_rule t ≡ true → has_alerts group ≡ true) ts → flat_map rule_problems ts ≡ [] → AllByRecursion IsSound (filter_map (rule_of group) ts)

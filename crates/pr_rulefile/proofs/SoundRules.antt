@@ -20,7 +20,7 @@ use Rattle.pr_fields.specs.Problems.{by_text, by_fields, unless_absent}
 use Rattle.pr_fields.specs.Scalars.{any_text, if_short, short_span, span_under}
 use Rattle.pr_fields.specs.Labels.{labels_problems, put_labels, pairs_of, HaveFreeNames, AreTemplates}
 use Rattle.pr_rulefile.specs.Fields.{rule_field}
-use Rattle.pr_rulefile.specs.Expressions.{typed_tree, parsed_tree, expression, on_line, by_written, expression_under, problems_of, tree_in}
+use Rattle.pr_rulefile.specs.Expressions.{typed_tree, parsed_tree, typed_expression, on_line, by_written, expression_under, expression_problems, tree_found}
 use Rattle.pr_rulefile.specs.Rules.{naming_by, naming_of, is_alert, naming_problems, recorded_problems, rule_value_problems, by_rule_field, rule_field_problems, rule_in_problems, rule_problems, Rule, name_key, rule_labels, rule_notes, rule_with}
 use Rattle.pr_rulefile.specs.Sound.{IsNamed, IsTyped}
 use Rattle.pr_fields.proofs.NoProblems.{left, right, none, unless, field_stands, written_stands}
@@ -88,25 +88,25 @@ alerting es n all = by (written (codes "alert") es) refl (by_second (is_some (wr
       text_there (line_of v) (text_of v) st.1 (subst (λ t. by_text any_text (line_of t) (text_of t) ≡ []) st.0.value fine)
 
 -- the expression
-typed_text : (text : List ℕ) (line : ℕ) (t : Expression) → tree_in (on_line line (expression text)) ≡ Some t → IsTyped t
-unfolding expression
+typed_text : (text : List ℕ) (line : ℕ) (t : Expression) → tree_found (on_line line (typed_expression text)) ≡ Some t → IsTyped t
+unfolding typed_expression
 typed_text text line t h = by (parsed text) refl h where
-  in_tree : (u : Expression) (r : Result ValueType TypeFault) → parsed text ≡ gives_tree u → checked u ≡ r → tree_in (on_line line (typed_tree u r)) ≡ Some t → IsTyped t
+  in_tree : (u : Expression) (r : Result ValueType TypeFault) → parsed text ≡ gives_tree u → checked u ≡ r → tree_found (on_line line (typed_tree u r)) ≡ Some t → IsTyped t
   in_tree u (Ok type) p c h =
       let same : u ≡ t = cc in
       (text, type, p ∙ ap gives_tree same, ap checked (sym same) ∙ c)
   in_tree u (Err f) p c h = cc
 
-  by : (p : Parsed) → parsed text ≡ p → tree_in (on_line line (parsed_tree p)) ≡ Some t → IsTyped t
+  by : (p : Parsed) → parsed text ≡ p → tree_found (on_line line (parsed_tree p)) ≡ Some t → IsTyped t
   by (gives_tree u) p h = in_tree u (checked u) p refl h
   by (gives_lex_fault at kind) p h = cc
   by (gives_fault at kind) p h = cc
 
-typed_under : (line : ℕ) (o : Option Tree) (t : Expression) → tree_in (expression_under line o) ≡ Some t → IsTyped t
+typed_under : (line : ℕ) (o : Option Tree) (t : Expression) → tree_found (expression_under line o) ≡ Some t → IsTyped t
 unfolding expression_under
 typed_under line None t h = cc
 typed_under line (Some n) t h = by (text_of n) h where
-  by : (o : Option (List ℕ)) → tree_in (by_written (line_of n) o) ≡ Some t → IsTyped t
+  by : (o : Option (List ℕ)) → tree_found (by_written (line_of n) o) ≡ Some t → IsTyped t
   by None h = cc
   by (Some text) h = typed_text text (line_of n) t h
 
@@ -219,14 +219,14 @@ sound_by group es line t Alert q w all g typed =
     }
 
 pub sound_rule : (alerts : Bool) (group es : List EntryTree) (line : ℕ) (t : Expression) → AllByRecursion (IsFine alerts) (fields_under (field (codes "labels") group)) →
-    (is_alert (naming_of es) ≡ true → alerts ≡ true) → rule_in_problems line es ≡ [] → tree_in (expression_under line (written (codes "expr") es)) ≡ Some t → IsSound (rule_with group es t)
+    (is_alert (naming_of es) ≡ true → alerts ≡ true) → rule_in_problems line es ≡ [] → tree_found (expression_under line (written (codes "expr") es)) ≡ Some t → IsSound (rule_with group es t)
 unfolding rule_in_problems rule_with
 sound_rule alerts group es line t g a h typed =
     let n = naming_of es in
     let under = expression_under line (written (codes "expr") es) in
     let rest = flat_map (rule_field_problems n) es in
-    let later = right (naming_problems line n) (problems_of under ++ rest) h in
-    sound_by group es line t n refl (left (naming_problems line n) (problems_of under ++ rest) h) (none (rule_field_problems n) es (right (problems_of under) rest later))
+    let later = right (naming_problems line n) (expression_problems under ++ rest) h in
+    sound_by group es line t n refl (left (naming_problems line n) (expression_problems under ++ rest) h) (none (rule_field_problems n) es (right (expression_problems under) rest later))
     (fine_fewer alerts (is_alert n) (fields_under (field (codes "labels") group)) a g)
     (typed_under line (written (codes "expr") es) t typed)
 
@@ -244,4 +244,4 @@ one_of_both t h = by (fields_of t) h where
   by None h = cc
   by (Some es) h =
       one_by (line_of t) (is_some (written (codes "record") es)) (is_some (written (codes "alert") es))
-      (left (naming_problems (line_of t) (naming_of es)) (problems_of (expression_under (line_of t) (written (codes "expr") es)) ++ flat_map (rule_field_problems (naming_of es)) es) h)
+      (left (naming_problems (line_of t) (naming_of es)) (expression_problems (expression_under (line_of t) (written (codes "expr") es)) ++ flat_map (rule_field_problems (naming_of es)) es) h)

@@ -8,7 +8,7 @@ use Rattle.pr_yaml.specs.Tree.{Tree, EntryTree}
 use Rattle.pr_fields.specs.declared.problem.Problem.{Problem}
 use Rattle.pr_fields.specs.Nodes.{line_of, fields_of, written}
 use Rattle.pr_fields.specs.Problems.{by_fields}
-use Rattle.pr_rulefile.specs.Expressions.{expression_under, problems_of, tree_in}
+use Rattle.pr_rulefile.specs.Expressions.{expression_under, expression_problems, tree_found}
 use Rattle.pr_rulefile.specs.Rules.{naming_of, naming_problems, rule_field_problems, rule_in_problems, rule_problems, rule_in, rule_by, rule_of, rule_with}
 use Rattle.pr_rulefile.specs.Groups.{group_in_problems, group_problems, group_by, group_of}
 
@@ -18,7 +18,7 @@ middle [] [] zs h = refl
 middle [] (y ∷ ys) zs h = cc
 middle (x ∷ xs) ys zs h = cc
 
-some_tree : (group es : List EntryTree) (r : Result Expression Problem) → problems_of r ≡ [] → IsSome (option_map (rule_with group es) (tree_in r))
+some_tree : (group es : List EntryTree) (r : Result Expression Problem) → expression_problems r ≡ [] → IsSome (option_map (rule_with group es) (tree_found r))
 some_tree group es (Ok t) h = refl
 some_tree group es (Err p) h = cc
 
@@ -26,7 +26,7 @@ by_rule : (group : List EntryTree) (line : ℕ) (o : Option (List EntryTree)) �
 unfolding rule_in_problems rule_in
 by_rule group line (Some es) h =
     some_tree group es (expression_under line (written (codes "expr") es))
-    (middle (naming_problems line (naming_of es)) (problems_of (expression_under line (written (codes "expr") es))) (flat_map (rule_field_problems (naming_of es)) es) h)
+    (middle (naming_problems line (naming_of es)) (expression_problems (expression_under line (written (codes "expr") es))) (flat_map (rule_field_problems (naming_of es)) es) h)
 by_rule group line None h = cc
 
 pub rule_there : (group : List EntryTree) (t : Tree) → rule_problems t ≡ [] → IsSome (rule_of group t)

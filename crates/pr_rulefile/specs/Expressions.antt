@@ -6,31 +6,32 @@ use Rattle.pr_parse.specs.Parsed.{Parsed, gives_tree, gives_lex_fault, gives_fau
 use Rattle.pr_types.specs.declared.kind.ValueType.{ValueType}
 use Rattle.pr_types.specs.declared.kind.TypeFault.{TypeFault}
 use Rattle.pr_types.specs.Typed.{checked}
+use Rattle.pr_kinds.specs.declared.kind.QueryKind.TheVariants.{Lex, Parse, Typing}
 use Rattle.pr_yaml.specs.Tree.{Tree as Node}
 use Rattle.pr_fields.specs.declared.problem.Problem.{Problem}
 use Rattle.pr_fields.specs.declared.problem.ProblemKind.{ProblemKind}
-use Rattle.pr_fields.specs.declared.problem.ProblemKind.TheVariants.{WantText, Missing, Lex, Parse, Typing}
+use Rattle.pr_fields.specs.declared.problem.ProblemKind.TheVariants.{WantText, Missing, Expression}
 use Rattle.pr_fields.specs.Nodes.{line_of, text_of}
 use Rattle.pr_fields.specs.Problems.{problem}
 
 -- a tree that has a type, or its first fault
 abbrev pub typed_tree : Tree → Result ValueType TypeFault → Result Tree ProblemKind
 typed_tree t (Ok v) = Ok t
-typed_tree t (Err f) = Err (Typing f.kind f.at)
+typed_tree t (Err f) = Err (Expression (Typing f.kind) f.at)
 
 abbrev pub parsed_tree : Parsed → Result Tree ProblemKind
 parsed_tree (gives_tree t) = typed_tree t (checked t)
-parsed_tree (gives_lex_fault at kind) = Err (Lex kind at)
-parsed_tree (gives_fault at kind) = Err (Parse kind at)
+parsed_tree (gives_lex_fault at kind) = Err (Expression (Lex kind) at)
+parsed_tree (gives_fault at kind) = Err (Expression (Parse kind) at)
 
 -- The tree of a text that is an expression with a type; else what is wrong with it first.
-unfoldable pub expression : List ℕ → Result Tree ProblemKind
-expression text = parsed_tree (parsed text)
+unfoldable pub typed_expression : List ℕ → Result Tree ProblemKind
+typed_expression text = parsed_tree (parsed text)
 
 -- what the code's answer says
-abbrev pub seen : Result Expr ProblemKind → Result Tree ProblemKind
-seen (Ok e) = Ok (tree_of e)
-seen (Err kind) = Err kind
+abbrev pub tree_answered : Result Expr ProblemKind → Result Tree ProblemKind
+tree_answered (Ok e) = Ok (tree_of e)
+tree_answered (Err kind) = Err kind
 
 -- the same for the value of a field, which has to be there
 abbrev pub on_line : ℕ → Result Tree ProblemKind → Result Tree Problem
@@ -38,7 +39,7 @@ on_line line (Ok t) = Ok t
 on_line line (Err kind) = Err (problem line kind)
 
 abbrev pub by_written : ℕ → Option (List ℕ) → Result Tree Problem
-by_written line (Some text) = on_line line (expression text)
+by_written line (Some text) = on_line line (typed_expression text)
 by_written line None = Err (problem line WantText)
 
 unfoldable pub expression_under : ℕ → Option Node → Result Tree Problem
@@ -46,10 +47,10 @@ expression_under line None = Err (problem line (Missing (codes "expr")))
 expression_under line (Some n) = by_written (line_of n) (text_of n)
 
 -- the one problem, if there is one, and the tree
-abbrev pub problems_of : Result Tree Problem → List Problem
-problems_of (Ok t) = []
-problems_of (Err p) = p ∷ []
+abbrev pub expression_problems : Result Tree Problem → List Problem
+expression_problems (Ok t) = []
+expression_problems (Err p) = p ∷ []
 
-abbrev pub tree_in : Result Tree Problem → Option Tree
-tree_in (Ok t) = Some t
-tree_in (Err p) = None
+abbrev pub tree_found : Result Tree Problem → Option Tree
+tree_found (Ok t) = Some t
+tree_found (Err p) = None

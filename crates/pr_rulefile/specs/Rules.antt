@@ -18,7 +18,7 @@ use Rattle.pr_rulefile.specs.declared.fields.Naming.{Naming}
 use Rattle.pr_rulefile.specs.declared.fields.Naming.TheVariants.{Neither, Record, Alert, Both}
 use Rattle.pr_rulefile.specs.declared.rules.RuleDef.{RuleDef}
 use Rattle.pr_rulefile.specs.Fields.{rule_field}
-use Rattle.pr_rulefile.specs.Expressions.{expression_under, problems_of, tree_in}
+use Rattle.pr_rulefile.specs.Expressions.{expression_under, expression_problems, tree_found}
 
 -- which of `record` and `alert` a rule has; an empty one is none
 abbrev pub naming_by : Bool → Bool → Naming
@@ -73,7 +73,7 @@ rule_field_problems naming e = by_rule_field naming e (rule_field e.key)
 -- its fields one after the other.
 unfoldable pub rule_in_problems : ℕ → List EntryTree → List Problem
 rule_in_problems line es =
-    naming_problems line (naming_of es) ++ (problems_of (expression_under line (written (codes "expr") es)) ++ flat_map (rule_field_problems (naming_of es)) es)
+    naming_problems line (naming_of es) ++ (expression_problems (expression_under line (written (codes "expr") es)) ++ flat_map (rule_field_problems (naming_of es)) es)
 
 unfoldable pub rule_problems : Tree → List Problem
 rule_problems t = by_fields (rule_in_problems (line_of t)) (line_of t) (fields_of t)
@@ -114,7 +114,7 @@ rule_with group es expr = record {
 
 -- The rule that a map of a group with these fields is. A node is none without an expression.
 unfoldable pub rule_in : List EntryTree → ℕ → List EntryTree → Option Rule
-rule_in group line es = option_map (rule_with group es) (tree_in (expression_under line (written (codes "expr") es)))
+rule_in group line es = option_map (rule_with group es) (tree_found (expression_under line (written (codes "expr") es)))
 
 abbrev pub rule_by : List EntryTree → ℕ → Option (List EntryTree) → Option Rule
 rule_by group line (Some es) = rule_in group line es

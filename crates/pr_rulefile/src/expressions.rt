@@ -4,37 +4,52 @@ ghost use Rattle.std.specs.Option.{option_map};
 ghost use Rattle.pr_ast.specs.Tree.{tree_of as expression_tree};
 ghost use Rattle.pr_types.specs.Typed.{checked};
 ghost use Rattle.pr_yaml.specs.Tree.{tree_of, entry_tree_of};
+ghost use Rattle.pr_fields.specs.declared.problem.ProblemKind.TheVariants.{Expression};
 ghost use Rattle.pr_fields.specs.Nodes.{line_of, text_of, written};
-ghost use Rattle.pr_rulefile.specs.Expressions.{typed_tree, expression, seen, by_written, expression_under, problems_of, tree_in};
+ghost use Rattle.pr_rulefile.specs.Expressions.{typed_tree, typed_expression, tree_answered, by_written, expression_under, expression_problems, tree_found};
 
 use pr_ast::Expr;
 use pr_fields::{Problem, ProblemKind, line_of, push, push_missing, text_of, written};
+use pr_kinds::QueryKind;
 use pr_parse::{ParseError, parse};
 use pr_types::{Checked, TypeError, check};
 use pr_yaml::{Entry, Node};
 use std::alloc::{AllocError, Global};
 
+// What is wrong with a text that is no expression, from this byte on.
+fn no_expression(kind: QueryKind, at: usize) -> ProblemKind
+    ensures { result ≡ Expression kind at }
+{
+    ProblemKind::Expression { kind, at }
+}
+
 /// A tree that has a type, or its first fault.
 #[tactic(auto, using(crate::proofs::Typing::typed_so))]
 fn typed(alloc: Global, expr: Expr) -> Result<Result<Checked, ProblemKind>, AllocError>
-    ensures { IfOk result (λ r. seen r ≡ typed_tree (expression_tree expr) (checked (expression_tree expr))) }
+    ensures { IfOk result (λ r. tree_answered r ≡ typed_tree (expression_tree expr) (checked (expression_tree expr))) }
 {
     match check(alloc, expr) {
         Ok(checked) => Ok(Ok(checked)),
-        Err(TypeError::Fault { at, kind }) => Ok(Err(ProblemKind::Typing { kind, at })),
+        Err(TypeError::Fault { at, kind }) => Ok(Err(no_expression(
+            QueryKind::Typing { kind },
+            at,
+        ))),
         Err(TypeError::Memory) => Err(AllocError),
     }
 }
 
 /// The expression that a text is, or what is wrong with it first.
-#[tactic(auto, unfolding(crate::specs::Expressions::expression))]
-fn expression(alloc: Global, text: &str) -> Result<Result<Checked, ProblemKind>, AllocError>
-    ensures { IfOk result (λ r. seen r ≡ expression text.now) }
+#[tactic(auto, unfolding(crate::specs::Expressions::typed_expression))]
+fn typed_expression(alloc: Global, text: &str) -> Result<Result<Checked, ProblemKind>, AllocError>
+    ensures { IfOk result (λ r. tree_answered r ≡ typed_expression text.now) }
 {
     match parse(alloc, text) {
         Ok(expr) => typed(alloc, expr),
-        Err(ParseError::Lex { at, kind }) => Ok(Err(ProblemKind::Lex { kind, at })),
-        Err(ParseError::Fault { at, kind }) => Ok(Err(ProblemKind::Parse { kind, at })),
+        Err(ParseError::Lex { at, kind }) => Ok(Err(no_expression(QueryKind::Lex { kind }, at))),
+        Err(ParseError::Fault { at, kind }) => Ok(Err(no_expression(
+            QueryKind::Parse { kind },
+            at,
+        ))),
         Err(ParseError::Memory) => Err(AllocError),
     }
 }
@@ -45,14 +60,14 @@ fn expression_in(
     node: &Node,
     found: &mut Vec<Problem>,
 ) -> Result<Option<Checked>, AllocError>
-    ensures tree { IfOk result (λ o. option_map expression_tree o ≡ tree_in (by_written (line_of (tree_of node.now)) (text_of (tree_of node.now)))) }
-    ensures problems { OnOk result (found.new.items ≡ found.old.items ++ problems_of (by_written (line_of (tree_of node.now)) (text_of (tree_of node.now)))) }
+    ensures tree { IfOk result (λ o. option_map expression_tree o ≡ tree_found (by_written (line_of (tree_of node.now)) (text_of (tree_of node.now)))) }
+    ensures problems { OnOk result (found.new.items ≡ found.old.items ++ expression_problems (by_written (line_of (tree_of node.now)) (text_of (tree_of node.now)))) }
 {
     let Some(text) = text_of(node) else {
         push(found, line_of(node), ProblemKind::WantText)?;
         return Ok(None);
     };
-    match expression(alloc, text)? {
+    match typed_expression(alloc, text)? {
         Ok(checked) => Ok(Some(checked)),
         Err(kind) => {
             push(found, line_of(node), kind)?;
@@ -69,8 +84,8 @@ pub(crate) fn rule_expression(
     entries: &[Entry],
     found: &mut Vec<Problem>,
 ) -> Result<Option<Checked>, AllocError>
-    ensures tree { IfOk result (λ o. option_map expression_tree o ≡ tree_in (expression_under line (written (codes "expr") (map entry_tree_of entries.now)))) }
-    ensures problems { OnOk result (found.new.items ≡ found.old.items ++ problems_of (expression_under line (written (codes "expr") (map entry_tree_of entries.now)))) }
+    ensures tree { IfOk result (λ o. option_map expression_tree o ≡ tree_found (expression_under line (written (codes "expr") (map entry_tree_of entries.now)))) }
+    ensures problems { OnOk result (found.new.items ≡ found.old.items ++ expression_problems (expression_under line (written (codes "expr") (map entry_tree_of entries.now)))) }
 {
     match written("expr", entries) {
         Some(node) => expression_in(alloc, node, found),

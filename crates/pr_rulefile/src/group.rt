@@ -3,7 +3,7 @@ ghost use Rattle.std.specs.Prelude.{◌≡◌, ◌++◌, ◌∷◌, [], ◌||◌
 ghost use Rattle.std.specs.List.{flat_map, filter_map, list_any};
 ghost use Rattle.std.specs.Option.{option_copied, option_map};
 ghost use Rattle.std.specs.Str.{bytes_eq};
-ghost use Rattle.pr_labels.specs.Known.{knows};
+ghost use Rattle.pr_words.specs.Names.{knows};
 ghost use Rattle.pr_yaml.specs.Tree.{tree_of, entry_tree_of};
 ghost use Rattle.pr_fields.specs.Nodes.{line_of, text_of, items_of, written};
 ghost use Rattle.pr_fields.specs.Problems.{by_items};

@@ -1,5 +1,5 @@
 // The words of a command line that is made for a test.
-use pr_process::words_of;
+use pr_status::words_of;
 use std::alloc::{AllocError, Global};
 use std::env::FillError;
 use std::rt::Env;

@@ -7,7 +7,7 @@ use Rattle.pr_labels.specs.Rising.{is_among}
 use Rattle.pr_history.specs.declared.entry.Entry.{Entry}
 use Rattle.pr_world.specs.declared.scraped.BodyFault.{BodyFault}
 use Rattle.pr_world.specs.declared.scraped.Scraped.{Scraped}
-use Rattle.pr_world.specs.Scrapes.{end_entries, marker, markers, samples_of, up_of}
+use Rattle.pr_world.specs.Scrapes.{end_entries, marker, markers, sample_count_of, up_of}
 
 pub markers_parts : (now : ℕ) (new xs ys : List (List Pair)) → markers now (xs ++ ys) new ≡ markers now xs new ++ markers now ys new
 markers_parts now new xs ys =
@@ -24,5 +24,5 @@ pub same_answer : (a b : List Entry) (fault : Option BodyFault) (m n d e s t : �
 same_answer a b fault m n d e s t p q r u = λ i. record { admitted = p i; fault = fault; added = q i; dropped = r i; stale = u i }
 
 pub ends_parts : (target : List Pair) (now : ℕ) (old : List (List Pair))
-    → end_entries target now old ≡ map (marker now) old ++ (marker now (up_of target) ∷ marker now (samples_of target) ∷ [])
-ends_parts target now old = map-append (marker now) old (up_of target ∷ samples_of target ∷ [])
+    → end_entries target now old ≡ map (marker now) old ++ (marker now (up_of target) ∷ marker now (sample_count_of target) ∷ [])
+ends_parts target now old = map-append (marker now) old (up_of target ∷ sample_count_of target ∷ [])

@@ -14,7 +14,7 @@ use Rattle.pr_history.specs.declared.entry.Entry.{Entry}
 use Rattle.pr_history.specs.Admission.{admit, put, put_all}
 use Rattle.pr_expo.specs.declared.exposition.Line.{Line}
 use Rattle.pr_world.specs.declared.scraped.Offer.{Offer}
-use Rattle.pr_world.specs.Scrapes.{answers, dropped_count, entries_in, is_kept, is_tracked, kept_sets, markers, offer_of, offers, refused_count}
+use Rattle.pr_world.specs.Scrapes.{admissions, dropped_count, offered_entries, is_shown, is_tracked, kept_sets, markers, offer_of, offers, refused_count}
 use Rattle.pr_world.proofs.Scraping.{answer_to, answers_parts, counts_parts, kept_first, kept_parts}
 use Rattle.pr_scrape.specs.Tallying.{Tallies}
 use Rattle.pr_scrape.specs.declared.tally.Tally.{Tally}
@@ -23,34 +23,34 @@ pub offers_parts : (target : List Pair) (now : ℕ) (xs ys : List Line) → offe
 offers_parts target now xs ys = filter_map-append (offer_of target now) xs ys
 
 pub offered_parts : (target : List Pair) (now : ℕ) (xs ys : List Line)
-    → entries_in (offers target now (xs ++ ys)) ≡ entries_in (offers target now xs) ++ entries_in (offers target now ys)
+    → offered_entries (offers target now (xs ++ ys)) ≡ offered_entries (offers target now xs) ++ offered_entries (offers target now ys)
 offered_parts target now xs ys =
-    ap entries_in (offers_parts target now xs ys) ∙ map-append (λ (o : Offer). o.entry) (offers target now xs) (offers target now ys)
+    ap offered_entries (offers_parts target now xs ys) ∙ map-append (λ (o : Offer). o.entry) (offers target now xs) (offers target now ys)
 
 -- what is refused of entries in parts
 refused_parts : (history es more : List Entry) → refused_count history (es ++ more) ≡ refused_count history es + refused_count (put_all history es) more
 refused_parts history es more =
-    ap (λ (l : List Append). count_by (λ a. not (is_kept a)) l) (answers_parts history es more)
-    ∙ counts_parts (λ a. not (is_kept a)) (answers history es) (answers (put_all history es) more)
+    ap (λ (l : List Append). count_by (λ a. not (is_shown a)) l) (answers_parts history es more)
+    ∙ counts_parts (λ a. not (is_shown a)) (admissions history es) (admissions (put_all history es) more)
 
 swapped : (a b c d : ℕ) → (a + b) + (c + d) ≡ (a + c) + (b + d)
 swapped a b c d = omega arith
 
 pub dropped_parts : (target : List Pair) (now : ℕ) (xs ys : List Line) (history : List Entry)
-    → dropped_count target now (xs ++ ys) history ≡ dropped_count target now xs history + dropped_count target now ys (put_all history (entries_in (offers target now xs)))
+    → dropped_count target now (xs ++ ys) history ≡ dropped_count target now xs history + dropped_count target now ys (put_all history (offered_entries (offers target now xs)))
 dropped_parts target now xs ys history =
-    let es = entries_in (offers target now xs) in
-    let more = entries_in (offers target now ys) in
+    let es = offered_entries (offers target now xs) in
+    let more = offered_entries (offers target now ys) in
     let out : Line → Bool = λ line. is_none (offer_of target now line) in
-    ap (λ (n : ℕ). n + refused_count history (entries_in (offers target now (xs ++ ys)))) (counts_parts out xs ys)
+    ap (λ (n : ℕ). n + refused_count history (offered_entries (offers target now (xs ++ ys)))) (counts_parts out xs ys)
     ∙ ap (λ (l : List Entry). (count_by out xs + count_by out ys) + refused_count history l) (offered_parts target now xs ys)
     ∙ ap (λ (n : ℕ). (count_by out xs + count_by out ys) + n) (refused_parts history es more)
     ∙ swapped (count_by out xs) (count_by out ys) (refused_count history es) (refused_count (put_all history es) more)
 
 pub tallies_then : (a b c : Tally) (target : List Pair) (now : ℕ) (xs ys : List Line) (history : List Entry)
-    → Tallies a b target now xs history → Tallies b c target now ys (put_all history (entries_in (offers target now xs))) → Tallies a c target now (xs ++ ys) history
+    → Tallies a b target now xs history → Tallies b c target now ys (put_all history (offered_entries (offers target now xs))) → Tallies a c target now (xs ++ ys) history
 tallies_then a b c target now xs ys history p q =
-    let after = put_all history (entries_in (offers target now xs)) in
+    let after = put_all history (offered_entries (offers target now xs)) in
     record {
       dropped = q.dropped
           ∙ ap (λ (n : ℕ). n + dropped_count target now ys after) p.dropped
@@ -68,29 +68,29 @@ kept_one history o = kept_first history o [] ∙ append-nil (cond (is_tracked (o
 
 -- the offer of one line, where a call answers Ok
 pub one_puts : {T E : Type 0} (res : Result T E) (o : Option Offer) (target : List Pair) (now : ℕ) (line : Line) → o ≡ offer_of target now line
-    → (a b : Series) (r s history : List Entry) → OnOk res (Puts a b r s history (entries_in (cons_option o []))) → OnOk res (Puts a b r s history (entries_in (offers target now (line ∷ []))))
-one_puts res o target now line is a b r s history p = subst (λ (x : Option Offer). OnOk res (Puts a b r s history (entries_in (cons_option x [])))) is p
+    → (a b : Series) (r s history : List Entry) → OnOk res (Puts a b r s history (offered_entries (cons_option o []))) → OnOk res (Puts a b r s history (offered_entries (offers target now (line ∷ []))))
+one_puts res o target now line is a b r s history p = subst (λ (x : Option Offer). OnOk res (Puts a b r s history (offered_entries (cons_option x [])))) is p
 
 pub one_front : {T E : Type 0} (res : Result T E) (o : Option Offer) (target : List Pair) (now : ℕ) (line : Line) → o ≡ offer_of target now line
-    → (a b : Series) (history : List Entry) → OnErr res (HasTakenFront a b history (entries_in (cons_option o []))) → OnErr res (HasTakenFront a b history (entries_in (offers target now (line ∷ []))))
-one_front res o target now line is a b history p = subst (λ (x : Option Offer). OnErr res (HasTakenFront a b history (entries_in (cons_option x [])))) is p
+    → (a b : Series) (history : List Entry) → OnErr res (HasTakenFront a b history (offered_entries (cons_option o []))) → OnErr res (HasTakenFront a b history (offered_entries (offers target now (line ∷ []))))
+one_front res o target now line is a b history p = subst (λ (x : Option Offer). OnErr res (HasTakenFront a b history (offered_entries (cons_option x [])))) is p
 
 one_tally : (old new : Tally) (target : List Pair) (now : ℕ) (line : Line) (history : List Entry)
-    → new.dropped ≡ old.dropped + (cond (is_none (offer_of target now line)) 1 0 + refused_count history (entries_in (cons_option (offer_of target now line) [])))
+    → new.dropped ≡ old.dropped + (cond (is_none (offer_of target now line)) 1 0 + refused_count history (offered_entries (cons_option (offer_of target now line) [])))
     → new.kept.keys ≡ fold with_labels old.kept.keys (kept_sets history (cons_option (offer_of target now line) []))
     → Tallies old new target now (line ∷ []) history
 one_tally old new target now line history d k = record {
-  dropped = d ∙ ap (λ (n : ℕ). old.dropped + (n + refused_count history (entries_in (cons_option (offer_of target now line) [])))) (sym (zero-add (cond (is_none (offer_of target now line)) 1 0)));
+  dropped = d ∙ ap (λ (n : ℕ). old.dropped + (n + refused_count history (offered_entries (cons_option (offer_of target now line) [])))) (sym (zero-add (cond (is_none (offer_of target now line)) 1 0)));
   kept = k;
 }
 
 pub one_tallies : {T E : Type 0} (res : Result T E) (o : Option Offer) (target : List Pair) (now : ℕ) (line : Line) → o ≡ offer_of target now line
     → (old new : Tally) (history : List Entry)
-    → OnOk res (new.dropped ≡ old.dropped + (cond (is_none o) 1 0 + refused_count history (entries_in (cons_option o []))))
+    → OnOk res (new.dropped ≡ old.dropped + (cond (is_none o) 1 0 + refused_count history (offered_entries (cons_option o []))))
     → OnOk res (new.kept.keys ≡ fold with_labels old.kept.keys (kept_sets history (cons_option o [])))
     → OnOk res (Tallies old new target now (line ∷ []) history)
 one_tallies (Err e) o target now line is old new history d k = tt
 one_tallies (Ok v) o target now line is old new history d k =
     one_tally old new target now line history
-    (subst (λ (x : Option Offer). new.dropped ≡ old.dropped + (cond (is_none x) 1 0 + refused_count history (entries_in (cons_option x [])))) is d)
+    (subst (λ (x : Option Offer). new.dropped ≡ old.dropped + (cond (is_none x) 1 0 + refused_count history (offered_entries (cons_option x [])))) is d)
     (subst (λ (x : Option Offer). new.kept.keys ≡ fold with_labels old.kept.keys (kept_sets history (cons_option x []))) is k)

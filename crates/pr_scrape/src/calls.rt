@@ -4,7 +4,7 @@ ghost use Rattle.std.specs.Option.{ForSome, option_copied};
 ghost use Rattle.pr_history.specs.declared.entry.Entry.{Entry};
 ghost use Rattle.pr_head.specs.Holds.{Holds};
 ghost use Rattle.pr_expo.specs.Families.{exposition_of};
-ghost use Rattle.pr_world.specs.Scrapes.{about, failed, gone_of, marker, reported, samples_of, scrape_of, scraped, scraped_by, up_of};
+ghost use Rattle.pr_world.specs.Scrapes.{about, failed, gone_of, marker, reported, sample_count_of, scrape_of, scraped, scraped_by, up_of};
 ghost use Rattle.pr_scrape.specs.Putting.{HasTaken, HasTakenFront, Puts};
 
 use crate::markers::put_markers;
@@ -77,8 +77,8 @@ fn put_ends(
     target: &Labels,
     now: Ms,
 ) -> Result<(), AllocError>
-    ensures puts { (history : List Entry) → Holds head.old history → OnOk result (Puts head.old head.new rows.old.items rows.new.items history (marker now (up_of target.now) ∷ marker now (samples_of target.now) ∷ [])) }
-    ensures front { (history : List Entry) → Holds head.old history → OnErr result (HasTakenFront head.old head.new history (marker now (up_of target.now) ∷ marker now (samples_of target.now) ∷ [])) }
+    ensures puts { (history : List Entry) → Holds head.old history → OnOk result (Puts head.old head.new rows.old.items rows.new.items history (marker now (up_of target.now) ∷ marker now (sample_count_of target.now) ∷ [])) }
+    ensures front { (history : List Entry) → Holds head.old history → OnErr result (HasTakenFront head.old head.new history (marker now (up_of target.now) ∷ marker now (sample_count_of target.now) ∷ [])) }
 {
     let first = marker(alloc, now, &metric_of(alloc, target, "up")?)?;
     let labels = metric_of(alloc, target, "scrape_samples_scraped")?;

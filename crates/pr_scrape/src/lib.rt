@@ -1,5 +1,5 @@
 //! Scrapes: the samples that a target offers are put into the head, and what it no longer offers
-//! goes stale.
+//! goes stale; and the targets that are known, with what is tracked of each.
 #![tactic(auto)]
 
 mod calls;
@@ -8,6 +8,8 @@ mod named;
 mod offered;
 mod put;
 mod tally;
+mod targets;
 
 pub use calls::{gone, scrape};
 pub use pr_world::{BodyFault, Scraped};
+pub use targets::Targets;

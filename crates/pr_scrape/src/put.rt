@@ -3,7 +3,7 @@ ghost use Rattle.std.specs.Prelude.{◌≡◌, [], ◌∷◌, ◌++◌, List, If
 ghost use Rattle.pr_history.specs.declared.entry.Entry.{Entry};
 ghost use Rattle.pr_history.specs.Admission.{admit};
 ghost use Rattle.pr_head.specs.Holds.{Holds};
-ghost use Rattle.pr_world.specs.Scrapes.{is_added, is_kept, marker};
+ghost use Rattle.pr_world.specs.Scrapes.{is_added, is_shown, marker};
 ghost use Rattle.pr_scrape.specs.Putting.{HasTaken, HasTakenFront, Puts};
 
 use pr_head::Head;
@@ -20,8 +20,8 @@ fn is_added(answer: &Append) -> bool
 }
 
 /// Whether the series shows the point then.
-pub(crate) fn is_kept(answer: &Append) -> bool
-    ensures { result ≡ is_kept answer.now }
+pub(crate) fn is_shown(answer: &Append) -> bool
+    ensures { result ≡ is_shown answer.now }
 {
     matches!(answer, Append::Added | Append::Same)
 }

@@ -4,13 +4,13 @@ ghost use Rattle.std.specs.List.{cons_option};
 ghost use Rattle.pr_labels.specs.Rising.{with_labels};
 ghost use Rattle.pr_history.specs.declared.entry.Entry.{Entry};
 ghost use Rattle.pr_head.specs.Holds.{Holds};
-ghost use Rattle.pr_world.specs.Scrapes.{dropped_count, entries_in, is_kept, kept_sets, offers, refused_count, tracked_after};
+ghost use Rattle.pr_world.specs.Scrapes.{dropped_count, offered_entries, is_shown, kept_sets, offers, refused_count, tracked_after};
 ghost use Rattle.pr_scrape.specs.Putting.{HasTakenFront, Puts};
 ghost use Rattle.pr_scrape.specs.Tallying.{Tallies};
 
 use crate::markers::add_labels;
 use crate::offered::offer_of;
-use crate::put::{is_kept, put};
+use crate::put::{is_shown, put};
 use pr_expo::Line;
 use pr_head::Head;
 use pr_history::{Append, Entry};
@@ -37,10 +37,10 @@ fn note(
     answer: &Append,
 ) -> Result<(), AllocError>
     requires { tally.old.dropped < 2 ^ 63 }
-    ensures dropped { OnOk result (tally.new.dropped ≡ tally.old.dropped + (cond (not (is_kept answer.now)) 1 0)) }
-    ensures kept { OnOk result (tally.new.kept.keys ≡ fold with_labels tally.old.kept.keys (cond (not is_timed && is_kept answer.now) (labels ∷ []) [])) }
+    ensures dropped { OnOk result (tally.new.dropped ≡ tally.old.dropped + (cond (not (is_shown answer.now)) 1 0)) }
+    ensures kept { OnOk result (tally.new.kept.keys ≡ fold with_labels tally.old.kept.keys (cond (not is_timed && is_shown answer.now) (labels ∷ []) [])) }
 {
-    if !is_kept(answer) {
+    if !is_shown(answer) {
         tally.dropped += 1;
         return Ok(());
     }
@@ -80,11 +80,11 @@ fn put_some(
     offer: Option<Offer>,
 ) -> Result<(), AllocError>
     requires { tally.old.dropped < 2 ^ 63 }
-    ensures puts { (history : List Entry) → Holds head.old history → OnOk result (Puts head.old head.new rows.old.items rows.new.items history (entries_in (cons_option offer []))) }
-    ensures dropped { (history : List Entry) → Holds head.old history → OnOk result (tally.new.dropped ≡ tally.old.dropped + (cond (is_none offer) 1 0 + refused_count history (entries_in (cons_option offer [])))) }
+    ensures puts { (history : List Entry) → Holds head.old history → OnOk result (Puts head.old head.new rows.old.items rows.new.items history (offered_entries (cons_option offer []))) }
+    ensures dropped { (history : List Entry) → Holds head.old history → OnOk result (tally.new.dropped ≡ tally.old.dropped + (cond (is_none offer) 1 0 + refused_count history (offered_entries (cons_option offer [])))) }
     ensures kept { (history : List Entry) → Holds head.old history → OnOk result (tally.new.kept.keys ≡ fold with_labels tally.old.kept.keys (kept_sets history (cons_option offer []))) }
     ensures few { OnOk result (tally.new.dropped ≤ tally.old.dropped + 1) }
-    ensures front { (history : List Entry) → Holds head.old history → OnErr result (HasTakenFront head.old head.new history (entries_in (cons_option offer []))) }
+    ensures front { (history : List Entry) → Holds head.old history → OnErr result (HasTakenFront head.old head.new history (offered_entries (cons_option offer []))) }
 {
     match offer {
         Some(offered) => put_offer(alloc, head, rows, tally, offered),
@@ -106,10 +106,10 @@ fn put_line(
     line: &Line,
 ) -> Result<(), AllocError>
     requires { tally.old.dropped < 2 ^ 63 }
-    ensures puts { (history : List Entry) → Holds head.old history → OnOk result (Puts head.old head.new rows.old.items rows.new.items history (entries_in (offers target.now now (line.now ∷ [])))) }
+    ensures puts { (history : List Entry) → Holds head.old history → OnOk result (Puts head.old head.new rows.old.items rows.new.items history (offered_entries (offers target.now now (line.now ∷ [])))) }
     ensures tallies { (history : List Entry) → Holds head.old history → OnOk result (Tallies tally.old tally.new target.now now (line.now ∷ []) history) }
     ensures few { OnOk result (tally.new.dropped ≤ tally.old.dropped + 1) }
-    ensures front { (history : List Entry) → Holds head.old history → OnErr result (HasTakenFront head.old head.new history (entries_in (offers target.now now (line.now ∷ [])))) }
+    ensures front { (history : List Entry) → Holds head.old history → OnErr result (HasTakenFront head.old head.new history (offered_entries (offers target.now now (line.now ∷ [])))) }
 {
     let offer = offer_of(alloc, target, now, line)?;
     put_some(alloc, head, rows, tally, offer)
@@ -124,10 +124,10 @@ pub(crate) fn put_lines(
     now: Ms,
     lines: &[Line],
 ) -> Result<Tally, AllocError>
-    ensures puts { (history : List Entry) → Holds head.old history → OnOk result (Puts head.old head.new rows.old.items rows.new.items history (entries_in (offers target.now now lines.now))) }
+    ensures puts { (history : List Entry) → Holds head.old history → OnOk result (Puts head.old head.new rows.old.items rows.new.items history (offered_entries (offers target.now now lines.now))) }
     ensures dropped { (history : List Entry) → Holds head.old history → IfOk result (λ t. t.dropped ≡ dropped_count target.now now lines.now history) }
     ensures kept { (history : List Entry) → Holds head.old history → IfOk result (λ t. t.kept.keys ≡ tracked_after history (offers target.now now lines.now)) }
-    ensures front { (history : List Entry) → Holds head.old history → OnErr result (HasTakenFront head.old head.new history (entries_in (offers target.now now lines.now))) }
+    ensures front { (history : List Entry) → Holds head.old history → OnErr result (HasTakenFront head.old head.new history (offered_entries (offers target.now now lines.now))) }
 {
     let mut tally = Tally {
         dropped: 0,

@@ -3,7 +3,7 @@ use Rattle.std.proofs.Common.{◌≡◌, ℕ, List, [], ◌∷◌, ◌++◌, Som
 use Rattle.std.specs.Prelude.{codes, if◌then◌else◌, Option, None}
 use Rattle.std.specs.List.{list_all}
 use Rattle.std.proofs.lemmas.Bool.Decides.{nat_tests}
-use Rattle.pr_words.specs.Fields.{is_blank}
+use Rattle.pr_words.specs.Bytes.{is_blank, is_letter, is_label_byte, AreBlanks}
 use Rattle.pr_forms.specs.Form.{Form, token, nothing, pair, either, turns, fold, chosen, rule, Reads, is_token, is_nothing, is_pair, is_left, is_right, is_stop, is_turn, is_fold, is_chosen, is_rule}
 use Rattle.pr_forms.proofs.Suffixes.{Suffix, here, there, reads_suffix}
 use Rattle.pr_strings.specs.declared.kind.Kind.{Kind}
@@ -13,10 +13,9 @@ use Rattle.pr_strings.specs.Strings.{Letter, letter, kind_of, letter_of, seen, I
 use Rattle.pr_forms.specs.Within.{within, on_option, lifted}
 use Rattle.pr_labels.specs.declared.pair.Pair.{Pair}
 use Rattle.pr_labels.specs.LabelSet.{metric_label, pair_of}
-use Rattle.pr_labels.specs.Names as byte_names
-use Rattle.pr_labels.specs.Names.{is_label_name, is_metric_name}
+use Rattle.pr_labels.specs.Names.{is_label_name, is_metric_name, is_metric_byte, is_metric_letter}
 use Rattle.pr_series.specs.SeriesGrammar.{production, Rule, Value, listed, quoted, mark, headed, labelled, same_sign, sign, sign_at, second_of, is_letter_kind, is_label_kind, is_metric_letter_kind, is_metric_kind, embedding, ReadsSeries, Series, MetricByte, MetricRest, Tail, Listed, Braces, Items, Item, NameByte, NameRest, Named, After, Next, InString}
-use Rattle.pr_series.specs.SeriesParts.{AreBlanks, IsPair, AreListed, no_pair, last_pair, one_pair, HasParts, name_alone, list_alone, name_and_list, IsSeriesText}
+use Rattle.pr_series.specs.SeriesParts.{IsPair, AreListed, no_pair, last_pair, one_pair, HasParts, name_alone, list_alone, name_and_list, IsSeriesText}
 use Rattle.pr_forms.proofs.ByRules.{Each}
 use Rattle.pr_series.proofs.ByParts.{Built, of_token, of_nothing, of_pair, of_left, of_right, of_stop, of_turn, of_fold, of_choice, of_rule, built}
 use Rattle.pr_series.proofs.SeriesNames.{IsSeen, each_seen, letter_kind, label_kind, series_faultless}
@@ -79,7 +78,7 @@ record AtName (name : List ℕ) (text : List ℕ) (p : Pair) (ps : List Pair) (r
   more : List ℕ
   next : List ℕ
   is : text ≡ more ++ next
-  bytes : list_all byte_names.is_label_byte more ≡ true
+  bytes : list_all is_label_byte more ≡ true
   sign : AtSign (name ++ more) next p ps rest
 
 data NameTold (name : List ℕ) (text : List ℕ) : List Pair → List ℕ → Type 0 where
@@ -98,7 +97,7 @@ record AtMetric (name : List ℕ) (text : List ℕ) (ps : List Pair) (rest : Lis
   next : List ℕ
   others : List Pair
   is : text ≡ more ++ next
-  bytes : list_all byte_names.is_metric_byte more ≡ true
+  bytes : list_all is_metric_byte more ≡ true
   pairs : ps ≡ pair_of metric_label (name ++ more) ∷ others
   tail : AtTail next others rest
 
@@ -158,10 +157,10 @@ equal_byte b h = grind (arith, nat_tests)
 blank_byte : (b : ℕ) → same_sign Blank (kind_of b) ≡ true → is_blank b ≡ true
 blank_byte b h = grind (arith, nat_tests)
 
-metric_first : (b : ℕ) → is_metric_letter_kind (kind_of b) ≡ byte_names.is_metric_letter b
+metric_first : (b : ℕ) → is_metric_letter_kind (kind_of b) ≡ is_metric_letter b
 metric_first b = grind (arith, nat_tests)
 
-metric_next : (b : ℕ) → is_metric_kind (kind_of b) ≡ byte_names.is_metric_byte b
+metric_next : (b : ℕ) → is_metric_kind (kind_of b) ≡ is_metric_byte b
 metric_next b = grind (arith, nat_tests)
 
 -- the byte of a sign
@@ -190,7 +189,7 @@ ended : (T : List Pair → Type 0) (ps : List Pair) → listed [] ≡ listed ps 
 ended T ps e h = subst T (same_listed [] ps e) h
 
 -- metric names
-more_metric : (name text : List ℕ) (b : ℕ) (ps : List Pair) (rest : List ℕ) → byte_names.is_metric_byte b ≡ true → AtMetric (name ++ b ∷ []) text ps rest → AtMetric name (b ∷ text) ps rest
+more_metric : (name text : List ℕ) (b : ℕ) (ps : List Pair) (rest : List ℕ) → is_metric_byte b ≡ true → AtMetric (name ++ b ∷ []) text ps rest → AtMetric name (b ∷ text) ps rest
 more_metric name text b ps rest h m = record {
   more = b ∷ m.more;
   next = m.next;
@@ -218,13 +217,13 @@ tail_parts : (name text : List ℕ) (others : List Pair) (rest : List ℕ) → i
 tail_parts name text others rest h (no_tail rest2) = name_alone name text h
 tail_parts name text others rest h (list_tail bs inside rest2 ps k l) = name_and_list name bs inside rest2 ps h k l
 
-metric_parts : (b : ℕ) (text : List ℕ) (ps : List Pair) (rest : List ℕ) → byte_names.is_metric_letter b ≡ true → AtMetric (b ∷ []) text ps rest → HasParts (b ∷ text) ps rest
+metric_parts : (b : ℕ) (text : List ℕ) (ps : List Pair) (rest : List ℕ) → is_metric_letter b ≡ true → AtMetric (b ∷ []) text ps rest → HasParts (b ∷ text) ps rest
 metric_parts b text ps rest h m =
     let name : is_metric_name (b ∷ m.more) ≡ true = rw h m.bytes in
     subst (λ x. HasParts (b ∷ x) ps rest) (sym m.is) (subst (λ x. HasParts (b ∷ (m.more ++ m.next)) x rest) (sym m.pairs) (tail_parts (b ∷ m.more) m.next m.others rest name m.tail))
 
 -- names of labels
-more_label : (name text : List ℕ) (b : ℕ) (ps : List Pair) (rest : List ℕ) → byte_names.is_label_byte b ≡ true → NameTold (name ++ b ∷ []) text ps rest → NameTold name (b ∷ text) ps rest
+more_label : (name text : List ℕ) (b : ℕ) (ps : List Pair) (rest : List ℕ) → is_label_byte b ≡ true → NameTold (name ++ b ∷ []) text ps rest → NameTold name (b ∷ text) ps rest
 more_label name text b ps rest h (name_told {p = p} {ps = qs} m) = name_told (record {
   more = b ∷ m.more;
   next = m.next;
@@ -237,7 +236,7 @@ sign_label : (name text : List ℕ) (ps : List Pair) (rest : List ℕ) → SignT
 sign_label name text ps rest (sign_told {p = p} {ps = qs} s) =
     name_told (record { more = []; next = text; is = refl; bytes = refl; sign = subst (λ n. AtSign n text p qs rest) (sym (append-nil name)) s })
 
-label_item : (b : ℕ) (text : List ℕ) (ps : List Pair) (rest : List ℕ) → byte_names.is_letter b ≡ true → NameTold (b ∷ []) text ps rest → AtItem (b ∷ text) ps rest
+label_item : (b : ℕ) (text : List ℕ) (ps : List Pair) (rest : List ℕ) → is_letter b ≡ true → NameTold (b ∷ []) text ps rest → AtItem (b ∷ text) ps rest
 label_item b text ps rest h (name_told {p = p} {ps = qs} m) = at_pair (b ∷ text) m.sign.end rest p qs (record {
   before = m.sign.before;
   after = m.sign.after;
@@ -334,7 +333,7 @@ string_each x h = each_suffix (reads_suffix x.2) h
 step : (n : Rule) (ts : List Letter) (v : Value) (rest : List Letter) → Built Holds (production n) ts v rest → Holds n ts v rest
 step Series ts v rest (of_left (of_choice {t = letter k b} {n = n} {ts = us} e l p)) = λ h.
     let c = chosen_is (is_metric_letter_kind k) (MetricByte (b ∷ [])) n e in
-    let first : byte_names.is_metric_letter b ≡ true = sym (metric_first b) ∙ (ap is_metric_letter_kind (sym h.0) ∙ c.0) in
+    let first : is_metric_letter b ≡ true = sym (metric_first b) ∙ (ap is_metric_letter_kind (sym h.0) ∙ c.0) in
     let m : ListTold (MetricByte (b ∷ [])) (letter k b ∷ us) v rest = subst (λ r. Holds r (letter k b ∷ us) v rest) c.1 p in
     ((m h).0, λ ps q. metric_parts b (text_of us) ps (text_of rest) first ((m h).1 ps q))
 step Series ts v rest (of_right (of_rule p)) = λ h.
@@ -343,7 +342,7 @@ step Series ts v rest (of_right (of_rule p)) = λ h.
 step (MetricByte name) ts v rest (of_pair (of_token e) (of_rule p)) = λ h. let q = p h.1 in (q.0, λ ps e. q.1 ps e)
 step (MetricRest name) ts v rest (of_left (of_choice {t = letter k b} {n = n} {ts = us} e l p)) = λ h.
     let c = chosen_is (is_metric_kind k) (MetricByte (name ++ b ∷ [])) n e in
-    let next : byte_names.is_metric_byte b ≡ true = sym (metric_next b) ∙ (ap is_metric_kind (sym h.0) ∙ c.0) in
+    let next : is_metric_byte b ≡ true = sym (metric_next b) ∙ (ap is_metric_kind (sym h.0) ∙ c.0) in
     let m : ListTold (MetricByte (name ++ b ∷ [])) (letter k b ∷ us) v rest = subst (λ r. Holds r (letter k b ∷ us) v rest) c.1 p in
     ((m h).0, λ ps q. more_metric name (text_of us) b ps (text_of rest) next ((m h).1 ps q))
 step (MetricRest name) ts v rest (of_right (of_pair {w = w} of_nothing (of_rule p))) = λ h.
@@ -369,13 +368,13 @@ step (Item names) ts v rest (of_left (of_pair (of_token {t = t} {v = u} e) of_no
 )
 step (Item names) ts v rest (of_right (of_choice {t = letter k b} {n = n} {ts = us} e l p)) = λ h.
     let c = chosen_is (is_letter_kind k) (NameByte names (b ∷ [])) n e in
-    let first : byte_names.is_letter b ≡ true = sym (letter_kind b) ∙ (ap is_letter_kind (sym h.0) ∙ c.0) in
+    let first : is_letter b ≡ true = sym (letter_kind b) ∙ (ap is_letter_kind (sym h.0) ∙ c.0) in
     let m : ListTold (NameByte names (b ∷ [])) (letter k b ∷ us) v rest = subst (λ r. Holds r (letter k b ∷ us) v rest) c.1 p in
     ((m h).0, λ ps q. label_item b (text_of us) ps (text_of rest) first ((m h).1 ps q))
 step (NameByte names name) ts v rest (of_pair (of_token e) (of_rule p)) = λ h. let q = p h.1 in (q.0, λ ps e. q.1 ps e)
 step (NameRest names name) ts v rest (of_left (of_choice {t = letter k b} {n = n} {ts = us} e l p)) = λ h.
     let c = chosen_is (is_label_kind k) (NameByte names (name ++ b ∷ [])) n e in
-    let next : byte_names.is_label_byte b ≡ true = sym (label_kind b) ∙ (ap is_label_kind (sym h.0) ∙ c.0) in
+    let next : is_label_byte b ≡ true = sym (label_kind b) ∙ (ap is_label_kind (sym h.0) ∙ c.0) in
     let m : ListTold (NameByte names (name ++ b ∷ [])) (letter k b ∷ us) v rest = subst (λ r. Holds r (letter k b ∷ us) v rest) c.1 p in
     ((m h).0, λ ps q. more_label name (text_of us) b ps (text_of rest) next ((m h).1 ps q))
 step (NameRest names name) ts v rest (of_right (of_rule p)) = λ h. let q = p h in (q.0, λ ps e. sign_label name (text_of ts) ps (text_of rest) (q.1 ps e))

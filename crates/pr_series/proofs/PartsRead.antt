@@ -5,7 +5,8 @@ use Rattle.std.specs.List.{list_all}
 use Rattle.std.proofs.lemmas.Bool.Decides.{nat_tests}
 use Rattle.std.proofs.lemmas.List.{map-append}
 use Rattle.std.proofs.Common.{arith}
-use Rattle.pr_words.specs.Fields.{is_blank}
+use Rattle.pr_words.specs.Bytes.{is_blank, AreBlanks}
+use Rattle.pr_words.specs.Names.{is_among}
 use Rattle.pr_forms.specs.Form.{rule, is_token, is_nothing, is_pair, is_left, is_right, is_stop, is_turn, is_rule}
 use Rattle.pr_strings.specs.Strings as strings
 use Rattle.pr_strings.specs.Strings.{kind_of, letter_of, IsString}
@@ -14,11 +15,11 @@ use Rattle.pr_series.proofs.SeriesTable.{strings_within}
 use Rattle.pr_labels.specs.declared.pair.Pair.{Pair}
 use Rattle.pr_labels.specs.Edits.{fault_after, first_fault}
 use Rattle.pr_labels.specs.LabelSet.{metric_label, pair_of}
-use Rattle.pr_series.specs.SeriesGrammar.{listed, quoted, mark, same_sign, sign_at, blanks, is_named, ReadsSeries, Braces, Items, Item, After, InString}
+use Rattle.pr_series.specs.SeriesGrammar.{listed, quoted, mark, same_sign, sign_at, blanks, ReadsSeries, Braces, Items, Item, After, InString}
 use Rattle.pr_strings.specs.declared.kind.Kind.TheVariants.{Blank}
 use Rattle.pr_labels.proofs.LabelOrder.{both}
 use Rattle.pr_series.specs.SeriesReader.{names_of}
-use Rattle.pr_series.specs.SeriesParts.{AreBlanks, IsPair, AreListed, no_pair, last_pair, one_pair, HasParts, name_alone, list_alone, name_and_list, IsSeriesText}
+use Rattle.pr_series.specs.SeriesParts.{IsPair, AreListed, no_pair, last_pair, one_pair, HasParts, name_alone, list_alone, name_and_list, IsSeriesText}
 use Rattle.pr_series.proofs.SeriesWritten.{Reading, next_of, label_name, metric_reads}
 
 -- a blank is one to the grammar
@@ -37,7 +38,7 @@ blanks_read (b ∷ bs) rest h =
 value_read : (text bytes rest : List ℕ) → IsString text bytes rest → Reading (rule (InString strings.Text)) text (quoted (strings.content bytes)) rest
 value_read text bytes rest d = reads_good strings_within text rest d
 
-pair_read : (names : List (List ℕ)) (p : Pair) (ps : List Pair) (text rest end : List ℕ) → IsPair text p rest → is_named p.name names ≡ false →
+pair_read : (names : List (List ℕ)) (p : Pair) (ps : List Pair) (text rest end : List ℕ) → IsPair text p rest → is_among p.name names ≡ false →
     Reading (rule (After (names ++ p.name ∷ []))) rest (listed ps) end → Reading (rule (Item names)) text (listed (p ∷ ps)) end
 pair_read names p ps text rest end i once d =
     subst (λ x. Reading (rule (Item names)) x (listed (p ∷ ps)) end) (sym i.is)

@@ -6,12 +6,13 @@ use Rattle.pr_forms.specs.Form.{rule, Reads}
 use Rattle.pr_forms.specs.Reading.{EndsIn, Ends, reading}
 use Rattle.pr_forms.proofs.Ending.{given_reads, reads_given, given_place}
 use Rattle.pr_strings.specs.Strings as strings
+use Rattle.pr_strings.specs.StringTable as string_tables
 use Rattle.pr_strings.specs.Strings.{Letter, letter, seen}
 use Rattle.pr_strings.proofs.StringEnds as string_ends
 use Rattle.pr_forms.proofs.Within.{ends_within}
 use Rattle.pr_labels.specs.declared.pair.Pair.{Pair}
-use Rattle.pr_series.specs.SeriesGrammar.{production, table, embedding, Rule, Series, MetricByte, MetricRest, Tail, Listed, Braces, Items, Item, NameByte, NameRest, Named, After, Next, InString, Value, listed, quoted, mark, ReadsSeries, ReadsLabels, IsBadPlace, metric_start, metric_byte, name_start, name_byte, is_metric_letter_kind, is_metric_kind, is_letter_kind, is_label_kind}
-use Rattle.pr_series.specs.SeriesReading.{rank, steps, pairs_in, series_pairs, bad_series_place, series_labels, HasNoLabels}
+use Rattle.pr_series.specs.SeriesGrammar.{production, embedding, Rule, Series, MetricByte, MetricRest, Tail, Listed, Braces, Items, Item, NameByte, NameRest, Named, After, Next, InString, Value, listed, quoted, mark, ReadsSeries, ReadsLabels, IsBadPlace, metric_start, metric_byte, name_start, name_byte, is_metric_letter_kind, is_metric_kind, is_letter_kind, is_label_kind}
+use Rattle.pr_series.specs.SeriesReading.{pairs_in, series_pairs, bad_series_place, series_labels, HasNoLabels}
 use Rattle.pr_series.specs.declared.series.TextFault.{TextFault}
 use Rattle.pr_series.specs.declared.series.TextFault.TheVariants.{BadLabels, Memory}
 use Rattle.pr_series.specs.SeriesGrammar.{Refuses, Misses}
@@ -21,6 +22,7 @@ use Rattle.pr_forms.proofs.Places.{one_place}
 use Rattle.pr_labels.specs.LabelSet.{IsLabelSet}
 use Rattle.pr_series.proofs.SeriesNames.{read_is_set}
 use Rattle.pr_series.proofs.SeriesTable.{known, tables}
+use Rattle.pr_series.specs.SeriesTable.{table, rank, steps}
 
 -- the rule that a byte of a name chooses reads that byte
 metric_ends : (test : Bool) (name : List ℕ) (n : Rule) → (if test then Some (MetricByte name) else None) ≡ Some n → (table.empty n ≡ false) × (nat_le (rank n) 2 ≡ true)
@@ -61,7 +63,7 @@ ends_known (Named true names name) = tt
 ends_known (Named false names name) = (tt, (tt, (tt, (refl, refl))))
 ends_known (After names) = (tt, refl)
 ends_known (Next names) = ((tt, refl), (tt, tt))
-ends_known (InString n) = ends_within embedding strings.table table tables strings.rank rank steps (λ m. refl) (strings.rank n) (strings.production n) (string_ends.ends.ends n)
+ends_known (InString n) = ends_within embedding string_tables.table table tables string_tables.rank rank steps (λ m. refl) (string_tables.rank n) (strings.production n) (string_ends.ends.ends n)
 
 below_known : (n : Rule) → nat_le (suc (rank n)) steps ≡ true
 below_known (InString n) = string_ends.ends.below n

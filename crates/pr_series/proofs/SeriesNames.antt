@@ -6,24 +6,25 @@ use Rattle.std.specs.Str.{bytes_eq}
 use Rattle.std.proofs.lemmas.List.{map-append}
 use Rattle.std.proofs.lemmas.List.Folds.{list_all-append}
 use Rattle.std.proofs.lemmas.Bool.Decides.{nat_tests}
+use Rattle.pr_words.specs.Bytes.{is_letter, is_label_byte}
+use Rattle.pr_words.specs.Names.{is_among}
 use Rattle.pr_forms.specs.Form.{rule}
 use Rattle.pr_strings.specs.Strings as strings
 use Rattle.pr_strings.specs.Strings.{Letter, letter, kind_of, letter_of, seen}
 use Rattle.pr_labels.specs.declared.pair.Pair.{Pair}
 use Rattle.pr_labels.specs.Edits.{fault_after, first_fault}
 use Rattle.pr_labels.specs.LabelSet.{IsLabelSet, has_name, metric_label, pair_of}
-use Rattle.pr_labels.specs.Names as byte_names
 use Rattle.pr_labels.specs.Names.{is_label_name}
-use Rattle.pr_series.specs.SeriesGrammar.{production, Rule, Value, listed, quoted, mark, headed, labelled, is_named, is_letter_kind, is_label_kind, is_metric_letter_kind, is_metric_kind, ReadsSeries, ReadsLabels, Series, MetricByte, MetricRest, Tail, Listed, Braces, Items, Item, NameByte, NameRest, Named, After, Next, InString}
+use Rattle.pr_series.specs.SeriesGrammar.{production, Rule, Value, listed, quoted, mark, headed, labelled, is_letter_kind, is_label_kind, is_metric_letter_kind, is_metric_kind, ReadsSeries, ReadsLabels, Series, MetricByte, MetricRest, Tail, Listed, Braces, Items, Item, NameByte, NameRest, Named, After, Next, InString}
 use Rattle.pr_series.specs.SeriesReader.{names_of}
 use Rattle.pr_labels.proofs.LabelLaws.{made_is_set}
 use Rattle.pr_forms.proofs.ByRules.{Each, Meets, by_token, by_nothing, by_pair, by_left, by_right, by_choice, by_rule, by_rules}
 
 -- the letters and the bytes of names are those of the grammar
-pub letter_kind : (b : ℕ) → is_letter_kind (kind_of b) ≡ byte_names.is_letter b
+pub letter_kind : (b : ℕ) → is_letter_kind (kind_of b) ≡ is_letter b
 letter_kind b = grind (arith, nat_tests)
 
-pub label_kind : (b : ℕ) → is_label_kind (kind_of b) ≡ byte_names.is_label_byte b
+pub label_kind : (b : ℕ) → is_label_kind (kind_of b) ≡ is_label_byte b
 label_kind b = grind (arith, nat_tests)
 
 -- A token is a byte as it is seen.
@@ -52,7 +53,7 @@ Holds (Items names) v = Fits names v
 Holds (Item names) v = Fits names v
 Holds (NameByte names name) v = is_label_name name ≡ true → Fits names v
 Holds (NameRest names name) v = is_label_name name ≡ true → Fits names v
-Holds (Named twice names name) v = is_label_name name ≡ true → twice ≡ is_named name names → Fits names v
+Holds (Named twice names name) v = is_label_name name ≡ true → twice ≡ is_among name names → Fits names v
 Holds (After names) v = Fits names v
 Holds (Next names) v = Fits names v
 Holds (InString n) v = Unit {0}
@@ -70,14 +71,14 @@ metric_first name (listed pairs) h = λ before e. subst (λ x. fault_after x (pa
 metric_first name (quoted v) h = tt
 metric_first name mark h = tt
 
-pub among_names : (name : List ℕ) (before : List Pair) → is_named name (names_of before) ≡ list_any (has_name name) before
+pub among_names : (name : List ℕ) (before : List Pair) → is_among name (names_of before) ≡ list_any (has_name name) before
 among_names name [] = refl
 among_names name (p ∷ before) = ap (λ t. bytes_eq p.name name || t) (among_names name before)
 
 -- a label whose name is none of those before
-next_label : (names : List (List ℕ)) (name : List ℕ) (v w : Value) → is_label_name name ≡ true → false ≡ is_named name names → Fits (names ++ name ∷ []) w → Fits names (labelled name v w)
+next_label : (names : List (List ℕ)) (name : List ℕ) (v w : Value) → is_label_name name ≡ true → false ≡ is_among name names → Fits (names ++ name ∷ []) w → Fits names (labelled name v w)
 next_label names name (quoted (strings.content bytes)) (listed pairs) k once h = λ before e.
-    let apart : list_any (has_name name) before ≡ false = sym (among_names name before) ∙ (ap (is_named name) e ∙ sym once) in
+    let apart : list_any (has_name name) before ≡ false = sym (among_names name before) ∙ (ap (is_among name) e ∙ sym once) in
     let rest : fault_after (before ++ pair_of name bytes ∷ []) pairs ≡ None =
     h (before ++ pair_of name bytes ∷ []) (map-append (λ p. p.name) before (pair_of name bytes ∷ []) ∙ ap (λ ns. ns ++ name ∷ []) e) in
     rw (k, apart) rest
@@ -100,8 +101,8 @@ both_more false y z w h k e = cc
 more_name : (name : List ℕ) (b : ℕ) → is_label_name name ≡ true → is_label_kind (kind_of b) ≡ true → is_label_name (name ++ b ∷ []) ≡ true
 more_name [] b h k = cc
 more_name (c ∷ name) b h k =
-    both_more (byte_names.is_letter c) (list_all byte_names.is_label_byte name) (byte_names.is_label_byte b) (list_all byte_names.is_label_byte (name ++ b ∷ [])) h (sym (label_kind b) ∙ k)
-    (list_all-append byte_names.is_label_byte name (b ∷ []))
+    both_more (is_letter c) (list_all is_label_byte name) (is_label_byte b) (list_all is_label_byte (name ++ b ∷ [])) h (sym (label_kind b) ∙ k)
+    (list_all-append is_label_byte name (b ∷ []))
 
 name_chosen : (test : Bool) (names : List (List ℕ)) (name : List ℕ) (n : Rule) (v : Value) → (if test then Some (NameByte names name) else None) ≡ Some n → (test ≡ true → is_label_name name ≡ true) → Holds n v → Fits names v
 name_chosen true names name n v e k p = let same : n ≡ NameByte names name = cc in (subst (λ x. Holds x v) same p) (k refl)

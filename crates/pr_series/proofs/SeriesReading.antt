@@ -19,18 +19,21 @@ use Rattle.pr_forms.proofs.Decided.{shrinks}
 use Rattle.pr_strings.specs.declared.kind.Kind.{Kind}
 use Rattle.pr_strings.specs.declared.kind.Kind.TheVariants.{Open, Close, Comma, Equal, Blank, Other}
 use Rattle.pr_strings.specs.Strings as strings
+use Rattle.pr_strings.specs.StringTable as string_tables
 use Rattle.pr_strings.specs.Strings.{Letter, letter, kind_of, letter_of, seen}
 use Rattle.pr_strings.specs.Language.{text_strings}
 use Rattle.pr_strings.specs.Reader.{KeepsText}
 use Rattle.pr_strings.proofs.StringUtf8.{small_byte, keeps_after}
 use Rattle.pr_labels.specs.LabelSet.{pair_of, metric_label}
 use Rattle.std.proofs.lemmas.List.{map-append, append-nil}
+use Rattle.pr_words.specs.Names.{is_among}
 use Rattle.pr_forms.proofs.Ways.{take_side, other_side}
 use Rattle.pr_labels.specs.declared.pair.Pair.{Pair}
 use Rattle.pr_series.specs.declared.series.Part.{Part}
 use Rattle.pr_series.specs.declared.series.Part.TheVariants.{MetricFirst, MetricNext, LabelFirst, LabelNext}
-use Rattle.pr_series.specs.SeriesGrammar.{production, table, Rule, Value, mark, listed, quoted, blanks, sign, sign_at, same_sign, second_of, any_at, goes_on, nothing_follows, is_letter_kind, is_label_kind, is_named, name_start, name_byte, labelled, headed, Series, MetricByte, MetricRest, Tail, Braces, metric_start, metric_byte, is_metric_letter_kind, is_metric_kind, Item, Items, NameByte, NameRest, Named, After, Next, InString}
+use Rattle.pr_series.specs.SeriesGrammar.{production, Rule, Value, mark, listed, quoted, blanks, sign, sign_at, same_sign, second_of, any_at, goes_on, nothing_follows, is_letter_kind, is_label_kind, name_start, name_byte, labelled, headed, Series, MetricByte, MetricRest, Tail, Braces, metric_start, metric_byte, is_metric_letter_kind, is_metric_kind, Item, Items, NameByte, NameRest, Named, After, Next, InString}
 use Rattle.pr_series.specs.SeriesReader.{series, in_part, IsOver, over_end, over_byte, IsPart, GoesOn, name_over, name_more, equals, names_of, Reaches, CanClose, starts_listed}
+use Rattle.pr_series.specs.SeriesTable.{table}
 
 -- a byte at the front
 pub at_end : (part : Part) (text : List ℕ) → length text ≡ 0 → IsOver part text
@@ -114,7 +117,7 @@ sign_text wanted first rest None ts h step = tt
 sign_text wanted first rest (Some y) ts h step = keeps_after ts (rest y) h.first.now h.is (small_byte h.first.now (sign_kind wanted (kind_of h.first.now) h.first.now (step h.first (Some (first y)) h.has)))
 
 -- a string, as the grammar of series texts reads it
-pub value_read : (text rest bytes value : List ℕ) → value ≡ bytes → Runs strings.production strings.table (rule strings.Text) (seen text) (good (strings.content bytes) (seen rest)) →
+pub value_read : (text rest bytes value : List ℕ) → value ≡ bytes → Runs strings.production string_tables.table (rule strings.Text) (seen text) (good (strings.content bytes) (seen rest)) →
     Gives series (rule (InString strings.Text)) text (good (quoted (strings.content value)) (seen rest))
 value_read text rest bytes value e k = subst (λ x. Gives series (rule (InString strings.Text)) text (good (quoted (strings.content x)) (seen rest))) (sym e) (gives_good strings_within text rest k)
 
@@ -132,9 +135,9 @@ over_next : (names : List (List ℕ)) (name text : List ℕ) → IsOver LabelNex
 over_next names name [] x = refl
 over_next names name (b ∷ text) (over_byte h) = ap (λ y. is_some (if y then Some (NameByte names (name ++ b ∷ [])) else None)) h
 
-pub goes_label : (names : List (List ℕ)) (start text whole rest : List ℕ) → GoesOn LabelNext start text whole rest → Leads series (rule (NameRest names start)) text (rule (Named (is_named whole names) names whole)) rest
+pub goes_label : (names : List (List ℕ)) (start text whole rest : List ℕ) → GoesOn LabelNext start text whole rest → Leads series (rule (NameRest names start)) text (rule (Named (is_among whole names) names whole)) rest
 goes_label names start text whole rest (name_over x) = leading (λ o k. run_rule (run_right (over_next names start text x) k))
-goes_label names start text whole rest (name_more {mid = mid} {b = b} x g) = subst (λ y. Leads series (rule (NameRest names start)) y (rule (Named (is_named whole names) names whole)) rest) (sym x.is) (leading (λ o k. run_rule (run_left (ap is_some (label_byte names start (kind_of b) b x.has))
+goes_label names start text whole rest (name_more {mid = mid} {b = b} x g) = subst (λ y. Leads series (rule (NameRest names start)) y (rule (Named (is_among whole names) names whole)) rest) (sym x.is) (leading (λ o k. run_rule (run_left (ap is_some (label_byte names start (kind_of b) b x.has))
     (enter (NameByte names (start ++ b ∷ [])) (NameRest names (start ++ b ∷ [])) (name_byte names start) nothing_follows (letter_of b) (seen mid) refl (label_byte names start (kind_of b) b x.has) o
     (led (goes_label names (start ++ b ∷ []) mid whole rest g) k)))))
 
@@ -146,8 +149,8 @@ first_label : (names : List (List ℕ)) (k : Kind) (b : ℕ) → is_letter_kind 
 first_label names k b h = ap (λ x. if x then Some (NameByte names (b ∷ [])) else None) h
 
 pub label_named : (names : List (List ℕ)) (text after rest name : List ℕ) (b : ℕ) → IsPart LabelFirst text b after → GoesOn LabelNext (b ∷ []) after name rest →
-    Leads series (rule (Item names)) text (rule (Named (is_named name names) names name)) rest
-label_named names text after rest name b x g = subst (λ y. Leads series (rule (Item names)) y (rule (Named (is_named name names) names name)) rest) (sym x.is) (leading (λ o k. run_rule (run_right (next_pair table second_of (sign Close) (nothing (listed [])) (letter_of b ∷ seen after) false refl (not_closed (kind_of b) b (letter_not_close (kind_of b) x.has)))
+    Leads series (rule (Item names)) text (rule (Named (is_among name names) names name)) rest
+label_named names text after rest name b x g = subst (λ y. Leads series (rule (Item names)) y (rule (Named (is_among name names) names name)) rest) (sym x.is) (leading (λ o k. run_rule (run_right (next_pair table second_of (sign Close) (nothing (listed [])) (letter_of b ∷ seen after) false refl (not_closed (kind_of b) b (letter_not_close (kind_of b) x.has)))
     (enter (NameByte names (b ∷ [])) (NameRest names (b ∷ [])) (name_start names) nothing_follows (letter_of b) (seen after) refl (first_label names (kind_of b) b x.has) o
     (led (goes_label names (b ∷ []) after name rest g) k)))))
   where
@@ -158,11 +161,11 @@ named_twice : (names : List (List ℕ)) (name text : List ℕ) → Gives series 
 named_twice names name [] = run_rule run_end
 named_twice names name (b ∷ text) = run_rule (run_other refl)
 
-pub listed_twice : (names : List (List ℕ)) (text rest name : List ℕ) (twice : Bool) → Leads series (rule (Item names)) text (rule (Named (is_named name names) names name)) rest → twice ≡ is_named name names → twice ≡ true →
+pub listed_twice : (names : List (List ℕ)) (text rest name : List ℕ) (twice : Bool) → Leads series (rule (Item names)) text (rule (Named (is_among name names) names name)) rest → twice ≡ is_among name names → twice ≡ true →
     Gives series (rule (Item names)) text (bad (seen rest))
 listed_twice names text rest name twice l e h = led l (subst (λ y. Gives series (rule (Named y names name)) rest (bad (seen rest))) (sym (sym e ∙ h)) (named_twice names name rest))
 
-module _ (names : List (List ℕ)) (text at name : List ℕ) (twice : Bool) (l : Leads series (rule (Item names)) text (rule (Named (is_named name names) names name)) at) (e : twice ≡ is_named name names) (once : twice ≡ false) where
+module _ (names : List (List ℕ)) (text at name : List ℕ) (twice : Bool) (l : Leads series (rule (Item names)) text (rule (Named (is_among name names) names name)) at) (e : twice ≡ is_among name names) (once : twice ≡ false) where
   once_named : (o : Outcome Letter Value) → Gives series (rule (Named false names name)) at o → Gives series (rule (Item names)) text o
   once_named o k = led l (subst (λ y. Gives series (rule (Named y names name)) at o) (sym (sym e ∙ once)) k)
 

@@ -1,22 +1,25 @@
 -- One byte ahead decides the grammar of series texts.
 use Rattle.std.proofs.Common.{◌≡◌, ℕ, List, [], ◌∷◌, ◌++◌, Some, None, Bool, true, false, refl, ◌∙◌, subst}
 use Rattle.std.specs.Prelude.{if◌then◌else◌}
+use Rattle.pr_words.specs.Names.{is_among}
 use Rattle.pr_forms.specs.Form.{either, chosen, rule}
 use Rattle.pr_forms.specs.Table.{empty_of, starts_of, more_of, parts_at, is_solid, Binds, IsDecided}
 use Rattle.pr_forms.proofs.Decided.{plain_binds}
 use Rattle.pr_strings.specs.declared.kind.Kind.{Kind}
 use Rattle.pr_strings.specs.declared.kind.Kind.TheVariants.{A}
 use Rattle.pr_strings.specs.Strings as strings
+use Rattle.pr_strings.specs.StringTable as string_tables
 use Rattle.pr_strings.specs.Strings.{Letter, letter}
 use Rattle.pr_strings.proofs.StringTable as string_table
 use Rattle.pr_forms.specs.Within.{HoldsTable, IsWithin}
 use Rattle.pr_strings.specs.Language.{text_strings}
 use Rattle.pr_series.specs.SeriesReader.{series}
 use Rattle.pr_forms.proofs.Within.{empty_within, starts_within, more_within, decides_within}
-use Rattle.pr_series.specs.SeriesGrammar.{production, table, embedding, Value, Rule, Series, MetricByte, MetricRest, Tail, Listed, Braces, Items, Item, NameByte, NameRest, Named, After, Next, InString, is_named, is_letter_kind, is_label_kind, is_metric_letter_kind, is_metric_kind, metric_start, metric_byte, name_start, name_byte, goes_on, nothing_follows}
+use Rattle.pr_series.specs.SeriesGrammar.{production, embedding, Value, Rule, Series, MetricByte, MetricRest, Tail, Listed, Braces, Items, Item, NameByte, NameRest, Named, After, Next, InString, is_letter_kind, is_label_kind, is_metric_letter_kind, is_metric_kind, metric_start, metric_byte, name_start, name_byte, goes_on, nothing_follows}
+use Rattle.pr_series.specs.SeriesTable.{table}
 
 -- strings stand within series texts
-pub tables : HoldsTable embedding strings.table table
+pub tables : HoldsTable embedding string_tables.table table
 tables = record { empty = λ n. refl; starts = λ n t. refl; more = λ n t. refl }
 
 abbrev byte_of : Letter → ℕ
@@ -69,7 +72,7 @@ byte_binds : (names : List (List ℕ)) (name : List ℕ) (t u : Letter) (n : Rul
 byte_binds names name (letter k b) u n e h = name_binds (is_label_kind k) names (name ++ b ∷ []) n u e h
 
 starts_known : (n : Rule) (t : Letter) → starts_of table (production n) t ≡ table.starts n t
-starts_known (InString n) t = starts_within embedding strings.table table tables (strings.production n) t ∙ string_table.known.starts n t
+starts_known (InString n) t = starts_within embedding string_tables.table table tables (strings.production n) t ∙ string_table.known.starts n t
 starts_known (Named twice names name) t = starts_named twice names name t
 starts_known Series (letter A b) = refl
 starts_known (MetricByte name) (letter A b) = refl
@@ -86,13 +89,13 @@ starts_known (Next names) (letter A b) = refl
 starts_known _ _ = refl
 
 empty_known : (n : Rule) → empty_of table (production n) ≡ table.empty n
-empty_known (InString n) = empty_within embedding strings.table table tables (strings.production n) ∙ string_table.known.empty n
+empty_known (InString n) = empty_within embedding string_tables.table table tables (strings.production n) ∙ string_table.known.empty n
 empty_known (Named true names name) = refl
 empty_known (Named false names name) = refl
 empty_known _ = refl
 
 more_known : (n : Rule) (t : Letter) → more_of table (production n) t ≡ table.more n t
-more_known (InString n) t = more_within embedding strings.table table tables (strings.production n) t ∙ string_table.known.more n t
+more_known (InString n) t = more_within embedding string_tables.table table tables (strings.production n) t ∙ string_table.known.more n t
 more_known (Named twice names name) t = more_named twice names name t
 more_known Series (letter A b) = refl
 more_known (MetricByte name) (letter A b) = refl
@@ -109,7 +112,7 @@ more_known (Next names) (letter A b) = refl
 more_known _ _ = refl
 
 parts_known : (n : Rule) (t : Letter) → parts_at table (production n) t ≡ true
-parts_known (InString n) t = (decides_within embedding strings.table table tables (strings.production n) (string_table.known.decides n)).at t
+parts_known (InString n) t = (decides_within embedding string_tables.table table tables (strings.production n) (string_table.known.decides n)).at t
 parts_known (Named twice names name) t = parts_named twice names name t
 parts_known Series (letter A b) = refl
 parts_known (MetricByte name) (letter A b) = refl
@@ -120,19 +123,19 @@ parts_known (Braces names) (letter A b) = refl
 parts_known (Items names) (letter A b) = refl
 parts_known (Item names) (letter A b) = refl
 parts_known (NameByte names name) (letter A b) = refl
-parts_known (NameRest names name) (letter k b) = parts_rest (is_named name names) names name k b
+parts_known (NameRest names name) (letter k b) = parts_rest (is_among name names) names name k b
 parts_known (After names) (letter A b) = refl
 parts_known (Next names) (letter A b) = refl
 parts_known _ _ = refl
 
 solid_known : (n : Rule) → is_solid table (production n) ≡ true
-solid_known (InString n) = (decides_within embedding strings.table table tables (strings.production n) (string_table.known.decides n)).solid
+solid_known (InString n) = (decides_within embedding string_tables.table table tables (strings.production n) (string_table.known.decides n)).solid
 solid_known (Named true names name) = refl
 solid_known (Named false names name) = refl
 solid_known _ = refl
 
 binds_known : (n : Rule) → Binds table (production n)
-binds_known (InString n) = (decides_within embedding strings.table table tables (strings.production n) (string_table.known.decides n)).binds
+binds_known (InString n) = (decides_within embedding string_tables.table table tables (strings.production n) (string_table.known.decides n)).binds
 binds_known Series = (λ t n u e h. start_binds t u n e h, tt)
 binds_known (MetricRest name) = (λ t n u e h. rest_binds name t u n e h, (tt, tt))
 binds_known (Item names) = ((tt, tt), λ t n u e h. item_binds names t u n e h)

@@ -4,6 +4,8 @@ use Rattle.std.specs.Prelude.{codes, flat_map, if◌then◌else◌}
 use Rattle.std.specs.List.{list_all, list_any}
 use Rattle.std.proofs.lemmas.List.{map-append}
 use Rattle.std.proofs.lemmas.Bool.Decides.{nat_tests}
+use Rattle.pr_words.specs.Bytes.{is_letter, is_label_byte}
+use Rattle.pr_words.specs.Names.{is_among}
 use Rattle.pr_forms.specs.Form.{Form, rule, Reads, is_token, is_nothing, is_pair, is_left, is_right, is_stop, is_chosen, is_rule}
 use Rattle.pr_forms.proofs.Suffixes.{reads_suffix, suffix_length}
 use Rattle.pr_strings.specs.Strings as strings
@@ -15,9 +17,8 @@ use Rattle.pr_strings.proofs.Written.{quoted_reads}
 use Rattle.pr_labels.specs.declared.pair.Pair.{Pair}
 use Rattle.pr_labels.specs.Edits.{fault_after, pair_fault}
 use Rattle.pr_labels.specs.LabelSet.{IsLabelSet, has_name, metric_label, pair_of, value_of}
-use Rattle.pr_labels.specs.Names as byte_names
-use Rattle.pr_labels.specs.Names.{is_label_name, is_metric_name}
-use Rattle.pr_series.specs.SeriesGrammar.{production, Rule, Value, listed, quoted, mark, is_named, is_letter_kind, is_label_kind, is_metric_letter_kind, is_metric_kind, ReadsSeries, ReadsLabels, MetricByte, MetricRest, Tail, Braces, Item, NameByte, NameRest, Named, After, InString}
+use Rattle.pr_labels.specs.Names.{is_label_name, is_metric_name, is_metric_byte, is_metric_letter}
+use Rattle.pr_series.specs.SeriesGrammar.{production, Rule, Value, listed, quoted, mark, is_letter_kind, is_label_kind, is_metric_letter_kind, is_metric_kind, ReadsSeries, ReadsLabels, MetricByte, MetricRest, Tail, Braces, Item, NameByte, NameRest, Named, After, InString}
 use Rattle.pr_series.specs.SeriesReader.{names_of}
 use Rattle.pr_labels.specs.SeriesText.{pair_text, following_text, list_text, rest_text, unnamed, text_by_name, series_text}
 use Rattle.pr_labels.proofs.LabelLaws.{first_none}
@@ -28,10 +29,10 @@ use Rattle.pr_labels.proofs.SetValues.{set_again, named_again, faultless, faultl
 use Rattle.pr_labels.proofs.LabelOrder.{both}
 
 -- the letters and the bytes of a metric's name are those of the grammar
-first_kind : (b : ℕ) → is_metric_letter_kind (kind_of b) ≡ byte_names.is_metric_letter b
+first_kind : (b : ℕ) → is_metric_letter_kind (kind_of b) ≡ is_metric_letter b
 first_kind b = grind (arith, nat_tests)
 
-metric_kind : (b : ℕ) → is_metric_kind (kind_of b) ≡ byte_names.is_metric_byte b
+metric_kind : (b : ℕ) → is_metric_kind (kind_of b) ≡ is_metric_byte b
 metric_kind b = grind (arith, nat_tests)
 
 abbrev pub Reading : Form Letter Rule Value → List ℕ → Value → List ℕ → Type 0
@@ -44,29 +45,29 @@ chosen_by : (test : Bool) (n : Rule) → test ≡ true → (if test then Some n 
 chosen_by test n h = ap (λ t. if t then Some n else None) h
 
 -- the bytes of a label's name
-label_rest : (names : List (List ℕ)) (name more rest : List ℕ) (v : Value) (end : List ℕ) → list_all byte_names.is_label_byte more ≡ true → Reading (rule (NameRest names (name ++ more))) rest v end →
+label_rest : (names : List (List ℕ)) (name more rest : List ℕ) (v : Value) (end : List ℕ) → list_all is_label_byte more ≡ true → Reading (rule (NameRest names (name ++ more))) rest v end →
     Reading (rule (NameRest names name)) (more ++ rest) v end
 label_rest names name [] rest v end h d = subst (λ x. Reading (rule (NameRest names x)) rest v end) (append-nil name) d
 label_rest names name (b ∷ more) rest v end h d =
-    let k = both (byte_names.is_label_byte b) (list_all byte_names.is_label_byte more) h in
+    let k = both (is_label_byte b) (list_all is_label_byte more) h in
     let next : Reading (rule (NameRest names (name ++ b ∷ []))) (more ++ rest) v end =
     label_rest names (name ++ b ∷ []) more rest v end k.1 (subst (λ x. Reading (rule (NameRest names x)) rest v end) (sym (append_assoc name (b ∷ []) more)) d) in
     is_rule (is_left (is_chosen {n = NameByte names (name ++ b ∷ [])} (chosen_by (is_label_kind (kind_of b)) (NameByte names (name ++ b ∷ [])) (label_kind b ∙ k.0)) (short next) (is_pair (is_token {v = mark} refl) next)))
 
 -- a whole name that is none of those before
-pub label_name : (names : List (List ℕ)) (name rest : List ℕ) (v : Value) (end : List ℕ) → is_label_name name ≡ true → is_named name names ≡ false → Reading (rule (Named false names name)) rest v end →
+pub label_name : (names : List (List ℕ)) (name rest : List ℕ) (v : Value) (end : List ℕ) → is_label_name name ≡ true → is_among name names ≡ false → Reading (rule (Named false names name)) rest v end →
     Reading (rule (Item names)) (name ++ rest) v end
 label_name names [] rest v end h once d = cc
 label_name names (b ∷ more) rest v end h once d =
-    let k = both (byte_names.is_letter b) (list_all byte_names.is_label_byte more) h in
-    let named : Reading (rule (Named (is_named (b ∷ more) names) names (b ∷ more))) rest v end = subst (λ t. Reading (rule (Named t names (b ∷ more))) rest v end) (sym once) d in
+    let k = both (is_letter b) (list_all is_label_byte more) h in
+    let named : Reading (rule (Named (is_among (b ∷ more) names) names (b ∷ more))) rest v end = subst (λ t. Reading (rule (Named t names (b ∷ more))) rest v end) (sym once) d in
     let next : Reading (rule (NameRest names (b ∷ []))) (more ++ rest) v end = label_rest names (b ∷ []) more rest v end k.1 (is_rule (is_right named)) in
     is_rule (is_right (is_chosen {n = NameByte names (b ∷ [])} (chosen_by (is_letter_kind (kind_of b)) (NameByte names (b ∷ [])) (letter_kind b ∙ k.0)) (short next) (is_pair (is_token {v = mark} refl) next)))
 
 value_reads : (value rest : List ℕ) → Reading (rule (InString strings.Text)) (quoted_text value ++ rest) (quoted (strings.content value)) rest
 value_reads value rest = reads_good strings_within (quoted_text value ++ rest) rest (quoted_reads value rest)
 
-pair_reads : (names : List (List ℕ)) (p : Pair) (ps : List Pair) (rest end : List ℕ) → is_label_name p.name ≡ true → is_named p.name names ≡ false →
+pair_reads : (names : List (List ℕ)) (p : Pair) (ps : List Pair) (rest end : List ℕ) → is_label_name p.name ≡ true → is_among p.name names ≡ false →
     Reading (rule (After (names ++ p.name ∷ []))) rest (listed ps) end → Reading (rule (Item names)) (pair_text p ++ rest) (listed (p ∷ ps)) end
 pair_reads names p ps rest end h once d =
     subst (λ x. Reading (rule (Item names)) x (listed (p ∷ ps)) end) (sym (append_assoc p.name (codes "=" ++ quoted_text p.value) rest))
@@ -76,7 +77,7 @@ pair_reads names p ps rest end h once d =
 -- what a faultless pair tells, and those after it
 pub record Following (before : List Pair) (p : Pair) (ps : List Pair) : Type 0 where
   pub name : is_label_name p.name ≡ true
-  pub once : is_named p.name (names_of before) ≡ false
+  pub once : is_among p.name (names_of before) ≡ false
   pub rest : fault_after (before ++ p ∷ []) ps ≡ None
 
 pub next_of : (before : List Pair) (p : Pair) (ps : List Pair) → fault_after before (p ∷ ps) ≡ None → Following before p ps
@@ -106,11 +107,11 @@ list_reads before (p ∷ ps) h =
     (is_rule (is_pair (is_token {v = mark} refl) (is_rule (is_pair {v = mark} is_stop item))))
 
 -- the bytes of a metric's name
-metric_rest : (name more rest : List ℕ) (v : Value) (end : List ℕ) → list_all byte_names.is_metric_byte more ≡ true → Reading (rule (MetricRest (name ++ more))) rest v end →
+metric_rest : (name more rest : List ℕ) (v : Value) (end : List ℕ) → list_all is_metric_byte more ≡ true → Reading (rule (MetricRest (name ++ more))) rest v end →
     Reading (rule (MetricRest name)) (more ++ rest) v end
 metric_rest name [] rest v end h d = subst (λ x. Reading (rule (MetricRest x)) rest v end) (append-nil name) d
 metric_rest name (b ∷ more) rest v end h d =
-    let k = both (byte_names.is_metric_byte b) (list_all byte_names.is_metric_byte more) h in
+    let k = both (is_metric_byte b) (list_all is_metric_byte more) h in
     let next : Reading (rule (MetricRest (name ++ b ∷ []))) (more ++ rest) v end =
     metric_rest (name ++ b ∷ []) more rest v end k.1 (subst (λ x. Reading (rule (MetricRest x)) rest v end) (sym (append_assoc name (b ∷ []) more)) d) in
     is_rule (is_left (is_chosen {n = MetricByte (name ++ b ∷ [])} (chosen_by (is_metric_kind (kind_of b)) (MetricByte (name ++ b ∷ [])) (metric_kind b ∙ k.0)) (short next) (is_pair (is_token {v = mark} refl) next)))
@@ -118,7 +119,7 @@ metric_rest name (b ∷ more) rest v end h d =
 pub metric_reads : (name rest : List ℕ) (ps : List Pair) → is_metric_name name ≡ true → Reading (rule Tail) rest (listed ps) [] → ReadsSeries (name ++ rest) (pair_of metric_label name ∷ ps)
 metric_reads [] rest ps h d = cc
 metric_reads (b ∷ more) rest ps h d =
-    let k = both (byte_names.is_metric_letter b) (list_all byte_names.is_metric_byte more) h in
+    let k = both (is_metric_letter b) (list_all is_metric_byte more) h in
     let next : Reading (rule (MetricRest (b ∷ []))) (more ++ rest) (listed (pair_of metric_label (b ∷ more) ∷ ps)) [] = metric_rest (b ∷ []) more rest _ [] k.1 (is_rule (is_right (is_pair (is_nothing {v = mark}) d))) in
     is_rule (is_left (is_chosen {n = MetricByte (b ∷ [])} (chosen_by (is_metric_letter_kind (kind_of b)) (MetricByte (b ∷ [])) (first_kind b ∙ k.0)) (short next) (is_pair (is_token {v = mark} refl) next)))
 

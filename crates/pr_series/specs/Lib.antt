@@ -1,4 +1,5 @@
 pub mod SeriesGrammar
+pub mod SeriesTable
 pub mod SeriesParts
 pub mod SeriesReading
 pub mod SeriesReader

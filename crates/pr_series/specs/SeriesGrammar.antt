@@ -1,9 +1,7 @@
 -- Series texts: what they read, and where they are bad.
 use Rattle.std.specs.Prelude.{◌≡◌, ℕ, ◌||◌, Bool, true, false, Option, Some, None, List, [], ◌∷◌, ◌++◌, if◌then◌else◌}
-use Rattle.std.specs.List.{list_any}
-use Rattle.std.specs.Str.{bytes_eq}
+use Rattle.pr_words.specs.Names.{is_among}
 use Rattle.pr_forms.specs.Form.{Form, token, nothing, pair, either, turns, chosen, rule, Reads, IsFirstBad}
-use Rattle.pr_forms.specs.Table.{Table}
 use Rattle.pr_strings.specs.declared.kind.Kind.{Kind}
 use Rattle.pr_strings.specs.declared.kind.Kind.TheVariants.{A, B, F, N, R, T, V, X, Short, Long, HexLetter, OtherLetter, Digit, Colon, Open, Close, Comma, Equal, Blank}
 use Rattle.pr_strings.specs.Strings as strings
@@ -114,10 +112,6 @@ name_start names (letter k b) = if is_letter_kind k then Some (NameByte names (b
 abbrev pub name_byte : List (List ℕ) → List ℕ → Letter → Option Rule
 name_byte names name (letter k b) = if is_label_kind k then Some (NameByte names (name ++ b ∷ [])) else None
 
--- whether a name stands among those before
-abbrev pub is_named : List ℕ → List (List ℕ) → Bool
-is_named name names = list_any (λ n. bytes_eq n name) names
-
 -- how the values of parts are joined
 abbrev pub second_of : Value → Value → Value
 second_of v w = w
@@ -156,10 +150,15 @@ goes_on (letter k b) = is_metric_kind k || is_tail_kind k
 abbrev pub blanks : Form Letter Rule Value
 blanks = turns second_of mark (sign Blank)
 
--- The productions: series        = metric-name tail | braces tail          = blanks braces | braces
--- = "{" items items         = blanks item item          = "}" | label-name blanks "=" blanks string
--- after after         = blanks ( "," items | "}" ) A label's name that stands before cannot be
--- followed by anything. `__name__` stands before where a metric's name does.
+-- The productions:
+--   series = metric-name tail | braces
+--   tail   = blanks braces |
+--   braces = "{" items
+--   items  = blanks item
+--   item   = "}" | label-name blanks "=" blanks string after
+--   after  = blanks ( "," items | "}" )
+-- A label's name that stands before cannot be followed by anything. `__name__` stands before where
+-- a metric's name does.
 abbrev pub production : Rule → Form Letter Rule Value
 production Series = either (chosen metric_start goes_on) (rule (Braces []))
 production (MetricByte name) = pair second_of (token any_at) (rule (MetricRest name))
@@ -170,55 +169,13 @@ production (Braces names) = pair second_of (sign Open) (rule (Items names))
 production (Items names) = pair second_of blanks (rule (Item names))
 production (Item names) = either (pair second_of (sign Close) (nothing (listed []))) (chosen (name_start names) nothing_follows)
 production (NameByte names name) = pair second_of (token any_at) (rule (NameRest names name))
-production (NameRest names name) = either (chosen (name_byte names name) nothing_follows) (rule (Named (is_named name names) names name))
+production (NameRest names name) = either (chosen (name_byte names name) nothing_follows) (rule (Named (is_among name names) names name))
 production (Named true names name) = token none_at
 production (Named false names name) = pair second_of blanks (pair second_of (sign Equal) (pair second_of blanks
     (pair (labelled name) (rule (InString strings.Text)) (rule (After (names ++ name ∷ []))))))
 production (After names) = pair second_of blanks (rule (Next names))
 production (Next names) = either (pair second_of (sign Comma) (rule (Items names))) (pair second_of (sign Close) (nothing (listed [])))
 production (InString n) = within embedding (strings.production n)
-
--- What one byte ahead tells of the rules.
-abbrev pub starts_named : Bool → Kind → Bool
-starts_named true k = false
-starts_named false k = same_sign Blank k || same_sign Equal k
-
-abbrev pub starts_kind : Rule → Kind → Bool
-starts_kind Series k = is_metric_letter_kind k || same_sign Open k
-starts_kind (MetricByte name) k = true
-starts_kind (MetricRest name) k = is_metric_kind k || is_tail_kind k
-starts_kind Tail k = is_tail_kind k
-starts_kind Listed k = is_tail_kind k
-starts_kind (Braces names) k = same_sign Open k
-starts_kind (Items names) k = same_sign Blank k || (same_sign Close k || is_letter_kind k)
-starts_kind (Item names) k = same_sign Close k || is_letter_kind k
-starts_kind (NameByte names name) k = true
-starts_kind (NameRest names name) k = is_label_kind k || starts_named (is_named name names) k
-starts_kind (Named twice names name) k = starts_named twice k
-starts_kind (After names) k = same_sign Blank k || (same_sign Comma k || same_sign Close k)
-starts_kind (Next names) k = same_sign Comma k || same_sign Close k
-starts_kind (InString n) k = false
-
-abbrev pub starts_rule : Rule → Letter → Bool
-starts_rule (InString n) t = strings.table.starts n t
-starts_rule n (letter k b) = starts_kind n k
-
-abbrev pub empty_rule : Rule → Bool
-empty_rule (MetricRest name) = true
-empty_rule Tail = true
-empty_rule (InString n) = strings.table.empty n
-empty_rule _ = false
-
--- only a metric's name can go on, and the list after it can come
-abbrev pub more_rule : Rule → Letter → Bool
-more_rule Series t = goes_on t
-more_rule (MetricByte name) t = goes_on t
-more_rule (MetricRest name) t = goes_on t
-more_rule Tail t = is_tail t
-more_rule _ t = false
-
-abbrev pub table : Table Letter Rule
-table = record { empty = empty_rule; starts = starts_rule; more = more_rule }
 
 -- The text is a series text, with these labels in its order; values may be empty.
 abbrev pub ReadsSeries : List ℕ → List Pair → Type 0

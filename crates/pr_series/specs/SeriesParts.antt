@@ -1,16 +1,11 @@
 -- Series texts told without a grammar: a metric's name, pairs in braces, or both.
 use Rattle.std.specs.Prelude.{◌≡◌, ℕ, true, List, [], ◌∷◌, ◌++◌, codes, None}
-use Rattle.std.specs.List.{list_all}
-use Rattle.pr_words.specs.Fields.{is_blank}
+use Rattle.pr_words.specs.Bytes.{AreBlanks}
 use Rattle.pr_strings.specs.Strings.{IsString}
 use Rattle.pr_labels.specs.declared.pair.Pair.{Pair}
 use Rattle.pr_labels.specs.Edits.{first_fault}
 use Rattle.pr_labels.specs.LabelSet.{metric_label, pair_of}
 use Rattle.pr_labels.specs.Names.{is_label_name, is_metric_name}
-
--- spaces and tabs, or none
-abbrev pub AreBlanks : List ℕ → Type 0
-AreBlanks text = list_all is_blank text ≡ true
 
 -- The text before the rest is a pair: a name, an equals sign between blanks, and a string that
 -- means the value.

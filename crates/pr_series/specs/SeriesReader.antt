@@ -10,7 +10,8 @@ use Rattle.pr_strings.specs.Strings.{Letter, kind_of, letter_of, seen}
 use Rattle.pr_labels.specs.declared.pair.Pair.{Pair}
 use Rattle.pr_series.specs.declared.series.Part.{Part}
 use Rattle.pr_series.specs.declared.series.Part.TheVariants.{MetricFirst, MetricNext, LabelFirst, LabelNext}
-use Rattle.pr_series.specs.SeriesGrammar.{production, table, Rule, Value, listed, mark, Listed, blanks, sign, second_of, is_letter_kind, is_label_kind, is_metric_letter_kind, is_metric_kind}
+use Rattle.pr_series.specs.SeriesGrammar.{production, Rule, Value, listed, mark, Listed, blanks, sign, second_of, is_letter_kind, is_label_kind, is_metric_letter_kind, is_metric_kind}
+use Rattle.pr_series.specs.SeriesTable.{table}
 
 -- the language of series texts
 abbrev pub series : Language ℕ Letter Rule Value

@@ -3,33 +3,13 @@ use Rattle.std.specs.Prelude.{◌≡◌, ℕ, Option, Some, None, List}
 use Rattle.std.specs.Option.{option_map}
 use Rattle.pr_forms.specs.Form.{rule}
 use Rattle.pr_forms.specs.Reading.{reading, bad_place}
-use Rattle.pr_strings.specs.Strings as strings
 use Rattle.pr_strings.specs.Strings.{seen}
 use Rattle.pr_labels.specs.declared.pair.Pair.{Pair}
 use Rattle.pr_series.specs.declared.series.TextFault.{TextFault}
 use Rattle.pr_series.specs.declared.series.TextFault.TheVariants.{BadLabels, Memory}
 use Rattle.pr_labels.specs.Edits.{labels_of}
-use Rattle.pr_series.specs.SeriesGrammar.{production, table, Rule, Series, MetricByte, MetricRest, Tail, Listed, Braces, Items, Item, NameByte, NameRest, Named, After, Next, InString, Value, listed}
-
--- how many steps a rule makes at most before it comes to a byte, and a bound on that
-abbrev pub rank : Rule → ℕ
-rank Series = 5
-rank (MetricByte name) = 2
-rank (MetricRest name) = 9
-rank Tail = 6
-rank Listed = 4
-rank (Braces names) = 2
-rank (Items names) = 6
-rank (Item names) = 4
-rank (NameByte names name) = 2
-rank (NameRest names name) = 6
-rank (Named twice names name) = 4
-rank (After names) = 5
-rank (Next names) = 3
-rank (InString n) = strings.rank n
-
-abbrev pub steps : ℕ
-steps = strings.steps
+use Rattle.pr_series.specs.SeriesGrammar.{production, Series, Value, listed}
+use Rattle.pr_series.specs.SeriesTable.{table, steps}
 
 abbrev pub pairs_in : Option Value → Option (List Pair)
 pairs_in (Some (listed pairs)) = Some pairs

@@ -1,8 +1,7 @@
 // The labels that a reader has found.
 ghost use Rattle.std.specs.Prelude.{◌≡◌, ◌++◌, ◌∷◌, [], ℕ, List, IfOk};
-ghost use Rattle.pr_series.specs.SeriesGrammar.{is_named};
+ghost use Rattle.pr_words.specs.Names.{knows, is_among};
 ghost use Rattle.pr_series.specs.SeriesReader.{names_of};
-ghost use Rattle.pr_labels.specs.Known.{knows};
 
 use pr_labels::Pair;
 use std::alloc::{AllocError, Global};
@@ -13,7 +12,7 @@ use std::collections::BTreeSet;
 pub(crate) struct Found<'a> {
     pub(crate) pairs: Vec<Pair>,
     names: BTreeSet<&'a [u8]>,
-    ghost known: { (name : List ℕ) → knows names name ≡ is_named name (names_of pairs.items) },
+    ghost known: { (name : List ℕ) → knows names name ≡ is_among name (names_of pairs.items) },
 }
 
 impl<'a> Found<'a> {
@@ -29,7 +28,7 @@ impl<'a> Found<'a> {
 
     /// Whether a label has the name.
     pub(crate) fn has(&self, name: &str) -> bool
-        ensures { result ≡ is_named name.now (names_of self.now.pairs.items) }
+        ensures { result ≡ is_among name.now (names_of self.now.pairs.items) }
     {
         self.names.contains(name.as_bytes())
     }

@@ -4,11 +4,12 @@ ghost use Rattle.pr_forms.specs.Table.{IsDecided};
 ghost use Rattle.pr_forms.specs.Reading.{Ends};
 ghost use Rattle.pr_labels.specs.Edits.{first_fault};
 ghost use Rattle.pr_labels.specs.LabelSet.{IsLabelSet};
-ghost use Rattle.pr_series.specs.SeriesGrammar.{production, table, ReadsSeries, ReadsLabels, IsBadPlace};
+ghost use Rattle.pr_series.specs.SeriesGrammar.{production, ReadsSeries, ReadsLabels, IsBadPlace};
 ghost use Rattle.pr_series.specs.SeriesParts.{IsSeriesText};
-ghost use Rattle.pr_series.specs.SeriesReading.{rank, steps, series_pairs, series_labels, bad_series_place};
+ghost use Rattle.pr_series.specs.SeriesReading.{series_pairs, series_labels, bad_series_place};
 ghost use Rattle.pr_labels.specs.SeriesText.{series_text};
 ghost use Rattle.pr_labels.specs.declared.pair.Pair.{Pair};
+ghost use Rattle.pr_series.specs.SeriesTable.{table, rank, steps};
 
 /// One byte ahead decides the grammar of series texts: so a text is read in one way, and without
 /// going back. The grammar ends: so its reading is a function of the text.

@@ -4,16 +4,16 @@ use Rattle.pr_outside.specs.Causes.{Rose, IsCalm}
 use Rattle.pr_status.specs.declared.status.Status.{Status}
 use Rattle.pr_status.specs.declared.status.Status.TheVariants.{Done, Problem, Usage, Lint, ReadFault, WriteFault, StoreFault, Memory, TooLong}
 
-abbrev pub number_of : Status → ℕ
-number_of Done = 0
-number_of Problem = 1
-number_of Usage = 2
-number_of Lint = 3
-number_of ReadFault = 4
-number_of WriteFault = 5
-number_of StoreFault = 6
-number_of Memory = 7
-number_of TooLong = 8
+abbrev pub status_number : Status → ℕ
+status_number Done = 0
+status_number Problem = 1
+status_number Usage = 2
+status_number Lint = 3
+status_number ReadFault = 4
+status_number WriteFault = 5
+status_number StoreFault = 6
+status_number Memory = 7
+status_number TooLong = 8
 
 -- how a run ends that was not cut short, by whether it refused a script line, a named file or the
 -- exposition

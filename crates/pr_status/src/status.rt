@@ -1,6 +1,6 @@
 // How the program ends.
 ghost use Rattle.std.specs.Prelude.{◌≡◌};
-ghost use Rattle.pr_status.specs.Status.{number_of};
+ghost use Rattle.pr_status.specs.Status.{status_number};
 ghost use Rattle.pr_status.specs.Stops.{status_of, stop_of_sink, stop_status};
 ghost use Rattle.pr_status.specs.declared.status.Stop.TheVariants.{Memory, Read};
 
@@ -33,7 +33,7 @@ pub enum Status {
 impl Status {
     /// The number that the process ends with.
     pub fn number(self) -> u8
-        ensures { result ≡ number_of self }
+        ensures { result ≡ status_number self }
     {
         match self {
             Status::Done => 0,

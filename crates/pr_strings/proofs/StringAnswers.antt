@@ -4,10 +4,11 @@ use Rattle.std.specs.Prelude.{Option}
 use Rattle.pr_forms.specs.Form.{rule}
 use Rattle.pr_forms.specs.Reading.{reading}
 use Rattle.pr_forms.proofs.Ending.{given_reads, reads_given, given_place}
-use Rattle.pr_strings.specs.Strings.{production, table, rank, steps, seen, Text, Value, content, mark, IsString, IsBadPlace}
+use Rattle.pr_strings.specs.Strings.{production, seen, Text, Value, content, mark, IsString, IsBadPlace}
 use Rattle.pr_strings.specs.StringAnswer.{content_in, string_of, bad_string_place}
 use Rattle.pr_strings.proofs.StringTable.{known}
 use Rattle.pr_strings.proofs.StringEnds.{ends}
+use Rattle.pr_strings.specs.StringTable.{table, rank, steps}
 
 pub string_of_reading : (text bytes : List ℕ) → IsString text bytes [] → string_of text ≡ Some bytes
 unfolding string_of

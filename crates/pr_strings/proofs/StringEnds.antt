@@ -4,7 +4,8 @@ use Rattle.std.specs.Prelude.{if◌then◌else◌}
 use Rattle.pr_forms.specs.Reading.{EndsIn, Ends}
 use Rattle.pr_strings.specs.declared.kind.Kind.{Kind}
 use Rattle.pr_strings.specs.declared.kind.Kind.TheVariants.{X, Short, Long}
-use Rattle.pr_strings.specs.Strings.{production, table, rank, steps, fits, reached, numbered, numbered_by, digit_of, Letter, letter, Rule, Text, Quoted, Escape, Digits, Then}
+use Rattle.pr_strings.specs.Strings.{production, fits, reached, numbered, numbered_by, digit_of, Letter, letter, Rule, Text, Quoted, Escape, Digits, Then}
+use Rattle.pr_strings.specs.StringTable.{table, rank, steps}
 
 -- the rule that a digit or a letter chooses reads a byte
 byte_ends : (test : Bool) (limit left n : ℕ) (k : Rule) → (if test then Some (Then limit left n) else None) ≡ Some k → (table.empty k ≡ false) × (nat_le (rank k) 2 ≡ true)

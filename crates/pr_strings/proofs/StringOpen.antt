@@ -12,7 +12,7 @@ use Rattle.pr_forms.proofs.Suffixes.{Suffix, there, reads_suffix, suffix_drop, s
 use Rattle.pr_strings.specs.declared.kind.Mark.{Mark}
 use Rattle.pr_strings.specs.declared.kind.Kind.{Kind}
 use Rattle.pr_strings.specs.declared.kind.Kind.TheVariants.{Quote}
-use Rattle.pr_strings.specs.Strings.{production, table, kind_of, letter_of, seen, Letter, Value, content, Rule, Quoted, piece, joined, IsOpening, IsOpenAt}
+use Rattle.pr_strings.specs.Strings.{production, kind_of, letter_of, seen, Letter, Value, content, Rule, Quoted, piece, joined, IsOpening, IsOpenAt}
 use Rattle.pr_forms.specs.Language.{Takes, Lacks}
 use Rattle.pr_strings.specs.Language.{text_strings}
 use Rattle.pr_strings.specs.Reader.{BreaksAt, HasNoOpening}
@@ -20,6 +20,7 @@ use Rattle.pr_forms.specs.declared.reader.Fault.{Fault}
 use Rattle.pr_forms.specs.declared.reader.Fault.TheVariants.{Bad, Memory}
 use Rattle.std.proofs.lemmas.Bool.Decides.{nat_tests}
 use Rattle.pr_strings.proofs.StringTable.{known}
+use Rattle.pr_strings.specs.StringTable.{table}
 
 abbrev pub pieces_after : Mark → Value → Form Letter Rule Value
 pieces_after m w = turns joined w (piece m)

@@ -12,12 +12,13 @@ use Rattle.pr_forms.proofs.Sound.{meets, reads}
 use Rattle.pr_forms.proofs.Decided.{rule_decides}
 use Rattle.pr_forms.proofs.Fronts.{same_good, none_good}
 use Rattle.pr_strings.specs.declared.kind.Mark.{Mark}
-use Rattle.pr_strings.specs.Strings.{production, table, letter_of, seen, Letter, Value, content, Text, Quoted, piece, IsString, IsBadPlace}
+use Rattle.pr_strings.specs.Strings.{production, letter_of, seen, Letter, Value, content, Text, Quoted, piece, IsString, IsBadPlace}
 use Rattle.pr_forms.specs.Language.{Gives, Leads, FailsAt}
 use Rattle.pr_strings.specs.Language.{text_strings}
 use Rattle.pr_strings.specs.Reader.{BreaksAt, Refuses, IsMemory, IsNoLonger, IsOnly}
 use Rattle.pr_strings.proofs.StringTable.{known}
 use Rattle.pr_strings.proofs.StringReading.{Pieces, broken_piece}
+use Rattle.pr_strings.specs.StringTable.{table}
 
 -- where the reading stops, no string stands at the front
 pub unread : (text at : List ℕ) → Gives text_strings (rule Text) text (bad (seen at)) → (v : Value) (left : List Letter) → Reads production (rule Text) (seen text) v left → ⊥

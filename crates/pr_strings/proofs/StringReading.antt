@@ -15,9 +15,10 @@ use Rattle.pr_strings.specs.declared.kind.Mark.{Mark}
 use Rattle.pr_strings.specs.declared.kind.Mark.TheVariants.{Double, Single, Back}
 use Rattle.pr_strings.specs.declared.kind.Kind.{Kind}
 use Rattle.pr_strings.specs.declared.kind.Kind.TheVariants.{Quote}
-use Rattle.pr_strings.specs.Strings.{production, table, kind_of, Letter, letter, letter_of, seen, Value, content, mark, byte_value, Rule, Text, Quoted, Escape, Digits, Then, quote_at, plain_at, escape_at, named_at, numbering, numbered_by, numbered, nothing_follows, digit_of, fits, reached, any_at, joined, second_of, piece}
+use Rattle.pr_strings.specs.Strings.{production, kind_of, Letter, letter, letter_of, seen, Value, content, mark, byte_value, Rule, Text, Quoted, Escape, Digits, Then, quote_at, plain_at, escape_at, named_at, numbering, numbered_by, numbered, nothing_follows, digit_of, fits, reached, any_at, joined, second_of, piece}
 use Rattle.pr_strings.specs.Language.{text_strings}
 use Rattle.pr_strings.specs.Reader.{Breaks}
+use Rattle.pr_strings.specs.StringTable.{table}
 
 -- past a token that has no value alone
 past : (p : Letter → Option Value) (f : Form Letter Rule Value) (t : Letter) (ts : List Letter) (v : Value) → p t ≡ Some v → (o : Outcome Letter Value) → Runs production table f ts o →

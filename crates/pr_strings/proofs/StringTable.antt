@@ -4,7 +4,8 @@ use Rattle.pr_forms.specs.Table.{empty_of, starts_of, more_of, parts_at, is_soli
 use Rattle.pr_forms.proofs.Decided.{plain_binds}
 use Rattle.pr_strings.specs.declared.kind.Mark.TheVariants.{Double, Single, Back}
 use Rattle.pr_strings.specs.declared.kind.Kind.TheVariants.{Quote}
-use Rattle.pr_strings.specs.Strings.{production, table, Letter, letter, Rule, Text, Quoted, Escape, Digits, Then}
+use Rattle.pr_strings.specs.Strings.{production, Letter, letter, Rule, Text, Quoted, Escape, Digits, Then}
+use Rattle.pr_strings.specs.StringTable.{table}
 
 starts_known : (n : Rule) (t : Letter) → starts_of table (production n) t ≡ table.starts n t
 starts_known Text (letter (Quote Double) b) = refl

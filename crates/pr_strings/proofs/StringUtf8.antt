@@ -15,10 +15,11 @@ use Rattle.pr_strings.specs.declared.kind.Mark.{Mark}
 use Rattle.pr_strings.specs.declared.kind.Mark.TheVariants.{Double, Single, Back}
 use Rattle.pr_strings.specs.declared.kind.Kind.{Kind}
 use Rattle.pr_strings.specs.declared.kind.Kind.TheVariants.{Quote, Backslash, A, B, F, N, R, T, V, Other}
-use Rattle.pr_strings.specs.Strings.{production, table, kind_of, Letter, letter, letter_of, seen, Value, mark, byte_value, quote_at, plain_at, escape_at, named_at, named_byte, is_plain, as_content, numbered_by, numbering, digit_of, Rule}
+use Rattle.pr_strings.specs.Strings.{production, kind_of, Letter, letter, letter_of, seen, Value, mark, byte_value, quote_at, plain_at, escape_at, named_at, named_byte, is_plain, as_content, numbered_by, numbering, digit_of, Rule}
 use Rattle.pr_forms.specs.Language.{Takes}
 use Rattle.pr_strings.specs.Language.{text_strings}
 use Rattle.pr_strings.specs.Reader.{KeepsText, KeepsFront, SplitsText}
+use Rattle.pr_strings.specs.StringTable.{table}
 
 -- a text may be cut around an ASCII byte
 module _ (front rest : List ℕ) (b : ℕ) (small : b < 128) (u : IsUtf8 (front ++ b ∷ rest)) where

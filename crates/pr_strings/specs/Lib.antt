@@ -1,4 +1,5 @@
 pub mod Strings
+pub mod StringTable
 pub mod Reader
 pub mod Language
 pub mod Quoted

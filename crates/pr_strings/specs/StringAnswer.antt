@@ -2,7 +2,8 @@
 use Rattle.std.specs.Prelude.{ℕ, Option, Some, None, List}
 use Rattle.pr_forms.specs.Form.{rule}
 use Rattle.pr_forms.specs.Reading.{reading, bad_place}
-use Rattle.pr_strings.specs.Strings.{production, table, steps, seen, Text, Value, content}
+use Rattle.pr_strings.specs.Strings.{production, seen, Text, Value, content}
+use Rattle.pr_strings.specs.StringTable.{table, steps}
 
 abbrev pub content_in : Option Value → Option (List ℕ)
 content_in (Some (content bytes)) = Some bytes

@@ -1,8 +1,9 @@
 -- The strings of the query language: what they read, and where they are bad.
-use Rattle.std.specs.Prelude.{◌≡◌, ℕ, zero, suc, ◌+◌, ◌-◌, ◌*◌, ◌^◌, ◌==◌, nat_le, ◌&&◌, ◌||◌, not, Bool, true, false, Option, Some, None, is_some, List, [], ◌∷◌, ◌++◌, drop, map, encode_utf8, if◌then◌else◌}
+use Rattle.std.specs.Prelude.{◌≡◌, ℕ, zero, suc, ◌+◌, ◌*◌, ◌^◌, ◌==◌, nat_le, ◌&&◌, ◌||◌, not, Bool, true, false, Option, Some, None, List, [], ◌∷◌, ◌++◌, drop, map, encode_utf8, if◌then◌else◌}
 use Prim.Native.Char.{code}
+use Rattle.std.specs.Char.{is_ascii_digit, digit_value}
+use Rattle.pr_words.specs.Bytes.{is_blank}
 use Rattle.pr_forms.specs.Form.{Form, token, nothing, pair, either, turns, chosen, rule, Reads, IsFirstBad}
-use Rattle.pr_forms.specs.Table.{Table}
 use Rattle.pr_strings.specs.declared.kind.Mark.{Mark}
 use Rattle.pr_strings.specs.declared.kind.Mark.TheVariants.{Double, Single, Back}
 use Rattle.pr_strings.specs.declared.kind.Kind.{Kind}
@@ -16,23 +17,23 @@ abbrev pub is_other_letter : ℕ → Bool
 is_other_letter b = (nat_le (code "G") b && nat_le b (code "Z")) || (nat_le (code "g") b && nat_le b (code "z")) || b == code "_"
 
 -- the signs and the blanks, and all else
-abbrev pub sign_of : ℕ → Kind
-sign_of b = if b == code ":" then Colon else (if b == code "{" then Open else (if b == code "}" then Close else (if b == code "," then Comma else (if b == code "=" then Equal else
-    (if b == code " " || b == code "\t" then Blank else Other)))))
+abbrev pub sign_kind : ℕ → Kind
+sign_kind b = if b == code ":" then Colon else (if b == code "{" then Open else (if b == code "}" then Close else (if b == code "," then Comma else (if b == code "=" then Equal else
+    (if is_blank b then Blank else Other)))))
 
 -- the digits and the letters without a meaning after a backslash
-abbrev pub word_of : ℕ → Kind
-word_of b = if nat_le (code "0") b && nat_le b (code "9") then Digit else (if is_hex_letter b then HexLetter else (if is_other_letter b then OtherLetter else sign_of b))
+abbrev pub plain_kind : ℕ → Kind
+plain_kind b = if is_ascii_digit b then Digit else (if is_hex_letter b then HexLetter else (if is_other_letter b then OtherLetter else sign_kind b))
 
 -- the letters that stand after a backslash
-abbrev pub escape_of : ℕ → Kind
-escape_of b = if b == code "a" then A else (if b == code "b" then B else (if b == code "f" then F else (if b == code "n" then N else (if b == code "r" then R else
-    (if b == code "t" then T else (if b == code "v" then V else (if b == code "x" then X else (if b == code "u" then Short else (if b == code "U" then Long else word_of b)))))))))
+abbrev pub escape_kind : ℕ → Kind
+escape_kind b = if b == code "a" then A else (if b == code "b" then B else (if b == code "f" then F else (if b == code "n" then N else (if b == code "r" then R else
+    (if b == code "t" then T else (if b == code "v" then V else (if b == code "x" then X else (if b == code "u" then Short else (if b == code "U" then Long else plain_kind b)))))))))
 
 -- the quotes, the backslash and the line feed
 abbrev pub kind_of : ℕ → Kind
 kind_of b = if b == code "\"" then Quote Double else (if b == code "'" then Quote Single else (if b == code "`" then Quote Back else
-    (if b == code "\\" then Backslash else (if b == code "\n" then Feed else escape_of b))))
+    (if b == code "\\" then Backslash else (if b == code "\n" then Feed else escape_kind b))))
 
 -- A byte as the grammar sees it.
 pub data Letter : Type 0 where
@@ -133,9 +134,6 @@ numbered_by k = None
 abbrev pub numbered : Letter → Option Rule
 numbered (letter k b) = numbered_by k
 
-abbrev pub digit_value : ℕ → ℕ
-digit_value b = if nat_le b (code "9") then b - code "0" else (if nat_le b (code "F") then b - (code "A" - 10) else b - (code "a" - 10))
-
 -- the value of a digit of base 16
 abbrev pub digit_of : Letter → Option ℕ
 digit_of (letter Digit b) = Some (digit_value b)
@@ -176,11 +174,14 @@ nothing_follows t = false
 abbrev pub piece : Mark → Form Letter Rule Value
 piece m = either (token (plain_at m)) (pair second_of (token (escape_at m)) (rule (Escape m)))
 
--- The productions: text            = '"' quoted(double) | "'" quoted(single) | "`" quoted(back)
--- quoted(m)       = {plain(m) | "\" escape(m)} m escape(m)       = m | "\" | "a" | "b" | "f" | "n"
--- | "r" | "t" | "v" | "x" digits(2) | "u" digits(4) | "U" digits(8) digits(0)       = digits(k + 1)
--- = a digit with which a character can still come, and digits(k) `Then` reads the byte that chose
--- it and then the digits.
+-- The productions:
+--   text          = '"' quoted(double) | "'" quoted(single) | "`" quoted(back)
+--   quoted(m)     = {plain(m) | "\" escape(m)} m
+--   escape(m)     = m | "\" | "a" | "b" | "f" | "n" | "r" | "t" | "v"
+--                 | "x" digits(2) | "u" digits(4) | "U" digits(8)
+--   digits(0)     =
+--   digits(k + 1) = a digit with which a character can still come, and digits(k)
+-- `Then` reads the byte that chose it, and then the digits.
 abbrev pub production : Rule → Form Letter Rule Value
 production Text = either (pair second_of (token (quote_at Double)) (rule (Quoted Double)))
     (either (pair second_of (token (quote_at Single)) (rule (Quoted Single))) (pair second_of (token (quote_at Back)) (rule (Quoted Back))))
@@ -189,40 +190,6 @@ production (Escape m) = either (token (named_at m)) (chosen numbered nothing_fol
 production (Digits limit zero n) = nothing (content (encode_utf8 n))
 production (Digits limit (suc left) n) = chosen (λ t. reached limit left n (digit_of t)) nothing_follows
 production (Then limit left n) = pair second_of (token any_at) (rule (Digits limit left n))
-
--- What one byte ahead tells of the rules.
-abbrev pub starts_rule : Rule → Letter → Bool
-starts_rule Text (letter (Quote m) b) = true
-starts_rule Text t = false
-starts_rule (Quoted Back) t = true
-starts_rule (Quoted m) (letter Feed b) = false
-starts_rule (Quoted m) t = true
-starts_rule (Escape m) (letter k b) = is_some (named_byte m k) || is_some (numbered (letter k b))
-starts_rule (Digits limit zero n) t = false
-starts_rule (Digits limit (suc left) n) t = is_some (reached limit left n (digit_of t))
-starts_rule (Then limit left n) t = true
-
-abbrev pub empty_rule : Rule → Bool
-empty_rule (Digits limit zero n) = true
-empty_rule _ = false
-
--- a string has an end, and nothing goes on after it
-abbrev pub more_rule : Rule → Letter → Bool
-more_rule n t = false
-
-abbrev pub table : Table Letter Rule
-table = record { empty = empty_rule; starts = starts_rule; more = more_rule }
-
--- how many steps a rule makes at most before it comes to a byte, and a bound on that
-abbrev pub rank : Rule → ℕ
-rank Text = 4
-rank (Quoted m) = 5
-rank (Escape m) = 4
-rank (Digits limit left n) = 3
-rank (Then limit left n) = 2
-
-abbrev pub steps : ℕ
-steps = 10
 
 -- The front of the text before the rest is a string, and means the bytes.
 abbrev pub IsString : List ℕ → List ℕ → List ℕ → Type 0

@@ -4,9 +4,10 @@ ghost use Rattle.pr_forms.specs.Table.{IsDecided};
 ghost use Rattle.pr_forms.specs.Reading.{Ends};
 ghost use Rattle.pr_strings.specs.Quoted.{quoted_text};
 ghost use Rattle.pr_strings.specs.StringAnswer.{string_of, bad_string_place};
-ghost use Rattle.pr_strings.specs.Strings.{production, table, rank, steps, IsString, IsBadPlace, fits};
+ghost use Rattle.pr_strings.specs.Strings.{production, IsString, IsBadPlace, fits};
 ghost use Rattle.pr_strings.specs.Escapes.{IsLimit, CanBecomeCharacter, IsEscape, WritesCharacter};
 ghost use Rattle.pr_strings.specs.declared.kind.Mark.{Mark};
+ghost use Rattle.pr_strings.specs.StringTable.{table, rank, steps};
 
 /// One byte ahead decides the grammar of strings: so a string is read in one way, and without going
 /// back. The grammar ends: so its reading is a function of the text.

@@ -6,7 +6,7 @@ use Rattle.std.specs.Str.{IsUtf8, is_utf8}
 use Rattle.std.proofs.lemmas.Str.{is_utf8-from_IsUtf8}
 use Rattle.pr_text.specs.declared.order.Numbered.{Numbered}
 use Rattle.pr_text.specs.declared.order.Order.TheVariants.{Bad}
-use Rattle.pr_text.specs.Orders.{Block, body_at, behind_body, with_line, blocks_by, order_of, order_by, orders_after}
+use Rattle.pr_text.specs.Orders.{Block, body_at, behind_body, with_line, blocks_by, block_order, event_order, orders_after}
 use Rattle.pr_text.specs.Script.{is_passed_over, event_of, takes_body, is_body_line}
 use Rattle.pr_text.proofs.EventTexts.{event_text, taking_text, body_line_text, passed_text}
 
@@ -78,18 +78,18 @@ cons_before : (o : Option Numbered) (xs ys : List Numbered) → cons_option o (x
 cons_before None xs ys = refl
 cons_before (Some o) xs ys = refl
 
-filter_before : (xs ys : List Block) → filter_map order_of (xs ++ ys) ≡ filter_map order_of xs ++ filter_map order_of ys
+filter_before : (xs ys : List Block) → filter_map block_order (xs ++ ys) ≡ filter_map block_order xs ++ filter_map block_order ys
 filter_before [] ys = refl
-filter_before (x ∷ xs) ys = ap (cons_option (order_of x)) (filter_before xs ys) ∙ cons_before (order_of x) (filter_map order_of xs) (filter_map order_of ys)
+filter_before (x ∷ xs) ys = ap (cons_option (block_order x)) (filter_before xs ys) ∙ cons_before (block_order x) (filter_map block_order xs) (filter_map block_order ys)
 
 pub refused : (n m : ℕ) (before after : List (List ℕ)) (line : List ℕ) → is_utf8 line ≡ false → m ≡ n + length before + 1
     → orders_after n (before ++ (line ∷ after)) ≡ orders_after n before ++ (record { number = m; order = Bad } ∷ orders_after m after)
 unfolding orders_after
 refused n m before after line h is =
     let other = not_of_body line h in
-    let bad : order_by (event_of line []) ≡ Bad = ap order_by (no_event line [] h) in
-    ap (filter_map order_of) (blocks_before line other n m before after (takes_none line h) is)
+    let bad : event_order (event_of line []) ≡ Bad = ap event_order (no_event line [] h) in
+    ap (filter_map block_order) (blocks_before line other n m before after (takes_none line h) is)
     ∙ filter_before (blocks_by takes_body n before) (alone line other m ∷ blocks_by takes_body m after)
-    ∙ ap (λ (os : List Numbered). filter_map order_of (blocks_by takes_body n before) ++ os)
-    (kept (is_passed_over line) (record { number = m; order = order_by (event_of line []) }) (filter_map order_of (blocks_by takes_body m after)) (not_passed line h)
-    ∙ ap (λ o. (record { number = m; order = o }) ∷ filter_map order_of (blocks_by takes_body m after)) bad)
+    ∙ ap (λ (os : List Numbered). filter_map block_order (blocks_by takes_body n before) ++ os)
+    (kept (is_passed_over line) (record { number = m; order = event_order (event_of line []) }) (filter_map block_order (blocks_by takes_body m after)) (not_passed line h)
+    ∙ ap (λ o. (record { number = m; order = o }) ∷ filter_map block_order (blocks_by takes_body m after)) bad)

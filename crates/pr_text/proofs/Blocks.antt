@@ -3,9 +3,10 @@ use Rattle.std.proofs.Common.{◌≡◌, ℕ, ◌+◌, ◌≤◌, Bool, true, fa
 use Rattle.std.specs.Prelude.{filter_map, is_some, codes, reverse, ◌-◌}
 use Rattle.std.specs.List.{cons_option, list_all, position_or_len}
 use Rattle.std.specs.Str.{bytes_eq, is_utf8}
-use Rattle.pr_words.specs.Fields.{first_field, after_field, is_blank, is_field_byte}
+use Rattle.pr_words.specs.Fields.{first_field, after_field, is_field_byte}
+use Rattle.pr_words.specs.Bytes.{is_blank}
 use Rattle.pr_text.specs.declared.order.Numbered.{Numbered}
-use Rattle.pr_text.specs.Orders.{Block, body_at, behind_body, with_line, blocks_by, order_of, order_by, orders_after}
+use Rattle.pr_text.specs.Orders.{Block, body_at, behind_body, with_line, blocks_by, block_order, event_order, orders_after}
 use Rattle.pr_text.specs.Script.{is_passed_over, event_of, occasion_of, takes_by, takes_body, is_body_line, body_of}
 use Rattle.pr_text.specs.Started.{ends_body}
 
@@ -75,7 +76,7 @@ body_takes_none (b ∷ bytes) h = bar_by (length (b ∷ bytes) - position_or_len
 
 -- the order of a line with body lines
 abbrev pub numbered : ℕ → List ℕ → List (List ℕ) → Numbered
-numbered n line body = record { number = n; order = order_by (event_of line (body_of body)) }
+numbered n line body = record { number = n; order = event_order (event_of line (body_of body)) }
 
 pick : (b : Bool) (o : Numbered) (os : List Numbered) → cons_option (cond b None (Some o)) os ≡ cond b os (o ∷ os)
 pick true o os = refl
@@ -89,8 +90,8 @@ orders_alone : (n : ℕ) (line : List ℕ) (lines : List (List ℕ)) → takes_b
     → orders_after n (line ∷ lines) ≡ cond (is_passed_over line) (orders_after (n + 1) lines) (numbered (n + 1) line [] ∷ orders_after (n + 1) lines)
 unfolding orders_after
 orders_alone n line lines none =
-    ap (λ (t : Bool). filter_map order_of (with_line t (n + 1) line (blocks_by takes_body (n + 1) lines))) none
-    ∙ pick (is_passed_over line) (numbered (n + 1) line []) (filter_map order_of (blocks_by takes_body (n + 1) lines))
+    ap (λ (t : Bool). filter_map block_order (with_line t (n + 1) line (blocks_by takes_body (n + 1) lines))) none
+    ∙ pick (is_passed_over line) (numbered (n + 1) line []) (filter_map block_order (blocks_by takes_body (n + 1) lines))
 
 -- a line that asks for nothing
 pub orders_pass : (n : ℕ) (line : List ℕ) (lines : List (List ℕ)) → is_passed_over line ≡ true
@@ -153,18 +154,18 @@ pub orders_body : (n m : ℕ) (line : List ℕ) (body rest : List (List ℕ)) �
 unfolding orders_after
 orders_body n m line body rest takes over all ends is =
     let on = bodies (n + 1) m body rest all ends is in
-    ap (λ (t : Bool). filter_map order_of (with_line t (n + 1) line (blocks_by takes_body (n + 1) (body ++ rest)))) takes
+    ap (λ (t : Bool). filter_map block_order (with_line t (n + 1) line (blocks_by takes_body (n + 1) (body ++ rest)))) takes
     ∙ pick (is_passed_over line) (numbered (n + 1) line (body_at (blocks_by takes_body (n + 1) (body ++ rest))))
-    (filter_map order_of (behind_body (blocks_by takes_body (n + 1) (body ++ rest))))
-    ∙ ap (λ (b : Bool). cond b (filter_map order_of (behind_body (blocks_by takes_body (n + 1) (body ++ rest))))
-    (numbered (n + 1) line (body_at (blocks_by takes_body (n + 1) (body ++ rest))) ∷ filter_map order_of (behind_body (blocks_by takes_body (n + 1) (body ++ rest))))) over
-    ∙ ap (λ (l : List (List ℕ)). numbered (n + 1) line l ∷ filter_map order_of (behind_body (blocks_by takes_body (n + 1) (body ++ rest)))) on.0
-    ∙ ap (λ (bs : List Block). numbered (n + 1) line body ∷ filter_map order_of bs) on.1
+    (filter_map block_order (behind_body (blocks_by takes_body (n + 1) (body ++ rest))))
+    ∙ ap (λ (b : Bool). cond b (filter_map block_order (behind_body (blocks_by takes_body (n + 1) (body ++ rest))))
+    (numbered (n + 1) line (body_at (blocks_by takes_body (n + 1) (body ++ rest))) ∷ filter_map block_order (behind_body (blocks_by takes_body (n + 1) (body ++ rest))))) over
+    ∙ ap (λ (l : List (List ℕ)). numbered (n + 1) line l ∷ filter_map block_order (behind_body (blocks_by takes_body (n + 1) (body ++ rest)))) on.0
+    ∙ ap (λ (bs : List Block). numbered (n + 1) line body ∷ filter_map block_order bs) on.1
 
 -- More lines hold no fewer orders.
 
 abbrev count : List Block → ℕ
-count blocks = length (filter_map order_of blocks)
+count blocks = length (filter_map block_order blocks)
 
 count_pick : (b : Bool) (o : Numbered) (os : List Numbered) → length (cons_option (cond b None (Some o)) os) ≡ cond b 0 1 + length os
 count_pick true o os = omega arith
@@ -172,7 +173,7 @@ count_pick false o os = omega arith
 
 count_cons : (b : Block) (blocks : List Block) → count (b ∷ blocks) ≡ cond (is_passed_over b.line) 0 1 + count blocks
 count_cons b blocks =
-    count_pick (is_passed_over b.line) (record { number = b.number; order = order_by (event_of b.line (body_of b.body)) }) (filter_map order_of blocks)
+    count_pick (is_passed_over b.line) (record { number = b.number; order = event_order (event_of b.line (body_of b.body)) }) (filter_map block_order blocks)
 
 again_by : (t : Bool) (b : Block) (blocks : List Block) → is_body_line b.line ≡ t → behind_body (behind_body blocks) ≡ behind_body blocks
     → behind_body (cond t (behind_body blocks) (b ∷ blocks)) ≡ cond t (behind_body blocks) (b ∷ blocks)

@@ -3,8 +3,9 @@ use Rattle.std.specs.Prelude.{⊤}
 use Rattle.std.specs.Fmt.{digits}
 use Rattle.pr_num.specs.Shown.{fraction_text, shown}
 use Rattle.pr_labels.specs.SeriesText.{series_text}
+use Rattle.pr_kinds.specs.Kinds.{lex_word, parse_word, type_word, expo_word}
 use Rattle.pr_text.specs.Answers.{dropped_conflict, dropped_out_of_order, backwards_last, scraped_added, bad_scrape_line}
-use Rattle.pr_text.specs.Kinds.{lex_word, parse_word, type_word, expo_word, fault_word}
+use Rattle.pr_text.specs.Faults.{fault_word}
 use Rattle.pr_text.specs.Printed.{shown_report}
 
 unfoldable pub computing : ⊤

@@ -18,12 +18,12 @@ use Rattle.pr_labels.specs.declared.pair.Pair.{Pair}
 use Rattle.pr_words.specs.Fields.{without_trailing, first_field, after_field, last_field, before_last_field}
 use Rattle.pr_words.proofs.Decimals.{printed_of_read}
 use Rattle.pr_series.specs.SeriesReading.{series_labels}
-use Rattle.pr_text.specs.Script.{is_comment, is_passed_over, time_of, point_read, point_of, series_of, expression_of, add_of, query_of, add_in, query_in, target_by, target_of, occasion_by, occasion_of, scrape_in, fail_in, gone_in, whole_event, event_by, event_of, takes_body, is_body_line}
+use Rattle.pr_text.specs.Script.{is_comment_line, is_passed_over, written_time, point_read, point_of, series_of, expression_of, add_of, query_of, add_in, query_in, target_by, target_of, occasion_by, occasion_of, scrape_in, fail_in, gone_in, whole_event, event_by, event_of, takes_body, is_body_line}
 use Rattle.pr_text.specs.declared.script.Occasion.{Occasion}
 use Rattle.pr_text.proofs.Blocks.{both_left, both_right}
 use Rattle.pr_text.proofs.FieldTexts.{trailing_text, first_text, last_text}
 use Rattle.pr_text.proofs.NumberTexts.{number_ascii}
-use Rattle.pr_text.proofs.Utf8.{plain_text}
+use Rattle.pr_kinds.proofs.PlainTexts.{plain_text}
 use Rattle.pr_world.specs.declared.event.Event.{Event}
 use Rattle.pr_world.specs.declared.event.Event.TheVariants.{Scrape, Fail, Gone}
 
@@ -33,7 +33,7 @@ word_text : (text word : List ℕ) → list_all (λ b. nat_lt b 128) word ≡ tr
 word_text text word plain h =
     subst IsUtf8 (sym ((bytes_eq-Decides text word).0 h)) (IsUtf8-from_is_utf8 word (plain_text word plain))
 
-time_text : (text : List ℕ) (n : ℕ) → time_of text ≡ Some n → IsUtf8 text
+time_text : (text : List ℕ) (n : ℕ) → written_time text ≡ Some n → IsUtf8 text
 time_text text n h =
     let p = printed_of_read (2 ^ 42) n text (omega arith) h in
     subst IsUtf8 (sym p.1) (IsUtf8-from_ascii (decimal n) (IsAscii-decimal n (omega (arith, p.0))))
@@ -63,7 +63,7 @@ expression_text (b ∷ bytes) e h = given (b ∷ bytes) (is_utf8 (b ∷ bytes)) 
 -- Events
 
 add_by : (text : List ℕ) (time : Option ℕ) (labels : Option (List Pair)) (point : Option Point) (e : Event)
-    → time_of (first_field text) ≡ time → series_of (before_last_field (after_field text)) ≡ labels → point_of (last_field (after_field text)) ≡ point
+    → written_time (first_field text) ≡ time → series_of (before_last_field (after_field text)) ≡ labels → point_of (last_field (after_field text)) ≡ point
     → add_of time labels point ≡ Some e → IsUtf8 text
 add_by text None labels point e t s p h = absurd (cc)
 add_by text (Some time) None point e t s p h = absurd (cc)
@@ -73,7 +73,7 @@ add_by text (Some time) (Some labels) (Some point) e t s p h =
     (last_text (after_field text) (series_text (before_last_field (after_field text)) labels s) (point_text (last_field (after_field text)) point p))
 
 query_by : (text : List ℕ) (time : Option ℕ) (expression : Option (List ℕ)) (e : Event)
-    → time_of (first_field text) ≡ time → expression_of (after_field text) ≡ expression → query_of time expression ≡ Some e → IsUtf8 text
+    → written_time (first_field text) ≡ time → expression_of (after_field text) ≡ expression → query_of time expression ≡ Some e → IsUtf8 text
 query_by text None expression e t x h = absurd (cc)
 query_by text (Some time) None e t x h = absurd (cc)
 query_by text (Some time) (Some expression) e t x h =
@@ -84,14 +84,14 @@ target_text text None target s h = absurd (cc)
 target_text text (Some labels) target s h = series_text text labels s
 
 occasion_by_text : (text : List ℕ) (time : Option ℕ) (target : Option (List Pair)) (o : Occasion)
-    → time_of (first_field text) ≡ time → target_of (after_field text) ≡ target → occasion_by time target ≡ Some o → IsUtf8 text
+    → written_time (first_field text) ≡ time → target_of (after_field text) ≡ target → occasion_by time target ≡ Some o → IsUtf8 text
 occasion_by_text text None target o t s h = absurd (cc)
 occasion_by_text text (Some time) None o t s h = absurd (cc)
 occasion_by_text text (Some time) (Some target) o t s h =
     first_text text (time_text (first_field text) time t) (target_text (after_field text) (series_of (after_field text)) target refl s)
 
 pub occasion_text : (text : List ℕ) (o : Occasion) → occasion_of text ≡ Some o → IsUtf8 text
-occasion_text text o h = occasion_by_text text (time_of (first_field text)) (target_of (after_field text)) o refl refl h
+occasion_text text o h = occasion_by_text text (written_time (first_field text)) (target_of (after_field text)) o refl refl h
 
 mapped : (text : List ℕ) (f : Occasion → Event) (o : Option Occasion) (e : Event) → occasion_of text ≡ o → option_map f o ≡ Some e → IsUtf8 text
 mapped text f None e is h = absurd (cc)
@@ -120,13 +120,13 @@ module _ (word text : List ℕ) where
   query_told : Told (cond (bytes_eq word (codes "query")) (query_in text) (cond (bytes_eq word (codes "fail")) (fail_in text) (cond (bytes_eq word (codes "gone")) (gone_in text) None)))
   query_told =
       named (codes "query") (bytes_eq word (codes "query")) (query_in text) (cond (bytes_eq word (codes "fail")) (fail_in text) (cond (bytes_eq word (codes "gone")) (gone_in text) None)) refl refl
-      (λ e h. query_by text (time_of (first_field text)) (expression_of (after_field text)) e refl refl h) fail_told
+      (λ e h. query_by text (written_time (first_field text)) (expression_of (after_field text)) e refl refl h) fail_told
 
   whole_told : Told (whole_event word text)
   whole_told =
       named (codes "add") (bytes_eq word (codes "add")) (add_in text)
       (cond (bytes_eq word (codes "query")) (query_in text) (cond (bytes_eq word (codes "fail")) (fail_in text) (cond (bytes_eq word (codes "gone")) (gone_in text) None))) refl refl
-      (λ e h. add_by text (time_of (first_field text)) (series_of (before_last_field (after_field text))) (point_of (last_field (after_field text))) e refl refl refl h) query_told
+      (λ e h. add_by text (written_time (first_field text)) (series_of (before_last_field (after_field text))) (point_of (last_field (after_field text))) e refl refl refl h) query_told
 
   event_told : (body : List ℕ) → Told (event_by word text body)
   event_told body =
@@ -160,9 +160,9 @@ no_bytes : (bytes : List ℕ) → (length bytes == 0) ≡ true → IsUtf8 bytes
 no_bytes [] h = IsUtf8-nil
 no_bytes (b ∷ bytes) h = absurd (grind (arith, nat_tests))
 
-passed_by_text : (line : List ℕ) (blank : Bool) → (length (without_trailing line) == 0) ≡ blank → (blank || (is_comment line && is_utf8 line)) ≡ true → IsUtf8 line
+passed_by_text : (line : List ℕ) (blank : Bool) → (length (without_trailing line) == 0) ≡ blank → (blank || (is_comment_line line && is_utf8 line)) ≡ true → IsUtf8 line
 passed_by_text line true is h = trailing_text line (no_bytes (without_trailing line) is)
-passed_by_text line false is h = IsUtf8-from_is_utf8 line (both_right (is_comment line) (is_utf8 line) h)
+passed_by_text line false is h = IsUtf8-from_is_utf8 line (both_right (is_comment_line line) (is_utf8 line) h)
 
 pub passed_text : (line : List ℕ) → is_passed_over line ≡ true → IsUtf8 line
 passed_text line h = passed_by_text line (length (without_trailing line) == 0) refl h

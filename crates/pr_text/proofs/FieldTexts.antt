@@ -8,8 +8,9 @@ use Rattle.std.proofs.lemmas.List.{take-append-drop, length-take-le, length-drop
 use Rattle.std.proofs.lemmas.List.Sums.{fails_before_first}
 use Rattle.std.proofs.lemmas.Str.{IsUtf8-append, IsUtf8-from_ascii}
 use Rattle.std.proofs.lemmas.Str.Ascii.{IsAscii-from_reads}
-use Rattle.pr_words.specs.Fields.{is_field_byte, without_leading, without_trailing, first_field, after_field, last_field, before_last_field, is_blank}
+use Rattle.pr_words.specs.Fields.{is_field_byte, without_leading, without_trailing, first_field, after_field, last_field, before_last_field}
 use Rattle.pr_words.proofs.Places.{within, within_back}
+use Rattle.pr_words.specs.Bytes.{is_blank}
 
 blank_byte : (b : ℕ) → is_field_byte b ≡ false → b < 128
 blank_byte b h = grind (arith, nat_tests)

@@ -1,12 +1,9 @@
 -- Whether bytes are a text, by what reading them answers.
-use Rattle.std.proofs.Common.{◌≡◌, ℕ, Bool, true, false, List, [], ◌∷◌, length, ◌==◌, Some, None, sym, refl, nat_lt, ltb-true}
+use Rattle.std.proofs.Common.{◌≡◌, ℕ, Bool, true, false, List, [], ◌∷◌, length, ◌==◌, Some, None, sym, refl}
 use Rattle.std.specs.Str.{IsUtf8, is_utf8}
 use Rattle.pr_series.specs.SeriesReading.{series_labels}
 use Rattle.pr_text.specs.Script.{expression_of, series_of}
-use Rattle.std.specs.List.{list_all}
-use Rattle.std.proofs.lemmas.List.Sums.{AllPass-from_list_all}
-use Rattle.std.proofs.lemmas.Str.{IsUtf8-from_is_utf8, is_utf8-from_IsUtf8, IsUtf8-from_ascii}
-use Rattle.std.proofs.lemmas.Str.Ascii.{IsAscii-from_all}
+use Rattle.std.proofs.lemmas.Str.{IsUtf8-from_is_utf8, is_utf8-from_IsUtf8}
 
 pub is_text : (bytes : List ℕ) → IsUtf8 bytes → true ≡ is_utf8 bytes
 is_text bytes h = sym (is_utf8-from_IsUtf8 bytes h)
@@ -33,8 +30,3 @@ text_expression (b ∷ bytes) some h = rw (is_utf8-from_IsUtf8 (b ∷ bytes) h) 
 pub no_text_expression : (bytes : List ℕ) → (IsUtf8 bytes → ⊥) → None ≡ expression_of bytes
 no_text_expression [] n = refl
 no_text_expression (b ∷ bytes) n = rw (sym (not_text (b ∷ bytes) n)) refl
-
--- bytes below 128 are a text
-pub plain_text : (text : List ℕ) → list_all (λ b. nat_lt b 128) text ≡ true → is_utf8 text ≡ true
-plain_text text h =
-    is_utf8-from_IsUtf8 text (IsUtf8-from_ascii text (IsAscii-from_all text (λ k d lt. ltb-true _ 128 (AllPass-from_list_all (λ b. nat_lt b 128) text h k d lt))))

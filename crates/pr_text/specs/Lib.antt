@@ -1,6 +1,6 @@
 pub mod Answers
 pub mod Orders
-pub mod Kinds
+pub mod Faults
 pub mod Printed
 pub mod Script
 pub mod Started

@@ -32,17 +32,17 @@ blocks_by takes before [] = []
 blocks_by takes before (line ∷ lines) = with_line (takes line) (before + 1) line (blocks_by takes (before + 1) lines)
 
 -- what spells no event is refused; so is a body line that stands alone
-abbrev pub order_by : Option Event → Order
-order_by None = order.Bad
-order_by (Some e) = order.Event e
+abbrev pub event_order : Option Event → Order
+event_order None = order.Bad
+event_order (Some e) = order.Event e
 
 -- a line that is passed over is no order
-abbrev pub order_of : Block → Option Numbered
-order_of b = cond (is_passed_over b.line) None (Some (record { number = b.number; order = order_by (event_of b.line (body_of b.body)) }))
+abbrev pub block_order : Block → Option Numbered
+block_order b = cond (is_passed_over b.line) None (Some (record { number = b.number; order = event_order (event_of b.line (body_of b.body)) }))
 
 -- the orders of lines that follow so many others
 unfoldable pub orders_after : ℕ → List (List ℕ) → List Numbered
-orders_after before lines = filter_map order_of (blocks_by takes_body before lines)
+orders_after before lines = filter_map block_order (blocks_by takes_body before lines)
 
 abbrev pub orders_of : List (List ℕ) → List Numbered
 orders_of lines = orders_after 0 lines

@@ -6,13 +6,14 @@ use Rattle.pr_num.specs.declared.value.Point.TheVariants.{Value, Stale}
 use Rattle.pr_num.specs.Shown.{shown}
 use Rattle.pr_labels.specs.declared.item.Item.{Item}
 use Rattle.pr_labels.specs.SeriesText.{series_text}
+use Rattle.pr_kinds.specs.declared.kind.QueryKind.{QueryKind}
+use Rattle.pr_kinds.specs.Kinds.{expo_word, kind_text}
 use Rattle.pr_text.specs.Answers.{dropped_conflict, dropped_out_of_order, backwards_last, scraped_added, bad_scrape_line}
 use Rattle.pr_world.specs.declared.report.Report.{Report}
 use Rattle.pr_world.specs.declared.report.Report.TheVariants.{Opened, Added, Same, OutOfOrder, Conflict, Scraped, BadScrape, Failed, Gone, Scalar, Vector, QueryFault, QueryRefused, Backwards}
-use Rattle.pr_world.specs.declared.report.QueryKind.{QueryKind}
 use Rattle.pr_expo_line.specs.declared.place.ExpoKind.{ExpoKind}
 use Rattle.pr_query.specs.declared.fault.FaultKind.{FaultKind}
-use Rattle.pr_text.specs.Kinds.{expo_word, fault_text, kind_text}
+use Rattle.pr_text.specs.Faults.{fault_text}
 
 -- a number by its printed text, and a marker by its word
 abbrev pub shown_point : Point → List ℕ

@@ -18,17 +18,17 @@ use Rattle.pr_world.specs.declared.event.Event.{Event}
 use Rattle.pr_world.specs.declared.event.Event.TheVariants.{Add, Query, Scrape, Fail, Gone}
 
 -- a line that begins so is a comment
-abbrev pub is_comment : List ℕ → Bool
-is_comment [] = false
-is_comment (b ∷ bytes) = b == code "#"
+abbrev pub is_comment_line : List ℕ → Bool
+is_comment_line [] = false
+is_comment_line (b ∷ bytes) = b == code "#"
 
 -- Nothing is asked by a line of blanks alone, and by a comment that is a text.
 abbrev pub is_passed_over : List ℕ → Bool
-is_passed_over line = length (without_trailing line) == 0 || (is_comment line && is_utf8 line)
+is_passed_over line = length (without_trailing line) == 0 || (is_comment_line line && is_utf8 line)
 
 -- a time in milliseconds: a plain decimal below 2^42
-abbrev pub time_of : List ℕ → Option ℕ
-time_of text = plain_decimal (2 ^ 42) text
+abbrev pub written_time : List ℕ → Option ℕ
+written_time text = plain_decimal (2 ^ 42) text
 
 -- a point: the word for a marker, or the text of a number
 abbrev pub point_read : Result Num NumFault → Option Point
@@ -61,11 +61,11 @@ query_of (Some time) (Some text) = Some (Query time text)
 
 -- a time, a series, and a point, which is the last field
 abbrev pub add_in : List ℕ → Option Event
-add_in text = add_of (time_of (first_field text)) (series_of (before_last_field (after_field text))) (point_of (last_field (after_field text)))
+add_in text = add_of (written_time (first_field text)) (series_of (before_last_field (after_field text))) (point_of (last_field (after_field text)))
 
 -- a time, and an expression
 abbrev pub query_in : List ℕ → Option Event
-query_in text = query_of (time_of (first_field text)) (expression_of (after_field text))
+query_in text = query_of (written_time (first_field text)) (expression_of (after_field text))
 
 -- a target: labels, at least one, of which none is a metric's name
 abbrev pub target_by : Option (List Pair) → Option (List Pair)
@@ -83,7 +83,7 @@ occasion_by (Some time) None = None
 occasion_by (Some time) (Some target) = Some (record { time = time; target = target })
 
 abbrev pub occasion_of : List ℕ → Option Occasion
-occasion_of text = occasion_by (time_of (first_field text)) (target_of (after_field text))
+occasion_of text = occasion_by (written_time (first_field text)) (target_of (after_field text))
 
 -- a scrape has what its body lines give
 abbrev pub scrape_in : List ℕ → List ℕ → Option Event

@@ -1,6 +1,6 @@
 -- What the line of an order alone tells of it.
 use Rattle.std.specs.Prelude.{◌≡◌, ℕ, Bool, true, false, not, List, [], ◌∷◌, Some}
-use Rattle.pr_text.specs.Orders.{order_by}
+use Rattle.pr_text.specs.Orders.{event_order}
 use Rattle.pr_text.specs.Script.{event_of, takes_body, is_body_line}
 use Rattle.pr_text.specs.declared.order.Started.{Started}
 use Rattle.pr_text.specs.declared.order.Started.TheVariants.{Whole, Scrape}
@@ -9,7 +9,7 @@ use Rattle.pr_world.specs.declared.event.Event.TheVariants as event
 -- A line that takes no body is the whole order. One that takes a body is a scrape, whatever the
 -- body is.
 abbrev pub Starts : List ℕ → Started → Type 0
-Starts line (Whole order) = (takes_body line ≡ false) × (order ≡ order_by (event_of line []))
+Starts line (Whole order) = (takes_body line ≡ false) × (order ≡ event_order (event_of line []))
 Starts line (Scrape time target) = (takes_body line ≡ true) × ((body : List ℕ) → event_of line body ≡ Some (event.Scrape time target body))
 
 -- no body goes on with these lines

@@ -6,14 +6,12 @@ ghost use Rattle.pr_num.specs.declared.value.Point.TheVariants.{Stale};
 ghost use Rattle.pr_history.specs.Examples.{m, job, number, whole};
 ghost use Rattle.pr_history.specs.Series.{item_of};
 ghost use Rattle.pr_world.specs.declared.report.Report.TheVariants.{Opened, Added, Same, OutOfOrder, Conflict, Scraped, BadScrape, Failed, Gone, Scalar, Vector, QueryFault, QueryRefused, Backwards};
-ghost use Rattle.pr_world.specs.declared.report.QueryKind.TheVariants.{Lex, Parse, Typing};
+ghost use Rattle.pr_kinds.specs.declared.kind.QueryKind.TheVariants.{Parse};
 ghost use Rattle.pr_expo_line.specs.declared.place.ExpoKind.TheVariants.{BadLabels};
 ghost use Rattle.pr_world.specs.declared.event.Event.TheVariants as event;
-ghost use Rattle.pr_lex.specs.declared.fault.LexKind.TheVariants as lex;
 ghost use Rattle.pr_parse.specs.declared.fault.ParseKind.TheVariants as parse;
-ghost use Rattle.pr_types.specs.declared.kind.TypeKind.TheVariants as typing;
 ghost use Rattle.pr_query.specs.declared.fault.FaultKind.TheVariants as fault;
-ghost use Rattle.pr_text.specs.Kinds.{fault_text, kind_text};
+ghost use Rattle.pr_text.specs.Faults.{fault_text};
 ghost use Rattle.pr_text.specs.Orders.{blocks_by, orders_of};
 ghost use Rattle.pr_text.specs.Printed.{shown_report, bad_line_text};
 ghost use Rattle.pr_text.specs.Script.{event_of};
@@ -79,13 +77,9 @@ pub fn reports_are_written_so()
     ensures bad_line { bad_line_text 70 ≡ codes "bad line 70\n" }
 {}
 
-/// A kind is written by its name and what it tells.
+/// The kind of a fault is written by its name and what it tells.
 #[tactic(auto, unfolding(crate::proofs::Computing::computing))]
-pub fn kinds_are_written_so()
-    ensures lexical { kind_text (Lex lex.SpanTooLong) ≡ codes "SpanTooLong" }
-    ensures arguments { kind_text (Typing (typing.Arguments 3 0 1)) ≡ codes "Arguments 3 0 1" }
-    ensures reach { kind_text (Typing (typing.Reach 3974400000 3888000000)) ≡ codes "Reach 3974400000 3888000000" }
-    ensures match_on_scalar { kind_text (Typing typing.MatchOnScalar) ≡ codes "MatchOnScalar" }
+pub fn faults_are_written_so()
     ensures key { fault_text (fault.ManyToMany (job (codes "a"))) ≡ codes "ManyToMany {job=\"a\"}" }
     ensures labels { fault_text (fault.SameLabels m) ≡ codes "SameLabels m" }
     ensures empty { fault_text (fault.NotUnique []) ≡ codes "NotUnique {}" }

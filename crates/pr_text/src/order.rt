@@ -1,6 +1,6 @@
 // Orders: what the lines of a script ask for.
 ghost use Rattle.std.specs.Prelude.{◌≡◌, IfOk};
-ghost use Rattle.pr_text.specs.Orders.{order_by};
+ghost use Rattle.pr_text.specs.Orders.{event_order};
 ghost use Rattle.pr_text.specs.Started.{Starts};
 
 use super::script::{Occasion, occasion_of, whole_event};
@@ -36,7 +36,7 @@ pub enum Started {
 }
 
 fn whole_order(event: Option<Event>) -> Order
-    ensures { result ≡ order_by event }
+    ensures { result ≡ event_order event }
 {
     match event {
         Some(event) => Order::Event { event },

@@ -1,21 +1,21 @@
 // The printed lines of answers.
 #![tactic(auto, using(pr_labels::proofs::Fronts::front_on, pr_strings::proofs::Fronts::front_after))]
 
-ghost use Rattle.std.specs.Prelude.{◌≡◌, ◌++◌, OnOk, OnErr, codes, decimal, flat_map, length, take};
+ghost use Rattle.std.specs.Prelude.{◌≡◌, ◌++◌, OnOk, OnErr, codes, flat_map, length, take};
 ghost use Rattle.pr_num.specs.Shown.{shown};
 ghost use Rattle.pr_labels.specs.SeriesText.{series_text};
+ghost use Rattle.pr_kinds.specs.Kinds.{expo_word};
 ghost use Rattle.pr_text.specs.Answers.{dropped_conflict, dropped_out_of_order, backwards_last, scraped_added, bad_scrape_line};
-ghost use Rattle.pr_text.specs.Kinds.{expo_word};
 ghost use Rattle.pr_text.specs.Printed.{shown_point, opened_text, out_of_order_text, conflict_text, stale_text, scraped_text, bad_scrape_text, failed_text, gone_text, item_text, vector_text, backwards_text, scalar_text, place_text, query_fault_text, query_refused_text, shown_report, bad_line_text};
 
-use super::kinds::{expo_word, push_fault_kind, push_query_kind};
-use itoa::Buffer;
+use crate::faults::push_fault_kind;
 use pr_expo_line::ExpoKind;
+use pr_kinds::{QueryKind, expo_word, push_number, push_query_kind, whole_or_none};
 use pr_labels::{Item, Labels};
 use pr_num::{Num, Point};
 use pr_query::FaultKind;
 use pr_time::Ms;
-use pr_world::{QueryKind, Report};
+use pr_world::Report;
 use std::alloc::AllocError;
 
 #[tactic(auto, unfolding(crate::specs::Answers::dropped_conflict))]
@@ -56,16 +56,6 @@ fn push_bad_scrape_line(text: &mut Vec<u8>) -> Result<(), AllocError>
     ensures front { take (length text.old.items) text.new.items ≡ text.old.items }
 {
     text.extend_from_slice(b"bad scrape line ")
-}
-
-/// Appends a number in decimal. Want of memory alone is an error, and then
-/// nothing is appended.
-pub fn push_number(text: &mut Vec<u8>, n: u64) -> Result<(), AllocError>
-    ensures ok { OnOk result (text.new.items ≡ text.old.items ++ decimal n) }
-    ensures err { OnErr result (text.new.items ≡ text.old.items) }
-{
-    let mut buffer = Buffer::new();
-    text.extend_from_slice(buffer.format(n).as_bytes())
 }
 
 fn push_value(text: &mut Vec<u8>, v: Num) -> Result<(), AllocError>
@@ -287,22 +277,6 @@ fn push_bad(text: &mut Vec<u8>, n: u64) -> Result<(), AllocError>
     text.extend_from_slice(b"bad line ")?;
     push_number(text, n)?;
     text.extend_from_slice(b"\n")
-}
-
-// Takes back what was appended after so many bytes, where memory ran out.
-pub(crate) fn whole_or_none(
-    text: &mut Vec<u8>,
-    before: usize,
-    written: Result<(), AllocError>,
-) -> Result<(), AllocError>
-    ensures same { result ≡ written }
-    ensures ok { OnOk written (text.new.items ≡ text.old.items) }
-    ensures err { OnErr written (text.new.items ≡ take before text.old.items) }
-{
-    if written.is_err() {
-        text.truncate(before);
-    }
-    written
 }
 
 /// Appends the lines of a report. Want of memory alone is an error, and then nothing is appended.

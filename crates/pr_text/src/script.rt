@@ -2,9 +2,9 @@
 ghost use Rattle.std.specs.Prelude.{◌≡◌, ◌++◌, IfOk, OnErr, MatchOption, codes, string_bytes, true, false};
 ghost use Rattle.std.specs.Str.{bytes_eq, is_utf8};
 ghost use Rattle.pr_series.specs.SeriesReading.{series_labels};
-ghost use Rattle.pr_text.specs.Script.{is_comment, is_passed_over, time_of, point_of, series_of, expression_of, add_of, query_of, add_in, query_in, target_by, target_of, occasion_of, fail_in, gone_in, whole_event, is_body_line, body_text};
+ghost use Rattle.pr_text.specs.Script.{is_comment_line, is_passed_over, written_time, point_of, series_of, expression_of, add_of, query_of, add_in, query_in, target_by, target_of, occasion_of, fail_in, gone_in, whole_event, is_body_line, body_text};
 
-use pr_labels::Labels;
+use pr_labels::{Labels, METRIC_LABEL};
 use pr_num::Point;
 use pr_series::{TextFault, read_series_text};
 use pr_time::Ms;
@@ -13,8 +13,8 @@ use pr_world::Event;
 use std::alloc::{AllocError, Global};
 use std::str;
 
-fn is_comment(line: &[u8]) -> bool
-    ensures { result ≡ is_comment line.now }
+fn is_comment_line(line: &[u8]) -> bool
+    ensures { result ≡ is_comment_line line.now }
 {
     match line {
         [] => false,
@@ -33,11 +33,11 @@ fn is_text(line: &[u8]) -> bool
 pub fn is_passed_over(line: &[u8]) -> bool
     ensures { result ≡ is_passed_over line.now }
 {
-    without_trailing(line).is_empty() || (is_comment(line) && is_text(line))
+    without_trailing(line).is_empty() || (is_comment_line(line) && is_text(line))
 }
 
-fn time_of(text: &[u8]) -> Option<Ms>
-    ensures { result ≡ time_of text.now }
+fn written_time(text: &[u8]) -> Option<Ms>
+    ensures { result ≡ written_time text.now }
 {
     Ms::new(plain_decimal(text, 1 << 42)?)
 }
@@ -94,7 +94,7 @@ fn add_in(alloc: Global, text: &[u8]) -> Result<Option<Event>, AllocError>
 {
     let (time, rest) = split_first(text);
     let (series, value) = split_last(rest);
-    let Some(time) = time_of(time) else {
+    let Some(time) = written_time(time) else {
         return Ok(None);
     };
     let Some(labels) = series_of(alloc, series)? else {
@@ -114,7 +114,7 @@ fn query_in(alloc: Global, text: &[u8]) -> Result<Option<Event>, AllocError>
     ensures { IfOk result (λ o. o ≡ query_in text.now) }
 {
     let (time, text) = split_first(text);
-    let Some(time) = time_of(time) else {
+    let Some(time) = written_time(time) else {
         return Ok(None);
     };
     match expression_of(alloc, text)? {
@@ -128,7 +128,7 @@ fn target_by(labels: Option<Labels>) -> Option<Labels>
     ensures { result ≡ target_by labels }
 {
     let labels = labels?;
-    if labels.pairs().is_empty() || labels.get("__name__").is_some() {
+    if labels.pairs().is_empty() || labels.get(METRIC_LABEL).is_some() {
         return None;
     }
     Some(labels)
@@ -150,7 +150,7 @@ pub(crate) fn occasion_of(alloc: Global, text: &[u8]) -> Result<Option<Occasion>
     ensures { IfOk result (λ o. o ≡ occasion_of text.now) }
 {
     let (time, target) = split_first(text);
-    let Some(time) = time_of(time) else {
+    let Some(time) = written_time(time) else {
         return Ok(None);
     };
     match target_of(alloc, target)? {

@@ -9,10 +9,11 @@ use Rattle.pr_forms.specs.Run.{bad}
 use Rattle.pr_forms.proofs.Public.{read_whole, only_value, not_whole, no_reading, rest_place, bad_place, end_place, left_short}
 use Rattle.pr_time.specs.declared.text.SpanFault.{SpanFault}
 use Rattle.pr_time.specs.declared.text.SpanFault.TheVariants.{BadSpan, SpanTooLong}
-use Rattle.pr_time.specs.SpanText.{production, table, letter_of, seen, Text, Value, span, ReadsSpan, IsBadPlace, Refuses, IsTooLong}
+use Rattle.pr_time.specs.SpanText.{production, letter_of, seen, Text, Value, span, ReadsSpan, IsBadPlace, Refuses, IsTooLong}
 use Rattle.pr_forms.specs.Language.{Gives}
 use Rattle.pr_time.specs.SpanReader.{spans, Measures, kept}
 use Rattle.pr_time.proofs.SpanTable.{known}
+use Rattle.pr_time.specs.SpanTable.{table}
 
 -- the span, where it is not too long
 limited : (o : Option ℕ) (ms exact : ℕ) (r : Result ℕ SpanFault) → SomeIff o (ms ≤ 2 ^ 40) ms → r ≡ ok_or o SpanTooLong → ms ≡ kept exact →

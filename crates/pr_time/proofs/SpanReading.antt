@@ -14,8 +14,9 @@ use Rattle.pr_time.specs.declared.text.Letter.{Letter}
 use Rattle.pr_time.specs.declared.text.Letter.TheVariants.{Digit, Y, W, D, H, M, S, Other}
 use Rattle.pr_time.specs.declared.text.Unit.{Unit as TimeUnit}
 use Rattle.pr_time.specs.declared.text.Unit.TheVariants.{Year, Millisecond}
-use Rattle.pr_time.specs.SpanText.{production, table, seen, Rule, Text, AfterZero, After, From, Value, count, span, digit, digit_at, zero_at, other_digit_at, ms_of, shifted, times, second_of, amount, smaller, below, NoUnit}
+use Rattle.pr_time.specs.SpanText.{production, seen, Rule, Text, AfterZero, After, From, Value, count, span, digit, digit_at, zero_at, other_digit_at, ms_of, shifted, times, second_of, amount, smaller, below, NoUnit}
 use Rattle.pr_time.specs.SpanReader.{spans, Digits, Counts, Measures, Enters, Going, kept, starts_amount}
+use Rattle.pr_time.specs.SpanTable.{table}
 
 -- one more digit
 more_kept : (m number d next : ℕ) → number ≡ kept m → next ≡ min (number * 10 + d) (2 ^ 40 + 1) → next ≡ kept (m * 10 + d)

@@ -5,7 +5,8 @@ use Rattle.pr_forms.proofs.Decided.{plain_binds}
 use Rattle.pr_time.specs.declared.text.Letter.{Letter}
 use Rattle.pr_time.specs.declared.text.Letter.TheVariants.{Digit, Y}
 use Rattle.pr_time.specs.declared.text.Unit.TheVariants.{Year, Week, Day, Hour, Minute, Second, Millisecond}
-use Rattle.pr_time.specs.SpanText.{production, table, Rule, Text, AfterZero, After, From, AfterM, NoUnit}
+use Rattle.pr_time.specs.SpanText.{production, Rule, Text, AfterZero, After, From, AfterM, NoUnit}
+use Rattle.pr_time.specs.SpanTable.{table}
 
 starts_known : (n : Rule) (t : Letter) → starts_of table (production n) t ≡ table.starts n t
 starts_known Text (Digit zero) = refl

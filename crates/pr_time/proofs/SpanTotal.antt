@@ -10,9 +10,10 @@ use Rattle.pr_forms.proofs.Sound.{meets, reads}
 use Rattle.pr_time.specs.declared.text.Letter.{Letter}
 use Rattle.pr_time.specs.declared.text.Unit.{Unit as TimeUnit}
 use Rattle.pr_time.specs.declared.text.Unit.TheVariants.{Year, Week, Day, Hour, Minute, Second, Millisecond}
-use Rattle.pr_time.specs.SpanText.{production, table, seen, below, Rule, Text, AfterZero, After, From, AfterM, NoUnit, Value, count, scaled, span, mark, ReadsSpan, IsBadPlace}
-use Rattle.pr_time.specs.SpanAnswer.{from_rank, step_rank, steps, span_in, span_of, bad_span_place}
+use Rattle.pr_time.specs.SpanText.{production, seen, below, Rule, Text, AfterZero, After, From, AfterM, NoUnit, Value, count, scaled, span, mark, ReadsSpan, IsBadPlace}
+use Rattle.pr_time.specs.SpanAnswer.{span_in, span_of, bad_span_place}
 use Rattle.pr_time.proofs.SpanTable.{known}
+use Rattle.pr_time.specs.SpanTable.{table, from_rank, step_rank, steps}
 
 below_low : (u : TimeUnit) → nat_le (step_rank (below u)) 15 ≡ true
 below_low Year = refl

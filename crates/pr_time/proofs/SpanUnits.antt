@@ -9,9 +9,10 @@ use Rattle.pr_time.specs.declared.text.Letter.{Letter}
 use Rattle.pr_time.specs.declared.text.Letter.TheVariants.{Y, W, D, H, M, S}
 use Rattle.pr_time.specs.declared.text.Unit.{Unit as TimeUnit}
 use Rattle.pr_time.specs.declared.text.Unit.TheVariants.{Year, Week, Day, Hour, Minute, Second, Millisecond}
-use Rattle.pr_time.specs.SpanText.{production, table, Rule, After, From, Value, unit, ms_of, scaled, span, followed}
+use Rattle.pr_time.specs.SpanText.{production, Rule, After, From, Value, unit, ms_of, scaled, span, followed}
 use Rattle.pr_forms.specs.Carries.{Carries}
 use Rattle.pr_time.specs.SpanReader.{unit_left}
+use Rattle.pr_time.specs.SpanTable.{table}
 
 -- After the unit there come the parts after it, in letters.
 abbrev pub EntersAt : TimeUnit → List Letter → TimeUnit → List Letter → Type 0

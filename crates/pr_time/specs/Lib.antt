@@ -1,4 +1,5 @@
 pub mod SpanText
+pub mod SpanTable
 pub mod SpanReader
 pub mod SpanShown
 pub mod SpanParts

@@ -8,7 +8,8 @@ use Rattle.pr_time.specs.declared.text.Letter.{Letter}
 use Rattle.pr_time.specs.declared.text.Letter.TheVariants.{Y, W, D, H, M, S}
 use Rattle.pr_time.specs.declared.text.Unit.{Unit as TimeUnit}
 use Rattle.pr_time.specs.declared.text.Unit.TheVariants.{Year, Week, Day, Hour, Minute, Second}
-use Rattle.pr_time.specs.SpanText.{production, table, letter_of, seen, Rule, AfterZero, After, From, Value, count, span, scaled, ms_of, rank, shifted, digit}
+use Rattle.pr_time.specs.SpanText.{production, letter_of, seen, Rule, AfterZero, After, From, Value, count, span, scaled, ms_of, rank, shifted, digit}
+use Rattle.pr_time.specs.SpanTable.{table}
 
 -- the language of span texts, over bytes
 abbrev pub spans : Language ℕ Letter Rule Value

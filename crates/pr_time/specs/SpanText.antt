@@ -1,8 +1,7 @@
 -- The texts of spans: what they read, and where they are bad.
 use Prim.Native.Char.{code}
-use Rattle.std.specs.Prelude.{ℕ, zero, suc, ◌+◌, ◌-◌, ◌*◌, ◌<◌, ◌^◌, ◌==◌, nat_le, ◌&&◌, ◌||◌, Bool, true, false, Option, Some, None, List, [], map, if◌then◌else◌}
+use Rattle.std.specs.Prelude.{ℕ, zero, suc, ◌+◌, ◌-◌, ◌*◌, ◌<◌, ◌^◌, ◌==◌, nat_le, ◌&&◌, Option, Some, None, List, [], map, if◌then◌else◌}
 use Rattle.pr_forms.specs.Form.{Form, token, nothing, pair, either, turns, fold, rule, Reads, IsFirstBad}
-use Rattle.pr_forms.specs.Table.{Table}
 use Rattle.pr_time.specs.declared.text.Letter.{Letter}
 use Rattle.pr_time.specs.declared.text.Letter.TheVariants.{Digit, Y, W, D, H, M, S, Other}
 use Rattle.pr_time.specs.declared.text.Unit.{Unit as TimeUnit}
@@ -136,11 +135,15 @@ abbrev pub below : TimeUnit → Rule
 below Millisecond = NoUnit
 below u = From (smaller u)
 
--- The productions: text       = "0" after-zero | digit-above-0 {digit} from(year) after-zero =
--- {digit} from(year) | after(u)   = digit {digit} from(smaller u) |                  and digit
--- {digit} no-unit | after milliseconds from(u)    = letter-of-u after(u) | from(smaller u)
--- for y, w, d, h from(m)    = "m" after-m | "s" after(s) after-m    = "s" after(ms) | after(m)
--- from(s)    = "s" after(s) | from(ms) from(ms)   = "m" "s" after(ms)
+-- The productions:
+--   text       = "0" after-zero | digit-above-0 {digit} from(year)
+--   after-zero = {digit} from(year) |
+--   after(u)   = digit {digit} from(smaller u) |              of milliseconds digit {digit} no-unit |
+--   from(u)    = letter-of-u after(u) | from(smaller u)       for y, w, d and h
+--   from(m)    = "m" after-m | "s" after(s)
+--   after-m    = "s" after(ms) | after(m)
+--   from(s)    = "s" after(s) | from(ms)
+--   from(ms)   = "m" "s" after(ms)
 abbrev pub production : Rule → Form Letter Rule Value
 production Text = either (pair second_of (token zero_at) (rule AfterZero)) (amount (fold shifted (token other_digit_at) digit) (From Year))
 production AfterZero = either (amount (turns shifted (count 0) digit) (From Year)) (nothing (span 0))
@@ -150,62 +153,6 @@ production (From Minute) = either (pair second_of (token m_at) (rule AfterM)) (p
 production (From Millisecond) = pair second_of (token m_at) (pair followed (unit Millisecond) (rule (After Millisecond)))
 production (From u) = either (pair followed (unit u) (rule (After u))) (rule (From (smaller u)))
 production AfterM = either (pair followed (unit Millisecond) (rule (After Millisecond))) (pair followed (nothing (scaled (ms_of Minute) 0)) (rule (After Minute)))
-
--- What one token ahead tells of the rules.
-abbrev pub is_digit : Letter → Bool
-is_digit (Digit n) = true
-is_digit _ = false
-
-abbrev pub starts_from : TimeUnit → Letter → Bool
-starts_from u M = true
-starts_from Millisecond t = false
-starts_from u S = true
-starts_from Second t = false
-starts_from Minute t = false
-starts_from u H = true
-starts_from Hour t = false
-starts_from u D = true
-starts_from Day t = false
-starts_from u W = true
-starts_from Week t = false
-starts_from u Y = true
-starts_from u t = false
-
-abbrev pub starts_rule : Rule → Letter → Bool
-starts_rule Text t = is_digit t
-starts_rule AfterZero t = is_digit t || starts_from Year t
-starts_rule (After u) t = is_digit t
-starts_rule (From u) t = starts_from u t
-starts_rule NoUnit t = false
-starts_rule AfterM S = true
-starts_rule AfterM t = is_digit t
-
-abbrev pub empty_rule : Rule → Bool
-empty_rule AfterZero = true
-empty_rule (After u) = true
-empty_rule AfterM = true
-empty_rule _ = false
-
--- after a whole one of most rules the next part or the s of ms may come
-abbrev pub is_part : Letter → Bool
-is_part S = true
-is_part t = is_digit t
-
-abbrev pub more_rule : Rule → Letter → Bool
-more_rule Text t = is_digit t || starts_from Year t
-more_rule AfterZero t = is_digit t || starts_from Year t
-more_rule NoUnit t = false
-more_rule (After Millisecond) t = is_digit t
-more_rule (After Second) t = is_digit t
-more_rule (After Minute) t = is_digit t
-more_rule (After u) t = is_part t
-more_rule (From Millisecond) t = is_digit t
-more_rule (From Second) t = is_digit t
-more_rule (From u) t = is_part t
-more_rule AfterM t = is_part t
-
-abbrev pub table : Table Letter Rule
-table = record { empty = empty_rule; starts = starts_rule; more = more_rule }
 
 -- The text is a span text, of so many milliseconds.
 abbrev pub ReadsSpan : List ℕ → ℕ → Type 0

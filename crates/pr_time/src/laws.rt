@@ -1,10 +1,11 @@
 //! The laws of span texts, each as the contract of a function that does nothing.
 ghost use Rattle.std.specs.Prelude.{◌≡◌, ℕ, List, ◌≤◌, ◌^◌, ◌++◌, ◌⊎◌, ◌↔◌, Some, codes};
 ghost use Rattle.pr_forms.specs.Table.{IsDecided};
-ghost use Rattle.pr_time.specs.SpanText.{production, table, seen, ReadsSpan, IsBadPlace};
+ghost use Rattle.pr_time.specs.SpanText.{production, seen, ReadsSpan, IsBadPlace};
 ghost use Rattle.pr_time.specs.SpanParts.{IsSpanText};
 ghost use Rattle.pr_time.specs.SpanAnswer.{span_of, bad_span_place};
 ghost use Rattle.pr_time.specs.SpanShown.{shown_span};
+ghost use Rattle.pr_time.specs.SpanTable.{table};
 
 /// One byte ahead decides the grammar of span texts: so a text is read in one way, and without
 /// going back.

@@ -13,7 +13,8 @@ use Rattle.pr_tmpl.specs.declared.template.Call.{Call}
 use Rattle.pr_tmpl.specs.Pieces.{Piece, plain, pieces}
 use Rattle.pr_tmpl.specs.Letters.{IsPlain, HasNoPlain, IsSign, IsNoSign}
 use Rattle.pr_tmpl.specs.Reader.{Gives, FailsAt, Leads, Hands}
-use Rattle.pr_tmpl.specs.TemplateText.{Rule, parts, piped, operand, call, mark, production, table, blanks, second_of, closed, any_at, close_at, anything, next_rule, first_rule, call_rule, Text, FromOperand, FromCall, AnOperand, ACall, After, Next, Barred, Closing}
+use Rattle.pr_tmpl.specs.TemplateText.{Rule, parts, piped, operand, call, mark, production, blanks, second_of, closed, any_at, close_at, anything, next_rule, first_rule, call_rule, Text, FromOperand, FromCall, AnOperand, ACall, After, Next, Barred, Closing}
+use Rattle.pr_tmpl.specs.TemplateTable.{table}
 use Rattle.pr_tmpl.specs.Pipes.{after_gap, a_pipe, after_bar, IsCall, CallsSoFar, IsCalls, IsFromOperand, IsPipe}
 use Rattle.pr_tmpl.proofs.WordWays.{chosen_word, choice, unchosen, unchosen_piece, takes_close, lacks_close}
 

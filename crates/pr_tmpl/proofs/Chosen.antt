@@ -3,7 +3,7 @@ use Rattle.std.proofs.Common.{◌≡◌, ℕ, List, [], ◌∷◌, ◌++◌, Som
 use Rattle.std.specs.Prelude.{if◌then◌else◌}
 use Rattle.pr_tmpl.specs.declared.kind.Kind.TheVariants.{Quote, Open, Close, Bar, Dollar, Point, SmallE, SmallH, SmallL, SmallP, SmallV, CapitalD, CapitalE, CapitalL, CapitalP, CapitalU, CapitalV}
 use Rattle.pr_tmpl.specs.Pieces.{Piece, plain}
-use Rattle.pr_tmpl.specs.TemplateText.{Rule, PlainPiece, Brace, PieceAfterBrace, SecondBrace, FromOperand, FromCall, Literal, Dollared, Dotted, ValueWord, LabelsWord, ExternalWord, ExternalLabelsWord, UrlWord, NameByte, PrintfWord, HumanizeWord, PercentageWord, DurationWord, Barred, Closing, is_label_byte, is_letter, text_rule, opened_rule, first_rule, operand_rule, dollar_rule, dot_rule, external_rule, name_start, name_byte, call_rule, scale_rule, next_rule}
+use Rattle.pr_tmpl.specs.TemplateText.{Rule, PlainPiece, Brace, PieceAfterBrace, SecondBrace, FromOperand, FromCall, Literal, Dollared, Dotted, ValueWord, LabelsWord, ExternalWord, ExternalLabelsWord, UrlWord, NameByte, PrintfWord, HumanizeWord, PercentageWord, DurationWord, Barred, Closing, is_name_part, is_name_start, text_rule, opened_rule, first_rule, operand_rule, dollar_rule, dot_rule, external_rule, name_start, name_byte, call_rule, scale_rule, next_rule}
 
 module _ (P : Rule → Type 0) where
   one : (x n : Rule) → Some x ≡ Some n → P x → P n
@@ -56,11 +56,11 @@ module _ (P : Rule → Type 0) where
   after_external _ n e h k = none n e
 
   pub at_name : (t : Piece) (n : Rule) → name_start t ≡ Some n → ((name : List ℕ) → P (NameByte name)) → P n
-  at_name (plain k b) n e h = only (is_letter k) (NameByte (b ∷ [])) n e (h (b ∷ []))
+  at_name (plain k b) n e h = only (is_name_start k) (NameByte (b ∷ [])) n e (h (b ∷ []))
   at_name _ n e h = none n e
 
   pub in_name : (name : List ℕ) (t : Piece) (n : Rule) → name_byte name t ≡ Some n → ((whole : List ℕ) → P (NameByte whole)) → P n
-  in_name name (plain k b) n e h = only (is_label_byte k) (NameByte (name ++ b ∷ [])) n e (h (name ++ b ∷ []))
+  in_name name (plain k b) n e h = only (is_name_part k) (NameByte (name ++ b ∷ [])) n e (h (name ++ b ∷ []))
   in_name name _ n e h = none n e
 
   pub at_call : (t : Piece) (n : Rule) → call_rule t ≡ Some n → P PrintfWord → P HumanizeWord → P n

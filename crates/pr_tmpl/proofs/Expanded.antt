@@ -18,7 +18,7 @@ use Rattle.pr_tmpl.specs.declared.template.Part.TheVariants.{Words, Pipe}
 use Rattle.pr_strings.specs.StringAnswer.{string_of, bad_string_place}
 use lib.Utf8.{encode}
 use Rattle.pr_tmpl.specs.Pieces.{pieces}
-use Rattle.pr_tmpl.specs.TemplateText.{template_parts, bad_piece, bad_template_place}
+use Rattle.pr_tmpl.specs.TemplateReading.{template_parts, bad_piece, bad_template_place}
 use Rattle.pr_tmpl.specs.Expansion.{expansion, through}
 
 pub words : template_parts (codes "a{b") ≡ Some (Words (codes "a{b") ∷ [])

@@ -23,8 +23,9 @@ use Rattle.pr_tmpl.specs.declared.template.Call.TheVariants.{Printf}
 use Rattle.pr_tmpl.specs.Pieces.{Piece, plain, escape, broken, part, pieces}
 use Rattle.pr_tmpl.specs.Letters.{IsBreak, IsSign, IsNoSign}
 use Rattle.pr_tmpl.specs.Reader.{Gives, FailsAt, Leads, Hands}
-use Rattle.pr_tmpl.specs.TemplateText.{Rule, Value, bytes, format, mark, verb, call, Before, AfterVerb, Places, LetterF, SecondPercent, Formatted, Breaking, Wanted as WantedRule, production, table, broken_at, broken_off, bytes_joined, before_verb, leading, second_of, percent_at, verb_at, verb_of, point_at, digit_at, digit_value, f_at}
-use Rattle.pr_tmpl.specs.Quotes.{rule_of, Tail, tail, given, after_bytes, Reaches, Stops, first_byte, Counts, IsControl, IsNoControl, BreaksAt, verb_wanted, IsWanted, LeadsUpTo, GoesOn}
+use Rattle.pr_tmpl.specs.TemplateText.{Rule, Value, bytes, format, mark, verb, call, Before, AfterVerb, Places, LetterF, SecondPercent, Formatted, Breaking, Wanted as WantedRule, production, broken_at, broken_off, bytes_joined, before_verb, leading, second_of, percent_at, verb_at, verb_of, point_at, digit_at, digit_of, f_at}
+use Rattle.pr_tmpl.specs.TemplateTable.{table}
+use Rattle.pr_tmpl.specs.Quotes.{rule_of, Tail, tail, given, after_bytes, ReachesAsOwn, Stops, first_byte, CountsAs, IsControl, IsNoControl, BreaksOffAt, verb_wanted, IsWanted, LeadsUpTo, GoesOnBehind}
 use Rattle.pr_tmpl.proofs.Pieces.{pieces_at_end}
 use Rattle.pr_tmpl.proofs.WordWays.{takes_quote, lacks_quote}
 use Rattle.pr_tmpl.proofs.QuoteWays.{no_break, break_off, break_next, stopped, tail_of, reached_more, own_breaks}
@@ -40,16 +41,16 @@ fail_exit P f g text rest (Err y) e h k b = step y (subst (FailsAt g rest) (sym 
     step Memory j = tt
 
 pub break_exit : {Y : Type 0} (P : Y → Type 0) (f : Form Piece Rule Value) (text at : List ℕ) (r : Result Y (Fault ℕ)) (e : Fault ℕ) → IsErrAnd r (λ y. y ≡ e)
-    → ((rest : List ℕ) → IsBreak at rest → Gives f text (bad (pieces rest))) → BreaksAt at e → MatchResult r P (FailsAt f text)
+    → ((rest : List ℕ) → IsBreak at rest → Gives f text (bad (pieces rest))) → BreaksOffAt at e → MatchResult r P (FailsAt f text)
 break_exit P f text at (Ok x) e h k b = absurd h
-break_exit P f text at (Err y) e h k b = step y (subst (BreaksAt at) (sym h) b)
+break_exit P f text at (Err y) e h k b = step y (subst (BreaksOffAt at) (sym h) b)
   where
-    step : (y : Fault ℕ) → BreaksAt at y → FailsAt f text y
+    step : (y : Fault ℕ) → BreaksOffAt at y → FailsAt f text y
     step (Bad rest) j = k rest.now j
     step Memory j = tt
 
 -- pieces that count
-counts_whole : (t : Piece) (k : Kind) (b : ℕ) → Counts t k b → is_some (broken_at t) ≡ false
+counts_whole : (t : Piece) (k : Kind) (b : ℕ) → CountsAs t k b → is_some (broken_at t) ≡ false
 counts_whole (plain l c) k b h = refl
 counts_whole (escape l raw means) k b h = refl
 counts_whole broken k b h = absurd h
@@ -64,43 +65,43 @@ no_control_end text wanted e = let i : pieces text ≡ [] = ap pieces e ∙ piec
     not_empty : (t : Piece) (ps : List Piece) → [] ≡ t ∷ ps → ⊥
     not_empty t ps e = cc
 
-own_percent : (t : Piece) (b : ℕ) → Counts t Percent b → percent_at t ≡ Some (bytes (codes "%"))
+own_percent : (t : Piece) (b : ℕ) → CountsAs t Percent b → percent_at t ≡ Some (bytes (codes "%"))
 own_percent (plain k b) c h = rw (sym h.0) refl
 own_percent (escape k raw means) c h = rw (sym h.0) refl
 own_percent broken c h = absurd h
 own_percent (part b) c h = absurd h
 
-other_percent : (t : Piece) → ((b : ℕ) → Counts t Percent b → ⊥) → percent_at t ≡ None
+other_percent : (t : Piece) → ((b : ℕ) → CountsAs t Percent b → ⊥) → percent_at t ≡ None
 other_percent (plain Percent b) h = absurd (h b (refl, refl))
 other_percent (plain _ b) h = refl
 other_percent (escape Percent raw means) h = absurd (h (first_byte means) (refl, refl))
 other_percent (escape _ raw means) h = refl
 other_percent _ h = refl
 
-own_f : (t : Piece) (b : ℕ) → Counts t SmallF b → f_at t ≡ Some mark
+own_f : (t : Piece) (b : ℕ) → CountsAs t SmallF b → f_at t ≡ Some mark
 own_f (plain k b) c h = rw (sym h.0) refl
 own_f (escape k raw means) c h = rw (sym h.0) refl
 own_f broken c h = absurd h
 own_f (part b) c h = absurd h
 
-other_f : (t : Piece) → ((b : ℕ) → Counts t SmallF b → ⊥) → f_at t ≡ None
+other_f : (t : Piece) → ((b : ℕ) → CountsAs t SmallF b → ⊥) → f_at t ≡ None
 other_f (plain SmallF b) h = absurd (h b (refl, refl))
 other_f (plain _ b) h = refl
 other_f (escape SmallF raw means) h = absurd (h (first_byte means) (refl, refl))
 other_f (escape _ raw means) h = refl
 other_f _ h = refl
 
-digit_first : (means : List ℕ) → digit_value means ≡ first_byte means - code "0"
+digit_first : (means : List ℕ) → digit_of means ≡ first_byte means - code "0"
 digit_first [] = refl
 digit_first (b ∷ bs) = refl
 
-own_digit : (t : Piece) (b : ℕ) → Counts t Digit b → digit_at t ≡ Some (verb (Fixed (b - code "0")))
+own_digit : (t : Piece) (b : ℕ) → CountsAs t Digit b → digit_at t ≡ Some (verb (Fixed (b - code "0")))
 own_digit (plain k b) c h = rw (sym h.0, h.1) refl
 own_digit (escape k raw means) c h = rw (sym h.0, h.1) (ap (λ (x : ℕ). Some (verb (Fixed x))) (digit_first means))
 own_digit broken c h = absurd h
 own_digit (part b) c h = absurd h
 
-other_digit : (t : Piece) → ((b : ℕ) → Counts t Digit b → ⊥) → digit_at t ≡ None
+other_digit : (t : Piece) → ((b : ℕ) → CountsAs t Digit b → ⊥) → digit_at t ≡ None
 other_digit (plain Digit b) h = absurd (h b (refl, refl))
 other_digit (plain _ b) h = refl
 other_digit (escape Digit raw means) h = absurd (h (first_byte means) (refl, refl))
@@ -109,13 +110,13 @@ other_digit _ h = refl
 
 -- a rule that wants one piece, or an escape that breaks off
 module _ (p : Piece → Option Value) (wanted : Kind) (value : ℕ → Value) (n : Rule) (c : Value → Value → Value) (f : Form Piece Rule Value) (is : production n ≡ either broken_off (pair c (token p) f))
-    (own : (t : Piece) (b : ℕ) → Counts t wanted b → p t ≡ Some (value b)) (other : (t : Piece) → ((b : ℕ) → Counts t wanted b → ⊥) → p t ≡ None) where
+    (own : (t : Piece) (b : ℕ) → CountsAs t wanted b → p t ≡ Some (value b)) (other : (t : Piece) → ((b : ℕ) → CountsAs t wanted b → ⊥) → p t ≡ None) where
   sought : (text rest : List ℕ) (b : ℕ) → IsControl text wanted b rest → Carries production table (rule n) (pieces text) (c (value b)) f (pieces rest) (λ w. w)
   sought text rest b h = carry_on carry_rule (subst (λ (g : Form Piece Rule Value). Carries production table g (pieces text) (c (value b)) f (pieces rest) (λ w. w)) (sym is)
       (carry_on (carry_right (no_break h.piece text (pieces rest) h.pieces_are (counts_whole h.piece wanted b h.counts)))
       (subst (λ (ps : List Piece). Carries production table (pair c (token p) f) ps (c (value b)) f (pieces rest) (λ w. w)) (sym h.pieces_are) (carry_second (run_token (own h.piece b h.counts))))))
 
-  first_lacks : (ps : List Piece) → ((t : Piece) (qs : List Piece) (b : ℕ) → ps ≡ t ∷ qs → Counts t wanted b → ⊥) → Runs production table (token p) ps (bad ps)
+  first_lacks : (ps : List Piece) → ((t : Piece) (qs : List Piece) (b : ℕ) → ps ≡ t ∷ qs → CountsAs t wanted b → ⊥) → Runs production table (token p) ps (bad ps)
   first_lacks [] h = run_end
   first_lacks (t ∷ ts) h = run_other (other t (λ b k. h t ts b refl k))
 
@@ -178,19 +179,19 @@ escape_point : (k : Kind) (raw means : List ℕ) → point_at (escape k raw mean
 escape_point Point raw means = refl
 escape_point _ raw means = refl
 
-counted_percent : (t : Piece) (k : Kind) (b : ℕ) → Counts t k b → percent_at t ≡ percent_of k
+counted_percent : (t : Piece) (k : Kind) (b : ℕ) → CountsAs t k b → percent_at t ≡ percent_of k
 counted_percent (plain l c) k b h = plain_percent l c ∙ ap percent_of (sym h.0)
 counted_percent (escape l raw means) k b h = escape_percent l raw means ∙ ap percent_of (sym h.0)
 counted_percent broken k b h = absurd h
 counted_percent (part c) k b h = absurd h
 
-counted_point : (t : Piece) (k : Kind) (b : ℕ) → Counts t k b → point_at t ≡ point_of k
+counted_point : (t : Piece) (k : Kind) (b : ℕ) → CountsAs t k b → point_at t ≡ point_of k
 counted_point (plain l c) k b h = plain_point l c ∙ ap point_of (sym h.0)
 counted_point (escape l raw means) k b h = escape_point l raw means ∙ ap point_of (sym h.0)
 counted_point broken k b h = absurd h
 counted_point (part c) k b h = absurd h
 
-counted_verb : (t : Piece) (k : Kind) (b : ℕ) → Counts t k b → verb_at t ≡ verb_of k
+counted_verb : (t : Piece) (k : Kind) (b : ℕ) → CountsAs t k b → verb_at t ≡ verb_of k
 counted_verb (plain l c) k b h = ap verb_of (sym h.0)
 counted_verb (escape l raw means) k b h = ap verb_of (sym h.0)
 counted_verb broken k b h = absurd h
@@ -294,28 +295,28 @@ front_percent at after b s h = carry_on (stop_leads InFront at s)
 front_same : (x : Tail) → before_verb (bytes (codes "%")) (given InFront x) ≡ given InFront (after_bytes (codes "%") x)
 front_same (tail bs v es) = refl
 
-up_to_verb : (text at next bs : List ℕ) (v : Verb) → Reaches InFront text bs at → Hands (rule Before) at (leading (verb v)) (rule AfterVerb) next (λ w. w) → Hands (rule Before) text (format bs v) (rule AfterVerb) next bytes
+up_to_verb : (text at next bs : List ℕ) (v : Verb) → ReachesAsOwn InFront text bs at → Hands (rule Before) at (leading (verb v)) (rule AfterVerb) next (λ w. w) → Hands (rule Before) text (format bs v) (rule AfterVerb) next bytes
 up_to_verb text at next bs v r h = carry_made (λ es. ap (λ (xs : List ℕ). format xs v es) (append-nil bs)) (carry_with (λ es. tail [] v es) r (carry_of bytes h))
 
-pub led_up_to : (text at after next bs : List ℕ) (b : ℕ) (w : Wanted) → Reaches InFront text bs at → Stops InFront at → IsControl at Percent b after → IsWanted after w next → LeadsUpTo text bs w next
+pub led_up_to : (text at after next bs : List ℕ) (b : ℕ) (w : Wanted) → ReachesAsOwn InFront text bs at → Stops InFront at → IsControl at Percent b after → IsWanted after w next → LeadsUpTo text bs w next
 led_up_to text at after next bs b AnotherPercent r s h k = reached_more InFront text at next bs (codes "%") (bs ++ codes "%") r (carry_made front_same (carry_of (given InFront) (carry_on (front_percent at after b s h) k))) refl
 led_up_to text at after next bs b (WantedFixed n) r s h k = up_to_verb text at next bs (Fixed n) r (carry_on (front_percent at after b s h) k)
 led_up_to text at after next bs b WantedPlain r s h k = up_to_verb text at next bs PlainVerb r (carry_on (front_percent at after b s h) k)
 
-pub wanted_fails : (text at after bs : List ℕ) (b : ℕ) → Reaches InFront text bs at → Stops InFront at → IsControl at Percent b after → (end : List Piece) → Runs production table (rule WantedRule) (pieces after) (bad end) → Runs production table (rule Before) (pieces text) (bad end)
+pub wanted_fails : (text at after bs : List ℕ) (b : ℕ) → ReachesAsOwn InFront text bs at → Stops InFront at → IsControl at Percent b after → (end : List Piece) → Runs production table (rule WantedRule) (pieces after) (bad end) → Runs production table (rule Before) (pieces text) (bad end)
 wanted_fails text at after bs b r s h end k = r.fails end ((front_percent at after b s h).fails end k)
 
-lacks_percent : (ps : List Piece) → ((t : Piece) (qs : List Piece) (b : ℕ) → ps ≡ t ∷ qs → Counts t Percent b → ⊥) → Runs production table (token percent_at) ps (bad ps)
+lacks_percent : (ps : List Piece) → ((t : Piece) (qs : List Piece) (b : ℕ) → ps ≡ t ∷ qs → CountsAs t Percent b → ⊥) → Runs production table (token percent_at) ps (bad ps)
 lacks_percent [] h = run_end
 lacks_percent (t ∷ ts) h = run_other (other_percent t (λ b k. h t ts b refl k))
 
-pub no_verb_comes : (text at bs : List ℕ) → Reaches InFront text bs at → Stops InFront at → IsNoControl at Percent → Gives (rule Before) text (bad (pieces at))
+pub no_verb_comes : (text at bs : List ℕ) → ReachesAsOwn InFront text bs at → Stops InFront at → IsNoControl at Percent → Gives (rule Before) text (bad (pieces at))
 no_verb_comes text at bs r s h = r.fails (pieces at) (stopped InFront at _ s (run_first (lacks_percent (pieces at) h.none)))
 
-pub reached_break : (w : Within) (text at bs : List ℕ) → Reaches w text bs at → (rest : List ℕ) → IsBreak at rest → Gives (rule (rule_of w)) text (bad (pieces rest))
+pub reached_break : (w : Within) (text at bs : List ℕ) → ReachesAsOwn w text bs at → (rest : List ℕ) → IsBreak at rest → Gives (rule (rule_of w)) text (bad (pieces rest))
 reached_break w text at bs r rest h = r.fails (pieces rest) (own_breaks w at rest h)
 
-pub verb_reached : (text rest next bs cs new : List ℕ) (w : Wanted) → Reaches InFront text bs rest → LeadsUpTo rest cs w next → (w ≡ AnotherPercent → ⊥) → new ≡ bs ++ cs → Hands (rule Before) text (format new (verb_wanted w)) (rule AfterVerb) next bytes
+pub verb_reached : (text rest next bs cs new : List ℕ) (w : Wanted) → ReachesAsOwn InFront text bs rest → LeadsUpTo rest cs w next → (w ≡ AnotherPercent → ⊥) → new ≡ bs ++ cs → Hands (rule Before) text (format new (verb_wanted w)) (rule AfterVerb) next bytes
 verb_reached text rest next bs cs new AnotherPercent r h n e = absurd (n refl)
 verb_reached text rest next bs cs new (WantedFixed p) r h n e = subst (λ (xs : List ℕ). Hands (rule Before) text (format xs (Fixed p)) (rule AfterVerb) next bytes) (sym e) (carry_with (λ es. tail cs (Fixed p) es) r h)
 verb_reached text rest next bs cs new WantedPlain r h n e = subst (λ (xs : List ℕ). Hands (rule Before) text (format xs PlainVerb) (rule AfterVerb) next bytes) (sym e) (carry_with (λ es. tail cs PlainVerb es) r h)
@@ -332,24 +333,24 @@ behind_percent at after b s h = carry_on (stop_leads Behind at s)
 behind_same : (x : Tail) → bytes_joined (bytes (codes "%")) (given Behind x) ≡ given Behind (after_bytes (codes "%") x)
 behind_same (tail bs v es) = refl
 
-pub goes_on : (text at after next bs : List ℕ) (b : ℕ) → Reaches Behind text bs at → Stops Behind at → IsControl at Percent b after → Hands (rule SecondPercent) after (bytes_joined (bytes (codes "%"))) (rule AfterVerb) next (λ v. v) → GoesOn text bs true next
+pub goes_on : (text at after next bs : List ℕ) (b : ℕ) → ReachesAsOwn Behind text bs at → Stops Behind at → IsControl at Percent b after → Hands (rule SecondPercent) after (bytes_joined (bytes (codes "%"))) (rule AfterVerb) next (λ v. v) → GoesOnBehind text bs true next
 goes_on text at after next bs b r s h k = reached_more Behind text at next bs (codes "%") (bs ++ codes "%") r (carry_made behind_same (carry_of (given Behind) (carry_on (behind_percent at after b s h) k))) refl
 
-pub second_fails : (text at after bs : List ℕ) (b : ℕ) → Reaches Behind text bs at → Stops Behind at → IsControl at Percent b after → (end : List Piece) → Runs production table (rule SecondPercent) (pieces after) (bad end) → Runs production table (rule AfterVerb) (pieces text) (bad end)
+pub second_fails : (text at after bs : List ℕ) (b : ℕ) → ReachesAsOwn Behind text bs at → Stops Behind at → IsControl at Percent b after → (end : List Piece) → Runs production table (rule SecondPercent) (pieces after) (bad end) → Runs production table (rule AfterVerb) (pieces text) (bad end)
 second_fails text at after bs b r s h end k = r.fails end ((behind_percent at after b s h).fails end k)
 
-no_second_next : (ps : List Piece) → ((t : Piece) (qs : List Piece) (b : ℕ) → ps ≡ t ∷ qs → Counts t Percent b → ⊥) → is_next {V = Value} table second_form ps ≡ false
+no_second_next : (ps : List Piece) → ((t : Piece) (qs : List Piece) (b : ℕ) → ps ≡ t ∷ qs → CountsAs t Percent b → ⊥) → is_next {V = Value} table second_form ps ≡ false
 no_second_next [] h = refl
 no_second_next (t ∷ ts) h = no_next second_of percent_at (rule SecondPercent) t ts (other_percent t (λ b k. h t ts b refl k))
 
-pub text_ends : (text at after bs : List ℕ) → Reaches Behind text bs at → Stops Behind at → IsNoControl at Percent → IsSign Quote at after → GoesOn text bs false after
+pub text_ends : (text at after bs : List ℕ) → ReachesAsOwn Behind text bs at → Stops Behind at → IsNoControl at Percent → IsSign Quote at after → GoesOnBehind text bs false after
 text_ends text at after bs r s h q = subst (λ (xs : List ℕ). Gives (rule AfterVerb) text (good (bytes xs) (pieces after))) (append-nil bs)
     (r.reads (tail [] PlainVerb []) (pieces after) (stopped Behind at _ s (run_right (no_second_next (pieces at) h.none) (run_pair (takes_quote at after q).gives run_nothing))))
 
-pub text_fails : (text at bs : List ℕ) → Reaches Behind text bs at → Stops Behind at → IsNoControl at Percent → IsNoSign Quote at → Gives (rule AfterVerb) text (bad (pieces at))
+pub text_fails : (text at bs : List ℕ) → ReachesAsOwn Behind text bs at → Stops Behind at → IsNoControl at Percent → IsNoSign Quote at → Gives (rule AfterVerb) text (bad (pieces at))
 text_fails text at bs r s h q = r.fails (pieces at) (stopped Behind at _ s (run_right (no_second_next (pieces at) h.none) (run_first (lacks_quote at q).gives)))
 
-pub text_reached : (text rest next bs cs new : List ℕ) (g : Bool) → Reaches Behind text bs rest → GoesOn rest cs g next → g ≡ false → new ≡ bs ++ cs → Gives (rule AfterVerb) text (good (bytes new) (pieces next))
+pub text_reached : (text rest next bs cs new : List ℕ) (g : Bool) → ReachesAsOwn Behind text bs rest → GoesOnBehind rest cs g next → g ≡ false → new ≡ bs ++ cs → Gives (rule AfterVerb) text (good (bytes new) (pieces next))
 text_reached text rest next bs cs new true r h n e = absurd (cc)
 text_reached text rest next bs cs new false r h n e = subst (λ (xs : List ℕ). Gives (rule AfterVerb) text (good (bytes xs) (pieces next))) (sym e) (r.reads (tail cs PlainVerb []) (pieces next) h)
 

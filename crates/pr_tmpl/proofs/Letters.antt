@@ -3,7 +3,7 @@ use Rattle.std.proofs.Common.{◌≡◌, ◌<◌, ◌≤◌, ℕ, zero, suc, ◌
 use Rattle.std.proofs.lemmas.Bool.Decides.{nat_tests}
 use Rattle.std.specs.Prelude.{codes}
 use Rattle.pr_strings.specs.StringAnswer.{string_of, bad_string_place}
-use Rattle.pr_strings.specs.Strings.{IsString as IsStringText, IsBadPlace, production, table as string_table, seen, Text, content}
+use Rattle.pr_strings.specs.Strings.{IsString as IsStringText, IsBadPlace, production, seen, Text, content}
 use Rattle.pr_strings.specs.Language.{text_strings}
 use Rattle.pr_strings.proofs.StringPublic.{unread}
 use Rattle.pr_strings.proofs.StringTable.{known as string_known}
@@ -12,11 +12,12 @@ use Rattle.pr_forms.specs.Run.{good, bad}
 use Rattle.pr_forms.specs.Form.{rule}
 use Rattle.pr_forms.proofs.Places.{one_place, only_reading}
 use Rattle.pr_strings.proofs.StringAnswers.{string_of_reading, reading_of_string, place_of_text}
+use Rattle.pr_strings.specs.StringTable.{table as string_table}
 use Rattle.pr_tmpl.specs.declared.kind.Kind.{Kind}
 use Rattle.pr_tmpl.specs.Pieces.{Piece, plain, kind_of, kind_of_all, escape_bytes, escape_quoted, escape_parts, escaped, pieces}
 use Rattle.pr_tmpl.specs.declared.letter.Letter.{Letter}
 use Rattle.pr_tmpl.specs.declared.letter.Letter.TheVariants.{Plain, Escape, Broken}
-use Rattle.pr_tmpl.specs.Letters.{Follows, IsLetter, IsPlain, NoPlain, no_piece, an_escape, a_break, HasNoPlain, IsAscii, HasNoAscii, IsNoString, IsEscape, IsBreak}
+use Rattle.pr_tmpl.specs.Letters.{FollowsBackslash, IsLetter, IsPlain, NoPlain, no_piece, an_escape, a_break, HasNoPlain, IsAscii, HasNoAscii, IsNoString, IsEscape, IsBreak}
 use Rattle.pr_tmpl.proofs.Pieces.{pieces_at_end, pieces_at_plain, pieces_at_backslash, escape_front, parts_front}
 
 yes_if : (b : ℕ) → b ≡ 92 → (b == 92) ≡ true
@@ -144,7 +145,7 @@ follows_break text q after place n e h s d = (subst (λ (x : List ℕ). string_o
     same : min (place - 2) (n - 3) ≡ length (escape_parts (escape_bytes text))
     same = rw (taken_is text q n e h, at_place) (sym (length-take (bad_string_place (escape_quoted (escape_bytes text)) - 2) (escape_bytes text)))
 
-pub letter_follows : (text rest after : List ℕ) (b : ℕ) (l : Letter) → text ≡ b ∷ rest → b ≡ 92 → Follows rest l after → IsLetter text l after
+pub letter_follows : (text rest after : List ℕ) (b : ℕ) (l : Letter) → text ≡ b ∷ rest → b ≡ 92 → FollowsBackslash rest l after → IsLetter text l after
 letter_follows text rest after b (Plain k c) e h f = absurd f
 letter_follows text rest after b (Escape k means) e h f = an_escape_stands text rest after b k means.items e h f.0 f.1 f.2
 letter_follows text rest after b Broken e h f = a_break_stands text rest after b e h f.0 f.1

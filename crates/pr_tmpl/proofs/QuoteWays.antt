@@ -21,8 +21,9 @@ use Rattle.pr_tmpl.specs.Reader.{Gives}
 use Rattle.pr_tmpl.proofs.Pieces.{pieces_at_end, pieces_at_plain, pieces_at_backslash}
 use Rattle.pr_tmpl.proofs.WordWays.{takes_quote, lacks_quote}
 use Rattle.pr_tmpl.specs.declared.template.Verb.TheVariants.{Plain as PlainVerb}
-use Rattle.pr_tmpl.specs.TemplateText.{Rule, Value, bytes, format, Content, Before, AfterVerb, Breaking, production, table, content_at, text_at, broken_at, broken_off, bytes_joined, before_verb, second_of, quote_at, percent_at, Wanted, SecondPercent}
-use Rattle.pr_tmpl.specs.Quotes.{rule_of, own_at, is_own, means_of, Tail, tail, given, after_bytes, Reaches, Stops}
+use Rattle.pr_tmpl.specs.TemplateText.{Rule, Value, bytes, format, Content, Before, AfterVerb, Breaking, production, content_at, text_at, broken_at, broken_off, bytes_joined, before_verb, second_of, quote_at, percent_at, Wanted, SecondPercent}
+use Rattle.pr_tmpl.specs.TemplateTable.{table}
+use Rattle.pr_tmpl.specs.Quotes.{rule_of, own_at, is_own, means_of, Tail, tail, given, after_bytes, ReachesAsOwn, Stops}
 
 own_plain : (w : Within) (k : Kind) (b : ℕ) → is_own w (Plain k b) ≡ true → own_at w (plain k b) ≡ Some (bytes (b ∷ []))
 own_plain InContent Quote b e = absurd (cc)
@@ -81,11 +82,11 @@ own_bad InContent t us means e end k = run_rule (run_left (next_pair table bytes
 own_bad InFront t us means e end k = run_rule (run_left (next_pair table before_verb (token text_at) (rule Before) (t ∷ us) true refl (ap is_some e)) (run_second (run_token e) k))
 own_bad Behind t us means e end k = run_rule (run_left (next_pair table bytes_joined (token text_at) (rule AfterVerb) (t ∷ us) true refl (ap is_some e)) (run_second (run_token e) k))
 
-own_piece : (w : Within) (t : Piece) (text rest means : List ℕ) → pieces text ≡ t ∷ pieces rest → own_at w t ≡ Some (bytes means) → Reaches w text means rest
+own_piece : (w : Within) (t : Piece) (text rest means : List ℕ) → pieces text ≡ t ∷ pieces rest → own_at w t ≡ Some (bytes means) → ReachesAsOwn w text means rest
 own_piece w t text rest means e h = subst (λ (ps : List Piece). Carries production table (rule (rule_of w)) ps (λ x. given w (after_bytes means x)) (rule (rule_of w)) (pieces rest) (given w)) (sym e)
     (record { reads = own_read w t (pieces rest) means h; fails = own_bad w t (pieces rest) means h })
 
-pub own_reached : (w : Within) (l : Letter) (text rest : List ℕ) → IsLetter text l rest → is_own w l ≡ true → Reaches w text (means_of l) rest
+pub own_reached : (w : Within) (l : Letter) (text rest : List ℕ) → IsLetter text l rest → is_own w l ≡ true → ReachesAsOwn w text (means_of l) rest
 own_reached w (Plain k b) text rest h e = own_piece w (plain k b) text rest (b ∷ []) h.pieces_are (own_plain w k b e)
 own_reached w (Escape k means) text rest h e = own_piece w (escape k h.raw means.items) text rest means.items h.pieces_are (own_escape w k h.raw means e)
 own_reached w Broken text rest h e = absurd (cc)
@@ -146,8 +147,8 @@ pub own_breaks : (w : Within) (text rest : List ℕ) → IsBreak text rest → G
 own_breaks w text rest h = past_own w text _ (none_at_break w text rest h) (run_left (break_next text rest h) (break_off text rest h))
 
 -- many letters
-pub reached_none : (w : Within) (text bs : List ℕ) → bs ≡ [] → Reaches w text bs text
-reached_none w text bs e = subst (λ (xs : List ℕ). Reaches w text xs text) (sym e) (record { reads = same w; fails = λ end k. k })
+pub reached_none : (w : Within) (text bs : List ℕ) → bs ≡ [] → ReachesAsOwn w text bs text
+reached_none w text bs e = subst (λ (xs : List ℕ). ReachesAsOwn w text xs text) (sym e) (record { reads = same w; fails = λ end k. k })
   where
     same : (w : Within) (x : Tail) (end : List Piece) → Runs production table (rule (rule_of w)) (pieces text) (good (given w x) end) → Runs production table (rule (rule_of w)) (pieces text) (good (given w (after_bytes [] x)) end)
     same InContent (tail bs v es) end k = k
@@ -159,15 +160,15 @@ joined_tails InContent bs cs (tail ds v es) = ap bytes (sym (append_assoc bs cs 
 joined_tails InFront bs cs (tail ds v es) = ap (λ (xs : List ℕ). format xs v es) (sym (append_assoc bs cs ds))
 joined_tails Behind bs cs (tail ds v es) = ap bytes (sym (append_assoc bs cs ds))
 
-pub reached_more : (w : Within) (text mid rest bs cs new : List ℕ) → Reaches w text bs mid → Reaches w mid cs rest → new ≡ bs ++ cs → Reaches w text new rest
-reached_more w text mid rest bs cs new h k e = subst (λ (xs : List ℕ). Reaches w text xs rest) (sym e) (carry_made (joined_tails w bs cs) (carry_with (after_bytes cs) h k))
+pub reached_more : (w : Within) (text mid rest bs cs new : List ℕ) → ReachesAsOwn w text bs mid → ReachesAsOwn w mid cs rest → new ≡ bs ++ cs → ReachesAsOwn w text new rest
+reached_more w text mid rest bs cs new h k e = subst (λ (xs : List ℕ). ReachesAsOwn w text xs rest) (sym e) (carry_made (joined_tails w bs cs) (carry_with (after_bytes cs) h k))
 
 -- a string
-pub content_read : (text at rest bs : List ℕ) → Reaches InContent text bs at → Stops InContent at → IsSign Quote at rest → Gives (rule Content) text (good (bytes bs) (pieces rest))
+pub content_read : (text at rest bs : List ℕ) → ReachesAsOwn InContent text bs at → Stops InContent at → IsSign Quote at rest → Gives (rule Content) text (good (bytes bs) (pieces rest))
 content_read text at rest bs h s q = subst (λ (xs : List ℕ). Gives (rule Content) text (good (bytes xs) (pieces rest))) (append-nil bs)
     (h.reads (tail [] PlainVerb []) (pieces rest) (stopped InContent at _ s (run_pair (takes_quote at rest q).gives run_nothing)))
 
-pub content_bad : (text at bs : List ℕ) → Reaches InContent text bs at → Stops InContent at → IsNoSign Quote at → Gives (rule Content) text (bad (pieces at))
+pub content_bad : (text at bs : List ℕ) → ReachesAsOwn InContent text bs at → Stops InContent at → IsNoSign Quote at → Gives (rule Content) text (bad (pieces at))
 content_bad text at bs h s q = h.fails (pieces at) (stopped InContent at _ s (run_first (lacks_quote at q).gives))
 
 pub broken_read : (w : Within) (l : Letter) (text rest : List ℕ) → IsLetter text l rest → l ≡ Broken → Gives (rule (rule_of w)) text (bad (pieces rest))

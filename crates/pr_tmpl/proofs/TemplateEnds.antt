@@ -5,7 +5,9 @@ use Rattle.pr_forms.specs.Reading.{EndsIn, Ends, reading}
 use Rattle.pr_forms.proofs.Ending.{given_reads, reads_given, given_place}
 use Rattle.pr_tmpl.specs.declared.template.Part.{Part}
 use Rattle.pr_tmpl.specs.Pieces.{pieces}
-use Rattle.pr_tmpl.specs.TemplateText.{production, table, rank, steps, Value, parts, piped, operand, call, bytes, verb, format, mark, Rule, Text, PlainPiece, Brace, Opened, PieceAfterBrace, SecondBrace, First, FromOperand, FromCall, AnOperand, Literal, Dollared, Dotted, ValueWord, LabelsWord, ExternalWord, ExternalLabelsWord, UrlWord, Content, Breaking, Name, NameByte, NameRest, ACall, PrintfWord, HumanizeWord, Scale, PercentageWord, DurationWord, Formatted, Before, Wanted, Places, LetterF, AfterVerb, SecondPercent, After, Next, Barred, Closing, IsTemplate, IsBadPiece, parts_in, template_parts, bad_piece}
+use Rattle.pr_tmpl.specs.TemplateText.{production, Value, parts, piped, operand, call, bytes, verb, format, mark, Rule, Text, PlainPiece, Brace, Opened, PieceAfterBrace, SecondBrace, First, FromOperand, FromCall, AnOperand, Literal, Dollared, Dotted, ValueWord, LabelsWord, ExternalWord, ExternalLabelsWord, UrlWord, Content, Breaking, Name, NameByte, NameRest, ACall, PrintfWord, HumanizeWord, Scale, PercentageWord, DurationWord, Formatted, Before, Wanted, Places, LetterF, AfterVerb, SecondPercent, After, Next, Barred, Closing, IsTemplate, IsBadPiece}
+use Rattle.pr_tmpl.specs.TemplateTable.{table, rank, steps}
+use Rattle.pr_tmpl.specs.TemplateReading.{parts_in, template_parts, bad_piece}
 use Rattle.pr_tmpl.proofs.TemplateTable.{known}
 use Rattle.pr_tmpl.proofs.Chosen.{in_text, after_brace, at_first, at_operand, after_dollar, after_dot, after_external, at_name, in_name, at_call, at_scale, at_next}
 

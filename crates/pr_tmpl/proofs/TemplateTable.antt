@@ -5,7 +5,8 @@ use Rattle.pr_forms.proofs.Decided.{plain_binds}
 use Rattle.pr_tmpl.proofs.Chosen.{at_operand, after_dollar, after_dot, after_external, at_name, in_name, at_call, at_scale}
 use Rattle.pr_tmpl.specs.declared.kind.Kind.TheVariants.{Blank}
 use Rattle.pr_tmpl.specs.Pieces.{Piece, plain, escape}
-use Rattle.pr_tmpl.specs.TemplateText.{production, table, Rule, Text, PlainPiece, Opened, PieceAfterBrace, SecondBrace, First, FromOperand, FromCall, AnOperand, Dollared, Dotted, LabelsWord, ExternalWord, ExternalLabelsWord, Content, Breaking, Name, NameByte, NameRest, ACall, PrintfWord, HumanizeWord, Scale, Formatted, Before, Wanted, Places, LetterF, AfterVerb, SecondPercent, After, Next, Barred, name_goes_on, scale_goes_on, nothing_follows}
+use Rattle.pr_tmpl.specs.TemplateText.{production, Rule, Text, PlainPiece, Opened, PieceAfterBrace, SecondBrace, First, FromOperand, FromCall, AnOperand, Dollared, Dotted, LabelsWord, ExternalWord, ExternalLabelsWord, Content, Breaking, Name, NameByte, NameRest, ACall, PrintfWord, HumanizeWord, Scale, Formatted, Before, Wanted, Places, LetterF, AfterVerb, SecondPercent, After, Next, Barred, name_goes_on, scale_goes_on, nothing_follows}
+use Rattle.pr_tmpl.specs.TemplateTable.{table}
 
 starts_known : (n : Rule) (t : Piece) → starts_of table (production n) t ≡ table.starts n t
 starts_known Text (plain Blank b) = refl

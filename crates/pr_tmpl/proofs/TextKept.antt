@@ -18,7 +18,7 @@ use Rattle.pr_tmpl.specs.Pieces.{escape, kind_of, kind_of_all, ascii_front, esca
 use Rattle.pr_tmpl.specs.Letters.{IsEscape, IsLetter, MeansText, LetterText, are_ascii}
 use Rattle.pr_tmpl.specs.Reader.{KeepsTextBy, BeginsText, CutsText}
 use Rattle.pr_tmpl.specs.Quotes.{is_own, means_of, first_byte, IsControl}
-use Rattle.pr_tmpl.specs.TemplateText.{is_letter, is_label_byte}
+use Rattle.pr_tmpl.specs.TemplateText.{is_name_start, is_name_part}
 use Rattle.pr_tmpl.specs.Parsed.{opens, IsWords}
 use Rattle.pr_tmpl.proofs.TextWays.{take_front}
 
@@ -43,11 +43,11 @@ any_kind k text rest h = h
 pub same_kind : (k wanted : Kind) (text rest : List ℕ) → k ≡ wanted → KeepsTextBy k text rest → KeepsTextBy wanted text rest
 same_kind k wanted text rest e h = subst (λ (x : Kind). KeepsTextBy x text rest) e h
 
-pub letter_kind : (k : Kind) (text rest : List ℕ) → is_letter k ≡ true → KeepsTextBy k text rest → KeepsText text rest
+pub letter_kind : (k : Kind) (text rest : List ℕ) → is_name_start k ≡ true → KeepsTextBy k text rest → KeepsText text rest
 letter_kind Other text rest e h = absurd (cc)
 letter_kind k text rest e h = h
 
-pub label_kind : (k : Kind) (text rest : List ℕ) → is_label_byte k ≡ true → KeepsTextBy k text rest → KeepsText text rest
+pub label_kind : (k : Kind) (text rest : List ℕ) → is_name_part k ≡ true → KeepsTextBy k text rest → KeepsText text rest
 label_kind Other text rest e h = absurd (cc)
 label_kind k text rest e h = h
 

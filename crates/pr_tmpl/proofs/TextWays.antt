@@ -23,8 +23,10 @@ use Rattle.pr_tmpl.specs.Pieces.{Piece, plain, escape, broken, part, raw_of, raw
 use Rattle.pr_tmpl.specs.Letters.{IsPlain, IsLetter}
 use Rattle.pr_tmpl.specs.Reader.{Gives}
 use Rattle.pr_tmpl.specs.Pipes.{a_pipe, IsPipe}
-use Rattle.pr_tmpl.specs.Parsed.{opens, led_by, words_part, IsWords, IsOpened, IsAllWords, IsStep, IsTurn, HasParts}
-use Rattle.pr_tmpl.specs.TemplateText.{Value, parts, with_text, text_rule, opened_rule, Text, PlainPiece, PieceAfterBrace, production, table, template_parts, bad_piece, bad_template_place}
+use Rattle.pr_tmpl.specs.Parsed.{opens, led_by, words_part, IsWords, IsOpened, IsAllWords, IsStep, IsTurn, HasPartsUpTo}
+use Rattle.pr_tmpl.specs.TemplateText.{Value, parts, with_text, text_rule, opened_rule, Text, PlainPiece, PieceAfterBrace, production}
+use Rattle.pr_tmpl.specs.TemplateTable.{table}
+use Rattle.pr_tmpl.specs.TemplateReading.{template_parts, bad_piece, bad_template_place}
 use Rattle.pr_tmpl.proofs.Pieces.{pieces_at_end, pieces_are_all}
 use Rattle.pr_tmpl.proofs.TemplateTable.{known}
 use Rattle.pr_tmpl.proofs.TemplateEnds.{parts_read, parts_given, place_given}
@@ -196,8 +198,8 @@ turn_opens text at rest ws false h k e i = absurd (cc)
 turn_opens text at rest ws true h k e i = subst (λ (xs : List ℕ). IsOpened text xs rest) (sym (i ∙ (ap (λ (xs : List ℕ). take (length xs - length at) xs) h.bytes_are ∙ take_front h.words at))) (carry_with (λ ps. ps) h.hands k)
 
 -- the parts
-pub parts_start : (text : List ℕ) (ps : List Part) → ps ≡ [] → HasParts text ps text
-parts_start text ps e = subst (λ (qs : List Part). HasParts text qs text) (sym e) (record { reads = λ x end k. k; fails = λ end k. k })
+pub parts_start : (text : List ℕ) (ps : List Part) → ps ≡ [] → HasPartsUpTo text ps text
+parts_start text ps e = subst (λ (qs : List Part). HasPartsUpTo text qs text) (sym e) (record { reads = λ x end k. k; fails = λ end k. k })
 
 led_pipe : (ws : List ℕ) (o : Operand) (cs : List Call) (ps : List Part) → led_by ws (Pipe o cs ∷ ps) ≡ words_part ws ++ Pipe o cs ∷ ps
 led_pipe [] o cs ps = refl
@@ -211,13 +213,13 @@ parts_grown : (before mid now : List Part) (ws : List ℕ) (o : Operand) (cs : L
 parts_grown before mid now ws o cs ps e h = ap (λ (qs : List Part). before ++ qs) (led_pipe ws o cs ps)
     ∙ (sym (append_assoc before (words_part ws) (Pipe o cs ∷ ps)) ∙ (ap (λ (qs : List Part). qs ++ Pipe o cs ∷ ps) (sym e) ∙ (sym (append_assoc mid (Pipe o cs ∷ []) ps) ∙ ap (λ (qs : List Part). qs ++ ps) (sym h))))
 
-pub parts_on : (text at mid rest ws : List ℕ) (before between now : List Part) (o : Operand) (cs : List Call) → HasParts text before at → IsOpened at ws mid → IsPipe a_pipe mid o cs rest → between ≡ before ++ words_part ws → now ≡ between ++ Pipe o cs ∷ [] → HasParts text now rest
+pub parts_on : (text at mid rest ws : List ℕ) (before between now : List Part) (o : Operand) (cs : List Call) → HasPartsUpTo text before at → IsOpened at ws mid → IsPipe a_pipe mid o cs rest → between ≡ before ++ words_part ws → now ≡ between ++ Pipe o cs ∷ [] → HasPartsUpTo text now rest
 parts_on text at mid rest ws before between now o cs h k p e i = carry_made (λ ps. ap parts (parts_grown before between now ws o cs ps e i)) (carry_with (λ ps. led_by ws (Pipe o cs ∷ ps)) h (carry_with (λ ps. Pipe o cs ∷ ps) k p))
 
-pub pipe_fails : (text at mid ws : List ℕ) (before : List Part) → HasParts text before at → IsOpened at ws mid → (end : List Piece) → Runs production table a_pipe (pieces mid) (bad end) → Runs production table (rule Text) (pieces text) (bad end)
+pub pipe_fails : (text at mid ws : List ℕ) (before : List Part) → HasPartsUpTo text before at → IsOpened at ws mid → (end : List Piece) → Runs production table a_pipe (pieces mid) (bad end) → Runs production table (rule Text) (pieces text) (bad end)
 pipe_fails text at mid ws before h k end q = h.fails end (k.fails end q)
 
-pub parts_end : (text rest : List ℕ) (before now : List Part) → HasParts text before rest → IsAllWords rest → now ≡ before ++ words_part rest → Gives (rule Text) text (good (parts now) [])
+pub parts_end : (text rest : List ℕ) (before now : List Part) → HasPartsUpTo text before rest → IsAllWords rest → now ≡ before ++ words_part rest → Gives (rule Text) text (good (parts now) [])
 parts_end text rest before now h k e = subst (λ (ps : List Part). Gives (rule Text) text (good (parts ps) [])) (ap (λ (ps : List Part). before ++ ps) (led_end rest) ∙ sym e) (h.reads (led_by rest []) [] k)
 
 -- the whole text

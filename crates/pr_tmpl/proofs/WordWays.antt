@@ -21,7 +21,8 @@ use Rattle.pr_tmpl.specs.declared.kind.Kind.TheVariants.{Blank, Close, Quote, Di
 use Rattle.pr_tmpl.specs.Pieces.{Piece, plain, escape, broken, pieces, kind_of}
 use Rattle.pr_tmpl.specs.Letters.{IsPlain, NoPlain, no_piece, an_escape, a_break, HasNoPlain, IsSign, IsNoSign}
 use Rattle.pr_tmpl.specs.Reader.{Gives, FailsAt, Leads}
-use Rattle.pr_tmpl.specs.TemplateText.{Rule, Value, mark, bytes, production, table, blanks, blank_at, close_at, quote_at, this_at, any_at, spelled, second_of, Name, NameByte, NameRest, name_start, name_byte, name_goes_on, is_letter, is_label_byte}
+use Rattle.pr_tmpl.specs.TemplateText.{Rule, Value, mark, bytes, production, blanks, blank_at, close_at, quote_at, this_at, any_at, spelled, second_of, Name, NameByte, NameRest, name_start, name_byte, name_goes_on, is_name_start, is_name_part}
+use Rattle.pr_tmpl.specs.TemplateTable.{table}
 
 -- signs
 not_plain : {k : Kind} {b : ℕ} {ps : List Piece} → NoPlain (plain k b ∷ ps) → ⊥
@@ -171,34 +172,34 @@ module _ (q : Piece → Option Rule) (m : Piece → Bool) where
 high : (b : ℕ) → 128 ≤ b → kind_of b ≡ Other
 high b h = grind (arith, nat_tests)
 
-pub small_label : (b : ℕ) (k : Kind) → k ≡ kind_of b → is_label_byte k ≡ true → b < 128
+pub small_label : (b : ℕ) (k : Kind) → k ≡ kind_of b → is_name_part k ≡ true → b < 128
 small_label b k e h = elim (cases_lt b 128) [ inl lt ↦ lt | inr ge ↦ let i : k ≡ Other = e ∙ high b ge in absurd (not_other k i h) ]
   where
-    not_other : (k : Kind) → k ≡ Other → is_label_byte k ≡ true → ⊥
+    not_other : (k : Kind) → k ≡ Other → is_name_part k ≡ true → ⊥
     not_other Other e h = absurd (cc)
     not_other _ e h = absurd (cc)
 
 pub name_over_end : (text : List ℕ) → HasNoPlain text → (name : List ℕ) → Gives (rule (NameRest name)) text (good (bytes name) (pieces text))
 name_over_end text h name = run_rule (run_right (not_next (name_byte name) name_goes_on text h (λ k raw means. refl) refl) run_nothing)
 
-pub name_over : (text rest : List ℕ) (k : Kind) (b : ℕ) → IsPlain text k b rest → is_label_byte k ≡ false → (name : List ℕ) → Gives (rule (NameRest name)) text (good (bytes name) (pieces text))
+pub name_over : (text rest : List ℕ) (k : Kind) (b : ℕ) → IsPlain text k b rest → is_name_part k ≡ false → (name : List ℕ) → Gives (rule (NameRest name)) text (good (bytes name) (pieces text))
 name_over text rest k b h e name = run_rule (run_right (next_piece (name_byte name) name_goes_on None (plain k b) text rest h.pieces_are (rw e refl)) run_nothing)
 
-pub name_more : (text rest : List ℕ) (k : Kind) (b : ℕ) → IsPlain text k b rest → is_label_byte k ≡ true → (name : List ℕ) → Leads (rule (NameRest name)) text (rule (NameRest (name ++ b ∷ []))) rest
+pub name_more : (text rest : List ℕ) (k : Kind) (b : ℕ) → IsPlain text k b rest → is_name_part k ≡ true → (name : List ℕ) → Leads (rule (NameRest name)) text (rule (NameRest (name ++ b ∷ []))) rest
 name_more text rest k b h e name = carry_on carry_rule (carry_on (carry_left (next_piece (name_byte name) name_goes_on (Some (NameByte (name ++ b ∷ []))) (plain k b) text rest h.pieces_are (rw e refl)))
     (chosen_word (name_byte name) name_goes_on (NameByte (name ++ b ∷ [])) (plain k b) text rest second_of any_at (rule (NameRest (name ++ b ∷ []))) mark h.pieces_are (rw e refl) refl refl refl))
 
 pub no_name_end : (text : List ℕ) → HasNoPlain text → Gives (rule Name) text (bad (pieces text))
 no_name_end text h = run_rule (unchosen name_start name_goes_on text h (λ k raw means. refl) refl)
 
-pub no_name : (text rest : List ℕ) (k : Kind) (b : ℕ) → IsPlain text k b rest → is_letter k ≡ false → Gives (rule Name) text (bad (pieces text))
+pub no_name : (text rest : List ℕ) (k : Kind) (b : ℕ) → IsPlain text k b rest → is_name_start k ≡ false → Gives (rule Name) text (bad (pieces text))
 no_name text rest k b h e = run_rule (unchosen_piece name_start name_goes_on (plain k b) text rest h.pieces_are (rw e refl))
 
-pub name_starts : (text rest : List ℕ) (k : Kind) (b : ℕ) (name : List ℕ) → IsPlain text k b rest → is_letter k ≡ true → name ≡ b ∷ [] → Leads (rule Name) text (rule (NameRest name)) rest
+pub name_starts : (text rest : List ℕ) (k : Kind) (b : ℕ) (name : List ℕ) → IsPlain text k b rest → is_name_start k ≡ true → name ≡ b ∷ [] → Leads (rule Name) text (rule (NameRest name)) rest
 name_starts text rest k b name h e i = subst (λ (x : List ℕ). Leads (rule Name) text (rule (NameRest x)) rest) (sym i)
     (carry_on carry_rule (chosen_word name_start name_goes_on (NameByte (b ∷ [])) (plain k b) text rest second_of any_at (rule (NameRest (b ∷ []))) mark h.pieces_are (rw e refl) refl refl refl))
 
-pub letter_label : (k : Kind) → is_letter k ≡ true → is_label_byte k ≡ true
+pub letter_label : (k : Kind) → is_name_start k ≡ true → is_name_part k ≡ true
 letter_label Digit e = refl
 letter_label _ e = e
 

@@ -43,10 +43,10 @@ pub record IsNoString (text : List ℕ) (place : ℕ) : Type 0 where
   pub place_is : place ≡ bad_string_place text
 
 -- What follows a backslash, and the text after that.
-abbrev pub Follows : List ℕ → Letter → List ℕ → Type 0
-Follows text (Plain kind b) rest = ⊥
-Follows text (Escape kind means) rest = (string_of (escape_quoted (escape_bytes text)) ≡ Some means.items) × (kind ≡ kind_of_all means.items) × (rest ≡ drop (length (escape_bytes text)) text)
-Follows text Broken rest = (string_of (escape_quoted (escape_bytes text)) ≡ None) × (rest ≡ drop (length (escape_parts (escape_bytes text))) text)
+abbrev pub FollowsBackslash : List ℕ → Letter → List ℕ → Type 0
+FollowsBackslash text (Plain kind b) rest = ⊥
+FollowsBackslash text (Escape kind means) rest = (string_of (escape_quoted (escape_bytes text)) ≡ Some means.items) × (kind ≡ kind_of_all means.items) × (rest ≡ drop (length (escape_bytes text)) text)
+FollowsBackslash text Broken rest = (string_of (escape_quoted (escape_bytes text)) ≡ None) × (rest ≡ drop (length (escape_parts (escape_bytes text))) text)
 
 -- The text begins with an escape of that kind and meaning; with one that breaks off.
 pub record IsEscape (text : List ℕ) (kind : Kind) (means rest : List ℕ) : Type 0 where

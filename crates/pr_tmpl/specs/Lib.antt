@@ -1,6 +1,8 @@
 pub mod Expansion
 pub mod Pieces
 pub mod TemplateText
+pub mod TemplateTable
+pub mod TemplateReading
 pub mod Letters
 pub mod Reader
 pub mod Quotes

@@ -51,5 +51,5 @@ IsTurn text true rest = IsOpened text [] rest
 IsTurn text false rest = IsWords text rest
 
 -- The parts are those up to the rest.
-abbrev pub HasParts : List ℕ → List Part → List ℕ → Type 0
-HasParts text ps rest = Hands (rule Text) text (λ qs. parts (ps ++ qs)) (rule Text) rest parts
+abbrev pub HasPartsUpTo : List ℕ → List Part → List ℕ → Type 0
+HasPartsUpTo text ps rest = Hands (rule Text) text (λ qs. parts (ps ++ qs)) (rule Text) rest parts

@@ -8,7 +8,8 @@ use Rattle.pr_tmpl.specs.declared.template.Part.{Part}
 use Rattle.pr_tmpl.specs.declared.template.Part.TheVariants.{Pipe}
 use Rattle.pr_tmpl.specs.Pieces.{Piece, pieces}
 use Rattle.pr_tmpl.specs.Reader.{Hands}
-use Rattle.pr_tmpl.specs.TemplateText.{Rule, Value, parts, piped, call, blanks, blank_at, second_of, gone_through, production, table, Text, First, FromOperand, ACall, After, Next}
+use Rattle.pr_tmpl.specs.TemplateText.{Rule, Value, parts, piped, call, blanks, blank_at, second_of, gone_through, production, Text, First, FromOperand, ACall, After, Next}
+use Rattle.pr_tmpl.specs.TemplateTable.{table}
 
 -- one blank or more, and then a form; blanks, and then a pipe from its first piece on
 abbrev pub after_gap : Form Piece Rule Value → Form Piece Rule Value

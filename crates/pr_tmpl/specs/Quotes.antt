@@ -19,7 +19,8 @@ use Rattle.pr_tmpl.specs.declared.template.Verb.TheVariants.{Plain as PlainVerb,
 use Rattle.pr_tmpl.specs.Pieces.{Piece, plain, escape, broken, part, pieces}
 use Rattle.pr_tmpl.specs.Letters.{IsBreak}
 use Rattle.pr_tmpl.specs.Reader.{Gives, Hands}
-use Rattle.pr_tmpl.specs.TemplateText.{Rule, Value, bytes, format, Content, Before, Wanted as WantedRule, AfterVerb, production, table, content_at, text_at, broken_off, before_verb, leading, verb}
+use Rattle.pr_tmpl.specs.TemplateText.{Rule, Value, bytes, format, Content, Before, Wanted as WantedRule, AfterVerb, production, content_at, text_at, broken_off, before_verb, leading, verb}
+use Rattle.pr_tmpl.specs.TemplateTable.{table}
 
 -- the rule, and the pieces that stand for themselves
 abbrev pub rule_of : Within → Rule
@@ -63,8 +64,8 @@ abbrev pub after_bytes : List ℕ → Tail → Tail
 after_bytes bs (tail cs v es) = tail (bs ++ cs) v es
 
 -- The bytes are what stands for itself between the text's front and the rest.
-abbrev pub Reaches : Within → List ℕ → List ℕ → List ℕ → Type 0
-Reaches w text bs rest = Carries production table (rule (rule_of w)) (pieces text) (λ x. given w (after_bytes bs x)) (rule (rule_of w)) (pieces rest) (given w)
+abbrev pub ReachesAsOwn : Within → List ℕ → List ℕ → List ℕ → Type 0
+ReachesAsOwn w text bs rest = Carries production table (rule (rule_of w)) (pieces text) (λ x. given w (after_bytes bs x)) (rule (rule_of w)) (pieces rest) (given w)
 
 -- Nothing that stands for itself comes next, and no escape that breaks off.
 pub record Stops (w : Within) (text : List ℕ) : Type 0 where
@@ -76,27 +77,27 @@ abbrev pub first_byte : List ℕ → ℕ
 first_byte [] = 0
 first_byte (b ∷ bs) = b
 
-abbrev pub Counts : Piece → Kind → ℕ → Type 0
-Counts (plain k b) kind byte = (kind ≡ k) × (byte ≡ b)
-Counts (escape k raw means) kind byte = (kind ≡ k) × (byte ≡ first_byte means)
-Counts broken kind byte = ⊥
-Counts (part b) kind byte = ⊥
+abbrev pub CountsAs : Piece → Kind → ℕ → Type 0
+CountsAs (plain k b) kind byte = (kind ≡ k) × (byte ≡ b)
+CountsAs (escape k raw means) kind byte = (kind ≡ k) × (byte ≡ first_byte means)
+CountsAs broken kind byte = ⊥
+CountsAs (part b) kind byte = ⊥
 
 pub record IsControl (text : List ℕ) (kind : Kind) (byte : ℕ) (rest : List ℕ) : Type 0 where
   pub piece : Piece
   pub pieces_are : pieces text ≡ piece ∷ pieces rest
-  pub counts : Counts piece kind byte
+  pub counts : CountsAs piece kind byte
   pub digit : kind ≡ Digit → byte ≤ 57
 
 -- None of that kind comes next, and no escape that breaks off.
 pub record IsNoControl (text : List ℕ) (kind : Kind) : Type 0 where
   pub whole : is_next {V = Value} table broken_off (pieces text) ≡ false
-  pub none : (t : Piece) (ps : List Piece) (byte : ℕ) → pieces text ≡ t ∷ ps → Counts t kind byte → ⊥
+  pub none : (t : Piece) (ps : List Piece) (byte : ℕ) → pieces text ≡ t ∷ ps → CountsAs t kind byte → ⊥
 
 -- An escape that breaks off comes next, up to the fault's text.
-abbrev pub BreaksAt : List ℕ → Fault ℕ → Type 0
-BreaksAt text (Bad rest) = IsBreak text rest.now
-BreaksAt text Memory = Unit {0}
+abbrev pub BreaksOffAt : List ℕ → Fault ℕ → Type 0
+BreaksOffAt text (Bad rest) = IsBreak text rest.now
+BreaksOffAt text Memory = Unit {0}
 
 -- the verb that is wanted, which has nine places at most
 abbrev pub verb_wanted : Wanted → Verb
@@ -115,9 +116,9 @@ IsWanted text w rest = Hands (rule WantedRule) text (leading (verb (verb_wanted 
 -- A text before a verb and what stands after a `%`; a text after the verb, which goes on behind two
 -- of `%`, or ends.
 abbrev pub LeadsUpTo : List ℕ → List ℕ → Wanted → List ℕ → Type 0
-LeadsUpTo text bs AnotherPercent rest = Reaches InFront text (bs ++ codes "%") rest
+LeadsUpTo text bs AnotherPercent rest = ReachesAsOwn InFront text (bs ++ codes "%") rest
 LeadsUpTo text bs w rest = Hands (rule Before) text (format bs (verb_wanted w)) (rule AfterVerb) rest bytes
 
-abbrev pub GoesOn : List ℕ → List ℕ → Bool → List ℕ → Type 0
-GoesOn text bs true rest = Reaches Behind text (bs ++ codes "%") rest
-GoesOn text bs false rest = Gives (rule AfterVerb) text (good (bytes bs) (pieces rest))
+abbrev pub GoesOnBehind : List ℕ → List ℕ → Bool → List ℕ → Type 0
+GoesOnBehind text bs true rest = ReachesAsOwn Behind text (bs ++ codes "%") rest
+GoesOnBehind text bs false rest = Gives (rule AfterVerb) text (good (bytes bs) (pieces rest))

@@ -10,7 +10,8 @@ use Rattle.pr_strings.specs.Reader.{KeepsText}
 use Rattle.pr_tmpl.specs.declared.kind.Kind.{Kind}
 use Rattle.pr_tmpl.specs.declared.kind.Kind.TheVariants.{Other}
 use Rattle.pr_tmpl.specs.Pieces.{Piece, pieces}
-use Rattle.pr_tmpl.specs.TemplateText.{Rule, Value, production, table}
+use Rattle.pr_tmpl.specs.TemplateText.{Rule, Value, production}
+use Rattle.pr_tmpl.specs.TemplateTable.{table}
 
 -- The reader of the form gives the outcome at the text; it fails at the fault's text.
 abbrev pub Gives : Form Piece Rule Value → List ℕ → Outcome Piece Value → Type 0

@@ -1,9 +1,7 @@
 -- The texts of templates, the formats of printf among them.
-use Rattle.std.specs.Prelude.{ℕ, ◌-◌, ◌==◌, ◌||◌, Bool, true, false, Option, Some, None, is_some, List, [], ◌∷◌, ◌++◌, codes, length, take, if◌then◌else◌}
+use Rattle.std.specs.Prelude.{ℕ, ◌-◌, ◌==◌, Bool, true, false, Option, Some, None, is_some, List, [], ◌∷◌, ◌++◌, codes, if◌then◌else◌}
 use Prim.Native.Char.{code}
 use Rattle.pr_forms.specs.Form.{Form, token, nothing, pair, either, turns, chosen, rule, Reads, IsFirstBad}
-use Rattle.pr_forms.specs.Table.{Table}
-use Rattle.pr_forms.specs.Reading.{reading, bad_place}
 use Rattle.pr_tmpl.specs.declared.template.Verb.{Verb}
 use Rattle.pr_tmpl.specs.declared.template.Verb.TheVariants.{Plain, Fixed}
 use Rattle.pr_tmpl.specs.declared.template.Operand.{Operand}
@@ -14,7 +12,7 @@ use Rattle.pr_tmpl.specs.declared.template.Part.{Part}
 use Rattle.pr_tmpl.specs.declared.template.Part.TheVariants.{Words, Pipe}
 use Rattle.pr_tmpl.specs.declared.kind.Kind.{Kind}
 use Rattle.pr_tmpl.specs.declared.kind.Kind.TheVariants.{Quote, Feed, Blank, Open, Close, Bar, Dollar, Point, Percent, Digit, SmallE, SmallF, SmallH, SmallL, SmallP, SmallS, SmallV, CapitalD, CapitalE, CapitalL, CapitalP, CapitalU, CapitalV, OtherLetter}
-use Rattle.pr_tmpl.specs.Pieces.{Piece, plain, escape, broken, part, raw_of, raw_text, pieces}
+use Rattle.pr_tmpl.specs.Pieces.{Piece, plain, escape, broken, part, raw_of, pieces}
 
 -- What stands for a part of a template.
 pub data Value : Type 0 where
@@ -159,13 +157,13 @@ point_at (plain Point b) = Some mark
 point_at (escape Point raw means) = Some mark
 point_at _ = None
 
-abbrev pub digit_value : List ℕ → ℕ
-digit_value [] = 0
-digit_value (b ∷ bs) = b - code "0"
+abbrev pub digit_of : List ℕ → ℕ
+digit_of [] = 0
+digit_of (b ∷ bs) = b - code "0"
 
 abbrev pub digit_at : Piece → Option Value
 digit_at (plain Digit b) = Some (verb (Fixed (b - code "0")))
-digit_at (escape Digit raw means) = Some (verb (Fixed (digit_value means)))
+digit_at (escape Digit raw means) = Some (verb (Fixed (digit_of means)))
 digit_at _ = None
 
 abbrev pub f_at : Piece → Option Value
@@ -174,26 +172,26 @@ f_at (escape SmallF raw means) = Some mark
 f_at _ = None
 
 -- names of labels begin with letters and underscores, and go on with digits too
-abbrev pub is_letter : Kind → Bool
-is_letter SmallE = true
-is_letter SmallF = true
-is_letter SmallH = true
-is_letter SmallL = true
-is_letter SmallP = true
-is_letter SmallS = true
-is_letter SmallV = true
-is_letter CapitalD = true
-is_letter CapitalE = true
-is_letter CapitalL = true
-is_letter CapitalP = true
-is_letter CapitalU = true
-is_letter CapitalV = true
-is_letter OtherLetter = true
-is_letter _ = false
+abbrev pub is_name_start : Kind → Bool
+is_name_start SmallE = true
+is_name_start SmallF = true
+is_name_start SmallH = true
+is_name_start SmallL = true
+is_name_start SmallP = true
+is_name_start SmallS = true
+is_name_start SmallV = true
+is_name_start CapitalD = true
+is_name_start CapitalE = true
+is_name_start CapitalL = true
+is_name_start CapitalP = true
+is_name_start CapitalU = true
+is_name_start CapitalV = true
+is_name_start OtherLetter = true
+is_name_start _ = false
 
-abbrev pub is_label_byte : Kind → Bool
-is_label_byte Digit = true
-is_label_byte k = is_letter k
+abbrev pub is_name_part : Kind → Bool
+is_name_part Digit = true
+is_name_part k = is_name_start k
 
 -- the rules that pieces choose
 abbrev pub text_rule : Piece → Option Rule
@@ -236,11 +234,11 @@ external_rule (plain CapitalU b) = Some UrlWord
 external_rule _ = None
 
 abbrev pub name_start : Piece → Option Rule
-name_start (plain k b) = if is_letter k then Some (NameByte (b ∷ [])) else None
+name_start (plain k b) = if is_name_start k then Some (NameByte (b ∷ [])) else None
 name_start _ = None
 
 abbrev pub name_byte : List ℕ → Piece → Option Rule
-name_byte name (plain k b) = if is_label_byte k then Some (NameByte (name ++ b ∷ [])) else None
+name_byte name (plain k b) = if is_name_part k then Some (NameByte (name ++ b ∷ [])) else None
 name_byte name _ = None
 
 abbrev pub call_rule : Piece → Option Rule
@@ -325,7 +323,7 @@ abbrev pub anything : Piece → Bool
 anything t = true
 
 abbrev pub name_goes_on : Piece → Bool
-name_goes_on (plain k b) = is_label_byte k
+name_goes_on (plain k b) = is_name_part k
 name_goes_on _ = false
 
 abbrev pub scale_goes_on : Piece → Bool
@@ -350,17 +348,23 @@ after_any f = pair second_of (token any_at) f
 abbrev pub broken_off : Form Piece Rule Value
 broken_off = pair second_of (token broken_at) (rule Breaking)
 
--- The productions, where a rule that a piece chooses stands in its place. A format and a string
--- that has an escape which breaks off can go on with the parts of it alone. text           = piece
--- text | "{" opened | opened         = "{" blanks first | piece text | first          = operand
--- after | call blank blanks operand after operand        = "\"" content | "$" ("v" value | "l"
--- labels | "e" external) | "." ("V" value | "L" labels | "E" external) content        = piece
--- content | "\"" value          = "alue" labels         = "abels." name external       = "xternal"
--- ("L" labels | "URL") call           = "printf" blank blanks "\"" before | "humanize"
--- ["Percentage" | "Duration"] before         = piece before | "%" wanted wanted         = "%"
--- before | ("f" | "v" | "s") after-verb | "." digit "f" after-verb after-verb     = piece
--- after-verb | "%" "%" after-verb | "\"" after          = blanks ("|" blanks call after | "}" "}"
--- text)
+-- The grammar, where a rule that a piece chooses stands in its place:
+--   text       = piece text | "{" opened |
+--   opened     = "{" blanks first | piece text |
+--   first      = operand after | call blank blanks operand after
+--   operand    = "\"" content
+--              | "$" ("v" value | "l" labels | "e" external)
+--              | "." ("V" value | "L" labels | "E" external)
+--   content    = piece content | "\""
+--   value      = "alue"
+--   labels     = "abels." name
+--   external   = "xternal" ("L" labels | "URL")
+--   call       = "printf" blank blanks "\"" before | "humanize" ["Percentage" | "Duration"]
+--   before     = piece before | "%" wanted
+--   wanted     = "%" before | ("f" | "v" | "s") after-verb | "." digit "f" after-verb
+--   after-verb = piece after-verb | "%" "%" after-verb | "\""
+--   after      = blanks ("|" blanks call after | "}" "}" text)
+-- A format and a string that has an escape which breaks off can go on with the parts of it alone.
 abbrev pub production : Rule → Form Piece Rule Value
 production Text = either (chosen text_rule anything) (nothing (parts []))
 production PlainPiece = pair texted (token raw_at) (rule Text)
@@ -404,120 +408,6 @@ production Next = chosen next_rule anything
 production Barred = after_any (pair second_of blanks (pair gone_through (rule ACall) (rule After)))
 production Closing = pair closed (token any_at) (pair second_of (token close_at) (rule Text))
 
--- What one piece ahead tells of the rules.
-abbrev pub is_blank : Piece → Bool
-is_blank t = is_some (blank_at t)
-
-abbrev pub is_content : Piece → Bool
-is_content (plain Feed b) = false
-is_content (part b) = false
-is_content _ = true
-
-abbrev pub is_wanted : Kind → Bool
-is_wanted Percent = true
-is_wanted Point = true
-is_wanted k = is_some (verb_of k)
-
-abbrev pub starts_wanted : Piece → Bool
-starts_wanted (plain k b) = is_wanted k
-starts_wanted (escape k raw means) = is_wanted k
-starts_wanted broken = true
-starts_wanted (part b) = false
-
-abbrev pub starts_before : Piece → Bool
-starts_before (plain Quote b) = false
-starts_before t = is_content t
-
-abbrev pub starts_rule : Rule → Piece → Bool
-starts_rule Text t = true
-starts_rule Opened t = true
-starts_rule First t = is_some (first_rule t)
-starts_rule FromOperand t = is_some (operand_rule t) || false
-starts_rule FromCall t = is_some (call_rule t) || false
-starts_rule AnOperand t = is_some (operand_rule t)
-starts_rule Content t = is_content t
-starts_rule Breaking t = is_some (part_at t) || false
-starts_rule Name t = is_some (name_start t)
-starts_rule (NameRest name) t = name_goes_on t
-starts_rule ACall t = is_some (call_rule t)
-starts_rule Scale t = is_some (scale_rule t) || false
-starts_rule Formatted t = is_some (quote_at t) || false
-starts_rule Before t = starts_before t
-starts_rule Wanted t = starts_wanted t
-starts_rule Places t = is_some (broken_at t) || is_some (digit_at t)
-starts_rule LetterF t = is_some (broken_at t) || is_some (f_at t)
-starts_rule AfterVerb t = is_content t
-starts_rule SecondPercent t = is_some (broken_at t) || is_some (percent_at t)
-starts_rule After t = is_blank t || is_some (next_rule t)
-starts_rule Next t = is_some (next_rule t)
-starts_rule _ t = true
-
-abbrev pub empty_rule : Rule → Bool
-empty_rule Text = true
-empty_rule Opened = true
-empty_rule (NameRest name) = true
-empty_rule Scale = true
-empty_rule _ = false
-
-abbrev pub more_rule : Rule → Piece → Bool
-more_rule AnOperand t = name_goes_on t
-more_rule Literal t = false
-more_rule Dollared t = name_goes_on t
-more_rule Dotted t = name_goes_on t
-more_rule ValueWord t = false
-more_rule LabelsWord t = name_goes_on t
-more_rule ExternalWord t = name_goes_on t
-more_rule ExternalLabelsWord t = name_goes_on t
-more_rule UrlWord t = false
-more_rule Content t = false
-more_rule Breaking t = false
-more_rule Name t = name_goes_on t
-more_rule (NameByte name) t = name_goes_on t
-more_rule (NameRest name) t = name_goes_on t
-more_rule ACall t = scale_goes_on t
-more_rule PrintfWord t = false
-more_rule HumanizeWord t = scale_goes_on t
-more_rule Scale t = scale_goes_on t
-more_rule PercentageWord t = false
-more_rule DurationWord t = false
-more_rule Formatted t = false
-more_rule Before t = false
-more_rule Wanted t = false
-more_rule Places t = false
-more_rule LetterF t = false
-more_rule AfterVerb t = false
-more_rule SecondPercent t = false
-more_rule _ t = true
-
-abbrev pub table : Table Piece Rule
-table = record { empty = empty_rule; starts = starts_rule; more = more_rule }
-
--- how many steps a rule makes at most before it comes to a piece, and a bound on that
-abbrev pub rank : Rule → ℕ
-rank Text = 4
-rank Opened = 4
-rank First = 6
-rank FromOperand = 5
-rank FromCall = 5
-rank AnOperand = 3
-rank Name = 3
-rank (NameRest name) = 4
-rank ACall = 3
-rank Scale = 4
-rank After = 5
-rank Next = 3
-rank Content = 5
-rank Before = 5
-rank Wanted = 5
-rank Places = 4
-rank LetterF = 4
-rank AfterVerb = 5
-rank SecondPercent = 4
-rank _ = 2
-
-abbrev pub steps : ℕ
-steps = 10
-
 -- The text is a template of these parts.
 abbrev pub IsTemplate : List ℕ → List Part → Type 0
 IsTemplate text ps = Reads production (rule Text) (pieces text) (parts ps) []
@@ -526,18 +416,3 @@ IsTemplate text ps = Reads production (rule Text) (pieces text) (parts ps) []
 -- begins.
 abbrev pub IsBadPiece : List ℕ → ℕ → Type 0
 IsBadPiece text n = IsFirstBad production (rule Text) (pieces text) n
-
-abbrev pub parts_in : Option Value → Option (List Part)
-parts_in (Some (parts ps)) = Some ps
-parts_in _ = None
-
--- The parts of a text as a function of it, where it is a template; the first bad piece, and its
--- place in bytes.
-unfoldable pub template_parts : List ℕ → Option (List Part)
-template_parts text = parts_in (reading production table steps (rule Text) (pieces text))
-
-unfoldable pub bad_piece : List ℕ → ℕ
-bad_piece text = bad_place production table steps (rule Text) (pieces text)
-
-unfoldable pub bad_template_place : List ℕ → ℕ
-bad_template_place text = length (raw_text (take (bad_piece text) (pieces text)))

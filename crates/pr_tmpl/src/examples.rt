@@ -7,7 +7,7 @@ ghost use Rattle.pr_tmpl.specs.declared.template.Verb.TheVariants.{Plain, Fixed}
 ghost use Rattle.pr_tmpl.specs.declared.template.Operand.TheVariants.{Value, Label, ExternalLabel, ExternalUrl, Words as Quoted};
 ghost use Rattle.pr_tmpl.specs.declared.template.Call.TheVariants.{Printf, Humanize, HumanizePercentage, HumanizeDuration};
 ghost use Rattle.pr_tmpl.specs.declared.template.Part.TheVariants.{Words, Pipe};
-ghost use Rattle.pr_tmpl.specs.TemplateText.{template_parts, bad_template_place};
+ghost use Rattle.pr_tmpl.specs.TemplateReading.{template_parts, bad_template_place};
 ghost use Rattle.pr_tmpl.specs.Expansion.{expansion};
 ghost use Rattle.pr_num.specs.declared.value.Num.TheVariants.{Finite, NaN};
 

@@ -4,8 +4,9 @@ ghost use Rattle.pr_forms.specs.Table.{IsDecided};
 ghost use Rattle.pr_forms.specs.Reading.{Ends};
 ghost use Rattle.pr_tmpl.specs.declared.template.Part.{Part};
 ghost use Rattle.pr_tmpl.specs.Pieces.{pieces, raw_text};
-ghost use Rattle.pr_tmpl.specs.TemplateText as template;
-ghost use Rattle.pr_tmpl.specs.TemplateText.{IsTemplate, IsBadPiece, template_parts, bad_piece};
+ghost use Rattle.pr_tmpl.specs.TemplateText.{production, IsTemplate, IsBadPiece};
+ghost use Rattle.pr_tmpl.specs.TemplateTable.{table, rank, steps};
+ghost use Rattle.pr_tmpl.specs.TemplateReading.{template_parts, bad_piece};
 
 /// The pieces of a text are all of it.
 #[tactic(auto, using(crate::proofs::Pieces::pieces_are_all))]
@@ -14,11 +15,10 @@ pub fn pieces_are_the_text()
 {}
 
 /// One piece ahead decides the grammar of templates: so a text is read in one way, and without
-/// going back. The grammar ends:
-/// so its reading is a function of the text.
+/// going back. The grammar ends: so its reading is a function of the text.
 pub fn one_piece_decides_templates()
-    ensures decided { IsDecided template.production template.table }
-    ensures ends { Ends template.production template.table template.rank template.steps }
+    ensures decided { IsDecided production table }
+    ensures ends { Ends production table rank steps }
 {}
 
 /// The parts of a template are a function of its text, and so is the first piece with which no

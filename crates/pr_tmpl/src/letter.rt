@@ -3,7 +3,7 @@ ghost use Rattle.std.specs.Prelude.{◌≡◌, List, ◌<◌, ◌≤◌, [], dro
 ghost use Rattle.pr_strings.specs.Reader.{IsMemory, KeepsText};
 ghost use Rattle.pr_tmpl.specs.Reader.{KeepsTextBy};
 ghost use Rattle.pr_tmpl.specs.Pieces.{escape_length, escape_bytes, escape_quoted, ascii_front};
-ghost use Rattle.pr_tmpl.specs.Letters.{IsPlain, HasNoPlain, IsAscii, HasNoAscii, IsString, IsNoString, Follows, IsLetter, MeansText, LetterText};
+ghost use Rattle.pr_tmpl.specs.Letters.{IsPlain, HasNoPlain, IsAscii, HasNoAscii, IsString, IsNoString, FollowsBackslash, IsLetter, MeansText, LetterText};
 
 use crate::kind::{Kind, kind_of, kind_of_all};
 use pr_forms::Fault;
@@ -116,7 +116,7 @@ fn skip(text: &[u8], count: usize) -> &[u8]
 
 /// What stands after a backslash: an escape, or what can go on of one that breaks off.
 fn escape_in(alloc: Global, text: &[u8]) -> Result<(Letter, &[u8]), Fault<'_, u8>>
-    ensures read { IfOk result (λ x. Follows text.now x.0 x.1.now) }
+    ensures read { IfOk result (λ x. FollowsBackslash text.now x.0 x.1.now) }
     ensures memory { IfErr result IsMemory }
     ensures text { IfOk result (λ x. MeansText text.now x.0 x.1.now) }
 {

@@ -7,7 +7,8 @@ ghost use Rattle.pr_strings.specs.Reader.{IsMemory, KeepsText, SplitsText};
 ghost use Rattle.pr_tmpl.specs.Reader.{Gives, FailsAt, CutsText};
 ghost use Rattle.pr_tmpl.specs.Parsed.{opens, words_part, IsStep, IsTurn, IsOpened, IsAllWords};
 ghost use Rattle.pr_tmpl.specs.Faults.{IsNoTemplate};
-ghost use Rattle.pr_tmpl.specs.TemplateText.{parts, template_parts, Text as TextRule};
+ghost use Rattle.pr_tmpl.specs.TemplateText.{parts, Text as TextRule};
+ghost use Rattle.pr_tmpl.specs.TemplateReading.{template_parts};
 
 use crate::kind::Kind;
 use crate::letter::{Letter, letter_in};

@@ -9,7 +9,7 @@ ghost use Rattle.pr_tmpl.specs.declared.template.Call.TheVariants.{Printf};
 ghost use Rattle.pr_tmpl.specs.TemplateText.{bytes as bytes_value, verb, format, call, bytes_joined, leading, Content as ContentRule, Before as BeforeRule, Wanted as WantedRule, Places as PlacesRule, LetterF, AfterVerb, SecondPercent, Formatted};
 ghost use Rattle.pr_strings.specs.Reader.{KeepsText, KeepsFront};
 ghost use Rattle.pr_tmpl.specs.Reader.{Gives, FailsAt, Leads, Hands, KeepsTextBy, BeginsText};
-ghost use Rattle.pr_tmpl.specs.Quotes.{is_own, means_of, rule_of, Reaches, Stops, first_byte, IsControl, IsNoControl, BreaksAt, verb_wanted, HasFewPlaces, IsWanted, LeadsUpTo, GoesOn};
+ghost use Rattle.pr_tmpl.specs.Quotes.{is_own, means_of, rule_of, ReachesAsOwn, Stops, first_byte, IsControl, IsNoControl, BreaksOffAt, verb_wanted, HasFewPlaces, IsWanted, LeadsUpTo, GoesOnBehind};
 
 use crate::kind::Kind;
 use crate::letter::{Letter, letter_in};
@@ -61,7 +61,7 @@ fn own_in(
     within: Within,
     text: &[u8],
 ) -> Result<Option<(Letter, &[u8])>, Fault<'_, u8>>
-    ensures read { MatchResult result (λ o. MatchOption o (Stops within text.now) (λ x. Reaches within text.now (means_of x.0) x.1.now))
+    ensures read { MatchResult result (λ o. MatchOption o (Stops within text.now) (λ x. ReachesAsOwn within text.now (means_of x.0) x.1.now))
         (FailsAt (rule (rule_of within)) text.now) }
     ensures shorter { IfOk result (λ o. IfSome o (λ x. length x.1.now < length text.now)) }
     ensures text { IfOk result (λ o. MatchOption o (BeginsText text.now) (λ x. KeepsFront text.now (means_of x.0) x.1.now)) }
@@ -81,7 +81,7 @@ fn own_in(
 /// What the letters at the front mean that stand for themselves, and what follows them.
 fn means_in(alloc: Global, within: Within, text: &[u8]) -> Result<(Text, &[u8]), Fault<'_, u8>>
     requires { IsUtf8 text.now }
-    ensures read { MatchResult result (λ x. Reaches within text.now x.0 x.1.now × Stops within x.1.now) (FailsAt (rule (rule_of within)) text.now) }
+    ensures read { MatchResult result (λ x. ReachesAsOwn within text.now x.0 x.1.now × Stops within x.1.now) (FailsAt (rule (rule_of within)) text.now) }
     ensures shorter { IfOk result (λ x. length x.1.now ≤ length text.now) }
     ensures text { IfOk result (λ x. IsUtf8 x.1.now) }
 {
@@ -122,7 +122,7 @@ fn first_of(bytes: &[u8]) -> u8
 /// The letter at the front as it counts in a format: its kind, the first byte that it means, and
 /// what follows it. The fault is at an escape that breaks off.
 fn control_in(alloc: Global, text: &[u8]) -> Result<Option<(Kind, u8, &[u8])>, Fault<'_, u8>>
-    ensures read { MatchResult result (λ o. MatchOption o (text.now ≡ []) (λ x. IsControl text.now x.0 x.1 x.2.now)) (BreaksAt text.now) }
+    ensures read { MatchResult result (λ o. MatchOption o (text.now ≡ []) (λ x. IsControl text.now x.0 x.1 x.2.now)) (BreaksOffAt text.now) }
     ensures shorter { IfOk result (λ o. IfSome o (λ x. length x.2.now < length text.now)) }
     ensures text { IfOk result (λ o. IfSome o (λ x. KeepsTextBy x.0 text.now x.2.now)) }
 {
@@ -139,7 +139,7 @@ fn control_in(alloc: Global, text: &[u8]) -> Result<Option<(Kind, u8, &[u8])>, F
 /// What follows the letter of this kind at the front, and the first byte that it means.
 #[tactic(auto, using(crate::proofs::TextKept::same_kind))]
 fn sought_in(alloc: Global, wanted: Kind, text: &[u8]) -> Result<Option<(u8, &[u8])>, Fault<'_, u8>>
-    ensures read { MatchResult result (λ o. MatchOption o (IsNoControl text.now wanted) (λ x. IsControl text.now wanted x.0 x.1.now)) (BreaksAt text.now) }
+    ensures read { MatchResult result (λ o. MatchOption o (IsNoControl text.now wanted) (λ x. IsControl text.now wanted x.0 x.1.now)) (BreaksOffAt text.now) }
     ensures shorter { IfOk result (λ o. IfSome o (λ x. length x.1.now < length text.now)) }
     ensures text { IfOk result (λ o. IfSome o (λ x. KeepsTextBy wanted text.now x.1.now)) }
 {
@@ -291,7 +291,7 @@ fn before_in(alloc: Global, text: &[u8]) -> Result<(Text, Wanted, &[u8]), Fault<
 /// follows them.
 fn up_to_percent(alloc: Global, text: &[u8]) -> Result<(Text, bool, &[u8]), Fault<'_, u8>>
     requires { IsUtf8 text.now }
-    ensures read { MatchResult result (λ x. GoesOn text.now x.0 x.1 x.2.now) (FailsAt (rule AfterVerb) text.now) }
+    ensures read { MatchResult result (λ x. GoesOnBehind text.now x.0 x.1 x.2.now) (FailsAt (rule AfterVerb) text.now) }
     ensures shorter { IfOk result (λ x. length x.2.now < length text.now) }
     ensures text { IfOk result (λ x. IsUtf8 x.2.now) }
 {

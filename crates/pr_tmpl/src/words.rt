@@ -3,7 +3,7 @@ ghost use Rattle.std.specs.Prelude.{◌≡◌, ◌<◌, ◌≤◌, ◌∷◌, �
 ghost use Rattle.pr_forms.specs.Form.{Form, rule, pair, token};
 ghost use Rattle.pr_forms.specs.Run.{good, bad};
 ghost use Rattle.pr_tmpl.specs.Pieces.{Piece, pieces};
-ghost use Rattle.pr_tmpl.specs.TemplateText.{Rule, Value, bytes, mark, blanks, blank_at, spelled, second_of, is_letter, is_label_byte, Name, NameRest};
+ghost use Rattle.pr_tmpl.specs.TemplateText.{Rule, Value, bytes, mark, blanks, blank_at, spelled, second_of, is_name_start, is_name_part, Name, NameRest};
 ghost use Rattle.pr_tmpl.specs.Letters.{IsSign, IsNoSign, are_ascii};
 ghost use Rattle.pr_strings.specs.Reader.{KeepsText};
 ghost use Rattle.pr_tmpl.specs.Reader.{Gives, FailsAt, Leads, KeepsTextBy};
@@ -77,8 +77,8 @@ pub(crate) fn word_in<'a>(word: &[u8], text: &'a [u8]) -> Result<&'a [u8], &'a [
 }
 
 /// Whether a name may begin with a byte of this kind.
-fn is_letter(kind: Kind) -> bool
-    ensures { result ≡ is_letter kind }
+fn is_name_start(kind: Kind) -> bool
+    ensures { result ≡ is_name_start kind }
 {
     matches!(
         kind,
@@ -99,10 +99,10 @@ fn is_letter(kind: Kind) -> bool
     )
 }
 
-fn is_label_byte(kind: Kind) -> bool
-    ensures { result ≡ is_label_byte kind }
+fn is_name_part(kind: Kind) -> bool
+    ensures { result ≡ is_name_part kind }
 {
-    matches!(kind, Kind::Digit) || is_letter(kind)
+    matches!(kind, Kind::Digit) || is_name_start(kind)
 }
 
 /// The byte at the front, where a name may go on with it, and what follows it.
@@ -115,7 +115,7 @@ fn name_byte_in(text: &[u8]) -> Option<(u8, &[u8])>
 {
     match front(text) {
         Some((kind, byte, rest)) => {
-            if is_label_byte(kind) {
+            if is_name_part(kind) {
                 Some((byte, rest))
             } else {
                 None
@@ -134,7 +134,7 @@ fn name_in(alloc: Global, text: &[u8]) -> Result<(Text, &[u8]), Fault<'_, u8>>
     let Some((kind, first, after_first)) = front(text) else {
         return Err(Fault::Bad(text));
     };
-    if !is_letter(kind) {
+    if !is_name_start(kind) {
         return Err(Fault::Bad(text));
     }
     let mut name = String::new(alloc);

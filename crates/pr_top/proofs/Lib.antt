@@ -1,5 +1,5 @@
 pub mod Values
-pub mod Questions
+pub mod Queries
 pub mod ExpressionExamples
 pub mod Feeds
 pub mod Orders

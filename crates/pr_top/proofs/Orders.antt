@@ -7,7 +7,7 @@ use Rattle.std.specs.Io.KnownBytes.{Consumes, IsAtEnd}
 use Rattle.pr_words.specs.Lines.{lines_of}
 use Rattle.pr_text.specs.declared.order.Numbered.{Numbered}
 use Rattle.pr_text.specs.declared.order.Order.{Order}
-use Rattle.pr_text.specs.Orders.{orders_after, order_by}
+use Rattle.pr_text.specs.Orders.{orders_after, event_order}
 use Rattle.pr_text.specs.Script.{is_passed_over, event_of, takes_body, is_body_line, body_of, body_text}
 use Rattle.pr_text.specs.Started.{ends_body}
 use Rattle.pr_text.proofs.Blocks.{numbered, orders_none, orders_pass, orders_take, orders_body}
@@ -92,7 +92,7 @@ takes_order (Some x) (Some y) (Some z) n m k line o h is f = record {
 
 -- an order that is its line
 pub finishes_whole : (c : Option (List ℕ)) (m : ℕ) (line : List ℕ) (o : Order) → is_passed_over line ≡ false → takes_body line ≡ false
-    → o ≡ order_by (event_of line []) → FinishesOrder line c c m m (record { number = m; order = o })
+    → o ≡ event_order (event_of line []) → FinishesOrder line c c m m (record { number = m; order = o })
 finishes_whole None m line o over none is = tt
 finishes_whole (Some y) m line o over none is = record {
   lines = [];
@@ -196,7 +196,7 @@ ends_front (x ∷ xs) ys h = h
 
 -- an order with its body
 pub finishes_body : (c d : Option (List ℕ)) (m k : ℕ) (line body : List ℕ) (o : Order) → is_passed_over line ≡ false → takes_body line ≡ true
-    → o ≡ order_by (event_of line body) → TakesBody c d m k body → EndsBody d → FinishesOrder line c d m k (record { number = m; order = o })
+    → o ≡ event_order (event_of line body) → TakesBody c d m k body → EndsBody d → FinishesOrder line c d m k (record { number = m; order = o })
 finishes_body None d m k line body o over takes is t e = tt
 finishes_body (Some y) None m k line body o over takes is t e = absurd t
 finishes_body (Some y) (Some z) m k line body o over takes is t e = record {
@@ -210,7 +210,7 @@ finishes_body (Some y) (Some z) m k line body o over takes is t e = record {
       let count : k ≡ n + 1 + length (lines_of t.lines) = omega (arith, t.number, next) in
       let here : orders_after n (line ∷ (lines_of t.lines ++ lines_of more)) ≡ numbered (n + 1) line (lines_of t.lines) ∷ orders_after k (lines_of more) =
       orders_body n k line (lines_of t.lines) (lines_of more) takes over t.bodies ends count in
-      let order_is : order_by (event_of line (body_of (lines_of t.lines))) ≡ o = sym (is ∙ ap (λ (b : List ℕ). order_by (event_of line b)) t.gives) in
+      let order_is : event_order (event_of line (body_of (lines_of t.lines))) ≡ o = sym (is ∙ ap (λ (b : List ℕ). event_order (event_of line b)) t.gives) in
       ap (λ (ls : List (List ℕ)). orders_after n (line ∷ ls)) (lines_split t.lines z more later t.whole there)
       ∙ here
       ∙ ap (λ (q : Order). record { number = n + 1; order = q } ∷ orders_after k (lines_of more)) order_is

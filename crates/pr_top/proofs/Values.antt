@@ -5,7 +5,7 @@ use Rattle.pr_history.specs.Admission.{put_all, IsLawful}
 use Rattle.pr_history.proofs.Lawful.{put_all_lawful}
 use Rattle.pr_head.specs.Holds.{Holds, IsWhole}
 use Rattle.pr_scrape.specs.Putting.{HasTaken, Series}
-use Rattle.pr_targets.specs.Knowing.{Knows, Tracked}
+use Rattle.pr_scrape.specs.Knowing.{Knows, Tracked}
 use Rattle.pr_top.specs.Asked.{HasOutcome}
 use Rattle.pr_top.specs.Keeping.{KeptOfWorld, IsHeadOf, KeepsWorld}
 use Rattle.pr_top.specs.declared.answered.Answered.{Answered}
@@ -33,7 +33,7 @@ pub answered_refused : (result : Result Answered AllocError) (w : World) (time :
 answered_refused (Ok a) w time o h = refused_is w time o a h
 answered_refused (Err e) w time o h = tt
 
--- after a question the head is the same, and the time has moved unless it was refused
+-- after a query the head is the same, and the time has moved unless it was refused
 pub asked_keeps : (k : KeptOfWorld) (w : World) (time : ℕ) (o : Outcome) (a : Answered) → KeepsWorld k w → HasOutcome o a
     → KeepsWorld (record { head = k.head; last = cond a.refused k.last (Some time); targets = k.targets }) (step_by w time o).world
 asked_keeps k w time (refuse report) a keeps h = record {

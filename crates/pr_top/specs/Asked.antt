@@ -1,4 +1,4 @@
--- What is answered to a question.
+-- What is answered to a query.
 use Rattle.std.specs.Prelude.{◌≡◌, true, false, List, []}
 use Rattle.pr_history.specs.declared.entry.Entry.{Entry}
 use Rattle.pr_top.specs.declared.answered.Answered.{Answered}

@@ -6,7 +6,7 @@ use Rattle.pr_history.specs.declared.entry.Entry.{Entry}
 use Rattle.pr_history.specs.Admission.{IsLawful}
 use Rattle.pr_head.specs.Stored.{Stored}
 use Rattle.pr_head.specs.Holds.{Holds, IsWhole}
-use Rattle.pr_targets.specs.Knowing.{Knows, Tracked}
+use Rattle.pr_scrape.specs.Knowing.{Knows, Tracked}
 use Rattle.pr_text.specs.declared.order.Numbered.{Numbered}
 use Rattle.pr_top.specs.Standing.{Progress}
 use Rattle.pr_top.specs.Told.{turn}

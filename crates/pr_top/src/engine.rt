@@ -16,8 +16,7 @@ use pr_head::Head;
 use pr_history::Append;
 use pr_labels::Labels;
 use pr_num::Point;
-use pr_scrape::Scraped;
-use pr_targets::Targets;
+use pr_scrape::{Scraped, Targets};
 use pr_time::Ms;
 use pr_world::{Event, Report};
 use std::alloc::{AllocError, Global};
@@ -103,7 +102,7 @@ fn put(head: &mut Head, labels: &Labels, time: Ms, point: Point) -> Result<Appen
     head.append(labels, time, point)
 }
 
-// The last time after a question.
+// The last time after a query.
 fn last_after(last: Option<Ms>, refused: bool, time: Ms) -> Option<Ms>
     ensures { result ≡ cond refused last (Some time) }
 {
@@ -139,7 +138,7 @@ impl Engine {
         Ok(accepted(report_of(answer)))
     }
 
-    // Answers a question. The time moves, unless it is refused.
+    // Answers a query. The time moves, unless it is refused.
     fn take_query(&mut self, alloc: Global, text: &str, time: Ms) -> Result<Answered, AllocError>
         ensures answered { (w : World) → KeepsWorld self.old w → IfOk result (HasOutcome (query_outcome of_a_run w.history time text.now)) }
         ensures world { (w : World) → KeepsWorld self.old w → OnOk result (KeepsWorld self.new (step_by w time (query_outcome of_a_run w.history time text.now)).world) }

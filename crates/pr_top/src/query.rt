@@ -1,4 +1,4 @@
-// The answer to a question, over a head.
+// The answer to a query, over a head.
 ghost use Rattle.std.specs.Prelude.{◌≡◌, ℕ, ◌<◌, List, [], Result, IfOk};
 ghost use Rattle.pr_history.specs.declared.entry.Entry.{Entry};
 ghost use Rattle.pr_ast.specs.Tree.{tree_of};
@@ -49,7 +49,7 @@ fn told_value(value: Value) -> Report
 }
 
 // What is told of what an expression gives.
-#[tactic(auto, using(crate::proofs::Questions::told_ok, crate::proofs::Questions::told_fault))]
+#[tactic(auto, using(crate::proofs::Queries::told_ok, crate::proofs::Queries::told_fault))]
 fn told_answer(answer: Result<Value, EvalError>) -> Result<Report, AllocError>
     ensures { (meant : Result Value Fault) → AnswersTo meant answer → IfOk result (λ report. report ≡ told_answer meant) }
 {
@@ -91,7 +91,7 @@ fn answer<G: Ledger>(
 }
 
 // Answers an expression that has a type.
-#[tactic(auto, using(crate::proofs::Questions::accepted_answer))]
+#[tactic(auto, using(crate::proofs::Queries::accepted_answer))]
 fn ask_checked(
     alloc: Global,
     head: &Head,
@@ -117,7 +117,7 @@ fn refusal(place: usize, kind: QueryKind) -> Answered
 }
 
 // Answers an expression.
-#[tactic(auto, using(crate::proofs::Questions::typed_answer, crate::proofs::Questions::untyped_answer))]
+#[tactic(auto, using(crate::proofs::Queries::typed_answer, crate::proofs::Queries::untyped_answer))]
 fn ask_parsed(
     alloc: Global,
     head: &Head,
@@ -135,7 +135,7 @@ fn ask_parsed(
 }
 
 // Refuses a text that is no expression.
-#[tactic(auto, using(crate::proofs::Questions::lex_answer, crate::proofs::Questions::parse_answer))]
+#[tactic(auto, using(crate::proofs::Queries::lex_answer, crate::proofs::Queries::parse_answer))]
 fn refuse_text(error: ParseError) -> Result<Answered, AllocError>
     ensures { (parsed : Parsed) (history : List Entry) (time : ℕ) → IsFaultOf parsed error
         → IfOk result (HasOutcome (parsed_outcome of_a_run history time parsed)) }
@@ -148,7 +148,7 @@ fn refuse_text(error: ParseError) -> Result<Answered, AllocError>
 }
 
 /// Answers a text: by what it gives as an expression, or by its first fault.
-#[tactic(auto, using(crate::proofs::Questions::tree_answer))]
+#[tactic(auto, using(crate::proofs::Queries::tree_answer))]
 pub(crate) fn ask(alloc: Global, head: &Head, text: &str, time: Ms) -> Result<Answered, AllocError>
     ensures { (history : List Entry) → IsHeadOf head.now history
         → IfOk result (HasOutcome (query_outcome of_a_run history time text.now)) }

@@ -8,7 +8,7 @@ use Rattle.pr_ast.specs.Tree.{Tree, number, text, select, range, sub, neg, binar
 use Rattle.pr_types.specs.declared.counting.Counts.{Counts}
 use Rattle.pr_types.specs.Typed.{replaces, content_at}
 use Rattle.pr_types.specs.Built.{tests_in, patterns_in, own_patterns}
-use Rattle.pr_types.specs.Numbers.{ranges_in, at_most_word, counted, counts_in, joined, exact_counts}
+use Rattle.pr_types.specs.Numbers.{ranges_in, at_most_word, counted, counts_in, counts_together, exact_counts}
 
 same_counts : (a b c x y z : ℕ) → a ≡ x → b ≡ y → c ≡ z → (let one : Counts = record { selectors = a; ranges = b; patterns = c } in one) ≡ record { selectors = x; ranges = y; patterns = z }
 same_counts a b c x y z e f g = rw (e, f, g) refl
@@ -20,7 +20,7 @@ length_sum : {A : Type 0} (xs ys : List A) → at_most_word (at_most_word (lengt
 length_sum xs ys = word_sum (length xs) (length ys) ∙ ap at_most_word (sym (length-append xs ys))
 
 -- the counts of two parts together
-pub joined_counted : (xs ys : List (List LabelTest)) (m n : ℕ) (ps qs : List (List ℕ)) → joined (counted xs m ps) (counted ys n qs) ≡ counted (xs ++ ys) (m + n) (ps ++ qs)
+pub joined_counted : (xs ys : List (List LabelTest)) (m n : ℕ) (ps qs : List (List ℕ)) → counts_together (counted xs m ps) (counted ys n qs) ≡ counted (xs ++ ys) (m + n) (ps ++ qs)
 joined_counted xs ys m n ps qs = same_counts _ _ _ _ _ _ (length_sum xs ys) (word_sum m n) (length_sum ps qs)
 
 pub ranges_are_selectors : (t : Tree) → ranges_in t ≤ length (tests_in t)
@@ -44,18 +44,18 @@ counts_exact t s p = same_counts _ _ _ _ _ _ (word_exact (length (tests_in t)) s
 
 -- what both parts of a tree have, where the tree has just what they have
 pub counts_both : (whole l r : Tree) (a b n : Counts) → counts_in whole ≡ counted (tests_in l ++ tests_in r) (ranges_in l + ranges_in r) (patterns_in l ++ patterns_in r) →
-    a ≡ counts_in l → b ≡ counts_in r → n ≡ joined a b → n ≡ counts_in whole
+    a ≡ counts_in l → b ≡ counts_in r → n ≡ counts_together a b → n ≡ counts_in whole
 counts_both whole l r a b n h e f k =
-    k ∙ ap (λ x. joined x b) e ∙ ap (λ y. joined (counts_in l) y) f ∙ joined_counted (tests_in l) (tests_in r) (ranges_in l) (ranges_in r) (patterns_in l) (patterns_in r) ∙ sym h
+    k ∙ ap (λ x. counts_together x b) e ∙ ap (λ y. counts_together (counts_in l) y) f ∙ joined_counted (tests_in l) (tests_in r) (ranges_in l) (ranges_in r) (patterns_in l) (patterns_in r) ∙ sym h
 
 -- one more argument
-pub counts_more : (now before t : Tree) (a b n : Counts) → now ≡ more before t → a ≡ counts_in before → b ≡ counts_in t → n ≡ joined a b → n ≡ counts_in now
+pub counts_more : (now before t : Tree) (a b n : Counts) → now ≡ more before t → a ≡ counts_in before → b ≡ counts_in t → n ≡ counts_together a b → n ≡ counts_in now
 counts_more now before t a b n h e f k = counts_both (more before t) before t a b n refl e f k ∙ ap counts_in (sym h)
 
 -- a call has what its arguments have, and its own pattern
-pub counts_call : (p : Place) (f : Func) (ts : Tree) (a b n : Counts) → a ≡ counts_in ts → b ≡ counted [] 0 (own_patterns f ts) → n ≡ joined a b → n ≡ counts_in (call p f ts)
+pub counts_call : (p : Place) (f : Func) (ts : Tree) (a b n : Counts) → a ≡ counts_in ts → b ≡ counted [] 0 (own_patterns f ts) → n ≡ counts_together a b → n ≡ counts_in (call p f ts)
 counts_call p f ts a b n e g k =
-    k ∙ ap (λ x. joined x b) e ∙ ap (λ y. joined (counts_in ts) y) g ∙ joined_counted (tests_in ts) [] (ranges_in ts) 0 (patterns_in ts) (own_patterns f ts)
+    k ∙ ap (λ x. counts_together x b) e ∙ ap (λ y. counts_together (counts_in ts) y) g ∙ joined_counted (tests_in ts) [] (ranges_in ts) 0 (patterns_in ts) (own_patterns f ts)
     ∙ same_counts _ _ _ _ _ _ (ap (λ xs. at_most_word (length xs)) (append-nil (tests_in ts))) (ap at_most_word (add-zero (ranges_in ts))) refl
 
 own_counts : (r : Bool) (pattern : List ℕ) → (let x : Counts = record { selectors = 0; ranges = 0; patterns = cond r 1 0 } in x) ≡ counted [] 0 (cond r (pattern ∷ []) [])

@@ -25,10 +25,10 @@ use Rattle.pr_types.specs.declared.kind.TypeFault.{TypeFault}
 use Rattle.pr_types.specs.declared.signature.Signature.{Signature}
 use Rattle.pr_types.specs.declared.signature.Operand.{Operand}
 use Rattle.pr_types.specs.Signatures.{fault, is_type, wanted, kind_wanting, first_wrong, wrong_operand, accepted, are_counted, no_fault, func_signature, agg_signature}
-use Rattle.pr_types.specs.Selectors.{tests_of, selected, are_good, is_open}
+use Rattle.pr_types.specs.Selectors.{tests_of, checked_tests, are_good, is_open}
 use Rattle.pr_types.specs.Operations.{is_scalar, is_instant, instant, over_times, operation_fault, operation_type}
 use Rattle.pr_types.specs.Parts.{arguments, AreArguments, AreOperands, may_give}
-use Rattle.pr_types.specs.Typed.{typed, operands, operand, start, go_on, unless, operation, subquery, step_fault, called, aggregated, content_at, label_fault, pattern_at, with_texts, replaces, joins, counts_values}
+use Rattle.pr_types.specs.Typed.{typed, operands, operand, start, go_on, unless, typed_operation, typed_subquery, step_fault, typed_call, typed_aggregation, content_at, label_fault, pattern_at, with_texts, replaces, joins, counts_values}
 
 -- where the whole is well, so was the first part
 pub went_on : {A B : Type 0} (next : A → Result B TypeFault) (r : Result A TypeFault) (b : B) → go_on next r ≡ Ok b → (a : A) × ((r ≡ Ok a) × (next a ≡ Ok b))
@@ -59,7 +59,7 @@ as_type a v e = ap (λ x. is_type x a) e ∙ type_itself a
 
 -- selectors
 
-selected_is : (at : ℕ) (s : Selector) (ts : List LabelTest) → selected at s ≡ Ok ts → ts ≡ tests_of s
+selected_is : (at : ℕ) (s : Selector) (ts : List LabelTest) → checked_tests at s ≡ Ok ts → ts ≡ tests_of s
 selected_is at s ts h = by_tests (are_good s.matchers) (is_open s.name s.matchers) h
   where
     by_tests : (good empty : Bool) → cond good (cond empty (Err (fault at NoMatcher)) (Ok (tests_of s))) (Err (fault at BadPattern)) ≡ Ok ts → ts ≡ tests_of s
@@ -67,15 +67,15 @@ selected_is at s ts h = by_tests (are_good s.matchers) (is_open s.name s.matcher
     by_tests true false k = cc
     by_tests false empty k = cc
 
-selector_is : (at : ℕ) (s : Selector) (gives v : ValueType) → go_on (λ tests. Ok gives) (selected at s) ≡ Ok v → (selected at s ≡ Ok (tests_of s)) × (v ≡ gives)
+selector_is : (at : ℕ) (s : Selector) (gives v : ValueType) → go_on (λ tests. Ok gives) (checked_tests at s) ≡ Ok v → (checked_tests at s ≡ Ok (tests_of s)) × (v ≡ gives)
 selector_is at s gives v h =
-    let w = went_on (λ (tests : List LabelTest). Ok gives) (selected at s) v h in
+    let w = went_on (λ (tests : List LabelTest). Ok gives) (checked_tests at s) v h in
     let same : Ok gives ≡ Ok v = w.1.1 in (w.1.0 ∙ ap Ok (selected_is at s w.0 w.1.0), cc)
 
-pub parts_of_select : (p : Place) (s : Selector) (v : ValueType) → typed (select p s) ≡ Ok v → (selected p.start s ≡ Ok (tests_of s)) × (v ≡ Vector)
+pub parts_of_select : (p : Place) (s : Selector) (v : ValueType) → typed (select p s) ≡ Ok v → (checked_tests p.start s ≡ Ok (tests_of s)) × (v ≡ Vector)
 parts_of_select p s v h = selector_is p.start s Vector v h
 
-pub parts_of_range : (p : Place) (s : Selector) (span : ℕ) (v : ValueType) → typed (range p s span) ≡ Ok v → (selected p.start s ≡ Ok (tests_of s)) × (v ≡ Range)
+pub parts_of_range : (p : Place) (s : Selector) (span : ℕ) (v : ValueType) → typed (range p s span) ≡ Ok v → (checked_tests p.start s ≡ Ok (tests_of s)) × (v ≡ Range)
 parts_of_range p s span v h = selector_is p.start s Range v h
 
 -- signs, subqueries and operations
@@ -95,7 +95,7 @@ parts_of_neg p t v h =
     let w = went_on (λ a. instant (operand (start t) a)) (typed t) v h in
     let is = instant_is (start t) w.0 v w.1.1 in (w.1.0 ∙ ap Ok is.0, is.1)
 
-subquery_is : (at : ℕ) (step : Option ℕ) (place : ℕ) (a v : ValueType) → subquery at step (operand place a) ≡ Ok v → (a ≡ Vector) × (step_fault step ≡ None) × (v ≡ Range)
+subquery_is : (at : ℕ) (step : Option ℕ) (place : ℕ) (a v : ValueType) → typed_subquery at step (operand place a) ≡ Ok v → (a ≡ Vector) × (step_fault step ≡ None) × (v ≡ Range)
 subquery_is at step place a v h =
     let w = went_on (unless at (step_fault step)) (over_times (operand place a)) v h in
     let over = over_times_is place a w.0 w.1.0 in
@@ -104,7 +104,7 @@ subquery_is at step place a v h =
 pub parts_of_sub : (p : Place) (t : Tree) (span : ℕ) (step : Option ℕ) (offset : ℕ) (v : ValueType) → typed (sub p t span step offset) ≡ Ok v →
     (typed t ≡ Ok Vector) × (step_fault step ≡ None) × (v ≡ Range)
 parts_of_sub p t span step offset v h =
-    let w = went_on (λ a. subquery p.start step (operand (start t) a)) (typed t) v h in
+    let w = went_on (λ a. typed_subquery p.start step (operand (start t) a)) (typed t) v h in
     let is = subquery_is p.start step (start t) w.0 v w.1.1 in (w.1.0 ∙ ap Ok is.0, is.1, is.2)
 
 as_operands : (o : BinOp) (b : Bool) (m : Option Matching) (l r : Tree) (x y i j v : ValueType) → typed l ≡ Ok x → typed r ≡ Ok y → x ≡ i → y ≡ j →
@@ -119,7 +119,7 @@ as_operands o b m l r x y i j v hx hy ex ey left right well gives = record {
 }
 
 operation_is : (at : ℕ) (o : BinOp) (b : Bool) (m : Option Matching) (l r : Tree) (x y v : ValueType) → typed l ≡ Ok x → typed r ≡ Ok y →
-    operation at o b m (operand (start l) x) (operand (start r) y) ≡ Ok v → AreOperands o b m l r v x y
+    typed_operation at o b m (operand (start l) x) (operand (start r) y) ≡ Ok v → AreOperands o b m l r v x y
 operation_is at o b m l r x y v hx hy h =
     let one = went_on (λ i. go_on (λ j. unless at (operation_fault o b m i j) (operation_type i j)) (instant (operand (start r) y))) (instant (operand (start l) x)) v h in
     let other = went_on (λ j. unless at (operation_fault o b m one.0 j) (operation_type one.0 j)) (instant (operand (start r) y)) v one.1.1 in
@@ -131,8 +131,8 @@ operation_is at o b m l r x y v hx hy h =
 pub parts_of_binary : (p : Place) (o : BinOp) (b : Bool) (m : Option Matching) (l r : Tree) (v : ValueType) → typed (binary p o b m l r) ≡ Ok v →
     (x : ValueType) × ((y : ValueType) × AreOperands o b m l r v x y)
 parts_of_binary p o b m l r v h =
-    let one = went_on (λ x. go_on (λ y. operation p.start o b m (operand (start l) x) (operand (start r) y)) (typed r)) (typed l) v h in
-    let other = went_on (λ y. operation p.start o b m (operand (start l) one.0) (operand (start r) y)) (typed r) v one.1.1 in
+    let one = went_on (λ x. go_on (λ y. typed_operation p.start o b m (operand (start l) x) (operand (start r) y)) (typed r)) (typed l) v h in
+    let other = went_on (λ y. typed_operation p.start o b m (operand (start l) one.0) (operand (start r) y)) (typed r) v one.1.1 in
     (one.0, (other.0, operation_is p.start o b m l r one.0 other.0 v one.1.0 other.1.0 other.1.1))
 
 operation_instant : (a b v : ValueType) → operation_type a b ≡ v → is_instant v ≡ true
@@ -261,7 +261,7 @@ label_leaves at false label w v h = cc
 call_is : (p : Place) (f : Func) (ts : Tree) (v : ValueType) → typed (call p f ts) ≡ Ok v →
     (os : List Operand) × ((w : ValueType) × ((operands ts ≡ Ok os) × ((accepted p.start (func_signature f) os ≡ Ok w) × (with_texts p.start f ts w ≡ Ok v))))
 call_is p f ts v h =
-    let one = went_on (called p.start f ts) (operands ts) v h in
+    let one = went_on (typed_call p.start f ts) (operands ts) v h in
     let other = went_on (with_texts p.start f ts) (accepted p.start (func_signature f) one.0) v one.1.1 in
     (one.0, (other.0, (one.1.0, (other.1.0, other.1.1))))
 
@@ -275,7 +275,7 @@ aggregate_is : (p : Place) (o : AggOp) (g : Grouping) (ts : Tree) (v : ValueType
     (os : List Operand) × ((w : ValueType) × ((operands ts ≡ Ok os) × ((accepted p.start (agg_signature o) os ≡ Ok w)
     × (cond (counts_values o) (unless p.start (label_fault (content_at ts 0)) w) (Ok w) ≡ Ok v))))
 aggregate_is p o g ts v h =
-    let one = went_on (aggregated p.start o (content_at ts 0)) (operands ts) v h in
+    let one = went_on (typed_aggregation p.start o (content_at ts 0)) (operands ts) v h in
     let other = went_on (λ w. cond (counts_values o) (unless p.start (label_fault (content_at ts 0)) w) (Ok w)) (accepted p.start (agg_signature o) one.0) v one.1.1 in
     (one.0, (other.0, (one.1.0, (other.1.0, other.1.1))))
 

@@ -9,8 +9,8 @@ use Rattle.pr_ast.specs.declared.names.AggOp.{AggOp}
 use Rattle.pr_ast.specs.declared.names.Func.{Func}
 use Rattle.pr_ast.specs.declared.selector.Selector.{Selector}
 use Rattle.pr_ast.specs.declared.selector.MatchText.{MatchText}
-use Rattle.pr_ast.specs.declared.selector.MatchSign.{MatchSign}
-use Rattle.pr_ast.specs.Tree.{Tree, number, text, select, range, sub, neg, binary, call, aggregate, none, more}
+use Rattle.pr_ast.specs.Tree.{Tree, number, text, select, range, sub, neg, binary, call, aggregate, more}
+use Rattle.pr_ast.specs.Examples.{two}
 
 abbrev pub from : ℕ → Place
 from start = record { start = start; end = start }
@@ -36,9 +36,6 @@ x_before start offset = select (from start) (named offset)
 -- the range `x[..]`
 abbrev pub range_at : ℕ → ℕ → Tree
 range_at start span = range (from start) (named 0) span
-
-abbrev pub matcher : List ℕ → MatchSign → List ℕ → MatchText
-matcher label op value = record { label = label; op = op; text = value }
 
 -- a selector of matchers alone, at 0
 abbrev pub matchers_alone : List MatchText → Tree
@@ -66,12 +63,6 @@ call_of f args = call (from 0) f args
 
 abbrev pub aggregate_of : AggOp → Tree → Tree
 aggregate_of op args = aggregate (from 0) op (record { by = true; names = [] }) args
-
-abbrev pub one : Tree → Tree
-one t = more none t
-
-abbrev pub two : Tree → Tree → Tree
-two t u = more (one t) u
 
 abbrev pub four : Tree → Tree → Tree → Tree → Tree
 four t u v w = more (more (two t u) v) w

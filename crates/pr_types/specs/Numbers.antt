@@ -29,8 +29,8 @@ abbrev pub counts_in : Tree → Counts
 counts_in t = counted (tests_in t) (ranges_in t) (patterns_in t)
 
 -- those of two parts together
-abbrev pub joined : Counts → Counts → Counts
-joined a b = record {
+abbrev pub counts_together : Counts → Counts → Counts
+counts_together a b = record {
   selectors = at_most_word (a.selectors + b.selectors);
   ranges = at_most_word (a.ranges + b.ranges);
   patterns = at_most_word (a.patterns + b.patterns);

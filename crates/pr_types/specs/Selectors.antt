@@ -44,7 +44,7 @@ is_open name ms = is_none name && meets_all (map test_of ms) []
 
 -- The tests of a selector, or its fault. A bad pattern matches nothing, so a selector with one is
 -- not asked whether its matchers match the empty text.
-abbrev pub selected : ℕ → Selector → Result (List LabelTest) TypeFault
-selected at s =
+abbrev pub checked_tests : ℕ → Selector → Result (List LabelTest) TypeFault
+checked_tests at s =
     if are_good s.matchers then (if is_open s.name s.matchers then Err (fault at NoMatcher) else Ok (tests_of s))
     else Err (fault at BadPattern)

@@ -17,7 +17,7 @@ use Rattle.pr_types.specs.declared.kind.TypeKind.TheVariants.{BadPattern, BadLab
 use Rattle.pr_types.specs.declared.kind.TypeFault.{TypeFault}
 use Rattle.pr_types.specs.declared.signature.Operand.{Operand}
 use Rattle.pr_types.specs.Signatures.{fault, func_signature, agg_signature, accepted}
-use Rattle.pr_types.specs.Selectors.{selected}
+use Rattle.pr_types.specs.Selectors.{checked_tests}
 use Rattle.pr_types.specs.Operations.{instant, over_times, operation_fault, operation_type}
 
 -- the first fault ends
@@ -87,12 +87,12 @@ with_texts at f ts v =
     else (if joins f then unless at (label_fault (content_at ts 1)) v else Ok v)
 
 -- a call whose operands have types
-abbrev pub called : ℕ → Func → Tree → List Operand → Result ValueType TypeFault
-called at f ts os = go_on (with_texts at f ts) (accepted at (func_signature f) os)
+abbrev pub typed_call : ℕ → Func → Tree → List Operand → Result ValueType TypeFault
+typed_call at f ts os = go_on (with_texts at f ts) (accepted at (func_signature f) os)
 
 -- `count_values` takes its first operand as the name of a label
-abbrev pub aggregated : ℕ → AggOp → List ℕ → List Operand → Result ValueType TypeFault
-aggregated at o label os =
+abbrev pub typed_aggregation : ℕ → AggOp → List ℕ → List Operand → Result ValueType TypeFault
+typed_aggregation at o label os =
     go_on (λ v. if counts_values o then unless at (label_fault label) v else Ok v) (accepted at (agg_signature o) os)
 
 -- the step of a subquery, where it has one, is not 0
@@ -100,11 +100,11 @@ abbrev pub step_fault : Option ℕ → Option TypeKind
 step_fault None = None
 step_fault (Some ms) = if nat_eq ms 0 then Some ZeroStep else None
 
-abbrev pub subquery : ℕ → Option ℕ → Operand → Result ValueType TypeFault
-subquery at step o = go_on (unless at (step_fault step)) (over_times o)
+abbrev pub typed_subquery : ℕ → Option ℕ → Operand → Result ValueType TypeFault
+typed_subquery at step o = go_on (unless at (step_fault step)) (over_times o)
 
-abbrev pub operation : ℕ → BinOp → Bool → Option Matching → Operand → Operand → Result ValueType TypeFault
-operation at o b m l r = go_on (λ v. go_on (λ w. unless at (operation_fault o b m v w) (operation_type v w)) (instant r)) (instant l)
+abbrev pub typed_operation : ℕ → BinOp → Bool → Option Matching → Operand → Operand → Result ValueType TypeFault
+typed_operation at o b m l r = go_on (λ v. go_on (λ w. unless at (operation_fault o b m v w) (operation_type v w)) (instant r)) (instant l)
 
 -- The type of a tree, or its first fault: operands are taken first, in the order of the text, and
 -- then the node itself. A list of arguments is no expression and has no type, and no other tree is
@@ -113,13 +113,13 @@ abbrev mutual
   pub typed : Tree → Result ValueType TypeFault
   typed (number p v) = Ok Scalar
   typed (text p t) = Ok Text
-  typed (select p s) = go_on (λ tests. Ok Vector) (selected p.start s)
-  typed (range p s d) = go_on (λ tests. Ok Range) (selected p.start s)
-  typed (sub p t d step o) = go_on (λ v. subquery p.start step (operand (start t) v)) (typed t)
+  typed (select p s) = go_on (λ tests. Ok Vector) (checked_tests p.start s)
+  typed (range p s d) = go_on (λ tests. Ok Range) (checked_tests p.start s)
+  typed (sub p t d step o) = go_on (λ v. typed_subquery p.start step (operand (start t) v)) (typed t)
   typed (neg p t) = go_on (λ v. instant (operand (start t) v)) (typed t)
-  typed (binary p o b m l r) = go_on (λ v. go_on (λ w. operation p.start o b m (operand (start l) v) (operand (start r) w)) (typed r)) (typed l)
-  typed (call p f ts) = go_on (called p.start f ts) (operands ts)
-  typed (aggregate p o g ts) = go_on (aggregated p.start o (content_at ts 0)) (operands ts)
+  typed (binary p o b m l r) = go_on (λ v. go_on (λ w. typed_operation p.start o b m (operand (start l) v) (operand (start r) w)) (typed r)) (typed l)
+  typed (call p f ts) = go_on (typed_call p.start f ts) (operands ts)
+  typed (aggregate p o g ts) = go_on (typed_aggregation p.start o (content_at ts 0)) (operands ts)
   typed none = Err (fault 0 NotInstant)
   typed (more ts t) = Err (fault 0 NotInstant)
 

@@ -2,7 +2,7 @@
 ghost use Rattle.std.specs.Prelude.{◌≡◌, if◌then◌else◌};
 ghost use Rattle.pr_ast.specs.Tree.{tree_of, trees_of};
 ghost use Rattle.pr_types.specs.Typed.{replaces};
-ghost use Rattle.pr_types.specs.Numbers.{counts_in, joined};
+ghost use Rattle.pr_types.specs.Numbers.{counts_in, counts_together};
 
 use crate::texts::replaces;
 use pr_ast::{Expr, ExprKind, Func};
@@ -22,8 +22,8 @@ const NONE: Counts = Counts {
     patterns: 0,
 };
 
-fn joined(one: Counts, other: Counts) -> Counts
-    ensures { result ≡ joined one other }
+fn counts_together(one: Counts, other: Counts) -> Counts
+    ensures { result ≡ counts_together one other }
 {
     Counts {
         selectors: one.selectors.saturating_add(other.selectors),
@@ -64,10 +64,10 @@ pub fn counts_in(e: &Expr) -> Counts
             ..NONE
         },
         ExprKind::Sub { inner, .. } | ExprKind::Neg { inner } => counts_in(inner),
-        ExprKind::Binary { left, right, .. } => joined(counts_in(left), counts_in(right)),
-        ExprKind::Call { func, args } => joined(counts_of(args), own(*func)),
+        ExprKind::Binary { left, right, .. } => counts_together(counts_in(left), counts_in(right)),
+        ExprKind::Call { func, args } => counts_together(counts_of(args), own(*func)),
         ExprKind::Aggregate { param, inner, .. } => match param {
-            Some(first) => joined(counts_in(first), counts_in(inner)),
+            Some(first) => counts_together(counts_in(first), counts_in(inner)),
             None => counts_in(inner),
         },
     }
@@ -79,7 +79,7 @@ fn counts_of(args: &[Expr]) -> Counts
 {
     let mut found = NONE;
     for arg in args {
-        found = joined(found, counts_in(arg));
+        found = counts_together(found, counts_in(arg));
     }
     found
 }

@@ -3,6 +3,7 @@
 ghost use Rattle.std.specs.Prelude.{◌≡◌, codes, Some, None, Ok, Err, true, false, [], ◌∷◌};
 ghost use Rattle.pr_labels.specs.declared.matching.Card.TheVariants as card;
 ghost use Rattle.pr_ast.specs.Tree.{call, none};
+ghost use Rattle.pr_ast.specs.Examples.{matcher, one, two};
 ghost use Rattle.pr_ast.specs.declared.names.BinOp.TheVariants as op;
 ghost use Rattle.pr_ast.specs.declared.names.Func.TheVariants as func;
 ghost use Rattle.pr_ast.specs.declared.names.AggOp.TheVariants as agg;
@@ -18,7 +19,6 @@ ghost use Rattle.pr_types.specs.Examples.{
   x_at,
   x_before,
   range_at,
-  matcher,
   matchers_alone,
   x_with,
   subquery_of,
@@ -27,8 +27,6 @@ ghost use Rattle.pr_types.specs.Examples.{
   compared_at,
   call_of,
   aggregate_of,
-  one,
-  two,
   four,
   matching_by,
 };

@@ -18,7 +18,7 @@ ghost use Rattle.pr_ast.specs.Steps.{has_steps};
 ghost use Rattle.pr_types.specs.declared.kind.ValueType.{ValueType};
 ghost use Rattle.pr_types.specs.declared.kind.ValueType.TheVariants.{Vector, Range};
 ghost use Rattle.pr_types.specs.Signatures.{func_signature, agg_signature};
-ghost use Rattle.pr_types.specs.Selectors.{tests_of, selected};
+ghost use Rattle.pr_types.specs.Selectors.{tests_of, checked_tests};
 ghost use Rattle.pr_types.specs.Operations.{is_instant};
 ghost use Rattle.pr_types.specs.Typed.{typed, checked, content_at, step_fault, kept};
 ghost use Rattle.pr_types.specs.Built.{tests_in};
@@ -30,9 +30,9 @@ ghost use Rattle.pr_types.specs.Parts.{arguments, AreArguments, AreOperands, may
 /// whoever walks down a checked expression knows the type of each part.
 pub fn parts_of_typed_expressions_have_types()
     ensures selector { (p : Place) (s : Selector) (v : ValueType)
-        → typed (select p s) ≡ Ok v → (selected p.start s ≡ Ok (tests_of s)) × (v ≡ Vector) }
+        → typed (select p s) ≡ Ok v → (checked_tests p.start s ≡ Ok (tests_of s)) × (v ≡ Vector) }
     ensures range { (p : Place) (s : Selector) (span : ℕ) (v : ValueType)
-        → typed (range p s span) ≡ Ok v → (selected p.start s ≡ Ok (tests_of s)) × (v ≡ Range) }
+        → typed (range p s span) ≡ Ok v → (checked_tests p.start s ≡ Ok (tests_of s)) × (v ≡ Range) }
     ensures sign { (p : Place) (t : Tree) (v : ValueType)
         → typed (neg p t) ≡ Ok v → (typed t ≡ Ok v) × (is_instant v ≡ true) }
     ensures subquery { (p : Place) (t : Tree) (span : ℕ) (step : Option ℕ) (offset : ℕ) (v : ValueType)

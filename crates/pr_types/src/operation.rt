@@ -2,7 +2,7 @@
 ghost use Rattle.std.specs.Prelude.{◌≡◌, true};
 ghost use Rattle.std.specs.List.{list_any};
 ghost use Rattle.pr_types.specs.Operations.{compares, is_set, is_scalar, is_grouped_card, is_grouped, has_name, copies_key, operation_fault, is_instant, instant, over_times, operation_type};
-ghost use Rattle.pr_types.specs.Typed.{operation, step_fault, subquery};
+ghost use Rattle.pr_types.specs.Typed.{typed_operation, step_fault, typed_subquery};
 
 use crate::kind::{TypeFault, TypeKind, ValueType};
 use crate::signature::{Operand, is_type, wanting};
@@ -148,12 +148,12 @@ fn step_fault(step: Option<Span>) -> Option<TypeKind>
 
 /// The type of a subquery over an operand, which is a vector, or its first fault. (Prometheus:
 /// Querying basics, "Subquery".)
-pub(crate) fn subquery(
+pub(crate) fn typed_subquery(
     at: usize,
     step: Option<Span>,
     operand: Operand,
 ) -> Result<ValueType, TypeFault>
-    ensures { result ≡ subquery at step operand }
+    ensures { result ≡ typed_subquery at step operand }
 {
     let gives = over_times(operand)?;
     match step_fault(step) {
@@ -173,7 +173,7 @@ fn operation_type(left: ValueType, right: ValueType) -> ValueType
 }
 
 /// The type of an operation, or its first fault. (Prometheus: Operators, "Binary operators".)
-pub(crate) fn operation(
+pub(crate) fn typed_operation(
     at: usize,
     op: BinOp,
     with_bool: bool,
@@ -181,7 +181,7 @@ pub(crate) fn operation(
     left: Operand,
     right: Operand,
 ) -> Result<ValueType, TypeFault>
-    ensures { result ≡ operation at op with_bool matching.now left right }
+    ensures { result ≡ typed_operation at op with_bool matching.now left right }
 {
     let one = instant(left)?;
     let other = instant(right)?;

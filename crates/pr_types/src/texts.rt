@@ -1,7 +1,7 @@
 //! Texts among arguments: patterns, and names of labels.
 ghost use Rattle.std.specs.Prelude.{◌≡◌, ◌++◌, ◌∷◌, [], OnOk};
 ghost use Rattle.pr_ast.specs.Tree.{tree_of, trees_of};
-ghost use Rattle.pr_types.specs.Typed.{content, content_at, label_fault, go_on, pattern_at, unless, replaces, joins, counts_values, called, aggregated};
+ghost use Rattle.pr_types.specs.Typed.{content, content_at, label_fault, go_on, pattern_at, unless, replaces, joins, counts_values, typed_call, typed_aggregation};
 ghost use Rattle.pr_types.specs.Answered.{Answers};
 ghost use Rattle.pr_types.specs.Built.{own_patterns};
 
@@ -104,7 +104,7 @@ fn replaced(
 
 /// The type of a call whose operands have types, or its fault. The pattern of `label_replace` is
 /// built.
-pub(crate) fn called(
+pub(crate) fn typed_call(
     alloc: Global,
     at: usize,
     func: Func,
@@ -112,7 +112,7 @@ pub(crate) fn called(
     operands: &[Operand],
     built: &mut Built,
 ) -> Result<ValueType, TypeError>
-    ensures typed { Answers (called at func (trees_of args.now) operands.now) result }
+    ensures typed { Answers (typed_call at func (trees_of args.now) operands.now) result }
     ensures selectors { OnOk result (built.new.selectors ≡ built.old.selectors) }
     ensures patterns { OnOk result (built.new.patterns ≡ built.old.patterns ++ own_patterns func (trees_of args.now)) }
 {
@@ -135,13 +135,13 @@ pub(crate) fn called(
 
 /// The type of an aggregation whose operands have types, or its fault. `label` is the content of
 /// its first operand.
-pub(crate) fn aggregated(
+pub(crate) fn typed_aggregation(
     at: usize,
     op: AggOp,
     label: &str,
     operands: &[Operand],
 ) -> Result<ValueType, TypeError>
-    ensures { Answers (aggregated at op label.now operands.now) result }
+    ensures { Answers (typed_aggregation at op label.now operands.now) result }
 {
     let gives = Signature::of_agg(op).accepted(at, operands)?;
     if counts_values(op) {

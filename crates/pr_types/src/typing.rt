@@ -1,17 +1,17 @@
 //! The type of an expression.
 ghost use Rattle.std.specs.Prelude.{◌≡◌, ◌∷◌, [], ◌++◌, OnOk};
 ghost use Rattle.pr_ast.specs.Tree.{tree_of, trees_of};
-ghost use Rattle.pr_types.specs.Selectors.{tests_of, selected};
+ghost use Rattle.pr_types.specs.Selectors.{tests_of, checked_tests};
 ghost use Rattle.pr_types.specs.Typed.{go_on, start, typed, operands};
 ghost use Rattle.pr_types.specs.Answered.{Answers, Offers};
 ghost use Rattle.pr_types.specs.Built.{Adds};
 
 use crate::building::Built;
 use crate::kind::{TypeError, TypeFault, ValueType};
-use crate::operation::{instant, operation, subquery};
-use crate::selection::selected;
+use crate::operation::{instant, typed_operation, typed_subquery};
+use crate::selection::checked_tests;
 use crate::signature::Operand;
-use crate::texts::{aggregated, called, content};
+use crate::texts::{content, typed_aggregation, typed_call};
 use pr_ast::{Expr, ExprKind, Selector};
 use pr_words::Items;
 use std::alloc::Global;
@@ -48,11 +48,11 @@ fn select(
     gives: ValueType,
     built: &mut Built,
 ) -> Result<ValueType, TypeError>
-    ensures typed { Answers (go_on (λ tests. Ok gives) (selected at selector.now)) result }
+    ensures typed { Answers (go_on (λ tests. Ok gives) (checked_tests at selector.now)) result }
     ensures selectors { OnOk result (built.new.selectors ≡ built.old.selectors ++ tests_of selector.now ∷ []) }
     ensures patterns { OnOk result (built.new.patterns ≡ built.old.patterns) }
 {
-    let matchers = selected(alloc, at, selector)?;
+    let matchers = checked_tests(alloc, at, selector)?;
     built.selectors.push(matchers)?;
     Ok(gives)
 }
@@ -98,7 +98,7 @@ pub(crate) fn type_of(alloc: Global, e: &Expr, built: &mut Built) -> Result<Valu
         ExprKind::Range { selector, .. } => select(alloc, at, selector, ValueType::Range, built),
         ExprKind::Sub { inner, step, .. } => {
             let operand = operand_of(alloc, inner, built)?;
-            plain(subquery(at, *step, operand))
+            plain(typed_subquery(at, *step, operand))
         }
         ExprKind::Neg { inner } => {
             let operand = operand_of(alloc, inner, built)?;
@@ -113,11 +113,11 @@ pub(crate) fn type_of(alloc: Global, e: &Expr, built: &mut Built) -> Result<Valu
         } => {
             let one = operand_of(alloc, left, built)?;
             let other = operand_of(alloc, right, built)?;
-            plain(operation(at, *op, *with_bool, matching, one, other))
+            plain(typed_operation(at, *op, *with_bool, matching, one, other))
         }
         ExprKind::Call { func, args } => {
             let operands = operands_of(alloc, args, built)?;
-            called(alloc, at, *func, args, operands.as_slice(), built)
+            typed_call(alloc, at, *func, args, operands.as_slice(), built)
         }
         ExprKind::Aggregate {
             op,
@@ -128,11 +128,11 @@ pub(crate) fn type_of(alloc: Global, e: &Expr, built: &mut Built) -> Result<Valu
             Some(first) => {
                 let one = operand_of(alloc, first, built)?;
                 let other = operand_of(alloc, inner, built)?;
-                aggregated(at, *op, content(first), &[one, other])
+                typed_aggregation(at, *op, content(first), &[one, other])
             }
             None => {
                 let one = operand_of(alloc, inner, built)?;
-                aggregated(at, *op, content(inner), &[one])
+                typed_aggregation(at, *op, content(inner), &[one])
             }
         },
     }

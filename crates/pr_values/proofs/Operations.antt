@@ -9,10 +9,10 @@ use Rattle.pr_ast.specs.declared.names.BinOp.TheVariants as op
 use Rattle.pr_vectors.specs.Matching.{joined}
 use Rattle.pr_query.specs.Answers.{joined_at}
 use Rattle.pr_query.specs.Operators.{is_filter, operator_of}
-use Rattle.pr_query.specs.Operations.{between}
+use Rattle.pr_query.specs.Operations.{between_vectors}
 
 pub between_values : (p : Place) (o : BinOp) (b : Bool) (how : Matching) (left right : List (Item Num)) → (o ≡ op.Or → ⊥) → (o ≡ op.And → ⊥) → (o ≡ op.Unless → ⊥)
-    → between p o b how left right ≡ joined_at p (joined how (is_filter o b) (operator_of o b) left right)
+    → between_vectors p o b how left right ≡ joined_at p (joined how (is_filter o b) (operator_of o b) left right)
 between_values p op.Or b how left right h k m = absurd (h refl)
 between_values p op.And b how left right h k m = absurd (k refl)
 between_values p op.Unless b how left right h k m = absurd (m refl)

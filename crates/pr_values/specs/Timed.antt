@@ -6,5 +6,5 @@ use Rattle.pr_vectors.specs.Vectors.{element}
 use Rattle.pr_query.specs.Calls.{seconds_of}
 
 -- a series with the time of its value, in seconds
-abbrev pub timed : Item Spot → Item Num
-timed e = element e.labels (seconds_of e.value.time)
+abbrev pub stamp_of : Item Spot → Item Num
+stamp_of e = element e.labels (seconds_of e.value.time)

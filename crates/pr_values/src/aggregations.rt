@@ -8,7 +8,7 @@ ghost use Rattle.pr_num.specs.declared.value.TooWide.{TooWide};
 ghost use Rattle.pr_num.specs.Arithmetic.{too_wide};
 ghost use Rattle.pr_agg.specs.declared.fault.AggFault.TheVariants as fault;
 ghost use Rattle.pr_ast.specs.Tree.{Tree};
-ghost use Rattle.pr_vectors.specs.Aggregation.{aggregated as of_groups, always, count_of_values, counted, first_of_parts, greatest_first, greatest_of_values, least_first, least_of_values, mean_of_values, one_of_values, quantile_of_values, sum_of_values};
+ghost use Rattle.pr_vectors.specs.Aggregation.{of_groups, always, count_of_values, counted, first_of_parts, greatest_first, greatest_of_values, least_first, least_of_values, mean_of_values, one_of_values, quantile_of_values, sum_of_values};
 ghost use Rattle.pr_vectors.specs.Vectors.{IsVector};
 ghost use Rattle.pr_query.specs.Aggregations.{aggregated_at, summed_up};
 ghost use Rattle.pr_query.specs.Answers.{IsAnswer};

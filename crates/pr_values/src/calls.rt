@@ -6,7 +6,7 @@ ghost use Rattle.pr_ast.specs.Tree.{trees_of};
 ghost use Rattle.pr_history.specs.declared.entry.Entry.{Entry};
 ghost use Rattle.pr_labels.specs.Names.{is_label_name};
 ghost use Rattle.pr_query.specs.Answers.{IsAnswer};
-ghost use Rattle.pr_query.specs.Calls.{called};
+ghost use Rattle.pr_query.specs.Calls.{value_of_call};
 ghost use Rattle.pr_types.specs.Typed.{content_at};
 ghost use Rattle.pr_values.specs.Answers.{AnswersTo};
 ghost use Rattle.pr_values.specs.Calls.{is_plain_call};
@@ -34,7 +34,7 @@ use std::alloc::Global;
 /// # Errors
 /// `Fault` where two elements of the result have equal labels or a value is too wide, or `Memory`
 /// where memory runs out.
-pub fn called(
+pub fn value_of_call(
     alloc: Global,
     place: Place,
     func: Func,
@@ -47,7 +47,7 @@ pub fn called(
     requires replaced { func ≡ Func.LabelReplace → is_label_name (content_at (trees_of args.now) 1) ≡ true }
     requires pattern { func ≡ Func.LabelReplace → option_copied pattern ≡ Some (content_at (trees_of args.now) 4) }
     requires joined { func ≡ Func.LabelJoin → is_label_name (content_at (trees_of args.now) 1) ≡ true }
-    ensures answer { (history : List Entry) → AnswersTo (called history place func (trees_of args.now) time (all_plain given.now)) result }
+    ensures answer { (history : List Entry) → AnswersTo (value_of_call history place func (trees_of args.now) time (all_plain given.now)) result }
     ensures vector { IfOk result IsAnswer }
 {
     match func {

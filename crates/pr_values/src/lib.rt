@@ -14,7 +14,7 @@ mod vectors;
 
 pub use absence::{absent_of, labels_of_argument};
 pub use aggregations::aggregated;
-pub use calls::called;
+pub use calls::value_of_call;
 pub use error::EvalError;
 pub use times::{seconds_of, stamped};
 pub use vectors::{made_at, negated_value, operated, vector};

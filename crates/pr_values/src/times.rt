@@ -8,13 +8,13 @@ ghost use Rattle.pr_query.specs.Calls.{calendars, seconds_of, with_time};
 ghost use Rattle.pr_query.specs.Given.{elements_given};
 ghost use Rattle.pr_values.specs.Answers.{AnswersTo};
 ghost use Rattle.pr_values.specs.Plain.{all_plain};
-ghost use Rattle.pr_values.specs.Timed.{timed};
+ghost use Rattle.pr_values.specs.Timed.{stamp_of};
 
 use crate::arguments::elements_given;
 use crate::error::EvalError;
 use crate::vectors::made_at;
 use pr_ast::Place;
-use pr_fn::{Part, calendar, map_values};
+use pr_fn::{Part, calendar, map_values, without_metrics};
 use pr_history::Spot;
 use pr_labels::{Item, Labels};
 use pr_num::{Nano, Num};
@@ -80,7 +80,7 @@ pub(crate) fn query_times(
 
 // Each series with the time of its value, in seconds.
 fn times_of(alloc: Global, items: Vec<Item<Spot>>) -> Result<Vec<Item<Num>>, AllocError>
-    ensures { IfOk result (λ v. v.items ≡ map timed items.items) }
+    ensures { IfOk result (λ v. v.items ≡ map stamp_of items.items) }
 {
     let mut times = Vec::new(alloc);
     for item in items {
@@ -103,6 +103,5 @@ pub fn stamped(alloc: Global, place: Place, items: Vec<Item<Spot>>) -> Result<Va
     ensures vector { IfOk result IsAnswer }
 {
     let times = times_of(alloc, items)?;
-    let made = map_values(alloc, &times, &|v: Num| Ok(v));
-    made_at(place, made)
+    made_at(place, without_metrics(alloc, &times))
 }

@@ -10,10 +10,10 @@ ghost use Rattle.pr_vectors.specs.Matching.{joined};
 ghost use Rattle.pr_vectors.specs.Operators.{kept_where};
 ghost use Rattle.pr_vectors.specs.Vectors.{IsVector};
 ghost use Rattle.pr_query.specs.Answers.{IsAnswer, function_at, joined_at, scalar_at};
-ghost use Rattle.pr_query.specs.Operations.{between, negated_value, operated, with_scalar};
+ghost use Rattle.pr_query.specs.Operations.{between_vectors, negated_value, operated, with_scalar};
 ghost use Rattle.pr_query.specs.Operators.{by_all_labels, is_filter, matching_of, operator_of, result_of};
-ghost use Rattle.pr_fn.specs.Faults.{fault_told as function_told};
-ghost use Rattle.pr_join.specs.Faults.{fault_told as match_told};
+ghost use Rattle.pr_fn.specs.Faults.{function_told};
+ghost use Rattle.pr_join.specs.Faults.{match_told};
 ghost use Rattle.pr_values.specs.Answers.{AnswersTo};
 ghost use Rattle.pr_values.specs.Besides.{holds_beside, result_beside};
 
@@ -181,7 +181,7 @@ fn joined(
 }
 
 // Two vectors.
-fn between(
+fn between_vectors(
     alloc: Global,
     place: Place,
     op: BinOp,
@@ -190,7 +190,7 @@ fn between(
     left: &[Item<Num>],
     right: &[Item<Num>],
 ) -> Result<Value, EvalError>
-    ensures answer { AnswersTo (between place op with_bool how.now left.now right.now) result }
+    ensures answer { AnswersTo (between_vectors place op with_bool how.now left.now right.now) result }
     ensures vector { IsVector left.now → IfOk result IsAnswer }
 {
     match op {
@@ -221,14 +221,14 @@ fn vectors(
     left: &[Item<Num>],
     right: &[Item<Num>],
 ) -> Result<Value, EvalError>
-    ensures answer { AnswersTo (between place op with_bool (matching_of matching.now) left.now right.now) result }
+    ensures answer { AnswersTo (between_vectors place op with_bool (matching_of matching.now) left.now right.now) result }
     ensures vector { IsVector left.now → IfOk result IsAnswer }
 {
     match matching {
-        Some(how) => between(alloc, place, op, with_bool, how, left, right),
+        Some(how) => between_vectors(alloc, place, op, with_bool, how, left, right),
         None => {
             let how = by_all_labels(alloc);
-            between(alloc, place, op, with_bool, &how, left, right)
+            between_vectors(alloc, place, op, with_bool, &how, left, right)
         }
     }
 }

@@ -10,7 +10,7 @@ use Rattle.pr_labels.specs.Order.{labels_eq}
 use Rattle.pr_labels.specs.Rising.{IsRising, is_among}
 use Rattle.pr_labels.proofs.LabelOrder.{among_fold, labels_decide, rising_fold}
 use Rattle.pr_vectors.specs.Vectors.{IsVector, element, in_label_order, label_sets}
-use Rattle.pr_vectors.specs.Aggregation.{aggregated, always, answers, behind, counted, group_of, groups, part, value_count, value_group, values_of}
+use Rattle.pr_vectors.specs.Aggregation.{of_groups, always, group_answers, behind, counted, group_of, groups, part, value_count, value_group, values_of}
 
 either : (a b : Bool) → b ≡ true → (a || b) ≡ true
 either true b h = refl
@@ -19,7 +19,7 @@ either false b h = h
 itself : (k : List Pair) (ks : List (List Pair)) → is_among k (k ∷ ks) ≡ true
 itself k ks = ap (λ (b : Bool). b || is_among k ks) ((labels_decide k k).1 refl)
 
-answers_alike : (g h : List Pair → Result Num TooWide) (ks : List (List Pair)) → ((k : List Pair) → is_among k ks ≡ true → g k ≡ h k) → answers g ks ≡ answers h ks
+answers_alike : (g h : List Pair → Result Num TooWide) (ks : List (List Pair)) → ((k : List Pair) → is_among k ks ≡ true → g k ≡ h k) → group_answers g ks ≡ group_answers h ks
 answers_alike g h [] e = refl
 answers_alike g h (k ∷ ks) e = λ j. behind k (e k (itself k ks) j) (answers_alike g h ks (λ q m. e q (either (labels_eq q k) (is_among q ks) m)) j)
 
@@ -39,7 +39,7 @@ module _ (g h : List Num → Result Num TooWide) (agree : (x : Num) (xs : List N
   on_values (x ∷ xs) some = agree x xs
 
   -- aggregations agree which agree on values that there are
-  pub aggregated_alike : (by : Grouping) (vector : List (Item Num)) → aggregated g by vector ≡ aggregated h by vector
+  pub aggregated_alike : (by : Grouping) (vector : List (Item Num)) → of_groups g by vector ≡ of_groups h by vector
   aggregated_alike by vector =
       answers_alike (λ k. g (values_of (part by vector k))) (λ k. h (values_of (part by vector k))) (groups by vector)
       (λ k m. on_values (values_of (part by vector k)) (not_empty by k vector (sym (among_fold k [] (map (group_of by) vector)) ∙ m)))
@@ -54,9 +54,9 @@ labels_behind k (Ok v) ks (Ok items) h = ap (λ (sets : List (List Pair)). k ∷
 labels_behind k (Ok v) ks (Err e) h = tt
 labels_behind k (Err e) ks rest h = tt
 
-labels_answered : (answer : List Pair → Result Num TooWide) (ks : List (List Pair)) → IfOk (answers answer ks) (λ items. label_sets items ≡ ks)
+labels_answered : (answer : List Pair → Result Num TooWide) (ks : List (List Pair)) → IfOk (group_answers answer ks) (λ items. label_sets items ≡ ks)
 labels_answered answer [] = refl
-labels_answered answer (k ∷ ks) = labels_behind k (answer k) ks (answers answer ks) (labels_answered answer ks)
+labels_answered answer (k ∷ ks) = labels_behind k (answer k) ks (group_answers answer ks) (labels_answered answer ks)
 
 rising_labels : (sets : List (List Pair)) → IsRising (in_label_order sets)
 rising_labels sets = rising_fold [] sets tt
@@ -65,9 +65,9 @@ still_rising : (ks : List (List Pair)) (answer : Result (List (Item Num)) TooWid
 still_rising ks (Ok items) r h = subst (λ (sets : List (List Pair)). IsRising sets) (sym h) r
 still_rising ks (Err e) r h = tt
 
-pub aggregated_is_vector : (of_values : List Num → Result Num TooWide) (by : Grouping) (vector : List (Item Num)) → IfOk (aggregated of_values by vector) IsVector
+pub aggregated_is_vector : (of_values : List Num → Result Num TooWide) (by : Grouping) (vector : List (Item Num)) → IfOk (of_groups of_values by vector) IsVector
 aggregated_is_vector of_values by vector =
-    still_rising (groups by vector) (aggregated of_values by vector) (rising_labels (map (group_of by) vector))
+    still_rising (groups by vector) (of_groups of_values by vector) (rising_labels (map (group_of by) vector))
     (labels_answered (λ k. of_values (values_of (part by vector k))) (groups by vector))
 
 labels_made : (value : List Pair → Num) (ks : List (List Pair)) → label_sets (map (λ k. element k (value k)) ks) ≡ ks
@@ -84,9 +84,9 @@ ok_behind : (k : List Pair) (v : Num) (rest : Result (List (Item Num)) TooWide) 
 ok_behind k v (Ok items) h = h
 ok_behind k v (Err e) h = h
 
-ok_answered : (answer : List Pair → Num) (ks : List (List Pair)) → IsOk (answers (λ k. Ok (answer k)) ks)
+ok_answered : (answer : List Pair → Num) (ks : List (List Pair)) → IsOk (group_answers (λ k. Ok (answer k)) ks)
 ok_answered answer [] = refl
-ok_answered answer (k ∷ ks) = ok_behind k (answer k) (answers (λ q. Ok (answer q)) ks) (ok_answered answer ks)
+ok_answered answer (k ∷ ks) = ok_behind k (answer k) (group_answers (λ q. Ok (answer q)) ks) (ok_answered answer ks)
 
-pub always_is_ok : (of_values : List Num → Num) (by : Grouping) (vector : List (Item Num)) → IsOk (aggregated (always of_values) by vector)
+pub always_is_ok : (of_values : List Num → Num) (by : Grouping) (vector : List (Item Num)) → IsOk (of_groups (always of_values) by vector)
 always_is_ok of_values by vector = ok_answered (λ k. of_values (values_of (part by vector k))) (groups by vector)

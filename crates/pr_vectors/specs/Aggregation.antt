@@ -43,12 +43,12 @@ abbrev pub behind : List Pair → Result Num TooWide → Result (List (Item Num)
 behind group (Ok value) rest = prepended (element group value) rest
 behind group (Err fault) rest = Err fault
 
-abbrev pub answers : (List Pair → Result Num TooWide) → List (List Pair) → Result (List (Item Num)) TooWide
-answers answer [] = Ok []
-answers answer (group ∷ rest) = behind group (answer group) (answers answer rest)
+abbrev pub group_answers : (List Pair → Result Num TooWide) → List (List Pair) → Result (List (Item Num)) TooWide
+group_answers answer [] = Ok []
+group_answers answer (group ∷ rest) = behind group (answer group) (group_answers answer rest)
 
-abbrev pub aggregated : (List Num → Result Num TooWide) → Grouping → List (Item Num) → Result (List (Item Num)) TooWide
-aggregated of_values by vector = answers (λ group. of_values (values_of (part by vector group))) (groups by vector)
+abbrev pub of_groups : (List Num → Result Num TooWide) → Grouping → List (Item Num) → Result (List (Item Num)) TooWide
+of_groups of_values by vector = group_answers (λ group. of_values (values_of (part by vector group))) (groups by vector)
 
 -- An aggregation that always has a value.
 abbrev pub always : (List Num → Num) → List Num → Result Num TooWide

@@ -4,8 +4,9 @@ use Rattle.pr_num.specs.declared.value.Num.{Num}
 use Rattle.pr_num.specs.declared.value.Num.TheVariants.{Finite, NaN}
 use Rattle.pr_labels.specs.declared.item.Item.{Item}
 use Rattle.pr_labels.specs.declared.grouping.Grouping.{Grouping}
+use Rattle.pr_history.specs.Examples.{number}
 use Rattle.pr_vectors.specs.Vectors.{element}
-use Rattle.pr_vectors.specs.Examples.{number, sample, x, y}
+use Rattle.pr_vectors.specs.Examples.{sample, x, y}
 
 -- a{x="1"} 1, a{x="2"} 3
 abbrev pub one_three : List (Item Num)

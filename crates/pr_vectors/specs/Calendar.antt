@@ -54,21 +54,21 @@ abbrev pub seconds_to_10000 : ℕ
 seconds_to_10000 = 3652059 * seconds_in_day
 
 -- A field by the days before the date, and the second of the day.
-abbrev pub field : Part → ℕ → ℕ → ℕ
-field Minute days second = second / 60 % 60
-field Hour days second = second / 3600
-field DayOfWeek days second = (days + 1) % 7
-field DayOfMonth days second = (date_after days).day
-field DayOfYear days second = days_before (date_after days).year ((date_after days).month - 1) + (date_after days).day
-field DaysInMonth days second = month_days (date_after days).year (date_after days).month
-field Month days second = (date_after days).month
-field Year days second = (date_after days).year
+abbrev pub date_field : Part → ℕ → ℕ → ℕ
+date_field Minute days second = second / 60 % 60
+date_field Hour days second = second / 3600
+date_field DayOfWeek days second = (days + 1) % 7
+date_field DayOfMonth days second = (date_after days).day
+date_field DayOfYear days second = days_before (date_after days).year ((date_after days).month - 1) + (date_after days).day
+date_field DaysInMonth days second = month_days (date_after days).year (date_after days).month
+date_field Month days second = (date_after days).month
+date_field Year days second = (date_after days).year
 
 -- by the whole seconds since 1 January of the year 1: a number where they are in the years 1 to
 -- 9999
 abbrev pub field_at : Part → ℤ → Num
 field_at part (pos seconds) =
-    if nat_lt seconds seconds_to_10000 then whole_of (pos (field part (seconds / seconds_in_day) (seconds % seconds_in_day)))
+    if nat_lt seconds seconds_to_10000 then whole_of (pos (date_field part (seconds / seconds_in_day) (seconds % seconds_in_day)))
     else NaN
 field_at part (negsuc n) = NaN
 

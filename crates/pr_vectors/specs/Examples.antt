@@ -1,5 +1,5 @@
 -- Small vectors to try the definitions on.
-use Rattle.std.specs.Prelude.{ℕ, ◌*◌, ◌^◌, Bool, true, false, cond, pos, List, [], ◌∷◌, ◌++◌, map, codes, Ok, Err, Some, None, int_lt}
+use Rattle.std.specs.Prelude.{ℕ, Bool, true, false, cond, List, [], ◌∷◌, ◌++◌, map, codes, Ok, Err, Some, None, int_lt}
 use Rattle.pr_num.specs.declared.value.Num.{Num}
 use Rattle.pr_num.specs.declared.value.Num.TheVariants.{Finite, NaN}
 use Rattle.pr_num.specs.Arithmetic.{product_of, too_wide}
@@ -9,12 +9,10 @@ use Rattle.pr_labels.specs.declared.matching.Card.{Card}
 use Rattle.pr_labels.specs.declared.matching.Card.TheVariants.{OneToOne}
 use Rattle.pr_labels.specs.declared.matching.Matching.{Matching}
 use Rattle.pr_labels.specs.LabelSet.{metric_label, pair_of}
+use Rattle.pr_history.specs.Examples.{number}
 use Rattle.pr_vectors.specs.Matching.{Operator, always_kept}
 use Rattle.pr_vectors.specs.Operators.{Comparison, holds}
 use Rattle.pr_vectors.specs.Vectors.{element}
-
-abbrev pub number : ℕ → Num
-number n = Finite (pos (n * 10 ^ 9))
 
 -- the label x, y or z, with a value of one letter or digit
 abbrev pub x : List ℕ → Pair

@@ -161,8 +161,8 @@ in_bucket rank buckets (suc i) =
 abbrev pub reaches : Num → Bucket → Bool
 reaches rank b = not (is_lt (order_of b.count rank))
 
-abbrev pub place_of : Num → List Bucket → ℕ
-place_of rank buckets = unwrap_or (position (reaches rank) buckets) (length buckets - 1)
+abbrev pub bucket_place : Num → List Bucket → ℕ
+bucket_place rank buckets = unwrap_or (position (reaches rank) buckets) (length buckets - 1)
 
 abbrev pub at_place : Num → List Bucket → ℕ → Result Num TooWide
 at_place rank buckets place =
@@ -170,7 +170,7 @@ at_place rank buckets place =
     else in_bucket rank buckets place
 
 abbrev pub at_rank : List Bucket → Num → Result Num TooWide
-at_rank buckets rank = at_place rank buckets (place_of rank buckets)
+at_rank buckets rank = at_place rank buckets (bucket_place rank buckets)
 
 -- 2. Below 0 and above 1 there are the infinities.
 abbrev pub quantile_in : Num → List Bucket → Result Num TooWide

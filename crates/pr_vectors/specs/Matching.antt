@@ -116,15 +116,15 @@ abbrev pub kept_if : Matching → Bool → Paired → Result (Option Num) TooWid
 kept_if how keep_name p (Err e) = Err e
 kept_if how keep_name p (Ok value) = Ok (option_map (kept_as how keep_name p) value)
 
-abbrev pub outcome : Matching → Bool → Operator → Paired → Result (Option Kept) TooWide
-outcome how keep_name op p = kept_if how keep_name p (worked how.card op p)
+abbrev pub pair_outcome : Matching → Bool → Operator → Paired → Result (Option Kept) TooWide
+pair_outcome how keep_name op p = kept_if how keep_name p (worked how.card op p)
 
 abbrev pub kept_of : Result (Option Kept) TooWide → Option Kept
 kept_of (Err e) = None
 kept_of (Ok k) = k
 
-abbrev pub kept : List (Result (Option Kept) TooWide) → List Kept
-kept outcomes = filter_map kept_of outcomes
+abbrev pub kept_pairs : List (Result (Option Kept) TooWide) → List Kept
+kept_pairs outcomes = filter_map kept_of outcomes
 
 -- Three tests of a pair after those kept before it. First, the operator is too wide. Second, in
 -- one-to-one matching, the pair is kept and its key is that of an earlier one. Third, the pair is
@@ -137,32 +137,32 @@ key_fault OneToMany before k = None
 abbrev pub labels_fault : List Kept → Kept → Option MatchFault
 labels_fault before k = cond (list_any (λ b. labels_eq b.item.labels k.item.labels) before) (Some (fault.NotUnique k.item.labels)) None
 
-abbrev pub pair_fault : Card → List Kept → Result (Option Kept) TooWide → Option MatchFault
-pair_fault card before (Err e) = Some fault.TooWide
-pair_fault card before (Ok None) = None
-pair_fault card before (Ok (Some k)) = option_or (key_fault card before k) (labels_fault before k)
+abbrev pub outcome_fault : Card → List Kept → Result (Option Kept) TooWide → Option MatchFault
+outcome_fault card before (Err e) = Some fault.TooWide
+outcome_fault card before (Ok None) = None
+outcome_fault card before (Ok (Some k)) = option_or (key_fault card before k) (labels_fault before k)
 
 -- the first fault of pairs that come after those kept before
-abbrev pub fault_after : Card → List Kept → List (Result (Option Kept) TooWide) → Option MatchFault
-fault_after card before [] = None
-fault_after card before (o ∷ outcomes) = option_or (pair_fault card before o) (fault_after card (before ++ option_to_list (kept_of o)) outcomes)
+abbrev pub fault_of_outcomes : Card → List Kept → List (Result (Option Kept) TooWide) → Option MatchFault
+fault_of_outcomes card before [] = None
+fault_of_outcomes card before (o ∷ outcomes) = option_or (outcome_fault card before o) (fault_of_outcomes card (before ++ option_to_list (kept_of o)) outcomes)
 
 -- The result is what the kept pairs give, unless there is a fault.
 abbrev pub unless_fault : Option MatchFault → List (Item Num) → Result (List (Item Num)) MatchFault
 unless_fault None items = Ok items
 unless_fault (Some f) items = Err f
 
-abbrev pub items_of : List Kept → List (Item Num)
-items_of ks = map (λ k. k.item) ks
+abbrev pub items_kept : List Kept → List (Item Num)
+items_kept ks = map (λ k. k.item) ks
 
-abbrev pub result_of : Card → List (Result (Option Kept) TooWide) → Option MatchFault → Result (List (Item Num)) MatchFault
-result_of card outcomes first = unless_fault (option_or first (fault_after card [] outcomes)) (in_order (items_of (kept outcomes)))
+abbrev pub joined_result : Card → List (Result (Option Kept) TooWide) → Option MatchFault → Result (List (Item Num)) MatchFault
+joined_result card outcomes first = unless_fault (option_or first (fault_of_outcomes card [] outcomes)) (in_order (items_kept (kept_pairs outcomes)))
 
 abbrev pub outcomes_of : Matching → Bool → Operator → List (Item Num) → List (Item Num) → List (Result (Option Kept) TooWide)
-outcomes_of how keep_name op manys ones = map (outcome how keep_name op) (pairs how manys ones)
+outcomes_of how keep_name op manys ones = map (pair_outcome how keep_name op) (pairs how manys ones)
 
 abbrev pub joined_sides : Matching → Bool → Operator → List (Item Num) → List (Item Num) → Result (List (Item Num)) MatchFault
-joined_sides how keep_name op manys ones = result_of how.card (outcomes_of how keep_name op manys ones) (side_fault how manys ones)
+joined_sides how keep_name op manys ones = joined_result how.card (outcomes_of how keep_name op manys ones) (side_fault how manys ones)
 
 abbrev pub joined : Matching → Bool → Operator → List (Item Num) → List (Item Num) → Result (List (Item Num)) MatchFault
 joined how keep_name op left right = joined_sides how keep_name op (many_side how.card left right) (one_side how.card left right)

@@ -8,13 +8,13 @@ ghost use Rattle.pr_labels.specs.declared.grouping.Grouping.{Grouping};
 ghost use Rattle.pr_labels.specs.declared.item.Item.{Item};
 ghost use Rattle.pr_labels.specs.Rising.{is_among};
 ghost use Rattle.pr_vectors.specs.Vectors.{IsVector};
-ghost use Rattle.pr_vectors.specs.Aggregation.{aggregated, always, counted, first_of_parts, groups, part, values_of};
+ghost use Rattle.pr_vectors.specs.Aggregation.{of_groups, always, counted, first_of_parts, groups, part, values_of};
 
 /// The answers are in label order with distinct label sets: what aggregations give whatever stood
 /// there before, what `topk` and `bottomk` keep of a vector that is so.
 #[tactic(auto, using(crate::proofs::Aggregation::aggregated_is_vector, crate::proofs::Aggregation::counted_is_vector))]
 pub fn aggregations_are_vectors()
-    ensures aggregated { (of_values : List Num → Result Num TooWide) (by : Grouping) (vector : List (Item Num)) → IfOk (aggregated of_values by vector) IsVector }
+    ensures aggregated { (of_values : List Num → Result Num TooWide) (by : Grouping) (vector : List (Item Num)) → IfOk (of_groups of_values by vector) IsVector }
     ensures counted { (label : List ℕ) (by : Grouping) (vector : List (Item Num)) → IsVector (counted label by vector) }
     ensures first { (order : Num → Num → Ordering) (k : Num) (by : Grouping) (vector : List (Item Num)) → IsVector vector → IsVector (first_of_parts order k by vector) }
 {}
@@ -25,6 +25,6 @@ pub fn aggregations_are_vectors()
 pub fn each_group_has_a_value()
     ensures some { (by : Grouping) (group : List Pair) (vector : List (Item Num)) → is_among group (groups by vector) ≡ true → values_of (part by vector group) ≢ [] }
     ensures alike { (f g : List Num → Result Num TooWide) → ((v : Num) (vs : List Num) → f (v ∷ vs) ≡ g (v ∷ vs))
-        → (by : Grouping) (vector : List (Item Num)) → aggregated f by vector ≡ aggregated g by vector }
-    ensures always { (of_values : List Num → Num) (by : Grouping) (vector : List (Item Num)) → IsOk (aggregated (always of_values) by vector) }
+        → (by : Grouping) (vector : List (Item Num)) → of_groups f by vector ≡ of_groups g by vector }
+    ensures always { (of_values : List Num → Num) (by : Grouping) (vector : List (Item Num)) → IsOk (of_groups (always of_values) by vector) }
 {}

@@ -2,10 +2,11 @@
 ghost use Rattle.std.specs.Prelude.{◌≡◌, true, false, codes, [], ◌∷◌, ◌++◌, Ok, Err};
 ghost use Rattle.pr_labels.specs.declared.matching.Card.TheVariants.{OneToOne, ManyToOne, OneToMany};
 ghost use Rattle.pr_labels.specs.LabelSet.{metric_label};
+ghost use Rattle.pr_history.specs.Examples.{number};
 ghost use Rattle.pr_vectors.specs.declared.match_fault.MatchFault.TheVariants.{ManyToMany, NotUnique, TooWide};
 ghost use Rattle.pr_vectors.specs.Vectors.{element};
 ghost use Rattle.pr_vectors.specs.Matching.{joined, key_of, both_sides, left_alone, either_side};
-ghost use Rattle.pr_vectors.specs.Examples.{number, x, y, z, a, b, six, two_three, six_three, with_nan, five, nameless_five, on_x, on_names, ignoring_names, times, above, never_fits};
+ghost use Rattle.pr_vectors.specs.Examples.{x, y, z, a, b, six, two_three, six_three, with_nan, five, nameless_five, on_x, on_names, ignoring_names, times, above, never_fits};
 
 /// The key has the names of `on` alone; with `ignoring` it is without these names and the metric's
 /// name.

@@ -1,8 +1,9 @@
 // What the definitions say of comparisons.
 ghost use Rattle.std.specs.Prelude.{◌≡◌, true, false, codes, [], ◌∷◌, Ok, Some, None};
 ghost use Rattle.pr_num.specs.declared.value.Num.TheVariants.{NaN, PosInf};
+ghost use Rattle.pr_history.specs.Examples.{number};
 ghost use Rattle.pr_vectors.specs.Operators.{are_equal, are_unequal, is_less, is_at_most, is_greater, is_at_least, holds, filtering, kept_where};
-ghost use Rattle.pr_vectors.specs.Examples.{number, x, a, six_three, against_two};
+ghost use Rattle.pr_vectors.specs.Examples.{x, a, six_three, against_two};
 
 /// NaN is unequal to all values, itself among them, and no other comparison holds of it. A filter
 /// gives the left value, and leaves all labels.

@@ -1,11 +1,7 @@
 -- The fields of a line: what stands between blanks.
-use Rattle.std.specs.Prelude.{ℕ, ◌-◌, Bool, not, ◌||◌, ◌==◌, List, length, take, drop, reverse}
-use Prim.Native.Char.{code}
+use Rattle.std.specs.Prelude.{ℕ, ◌-◌, Bool, not, List, length, take, drop, reverse}
 use Rattle.std.specs.List.{position_or_len}
-
--- a space, or a tab
-abbrev pub is_blank : ℕ → Bool
-is_blank b = b == code " " || b == code "\t"
+use Rattle.pr_words.specs.Bytes.{is_blank}
 
 abbrev pub is_field_byte : ℕ → Bool
 is_field_byte b = not (is_blank b)

@@ -1,7 +1,8 @@
 // The fields of a line.
 ghost use Rattle.std.specs.Prelude.{◌≡◌, ◌≤◌, length, reverse, position};
 ghost use Rattle.std.specs.List.{position_or_len};
-ghost use Rattle.pr_words.specs.Fields.{is_blank, is_field_byte, without_leading, without_trailing, first_field, after_field, last_field, before_last_field};
+ghost use Rattle.pr_words.specs.Bytes.{is_blank};
+ghost use Rattle.pr_words.specs.Fields.{is_field_byte, without_leading, without_trailing, first_field, after_field, last_field, before_last_field};
 
 /// Whether a byte is a blank: a space, or a tab.
 pub fn is_blank(b: u8) -> bool

@@ -1,20 +1,20 @@
 -- Renaming loses no label: each stands under its own name, or under a free one.
-use Rattle.std.proofs.Common.{◌≡◌, refl, sym, ap, ◌∙◌, subst, ℕ, zero, suc, Bool, true, false, cond, not, ◌&&◌, ◌||◌, List, [], ◌∷◌, ◌++◌, length, Option, Some, None, is_some, append_assoc, append-nil, filter, fold}
+use Rattle.std.proofs.Common.{◌≡◌, refl, sym, ap, ◌∙◌, subst, ℕ, zero, suc, Bool, true, false, cond, not, ◌&&◌, ◌||◌, List, [], ◌∷◌, ◌++◌, Option, Some, None, is_some, append_assoc, append-nil, filter, fold}
 use Rattle.std.specs.Char.{is_ascii_digit}
 use Rattle.std.specs.List.{list_all, list_any}
 use Rattle.std.specs.List.Sorted.{IsPermutation}
 use Rattle.std.specs.Option.{option_or}
 use Rattle.std.specs.Str.{bytes_eq}
 use Rattle.std.proofs.lemmas.List.Folds.{list_all-append}
-use Rattle.pr_labels.specs.declared.fault.LabelFault.{LabelFault}
-use Rattle.pr_labels.specs.declared.fault.LabelFault.TheVariants.{BadName, Twice}
+use Rattle.pr_words.specs.Bytes.{is_label_byte, is_letter}
 use Rattle.pr_labels.specs.declared.pair.Pair.{Pair}
 use Rattle.pr_labels.specs.Edits.{fault_after, first_fault, has_value, labels_of, pair_fault, set_label, set_pair, value_if_any, without_name}
 use Rattle.pr_labels.specs.LabelSet.{IsLabelSet, has_name, pair_of, value_of}
-use Rattle.pr_labels.specs.Names.{is_label_byte, is_label_name, is_letter}
+use Rattle.pr_labels.specs.Names.{is_label_name}
 use Rattle.pr_labels.proofs.LabelLaws.{alike, first_none, made_is_set, none_above, remove_stays, same_names, set_stays, union_stays, value_hit, value_miss, value_remove, value_set, value_union}
 use Rattle.pr_labels.proofs.Permuted.{made_of_all, new_name}
 use Rattle.pr_labels.proofs.SetValues.{faultless, same_values}
+use Rattle.pr_expo_line.proofs.Sound.{fault_more, new_fault}
 use Rattle.pr_world.specs.Renaming.{HasAllLabels, Renames, exported_times, keeps, moves, nothing}
 use Rattle.pr_world.specs.Scrapes.{exported, free_name, has, renamed, scraped_labels, with_free_name}
 use Rattle.pr_world.proofs.Renaming.{first_free}
@@ -65,23 +65,6 @@ other_name a b h = by (bytes_eq b a) refl where
   by : (e : Bool) → bytes_eq b a ≡ e → e ≡ false
   by true e = absurd (let k : false ≡ true = sym h ∙ ap (bytes_eq a) (same_names b a e) ∙ alike a in cc)
   by false e = refl
-
--- Pairs without a fault, and one more
-or_nothing : (a : Option LabelFault) → option_or a None ≡ a
-or_nothing None = refl
-or_nothing (Some x) = refl
-
-fault_more : (before ps : List Pair) (p : Pair) → fault_after before ps ≡ None → pair_fault (before ++ ps) p ≡ None → fault_after before (ps ++ p ∷ []) ≡ None
-fault_more before [] p f h = or_nothing (pair_fault before p) ∙ ap (λ x. pair_fault x p) (sym (append-nil before)) ∙ h
-fault_more before (q ∷ ps) p f h =
-    let g = first_none (pair_fault before q) (fault_after (before ++ q ∷ []) ps) f in
-    ap (λ o. option_or o (fault_after (before ++ q ∷ []) (ps ++ p ∷ []))) g.0
-    ∙ fault_more (before ++ q ∷ []) ps p g.1 (ap (λ x. pair_fault x p) (append_assoc before (q ∷ []) ps) ∙ h)
-
-new_fault : (before : List Pair) (p : Pair) → is_label_name p.name ≡ true → list_any (has_name p.name) before ≡ false → pair_fault before p ≡ None
-new_fault before p n h =
-    ap (λ b. cond b (cond (list_any (has_name p.name) before) (Some (Twice (length before))) None) (Some (BadName (length before)))) n
-    ∙ ap (λ b. cond b (Some (Twice (length before))) None) h
 
 -- one more pair behind the target's and those that stand so far
 next_fault : (target done : List Pair) (p : Pair) → first_fault (target ++ done) ≡ None → is_label_name p.name ≡ true → value_of target p.name ≡ None → value_of done p.name ≡ None →

@@ -12,7 +12,7 @@ use Rattle.pr_history.specs.declared.append.Append.{Append}
 use Rattle.pr_history.specs.declared.append.Append.TheVariants as append
 use Rattle.pr_history.specs.declared.entry.Entry.{Entry}
 use Rattle.pr_world.specs.declared.scraped.Offer.{Offer}
-use Rattle.pr_world.specs.Scrapes.{added_count, admitted, answers, entries_in, is_added, is_tracked, kept_sets, tracked_after}
+use Rattle.pr_world.specs.Scrapes.{added_count, admitted, admissions, offered_entries, is_added, is_tracked, kept_sets, tracked_after}
 
 -- what becomes of one entry
 abbrev pub answer_to : List Entry → Entry → Append
@@ -29,7 +29,7 @@ abbrev pub one_admitted : Append → Entry → List Entry
 one_admitted answer e = cond (is_added answer) (e ∷ []) []
 
 pub admitted_first : (history : List Entry) (e : Entry) (es : List Entry) → admitted history (e ∷ es) ≡ one_admitted (answer_to history e) e ++ admitted (put history e) es
-admitted_first history e es = picks (λ p. is_added p.1) (λ p. p.0) (e, answer_to history e) (zip es (answers (put history e) es))
+admitted_first history e es = picks (λ p. is_added p.1) (λ p. p.0) (e, answer_to history e) (zip es (admissions (put history e) es))
 
 pub admitted_parts : (history es more : List Entry) → admitted history (es ++ more) ≡ admitted history es ++ admitted (put_all history es) more
 admitted_parts history [] more = refl
@@ -68,13 +68,13 @@ admitted_counted history (e ∷ es) =
     ∙ length-append (one_admitted (answer_to history e) e) (admitted (put history e) es)
     ∙ ap (λ (n : ℕ). n + length (admitted (put history e) es)) (one_counted (answer_to history e) e)
     ∙ ap (λ (n : ℕ). cond (is_added (answer_to history e)) 1 0 + n) (admitted_counted (put history e) es)
-    ∙ sym (sum_by-cons (λ a. cond (is_added a) 1 0) (answer_to history e) (answers (put history e) es))
+    ∙ sym (sum_by-cons (λ a. cond (is_added a) 1 0) (answer_to history e) (admissions (put history e) es))
 
 -- entries that are put in two parts
 pub puts_parts : (history es more : List Entry) → put_all history (es ++ more) ≡ put_all (put_all history es) more
 puts_parts history es more = fold-append put history es more
 
-pub answers_parts : (history es more : List Entry) → answers history (es ++ more) ≡ answers history es ++ answers (put_all history es) more
+pub answers_parts : (history es more : List Entry) → admissions history (es ++ more) ≡ admissions history es ++ admissions (put_all history es) more
 answers_parts history [] more = refl
 answers_parts history (e ∷ es) more = ap (λ (l : List Append). answer_to history e ∷ l) (answers_parts (put history e) es more)
 
@@ -83,16 +83,16 @@ counts_parts p xs ys = sum_by-append (λ x. cond (p x) 1 0) xs ys
 
 pub kept_first : (history : List Entry) (o : Offer) (os : List Offer)
     → kept_sets history (o ∷ os) ≡ cond (is_tracked (o, answer_to history o.entry)) (o.entry.labels ∷ []) [] ++ kept_sets (put history o.entry) os
-kept_first history o os = picks is_tracked (λ p. p.0.entry.labels) (o, answer_to history o.entry) (zip os (answers (put history o.entry) (entries_in os)))
+kept_first history o os = picks is_tracked (λ p. p.0.entry.labels) (o, answer_to history o.entry) (zip os (admissions (put history o.entry) (offered_entries os)))
 
-pub kept_parts : (history : List Entry) (os more : List Offer) → kept_sets history (os ++ more) ≡ kept_sets history os ++ kept_sets (put_all history (entries_in os)) more
+pub kept_parts : (history : List Entry) (os more : List Offer) → kept_sets history (os ++ more) ≡ kept_sets history os ++ kept_sets (put_all history (offered_entries os)) more
 kept_parts history [] more = refl
 kept_parts history (o ∷ os) more =
     let one = cond (is_tracked (o, answer_to history o.entry)) (o.entry.labels ∷ []) [] in
     kept_first history o (os ++ more)
     ∙ ap (λ (l : List (List Pair)). one ++ l) (kept_parts (put history o.entry) os more)
-    ∙ sym (append_assoc one (kept_sets (put history o.entry) os) (kept_sets (put_all (put history o.entry) (entries_in os)) more))
-    ∙ ap (λ (l : List (List Pair)). l ++ kept_sets (put_all (put history o.entry) (entries_in os)) more) (sym (kept_first history o os))
+    ∙ sym (append_assoc one (kept_sets (put history o.entry) os) (kept_sets (put_all (put history o.entry) (offered_entries os)) more))
+    ∙ ap (λ (l : List (List Pair)). l ++ kept_sets (put_all (put history o.entry) (offered_entries os)) more) (sym (kept_first history o os))
 
 -- tracked sets are in label order
 pub tracked_rises : (history : List Entry) (offered : List Offer) → IsRising (tracked_after history offered)

@@ -76,7 +76,7 @@ put_is (append.Conflict kept) history e = sym (append-nil history)
 may_put : (history : List Entry) (e : Entry) → IsLawful history → IsLawful (history ++ rows_by (admit history e.labels e.time e.point) e)
 may_put history e lawful = subst IsLawful (put_is (admit history e.labels e.time e.point) history e) (put_lawful history e lawful)
 
--- a question adds nothing and leaves the targets
+-- a query adds nothing and leaves the targets
 abbrev AddsNothing : Outcome → Type 0
 AddsNothing (refuse report) = Unit {0}
 AddsNothing (accept report entries) = entries ≡ []

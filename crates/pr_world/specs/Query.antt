@@ -6,13 +6,13 @@ use Rattle.pr_parse.specs.Parsed.{Parsed, gives_tree, gives_lex_fault, gives_fau
 use Rattle.pr_types.specs.declared.kind.ValueType.{ValueType}
 use Rattle.pr_types.specs.declared.kind.TypeFault.{TypeFault}
 use Rattle.pr_types.specs.Typed.{checked}
+use Rattle.pr_kinds.specs.declared.kind.QueryKind.TheVariants.{Lex, Parse, Typing}
 use Rattle.pr_query.specs.declared.fault.Fault.{Fault}
 use Rattle.pr_query.specs.declared.value.Value.{Value}
 use Rattle.pr_query.specs.declared.value.Value.TheVariants as value
 use Rattle.pr_query.specs.Meaning.{meaning}
 use Rattle.pr_world.specs.declared.report.Report.{Report}
 use Rattle.pr_world.specs.declared.report.Report.TheVariants.{Scalar, Vector, QueryFault, QueryRefused}
-use Rattle.pr_world.specs.declared.report.QueryKind.TheVariants.{Lex, Parse, Typing}
 use Rattle.pr_world.specs.Outcome.{Outcome, refuse, accept}
 use Rattle.pr_world.specs.Settings.{Settings}
 

@@ -78,15 +78,15 @@ offer_of target now line = offer_by (scraped_labels target line.labels) (is_some
 abbrev pub offers : List Pair → ℕ → List Line → List Offer
 offers target now lines = filter_map (offer_of target now) lines
 
-abbrev pub entries_in : List Offer → List Entry
-entries_in offered = map (λ o. o.entry) offered
+abbrev pub offered_entries : List Offer → List Entry
+offered_entries offered = map (λ o. o.entry) offered
 
 -- Admission
 
 -- what is answered to entries that are put one after another
-abbrev pub answers : List Entry → List Entry → List Append
-answers history [] = []
-answers history (e ∷ es) = admit history e.labels e.time e.point ∷ answers (put history e) es
+abbrev pub admissions : List Entry → List Entry → List Append
+admissions history [] = []
+admissions history (e ∷ es) = admit history e.labels e.time e.point ∷ admissions (put history e) es
 
 abbrev pub is_added : Append → Bool
 is_added append.Added = true
@@ -95,29 +95,29 @@ is_added (append.OutOfOrder last) = false
 is_added (append.Conflict kept) = false
 
 -- whether the series shows the point then
-abbrev pub is_kept : Append → Bool
-is_kept append.Added = true
-is_kept append.Same = true
-is_kept (append.OutOfOrder last) = false
-is_kept (append.Conflict kept) = false
+abbrev pub is_shown : Append → Bool
+is_shown append.Added = true
+is_shown append.Same = true
+is_shown (append.OutOfOrder last) = false
+is_shown (append.Conflict kept) = false
 
 -- the entries that were added, of those that are put
 abbrev pub admitted : List Entry → List Entry → List Entry
-admitted history entries = map (λ p. p.0) (filter (λ p. is_added p.1) (zip entries (answers history entries)))
+admitted history entries = map (λ p. p.0) (filter (λ p. is_added p.1) (zip entries (admissions history entries)))
 
 abbrev pub added_count : List Entry → List Entry → ℕ
-added_count history entries = count_by is_added (answers history entries)
+added_count history entries = count_by is_added (admissions history entries)
 
 abbrev pub refused_count : List Entry → List Entry → ℕ
-refused_count history entries = count_by (λ a. not (is_kept a)) (answers history entries)
+refused_count history entries = count_by (λ a. not (is_shown a)) (admissions history entries)
 
 -- the series of the samples without a time of their own that the history has then, and these in
 -- label order, each once: a scrape leaves them tracked
 abbrev pub is_tracked : Offer × Append → Bool
-is_tracked p = not p.0.is_timed && is_kept p.1
+is_tracked p = not p.0.is_timed && is_shown p.1
 
 abbrev pub kept_sets : List Entry → List Offer → List (List Pair)
-kept_sets history offered = map (λ p. p.0.entry.labels) (filter is_tracked (zip offered (answers history (entries_in offered))))
+kept_sets history offered = map (λ p. p.0.entry.labels) (filter is_tracked (zip offered (admissions history (offered_entries offered))))
 
 abbrev pub tracked_after : List Entry → List Offer → List (List Pair)
 tracked_after history offered = fold with_labels [] (kept_sets history offered)
@@ -125,7 +125,7 @@ tracked_after history offered = fold with_labels [] (kept_sets history offered)
 -- how many samples are dropped: those that are not offered, and those that are refused
 abbrev pub dropped_count : List Pair → ℕ → List Line → List Entry → ℕ
 dropped_count target now lines history =
-    count_by (λ line. is_none (offer_of target now line)) lines + refused_count history (entries_in (offers target now lines))
+    count_by (λ line. is_none (offer_of target now line)) lines + refused_count history (offered_entries (offers target now lines))
 
 -- Markers, and what is said of the target
 
@@ -143,15 +143,15 @@ metric_of target name = set_label target metric_label name
 abbrev pub up_of : List Pair → List Pair
 up_of target = metric_of target (codes "up")
 
-abbrev pub samples_of : List Pair → List Pair
-samples_of target = metric_of target (codes "scrape_samples_scraped")
+abbrev pub sample_count_of : List Pair → List Pair
+sample_count_of target = metric_of target (codes "scrape_samples_scraped")
 
 abbrev pub reported : List Pair → ℕ → ℕ → Entry
 reported labels now n = record { labels = labels; time = now; point = Value (whole_of (pos n)) }
 
 -- whether the target answered, and with how many samples
 abbrev pub about : List Pair → ℕ → ℕ → ℕ → List Entry
-about target now up samples = reported (up_of target) now up ∷ reported (samples_of target) now samples ∷ []
+about target now up samples = reported (up_of target) now up ∷ reported (sample_count_of target) now samples ∷ []
 
 -- Scrapes
 
@@ -163,22 +163,22 @@ pub record Scrape : Type 0 where
   pub answer : Scraped
 
 -- the samples of a body come first, then the markers, then what is said of the target
-abbrev pub entries_after : List Pair → ℕ → List (List Pair) → List Line → List Entry → List Entry
-entries_after target now old lines history =
-    entries_in (offers target now lines)
+abbrev pub scrape_entries : List Pair → ℕ → List (List Pair) → List Line → List Entry → List Entry
+scrape_entries target now old lines history =
+    offered_entries (offers target now lines)
     ++ (markers now old (tracked_after history (offers target now lines)) ++ about target now 1 (length lines))
 
 -- a scrape whose body has these samples
 abbrev pub scraped : List Pair → ℕ → List (List Pair) → List Line → List Entry → Scrape
 scraped target now old lines history = record {
-  entries = entries_after target now old lines history;
+  entries = scrape_entries target now old lines history;
   tracked = tracked_after history (offers target now lines);
   answer = record {
-    admitted = admitted history (entries_after target now old lines history);
+    admitted = admitted history (scrape_entries target now old lines history);
     fault = None;
-    added = added_count history (entries_in (offers target now lines));
+    added = added_count history (offered_entries (offers target now lines));
     dropped = dropped_count target now lines history;
-    stale = added_count (put_all history (entries_in (offers target now lines))) (markers now old (tracked_after history (offers target now lines)));
+    stale = added_count (put_all history (offered_entries (offers target now lines))) (markers now old (tracked_after history (offers target now lines)));
   };
 }
 
@@ -212,7 +212,7 @@ scrape_of target now old None history = failed target now old None history
 
 -- The end of a target: all that was tracked goes stale, and what was said of the target.
 abbrev pub end_entries : List Pair → ℕ → List (List Pair) → List Entry
-end_entries target now old = map (marker now) (old ++ up_of target ∷ samples_of target ∷ [])
+end_entries target now old = map (marker now) (old ++ up_of target ∷ sample_count_of target ∷ [])
 
 unfoldable pub gone_of : List Pair → ℕ → List (List Pair) → List Entry → Scrape
 gone_of target now old history = record {

@@ -38,24 +38,24 @@ pub record TargetStep : Type 0 where
   pub answer : Scraped
 
 -- A scrape makes a target known, also one that failed.
-abbrev pub known_by : List Target → List Pair → Scrape → TargetStep
-known_by targets target s = record { targets = with_tracked targets target s.tracked; entries = s.entries; answer = s.answer }
+abbrev pub scraped_target : List Target → List Pair → Scrape → TargetStep
+scraped_target targets target s = record { targets = with_tracked targets target s.tracked; entries = s.entries; answer = s.answer }
 
 abbrev pub scrape_step : List Target → List Entry → List Pair → ℕ → List ℕ → TargetStep
-scrape_step targets history target now body = known_by targets target (scrape_of target now (tracked_of targets target) (Some body) history)
+scrape_step targets history target now body = scraped_target targets target (scrape_of target now (tracked_of targets target) (Some body) history)
 
 abbrev pub fail_step : List Target → List Entry → List Pair → ℕ → TargetStep
-fail_step targets history target now = known_by targets target (scrape_of target now (tracked_of targets target) None history)
+fail_step targets history target now = scraped_target targets target (scrape_of target now (tracked_of targets target) None history)
 
 -- The end of a target makes it unknown. That of an unknown one is nothing.
 abbrev pub forgotten_by : List Target → List Pair → Scrape → TargetStep
 forgotten_by targets target s = record { targets = without_target targets target; entries = s.entries; answer = s.answer }
 
-abbrev pub nothing : Scraped
-nothing = record { admitted = []; fault = None; added = 0; dropped = 0; stale = 0 }
+abbrev pub nothing_scraped : Scraped
+nothing_scraped = record { admitted = []; fault = None; added = 0; dropped = 0; stale = 0 }
 
 abbrev pub gone_by : Option (List (List Pair)) → List Target → List Entry → List Pair → ℕ → TargetStep
-gone_by None targets history target now = record { targets = targets; entries = []; answer = nothing }
+gone_by None targets history target now = record { targets = targets; entries = []; answer = nothing_scraped }
 gone_by (Some tracked) targets history target now = forgotten_by targets target (gone_of target now tracked history)
 
 abbrev pub gone_step : List Target → List Entry → List Pair → ℕ → TargetStep

@@ -13,6 +13,7 @@ ghost use Rattle.pr_parse.specs.Parsed.{gives_tree, gives_lex_fault, gives_fault
 ghost use Rattle.pr_query.specs.declared.fault.FaultKind.TheVariants.{TooWide};
 ghost use Rattle.pr_query.specs.Examples.{whole as whole_number};
 ghost use Rattle.pr_types.specs.declared.kind.TypeKind.TheVariants.{NotInstant};
+ghost use Rattle.pr_kinds.specs.declared.kind.QueryKind.TheVariants.{Lex, Parse, Typing};
 ghost use Rattle.pr_world.specs.World.{World, start};
 ghost use Rattle.pr_world.specs.Settings.{of_a_run};
 ghost use Rattle.pr_world.specs.Outcome.{refuse, accept};
@@ -20,7 +21,6 @@ ghost use Rattle.pr_world.specs.Query.{parsed_outcome};
 ghost use Rattle.pr_world.specs.Step.{next, step_by, world_after, rows_of, outcome};
 ghost use Rattle.pr_world.specs.declared.event.Event.TheVariants.{Add, Query};
 ghost use Rattle.pr_world.specs.declared.report.Report.TheVariants.{Added, Same, Conflict, Scalar, Vector, QueryFault, QueryRefused, Backwards};
-ghost use Rattle.pr_world.specs.declared.report.QueryKind.TheVariants.{Lex, Parse, Typing};
 
 /// A sample adds its entry where it is admitted, and nothing where it is the same or in conflict.
 pub fn a_sample_adds_its_entry()

@@ -8,7 +8,7 @@ ghost use Rattle.pr_world.specs.Step.{is_about_target, next, time_of, world_afte
 ghost use Rattle.pr_world.specs.World.{World};
 
 /// A refused event changes nothing and keeps no row. An accepted one becomes the last, and what it
-/// keeps comes behind the history. A question keeps no row. An event that is about no target leaves
+/// keeps comes behind the history. A query keeps no row. An event that is about no target leaves
 /// the targets.
 pub fn a_step_appends_or_changes_nothing()
     ensures refused { (s : Settings) (w : World) (e : Event) → (next s w e).refused ≡ true

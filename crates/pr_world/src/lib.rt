@@ -16,7 +16,8 @@ pub use examples::{
     an_event_before_the_last_is_refused, an_expression_is_answered_by_its_meaning,
 };
 pub use laws::{a_history_is_its_rows, a_step_appends_or_changes_nothing};
-pub use report::{QueryKind, Report};
+pub use pr_kinds::QueryKind;
+pub use report::Report;
 pub use scrape_examples::{
     a_bad_body_leaves_nothing, a_label_of_the_target_is_renamed, a_refused_sample_is_dropped,
     a_scrape_adds_its_samples, a_series_that_is_no_longer_offered_is_marked, a_target_ends,

@@ -1,23 +1,10 @@
 use pr_expo::ExpoKind;
+use pr_kinds::QueryKind;
 use pr_labels::Item;
-use pr_lex::LexKind;
 use pr_num::{Num, Point};
-use pr_parse::ParseKind;
 use pr_query::FaultKind;
 use pr_time::Ms;
-use pr_types::TypeKind;
 use pr_words::Items;
-
-/// Why a text is no expression that can be asked for.
-#[derive(Clone, Copy, PartialEq, Eq, Debug)]
-pub enum QueryKind {
-    /// It has no tokens.
-    Lex { kind: LexKind },
-    /// Its tokens have no tree.
-    Parse { kind: ParseKind },
-    /// Its tree has no type.
-    Typing { kind: TypeKind },
-}
 
 /// What is answered.
 #[derive(Debug, Drop)]

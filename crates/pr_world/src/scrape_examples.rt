@@ -7,7 +7,7 @@ ghost use Rattle.pr_history.specs.Lookback.{value_at};
 ghost use Rattle.pr_num.specs.declared.value.Point.TheVariants.{Stale};
 ghost use Rattle.pr_expo_line.specs.declared.place.ExpoKind.TheVariants.{BadLabels};
 ghost use Rattle.pr_world.specs.Scrapes.{failed, free_name, gone_of, marker, renamed, scrape_of, scraped, scraped_labels};
-ghost use Rattle.pr_world.specs.Targets.{fail_step, gone_step, nothing};
+ghost use Rattle.pr_world.specs.Targets.{fail_step, gone_step, nothing_scraped};
 ghost use Rattle.pr_world.specs.ScrapeExamples.{after_first, after_second, both, fewer, first, j, label, of_j, sample, second, third, timed, two, wide};
 
 /// A label that the target has too stands under another name: with `exported_` before it as often
@@ -98,7 +98,7 @@ pub fn entries_stand_in_this_order()
 /// end marks what was said of it.
 #[tactic(auto, unfolding(crate::specs::Scrapes::scrape_of, crate::specs::Scrapes::gone_of))]
 pub fn a_target_ends()
-    ensures unknown { gone_step [] [] j 0 ≡ record { targets = []; entries = []; answer = nothing } }
+    ensures unknown { gone_step [] [] j 0 ≡ record { targets = []; entries = []; answer = nothing_scraped } }
     ensures failed { (fail_step [] [] j 0).answer.stale ≡ 0 }
     ensures known { (fail_step [] [] j 0).targets ≡ (record { labels = j; tracked = [] }) ∷ [] }
     ensures marked { (gone_step (fail_step [] [] j 0).targets (put_all [] (fail_step [] [] j 0).entries) j 1000).answer.stale ≡ 2 }

@@ -8,10 +8,10 @@ ghost use Rattle.pr_expo_line.specs.declared.place.ExpoKind.TheVariants.{BadLabe
 ghost use Rattle.pr_world.specs.World.{start};
 ghost use Rattle.pr_world.specs.Settings.{of_a_run};
 ghost use Rattle.pr_world.specs.Outcome.{accept_target};
-ghost use Rattle.pr_world.specs.Scrapes.{reported, samples_of, up_of};
+ghost use Rattle.pr_world.specs.Scrapes.{reported, sample_count_of, up_of};
 ghost use Rattle.pr_world.specs.ScrapeExamples.{after_first, first, j, label, of_g, of_j, second, third};
 ghost use Rattle.pr_world.specs.Step.{next, outcome, scrape_outcome};
-ghost use Rattle.pr_world.specs.Targets.{fail_step, known_by};
+ghost use Rattle.pr_world.specs.Targets.{fail_step, scraped_target};
 ghost use Rattle.pr_world.specs.declared.event.Event.TheVariants.{Fail, Gone};
 ghost use Rattle.pr_world.specs.declared.report.Report.TheVariants as report;
 
@@ -19,11 +19,11 @@ ghost use Rattle.pr_world.specs.declared.report.Report.TheVariants as report;
 /// make the target known and add what is admitted. So is a target that does not answer.
 #[tactic(auto, unfolding(crate::specs::Scrapes::scrape_of))]
 pub fn a_scrape_answers_by_its_counts()
-    ensures scraped { scrape_outcome (known_by [] j first) ≡ accept_target (report.Scraped 2 0 0) after_first (record { labels = j; tracked = of_j (codes "m") ∷ of_j (codes "n") ∷ [] } ∷ []) }
-    ensures bad { scrape_outcome (known_by (record { labels = j; tracked = first.tracked } ∷ []) j second) ≡ accept_target (report.BadScrape 2 BadLabels 2) second.answer.admitted (record { labels = j; tracked = [] } ∷ []) }
-    ensures again { scrape_outcome (known_by (record { labels = j; tracked = [] } ∷ []) j third) ≡ accept_target (report.Scraped 2 0 0) third.answer.admitted (record { labels = j; tracked = of_j (codes "m") ∷ of_j (codes "n") ∷ [] } ∷ []) }
+    ensures scraped { scrape_outcome (scraped_target [] j first) ≡ accept_target (report.Scraped 2 0 0) after_first (record { labels = j; tracked = of_j (codes "m") ∷ of_j (codes "n") ∷ [] } ∷ []) }
+    ensures bad { scrape_outcome (scraped_target (record { labels = j; tracked = first.tracked } ∷ []) j second) ≡ accept_target (report.BadScrape 2 BadLabels 2) second.answer.admitted (record { labels = j; tracked = [] } ∷ []) }
+    ensures again { scrape_outcome (scraped_target (record { labels = j; tracked = [] } ∷ []) j third) ≡ accept_target (report.Scraped 2 0 0) third.answer.admitted (record { labels = j; tracked = of_j (codes "m") ∷ of_j (codes "n") ∷ [] } ∷ []) }
     ensures failed { outcome of_a_run (start []) (Fail 0 (label (codes "a"))) ≡ accept_target (report.Failed 0)
-        (reported (up_of (label (codes "a"))) 0 0 ∷ reported (samples_of (label (codes "a"))) 0 0 ∷ []) (record { labels = label (codes "a"); tracked = [] } ∷ []) }
+        (reported (up_of (label (codes "a"))) 0 0 ∷ reported (sample_count_of (label (codes "a"))) 0 0 ∷ []) (record { labels = label (codes "a"); tracked = [] } ∷ []) }
 {}
 
 /// After a scrape that failed nothing is tracked of a target, and all that was is stale.

@@ -8,10 +8,10 @@ use Rattle.std.specs.Cmp.Lexicographic.{slice_cmp, texts_ties}
 use Rattle.std.specs.Ordering.{nat_cmp, is_eq}
 use Rattle.std.specs.declared.cmp.Ordering.{Ordering}
 use Rattle.std.specs.Str.{bytes_eq}
-use Rattle.pr_words.specs.Names.{is_among}
+use Rattle.pr_words.specs.Names.{is_among, knows}
 use Rattle.pr_yaml.specs.declared.node.Entry.{Entry}
 use Rattle.pr_yaml.specs.Tree.{EntryTree, entry_tree_of}
-use Rattle.pr_yaml.specs.Reader.{knows, keys_of, keys_in}
+use Rattle.pr_yaml.specs.Reader.{keys_of, keys_in}
 
 abbrev key_cmp : Bor (List ℕ) → Bor (List ℕ) → Ordering
 key_cmp x y = slice_cmp nat_cmp x.now y.now

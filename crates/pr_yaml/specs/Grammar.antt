@@ -222,13 +222,17 @@ abbrev pub is_in_map : Letter → Bool
 is_in_map (map_close line column) = false
 is_in_map t = true
 
--- The productions, where a node has room for itself and the column of a map or a list is that of
--- its first token: whole            = [ node(0) ] node(c)          = text | flow | map(k) | list(k)
--- at a column k of at least c map(k)           = entry { entry }                         no key of
--- it twice entry            = key at k [ node(k + 1) | list(k) ] list(k)          = item { item }
--- item             = dash at k [ node(k + 1) ] flow             = "[" [ value { "," value } [","] ]
--- "]" | "{" [ pair { "," pair } [","] ] "}" value            = text | flow pair             = key [
--- value ]                           no key of its map twice
+-- The productions, where a node has room for itself, and the column of a map or a list is that of
+-- its first token:
+--   whole   = [ node(0) ]
+--   node(c) = text | flow | map(k) | list(k)          at a column k of at least c
+--   map(k)  = entry { entry }                         no key of it twice
+--   entry   = key at k [ node(k + 1) | list(k) ]
+--   list(k) = item { item }
+--   item    = dash at k [ node(k + 1) ]
+--   flow    = "[" [ value { "," value } [","] ] "]" | "{" [ pair { "," pair } [","] ] "}"
+--   value   = text | flow
+--   pair    = key [ value ]                           no key of its map twice
 abbrev pub production : Bool → Rule → Form Letter Rule Value
 production distinct (Whole room) = either (rule (Node 0 room)) (nothing absent)
 production distinct (Node column room) = chosen (node_from column room) (is_within column)

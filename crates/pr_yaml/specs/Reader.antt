@@ -1,9 +1,5 @@
 -- What the functions of the reader say of themselves: no rule of the format.
 use Rattle.std.specs.Prelude.{◌≡◌, ℕ, ◌≤◌, ◌++◌, length, Bool, false, Option, Some, None, List, ◌∷◌, map}
-use Rattle.std.specs.BTreeSet.{BTreeSet, contains_by}
-use Rattle.std.specs.Borrow.{Bor}
-use Rattle.std.specs.Cmp.Lexicographic.{slice_cmp}
-use Rattle.std.specs.Ordering.{nat_cmp}
 use Rattle.pr_forms.specs.Form.{Form, nothing, either, rule}
 use Rattle.pr_forms.specs.Run.{good}
 use Rattle.pr_forms.specs.Carries.{ChoosesNone}
@@ -25,15 +21,12 @@ rule_of inner (ListStart line column) = Items line column inner
 rule_of inner FlowList = FlowListRule inner
 rule_of inner FlowMap = FlowMapRule inner
 
--- the keys of entries, and whether a set has a key
+-- the keys of entries
 abbrev pub keys_of : List EntryTree → List (List ℕ)
 keys_of = map (λ e. e.key)
 
 abbrev pub keys_in : List Entry → List (List ℕ)
 keys_in es = keys_of (map entry_tree_of es)
-
-abbrev pub knows : BTreeSet (Bor (List ℕ)) → List ℕ → Bool
-knows names name = contains_by (λ n. slice_cmp nat_cmp name n.now) names
 
 -- the token, where it is a key
 abbrev pub key_among : Letter → Option Letter

@@ -1,8 +1,8 @@
 // The entries of a map that a reader has found.
 ghost use Rattle.std.specs.Prelude.{◌≡◌, ◌++◌, ◌∷◌, [], ℕ, List, IfOk, map};
-ghost use Rattle.pr_words.specs.Names.{is_among};
+ghost use Rattle.pr_words.specs.Names.{is_among, knows};
 ghost use Rattle.pr_yaml.specs.Tree.{tree_of, entry_tree_of};
-ghost use Rattle.pr_yaml.specs.Reader.{knows, keys_in};
+ghost use Rattle.pr_yaml.specs.Reader.{keys_in};
 
 use crate::node::{Entry, Node};
 use pr_words::Text;

@@ -10,12 +10,13 @@ use Rattle.std.proofs.lemmas.List.{length-reverse, reverse-append, reverse-rever
 use Rattle.std.proofs.lemmas.Str.{IsUtf8-append, IsUtf8-encode, IsUtf8-nil}
 use Rattle.pr_strings.specs.Strings.{fits}
 use Rattle.pr_strings.proofs.StringUtf8.{before_byte, byte_text}
-use Rattle.pr_words.specs.Fields.{is_blank, is_field_byte, without_trailing}
+use Rattle.pr_words.specs.Fields.{is_field_byte, without_trailing}
+use Rattle.pr_words.specs.Bytes.{is_blank}
 use Rattle.pr_yaml_scan.specs.Bytes.{no_text, has_no_text, is_bare, is_space, spaces_len, blanks_len, ends_word, is_flow_sign}
 use Rattle.pr_yaml_scan.specs.Lines.{Place, line_start, feeds, folded_break}
 use Rattle.pr_yaml_scan.specs.Legible.{legible_part, IsLegible, AreLegible, IsLegiblePlace, HasUtf8}
 use Rattle.pr_yaml_scan.specs.Plain.{stops, plain_len, plain_part, plain_ending, ending_of, goes_on, indented, after_part, by_ending, plain_below}
-use Rattle.pr_yaml_scan.specs.Quoted.{quote_byte, is_backslash, named_byte, digits_after, digit_value, letter_step, number_step, digit_step, doubles, byte_step, on_step, after_bytes, quoted_line, quoted_break, cut_fault, by_line, quoted_below}
+use Rattle.pr_yaml_scan.specs.Quoted.{quote_byte, is_backslash, named_byte, digits_after, hex_digit, letter_step, number_step, digit_step, doubles, byte_step, on_step, after_bytes, quoted_line, quoted_break, cut_fault, by_line, quoted_below}
 use Rattle.pr_yaml_scan.specs.Block.{belongs, row_of, row_break, begins_with_blank, earlier_of, chomped, last_feeds, by_row, block_lines}
 use Rattle.pr_yaml_scan.specs.declared.scalar.Scalar.{Scalar}
 use Rattle.pr_yaml_scan.specs.declared.scalar.Scalar.TheVariants.{Found, Broken}
@@ -147,8 +148,8 @@ digits_small b n e = chain (b == 120) (b == 117) (b == 85) 2 4 8 (λ h. equal_sm
   chain false false true p q r f g h e = h refl
   chain false false false p q r f g h e = absurd cc
 
-digit_small : (b d : ℕ) → digit_value b ≡ Some d → b < 128
-unfolding digit_value
+digit_small : (b d : ℕ) → hex_digit b ≡ Some d → b < 128
+unfolding hex_digit
 digit_small b d e = grind (arith, nat_tests)
 
 scalar_of : (n : ℕ) → InScalarRange n → IsScalar n
@@ -176,7 +177,7 @@ module _ (t rest : List ℕ) (b : ℕ) where
   letter_advances None (Some n) e f u v = (u, onward [] rest b (digits_small b n f) v)
   letter_advances None None e f u v = tt
 
-  digit_advances : (digit : Option ℕ) (left n : ℕ) → digit_value b ≡ digit → IsUtf8 t → IsLegible (b ∷ rest) → Advances t b rest (digit_step b digit left n)
+  digit_advances : (digit : Option ℕ) (left n : ℕ) → hex_digit b ≡ digit → IsUtf8 t → IsLegible (b ∷ rest) → Advances t b rest (digit_step b digit left n)
   unfolding number_step
   digit_advances None left n e u v = tt
   digit_advances (Some d) left n e u v =
@@ -194,7 +195,7 @@ module _ (t rest : List ℕ) (b : ℕ) where
   step_advances q InText u = text_advances q u
   step_advances q AtQuote u = step_of t b rest (doubles q b) (Byte b) QuoteOver (λ e. kept u.0 (doubles_small q b e) (onward [] rest b (doubles_small q b e) u.1)) (λ _. u)
   step_advances q InEscape u = letter_advances (named_byte b) (digits_after b) refl refl u.0 u.1
-  step_advances q (InDigits left n) u = digit_advances (digit_value b) left n refl u.0 u.1
+  step_advances q (InDigits left n) u = digit_advances (hex_digit b) left n refl u.0 u.1
 
 -- what a line has
 abbrev pub IsSoundLine : List ℕ → List ℕ → QuotedLine → Type 0

@@ -3,7 +3,7 @@
 #![tactic(auto)]
 
 use pr_outside::{DiskFiles, StdSink, StdSource, SureKeeper};
-use pr_process::{exit_of, words_of};
+use pr_status::{exit_of, words_of};
 use pr_top::{Status, promtool};
 use std::alloc::Global;
 use std::process::ExitCode;

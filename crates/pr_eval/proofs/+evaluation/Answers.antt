@@ -9,7 +9,7 @@ use Rattle.pr_types.specs.Numbers.{ranges_in}
 use Rattle.pr_vectors.specs.declared.range.RangeFn.TheVariants.{PredictLinear as Predict, PresentOverTime}
 use Rattle.pr_query.specs.declared.value.Value.{Value}
 use Rattle.pr_query.specs.Aggregations.{summed_up}
-use Rattle.pr_query.specs.Calls.{called}
+use Rattle.pr_query.specs.Calls.{value_of_call}
 use Rattle.pr_query.specs.Meaning.{given, meaning, operands, ranges, ranges as series_meant}
 use Rattle.pr_query.specs.Operations.{negated_value, operated}
 use Rattle.pr_query.specs.Answers.{go_on, fault}
@@ -18,7 +18,7 @@ use Rattle.pr_values.specs.declared.error.EvalError.TheVariants as error
 use Rattle.pr_values.specs.Answers.{AnswersTo}
 use Rattle.pr_values.specs.Plain.{all_plain}
 use Rattle.pr_eval.specs.Asking.{asked_for}
-use Rattle.pr_eval.specs.Evaluated.{IsTaken, MayTake, kept_by}
+use Rattle.pr_eval.specs.Evaluated.{IsEvaluated, MayTake, kept_by}
 use Rattle.pr_eval.specs.Parts.{counts_after}
 use Rattle.pr_eval.specs.Ranged.{call_in, made_of, prediction_by, quantile_by, use_alone, AreSeries}
 use Rattle.pr_eval.proofs.Answering.{both_give, ends, ends_right, gives}
@@ -469,8 +469,8 @@ call::plain_call-returns-in-Ok-clause-answer g t c = λ history func may.
     let Fits' = g.R.Ranges.fits c.operands.new.ranges history in
     let args_may = part_may g.R.Ranges.keeps scope.inside scope.step history func now ts (own_patterns f ts) (λ h. asked_for f) c.is_call.ensures.one n scope.time scope.head.now before Fits may in
     subst (λ u. AnswersTo (meaning scope.step history u scope.time) c.called_with.result) (sym c.is_call.ensures.tree)
-    (call_gives (called history c.args.e.now.place f ts scope.time) (operands scope.step history ts scope.time) c.operands.new.given.items c.called_with.result (c.in-Ok.ensures.answer history (asked_for f) args_may)
-    (subst (λ vs. AnswersTo (called history c.args.e.now.place f ts scope.time (all_plain vs)) c.called_with.result) c.deref.ensures.value (c.called_with.ensures.answer history)))
+    (call_gives (value_of_call history c.args.e.now.place f ts scope.time) (operands scope.step history ts scope.time) c.operands.new.given.items c.called_with.result (c.in-Ok.ensures.answer history (asked_for f) args_may)
+    (subst (λ vs. AnswersTo (value_of_call history c.args.e.now.place f ts scope.time (all_plain vs)) c.called_with.result) c.deref.ensures.value (c.called_with.ensures.answer history)))
 
 pub call::plain_call-returns-in-Ok-clause-taken : goal.call::plain_call-returns-in-Ok-clause-taken
 call::plain_call-returns-in-Ok-clause-taken g t c = λ history func may.
@@ -500,7 +500,7 @@ call::plain_call-returns-clause-answer g t c = λ history func may.
     let Fits' = g.R.Ranges.fits c.operands.new.ranges history in
     let args_may = part_may g.R.Ranges.keeps scope.inside scope.step history func now ts (own_patterns f ts) (λ h. asked_for f) c.is_call.ensures.one n scope.time scope.head.now before Fits may in
     subst (λ u. AnswersTo (meaning scope.step history u scope.time) (Err c.in-Err.error)) (sym c.is_call.ensures.tree)
-    (call_ends (called history c.args.e.now.place f ts scope.time) (operands scope.step history ts scope.time) c.operands.new.given.items c.in-Err.error (c.in-Err.ensures.answer history (asked_for f) args_may))
+    (call_ends (value_of_call history c.args.e.now.place f ts scope.time) (operands scope.step history ts scope.time) c.operands.new.given.items c.in-Err.error (c.in-Err.ensures.answer history (asked_for f) args_may))
 
 pub call::plain_call-returns-clause-taken : goal.call::plain_call-returns-clause-taken
 call::plain_call-returns-clause-taken g t c = λ history func may.
@@ -747,7 +747,7 @@ call::operands-returns-in_err-push_value-in-Ok-clause-taken g t c =
     let arg_may = second_may g.R.Ranges.keeps scope.inside scope.step history func more_first first (tree_of e) two n.ranges m.ranges scope.time is scope.head.now before between Fits Fits1 c.args.reads.now c.loop-arg.reads tt front (c.loop-arg.invariant.taken history func may) in
     let memory : Result (Unit {0}) EvalError = Err error.Memory in
     let failed : c.from_residual.result ≡ memory = out_of_memory c.from_residual.result c.from_residual.ensures.0 c.from_residual.ensures.1 in
-    subst (λ r. IsTaken g.R.Ranges.keeps scope.inside scope.step history func (trees_of es) scope.time n.ranges before after Fits2 c.args.reads.now c.eval_at.new.reads r) (sym failed)
+    subst (λ r. IsEvaluated g.R.Ranges.keeps scope.inside scope.step history func (trees_of es) scope.time n.ranges before after Fits2 c.args.reads.now c.eval_at.new.reads r) (sym failed)
     (args_taken {A = Unit {0}} g.R.Ranges.keeps scope.inside scope.step history func (i + 1) es scope.time n.ranges before after Fits2 c.args.reads.now c.eval_at.new.reads error.Memory
     (two_taken_as g.R.Ranges.keeps scope.inside scope.step history func more_first first (tree_of e) two n.ranges m.ranges scope.time is before between after Fits1 Fits2 c.args.reads.now c.loop-arg.reads c.eval_at.new.reads tt c.in-Ok.value (Err error.Memory)
     (c.loop-arg.invariant.taken history func may) (c.in-Ok.ensures.taken history func arg_may)))
@@ -770,7 +770,7 @@ call::operands-returns-clause-taken g t c = λ history func may.
     let before = kept_by (g.R.Ranges.last c.args.ranges.now) (g.R.Ranges.passed c.args.ranges.now) in
     let after = kept_by (g.R.Ranges.last c.loop-arg.ranges) (g.R.Ranges.passed c.loop-arg.ranges) in
     let done : Result (Unit {0}) EvalError = Ok tt in
-    subst (λ ts. IsTaken g.R.Ranges.keeps scope.inside scope.step history func ts scope.time c.args.number.now.ranges before after (g.R.Ranges.fits c.loop-arg.ranges history) c.args.reads.now c.loop-arg.reads done) all
+    subst (λ ts. IsEvaluated g.R.Ranges.keeps scope.inside scope.step history func ts scope.time c.args.number.now.ranges before after (g.R.Ranges.fits c.loop-arg.ranges history) c.args.reads.now c.loop-arg.reads done) all
     (c.loop-arg.invariant.taken history func may)
 
 pub evaluate::eval_at-unreachable-requires : goal.evaluate::eval_at-unreachable-requires
@@ -797,7 +797,7 @@ range_call::prediction-returns-in-Ok-clause-answer g t c = λ history may.
     let behind = n + ranges_in left in
     let left_meant = ranges scope.step history left scope.time in
     let right_meant = meaning scope.step history right scope.time in
-    let meant = ap (λ u. go_on (called history c.args.place PredictLinear u scope.time) (operands scope.step history u scope.time)) c.are_pair.ensures.args ∙ call_before scope.step history c.args.place left right scope.time c.requires.typed (scalar_valued right c.requires.scalar) in
+    let meant = ap (λ u. go_on (value_of_call history c.args.place PredictLinear u scope.time) (operands scope.step history u scope.time)) c.are_pair.ensures.args ∙ call_before scope.step history c.args.place left right scope.time c.requires.typed (scalar_valued right c.requires.scalar) in
     let m = c.behind_range.result.ranges in
     let is : m ≡ behind = ap (λ (k : Counts). k.ranges) c.behind_range.ensures in
     let right_may = second_may_begin g.R.Ranges.keeps scope.inside scope.step history Predict now left right two n m scope.time is scope.head.now before Fits may in
@@ -824,7 +824,7 @@ range_call::prediction-returns-in-Ok-clause-taken g t c = λ history may.
     let behind = n + ranges_in left in
     let left_meant = ranges scope.step history left scope.time in
     let right_meant = meaning scope.step history right scope.time in
-    let meant = ap (λ u. go_on (called history c.args.place PredictLinear u scope.time) (operands scope.step history u scope.time)) c.are_pair.ensures.args ∙ call_before scope.step history c.args.place left right scope.time c.requires.typed (scalar_valued right c.requires.scalar) in
+    let meant = ap (λ u. go_on (value_of_call history c.args.place PredictLinear u scope.time) (operands scope.step history u scope.time)) c.are_pair.ensures.args ∙ call_before scope.step history c.args.place left right scope.time c.requires.typed (scalar_valued right c.requires.scalar) in
     let m = c.behind_range.result.ranges in
     let is : m ≡ behind = ap (λ (k : Counts). k.ranges) c.behind_range.ensures in
     let right_may = second_may_begin g.R.Ranges.keeps scope.inside scope.step history Predict now left right two n m scope.time is scope.head.now before Fits may in
@@ -835,7 +835,7 @@ range_call::prediction-returns-in-Ok-clause-taken g t c = λ history may.
     let last = kept_by (g.R.Ranges.last c.over_selected.new.ranges) (g.R.Ranges.passed c.over_selected.new.ranges) in
     let Fits2 = g.R.Ranges.fits c.over_selected.new.ranges history in
     turned_taken g.R.Ranges.keeps scope.inside scope.step history Predict now left right two n m scope.time is before between last Fits1 Fits2 c.args.reads.now c.eval_at.new.reads c.over_selected.new.reads c.in-Ok.value c.over_selected.result second
-    (subst (λ u. IsTaken g.R.Ranges.keeps scope.inside scope.step history (call_in u).func left scope.time n between last Fits2 c.eval_at.new.reads c.over_selected.new.reads c.over_selected.result) c.prediction_by-made.ensures
+    (subst (λ u. IsEvaluated g.R.Ranges.keeps scope.inside scope.step history (call_in u).func left scope.time n between last Fits2 c.eval_at.new.reads c.over_selected.new.reads c.over_selected.result) c.prediction_by-made.ensures
     (c.over_selected.ensures.taken history (subst (λ u. MayTake scope.head.now scope.inside history (call_in u).func left scope.time n Fits1 between.last) (sym c.prediction_by-made.ensures) left_may)))
 
 pub range_call::prediction-returns-in-Err-clause-answer : goal.range_call::prediction-returns-in-Err-clause-answer
@@ -851,7 +851,7 @@ range_call::prediction-returns-in-Err-clause-answer g t c = λ history may.
     let behind = n + ranges_in left in
     let left_meant = ranges scope.step history left scope.time in
     let right_meant = meaning scope.step history right scope.time in
-    let meant = ap (λ u. go_on (called history c.args.place PredictLinear u scope.time) (operands scope.step history u scope.time)) c.are_pair.ensures.args ∙ call_before scope.step history c.args.place left right scope.time c.requires.typed (scalar_valued right c.requires.scalar) in
+    let meant = ap (λ u. go_on (value_of_call history c.args.place PredictLinear u scope.time) (operands scope.step history u scope.time)) c.are_pair.ensures.args ∙ call_before scope.step history c.args.place left right scope.time c.requires.typed (scalar_valued right c.requires.scalar) in
     let m = c.behind_range.result.ranges in
     let is : m ≡ behind = ap (λ (k : Counts). k.ranges) c.behind_range.ensures in
     let right_may = second_may_begin g.R.Ranges.keeps scope.inside scope.step history Predict now left right two n m scope.time is scope.head.now before Fits may in
@@ -874,7 +874,7 @@ range_call::prediction-returns-in-Err-clause-taken g t c = λ history may.
     let behind = n + ranges_in left in
     let left_meant = ranges scope.step history left scope.time in
     let right_meant = meaning scope.step history right scope.time in
-    let meant = ap (λ u. go_on (called history c.args.place PredictLinear u scope.time) (operands scope.step history u scope.time)) c.are_pair.ensures.args ∙ call_before scope.step history c.args.place left right scope.time c.requires.typed (scalar_valued right c.requires.scalar) in
+    let meant = ap (λ u. go_on (value_of_call history c.args.place PredictLinear u scope.time) (operands scope.step history u scope.time)) c.are_pair.ensures.args ∙ call_before scope.step history c.args.place left right scope.time c.requires.typed (scalar_valued right c.requires.scalar) in
     let m = c.behind_range.result.ranges in
     let is : m ≡ behind = ap (λ (k : Counts). k.ranges) c.behind_range.ensures in
     let right_may = second_may_begin g.R.Ranges.keeps scope.inside scope.step history Predict now left right two n m scope.time is scope.head.now before Fits may in
@@ -895,7 +895,7 @@ range_call::prediction-returns-in-Err-series_of-clause-answer g t c = λ history
     let behind = n + ranges_in left in
     let left_meant = ranges scope.step history left scope.time in
     let right_meant = meaning scope.step history right scope.time in
-    let meant = ap (λ u. go_on (called history c.args.place PredictLinear u scope.time) (operands scope.step history u scope.time)) c.are_pair.ensures.args ∙ call_before scope.step history c.args.place left right scope.time c.requires.typed (scalar_valued right c.requires.scalar) in
+    let meant = ap (λ u. go_on (value_of_call history c.args.place PredictLinear u scope.time) (operands scope.step history u scope.time)) c.are_pair.ensures.args ∙ call_before scope.step history c.args.place left right scope.time c.requires.typed (scalar_valued right c.requires.scalar) in
     let left_may = first_may g.R.Ranges.keeps scope.inside scope.step history Predict now left right two n behind scope.time refl scope.head.now before Fits may in
     let between = kept_by (g.R.Ranges.last c.series_of.new.ranges) (g.R.Ranges.passed c.series_of.new.ranges) in
     let Fits1 = g.R.Ranges.fits c.series_of.new.ranges history in
@@ -915,7 +915,7 @@ range_call::prediction-returns-in-Err-series_of-clause-taken g t c = λ history 
     let behind = n + ranges_in left in
     let left_meant = ranges scope.step history left scope.time in
     let right_meant = meaning scope.step history right scope.time in
-    let meant = ap (λ u. go_on (called history c.args.place PredictLinear u scope.time) (operands scope.step history u scope.time)) c.are_pair.ensures.args ∙ call_before scope.step history c.args.place left right scope.time c.requires.typed (scalar_valued right c.requires.scalar) in
+    let meant = ap (λ u. go_on (value_of_call history c.args.place PredictLinear u scope.time) (operands scope.step history u scope.time)) c.are_pair.ensures.args ∙ call_before scope.step history c.args.place left right scope.time c.requires.typed (scalar_valued right c.requires.scalar) in
     let left_may = first_may g.R.Ranges.keeps scope.inside scope.step history Predict now left right two n behind scope.time refl scope.head.now before Fits may in
     let between = kept_by (g.R.Ranges.last c.series_of.new.ranges) (g.R.Ranges.passed c.series_of.new.ranges) in
     let Fits1 = g.R.Ranges.fits c.series_of.new.ranges history in
@@ -934,7 +934,7 @@ range_call::prediction-returns-in-Err-eval_at-clause-answer g t c = λ history m
     let behind = n + ranges_in left in
     let left_meant = ranges scope.step history left scope.time in
     let right_meant = meaning scope.step history right scope.time in
-    let meant = ap (λ u. go_on (called history c.args.place PredictLinear u scope.time) (operands scope.step history u scope.time)) c.are_pair.ensures.args ∙ call_before scope.step history c.args.place left right scope.time c.requires.typed (scalar_valued right c.requires.scalar) in
+    let meant = ap (λ u. go_on (value_of_call history c.args.place PredictLinear u scope.time) (operands scope.step history u scope.time)) c.are_pair.ensures.args ∙ call_before scope.step history c.args.place left right scope.time c.requires.typed (scalar_valued right c.requires.scalar) in
     let left_may = first_may g.R.Ranges.keeps scope.inside scope.step history Predict now left right two n behind scope.time refl scope.head.now before Fits may in
     let between = kept_by (g.R.Ranges.last c.series_of.new.ranges) (g.R.Ranges.passed c.series_of.new.ranges) in
     let Fits1 = g.R.Ranges.fits c.series_of.new.ranges history in
@@ -962,7 +962,7 @@ range_call::prediction-returns-in-Err-eval_at-clause-taken g t c = λ history ma
     let behind = n + ranges_in left in
     let left_meant = ranges scope.step history left scope.time in
     let right_meant = meaning scope.step history right scope.time in
-    let meant = ap (λ u. go_on (called history c.args.place PredictLinear u scope.time) (operands scope.step history u scope.time)) c.are_pair.ensures.args ∙ call_before scope.step history c.args.place left right scope.time c.requires.typed (scalar_valued right c.requires.scalar) in
+    let meant = ap (λ u. go_on (value_of_call history c.args.place PredictLinear u scope.time) (operands scope.step history u scope.time)) c.are_pair.ensures.args ∙ call_before scope.step history c.args.place left right scope.time c.requires.typed (scalar_valued right c.requires.scalar) in
     let left_may = first_may g.R.Ranges.keeps scope.inside scope.step history Predict now left right two n behind scope.time refl scope.head.now before Fits may in
     let between = kept_by (g.R.Ranges.last c.series_of.new.ranges) (g.R.Ranges.passed c.series_of.new.ranges) in
     let Fits1 = g.R.Ranges.fits c.series_of.new.ranges history in
@@ -988,7 +988,7 @@ range_call::prediction-returns-in-Ok-eval_at-clause-answer g t c = λ history ma
     let behind = n + ranges_in left in
     let left_meant = ranges scope.step history left scope.time in
     let right_meant = meaning scope.step history right scope.time in
-    let meant = ap (λ u. go_on (called history c.args.place PredictLinear u scope.time) (operands scope.step history u scope.time)) c.are_pair.ensures.args ∙ call_before scope.step history c.args.place left right scope.time c.requires.typed (scalar_valued right c.requires.scalar) in
+    let meant = ap (λ u. go_on (value_of_call history c.args.place PredictLinear u scope.time) (operands scope.step history u scope.time)) c.are_pair.ensures.args ∙ call_before scope.step history c.args.place left right scope.time c.requires.typed (scalar_valued right c.requires.scalar) in
     let left_may = first_may g.R.Ranges.keeps scope.inside scope.step history Predict now left right two n behind scope.time refl scope.head.now before Fits may in
     let between = kept_by (g.R.Ranges.last c.series_of.new.ranges) (g.R.Ranges.passed c.series_of.new.ranges) in
     let Fits1 = g.R.Ranges.fits c.series_of.new.ranges history in
@@ -1016,7 +1016,7 @@ range_call::prediction-returns-in-Ok-eval_at-clause-taken g t c = λ history may
     let behind = n + ranges_in left in
     let left_meant = ranges scope.step history left scope.time in
     let right_meant = meaning scope.step history right scope.time in
-    let meant = ap (λ u. go_on (called history c.args.place PredictLinear u scope.time) (operands scope.step history u scope.time)) c.are_pair.ensures.args ∙ call_before scope.step history c.args.place left right scope.time c.requires.typed (scalar_valued right c.requires.scalar) in
+    let meant = ap (λ u. go_on (value_of_call history c.args.place PredictLinear u scope.time) (operands scope.step history u scope.time)) c.are_pair.ensures.args ∙ call_before scope.step history c.args.place left right scope.time c.requires.typed (scalar_valued right c.requires.scalar) in
     let left_may = first_may g.R.Ranges.keeps scope.inside scope.step history Predict now left right two n behind scope.time refl scope.head.now before Fits may in
     let between = kept_by (g.R.Ranges.last c.series_of.new.ranges) (g.R.Ranges.passed c.series_of.new.ranges) in
     let Fits1 = g.R.Ranges.fits c.series_of.new.ranges history in
@@ -1073,7 +1073,7 @@ range_call::range_call-returns-in_ok-made-in-Alone-clause-taken g t c = λ histo
     let Fits' = g.R.Ranges.fits c.over_range.new.ranges history in
     part_taken g.R.Ranges.keeps scope.inside scope.step history func now ts [] (λ h. asked_for f) c.is_range_call.ensures.one n scope.time before after Fits' c.args.reads.now c.over_range.new.reads c.over_range.result
     (part_taken g.R.Ranges.keeps scope.inside scope.step history (asked_for f) ts t [] (λ h. h) c.is_alone.ensures.one n scope.time before after Fits' c.args.reads.now c.over_range.new.reads c.over_range.result
-    (subst (λ q. IsTaken g.R.Ranges.keeps scope.inside scope.step history q t scope.time n before after Fits' c.args.reads.now c.over_range.new.reads c.over_range.result) func_is (c.over_range.ensures.taken history over_may)))
+    (subst (λ q. IsEvaluated g.R.Ranges.keeps scope.inside scope.step history q t scope.time n before after Fits' c.args.reads.now c.over_range.new.reads c.over_range.result) func_is (c.over_range.ensures.taken history over_may)))
 
 pub range_call::range_call-returns-in-Err-clause-answer : goal.range_call::range_call-returns-in-Err-clause-answer
 range_call::range_call-returns-in-Err-clause-answer g t c = λ history func may.
@@ -1183,7 +1183,7 @@ range_call::range_call-returns-in-Ok-clause-taken g t c = λ history func may.
     let Fits2 = g.R.Ranges.fits c.over_range-in-Ok.new.ranges history in
     part_taken g.R.Ranges.keeps scope.inside scope.step history func now ts [] (λ h. asked_for f) c.is_range_call.ensures.one n scope.time before last Fits2 c.args.reads.now c.over_range-in-Ok.new.reads c.over_range-in-Ok.result
     (two_taken g.R.Ranges.keeps scope.inside scope.step history (asked_for f) ts left t two n m scope.time is before between last Fits1 Fits2 c.args.reads.now c.eval_at.new.reads c.over_range-in-Ok.new.reads c.in-Ok.value c.over_range-in-Ok.result first
-    (subst (λ q. IsTaken g.R.Ranges.keeps scope.inside scope.step history q t scope.time m between last Fits2 c.eval_at.new.reads c.over_range-in-Ok.new.reads c.over_range-in-Ok.result) func_is (c.over_range-in-Ok.ensures.taken history over_may)))
+    (subst (λ q. IsEvaluated g.R.Ranges.keeps scope.inside scope.step history q t scope.time m between last Fits2 c.eval_at.new.reads c.over_range-in-Ok.new.reads c.over_range-in-Ok.result) func_is (c.over_range-in-Ok.ensures.taken history over_may)))
 
 pub range_call::range_call-returns-in-Before-clause-answer : goal.range_call::range_call-returns-in-Before-clause-answer
 range_call::range_call-returns-in-Before-clause-answer g t c = λ history func may.

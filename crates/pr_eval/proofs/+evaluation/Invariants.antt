@@ -5,9 +5,9 @@ use Rattle.pr_vectors.specs.declared.range.RangeFn.{RangeFn}
 use Rattle.pr_query.specs.Meaning.{operands, meaning}
 use Rattle.pr_values.specs.declared.error.EvalError.{EvalError}
 use Rattle.pr_values.specs.Plain.{all_plain}
-use Rattle.pr_eval.specs.Evaluated.{IsTaken, MayTake, kept_by}
+use Rattle.pr_eval.specs.Evaluated.{IsEvaluated, MayTake, kept_by}
 use Rattle.pr_eval.specs.Parts.{counts_after}
-use Rattle.pr_eval.specs.Sizes.{nodes}
+use Rattle.pr_eval.specs.Sizes.{node_count}
 use Rattle.pr_eval.proofs.+evaluation.Given as goal
 use Rattle.std.specs.BTreeMap.{IsOrdered}
 use Rattle.pr_labels.specs.Order.{labels_cmp}
@@ -18,46 +18,46 @@ use Rattle.pr_eval.specs.Subqueries.{MayTakeEach, TakesInside}
 
 -- how many nodes the part has, and then which function stands above which
 abbrev pub decreases-evaluate::eval_at : goal.decreases-evaluate::eval_at
-decreases-evaluate::eval_at g l = 8 * nodes (tree_of l.e.now) + 7
+decreases-evaluate::eval_at g l = 8 * node_count (tree_of l.e.now) + 7
 
 abbrev pub decreases-operators::negation : goal.decreases-operators::negation
-decreases-operators::negation g l = 8 * nodes (tree_of l.e.now) + 6
+decreases-operators::negation g l = 8 * node_count (tree_of l.e.now) + 6
 
 abbrev pub decreases-operators::operation : goal.decreases-operators::operation
-decreases-operators::operation g l = 8 * nodes (tree_of l.e.now) + 6
+decreases-operators::operation g l = 8 * node_count (tree_of l.e.now) + 6
 
 abbrev pub decreases-aggregate::aggregation : goal.decreases-aggregate::aggregation
-decreases-aggregate::aggregation g l = 8 * nodes (tree_of l.e.now) + 6
+decreases-aggregate::aggregation g l = 8 * node_count (tree_of l.e.now) + 6
 
 abbrev pub decreases-aggregate::aggregation_by : goal.decreases-aggregate::aggregation_by
-decreases-aggregate::aggregation_by g l = 8 * nodes (tree_of l.e.now) + 6
+decreases-aggregate::aggregation_by g l = 8 * node_count (tree_of l.e.now) + 6
 
 abbrev pub decreases-call::call : goal.decreases-call::call
-decreases-call::call g l = 8 * nodes (tree_of l.e.now) + 6
+decreases-call::call g l = 8 * node_count (tree_of l.e.now) + 6
 
 abbrev pub decreases-call::plain_call : goal.decreases-call::plain_call
-decreases-call::plain_call g l = 8 * nodes (tree_of l.e.now) + 5
+decreases-call::plain_call g l = 8 * node_count (tree_of l.e.now) + 5
 
 abbrev pub decreases-call::operands : goal.decreases-call::operands
-decreases-call::operands g l = 8 * nodes (trees_of l.args.now) + 7
+decreases-call::operands g l = 8 * node_count (trees_of l.args.now) + 7
 
 abbrev pub decreases-range_call::range_call : goal.decreases-range_call::range_call
-decreases-range_call::range_call g l = 8 * nodes (tree_of l.e.now) + 5
+decreases-range_call::range_call g l = 8 * node_count (tree_of l.e.now) + 5
 
 abbrev pub decreases-range_call::over_range : goal.decreases-range_call::over_range
-decreases-range_call::over_range g l = 8 * nodes (tree_of l.e.now) + 7
+decreases-range_call::over_range g l = 8 * node_count (tree_of l.e.now) + 7
 
 abbrev pub decreases-range_call::prediction : goal.decreases-range_call::prediction
-decreases-range_call::prediction g l = 8 * nodes (trees_of l.args.now) + 7
+decreases-range_call::prediction g l = 8 * node_count (trees_of l.args.now) + 7
 
 abbrev pub decreases-subquery::series_of : goal.decreases-subquery::series_of
-decreases-subquery::series_of g l = 8 * nodes (tree_of l.inner.now) + 10
+decreases-subquery::series_of g l = 8 * node_count (tree_of l.inner.now) + 10
 
 abbrev pub decreases-subquery::gathered : goal.decreases-subquery::gathered
-decreases-subquery::gathered g l = 8 * nodes (tree_of l.inner.now) + 9
+decreases-subquery::gathered g l = 8 * node_count (tree_of l.inner.now) + 9
 
 abbrev pub decreases-subquery::value_at : goal.decreases-subquery::value_at
-decreases-subquery::value_at g l = 8 * nodes (tree_of l.inner.now) + 8
+decreases-subquery::value_at g l = 8 * node_count (tree_of l.inner.now) + 8
 
 -- what is known after some of the arguments
 abbrev pub invariant-call::operands-loop-arg : goal.invariant-call::operands-loop-arg
@@ -67,7 +67,7 @@ invariant-call::operands-loop-arg g l = record {
       → operands l.scope.step history (trees_of (take l.arg-index l.args)) l.scope.time ≡ Ok (all_plain l.given.items);
   taken : (history : List Entry) (func : RangeFn) → MayTake l.scope.head.now l.scope.inside history func (trees_of l.args) l.scope.time l.fn.number.ranges (g.R.Ranges.fits l.fn.ranges history) (g.R.Ranges.last l.fn.ranges)
       → let done : Result (Unit {0}) EvalError = Ok tt in
-      IsTaken g.R.Ranges.keeps l.scope.inside l.scope.step history func (trees_of (take l.arg-index l.args)) l.scope.time l.fn.number.ranges (kept_by (g.R.Ranges.last l.fn.ranges) (g.R.Ranges.passed l.fn.ranges))
+      IsEvaluated g.R.Ranges.keeps l.scope.inside l.scope.step history func (trees_of (take l.arg-index l.args)) l.scope.time l.fn.number.ranges (kept_by (g.R.Ranges.last l.fn.ranges) (g.R.Ranges.passed l.fn.ranges))
       (kept_by (g.R.Ranges.last l.ranges) (g.R.Ranges.passed l.ranges)) (g.R.Ranges.fits l.ranges history) l.fn.reads l.reads done;
 }
 

@@ -1,8 +1,8 @@
 // Label sets of pairs, and of two label sets.
 ghost use Rattle.std.specs.Prelude.{◌≡◌, ◌≢◌, ◌||◌, ℕ, List, filter, not, IfOk, IfErr, OnOk, None, Some};
 ghost use Rattle.std.specs.Str.{bytes_eq};
+ghost use Rattle.pr_words.specs.Names.{knows};
 ghost use Rattle.pr_labels.specs.Edits.{first_fault, has_value, labels_of, union_labels};
-ghost use Rattle.pr_labels.specs.Known.{knows};
 
 use super::{Labels, copy_pairs};
 use crate::fault::LabelFault;

@@ -1,5 +1,5 @@
 use Rattle.std.proofs.Common.{IfOk, subst}
-use Rattle.pr_vectors.specs.Aggregation.{aggregated, always, quantile_of_values}
+use Rattle.pr_vectors.specs.Aggregation.{of_groups, always, quantile_of_values}
 use Rattle.pr_vectors.specs.Vectors.{IsVector}
 use Rattle.pr_vectors.proofs.Aggregation.{aggregated_is_vector}
 use Rattle.pr_agg.specs.Lists.{quantiles_in}
@@ -9,7 +9,7 @@ use Rattle.pr_agg.proofs.lists.quantile.Goals as goal
 
 pub returns-clause-aggregated : goal.returns-clause-aggregated
 returns-clause-aggregated c =
-    as_answered (λ v. v.items) c.quantiles.result (aggregated (always (quantile_of_values c.args.phi)) c.args.by.now c.args.vector.now) (quantiles_in c.args.phi c.in_ok-parts.parts.entries)
+    as_answered (λ v. v.items) c.quantiles.result (of_groups (always (quantile_of_values c.args.phi)) c.args.by.now c.args.vector.now) (quantiles_in c.args.phi c.in_ok-parts.parts.entries)
     (quantiles_are c.args.phi c.args.by.now c.args.vector.now c.in_ok-parts.parts c.in_ok-parts.ensures) c.quantiles.ensures
 
 pub returns-clause-vector : goal.returns-clause-vector

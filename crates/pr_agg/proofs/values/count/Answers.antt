@@ -1,5 +1,5 @@
 use Rattle.std.proofs.Common.{rules, Ok, ◌≡◌}
-use Rattle.pr_vectors.specs.Aggregation.{aggregated, always, count_of_values}
+use Rattle.pr_vectors.specs.Aggregation.{of_groups, always, count_of_values}
 use Rattle.pr_vectors.specs.Vectors.{IsVector}
 use Rattle.pr_agg.specs.Counts.{both_parts, one_each}
 use Rattle.pr_agg.specs.Finished.{count_finished}
@@ -15,7 +15,7 @@ never_wide-requires c =
 
 pub returns-clause-aggregated : goal.returns-clause-aggregated
 returns-clause-aggregated c =
-    carried (λ v. v.items) c.never_wide.result c.group_fold-answer.result (λ xs. aggregated (always count_of_values) c.args.by.now c.args.vector.now ≡ Ok xs) c.never_wide.ensures
+    carried (λ v. v.items) c.never_wide.result c.group_fold-answer.result (λ xs. of_groups (always count_of_values) c.args.by.now c.args.vector.now ≡ Ok xs) c.never_wide.ensures
     (always_answered (λ v. v.items) c.group_fold-answer.result count_of_values (fold_and_finish one_each both_parts count_finished) c.args.by.now c.args.vector.now count_folded
     (c.group_fold-answer.ensures.aggregated count_finished (record { gives = λ a r k. search rules }))).value
 

@@ -1,5 +1,5 @@
 use Rattle.std.proofs.Common.{rules, Ok, ◌≡◌}
-use Rattle.pr_vectors.specs.Aggregation.{aggregated, always, least_of_values}
+use Rattle.pr_vectors.specs.Aggregation.{of_groups, always, least_of_values}
 use Rattle.pr_vectors.specs.Vectors.{IsVector}
 use Rattle.pr_agg.specs.Extremes.{itself, lesser}
 use Rattle.pr_agg.specs.Finished.{value_finished}
@@ -15,7 +15,7 @@ never_wide-requires c =
 
 pub returns-clause-aggregated : goal.returns-clause-aggregated
 returns-clause-aggregated c =
-    carried (λ v. v.items) c.never_wide.result c.group_fold-answer.result (λ xs. aggregated (always least_of_values) c.args.by.now c.args.vector.now ≡ Ok xs) c.never_wide.ensures
+    carried (λ v. v.items) c.never_wide.result c.group_fold-answer.result (λ xs. of_groups (always least_of_values) c.args.by.now c.args.vector.now ≡ Ok xs) c.never_wide.ensures
     (always_answered (λ v. v.items) c.group_fold-answer.result least_of_values (fold_and_finish itself lesser value_finished) c.args.by.now c.args.vector.now least_folded
     (c.group_fold-answer.ensures.aggregated value_finished (record { gives = λ a r k. search rules }))).value
 

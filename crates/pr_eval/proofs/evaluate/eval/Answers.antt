@@ -4,7 +4,7 @@ use Rattle.pr_vectors.specs.declared.range.RangeFn.TheVariants.{PresentOverTime}
 use Rattle.pr_query.specs.Cost.{cost}
 use Rattle.pr_query.specs.Meaning.{meaning}
 use Rattle.pr_values.specs.Answers.{AnswersTo}
-use Rattle.pr_eval.specs.Evaluated.{AreAsked, MayBegin, asks_of, kept_by, passed_by}
+use Rattle.pr_eval.specs.Evaluated.{AreAllAsked, MayBegin, asks_of, kept_by, passed_outside}
 use Rattle.pr_eval.specs.Parts.{IsValued}
 use Rattle.pr_eval.proofs.Trees.{whole_valued}
 use Rattle.pr_eval.proofs.evaluate.eval.Goals as goal
@@ -20,7 +20,7 @@ returns-clause-answer g c = λ history may.
 pub returns-clause-reads : goal.returns-clause-reads
 returns-clause-reads g c = λ history may.
     let begun = subst (λ w. MayBegin c.args.head.now history (tree_of w) c.args.time (g.R.Ranges.fits c.args.ranges.now history) (g.R.Ranges.last c.args.ranges.now)) (sym c.expr-whole.ensures.same) may in
-    subst (λ w. c.eval_at.new.reads ≤ c.args.reads.now + cost c.args.step history (passed_by false history (g.R.Ranges.passed c.args.ranges.now)) (tree_of w) 0 c.args.time) c.expr-whole.ensures.same
+    subst (λ w. c.eval_at.new.reads ≤ c.args.reads.now + cost c.args.step history (passed_outside false history (g.R.Ranges.passed c.args.ranges.now)) (tree_of w) 0 c.args.time) c.expr-whole.ensures.same
     (c.eval_at.ensures.taken history PresentOverTime begun).few
 
 pub returns-clause-fits : goal.returns-clause-fits
@@ -31,6 +31,6 @@ returns-clause-fits g c = λ history may.
 pub returns-clause-asked : goal.returns-clause-asked
 returns-clause-asked g c = λ history may other.
     let begun = subst (λ w. MayBegin c.args.head.now history (tree_of w) c.args.time (g.R.Ranges.fits c.args.ranges.now history) (g.R.Ranges.last c.args.ranges.now)) (sym c.expr-whole.ensures.same) may in
-    subst (λ w. AreAsked g.R.Ranges.keeps history (is_ok c.eval_at.result) (asks_of history (tree_of w) c.args.time) 0 (kept_by (g.R.Ranges.last c.args.ranges.now) (g.R.Ranges.passed c.args.ranges.now))
+    subst (λ w. AreAllAsked g.R.Ranges.keeps history (is_ok c.eval_at.result) (asks_of history (tree_of w) c.args.time) 0 (kept_by (g.R.Ranges.last c.args.ranges.now) (g.R.Ranges.passed c.args.ranges.now))
     (kept_by (g.R.Ranges.last c.eval_at.new.ranges) (g.R.Ranges.passed c.eval_at.new.ranges))) c.expr-whole.ensures.same
     ((c.eval_at.ensures.taken history PresentOverTime begun).asked other)

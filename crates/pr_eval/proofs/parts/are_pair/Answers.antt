@@ -1,5 +1,5 @@
 use Rattle.std.proofs.Common.{◌≡◌, ◌+◌, suc, ap, arith}
-use Rattle.pr_eval.specs.Sizes.{nodes}
+use Rattle.pr_eval.specs.Sizes.{node_count}
 use Rattle.pr_ast.specs.Tree.{tree_of, trees_of}
 use Rattle.pr_eval.proofs.Trees.{counts_of_two, first_part, pair_of, second_part}
 use Rattle.pr_eval.proofs.parts.are_pair.Goals as goal
@@ -18,10 +18,10 @@ returns-clause-count c = λ n m k. counts_of_two n m k (trees_of c.args.args.now
 
 pub returns-clause-first_smaller : goal.returns-clause-first_smaller
 returns-clause-first_smaller c =
-    let is : nodes (trees_of c.args.args.now) ≡ suc (suc (0 + nodes (tree_of c.args.first.now)) + nodes (tree_of c.args.second.now)) = ap nodes c.requires in
+    let is : node_count (trees_of c.args.args.now) ≡ suc (suc (0 + node_count (tree_of c.args.first.now)) + node_count (tree_of c.args.second.now)) = ap node_count c.requires in
     omega (arith, is)
 
 pub returns-clause-second_smaller : goal.returns-clause-second_smaller
 returns-clause-second_smaller c =
-    let is : nodes (trees_of c.args.args.now) ≡ suc (suc (0 + nodes (tree_of c.args.first.now)) + nodes (tree_of c.args.second.now)) = ap nodes c.requires in
+    let is : node_count (trees_of c.args.args.now) ≡ suc (suc (0 + node_count (tree_of c.args.first.now)) + node_count (tree_of c.args.second.now)) = ap node_count c.requires in
     omega (arith, is)

@@ -1,6 +1,6 @@
 use Rattle.std.proofs.Common.{refl, ◌≡◌, ◌+◌, suc, ap, arith}
 use Rattle.pr_ast.specs.Tree.{more, none, tree_of}
-use Rattle.pr_eval.specs.Sizes.{nodes}
+use Rattle.pr_eval.specs.Sizes.{node_count}
 use Rattle.pr_eval.proofs.Trees.{aggregate_of, aggregated_valued, counts_no_values, counts_of_one, one_part}
 use Rattle.pr_eval.proofs.parts.is_aggregate.Goals as goal
 
@@ -21,5 +21,5 @@ returns-clause-op c = counts_no_values (tree_of c.args.e.now) c.args.e.now.place
 
 pub returns-clause-smaller : goal.returns-clause-smaller
 returns-clause-smaller c =
-    let is : nodes (tree_of c.args.e.now) ≡ suc (suc (0 + nodes (tree_of c.args.inner.now))) = ap nodes c.requires in
+    let is : node_count (tree_of c.args.e.now) ≡ suc (suc (0 + node_count (tree_of c.args.inner.now))) = ap node_count c.requires in
     omega (arith, is)

@@ -1,6 +1,6 @@
 use Rattle.std.proofs.Common.{refl, ◌≡◌, ◌+◌, suc, ap, arith}
 use Rattle.pr_ast.specs.Tree.{more, none, tree_of}
-use Rattle.pr_eval.specs.Sizes.{nodes}
+use Rattle.pr_eval.specs.Sizes.{node_count}
 use Rattle.pr_eval.proofs.Trees.{aggregate_by_of, aggregated_valued, counted_label, counts_of_two, first_part, second_part}
 use Rattle.pr_eval.proofs.parts.is_aggregate_by.Goals as goal
 
@@ -27,10 +27,10 @@ returns-clause-label c = counted_label (tree_of c.args.e.now) c.args.e.now.place
 
 pub returns-clause-param_smaller : goal.returns-clause-param_smaller
 returns-clause-param_smaller c =
-    let is : nodes (tree_of c.args.e.now) ≡ suc (suc (suc (0 + nodes (tree_of c.args.param.now)) + nodes (tree_of c.args.inner.now))) = ap nodes c.requires in
+    let is : node_count (tree_of c.args.e.now) ≡ suc (suc (suc (0 + node_count (tree_of c.args.param.now)) + node_count (tree_of c.args.inner.now))) = ap node_count c.requires in
     omega (arith, is)
 
 pub returns-clause-inner_smaller : goal.returns-clause-inner_smaller
 returns-clause-inner_smaller c =
-    let is : nodes (tree_of c.args.e.now) ≡ suc (suc (suc (0 + nodes (tree_of c.args.param.now)) + nodes (tree_of c.args.inner.now))) = ap nodes c.requires in
+    let is : node_count (tree_of c.args.e.now) ≡ suc (suc (suc (0 + node_count (tree_of c.args.param.now)) + node_count (tree_of c.args.inner.now))) = ap node_count c.requires in
     omega (arith, is)

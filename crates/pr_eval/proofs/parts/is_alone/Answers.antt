@@ -1,5 +1,5 @@
 use Rattle.std.proofs.Common.{◌≡◌, ◌+◌, suc, ap, arith}
-use Rattle.pr_eval.specs.Sizes.{nodes}
+use Rattle.pr_eval.specs.Sizes.{node_count}
 use Rattle.pr_ast.specs.Tree.{tree_of, trees_of}
 use Rattle.pr_eval.proofs.Trees.{counts_of_one, one_part, single_of}
 use Rattle.pr_eval.proofs.parts.is_alone.Goals as goal
@@ -15,5 +15,5 @@ returns-clause-count c = λ n m. counts_of_one n m (trees_of c.args.args.now) (t
 
 pub returns-clause-smaller : goal.returns-clause-smaller
 returns-clause-smaller c =
-    let is : nodes (trees_of c.args.args.now) ≡ suc (0 + nodes (tree_of c.args.only.now)) = ap nodes c.requires in
+    let is : node_count (trees_of c.args.args.now) ≡ suc (0 + node_count (tree_of c.args.only.now)) = ap node_count c.requires in
     omega (arith, is)

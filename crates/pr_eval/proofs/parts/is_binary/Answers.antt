@@ -1,6 +1,6 @@
 use Rattle.std.proofs.Common.{◌≡◌, ◌+◌, suc, ap, arith}
 use Rattle.pr_ast.specs.Tree.{tree_of}
-use Rattle.pr_eval.specs.Sizes.{nodes}
+use Rattle.pr_eval.specs.Sizes.{node_count}
 use Rattle.pr_eval.proofs.Trees.{binary_of, counts_of_two, first_part, left_valued, right_valued, second_part}
 use Rattle.pr_eval.proofs.parts.is_binary.Goals as goal
 
@@ -30,10 +30,10 @@ returns-clause-count c =
 
 pub returns-clause-left_smaller : goal.returns-clause-left_smaller
 returns-clause-left_smaller c =
-    let is : nodes (tree_of c.args.e.now) ≡ suc (nodes (tree_of c.args.left.now) + nodes (tree_of c.args.right.now)) = ap nodes c.requires in
+    let is : node_count (tree_of c.args.e.now) ≡ suc (node_count (tree_of c.args.left.now) + node_count (tree_of c.args.right.now)) = ap node_count c.requires in
     omega (arith, is)
 
 pub returns-clause-right_smaller : goal.returns-clause-right_smaller
 returns-clause-right_smaller c =
-    let is : nodes (tree_of c.args.e.now) ≡ suc (nodes (tree_of c.args.left.now) + nodes (tree_of c.args.right.now)) = ap nodes c.requires in
+    let is : node_count (tree_of c.args.e.now) ≡ suc (node_count (tree_of c.args.left.now) + node_count (tree_of c.args.right.now)) = ap node_count c.requires in
     omega (arith, is)

@@ -1,6 +1,6 @@
 use Rattle.std.proofs.Common.{◌≡◌, suc, ap, arith}
 use Rattle.pr_ast.specs.Tree.{tree_of, trees_of}
-use Rattle.pr_eval.specs.Sizes.{nodes}
+use Rattle.pr_eval.specs.Sizes.{node_count}
 use Rattle.pr_eval.proofs.Plainly.{args_valued, joined_label, own_pattern, replaced_label}
 use Rattle.pr_eval.proofs.Trees.{call_of, counts_of_own, one_part}
 use Rattle.pr_eval.proofs.parts.is_call.Goals as goal
@@ -28,5 +28,5 @@ returns-clause-pattern c = own_pattern (tree_of c.args.e.now) c.args.e.now.place
 
 pub returns-clause-smaller : goal.returns-clause-smaller
 returns-clause-smaller c =
-    let is : nodes (tree_of c.args.e.now) ≡ suc (nodes (trees_of c.args.args.now)) = ap nodes c.requires in
+    let is : node_count (tree_of c.args.e.now) ≡ suc (node_count (trees_of c.args.args.now)) = ap node_count c.requires in
     omega (arith, is)

@@ -1,6 +1,6 @@
 use Rattle.std.proofs.Common.{◌≡◌, suc, ap, arith}
 use Rattle.pr_ast.specs.Tree.{tree_of}
-use Rattle.pr_eval.specs.Sizes.{nodes}
+use Rattle.pr_eval.specs.Sizes.{node_count}
 use Rattle.pr_eval.proofs.Trees.{counts_of_one, neg_valued, neg_of, one_part}
 use Rattle.pr_eval.proofs.parts.is_neg.Goals as goal
 
@@ -18,5 +18,5 @@ returns-clause-count c = λ n m. counts_of_one n m (tree_of c.args.e.now) (tree_
 
 pub returns-clause-smaller : goal.returns-clause-smaller
 returns-clause-smaller c =
-    let is : nodes (tree_of c.args.e.now) ≡ suc (nodes (tree_of c.args.inner.now)) = ap nodes c.requires in
+    let is : node_count (tree_of c.args.e.now) ≡ suc (node_count (tree_of c.args.inner.now)) = ap node_count c.requires in
     omega (arith, is)

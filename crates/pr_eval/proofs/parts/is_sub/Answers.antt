@@ -1,5 +1,5 @@
 use Rattle.std.proofs.Common.{◌≡◌, suc, ap, arith}
-use Rattle.pr_eval.specs.Sizes.{nodes}
+use Rattle.pr_eval.specs.Sizes.{node_count}
 use Rattle.pr_ast.specs.Tree.{tree_of}
 use Rattle.pr_eval.proofs.Trees.{sub_valued}
 use Rattle.pr_eval.proofs.parts.is_sub.Goals as goal
@@ -9,5 +9,5 @@ returns-clause-valued c = sub_valued (tree_of c.args.e.now) c.args.e.now.place (
 
 pub returns-clause-smaller : goal.returns-clause-smaller
 returns-clause-smaller c =
-    let is : nodes (tree_of c.args.e.now) ≡ suc (nodes (tree_of c.args.inner.now)) = ap nodes c.requires in
+    let is : node_count (tree_of c.args.e.now) ≡ suc (node_count (tree_of c.args.inner.now)) = ap node_count c.requires in
     omega (arith, is)

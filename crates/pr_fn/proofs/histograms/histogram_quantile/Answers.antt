@@ -3,7 +3,7 @@ use Rattle.pr_labels.proofs.LabelOrder.{rising_fold}
 use Rattle.pr_vectors.specs.Histogram.{buckets_in, histogram_labels, histogram_quantiles, histogram_value, histograms, is_bucket}
 use Rattle.pr_vectors.proofs.FunctionAnswers.{rising_answer}
 use Rattle.pr_fn.specs.Buckets.{valued_entries}
-use Rattle.pr_fn.specs.Faults.{fault_told}
+use Rattle.pr_fn.specs.Faults.{function_told}
 use Rattle.pr_fn.proofs.BucketLemmas.{quantiles_are, told_vectors}
 use Rattle.pr_fn.proofs.Mapping.{told_same}
 use Rattle.pr_fn.proofs.histograms.histogram_quantile.Goals as goal
@@ -12,12 +12,12 @@ pub returns-clause-quantiles : goal.returns-clause-quantiles
 returns-clause-quantiles c =
     let phi = c.args.phi in
     let items = c.args.vector.now in
-    told_same c.quantiles.result (λ v. v.items) fault_told (histogram_quantiles phi items) (valued_entries phi c.in_ok-parts.parts.entries) (quantiles_are phi items c.in_ok-parts.parts c.in_ok-parts.ensures) c.quantiles.ensures
+    told_same c.quantiles.result (λ v. v.items) function_told (histogram_quantiles phi items) (valued_entries phi c.in_ok-parts.parts.entries) (quantiles_are phi items c.in_ok-parts.parts c.in_ok-parts.ensures) c.quantiles.ensures
 
 pub returns-clause-vector : goal.returns-clause-vector
 returns-clause-vector c =
     let phi = c.args.phi in
     let items = c.args.vector.now in
-    told_vectors c.quantiles.result (λ v. v.items) fault_told (histogram_quantiles phi items)
+    told_vectors c.quantiles.result (λ v. v.items) function_told (histogram_quantiles phi items)
     (rising_answer (λ labels. histogram_value phi (buckets_in labels items)) (histograms items) (rising_fold [] (map histogram_labels (filter is_bucket items)) tt))
     (returns-clause-quantiles c)

@@ -2,7 +2,8 @@ use Rattle.std.proofs.Common.{arith}
 use Rattle.pr_forms.specs.Form.{rule}
 use Rattle.pr_forms.proofs.Ways.{exit}
 use Rattle.pr_grammar.specs.Seen.{seen}
-use Rattle.pr_grammar.specs.Grammar.{production, table, Matchers, MoreMatchers, sign_and_text}
+use Rattle.pr_grammar.specs.Grammar.{production, Matchers, MoreMatchers, sign_and_text}
+use Rattle.pr_grammar.specs.GrammarTable.{table}
 use Rattle.pr_grammar.proofs.Reading.{matchers_stop, matcher_bad, matcher_step, matcher_comma, no_matcher, no_more}
 use Rattle.pr_grammar.proofs.lists.matchers_in.Goals as goal
 

@@ -1,12 +1,12 @@
 use Rattle.std.proofs.Common.{◌≤◌, length}
 use Rattle.pr_forms.specs.Form.{rule}
 use Rattle.pr_grammar.specs.Grammar.{Matchers}
-use Rattle.pr_grammar.specs.Reader.{Matches}
+use Rattle.pr_grammar.specs.Reader.{HasMatchers}
 use Rattle.pr_grammar.proofs.lists.matchers_in.Given as goal
 
 abbrev pub invariant-loop-place : goal.invariant-loop-place
 invariant-loop-place l = record {
-  list : Matches (rule (Matchers l.named)) l.tokens l.found.items (rule (Matchers l.named)) l.rest;
+  list : HasMatchers (rule (Matchers l.named)) l.tokens l.found.items (rule (Matchers l.named)) l.rest;
   shorter : length l.rest ≤ length l.tokens;
 }
 

@@ -1,12 +1,12 @@
 use Rattle.std.proofs.Common.{◌≤◌, length}
 use Rattle.pr_forms.specs.Form.{rule}
 use Rattle.pr_grammar.specs.Grammar.{Labels}
-use Rattle.pr_grammar.specs.Reader.{Lists}
+use Rattle.pr_grammar.specs.Reader.{HasNames}
 use Rattle.pr_grammar.proofs.lists.names_in.Given as goal
 
 abbrev pub invariant-loop-place : goal.invariant-loop-place
 invariant-loop-place l = record {
-  list : Lists (rule Labels) l.tokens l.found.items (rule Labels) l.rest;
+  list : HasNames (rule Labels) l.tokens l.found.items (rule Labels) l.rest;
   shorter : length l.rest ≤ length l.tokens;
 }
 

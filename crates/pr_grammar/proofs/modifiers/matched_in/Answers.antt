@@ -3,7 +3,8 @@ use Rattle.pr_forms.specs.Form.{rule}
 use Rattle.pr_forms.specs.Run.{run_rule, run_second}
 use Rattle.pr_forms.proofs.Ways.{exit, take_side_bad}
 use Rattle.pr_grammar.specs.Seen.{seen}
-use Rattle.pr_grammar.specs.Grammar.{production, table, Matched, Grouped}
+use Rattle.pr_grammar.specs.Grammar.{production, Matched, Grouped}
+use Rattle.pr_grammar.specs.GrammarTable.{table}
 use Rattle.pr_grammar.proofs.Reading.{matched_none, matched_some}
 use Rattle.pr_grammar.proofs.modifiers.matched_in.Goals as goal
 

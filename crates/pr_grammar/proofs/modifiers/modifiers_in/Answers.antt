@@ -3,7 +3,8 @@ use Rattle.pr_forms.specs.Form.{rule}
 use Rattle.pr_forms.specs.Run.{run_rule}
 use Rattle.pr_forms.proofs.Ways.{fails, take_side_bad, other_side}
 use Rattle.pr_grammar.specs.Seen.{seen}
-use Rattle.pr_grammar.specs.Grammar.{production, table, Matched, Modified}
+use Rattle.pr_grammar.specs.Grammar.{production, Matched, Modified}
+use Rattle.pr_grammar.specs.GrammarTable.{table}
 use Rattle.pr_grammar.proofs.Reading.{modified_bool, modified_plain}
 use Rattle.pr_grammar.proofs.modifiers.modifiers_in.Goals as goal
 

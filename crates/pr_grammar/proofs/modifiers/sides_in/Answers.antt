@@ -2,7 +2,8 @@ use Rattle.pr_forms.specs.Form.{rule}
 use Rattle.pr_forms.specs.Run.{run_rule}
 use Rattle.pr_forms.proofs.Ways.{exit, take_side_bad}
 use Rattle.pr_grammar.specs.Seen.{seen}
-use Rattle.pr_grammar.specs.Grammar.{production, table, Included, Grouped}
+use Rattle.pr_grammar.specs.Grammar.{production, Included, Grouped}
+use Rattle.pr_grammar.specs.GrammarTable.{table}
 use Rattle.pr_grammar.proofs.Reading.{sides_none, sides_some}
 use Rattle.pr_grammar.proofs.modifiers.sides_in.Goals as goal
 

@@ -1,6 +1,7 @@
 use Rattle.pr_forms.proofs.Steps.{seen_takes, seen_lacks, seen_end_lacks}
 use Rattle.pr_grammar.specs.Seen.{see}
-use Rattle.pr_grammar.specs.Grammar.{production, table, function_at}
+use Rattle.pr_grammar.specs.Grammar.{production, function_at}
+use Rattle.pr_grammar.specs.GrammarTable.{table}
 use Rattle.pr_grammar.proofs.Worth.{function_taken, function_lacked}
 use Rattle.pr_grammar.proofs.tokens.function_in.Goals as goal
 

@@ -1,6 +1,7 @@
 use Rattle.pr_forms.proofs.Steps.{seen_takes, seen_lacks, seen_end_lacks}
 use Rattle.pr_grammar.specs.Seen.{see}
-use Rattle.pr_grammar.specs.Grammar.{production, table, label_at}
+use Rattle.pr_grammar.specs.Grammar.{production, label_at}
+use Rattle.pr_grammar.specs.GrammarTable.{table}
 use Rattle.pr_grammar.proofs.Worth.{label_taken, label_lacked}
 use Rattle.pr_grammar.proofs.tokens.label_in.Goals as goal
 

@@ -1,6 +1,7 @@
 use Rattle.pr_forms.proofs.Steps.{seen_takes, seen_lacks, seen_end_lacks}
 use Rattle.pr_grammar.specs.Seen.{see}
-use Rattle.pr_grammar.specs.Grammar.{production, table, metric_at}
+use Rattle.pr_grammar.specs.Grammar.{production, metric_at}
+use Rattle.pr_grammar.specs.GrammarTable.{table}
 use Rattle.pr_grammar.proofs.Worth.{metric_taken, metric_lacked}
 use Rattle.pr_grammar.proofs.tokens.metric_in.Goals as goal
 

@@ -1,6 +1,7 @@
 use Rattle.pr_forms.proofs.Taking.{taking}
 use Rattle.pr_grammar.specs.Seen.{see}
-use Rattle.pr_grammar.specs.Grammar.{production, table, span_at, lasting}
+use Rattle.pr_grammar.specs.Grammar.{production, span_at, lasting}
+use Rattle.pr_grammar.specs.GrammarTable.{table}
 use Rattle.pr_grammar.proofs.tokens.span_in.Goals as goal
 
 pub returns-clause-read : goal.returns-clause-read

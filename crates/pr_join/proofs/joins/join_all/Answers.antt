@@ -3,7 +3,7 @@ use Rattle.std.proofs.lemmas.List.{take_more, take-append-drop}
 use Rattle.std.proofs.Math.Seq.{drop-cons}
 use Rattle.pr_num.specs.declared.value.Num.{Num}
 use Rattle.pr_labels.specs.declared.item.Item.{Item}
-use Rattle.pr_vectors.specs.Matching.{fault_after, kept, outcomes_of}
+use Rattle.pr_vectors.specs.Matching.{fault_of_outcomes, kept_pairs, outcomes_of}
 use Rattle.pr_join.proofs.Pairing.{fault_at, taken_more}
 use Rattle.pr_join.proofs.joins.join_all.Goals as goal
 
@@ -18,7 +18,7 @@ loop-many-preserved g c = (
       let within : i < length manys = omega arith in
       let front = c.loop-many.invariant.0 f a in
       let more : take (i + 1) manys ≡ take i manys ++ m ∷ [] = take_more manys i m within ∙ ap (λ (x : Item Num). take i manys ++ x ∷ []) (sym c.many-item.is) in
-      rw more (taken_more how c.args.keep_name f ones (take i manys) m c.join_one.new.rows front.faultless ((c.in_default.ensures.taken) f (kept (outcomes_of how c.args.keep_name f (take i manys) ones)) a front.holds)),
+      rw more (taken_more how c.args.keep_name f ones (take i manys) m c.join_one.new.rows front.faultless ((c.in_default.ensures.taken) f (kept_pairs (outcomes_of how c.args.keep_name f (take i manys) ones)) a front.holds)),
   c.in_default.ensures.ordered c.loop-many.invariant.1,
 )
 
@@ -35,5 +35,5 @@ returns-in-Err-clause-taken g c = λ f a lacks.
     let within : i < length manys = omega arith in
     let front = c.loop-many.invariant.0 f a in
     let whole : take i manys ++ m ∷ drop (suc i) manys ≡ manys = ap (λ (r : List (Item Num)). take i manys ++ r) (ap (λ (x : Item Num). x ∷ drop (suc i) manys) c.many-item.is ∙ sym (drop-cons manys i m within)) ∙ take-append-drop i manys in
-    ap (λ (ms : List (Item Num)). fault_after how.card [] (outcomes_of how c.args.keep_name f ms ones)) (sym whole)
-    ∙ fault_at how c.args.keep_name f ones (take i manys) m (drop (suc i) manys) c.in-Err.fault lacks front.faultless (c.in-Err.ensures.taken f (kept (outcomes_of how c.args.keep_name f (take i manys) ones)) a front.holds lacks)
+    ap (λ (ms : List (Item Num)). fault_of_outcomes how.card [] (outcomes_of how c.args.keep_name f ms ones)) (sym whole)
+    ∙ fault_at how c.args.keep_name f ones (take i manys) m (drop (suc i) manys) c.in-Err.fault lacks front.faultless (c.in-Err.ensures.taken f (kept_pairs (outcomes_of how c.args.keep_name f (take i manys) ones)) a front.holds lacks)

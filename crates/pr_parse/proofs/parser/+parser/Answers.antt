@@ -7,7 +7,8 @@ use Rattle.pr_forms.proofs.Carrying.{carry_on, carry_rule, carry_left, carry_bas
 use Rattle.pr_ast.specs.Tree.{aggregate, more, none, tree_of, trees_of}
 use Rattle.pr_grammar.specs.declared.kind.Before.TheVariants.{Other as Others}
 use Rattle.pr_grammar.specs.Seen.{seen}
-use Rattle.pr_grammar.specs.Grammar.{production, table, expression, Binary, Modified, Postfix, Operand, Selection, Tail, Arguments, Aggregation, Parameters, After, tighter, enclosed, parameters, part, at, word, turned, operation, operand, joined, closed_by, opened_by, signed, signed_by, applied, suffixes, named, selection, function, function_called, called, arguments, argument, closed, parameter, bare, aggregation, aggregated, aggregator, grouping_by, through}
+use Rattle.pr_grammar.specs.Grammar.{production, expression, Binary, Modified, Postfix, Operand, Selection, Tail, Arguments, Aggregation, Parameters, After, tighter, enclosed, parameters, part, at, word, turned, operation, operand, joined, closed_by, opened_by, signed, signed_by, applied, suffixes, named, selection, function, function_called, called, arguments, argument, closed, parameter, bare, aggregation, aggregation_made, aggregator, grouping_by, through}
+use Rattle.pr_grammar.specs.GrammarTable.{table}
 use Rattle.pr_parse.specs.Reader.{value_of, parameters_of}
 use Rattle.pr_grammar.proofs.Ways.{take_nested, nested_first_bad, nested_bad, skip_nested}
 use Rattle.pr_parse.proofs.Reading.{group_good, group_first_bad, group_bad}
@@ -28,7 +29,7 @@ pub binary_at-loop-op-preserved : goal.binary_at-loop-op-preserved
 binary_at-loop-op-preserved t c = record {
   leads = turns_value (joined (value_of c.loop-op.left) (turned (operation c.in-Some.op) (operand c.in_ok-modifiers.modifiers.with_bool c.in_ok-modifiers.modifiers.matching c.in_ok-right.right.place (tree_of c.in_ok-right.right.expr))))
       (value_of c.in_ok-left-2.left) c.in_ok-left-2.ensures
-      (turns_go_on c.loop-op.invariant.leads c.in-Some.ensures.read ((c.in_ok-modifiers.ensures.read c.args.level).reads c.in_ok-right.right.place (tree_of c.in_ok-right.right.expr) _ c.in_ok-right.ensures.read));
+      (turns_go_on c.loop-op.invariant.leads c.in-Some.ensures.read ((c.in_ok-modifiers.ensures.read c.args.level).reads (c.in_ok-right.right.place, tree_of c.in_ok-right.right.expr) _ c.in_ok-right.ensures.read));
   shorter = omega (arith, c.in_ok-right.ensures.shorter, c.in_ok-modifiers.ensures.shorter, c.in-Some.ensures.shorter, c.loop-op.invariant.shorter);
 }
 
@@ -76,7 +77,7 @@ operand_at-returns-in_ok-whole-in-Some-aggregate_in-clause-read t c =
     let no_literal = rw c.in_default.is at c.in_ok-found.ensures.read in
     let w = c.in_ok-whole-in-Some-aggregate_in.ensures.read in
     MatchResult-weaker c.after_other-in-Some-aggregate_in.result c.after_other-in-Some-aggregate_in.ensures.read
-    (λ x h. value_is (applied (aggregated (aggregator c.in-Some-aggregate_in.op c.in-Some-aggregate_in.name) w.0) (suffixes h.0)) (value_of x.0) (h.2 ∙ ap (λ v. applied v (suffixes h.0)) w.2)
+    (λ x h. value_is (applied (aggregation_made (aggregator c.in-Some-aggregate_in.op c.in-Some-aggregate_in.name) w.0) (suffixes h.0)) (value_of x.0) (h.2 ∙ ap (λ v. applied v (suffixes h.0)) w.2)
     (run_rule (other_side no_literal (other_side c.in_default-metric_in.ensures.read (other_side c.in_default-function_in.ensures.read (take_nested c.in-Some-aggregate_in.ensures.read w.1 h.1))))))
     (λ e. fails seen production table (rule (After Others)) (rule Operand) _ _ e (λ r h. run_rule (other_side no_literal (other_side c.in_default-metric_in.ensures.read (other_side c.in_default-function_in.ensures.read (nested_bad c.in-Some-aggregate_in.ensures.read w.1 h))))))
 

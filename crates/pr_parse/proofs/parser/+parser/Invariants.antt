@@ -1,8 +1,9 @@
 use Rattle.std.proofs.Common.{◌<◌, length, ◌+◌, ◌*◌}
 use Rattle.pr_forms.specs.Form.{rule, turns}
+use Rattle.pr_forms.specs.Language.{Leads}
 use Rattle.pr_ast.specs.Tree.{trees_of}
 use Rattle.pr_grammar.specs.Grammar.{Binary, Arguments, joined, argument, arguments, right_side, next_argument}
-use Rattle.pr_grammar.specs.Reader.{Leads}
+use Rattle.pr_grammar.specs.GrammarTable.{queries}
 use Rattle.pr_parse.specs.Reader.{value_of, rank_of}
 use Rattle.pr_parse.proofs.parser.+parser.Given as goal
 
@@ -41,7 +42,7 @@ decreases-unary_at l = 24 * length l.tokens.now + 4
 
 abbrev pub invariant-arguments_at-loop-comma : goal.invariant-arguments_at-loop-comma
 invariant-arguments_at-loop-comma l = record {
-  leads : Leads (rule Arguments) l.tokens (turns argument (arguments (trees_of l.args.items)) next_argument) l.rest;
+  leads : Leads queries (rule Arguments) l.tokens (turns argument (arguments (trees_of l.args.items)) next_argument) l.rest;
   shorter : length l.rest < length l.tokens;
 }
 
@@ -50,7 +51,7 @@ decreases-arguments_at-loop-comma l = length l.rest
 
 abbrev pub invariant-binary_at-loop-op : goal.invariant-binary_at-loop-op
 invariant-binary_at-loop-op l = record {
-  leads : Leads (rule (Binary l.level l.opens)) l.tokens (turns joined (value_of l.left) (right_side l.level)) l.rest;
+  leads : Leads queries (rule (Binary l.level l.opens)) l.tokens (turns joined (value_of l.left) (right_side l.level)) l.rest;
   shorter : length l.rest < length l.tokens;
 }
 

@@ -6,7 +6,8 @@ use Rattle.pr_forms.proofs.Ways.{fails, exit, value_is, take_side, take_side_bad
 use Rattle.pr_grammar.specs.declared.kind.Before.TheVariants.{Selector as Selectors}
 use Rattle.pr_grammar.specs.Seen.{seen}
 use Rattle.pr_ast.specs.Tree.{select}
-use Rattle.pr_grammar.specs.Grammar.{production, table, After, Braced, Selection, matchers_end, unnamed_selector, braced, through, applied, applied_to, suffixes, selector_of}
+use Rattle.pr_grammar.specs.Grammar.{production, After, Braced, Selection, matchers_end, unnamed_selector, braced, through, applied, applied_to, suffixes, selector_of}
+use Rattle.pr_grammar.specs.GrammarTable.{table}
 use Rattle.pr_parse.specs.Reader.{value_of, braced_value}
 use Rattle.pr_parse.proofs.selection.unnamed_in.Goals as goal
 

@@ -2,7 +2,8 @@ use Rattle.std.proofs.Common.{◌≡◌, rules, refl, subst, true}
 use Rattle.pr_forms.proofs.Public.{read_whole, only_value, not_whole, no_reading, rest_place, bad_place, end_place, left_short}
 use Rattle.pr_ast.specs.Tree.{tree_of}
 use Rattle.pr_grammar.specs.Seen.{see}
-use Rattle.pr_grammar.specs.Grammar.{production, table, expression, Value}
+use Rattle.pr_grammar.specs.Grammar.{production, expression, Value}
+use Rattle.pr_grammar.specs.GrammarTable.{table}
 use Rattle.pr_parse.specs.Whole.{HasTree}
 use Rattle.pr_parse.specs.Reader.{value_of}
 use Rattle.pr_parse.specs.declared.made.Part.{Part}

@@ -2,7 +2,7 @@ use Rattle.std.proofs.Common.{◌≡◌, ◌++◌, ap, sym, subst, ◌∙◌, ar
 use Rattle.std.proofs.lemmas.Int.{to_z-of_z}
 use Rattle.pr_head.specs.Stored.{position_of}
 use Rattle.pr_vectors.specs.Ranges.{over}
-use Rattle.pr_range.specs.Answers.{Answers}
+use Rattle.pr_range.specs.Answers.{AnswersAsk}
 use Rattle.pr_range.specs.Spots.{AreWithin, spots_of, samples_between}
 use Rattle.pr_range.proofs.Reading.{placed, spots_read, reads_plain}
 use Rattle.pr_range.proofs.plain.ask_plainly.Goals as goal
@@ -24,7 +24,7 @@ returns-in-Ok g c = λ history labels may.
     ∙ spots_read c.args.head.now history c.args.series labels c.args.ask.now p c.place_after-from.result c.place_after-to.result c.push_between.new.spots.items from to
     (read ∙ ap (λ l. l ++ spots_of (samples_between p.s c.place_after-from.result c.place_after-to.result)) c.new-spots.ensures.items) in
     record {
-      value = subst (λ l. Answers (over c.args.ask.now l) c.over_list.result) spots (c.over_list.ensures.answer (subst (AreWithin c.args.ask.now.from c.args.ask.now.to) (sym spots) p.within));
+      value = subst (λ l. AnswersAsk (over c.args.ask.now l) c.over_list.result) spots (c.over_list.ensures.answer (subst (AreWithin c.args.ask.now.from c.args.ask.now.to) (sym spots) p.within));
       reads = reads_plain history labels c.args.ask.now c.args.reads.now c.push_between.new.reads p.between (omega arith);
     }
 

@@ -2,15 +2,16 @@ use Rattle.std.proofs.Common.{List, Ok, ap, sym, subst, ◌∙◌, map}
 use Rattle.pr_labels.specs.declared.item.Item.{Item}
 use Rattle.pr_num.specs.declared.value.Num.{Num}
 use Rattle.pr_vectors.specs.Functions.{told_apart}
+use Rattle.pr_fn.specs.Rows.{without_metric}
 use Rattle.pr_query.specs.Answers.{function_at}
 use Rattle.pr_values.specs.Answers.{AnswersTo}
-use Rattle.pr_range_calls.specs.Answering.{named, without_metric}
+use Rattle.pr_range_calls.specs.Answering.{relabelled}
 use Rattle.pr_range_calls.proofs.Named.{last_is, others_named}
 use Rattle.pr_range_calls.proofs.finishing.finished.Goals as goal
 
 pub returns-in-LastOverTime-clause-answer : goal.returns-in-LastOverTime-clause-answer
 returns-in-LastOverTime-clause-answer c =
-    ap (λ f. function_at c.args.place (told_apart (named f c.args.items.items))) c.in-LastOverTime.is ∙ last_is c.args.place c.args.items.items c.requires ∙ ap Ok (sym c.vector.ensures)
+    ap (λ f. function_at c.args.place (told_apart (relabelled f c.args.items.items))) c.in-LastOverTime.is ∙ last_is c.args.place c.args.items.items c.requires ∙ ap Ok (sym c.vector.ensures)
 
 pub returns-in_default : goal.returns-in_default
 returns-in_default c = record {

@@ -1,7 +1,7 @@
 use Rattle.std.proofs.Common.{◌≡◌, ◌∷◌, ◌++◌, [], List, length, map, refl, ap, sym, subst, ◌∙◌, append_assoc, append-nil, arith, rules}
 use Rattle.std.proofs.lemmas.List.{map-append}
 use Rattle.std.specs.Vec.Iter.{into_iter_items}
-use Rattle.pr_range_calls.specs.Taken.{IsGathered, all_timed, timed}
+use Rattle.pr_range_calls.specs.Taken.{IsGathered, all_timed, item_at}
 use Rattle.pr_range_calls.proofs.SeriesGathered.{taken_more}
 use Rattle.pr_range_calls.proofs.gathering.take_elements.Goals as goal
 
@@ -25,9 +25,9 @@ loop-item-preserved c =
     record {
       gathered = λ front h.
           subst (λ l. IsGathered l c.take_one.new.series)
-          (append_assoc front (map (timed c.args.time) c.loop-item.yielded) (timed c.args.time c.in-Some.item ∷ [])
-          ∙ ap (λ l. front ++ l) (sym (map-append (timed c.args.time) c.loop-item.yielded (c.in-Some.item ∷ []))))
-          (c.in_ok-take_one.ensures.gathered (front ++ map (timed c.args.time) c.loop-item.yielded) (c.loop-item.invariant.gathered front h));
+          (append_assoc front (map (item_at c.args.time) c.loop-item.yielded) (item_at c.args.time c.in-Some.item ∷ [])
+          ∙ ap (λ l. front ++ l) (sym (map-append (item_at c.args.time) c.loop-item.yielded (c.in-Some.item ∷ []))))
+          (c.in_ok-take_one.ensures.gathered (front ++ map (item_at c.args.time) c.loop-item.yielded) (c.loop-item.invariant.gathered front h));
       ordered = c.in_ok-take_one.ensures.ordered;
       so_far = append_assoc at.yielded (x ∷ []) _ ∙ rw (← steps) at.invariant.so_far;
       left =
@@ -44,4 +44,4 @@ returns-clause-taken c = λ ts h.
     let empty : into_iter_items at.item-iterator ≡ [] = nothing_left _ (sym at.invariant.left ∙ none.0) in
     let all = sym (append-nil at.yielded) ∙ rw empty at at.invariant.so_far ∙ c.into_iter-item-iterator.ensures.into_iter_gives.0 in
     taken_more ts c.args.time c.args.items.items c.args.series.now at.series h c.requires.vector
-    (subst (λ xs. IsGathered (all_timed ts ++ map (timed c.args.time) xs) at.series) all (at.invariant.gathered (all_timed ts) h.gathered))
+    (subst (λ xs. IsGathered (all_timed ts ++ map (item_at c.args.time) xs) at.series) all (at.invariant.gathered (all_timed ts) h.gathered))

@@ -10,7 +10,7 @@ use Rattle.pr_query.specs.Given.{series_within}
 use Rattle.pr_query.specs.Selection.{chosen_by}
 use Rattle.pr_range.specs.declared.fault.RangeFault.TheVariants as fault
 use Rattle.pr_values.specs.Answers.{AnswersTo}
-use Rattle.pr_range_calls.specs.Answering.{elements_of, item_of, named, told}
+use Rattle.pr_range_calls.specs.Answering.{elements_of, answer_element, relabelled, fault_placed}
 use Rattle.pr_range_calls.specs.Asking.{asked_by, presence}
 use Rattle.pr_range_calls.proofs.Named.{absent_is, length_named}
 use Rattle.pr_range_calls.proofs.of_selector.absent_over_selector.Goals as goal
@@ -19,16 +19,16 @@ pub returns-in-Ok-clause-answer : goal.returns-in-Ok-clause-answer
 returns-in-Ok-clause-answer g c = λ history may.
     let range = c.args.range.now in
     let labels = c.args.labels.now in
-    let next = λ (items : List (Item Num)). vector_at (absent_of labels (named PresentOverTime items)) in
-    let items = map (item_of c.args.head.now) c.in-Ok.answers.items in
-    subst (λ m. AnswersTo m c.absence.result) (sym (absent_is labels c.args.place range history ∙ ap (λ m. go_on next (told c.args.place range.place m)) (c.in-Ok.ensures.answer history may)))
-    (c.absence.ensures.answer (named PresentOverTime items) (length_named PresentOverTime items ∙ length-map c.in-Ok.answers.items (item_of c.args.head.now) ∙ (let same : length c.in-Ok.answers.items ≡ c.len.result = search rules in same)))
+    let next = λ (items : List (Item Num)). vector_at (absent_of labels (relabelled PresentOverTime items)) in
+    let items = map (answer_element c.args.head.now) c.in-Ok.answers.items in
+    subst (λ m. AnswersTo m c.absence.result) (sym (absent_is labels c.args.place range history ∙ ap (λ m. go_on next (fault_placed c.args.place range.place m)) (c.in-Ok.ensures.answer history may)))
+    (c.absence.ensures.answer (relabelled PresentOverTime items) (length_named PresentOverTime items ∙ length-map c.in-Ok.answers.items (answer_element c.args.head.now) ∙ (let same : length c.in-Ok.answers.items ≡ c.len.result = search rules in same)))
 
 pub returns-in-Err-clause-answer : goal.returns-in-Err-clause-answer
 returns-in-Err-clause-answer g c = λ history may.
     let range = c.args.range.now in
     let labels = c.args.labels.now in
-    let next = λ (items : List (Item Num)). vector_at (absent_of labels (named PresentOverTime items)) in
+    let next = λ (items : List (Item Num)). vector_at (absent_of labels (relabelled PresentOverTime items)) in
     let a = asked_by (presence c.args.place) range in
     subst (λ m. AnswersTo m (Err c.error_of.result)) (sym (absent_is labels c.args.place range history))
     (c.error_of.ensures.told (elements_of a (map (series_within history a.from a.to) (chosen_by range.selector.now history))) next (c.in-Err.ensures.answer history may))

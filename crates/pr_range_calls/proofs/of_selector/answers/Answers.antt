@@ -4,14 +4,14 @@ use Rattle.pr_vectors.specs.declared.range.Ask.{Ask}
 use Rattle.pr_query.specs.Given.{series_within}
 use Rattle.pr_query.specs.Selection.{chosen_by}
 use Rattle.pr_range.specs.declared.fault.RangeFault.TheVariants.{Memory}
-use Rattle.pr_range_calls.specs.Answering.{FaultIs, elements_of, item_of}
+use Rattle.pr_range_calls.specs.Answering.{FaultIs, elements_of, answer_element}
 use Rattle.pr_range_calls.specs.Asking.{AreAsked, MayAskEach, asks_cost, numbers_chosen, passed_by}
 use Rattle.pr_range_calls.proofs.of_selector.answers.Goals as goal
 
 pub returns-clause-answer : goal.returns-clause-answer
 returns-clause-answer g c =
     subst (λ (q : Ask). (history : List Entry) → MayAskEach c.args.head.now history q (g.R.Ranges.fits c.args.ranges.now history) (g.R.Ranges.last c.args.ranges.now) c.args.range.now.node
-    → let meant = elements_of q (map (series_within history q.from q.to) (chosen_by c.args.range.now.selector.now history)) in MatchResult c.answers_to.result (λ v. meant ≡ Ok (map (item_of c.args.head.now) v.items)) (FaultIs meant)) c.asked_by-ask.ensures.asked c.answers_to.ensures.answer
+    → let meant = elements_of q (map (series_within history q.from q.to) (chosen_by c.args.range.now.selector.now history)) in MatchResult c.answers_to.result (λ v. meant ≡ Ok (map (answer_element c.args.head.now) v.items)) (FaultIs meant)) c.asked_by-ask.ensures.asked c.answers_to.ensures.answer
 
 pub returns-clause-reads : goal.returns-clause-reads
 returns-clause-reads g c =

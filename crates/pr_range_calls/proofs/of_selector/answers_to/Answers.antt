@@ -3,7 +3,7 @@ use Rattle.std.specs.List.{All}
 use Rattle.pr_labels.specs.Rising.{IsRising}
 use Rattle.pr_head.specs.Holds.{arrivals, labels_at}
 use Rattle.pr_query.specs.Selection.{chosen_by}
-use Rattle.pr_range_calls.specs.Asking.{AreAsked, asks_cost, number_of, numbers_chosen, numbers_cost, passed_by}
+use Rattle.pr_range_calls.specs.Asking.{AreAsked, asks_cost, series_number, numbers_chosen, numbers_cost, passed_by}
 use Rattle.pr_range_calls.specs.Choosing.{labels_of_series}
 use Rattle.pr_range_calls.proofs.AskedSeries.{once_from_rising}
 use Rattle.pr_range_calls.proofs.Named.{answers_in_head, answers_vector}
@@ -19,7 +19,7 @@ returns-in-Ok-clause-answer g c = λ history may.
     let known = subst (All (λ i. i < length c.args.head.now)) (sym c.deref.ensures.value) c.in-Ok.ensures.known in
     let there = within_arrivals c.args.head.now history numbers may.holds.numbered known in
     let once = once_from_rising (labels_of_series c.args.head.now) numbers (subst (λ l. IsRising (map (labels_of_series c.args.head.now) l)) (sym c.deref.ensures.value) c.in-Ok.ensures.rising) in
-    let same : numbers ≡ numbers_chosen history c.args.range.now.selector.now = sym (numbers_are history numbers there) ∙ ap (map (number_of history)) sets in
+    let same : numbers ≡ numbers_chosen history c.args.range.now.selector.now = sym (numbers_are history numbers there) ∙ ap (map (series_number history)) sets in
     answers_in_head c.args.head.now history c.args.ask.now numbers (chosen_by c.args.range.now.selector.now history) (λ v. v.items) c.ask_each.result may.holds.numbered sets (c.ask_each.ensures.answer history may once)
 
 pub returns-in-Ok-clause-reads : goal.returns-in-Ok-clause-reads
@@ -31,10 +31,10 @@ returns-in-Ok-clause-reads g c = λ history may.
     let known = subst (All (λ i. i < length c.args.head.now)) (sym c.deref.ensures.value) c.in-Ok.ensures.known in
     let there = within_arrivals c.args.head.now history numbers may.holds.numbered known in
     let once = once_from_rising (labels_of_series c.args.head.now) numbers (subst (λ l. IsRising (map (labels_of_series c.args.head.now) l)) (sym c.deref.ensures.value) c.in-Ok.ensures.rising) in
-    let same : numbers ≡ numbers_chosen history c.args.range.now.selector.now = sym (numbers_are history numbers there) ∙ ap (map (number_of history)) sets in
+    let same : numbers ≡ numbers_chosen history c.args.range.now.selector.now = sym (numbers_are history numbers there) ∙ ap (map (series_number history)) sets in
     let p = g.R.Ranges.passed c.args.ranges.now c.args.range.now.node in
     let cost : numbers_cost history c.args.ask.now p numbers ≡ asks_cost history c.args.ask.now (passed_by history (g.R.Ranges.passed c.args.ranges.now) c.args.range.now.node) (chosen_by c.args.range.now.selector.now history) =
-    sym (cost_is history c.args.ask.now p numbers there) ∙ ap (asks_cost history c.args.ask.now (λ labels. p (number_of history labels))) sets in
+    sym (cost_is history c.args.ask.now p numbers there) ∙ ap (asks_cost history c.args.ask.now (λ labels. p (series_number history labels))) sets in
     subst (λ n. c.ask_each.new.reads ≤ c.args.reads.now + n) cost (c.ask_each.ensures.reads history may once)
 
 pub returns-in-Ok-clause-fits : goal.returns-in-Ok-clause-fits
@@ -46,7 +46,7 @@ returns-in-Ok-clause-fits g c = λ history may other.
     let known = subst (All (λ i. i < length c.args.head.now)) (sym c.deref.ensures.value) c.in-Ok.ensures.known in
     let there = within_arrivals c.args.head.now history numbers may.holds.numbered known in
     let once = once_from_rising (labels_of_series c.args.head.now) numbers (subst (λ l. IsRising (map (labels_of_series c.args.head.now) l)) (sym c.deref.ensures.value) c.in-Ok.ensures.rising) in
-    let same : numbers ≡ numbers_chosen history c.args.range.now.selector.now = sym (numbers_are history numbers there) ∙ ap (map (number_of history)) sets in
+    let same : numbers ≡ numbers_chosen history c.args.range.now.selector.now = sym (numbers_are history numbers there) ∙ ap (map (series_number history)) sets in
     c.ask_each.ensures.fits history may once other
 
 pub returns-in-Ok-clause-asked : goal.returns-in-Ok-clause-asked
@@ -58,7 +58,7 @@ returns-in-Ok-clause-asked g c = λ history may.
     let known = subst (All (λ i. i < length c.args.head.now)) (sym c.deref.ensures.value) c.in-Ok.ensures.known in
     let there = within_arrivals c.args.head.now history numbers may.holds.numbered known in
     let once = once_from_rising (labels_of_series c.args.head.now) numbers (subst (λ l. IsRising (map (labels_of_series c.args.head.now) l)) (sym c.deref.ensures.value) c.in-Ok.ensures.rising) in
-    let same : numbers ≡ numbers_chosen history c.args.range.now.selector.now = sym (numbers_are history numbers there) ∙ ap (map (number_of history)) sets in
+    let same : numbers ≡ numbers_chosen history c.args.range.now.selector.now = sym (numbers_are history numbers there) ∙ ap (map (series_number history)) sets in
     subst (λ l. OnOk c.ask_each.result (AreAsked history g.R.Ranges.keeps c.args.range.now.node c.args.ask.now l (g.R.Ranges.last c.args.ranges.now) (g.R.Ranges.last c.ask_each.new.ranges) (g.R.Ranges.passed c.args.ranges.now) (g.R.Ranges.passed c.ask_each.new.ranges))) same
     (c.ask_each.ensures.asked history may once)
 
@@ -71,7 +71,7 @@ returns-in-Ok-clause-until g c = λ history may other.
     let known = subst (All (λ i. i < length c.args.head.now)) (sym c.deref.ensures.value) c.in-Ok.ensures.known in
     let there = within_arrivals c.args.head.now history numbers may.holds.numbered known in
     let once = once_from_rising (labels_of_series c.args.head.now) numbers (subst (λ l. IsRising (map (labels_of_series c.args.head.now) l)) (sym c.deref.ensures.value) c.in-Ok.ensures.rising) in
-    let same : numbers ≡ numbers_chosen history c.args.range.now.selector.now = sym (numbers_are history numbers there) ∙ ap (map (number_of history)) sets in
+    let same : numbers ≡ numbers_chosen history c.args.range.now.selector.now = sym (numbers_are history numbers there) ∙ ap (map (series_number history)) sets in
     let h = c.ask_each.ensures.until history may once other in
     (h.0, subst (λ l. AreAsked history g.R.Ranges.keeps c.args.range.now.node c.args.ask.now (take h.0 l) (g.R.Ranges.last c.args.ranges.now) (g.R.Ranges.last c.ask_each.new.ranges) (g.R.Ranges.passed c.args.ranges.now) (g.R.Ranges.passed c.ask_each.new.ranges)) same h.1)
 

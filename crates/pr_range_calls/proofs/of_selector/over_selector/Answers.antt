@@ -7,7 +7,7 @@ use Rattle.pr_query.specs.Given.{series_within}
 use Rattle.pr_query.specs.Selection.{chosen_by}
 use Rattle.pr_range.specs.declared.fault.RangeFault.TheVariants as fault
 use Rattle.pr_values.specs.Answers.{AnswersTo}
-use Rattle.pr_range_calls.specs.Answering.{elements_of, item_of, named, told}
+use Rattle.pr_range_calls.specs.Answering.{elements_of, answer_element, relabelled, fault_placed}
 use Rattle.pr_range_calls.specs.Asking.{asked_by}
 use Rattle.pr_range_calls.proofs.Named.{selector_is}
 use Rattle.pr_range_calls.proofs.of_selector.over_selector.Goals as goal
@@ -16,15 +16,15 @@ pub returns-in_ok-items-in-Ok-clause-answer : goal.returns-in_ok-items-in-Ok-cla
 returns-in_ok-items-in-Ok-clause-answer g c = λ history may.
     let call = c.args.call.now in
     let range = c.args.range.now in
-    let next = λ (items : List (Item Num)). function_at call.place (told_apart (named call.func items)) in
-    let is : c.in_ok-items-in-Ok.items.items ≡ map (item_of c.args.head.now) c.in-Ok.answers.items = c.in_ok-items-in-Ok.ensures ∙ ap (map (item_of c.args.head.now)) c.deref.ensures.value in
-    subst (λ m. AnswersTo m c.finished.result) (sym (selector_is call range history ∙ ap (λ m. go_on next (told call.place range.place m)) (c.in-Ok.ensures.answer history may ∙ ap Ok (sym is)))) c.finished.ensures.answer
+    let next = λ (items : List (Item Num)). function_at call.place (told_apart (relabelled call.func items)) in
+    let is : c.in_ok-items-in-Ok.items.items ≡ map (answer_element c.args.head.now) c.in-Ok.answers.items = c.in_ok-items-in-Ok.ensures ∙ ap (map (answer_element c.args.head.now)) c.deref.ensures.value in
+    subst (λ m. AnswersTo m c.finished.result) (sym (selector_is call range history ∙ ap (λ m. go_on next (fault_placed call.place range.place m)) (c.in-Ok.ensures.answer history may ∙ ap Ok (sym is)))) c.finished.ensures.answer
 
 pub returns-in-Err-clause-answer : goal.returns-in-Err-clause-answer
 returns-in-Err-clause-answer g c = λ history may.
     let call = c.args.call.now in
     let range = c.args.range.now in
-    let next = λ (items : List (Item Num)). function_at call.place (told_apart (named call.func items)) in
+    let next = λ (items : List (Item Num)). function_at call.place (told_apart (relabelled call.func items)) in
     let a = asked_by call range in
     subst (λ m. AnswersTo m (Err c.error_of.result)) (sym (selector_is call range history))
     (c.error_of.ensures.told (elements_of a (map (series_within history a.from a.to) (chosen_by range.selector.now history))) next (c.in-Err.ensures.answer history may))

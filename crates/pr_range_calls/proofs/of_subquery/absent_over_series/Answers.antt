@@ -8,7 +8,7 @@ use Rattle.pr_query.specs.Answers.{go_on}
 use Rattle.pr_query.specs.Calls.{vector_at}
 use Rattle.pr_query.specs.RangeCalls.{question}
 use Rattle.pr_values.specs.Answers.{AnswersTo}
-use Rattle.pr_range_calls.specs.Answering.{FaultIs, elements_of, named, told}
+use Rattle.pr_range_calls.specs.Answering.{FaultIs, elements_of, relabelled, fault_placed}
 use Rattle.pr_range_calls.specs.Taken.{AreAllWithin, ranged_of, series_in}
 use Rattle.pr_range_calls.proofs.Named.{length_named}
 use Rattle.pr_range_calls.proofs.SeriesGathered.{taken_within}
@@ -22,10 +22,10 @@ returns-in-Ok-clause-answer c = λ ts h times.
     let within = taken_within c.args.range.now.from c.args.range.now.to ts s h times in
     let meant = subst (λ (a : Ask). AreAllWithin a.from a.to (series_in s) → elements_of a (series_in s) ≡ Ok c.in-Ok.items.items) is c.in-Ok.ensures.answer within in
     let size : length c.in-Ok.items.items ≡ c.len.result = omega (arith, c.in-Ok.items.ok.0, c.len.ensures) in
-    let next = λ (items : List (Item Num)). vector_at (absent_of c.args.labels.now (named PresentOverTime items)) in
+    let next = λ (items : List (Item Num)). vector_at (absent_of c.args.labels.now (relabelled PresentOverTime items)) in
     subst (λ m. AnswersTo m c.absence.result)
-    (sym (absent_subquery_is c.args.labels.now c.args.place c.args.range.now ts c.args.series h ∙ ap (λ m. go_on next (told c.args.place c.args.range.now.place m)) meant))
-    (c.absence.ensures.answer (named PresentOverTime c.in-Ok.items.items) (length_named PresentOverTime c.in-Ok.items.items ∙ size))
+    (sym (absent_subquery_is c.args.labels.now c.args.place c.args.range.now ts c.args.series h ∙ ap (λ m. go_on next (fault_placed c.args.place c.args.range.now.place m)) meant))
+    (c.absence.ensures.answer (relabelled PresentOverTime c.in-Ok.items.items) (length_named PresentOverTime c.in-Ok.items.items ∙ size))
 
 pub returns-in-Err-clause-answer : goal.returns-in-Err-clause-answer
 returns-in-Err-clause-answer c = λ ts h times.
@@ -33,6 +33,6 @@ returns-in-Err-clause-answer c = λ ts h times.
     let is : c.ask_in-ask.result ≡ question PresentOverTime None (ranged_of c.args.range.now ts) = c.ask_in-ask.ensures in
     let within = taken_within c.args.range.now.from c.args.range.now.to ts s h times in
     let meant = subst (λ (a : Ask). AreAllWithin a.from a.to (series_in s) → FaultIs (elements_of a (series_in s)) c.in-Err.fault) is c.in-Err.ensures.answer within in
-    let next = λ (items : List (Item Num)). vector_at (absent_of c.args.labels.now (named PresentOverTime items)) in
+    let next = λ (items : List (Item Num)). vector_at (absent_of c.args.labels.now (relabelled PresentOverTime items)) in
     subst (λ m. AnswersTo m (Err c.error_of.result)) (sym (absent_subquery_is c.args.labels.now c.args.place c.args.range.now ts c.args.series h))
     (c.error_of.ensures.told (elements_of (question PresentOverTime None (ranged_of c.args.range.now ts)) (series_in c.args.series)) next meant)

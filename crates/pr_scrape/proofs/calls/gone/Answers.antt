@@ -2,7 +2,7 @@ use Rattle.std.proofs.Common.{◌≡◌, ◌++◌, [], ◌∷◌, List, map, ref
 use Rattle.pr_labels.specs.declared.pair.Pair.{Pair}
 use Rattle.pr_history.specs.declared.entry.Entry.{Entry}
 use Rattle.pr_history.specs.Admission.{put_all}
-use Rattle.pr_world.specs.Scrapes.{end_entries, gone_of, marker, markers, samples_of, up_of}
+use Rattle.pr_world.specs.Scrapes.{end_entries, gone_of, marker, markers, sample_count_of, up_of}
 use Rattle.pr_scrape.specs.Putting.{HasTakenFront, Puts}
 use Rattle.pr_scrape.proofs.Answering.{ends_parts, markers_all, same_answer}
 use Rattle.pr_scrape.proofs.Putting.{front_if, front_more, front_then, puts_then, rows_are, rows_counted}
@@ -12,7 +12,7 @@ pub returns-in_err-put_markers-clause-front : goal.returns-in_err-put_markers-cl
 unfolding gone_of
 returns-in_err-put_markers-clause-front c = λ history h.
     let old = c.args.tracked.now.items in
-    let ends : List Entry = marker c.args.time (up_of c.args.target.now) ∷ marker c.args.time (samples_of c.args.target.now) ∷ [] in
+    let ends : List Entry = marker c.args.time (up_of c.args.target.now) ∷ marker c.args.time (sample_count_of c.args.target.now) ∷ [] in
     let all : markers c.args.time c.deref.result.now c.new.result.keys ≡ map (marker c.args.time) old =
     ap (markers c.args.time c.deref.result.now) c.new.ensures.empty ∙ markers_all c.args.time c.deref.result.now ∙ ap (map (marker c.args.time)) c.deref.ensures.value in
     front_if c.from_residual.result c.args.head.now c.put_markers.new.head history (end_entries c.args.target.now c.args.time old)
@@ -24,7 +24,7 @@ pub returns-in_err-put_ends-clause-front : goal.returns-in_err-put_ends-clause-f
 unfolding gone_of
 returns-in_err-put_ends-clause-front c = λ history h.
     let old = c.args.tracked.now.items in
-    let ends : List Entry = marker c.args.time (up_of c.args.target.now) ∷ marker c.args.time (samples_of c.args.target.now) ∷ [] in
+    let ends : List Entry = marker c.args.time (up_of c.args.target.now) ∷ marker c.args.time (sample_count_of c.args.target.now) ∷ [] in
     let all : markers c.args.time c.deref.result.now c.new.result.keys ≡ map (marker c.args.time) old =
     ap (markers c.args.time c.deref.result.now) c.new.ensures.empty ∙ markers_all c.args.time c.deref.result.now ∙ ap (map (marker c.args.time)) c.deref.ensures.value in
     let p : Puts c.args.head.now c.put_markers.new.head c.new-rows.result.items c.put_markers.new.rows.items history (map (marker c.args.time) old) =
@@ -38,7 +38,7 @@ pub returns-clause-taken : goal.returns-clause-taken
 unfolding gone_of
 returns-clause-taken c = λ history h.
     let old = c.args.tracked.now.items in
-    let ends : List Entry = marker c.args.time (up_of c.args.target.now) ∷ marker c.args.time (samples_of c.args.target.now) ∷ [] in
+    let ends : List Entry = marker c.args.time (up_of c.args.target.now) ∷ marker c.args.time (sample_count_of c.args.target.now) ∷ [] in
     let all : markers c.args.time c.deref.result.now c.new.result.keys ≡ map (marker c.args.time) old =
     ap (markers c.args.time c.deref.result.now) c.new.ensures.empty ∙ markers_all c.args.time c.deref.result.now ∙ ap (map (marker c.args.time)) c.deref.ensures.value in
     let p : Puts c.args.head.now c.put_markers.new.head c.new-rows.result.items c.put_markers.new.rows.items history (map (marker c.args.time) old) =
@@ -53,7 +53,7 @@ pub returns-clause-answer : goal.returns-clause-answer
 unfolding gone_of
 returns-clause-answer c = λ history h.
     let old = c.args.tracked.now.items in
-    let ends : List Entry = marker c.args.time (up_of c.args.target.now) ∷ marker c.args.time (samples_of c.args.target.now) ∷ [] in
+    let ends : List Entry = marker c.args.time (up_of c.args.target.now) ∷ marker c.args.time (sample_count_of c.args.target.now) ∷ [] in
     let all : markers c.args.time c.deref.result.now c.new.result.keys ≡ map (marker c.args.time) old =
     ap (markers c.args.time c.deref.result.now) c.new.ensures.empty ∙ markers_all c.args.time c.deref.result.now ∙ ap (map (marker c.args.time)) c.deref.ensures.value in
     let p : Puts c.args.head.now c.put_markers.new.head c.new-rows.result.items c.put_markers.new.rows.items history (map (marker c.args.time) old) =

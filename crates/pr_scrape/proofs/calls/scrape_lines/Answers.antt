@@ -2,7 +2,7 @@ use Rattle.std.proofs.Common.{◌≡◌, ◌++◌, ◌-◌, ℕ, List, length, a
 use Rattle.pr_labels.specs.declared.pair.Pair.{Pair}
 use Rattle.pr_history.specs.declared.entry.Entry.{Entry}
 use Rattle.pr_history.specs.Admission.{put_all}
-use Rattle.pr_world.specs.Scrapes.{about, entries_in, markers, offers, tracked_after}
+use Rattle.pr_world.specs.Scrapes.{about, offered_entries, markers, offers, tracked_after}
 use Rattle.std.specs.declared.option.Option.TheVariants.{None}
 use Rattle.pr_scrape.specs.Putting.{HasTakenFront, Puts}
 use Rattle.pr_scrape.proofs.Answering.{same_answer}
@@ -13,7 +13,7 @@ pub returns-in_err-tally-clause-front : goal.returns-in_err-tally-clause-front
 returns-in_err-tally-clause-front c = λ history h.
     let target = c.args.target.now in
     let now = c.args.now in
-    let body : List Entry = entries_in (offers target now c.args.lines.now) in
+    let body : List Entry = offered_entries (offers target now c.args.lines.now) in
     let more : List Entry = markers now c.args.tracked.now.items (tracked_after history (offers target now c.args.lines.now)) ++ about target now 1 (length c.args.lines.now) in
     front_if c.from_residual.result c.args.head.now c.put_lines.new.head history (body ++ more)
     (front_more c.args.head.now c.put_lines.new.head history body more (c.in_err-tally.ensures.front history h))
@@ -23,7 +23,7 @@ returns-in_err-put_markers-clause-front c = λ history h.
     let target = c.args.target.now in
     let now = c.args.now in
     let old = c.args.tracked.now.items in
-    let body : List Entry = entries_in (offers target now c.args.lines.now) in
+    let body : List Entry = offered_entries (offers target now c.args.lines.now) in
     let tracked : List (List Pair) = tracked_after history (offers target now c.args.lines.now) in
     let ms : List Entry = markers now old tracked in
     let ab : List Entry = about target now 1 (length c.args.lines.now) in
@@ -41,7 +41,7 @@ returns-in_err-put_about-clause-front c = λ history h.
     let target = c.args.target.now in
     let now = c.args.now in
     let old = c.args.tracked.now.items in
-    let body : List Entry = entries_in (offers target now c.args.lines.now) in
+    let body : List Entry = offered_entries (offers target now c.args.lines.now) in
     let tracked : List (List Pair) = tracked_after history (offers target now c.args.lines.now) in
     let ms : List Entry = markers now old tracked in
     let ab : List Entry = about target now 1 (length c.args.lines.now) in
@@ -61,7 +61,7 @@ returns-in_err-tracked-clause-front c = λ history h.
     let target = c.args.target.now in
     let now = c.args.now in
     let old = c.args.tracked.now.items in
-    let body : List Entry = entries_in (offers target now c.args.lines.now) in
+    let body : List Entry = offered_entries (offers target now c.args.lines.now) in
     let tracked : List (List Pair) = tracked_after history (offers target now c.args.lines.now) in
     let ms : List Entry = markers now old tracked in
     let ab : List Entry = about target now 1 (length c.args.lines.now) in
@@ -84,7 +84,7 @@ returns-clause-taken c = λ history h.
     let target = c.args.target.now in
     let now = c.args.now in
     let old = c.args.tracked.now.items in
-    let body : List Entry = entries_in (offers target now c.args.lines.now) in
+    let body : List Entry = offered_entries (offers target now c.args.lines.now) in
     let tracked : List (List Pair) = tracked_after history (offers target now c.args.lines.now) in
     let ms : List Entry = markers now old tracked in
     let ab : List Entry = about target now 1 (length c.args.lines.now) in
@@ -106,7 +106,7 @@ returns-clause-answer c = λ history h.
     let target = c.args.target.now in
     let now = c.args.now in
     let old = c.args.tracked.now.items in
-    let body : List Entry = entries_in (offers target now c.args.lines.now) in
+    let body : List Entry = offered_entries (offers target now c.args.lines.now) in
     let tracked : List (List Pair) = tracked_after history (offers target now c.args.lines.now) in
     let ms : List Entry = markers now old tracked in
     let ab : List Entry = about target now 1 (length c.args.lines.now) in

@@ -2,7 +2,7 @@ use Rattle.std.proofs.Common.{◌≡◌, ◌≤◌, ◌+◌, ◌++◌, [], ◌�
 use Rattle.pr_history.specs.declared.entry.Entry.{Entry}
 use Rattle.pr_history.specs.Admission.{put_all}
 use Rattle.pr_expo.specs.declared.exposition.Line.{Line}
-use Rattle.pr_world.specs.Scrapes.{entries_in, offers}
+use Rattle.pr_world.specs.Scrapes.{offered_entries, offers}
 use Rattle.pr_scrape.specs.Tallying.{Tallies}
 use Rattle.pr_scrape.specs.declared.tally.Tally.{Tally}
 use Rattle.pr_scrape.proofs.Putting.{front_if, next_front, next_of, next_puts}
@@ -11,7 +11,7 @@ use Rattle.pr_scrape.proofs.tally.put_lines.Goals as goal
 
 pub returns-in_err-put_line-clause-front : goal.returns-in_err-put_line-clause-front
 returns-in_err-put_line-clause-front c = λ history h.
-    let g : List Line → List Entry = λ lines. entries_in (offers c.args.target.now c.args.now lines) in
+    let g : List Line → List Entry = λ lines. offered_entries (offers c.args.target.now c.args.now lines) in
     let i = c.loop-line.line-index in
     let p = c.loop-line.invariant.puts history h in
     front_if c.from_residual.result c.args.head.now c.put_line.new.head history (g c.args.lines.now)
@@ -26,14 +26,14 @@ loop-line-preserved c = record {
       let more : c.put_line.new.tally.dropped ≤ c.loop-line.tally.dropped + 1 = c.in_ok-put_line.ensures.few in
       omega (arith, before, more);
   puts = λ history h.
-      let g : List Line → List Entry = λ lines. entries_in (offers c.args.target.now c.args.now lines) in
+      let g : List Line → List Entry = λ lines. offered_entries (offers c.args.target.now c.args.now lines) in
       let i = c.loop-line.line-index in
       let p = c.loop-line.invariant.puts history h in
       next_puts g (offered_parts c.args.target.now c.args.now) c.args.lines.now i c.line-item.result c.loop-line-test.true c.line-item.is
       c.args.head.now c.loop-line.head c.put_line.new.head c.args.rows.now.items c.loop-line.rows.items c.put_line.new.rows.items history p
       (c.in_ok-put_line.ensures.puts (put_all history (g (take i c.args.lines.now))) p.taken.holds);
   tallies = λ history h.
-      let g : List Line → List Entry = λ lines. entries_in (offers c.args.target.now c.args.now lines) in
+      let g : List Line → List Entry = λ lines. offered_entries (offers c.args.target.now c.args.now lines) in
       let i = c.loop-line.line-index in
       let p = c.loop-line.invariant.puts history h in
       let empty : Tally = record { dropped = 0; kept = c.new.result } in

@@ -1,7 +1,7 @@
 use Rattle.std.proofs.Common.{◌≤◌, List, take}
 use Rattle.pr_history.specs.declared.entry.Entry.{Entry}
 use Rattle.pr_head.specs.Holds.{Holds}
-use Rattle.pr_world.specs.Scrapes.{entries_in, offers}
+use Rattle.pr_world.specs.Scrapes.{offered_entries, offers}
 use Rattle.pr_scrape.specs.Putting.{Puts}
 use Rattle.pr_scrape.specs.Tallying.{Tallies}
 use Rattle.pr_scrape.proofs.tally.put_lines.Given as goal
@@ -11,7 +11,7 @@ abbrev pub invariant-loop-line : goal.invariant-loop-line
 invariant-loop-line l = record {
   few : l.tally.dropped ≤ l.line-index;
   puts : (history : List Entry) → Holds l.initial.head history
-      → Puts l.initial.head l.head l.initial.rows.items l.rows.items history (entries_in (offers l.target l.now (take l.line-index l.lines)));
+      → Puts l.initial.head l.head l.initial.rows.items l.rows.items history (offered_entries (offers l.target l.now (take l.line-index l.lines)));
   tallies : (history : List Entry) → Holds l.initial.head history
       → Tallies l.initial.tally l.tally l.target l.now (take l.line-index l.lines) history;
 }

@@ -3,10 +3,11 @@ use Rattle.pr_forms.proofs.Readings.{one_reading}
 use Rattle.pr_strings.specs.Strings.{seen}
 use Rattle.pr_labels.specs.declared.pair.Pair.{Pair}
 use Rattle.pr_labels.specs.Edits.{labels_of}
-use Rattle.pr_series.specs.SeriesGrammar.{production, table, Series, listed}
+use Rattle.pr_series.specs.SeriesGrammar.{production, Series, listed}
 use Rattle.pr_series.proofs.SeriesTable.{known}
 use Rattle.pr_series.proofs.SeriesNames.{read_is_set}
 use Rattle.pr_series.proofs.laws.series_text_reads_as_one_label_set.Goals as goal
+use Rattle.pr_series.specs.SeriesTable.{table}
 
 same_pairs : (ps qs : List Pair) → listed ps ≡ listed qs → ps ≡ qs
 same_pairs ps qs e = cc

@@ -1,9 +1,10 @@
 use Rattle.std.proofs.Common.{rules, refl, sym}
 use Rattle.pr_forms.proofs.Public.{read_whole, only_value, not_whole, no_reading, rest_place, bad_place, end_place, left_short}
 use Rattle.pr_strings.specs.Strings.{letter_of}
-use Rattle.pr_series.specs.SeriesGrammar.{production, table, Series, listed}
+use Rattle.pr_series.specs.SeriesGrammar.{production, Series, listed}
 use Rattle.pr_series.proofs.SeriesTable.{known}
 use Rattle.pr_series.proofs.series.read_series_pairs.Goals as goal
+use Rattle.pr_series.specs.SeriesTable.{table}
 
 pub place_of-requires : goal.place_of-requires
 place_of-requires c = left_short letter_of production table known Series _ c.in-Ok.left.now _ c.in-Ok.ensures refl

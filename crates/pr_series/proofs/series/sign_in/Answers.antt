@@ -1,8 +1,9 @@
 use Rattle.pr_forms.proofs.Taking.{taking}
 use Rattle.pr_strings.specs.Strings.{letter_of}
-use Rattle.pr_series.specs.SeriesGrammar.{production, table, sign_at, mark}
+use Rattle.pr_series.specs.SeriesGrammar.{production, sign_at, mark}
 use Rattle.pr_series.proofs.SeriesReading.{sign_text}
 use Rattle.pr_series.proofs.series.sign_in.Goals as goal
+use Rattle.pr_series.specs.SeriesTable.{table}
 
 pub returns-clause-read : goal.returns-clause-read
 returns-clause-read c = taking letter_of production table (sign_at c.args.wanted) (λ _. mark) (λ x. x.0) (λ x. x.1.now) c.take.result _ c.take.ensures (λ x r h. h)

@@ -2,7 +2,7 @@ use Rattle.std.proofs.Common.{◌≡◌, codes, true, refl}
 use Rattle.std.specs.Str.{is_utf8}
 use Rattle.pr_series.proofs.SeriesExamples.{metric, none}
 use Rattle.pr_text.proofs.Targets.{a_is_b}
-use Rattle.pr_text.proofs.Utf8.{plain_text}
+use Rattle.pr_kinds.proofs.PlainTexts.{plain_text}
 use Rattle.pr_text.proofs.examples.a_target_has_labels.Goals as goal
 
 pub returns : goal.returns

@@ -5,7 +5,8 @@ use Rattle.pr_forms.proofs.Carrying.{carry_exit}
 use Rattle.pr_tmpl.specs.declared.kind.Kind.TheVariants.{SmallV, SmallL, SmallE}
 use Rattle.pr_tmpl.specs.declared.template.Operand.TheVariants.{Value as TheValue}
 use Rattle.pr_tmpl.specs.Pieces.{plain, pieces}
-use Rattle.pr_tmpl.specs.TemplateText.{production, table, operand, bytes, mark, any_at, second_of, label, spelled, name_goes_on, dollar_rule, external_rule, Name, ValueWord, LabelsWord, ExternalWord}
+use Rattle.pr_tmpl.specs.TemplateText.{production, operand, bytes, mark, any_at, second_of, label, spelled, name_goes_on, dollar_rule, external_rule, Name, ValueWord, LabelsWord, ExternalWord}
+use Rattle.pr_tmpl.specs.TemplateTable.{table}
 use Rattle.pr_tmpl.proofs.TextKept.{same_kind, handed_text}
 use Rattle.pr_tmpl.proofs.WordWays.{handed, chosen_word, unchosen, unchosen_piece, kind_piece}
 use Rattle.pr_tmpl.proofs.PipeWays.{no_dollared}

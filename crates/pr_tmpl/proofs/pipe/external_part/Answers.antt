@@ -5,7 +5,8 @@ use Rattle.pr_forms.proofs.Carrying.{carry_exit}
 use Rattle.pr_tmpl.specs.declared.kind.Kind.TheVariants.{CapitalL, CapitalU}
 use Rattle.pr_tmpl.specs.declared.template.Operand.TheVariants.{ExternalUrl}
 use Rattle.pr_tmpl.specs.Pieces.{plain, pieces}
-use Rattle.pr_tmpl.specs.TemplateText.{production, table, operand, bytes, mark, any_at, second_of, external_label, spelled, name_goes_on, external_rule, Name, ExternalLabelsWord, UrlWord}
+use Rattle.pr_tmpl.specs.TemplateText.{production, operand, bytes, mark, any_at, second_of, external_label, spelled, name_goes_on, external_rule, Name, ExternalLabelsWord, UrlWord}
+use Rattle.pr_tmpl.specs.TemplateTable.{table}
 use Rattle.pr_tmpl.proofs.TextKept.{same_kind, handed_text}
 use Rattle.pr_tmpl.proofs.WordWays.{handed, chosen_word, unchosen, unchosen_piece, kind_piece}
 use Rattle.pr_tmpl.proofs.PipeWays.{no_external}

@@ -4,7 +4,8 @@ use Rattle.pr_forms.specs.Run.{run_rule}
 use Rattle.pr_forms.proofs.Carrying.{carry_on, carry_rule, carry_exit}
 use Rattle.pr_tmpl.specs.declared.kind.Kind.TheVariants.{Quote, Dollar, Point}
 use Rattle.pr_tmpl.specs.Pieces.{plain, pieces}
-use Rattle.pr_tmpl.specs.TemplateText.{production, table, operand, bytes, mark, any_at, second_of, literal, name_goes_on, dollar_rule, dot_rule, operand_rule, Content, AnOperand, Literal, Dollared, Dotted}
+use Rattle.pr_tmpl.specs.TemplateText.{production, operand, bytes, mark, any_at, second_of, literal, name_goes_on, dollar_rule, dot_rule, operand_rule, Content, AnOperand, Literal, Dollared, Dotted}
+use Rattle.pr_tmpl.specs.TemplateTable.{table}
 use Rattle.pr_tmpl.proofs.WordWays.{handed, chosen_word, unchosen, unchosen_piece, kind_piece}
 use Rattle.pr_tmpl.proofs.PipeWays.{no_operand}
 use Rattle.pr_tmpl.proofs.pipe.operand_in.Goals as goal

@@ -2,7 +2,7 @@ use Rattle.std.proofs.Common.{subst}
 use Rattle.pr_ast.specs.Tree.{tree_of}
 use Rattle.pr_query.specs.Meaning.{meaning}
 use Rattle.pr_values.specs.Answers.{AnswersTo}
-use Rattle.pr_top.proofs.Questions.{may_begin}
+use Rattle.pr_top.proofs.Queries.{may_begin}
 use Rattle.pr_top.proofs.query.answer.Goals as goal
 
 pub returns : goal.returns

@@ -10,4 +10,4 @@ counts_of-loop-arg-preserved t c =
     let i = c.loop-arg.arg-index in
     let e = c.arg-item.result in
     let next = trees_of-next i (i + 1) es e (omega arith) c.loop-arg-test.true c.arg-item.is in
-    counts_more (trees_of (take (i + 1) es)) (trees_of (take i es)) (tree_of e) c.loop-arg.found c.counts_in.result c.joined-found.result next c.loop-arg.invariant c.counts_in.ensures c.joined-found.ensures
+    counts_more (trees_of (take (i + 1) es)) (trees_of (take i es)) (tree_of e) c.loop-arg.found c.counts_in.result c.counts_together-found.result next c.loop-arg.invariant c.counts_in.ensures c.counts_together-found.ensures

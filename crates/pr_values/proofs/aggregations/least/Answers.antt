@@ -1,7 +1,7 @@
 use Rattle.std.proofs.Common.{List, subst}
 use Rattle.pr_labels.specs.declared.item.Item.{Item}
 use Rattle.pr_num.specs.declared.value.Num.{Num}
-use Rattle.pr_vectors.specs.Aggregation.{aggregated, always, least_of_values}
+use Rattle.pr_vectors.specs.Aggregation.{of_groups, always, least_of_values}
 use Rattle.pr_query.specs.Aggregations.{aggregated_at}
 use Rattle.pr_values.specs.Answers.{AnswersTo}
 use Rattle.pr_values.proofs.aggregations.least.Goals as goal
@@ -11,5 +11,5 @@ returns-clause-answer c =
     let p = c.args.place in
     let by = c.args.by.now in
     let r = c.grouped.result in
-    subst (λ (l : List (Item Num)). AnswersTo (aggregated_at p (aggregated (always least_of_values) by l)) r) c.elements_given-items.ensures.elements
-    (c.grouped.ensures.answer (aggregated (always least_of_values) by c.elements_given-items.result.now) c.min-made.ensures.aggregated)
+    subst (λ (l : List (Item Num)). AnswersTo (aggregated_at p (of_groups (always least_of_values) by l)) r) c.elements_given-items.ensures.elements
+    (c.grouped.ensures.answer (of_groups (always least_of_values) by c.elements_given-items.result.now) c.min-made.ensures.aggregated)

@@ -1,7 +1,7 @@
 use Rattle.std.proofs.Common.{List, subst}
 use Rattle.pr_labels.specs.declared.item.Item.{Item}
 use Rattle.pr_num.specs.declared.value.Num.{Num}
-use Rattle.pr_vectors.specs.Aggregation.{aggregated, always, quantile_of_values}
+use Rattle.pr_vectors.specs.Aggregation.{of_groups, always, quantile_of_values}
 use Rattle.pr_query.specs.Aggregations.{aggregated_at}
 use Rattle.pr_query.specs.Given.{elements_given}
 use Rattle.pr_values.specs.Answers.{AnswersTo}
@@ -15,6 +15,6 @@ returns-clause-answer c =
     let r = c.grouped.result in
     let gs = all_plain c.args.given.now in
     let phi = c.number_given-phi.result in
-    subst (λ (x : Num). AnswersTo (aggregated_at p (aggregated (always (quantile_of_values x)) by (elements_given gs 1))) r) c.number_given-phi.ensures
-    (subst (λ (l : List (Item Num)). AnswersTo (aggregated_at p (aggregated (always (quantile_of_values phi)) by l)) r) c.elements_given-items.ensures.elements
-    (c.grouped.ensures.answer (aggregated (always (quantile_of_values phi)) by c.elements_given-items.result.now) c.quantile-made.ensures.aggregated))
+    subst (λ (x : Num). AnswersTo (aggregated_at p (of_groups (always (quantile_of_values x)) by (elements_given gs 1))) r) c.number_given-phi.ensures
+    (subst (λ (l : List (Item Num)). AnswersTo (aggregated_at p (of_groups (always (quantile_of_values phi)) by l)) r) c.elements_given-items.ensures.elements
+    (c.grouped.ensures.answer (of_groups (always (quantile_of_values phi)) by c.elements_given-items.result.now) c.quantile-made.ensures.aggregated))

@@ -1,6 +1,6 @@
 use Rattle.std.proofs.Common.{not, [], ◌++◌}
 use Rattle.std.specs.Option.{option_or}
-use Rattle.pr_vectors.specs.Matching.{fault_after, is_matched, items_of, kept, left_alone, many_side, one_side, outcomes_of, side_fault}
+use Rattle.pr_vectors.specs.Matching.{fault_of_outcomes, is_matched, items_kept, kept_pairs, left_alone, many_side, one_side, outcomes_of, side_fault}
 use Rattle.pr_vectors.specs.Vectors.{in_order}
 use Rattle.pr_vectors.proofs.Vectors.{vector_in_order, vector_filter, vector_unless}
 use Rattle.pr_vectors.proofs.laws.answers_are_vectors.Goals as goal
@@ -10,7 +10,7 @@ returns-clause-joined c = λ how keep_name op left right.
     let manys = many_side how.card left right in
     let ones = one_side how.card left right in
     let outcomes = outcomes_of how keep_name op manys ones in
-    vector_unless (option_or (side_fault how manys ones) (fault_after how.card [] outcomes)) (in_order (items_of (kept outcomes))) (vector_in_order (items_of (kept outcomes)))
+    vector_unless (option_or (side_fault how manys ones) (fault_of_outcomes how.card [] outcomes)) (in_order (items_kept (kept_pairs outcomes))) (vector_in_order (items_kept (kept_pairs outcomes)))
 
 pub returns-clause-either : goal.returns-clause-either
 returns-clause-either c = λ how left right. vector_in_order (left ++ left_alone how right left)

@@ -4,7 +4,7 @@ use Rattle.pr_forms.specs.Reading.{reading, bad_place}
 use Rattle.pr_yaml_scan.specs.Bytes.{has_no_text, blanks_len, spaces_len, is_bare, has_tab, ends_word, is_flow_sign, is_comment}
 use Rattle.pr_yaml_scan.specs.Lines.{end_line, is_alone, is_sign_by, document_sign, is_sign, folded_break}
 use Rattle.pr_yaml_scan.specs.Plain.{stops, plain_len, plain_part, plain_ending, begins_with_flow_sign, is_kept_out, goes_on, plain_below}
-use Rattle.pr_yaml_scan.specs.Quoted.{quote_byte, is_backslash, named_byte, digits_after, digit_value, number_step, byte_step, quoted_line, quoted_break, cut_fault, quoted_below}
+use Rattle.pr_yaml_scan.specs.Quoted.{quote_byte, is_backslash, named_byte, digits_after, hex_digit, number_step, byte_step, quoted_line, quoted_break, cut_fault, quoted_below}
 use Rattle.pr_yaml_scan.specs.Block.{chomp_of, after_chomp, header_fault, indentation, belongs, row_of, row_break, last_feeds, chomped, block_lines}
 use Rattle.pr_yaml_scan.specs.Tokens.{takes, takes_text, plain_by, colon_next, closed_by, quoted_by, quoted_at, block_by_header, mark_of, word_mark_of, sign_mark_of, form_of, token_at, token_in, after_blanks, by_sign, sign_of, part_at}
 use Rattle.pr_yaml.specs.Trees.{stop, tree_in}
@@ -13,17 +13,17 @@ use Rattle.pr_yaml.specs.Read.{read_tokens}
 use Rattle.pr_yaml.proofs.examples.flows_close.Goals as goal
 
 pub returns-clause-last_comma : goal.returns-clause-last_comma
-unfolding reading bad_place has_no_text blanks_len spaces_len is_bare has_tab ends_word is_flow_sign is_comment text_lines end_line is_alone is_sign_by document_sign is_sign folded_break stops plain_len plain_part plain_ending begins_with_flow_sign is_kept_out goes_on plain_below quote_byte is_backslash named_byte digits_after digit_value number_step byte_step quoted_line quoted_break cut_fault quoted_below chomp_of after_chomp header_fault indentation belongs row_of row_break last_feeds chomped block_lines takes takes_text plain_by colon_next closed_by quoted_by quoted_at block_by_header mark_of word_mark_of sign_mark_of form_of token_at token_in after_blanks by_sign sign_of part_at stop tree_in from_line is_first_of_line token_kind may_begin scan_kind_by end_line_of read_tokens
+unfolding reading bad_place has_no_text blanks_len spaces_len is_bare has_tab ends_word is_flow_sign is_comment text_lines end_line is_alone is_sign_by document_sign is_sign folded_break stops plain_len plain_part plain_ending begins_with_flow_sign is_kept_out goes_on plain_below quote_byte is_backslash named_byte digits_after hex_digit number_step byte_step quoted_line quoted_break cut_fault quoted_below chomp_of after_chomp header_fault indentation belongs row_of row_break last_feeds chomped block_lines takes takes_text plain_by colon_next closed_by quoted_by quoted_at block_by_header mark_of word_mark_of sign_mark_of form_of token_at token_in after_blanks by_sign sign_of part_at stop tree_in from_line is_first_of_line token_kind may_begin scan_kind_by end_line_of read_tokens
 returns-clause-last_comma c = refl
 
 pub returns-clause-open : goal.returns-clause-open
-unfolding reading bad_place has_no_text blanks_len spaces_len is_bare has_tab ends_word is_flow_sign is_comment text_lines end_line is_alone is_sign_by document_sign is_sign folded_break stops plain_len plain_part plain_ending begins_with_flow_sign is_kept_out goes_on plain_below quote_byte is_backslash named_byte digits_after digit_value number_step byte_step quoted_line quoted_break cut_fault quoted_below chomp_of after_chomp header_fault indentation belongs row_of row_break last_feeds chomped block_lines takes takes_text plain_by colon_next closed_by quoted_by quoted_at block_by_header mark_of word_mark_of sign_mark_of form_of token_at token_in after_blanks by_sign sign_of part_at stop tree_in from_line is_first_of_line token_kind may_begin scan_kind_by end_line_of read_tokens
+unfolding reading bad_place has_no_text blanks_len spaces_len is_bare has_tab ends_word is_flow_sign is_comment text_lines end_line is_alone is_sign_by document_sign is_sign folded_break stops plain_len plain_part plain_ending begins_with_flow_sign is_kept_out goes_on plain_below quote_byte is_backslash named_byte digits_after hex_digit number_step byte_step quoted_line quoted_break cut_fault quoted_below chomp_of after_chomp header_fault indentation belongs row_of row_break last_feeds chomped block_lines takes takes_text plain_by colon_next closed_by quoted_by quoted_at block_by_header mark_of word_mark_of sign_mark_of form_of token_at token_in after_blanks by_sign sign_of part_at stop tree_in from_line is_first_of_line token_kind may_begin scan_kind_by end_line_of read_tokens
 returns-clause-open c = refl
 
 pub returns-clause-lines : goal.returns-clause-lines
-unfolding reading bad_place has_no_text blanks_len spaces_len is_bare has_tab ends_word is_flow_sign is_comment text_lines end_line is_alone is_sign_by document_sign is_sign folded_break stops plain_len plain_part plain_ending begins_with_flow_sign is_kept_out goes_on plain_below quote_byte is_backslash named_byte digits_after digit_value number_step byte_step quoted_line quoted_break cut_fault quoted_below chomp_of after_chomp header_fault indentation belongs row_of row_break last_feeds chomped block_lines takes takes_text plain_by colon_next closed_by quoted_by quoted_at block_by_header mark_of word_mark_of sign_mark_of form_of token_at token_in after_blanks by_sign sign_of part_at stop tree_in from_line is_first_of_line token_kind may_begin scan_kind_by end_line_of read_tokens
+unfolding reading bad_place has_no_text blanks_len spaces_len is_bare has_tab ends_word is_flow_sign is_comment text_lines end_line is_alone is_sign_by document_sign is_sign folded_break stops plain_len plain_part plain_ending begins_with_flow_sign is_kept_out goes_on plain_below quote_byte is_backslash named_byte digits_after hex_digit number_step byte_step quoted_line quoted_break cut_fault quoted_below chomp_of after_chomp header_fault indentation belongs row_of row_break last_feeds chomped block_lines takes takes_text plain_by colon_next closed_by quoted_by quoted_at block_by_header mark_of word_mark_of sign_mark_of form_of token_at token_in after_blanks by_sign sign_of part_at stop tree_in from_line is_first_of_line token_kind may_begin scan_kind_by end_line_of read_tokens
 returns-clause-lines c = refl
 
 pub returns-clause-open_below : goal.returns-clause-open_below
-unfolding reading bad_place has_no_text blanks_len spaces_len is_bare has_tab ends_word is_flow_sign is_comment text_lines end_line is_alone is_sign_by document_sign is_sign folded_break stops plain_len plain_part plain_ending begins_with_flow_sign is_kept_out goes_on plain_below quote_byte is_backslash named_byte digits_after digit_value number_step byte_step quoted_line quoted_break cut_fault quoted_below chomp_of after_chomp header_fault indentation belongs row_of row_break last_feeds chomped block_lines takes takes_text plain_by colon_next closed_by quoted_by quoted_at block_by_header mark_of word_mark_of sign_mark_of form_of token_at token_in after_blanks by_sign sign_of part_at stop tree_in from_line is_first_of_line token_kind may_begin scan_kind_by end_line_of read_tokens
+unfolding reading bad_place has_no_text blanks_len spaces_len is_bare has_tab ends_word is_flow_sign is_comment text_lines end_line is_alone is_sign_by document_sign is_sign folded_break stops plain_len plain_part plain_ending begins_with_flow_sign is_kept_out goes_on plain_below quote_byte is_backslash named_byte digits_after hex_digit number_step byte_step quoted_line quoted_break cut_fault quoted_below chomp_of after_chomp header_fault indentation belongs row_of row_break last_feeds chomped block_lines takes takes_text plain_by colon_next closed_by quoted_by quoted_at block_by_header mark_of word_mark_of sign_mark_of form_of token_at token_in after_blanks by_sign sign_of part_at stop tree_in from_line is_first_of_line token_kind may_begin scan_kind_by end_line_of read_tokens
 returns-clause-open_below c = refl

@@ -1,0 +1,19 @@
+// What the definitions say of some kinds.
+ghost use Rattle.std.specs.Prelude.{◌≡◌, codes};
+ghost use Rattle.pr_expo_line.specs.declared.place.ExpoKind.TheVariants.{BadLabels};
+ghost use Rattle.pr_lex.specs.declared.fault.LexKind.TheVariants as lex;
+ghost use Rattle.pr_parse.specs.declared.fault.ParseKind.TheVariants as parse;
+ghost use Rattle.pr_types.specs.declared.kind.TypeKind.TheVariants as typing;
+ghost use Rattle.pr_kinds.specs.declared.kind.QueryKind.TheVariants.{Lex, Parse, Typing};
+ghost use Rattle.pr_kinds.specs.Kinds.{expo_word, kind_text};
+
+/// A kind is written by its name and what it tells.
+#[tactic(auto, unfolding(crate::proofs::Computing::computing))]
+pub fn kinds_are_written_so()
+    ensures lexical { kind_text (Lex lex.SpanTooLong) ≡ codes "SpanTooLong" }
+    ensures parsing { kind_text (Parse parse.UnknownFunction) ≡ codes "UnknownFunction" }
+    ensures arguments { kind_text (Typing (typing.Arguments 3 0 1)) ≡ codes "Arguments 3 0 1" }
+    ensures reach { kind_text (Typing (typing.Reach 3974400000 3888000000)) ≡ codes "Reach 3974400000 3888000000" }
+    ensures match_on_scalar { kind_text (Typing typing.MatchOnScalar) ≡ codes "MatchOnScalar" }
+    ensures line { expo_word BadLabels ≡ codes "BadLabels" }
+{}

@@ -1,4 +1,0 @@
-pub mod Heights
-pub mod Added
-pub mod Bounded
-pub mod Again
