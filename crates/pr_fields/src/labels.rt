@@ -115,7 +115,8 @@ pub fn labels_problems(
     }
 }
 
-fn label_value(node: &Node) -> Option<&str>
+/// The text of a value that is there.
+pub fn label_value(node: &Node) -> Option<&str>
     ensures { option_copied result ≡ label_value (tree_of node.now) }
 {
     if node.is_absent() {

@@ -22,8 +22,9 @@ pub fn text_problems(node: &Node, found: &mut Vec<Problem>) -> Result<(), AllocE
     }
 }
 
+/// The length of time that a text writes, where it is not too long.
 #[tactic(auto, using(crate::proofs::Spans::short_read))]
-fn short_span(text: &str) -> Option<Span>
+pub fn short_span(text: &str) -> Option<Span>
     ensures { result ≡ short_span text.now }
 {
     match read_span(text.as_bytes()) {

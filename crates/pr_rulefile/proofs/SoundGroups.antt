@@ -25,7 +25,7 @@ use Rattle.pr_fields.specs.Problems.{problem, by_text, by_items, by_fields, unle
 use Rattle.pr_fields.specs.Scalars.{any_text, if_short, short_span, limit_of, span_under, limit_under}
 use Rattle.pr_fields.specs.Labels.{labels_problems}
 use Rattle.pr_rulefile.specs.Fields.{group_field}
-use Rattle.pr_rulefile.specs.Expressions.{expression_under, tree_found}
+use Rattle.pr_fields.specs.Expressions.{expression_under, tree_found}
 use Rattle.pr_rulefile.specs.Rules.{naming_by, naming_of, is_alert, rule_problems, rule_in_problems, Rule, rule_with, rule_in, rule_by, rule_of}
 use Rattle.pr_rulefile.specs.Groups.{name_in, group_name, no_name, and_name, by_name, group_name_problems, is_alert_rule, has_alerts, group_value_problems, by_group_field, group_field_problems, group_in_problems, group_problems, name_of, groups_problems, Group, rules_by, rules_under, group_in, group_by, group_of}
 use Rattle.pr_rulefile.specs.File.{groups_value_problems, file_field_problems, file_problems, groups_under, file_groups, gives_file, by_problems, by_reading, rule_file_of}

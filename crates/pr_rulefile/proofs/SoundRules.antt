@@ -20,7 +20,7 @@ use Rattle.pr_fields.specs.Problems.{by_text, by_fields, unless_absent}
 use Rattle.pr_fields.specs.Scalars.{any_text, if_short, short_span, span_under}
 use Rattle.pr_fields.specs.Labels.{labels_problems, put_labels, pairs_of, HaveFreeNames, AreTemplates}
 use Rattle.pr_rulefile.specs.Fields.{rule_field}
-use Rattle.pr_rulefile.specs.Expressions.{typed_tree, parsed_tree, typed_expression, on_line, by_written, expression_under, expression_problems, tree_found}
+use Rattle.pr_fields.specs.Expressions.{typed_tree, parsed_tree, typed_expression, on_line, by_written, expression_under, expression_problems, tree_found}
 use Rattle.pr_rulefile.specs.Rules.{naming_by, naming_of, is_alert, naming_problems, recorded_problems, rule_value_problems, by_rule_field, rule_field_problems, rule_in_problems, rule_problems, Rule, name_key, rule_labels, rule_notes, rule_with}
 use Rattle.pr_rulefile.specs.Sound.{IsNamed, IsTyped}
 use Rattle.pr_fields.proofs.NoProblems.{left, right, none, unless, field_stands, written_stands}
@@ -32,8 +32,9 @@ pub record IsSound (r : Rule) : Type 0 where
   pub labels : HaveFreeNames r.labels
   pub notes : HaveFreeNames r.notes
   pub templates : r.alert ≡ true → AreTemplates r.labels × AreTemplates r.notes
-  pub recording : r.alert ≡ false → (r.hold ≡ 0) × (r.notes ≡ [])
+  pub recording : r.alert ≡ false → (r.hold ≡ 0) × (r.keep ≡ 0) × (r.notes ≡ [])
   pub hold : r.hold ≤ 2 ^ 40
+  pub keep : r.keep ≤ 2 ^ 40
 
 -- a field of a rule, which is there
 abbrev Fields : Naming → List EntryTree → Type 0
@@ -150,6 +151,15 @@ no_hold es all = by (field (codes "for") es) refl where
       let st = field_stands (λ e. rule_field_problems Record e ≡ []) (codes "for") es v all q in
       let fine = field_fine Record st.entry kind.For (ap rule_field st.named) st.there st.has in cc
 
+no_keep : (es : List EntryTree) → Fields Record es → field (codes "keep_firing_for") es ≡ None
+unfolding rule_value_problems
+no_keep es all = by (field (codes "keep_firing_for") es) refl where
+  by : (o : Option Tree) → field (codes "keep_firing_for") es ≡ o → o ≡ None
+  by None q = refl
+  by (Some v) q =
+      let st = field_stands (λ e. rule_field_problems Record e ≡ []) (codes "keep_firing_for") es v all q in
+      let fine = field_fine Record st.entry kind.KeepFiringFor (ap rule_field st.named) st.there st.has in cc
+
 -- lengths of time
 pub short : (o : Option ℕ) → unwrap_or (if_short o) 0 ≤ 2 ^ 40
 short None = omega arith
@@ -174,6 +184,7 @@ made group es t n = record {
   expr = t;
   labels = rule_labels group es;
   hold = unwrap_or (span_under (field (codes "for") es)) 0;
+  keep = unwrap_or (span_under (field (codes "keep_firing_for") es)) 0;
   notes = rule_notes es;
 }
 
@@ -202,8 +213,9 @@ sound_by group es line t Record q w all g typed =
       labels = free_names false _ ls;
       notes = subst HaveFreeNames (sym none) (free_names false [] nothing);
       templates = λ h. cc;
-      recording = λ h. (ap (λ o. unwrap_or (span_under o) 0) (no_hold es all), none);
+      recording = λ h. (ap (λ o. unwrap_or (span_under o) 0) (no_hold es all), ap (λ o. unwrap_or (span_under o) 0) (no_keep es all), none);
       hold = short_under (field (codes "for") es);
+      keep = short_under (field (codes "keep_firing_for") es);
     }
 sound_by group es line t Alert q w all g typed =
     let ls = kept_labels Alert group es g all in
@@ -216,6 +228,7 @@ sound_by group es line t Alert q w all g typed =
       templates = λ h. (are_templates _ ls, are_templates _ ns);
       recording = λ h. cc;
       hold = short_under (field (codes "for") es);
+      keep = short_under (field (codes "keep_firing_for") es);
     }
 
 pub sound_rule : (alerts : Bool) (group es : List EntryTree) (line : ℕ) (t : Expression) → AllByRecursion (IsFine alerts) (fields_under (field (codes "labels") group)) →

@@ -18,7 +18,7 @@ use Rattle.pr_rulefile.specs.declared.fields.Naming.{Naming}
 use Rattle.pr_rulefile.specs.declared.fields.Naming.TheVariants.{Neither, Record, Alert, Both}
 use Rattle.pr_rulefile.specs.declared.rules.RuleDef.{RuleDef}
 use Rattle.pr_rulefile.specs.Fields.{rule_field}
-use Rattle.pr_rulefile.specs.Expressions.{expression_under, expression_problems, tree_found}
+use Rattle.pr_fields.specs.Expressions.{expression_under, expression_problems, tree_found}
 
 -- which of `record` and `alert` a rule has; an empty one is none
 abbrev pub naming_by : Bool → Bool → Naming
@@ -60,6 +60,7 @@ rule_value_problems naming e kind.Alert = text_problems e.value
 rule_value_problems naming e kind.Expr = []
 rule_value_problems naming e kind.Labels = labels_problems (is_alert naming) e.value
 rule_value_problems naming e kind.For = for_alerts naming e (span_problems e.value)
+rule_value_problems naming e kind.KeepFiringFor = for_alerts naming e (span_problems e.value)
 rule_value_problems naming e kind.Annotations = for_alerts naming e (labels_problems (is_alert naming) e.value)
 
 abbrev pub by_rule_field : Naming → EntryTree → Option RuleField → List Problem
@@ -85,10 +86,11 @@ pub record Rule : Type 0 where
   pub expr : Expression
   pub labels : List Pair
   pub hold : ℕ
+  pub keep : ℕ
   pub notes : List Pair
 
 abbrev pub rule_of_def : RuleDef → Rule
-rule_of_def d = record { name = d.name; alert = d.alert; expr = tree_of d.expr; labels = d.labels; hold = d.hold; notes = d.notes }
+rule_of_def d = record { name = d.name; alert = d.alert; expr = tree_of d.expr; labels = d.labels; hold = d.hold; keep = d.keep; notes = d.notes }
 
 -- the alert where it is one, and else what it records
 abbrev pub name_key : Bool → List ℕ
@@ -109,6 +111,7 @@ rule_with group es expr = record {
   expr = expr;
   labels = rule_labels group es;
   hold = unwrap_or (span_under (field (codes "for") es)) 0;
+  keep = unwrap_or (span_under (field (codes "keep_firing_for") es)) 0;
   notes = rule_notes es;
 }
 

@@ -3,11 +3,12 @@ ghost use Rattle.std.specs.Prelude.{◌≡◌, ◌≢◌, ◌≤◌, ◌<◌, �
 ghost use Rattle.std.specs.List.{IsDistinct};
 ghost use Rattle.std.specs.Str.{bytes_eq};
 ghost use Rattle.pr_yaml.specs.Tree.{Tree, EntryTree};
+ghost use Rattle.pr_fields.specs.declared.problem.Problem.{Problem};
 ghost use Rattle.pr_fields.specs.Nodes.{fields_in, written};
 ghost use Rattle.pr_fields.specs.Labels.{HaveFreeNames, AreTemplates};
 ghost use Rattle.pr_rulefile.specs.Rules.{rule_problems, rule_of};
 ghost use Rattle.pr_rulefile.specs.Groups.{Group, group_problems, group_of};
-ghost use Rattle.pr_rulefile.specs.File.{rule_file_of, gives_file};
+ghost use Rattle.pr_rulefile.specs.File.{rule_file_of, gives_file, gives_problems};
 ghost use Rattle.pr_rulefile.specs.Sound.{HoldsOfGroups, HoldsOfRules, IsNamed, IsTyped};
 
 pub use pr_fields::laws::problems_are_told_in_order;
@@ -17,6 +18,12 @@ pub use pr_fields::laws::problems_are_told_in_order;
 pub fn what_is_not_wrong_is_there()
     ensures rule { (group : List EntryTree) (t : Tree) → rule_problems t ≡ [] → IsSome (rule_of group t) }
     ensures group { (before : List ℕ → Bool) (t : Tree) → group_problems before t ≡ [] → IsSome (group_of t) }
+{}
+
+/// A text that is no rule file has a problem that can be told.
+#[tactic(auto, using(crate::proofs::SomeProblems::problem_is_told))]
+pub fn a_refused_file_has_a_problem()
+    ensures { (text : List ℕ) (list : List Problem) → rule_file_of text ≡ gives_problems list → list ≢ [] }
 {}
 
 /// The groups of a file have names that differ, and neither their intervals nor their limits are
@@ -38,6 +45,7 @@ pub fn rules_are_sound()
     ensures labels { HoldsOfRules (λ r. HaveFreeNames r.labels) }
     ensures notes { HoldsOfRules (λ r. HaveFreeNames r.notes) }
     ensures templates { HoldsOfRules (λ r. r.alert ≡ true → AreTemplates r.labels × AreTemplates r.notes) }
-    ensures recording { HoldsOfRules (λ r. r.alert ≡ false → (r.hold ≡ 0) × (r.notes ≡ [])) }
+    ensures recording { HoldsOfRules (λ r. r.alert ≡ false → (r.hold ≡ 0) × (r.keep ≡ 0) × (r.notes ≡ [])) }
     ensures hold { HoldsOfRules (λ r. r.hold ≤ 2 ^ 40) }
+    ensures keep { HoldsOfRules (λ r. r.keep ≤ 2 ^ 40) }
 {}

@@ -1,22 +1,21 @@
 // Rules.
-ghost use Rattle.std.specs.Prelude.{◌≡◌, ◌++◌, ◌∷◌, [], OnOk, IfOk, map, codes, Option};
+ghost use Rattle.std.specs.Prelude.{◌≡◌, ◌++◌, ◌∷◌, [], OnOk, IfOk, map, codes, Option, unwrap_or};
 ghost use Rattle.std.specs.List.{flat_map};
 ghost use Rattle.std.specs.Option.{option_map};
 ghost use Rattle.pr_ast.specs.Tree.{tree_of as expression_tree};
 ghost use Rattle.pr_yaml.specs.Tree.{tree_of, entry_tree_of};
 ghost use Rattle.pr_fields.specs.Problems.{by_text};
-ghost use Rattle.pr_fields.specs.Scalars.{span_problems};
+ghost use Rattle.pr_fields.specs.Scalars.{span_problems, span_under};
 ghost use Rattle.pr_fields.specs.Labels.{labels_problems};
-ghost use Rattle.pr_fields.specs.Nodes.{line_of, text_of};
+ghost use Rattle.pr_fields.specs.Nodes.{line_of, text_of, field};
 ghost use Rattle.pr_rulefile.specs.Rules.{naming_by, naming_of, is_alert, records_only, naming_problems, recorded_problems, for_alerts, rule_value_problems, rule_field_problems, rule_in_problems, rule_problems, rule_of_def, name_key, rule_labels, rule_notes, rule_with, rule_in, rule_of};
 
-use crate::expressions::rule_expression;
 use crate::fields::{Naming, RuleField, rule_field};
 use crate::rules::RuleDef;
 use pr_fields::{
-    Problem, ProblemKind, fields_of, fields_under, key_line_of, key_of, labels_problems, line_of,
-    pairs_of, push, push_not_for_recording, push_unknown, put_labels, span_problems, span_under,
-    text_of, text_problems, value_of, written, written_text,
+    Problem, ProblemKind, expression_under, fields_of, fields_under, key_line_of, key_of,
+    labels_problems, line_of, pairs_of, push, push_not_for_recording, push_unknown, put_labels,
+    span_problems, span_under, text_of, text_problems, value_of, written, written_text,
 };
 use pr_labels::{Pair, is_metric_name};
 use pr_time::Span;
@@ -140,7 +139,7 @@ fn rule_value_problems(
         RuleField::Alert => text_problems(value_of(entry), found),
         RuleField::Expr => Ok(()),
         RuleField::Labels => labels_problems(alloc, is_alert(naming), value_of(entry), found),
-        RuleField::For => for_problems(alloc, naming, entry, found),
+        RuleField::For | RuleField::KeepFiringFor => for_problems(alloc, naming, entry, found),
         RuleField::Annotations => annotation_problems(alloc, naming, entry, found),
     }
 }
@@ -210,6 +209,26 @@ fn no_span() -> Span
     Span::new(0).unwrap()
 }
 
+// How long an alert of a rule is pending.
+fn held_for(entries: &[Entry]) -> Span
+    ensures { result ≡ unwrap_or (span_under (field (codes "for") (map entry_tree_of entries.now))) 0 }
+{
+    match span_under("for", entries) {
+        Some(span) => span,
+        None => no_span(),
+    }
+}
+
+// How long it keeps firing after it is over.
+fn kept_for(entries: &[Entry]) -> Span
+    ensures { result ≡ unwrap_or (span_under (field (codes "keep_firing_for") (map entry_tree_of entries.now))) 0 }
+{
+    match span_under("keep_firing_for", entries) {
+        Some(span) => span,
+        None => no_span(),
+    }
+}
+
 // The rule of these fields, in a group of those.
 #[tactic(auto, unfolding(crate::specs::Rules::rule_with))]
 fn rule_with(
@@ -229,7 +248,8 @@ fn rule_with(
         alert,
         expr,
         labels,
-        hold: span_under("for", entries).unwrap_or(no_span()),
+        hold: held_for(entries),
+        keep: kept_for(entries),
         notes,
     })
 }
@@ -247,7 +267,7 @@ fn rule_in(
 {
     let naming = naming_of(entries);
     naming_problems(line, naming, found)?;
-    let expr = rule_expression(alloc, line, entries, found)?;
+    let expr = expression_under(alloc, line, entries, found)?;
     each_rule_field(alloc, naming, entries, found)?;
     match expr {
         Some(expr) => Ok(Some(rule_with(alloc, group, entries, expr)?)),

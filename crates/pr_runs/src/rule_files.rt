@@ -14,7 +14,11 @@ fn show_pairs(alloc: Global, out: &mut String, pairs: &[Pair]) -> Result<(), All
 fn show_rule(alloc: Global, out: &mut String, rule: &RuleDef) -> Result<(), AllocError> {
     let kind = if rule.alert { "alert" } else { "record" };
     let name = rule.name.as_str();
-    out.push_str(&format!(in alloc; " {kind} {name} {} labels", rule.hold.get())?)?;
+    out.push_str(&format!(in alloc; " {kind} {name} {}", rule.hold.get())?)?;
+    if rule.keep.get() > 0 {
+        out.push_str(&format!(in alloc; " keep {}", rule.keep.get())?)?;
+    }
+    out.push_str(" labels")?;
     show_pairs(alloc, out, rule.labels.as_slice())?;
     out.push_str(" notes")?;
     show_pairs(alloc, out, rule.notes.as_slice())?;

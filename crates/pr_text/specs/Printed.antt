@@ -2,23 +2,22 @@
 use Rattle.std.specs.Prelude.{ℕ, List, ◌++◌, length, codes, decimal, flat_map}
 use Rattle.pr_num.specs.declared.value.Num.{Num}
 use Rattle.pr_num.specs.declared.value.Point.{Point}
-use Rattle.pr_num.specs.declared.value.Point.TheVariants.{Value, Stale}
 use Rattle.pr_num.specs.Shown.{shown}
+use Rattle.pr_strings.specs.Quoted.{quoted_text}
 use Rattle.pr_labels.specs.declared.item.Item.{Item}
 use Rattle.pr_labels.specs.SeriesText.{series_text}
 use Rattle.pr_kinds.specs.declared.kind.QueryKind.{QueryKind}
 use Rattle.pr_kinds.specs.Kinds.{expo_word, kind_text}
-use Rattle.pr_text.specs.Answers.{dropped_conflict, dropped_out_of_order, backwards_last, scraped_added, bad_scrape_line}
+use Rattle.pr_fields.specs.declared.problem.ProblemKind.{ProblemKind}
+use Rattle.pr_fields.specs.Printed.{problem_text}
+use Rattle.pr_text.specs.Answers.{dropped_conflict, dropped_out_of_order, backwards_last, scraped_added, bad_scrape_line, not_later_last, reloaded_groups}
+use Rattle.pr_text.specs.Evaluated.{alerts_text, evaluated_text}
 use Rattle.pr_world.specs.declared.report.Report.{Report}
-use Rattle.pr_world.specs.declared.report.Report.TheVariants.{Opened, Added, Same, OutOfOrder, Conflict, Scraped, BadScrape, Failed, Gone, Scalar, Vector, QueryFault, QueryRefused, Backwards}
+use Rattle.pr_world.specs.declared.report.Report.TheVariants.{Opened, Added, Same, OutOfOrder, Conflict, Scraped, BadScrape, Failed, Gone, Evaluated, NoGroup, NotLater, Reloaded, Missing, TooLarge, Refused, Restarted, Alerts, Scalar, Vector, QueryFault, QueryRefused, Backwards}
 use Rattle.pr_expo_line.specs.declared.place.ExpoKind.{ExpoKind}
 use Rattle.pr_query.specs.declared.fault.FaultKind.{FaultKind}
 use Rattle.pr_text.specs.Faults.{fault_text}
-
--- a number by its printed text, and a marker by its word
-abbrev pub shown_point : Point → List ℕ
-shown_point (Value v) = shown v
-shown_point Stale = codes "stale"
+use Rattle.pr_text.specs.Values.{place_text, shown_point}
 
 abbrev pub opened_text : ℕ → List ℕ
 opened_text rows = codes "opened " ++ decimal rows ++ codes "\n"
@@ -58,15 +57,33 @@ backwards_text last given = backwards_last ++ decimal last ++ codes " given " ++
 abbrev pub scalar_text : Num → List ℕ
 scalar_text v = codes "scalar " ++ shown v ++ codes "\n"
 
--- the place of a fault: a byte of the expression's text
-abbrev pub place_text : ℕ → List ℕ
-place_text place = codes " at " ++ decimal place ++ codes "\n"
-
 abbrev pub query_fault_text : ℕ → FaultKind → List ℕ
 query_fault_text place kind = codes "fault " ++ fault_text kind ++ place_text place
 
 abbrev pub query_refused_text : ℕ → QueryKind → List ℕ
 query_refused_text place kind = codes "refused " ++ kind_text kind ++ place_text place
+
+abbrev pub no_group_text : List ℕ → List ℕ → List ℕ
+no_group_text file group = codes "no group " ++ quoted_text file ++ codes " " ++ quoted_text group ++ codes "\n"
+
+abbrev pub not_later_text : ℕ → List ℕ
+not_later_text last = not_later_last ++ decimal last ++ codes "\n"
+
+abbrev pub reloaded_text : ℕ → ℕ → ℕ → List ℕ
+reloaded_text groups rules stale = reloaded_groups ++ decimal groups ++ codes " rules " ++ decimal rules ++ stale_text stale
+
+-- a name is told as it stands
+abbrev pub missing_text : List ℕ → List ℕ
+missing_text file = codes "missing " ++ file ++ codes "\n"
+
+abbrev pub too_large_text : List ℕ → List ℕ
+too_large_text file = codes "too large " ++ file ++ codes "\n"
+
+abbrev pub refused_text : List ℕ → ℕ → ProblemKind → List ℕ
+refused_text name line kind = codes "refused " ++ name ++ codes " line " ++ decimal line ++ codes " " ++ problem_text kind ++ codes "\n"
+
+abbrev pub restarted_text : ℕ → List ℕ
+restarted_text rows = codes "restarted " ++ decimal rows ++ codes "\n"
 
 -- what is written for a line that spells no order
 abbrev pub bad_line_text : ℕ → List ℕ
@@ -83,6 +100,15 @@ shown_report (Scraped added dropped stale) = scraped_text added dropped stale
 shown_report (BadScrape line kind stale) = bad_scrape_text line kind stale
 shown_report (Failed stale) = failed_text stale
 shown_report (Gone stale) = gone_text stale
+shown_report (Evaluated group) = evaluated_text group
+shown_report (NoGroup file group) = no_group_text file group
+shown_report (NotLater last) = not_later_text last
+shown_report (Reloaded groups rules stale) = reloaded_text groups rules stale
+shown_report (Missing file) = missing_text file
+shown_report (TooLarge file) = too_large_text file
+shown_report (Refused name line kind) = refused_text name line kind
+shown_report (Restarted rows) = restarted_text rows
+shown_report (Alerts list) = alerts_text list
 shown_report (Scalar value) = scalar_text value
 shown_report (Vector items) = vector_text items
 shown_report (QueryFault place kind) = query_fault_text place kind

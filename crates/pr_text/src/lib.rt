@@ -1,12 +1,14 @@
 //! The texts of a run: what the lines of a script ask for, and how answers are printed.
 #![tactic(auto)]
 
+mod evaluated;
 mod examples;
 mod faults;
 mod laws;
 mod order;
 mod printed;
 mod script;
+mod values;
 
 pub use examples::{
     a_body_belongs_to_its_line, a_scrape_has_its_body, a_target_has_labels, faults_are_written_so,

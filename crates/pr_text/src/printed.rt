@@ -3,17 +3,22 @@
 
 ghost use Rattle.std.specs.Prelude.{◌≡◌, ◌++◌, OnOk, OnErr, codes, flat_map, length, take};
 ghost use Rattle.pr_num.specs.Shown.{shown};
+ghost use Rattle.pr_strings.specs.Quoted.{quoted_text};
 ghost use Rattle.pr_labels.specs.SeriesText.{series_text};
 ghost use Rattle.pr_kinds.specs.Kinds.{expo_word};
-ghost use Rattle.pr_text.specs.Answers.{dropped_conflict, dropped_out_of_order, backwards_last, scraped_added, bad_scrape_line};
-ghost use Rattle.pr_text.specs.Printed.{shown_point, opened_text, out_of_order_text, conflict_text, stale_text, scraped_text, bad_scrape_text, failed_text, gone_text, item_text, vector_text, backwards_text, scalar_text, place_text, query_fault_text, query_refused_text, shown_report, bad_line_text};
+ghost use Rattle.pr_text.specs.Answers.{dropped_conflict, dropped_out_of_order, backwards_last, scraped_added, bad_scrape_line, not_later_last, reloaded_groups};
+ghost use Rattle.pr_text.specs.Printed.{opened_text, out_of_order_text, conflict_text, stale_text, scraped_text, bad_scrape_text, failed_text, gone_text, item_text, vector_text, backwards_text, scalar_text, no_group_text, not_later_text, reloaded_text, missing_text, too_large_text, refused_text, restarted_text, query_fault_text, query_refused_text, shown_report, bad_line_text};
 
+use crate::evaluated::{push_alerts, push_evaluated};
 use crate::faults::push_fault_kind;
+use crate::values::{push_place, push_point, push_value};
 use pr_expo_line::ExpoKind;
+use pr_fields::{ProblemKind, push_problem_kind};
 use pr_kinds::{QueryKind, expo_word, push_number, push_query_kind, whole_or_none};
 use pr_labels::{Item, Labels};
 use pr_num::{Num, Point};
 use pr_query::FaultKind;
+use pr_strings::write_string;
 use pr_time::Ms;
 use pr_world::Report;
 use std::alloc::AllocError;
@@ -58,23 +63,20 @@ fn push_bad_scrape_line(text: &mut Vec<u8>) -> Result<(), AllocError>
     text.extend_from_slice(b"bad scrape line ")
 }
 
-fn push_value(text: &mut Vec<u8>, v: Num) -> Result<(), AllocError>
-    ensures ok { OnOk result (text.new.items ≡ text.old.items ++ shown v) }
+#[tactic(auto, unfolding(crate::specs::Answers::not_later_last))]
+fn push_not_later_last(text: &mut Vec<u8>) -> Result<(), AllocError>
+    ensures ok { OnOk result (text.new.items ≡ text.old.items ++ not_later_last) }
     ensures front { take (length text.old.items) text.new.items ≡ text.old.items }
 {
-    let mut buffer = [0u8; 40];
-    let count = pr_num::write(v, &mut buffer);
-    text.extend_from_slice(&buffer[..count])
+    text.extend_from_slice(b"not later last ")
 }
 
-fn push_point(text: &mut Vec<u8>, p: Point) -> Result<(), AllocError>
-    ensures ok { OnOk result (text.new.items ≡ text.old.items ++ shown_point p) }
+#[tactic(auto, unfolding(crate::specs::Answers::reloaded_groups))]
+fn push_reloaded_groups(text: &mut Vec<u8>) -> Result<(), AllocError>
+    ensures ok { OnOk result (text.new.items ≡ text.old.items ++ reloaded_groups) }
     ensures front { take (length text.old.items) text.new.items ≡ text.old.items }
 {
-    match p {
-        Point::Value(v) => push_value(text, v),
-        Point::Stale => text.extend_from_slice(b"stale"),
-    }
+    text.extend_from_slice(b"reloaded groups ")
 }
 
 fn push_opened(text: &mut Vec<u8>, rows: u64) -> Result<(), AllocError>
@@ -215,15 +217,6 @@ fn push_scalar(text: &mut Vec<u8>, value: Num) -> Result<(), AllocError>
     text.extend_from_slice(b"\n")
 }
 
-fn push_place(text: &mut Vec<u8>, place: usize) -> Result<(), AllocError>
-    ensures ok { OnOk result (text.new.items ≡ text.old.items ++ place_text place) }
-    ensures front { take (length text.old.items) text.new.items ≡ text.old.items }
-{
-    text.extend_from_slice(b" at ")?;
-    push_number(text, place as u64)?;
-    text.extend_from_slice(b"\n")
-}
-
 fn push_query_fault(text: &mut Vec<u8>, place: usize, kind: &FaultKind) -> Result<(), AllocError>
     ensures ok { OnOk result (text.new.items ≡ text.old.items ++ query_fault_text place kind.now) }
     ensures front { take (length text.old.items) text.new.items ≡ text.old.items }
@@ -240,6 +233,82 @@ fn push_query_refused(text: &mut Vec<u8>, place: usize, kind: QueryKind) -> Resu
     text.extend_from_slice(b"refused ")?;
     push_query_kind(text, kind)?;
     push_place(text, place)
+}
+
+fn push_no_group(text: &mut Vec<u8>, file: &str, group: &str) -> Result<(), AllocError>
+    ensures ok { OnOk result (text.new.items ≡ text.old.items ++ no_group_text file.now group.now) }
+    ensures front { take (length text.old.items) text.new.items ≡ text.old.items }
+{
+    text.extend_from_slice(b"no group ")?;
+    write_string(file.as_bytes(), text)?;
+    text.extend_from_slice(b" ")?;
+    write_string(group.as_bytes(), text)?;
+    text.extend_from_slice(b"\n")
+}
+
+fn push_not_later(text: &mut Vec<u8>, last: Ms) -> Result<(), AllocError>
+    ensures ok { OnOk result (text.new.items ≡ text.old.items ++ not_later_text last) }
+    ensures front { take (length text.old.items) text.new.items ≡ text.old.items }
+{
+    push_not_later_last(text)?;
+    push_number(text, last.get())?;
+    text.extend_from_slice(b"\n")
+}
+
+fn push_reloaded(text: &mut Vec<u8>, groups: u64, rules: u64, stale: u64) -> Result<(), AllocError>
+    ensures ok { OnOk result (text.new.items ≡ text.old.items ++ reloaded_text groups rules stale) }
+    ensures front { take (length text.old.items) text.new.items ≡ text.old.items }
+{
+    push_reloaded_groups(text)?;
+    push_number(text, groups)?;
+    text.extend_from_slice(b" rules ")?;
+    push_number(text, rules)?;
+    push_stale(text, stale)
+}
+
+fn push_missing(text: &mut Vec<u8>, file: &str) -> Result<(), AllocError>
+    ensures ok { OnOk result (text.new.items ≡ text.old.items ++ missing_text file.now) }
+    ensures front { take (length text.old.items) text.new.items ≡ text.old.items }
+{
+    text.extend_from_slice(b"missing ")?;
+    text.extend_from_slice(file.as_bytes())?;
+    text.extend_from_slice(b"\n")
+}
+
+fn push_too_large(text: &mut Vec<u8>, file: &str) -> Result<(), AllocError>
+    ensures ok { OnOk result (text.new.items ≡ text.old.items ++ too_large_text file.now) }
+    ensures front { take (length text.old.items) text.new.items ≡ text.old.items }
+{
+    text.extend_from_slice(b"too large ")?;
+    text.extend_from_slice(file.as_bytes())?;
+    text.extend_from_slice(b"\n")
+}
+
+fn push_refused(
+    text: &mut Vec<u8>,
+    name: &str,
+    line: u32,
+    kind: &ProblemKind,
+) -> Result<(), AllocError>
+    ensures ok { OnOk result (text.new.items ≡ text.old.items ++ refused_text name.now line kind.now) }
+    ensures front { take (length text.old.items) text.new.items ≡ text.old.items }
+{
+    text.extend_from_slice(b"refused ")?;
+    text.extend_from_slice(name.as_bytes())?;
+    text.extend_from_slice(b" line ")?;
+    push_number(text, u64::from(line))?;
+    text.extend_from_slice(b" ")?;
+    push_problem_kind(text, kind)?;
+    text.extend_from_slice(b"\n")
+}
+
+fn push_restarted(text: &mut Vec<u8>, rows: u64) -> Result<(), AllocError>
+    ensures ok { OnOk result (text.new.items ≡ text.old.items ++ restarted_text rows) }
+    ensures front { take (length text.old.items) text.new.items ≡ text.old.items }
+{
+    text.extend_from_slice(b"restarted ")?;
+    push_number(text, rows)?;
+    text.extend_from_slice(b"\n")
 }
 
 // The lines of a report, without memory a part of them.
@@ -262,6 +331,19 @@ fn push_shown(text: &mut Vec<u8>, report: &Report) -> Result<(), AllocError>
         Report::BadScrape { line, kind, stale } => push_bad_scrape(text, *line, *kind, *stale),
         Report::Failed { stale } => push_failed(text, *stale),
         Report::Gone { stale } => push_gone(text, *stale),
+        Report::Evaluated { group } => push_evaluated(text, group),
+        Report::NoGroup { file, group } => push_no_group(text, file.as_str(), group.as_str()),
+        Report::NotLater { last } => push_not_later(text, *last),
+        Report::Reloaded {
+            groups,
+            rules,
+            stale,
+        } => push_reloaded(text, *groups, *rules, *stale),
+        Report::Missing { file } => push_missing(text, file.as_str()),
+        Report::TooLarge { file } => push_too_large(text, file.as_str()),
+        Report::Refused { name, line, kind } => push_refused(text, name.as_str(), *line, kind),
+        Report::Restarted { rows } => push_restarted(text, *rows),
+        Report::Alerts { list } => push_alerts(text, list.as_slice()),
         Report::Scalar { value } => push_scalar(text, *value),
         Report::Vector { items } => push_vector(text, items.as_slice()),
         Report::QueryFault { place, kind } => push_query_fault(text, *place, kind),

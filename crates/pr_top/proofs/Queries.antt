@@ -30,7 +30,7 @@ use Rattle.pr_top.specs.declared.answered.Answered.{Answered}
 use Rattle.pr_world.specs.declared.report.Report.{Report}
 use Rattle.pr_world.specs.declared.report.Report.TheVariants.{QueryFault, QueryRefused}
 use Rattle.pr_kinds.specs.declared.kind.QueryKind.TheVariants.{Lex, Parse, Typing}
-use Rattle.pr_world.specs.Outcome.{accept, refuse}
+use Rattle.pr_world.specs.Outcome.{accept, nothing_else, refuse}
 use Rattle.pr_world.specs.Query.{parsed_outcome, told_answer, told_value, typed_outcome}
 use Rattle.pr_world.specs.Settings.{Settings}
 
@@ -62,12 +62,12 @@ pub told_fault : (meant : Result Value Fault) (place : Place) (kind : FaultKind)
 told_fault meant place kind h = ap told_answer (sym h)
 
 -- an expression that has a type
-pub accepted_answer : (report : Report) (a : Answered) → a.report ≡ report → a.refused ≡ false → HasOutcome (accept report []) a
-accepted_answer report a r f = (r, f, refl)
+pub accepted_answer : (report : Report) (a : Answered) → a.report ≡ report → a.refused ≡ false → HasOutcome (accept report [] nothing_else) a
+accepted_answer report a r f = (r, f, refl, refl)
 
 -- whether it has a type
 pub typed_answer : (s : Settings) (history : List Entry) (time : ℕ) (t : Tree) (r : Result ValueType TypeFault) (result : Result Answered AllocError) → is_ok r ≡ true
-    → IfOk result (HasOutcome (accept (told_answer (meaning s.subquery_step history t time)) [])) → IfOk result (HasOutcome (typed_outcome s history time t r))
+    → IfOk result (HasOutcome (accept (told_answer (meaning s.subquery_step history t time)) [] nothing_else)) → IfOk result (HasOutcome (typed_outcome s history time t r))
 typed_answer s history time t (Ok type) result h k = k
 typed_answer s history time t (Err f) result h k = absurd cc
 

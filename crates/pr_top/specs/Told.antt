@@ -1,5 +1,5 @@
 -- What a run of the script writes, keeps and refuses.
-use Rattle.std.specs.Prelude.{ℕ, Bool, true, List, [], ◌∷◌, ◌++◌, length, flat_map}
+use Rattle.std.specs.Prelude.{ℕ, Bool, true, false, cond, List, [], ◌∷◌, ◌++◌, length, flat_map}
 use Rattle.std.specs.List.{list_any}
 use Rattle.pr_words.specs.Lines.{lines_of}
 use Rattle.pr_history.specs.declared.entry.Entry.{Entry}
@@ -8,6 +8,8 @@ use Rattle.pr_text.specs.declared.order.Order.TheVariants as order
 use Rattle.pr_text.specs.declared.order.Numbered.{Numbered}
 use Rattle.pr_text.specs.Orders.{orders_of}
 use Rattle.pr_text.specs.Printed.{shown_report, bad_line_text}
+use Rattle.pr_world.specs.declared.event.Event.{Event}
+use Rattle.pr_world.specs.declared.event.Event.TheVariants as event
 use Rattle.pr_world.specs.declared.report.Report.TheVariants.{Opened}
 use Rattle.pr_world.specs.Settings.{of_a_run}
 use Rattle.pr_world.specs.Step.{Step, next}
@@ -33,8 +35,20 @@ turn_by step = record { answer = record { text = shown_report step.report; rows 
 abbrev pub bad_turn : World → ℕ → Turn
 bad_turn w number = record { answer = record { text = bad_line_text number; rows = []; refused = true }; world = w }
 
+-- So far an order about rules, or one that begins anew, is none: it is answered as such a line.
+abbrev pub is_taken : Event → Bool
+is_taken (event.Add time labels point) = true
+is_taken (event.Query time text) = true
+is_taken (event.Scrape time target body) = true
+is_taken (event.Fail time target) = true
+is_taken (event.Gone time target) = true
+is_taken (event.Eval time file group) = false
+is_taken (event.Reload time files) = false
+is_taken (event.Restart time) = false
+is_taken (event.Alerts time) = false
+
 abbrev pub turn_of : World → ℕ → Order → Turn
-turn_of w number (order.Event e) = turn_by (next of_a_run w e)
+turn_of w number (order.Event e) = cond (is_taken e) (turn_by (next of_a_run w e)) (bad_turn w number)
 turn_of w number order.Bad = bad_turn w number
 
 unfoldable pub turn : World → Numbered → Turn

@@ -1,5 +1,5 @@
 // The engine: what it stands for, and one event of it.
-ghost use Rattle.std.specs.Prelude.{◌≡◌, false, cond, List, [], ◌++◌, Some, IfOk, OnOk, OnErr};
+ghost use Rattle.std.specs.Prelude.{◌≡◌, false, true, cond, List, [], ◌++◌, Some, IfOk, OnOk, OnErr};
 ghost use Rattle.pr_history.specs.declared.entry.Entry.{Entry};
 ghost use Rattle.pr_history.specs.Admission.{admit};
 ghost use Rattle.pr_world.specs.World.{World, start};
@@ -9,6 +9,7 @@ ghost use Rattle.pr_world.specs.Step.{time_of, is_about_target, report_of, rows_
 ghost use Rattle.pr_world.specs.Targets.{fail_step, gone_step, scrape_step};
 ghost use Rattle.pr_top.specs.Asked.{HasOutcome};
 ghost use Rattle.pr_top.specs.Keeping.{IsHeadOf, IsLeft, KeepsWorld};
+ghost use Rattle.pr_top.specs.Told.{is_taken};
 
 use super::answered::Answered;
 use super::query::ask;
@@ -51,6 +52,10 @@ fn time_of(event: &Event) -> Ms
         Event::Scrape { time, .. } => *time,
         Event::Fail { time, .. } => *time,
         Event::Gone { time, .. } => *time,
+        Event::Eval { time, .. } => *time,
+        Event::Reload { time, .. } => *time,
+        Event::Restart { time } => *time,
+        Event::Alerts { time } => *time,
     }
 }
 
@@ -79,6 +84,21 @@ fn scrape_report(scraped: &Scraped) -> Report
             dropped: scraped.dropped,
             stale: scraped.stale,
         },
+    }
+}
+
+/// Whether the engine takes such an event. So far no rules are evaluated, and no run begins anew.
+pub(crate) fn takes(event: &Event) -> bool
+    ensures { result ≡ is_taken event.now }
+{
+    match event {
+        Event::Add { .. }
+        | Event::Query { .. }
+        | Event::Scrape { .. }
+        | Event::Fail { .. }
+        | Event::Gone { .. } => true,
+        Event::Eval { .. } | Event::Reload { .. } | Event::Restart { .. } | Event::Alerts { .. } =>
+            false,
     }
 }
 
@@ -157,7 +177,7 @@ impl Engine {
         alloc: Global,
         target: Labels,
         time: Ms,
-        body: &str,
+        body: &[u8],
     ) -> Result<Answered, AllocError>
         ensures report { (w : World) → KeepsWorld self.old w
             → IfOk result (λ a. a.report ≡ scrape_report (scrape_step w.targets w.history target time body.now).answer.fault (scrape_step w.targets w.history target time body.now).answer) }
@@ -171,7 +191,7 @@ impl Engine {
         }
         let scraped = self
             .targets
-            .scrape(alloc, &mut self.head, target, time, body.as_bytes())?;
+            .scrape(alloc, &mut self.head, target, time, body)?;
         self.last = Some(time);
         Ok(accepted(scrape_report(&scraped)))
     }
@@ -212,6 +232,7 @@ impl Engine {
     // Takes an event that is not before the last one.
     #[tactic(auto, using(crate::proofs::Values::answered_report, crate::proofs::Values::answered_refused))]
     fn take(&mut self, alloc: Global, event: Event) -> Result<Answered, AllocError>
+        requires { is_taken event ≡ true }
         ensures report { (w : World) → KeepsWorld self.old w → IfOk result (λ a. a.report ≡ (step_by w (time_of event) (outcome_in_time of_a_run w event)).report) }
         ensures refused { (w : World) → KeepsWorld self.old w → IfOk result (λ a. a.refused ≡ (step_by w (time_of event) (outcome_in_time of_a_run w event)).refused) }
         ensures world { (w : World) → KeepsWorld self.old w → OnOk result (KeepsWorld self.new (step_by w (time_of event) (outcome_in_time of_a_run w event)).world) }
@@ -225,10 +246,14 @@ impl Engine {
             } => self.take_sample(&labels, time, point),
             Event::Query { time, text } => self.take_query(alloc, text.as_str(), time),
             Event::Scrape { time, target, body } => {
-                self.take_scrape(alloc, target, time, body.as_str())
+                self.take_scrape(alloc, target, time, body.as_slice())
             }
             Event::Fail { time, target } => self.take_failure(alloc, target, time),
             Event::Gone { time, target } => self.take_end(alloc, &target, time),
+            Event::Eval { .. }
+            | Event::Reload { .. }
+            | Event::Restart { .. }
+            | Event::Alerts { .. } => unreachable!(),
         }
     }
 
@@ -239,6 +264,7 @@ impl Engine {
     /// one what is kept is of no use any more.
     #[tactic(auto, unfolding(pr_world::specs::Step::next))]
     pub(crate) fn apply(&mut self, alloc: Global, event: Event) -> Result<Answered, AllocError>
+        requires { is_taken event ≡ true }
         ensures report { (w : World) → KeepsWorld self.old w → IfOk result (λ a. a.report ≡ (next of_a_run w event).report) }
         ensures refused { (w : World) → KeepsWorld self.old w → IfOk result (λ a. a.refused ≡ (next of_a_run w event).refused) }
         ensures world { (w : World) → KeepsWorld self.old w → OnOk result (KeepsWorld self.new (next of_a_run w event).world) }

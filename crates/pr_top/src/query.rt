@@ -11,7 +11,7 @@ ghost use Rattle.pr_values.specs.Answers.{AnswersTo};
 ghost use Rattle.pr_top.specs.Asked.{HasOutcome};
 ghost use Rattle.pr_top.specs.Keeping.{IsHeadOf};
 ghost use Rattle.pr_world.specs.declared.report.Report.TheVariants.{QueryRefused};
-ghost use Rattle.pr_world.specs.Outcome.{accept, refuse};
+ghost use Rattle.pr_world.specs.Outcome.{accept, nothing_else, refuse};
 ghost use Rattle.pr_world.specs.Query.{parsed_outcome, query_outcome, told_answer, told_value, typed_outcome};
 ghost use Rattle.pr_world.specs.Settings.{of_a_run};
 
@@ -99,7 +99,7 @@ fn ask_checked(
     time: Ms,
 ) -> Result<Answered, AllocError>
     ensures { (history : List Entry) → IsHeadOf head.now history
-        → IfOk result (HasOutcome (accept (told_answer (meaning of_a_run.subquery_step history (tree_of expression.now) time)) [])) }
+        → IfOk result (HasOutcome (accept (told_answer (meaning of_a_run.subquery_step history (tree_of expression.now) time)) [] nothing_else)) }
 {
     Ok(Answered {
         report: answer::<Brand>(alloc, head, expression, time, Blank::new(1))?,

@@ -9,10 +9,17 @@ use super::lines::{LineReader, without_feed};
 use pr_outside::Source;
 use pr_status::Stop;
 use pr_text::{Numbered, Order, Started, is_passed_over, push_body_line, read_order};
-use pr_words::Text;
+use pr_words::Items;
 use pr_world::Event;
 use std::alloc::Global;
 use std::mem::swap;
+
+// The bytes of a body.
+fn bytes_of(body: String) -> Items<u8>
+    ensures { result ≡ string_bytes body }
+{
+    Items::new(body.into_bytes())
+}
 
 /// The lines of the input; the line that was read ahead, or none; and how many lines were handed
 /// out.
@@ -105,7 +112,7 @@ impl Reader {
         match read_order(alloc, line)? {
             Started::Whole { order } => Ok(Numbered { number, order }),
             Started::Scrape { time, target } => {
-                let body = Text::new(self.read_body(alloc, input)?);
+                let body = bytes_of(self.read_body(alloc, input)?);
                 let event = Event::Scrape { time, target, body };
                 let order = Order::Event { event };
                 Ok(Numbered { number, order })

@@ -1,12 +1,12 @@
 // A run of the script, order by order.
-ghost use Rattle.std.specs.Prelude.{◌≡◌, ◌++◌, ◌||◌, [], OnOk};
+ghost use Rattle.std.specs.Prelude.{◌≡◌, ◌++◌, ◌||◌, [], true, OnOk};
 ghost use Rattle.pr_top.specs.Keeping.{KeepsProgress, KeepsWorld, progress_after};
 ghost use Rattle.pr_top.specs.Standing.{Progress, begun};
-ghost use Rattle.pr_top.specs.Told.{turn, turn_by};
+ghost use Rattle.pr_top.specs.Told.{is_taken, turn, turn_by};
 ghost use Rattle.pr_world.specs.Settings.{of_a_run};
 ghost use Rattle.pr_world.specs.Step.{next};
 
-use super::engine::Engine;
+use super::engine::{Engine, takes};
 use pr_text::{Numbered, Order, push_bad_line, push_report};
 use pr_world::Event;
 use std::alloc::{AllocError, Global};
@@ -52,6 +52,7 @@ impl Session {
         text: &mut Vec<u8>,
         event: Event,
     ) -> Result<(), AllocError>
+        requires { is_taken event ≡ true }
         ensures text { (p : Progress) → KeepsProgress self.old p → OnOk result (text.new.items ≡ text.old.items ++ (turn_by (next of_a_run p.world event)).answer.text) }
         ensures world { (p : Progress) → KeepsProgress self.old p → OnOk result (KeepsWorld self.new.kept (turn_by (next of_a_run p.world event)).world) }
         ensures refused { (p : Progress) → KeepsProgress self.old p → OnOk result (self.new.refused ≡ (self.old.refused || (turn_by (next of_a_run p.world event)).answer.refused)) }
@@ -74,7 +75,14 @@ impl Session {
     {
         let number = order.number;
         match order.order {
-            Order::Event { event } => self.take_event(alloc, text, event),
+            Order::Event { event } => {
+                if takes(&event) {
+                    self.take_event(alloc, text, event)
+                } else {
+                    self.refused = true;
+                    push_bad_line(text, number)
+                }
+            }
             Order::Bad => {
                 self.refused = true;
                 push_bad_line(text, number)

@@ -4,6 +4,10 @@ pub mod Targets
 pub mod World
 pub mod Settings
 pub mod Outcome
+pub mod Rounds
+pub mod Rows
 pub mod ScrapeExamples
 pub mod Query
 pub mod Step
+pub mod Loading
+pub mod GroupExamples

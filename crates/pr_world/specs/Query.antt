@@ -13,7 +13,7 @@ use Rattle.pr_query.specs.declared.value.Value.TheVariants as value
 use Rattle.pr_query.specs.Meaning.{meaning}
 use Rattle.pr_world.specs.declared.report.Report.{Report}
 use Rattle.pr_world.specs.declared.report.Report.TheVariants.{Scalar, Vector, QueryFault, QueryRefused}
-use Rattle.pr_world.specs.Outcome.{Outcome, refuse, accept}
+use Rattle.pr_world.specs.Outcome.{Outcome, refuse, accept, nothing_else}
 use Rattle.pr_world.specs.Settings.{Settings}
 
 -- a value is told, and so is a fault, with the place at which the part begins that has it
@@ -28,7 +28,7 @@ told_answer (Err f) = QueryFault f.place.start f.kind
 -- An expression with a type is accepted, be its answer a value or a fault, and adds nothing; one
 -- without a type is refused.
 abbrev pub typed_outcome : Settings → List Entry → ℕ → Tree → Result ValueType TypeFault → Outcome
-typed_outcome s history time tree (Ok type) = accept (told_answer (meaning s.subquery_step history tree time)) []
+typed_outcome s history time tree (Ok type) = accept (told_answer (meaning s.subquery_step history tree time)) [] nothing_else
 typed_outcome s history time tree (Err f) = refuse (QueryRefused f.at (Typing f.kind))
 
 -- what has no tokens, or no tree, is refused

@@ -3,16 +3,16 @@
 use Rattle.std.specs.Prelude.{ℕ, zero, suc, pos, negsuc, ℤ, ◌+◌, Bool, true, false, not, ◌&&◌, cond, nat_le, List, [], ◌∷◌, ◌++◌, length, map, filter, fold, count_by, codes, Option, Some, None, is_some, is_none, Result, Ok, Err}
 use Rattle.std.specs.List.{filter_map, zip}
 use Rattle.pr_num.specs.declared.value.Num.{Num}
-use Rattle.pr_num.specs.declared.value.Point.TheVariants.{Value, Stale}
+use Rattle.pr_num.specs.declared.value.Point.TheVariants.{Value}
 use Rattle.pr_num.specs.Arithmetic.{whole_of}
 use Rattle.pr_labels.specs.declared.pair.Pair.{Pair}
 use Rattle.pr_labels.specs.LabelSet.{metric_label, value_of}
 use Rattle.pr_labels.specs.Edits.{set_label, union_labels, without_name}
 use Rattle.pr_labels.specs.Rising.{is_among, with_labels}
 use Rattle.pr_history.specs.declared.append.Append.{Append}
-use Rattle.pr_history.specs.declared.append.Append.TheVariants as append
 use Rattle.pr_history.specs.declared.entry.Entry.{Entry}
-use Rattle.pr_history.specs.Admission.{admit, put, put_all}
+use Rattle.pr_history.specs.Admission.{put_all}
+pub use Rattle.pr_puts.specs.Puts.{added_count, admitted, admissions, is_added, is_shown, marker, markers, refused_count}
 use Rattle.pr_expo.specs.declared.exposition.ExpoError.{ExpoError}
 use Rattle.pr_expo.specs.declared.exposition.ExpoError.TheVariants.{Fault, Memory}
 use Rattle.pr_expo.specs.declared.exposition.Exposition.{Exposition}
@@ -83,34 +83,6 @@ offered_entries offered = map (λ o. o.entry) offered
 
 -- Admission
 
--- what is answered to entries that are put one after another
-abbrev pub admissions : List Entry → List Entry → List Append
-admissions history [] = []
-admissions history (e ∷ es) = admit history e.labels e.time e.point ∷ admissions (put history e) es
-
-abbrev pub is_added : Append → Bool
-is_added append.Added = true
-is_added append.Same = false
-is_added (append.OutOfOrder last) = false
-is_added (append.Conflict kept) = false
-
--- whether the series shows the point then
-abbrev pub is_shown : Append → Bool
-is_shown append.Added = true
-is_shown append.Same = true
-is_shown (append.OutOfOrder last) = false
-is_shown (append.Conflict kept) = false
-
--- the entries that were added, of those that are put
-abbrev pub admitted : List Entry → List Entry → List Entry
-admitted history entries = map (λ p. p.0) (filter (λ p. is_added p.1) (zip entries (admissions history entries)))
-
-abbrev pub added_count : List Entry → List Entry → ℕ
-added_count history entries = count_by is_added (admissions history entries)
-
-abbrev pub refused_count : List Entry → List Entry → ℕ
-refused_count history entries = count_by (λ a. not (is_shown a)) (admissions history entries)
-
 -- the series of the samples without a time of their own that the history has then, and these in
 -- label order, each once: a scrape leaves them tracked
 abbrev pub is_tracked : Offer × Append → Bool
@@ -127,14 +99,7 @@ abbrev pub dropped_count : List Pair → ℕ → List Line → List Entry → �
 dropped_count target now lines history =
     count_by (λ line. is_none (offer_of target now line)) lines + refused_count history (offered_entries (offers target now lines))
 
--- Markers, and what is said of the target
-
-abbrev pub marker : ℕ → List Pair → Entry
-marker now labels = record { labels = labels; time = now; point = Stale }
-
--- a marker for each series that is no longer tracked
-abbrev pub markers : ℕ → List (List Pair) → List (List Pair) → List Entry
-markers now old new = map (marker now) (filter (λ labels. not (is_among labels new)) old)
+-- What is said of the target
 
 -- the target's labels with a metric's name
 abbrev pub metric_of : List Pair → List ℕ → List Pair

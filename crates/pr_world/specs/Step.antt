@@ -1,5 +1,5 @@
 -- One step of the world, and the fold of it.
-use Rattle.std.specs.Prelude.{ℕ, Bool, true, false, cond, nat_lt, List, [], ◌∷◌, ◌++◌, Option, Some, None}
+use Rattle.std.specs.Prelude.{ℕ, Bool, true, false, List, [], ◌∷◌, ◌++◌, length, Some, None, Option}
 use Rattle.pr_num.specs.declared.value.Point.{Point}
 use Rattle.pr_history.specs.declared.entry.Entry.{Entry}
 use Rattle.pr_history.specs.declared.append.Append.{Append}
@@ -7,15 +7,16 @@ use Rattle.pr_history.specs.declared.append.Append.TheVariants as append
 use Rattle.pr_history.specs.Admission.{admit}
 use Rattle.pr_labels.specs.declared.pair.Pair.{Pair}
 use Rattle.pr_world.specs.declared.event.Event.{Event}
-use Rattle.pr_world.specs.declared.event.Event.TheVariants.{Add, Query, Scrape, Fail, Gone}
+use Rattle.pr_world.specs.declared.event.Event.TheVariants.{Add, Query, Scrape, Fail, Gone, Eval, Reload, Restart, Alerts}
 use Rattle.pr_world.specs.declared.report.Report.{Report}
 use Rattle.pr_world.specs.declared.report.Report.TheVariants as report
 use Rattle.pr_world.specs.declared.scraped.BodyFault.{BodyFault}
 use Rattle.pr_world.specs.declared.scraped.Scraped.{Scraped}
-use Rattle.pr_world.specs.Outcome.{Outcome, refuse, accept, accept_target}
+use Rattle.pr_world.specs.Outcome.{Outcome, refuse, accept, nothing_else, targets_become, begins_anew, changed_by, unless_backwards}
 use Rattle.pr_world.specs.Query.{query_outcome}
+use Rattle.pr_world.specs.Rounds.{alerts_outcome, eval_outcome, reload_outcome}
 use Rattle.pr_world.specs.Settings.{Settings}
-use Rattle.pr_world.specs.Targets.{Target, TargetStep, scrape_step, fail_step, gone_step}
+use Rattle.pr_world.specs.Targets.{TargetStep, scrape_step, fail_step, gone_step}
 use Rattle.pr_world.specs.World.{World}
 
 abbrev pub time_of : Event → ℕ
@@ -24,6 +25,10 @@ time_of (Query time text) = time
 time_of (Scrape time target body) = time
 time_of (Fail time target) = time
 time_of (Gone time target) = time
+time_of (Eval time file group) = time
+time_of (Reload time files) = time
+time_of (Restart time) = time
+time_of (Alerts time) = time
 
 -- whether it is about a target
 abbrev pub is_about_target : Event → Bool
@@ -32,6 +37,34 @@ is_about_target (Query time text) = false
 is_about_target (Scrape time target body) = true
 is_about_target (Fail time target) = true
 is_about_target (Gone time target) = true
+is_about_target (Eval time file group) = false
+is_about_target (Reload time files) = false
+is_about_target (Restart time) = false
+is_about_target (Alerts time) = false
+
+-- whether it may change which targets are known and what is tracked of them, and whether it may
+-- change the groups
+abbrev pub changes_targets : Event → Bool
+changes_targets (Add time labels point) = false
+changes_targets (Query time text) = false
+changes_targets (Scrape time target body) = true
+changes_targets (Fail time target) = true
+changes_targets (Gone time target) = true
+changes_targets (Eval time file group) = false
+changes_targets (Reload time files) = false
+changes_targets (Restart time) = true
+changes_targets (Alerts time) = false
+
+abbrev pub changes_groups : Event → Bool
+changes_groups (Add time labels point) = false
+changes_groups (Query time text) = false
+changes_groups (Scrape time target body) = false
+changes_groups (Fail time target) = false
+changes_groups (Gone time target) = false
+changes_groups (Eval time file group) = true
+changes_groups (Reload time files) = true
+changes_groups (Restart time) = true
+changes_groups (Alerts time) = false
 
 -- what is answered to a sample
 abbrev pub report_of : Append → Report
@@ -52,7 +85,7 @@ entry_of time labels point = record { labels = labels; time = time; point = poin
 
 -- a sample is added as its admission says
 abbrev pub outcome_by : Append → Entry → Outcome
-outcome_by answer e = accept (report_of answer) (rows_by answer e)
+outcome_by answer e = accept (report_of answer) (rows_by answer e) nothing_else
 
 -- what is answered to a scrape: its counts, or what is wrong with the body
 abbrev pub scrape_report : Option BodyFault → Scraped → Report
@@ -62,7 +95,7 @@ scrape_report (Some f) s = report.BadScrape f.line f.kind s.stale
 -- An order about a target is accepted, whatever becomes of it. What of its entries is admitted
 -- comes behind the history.
 abbrev pub target_outcome : Report → TargetStep → Outcome
-target_outcome report step = accept_target report step.answer.admitted step.targets
+target_outcome report step = accept report step.answer.admitted (targets_become step.targets)
 
 abbrev pub scrape_outcome : TargetStep → Outcome
 scrape_outcome step = target_outcome (scrape_report step.answer.fault step.answer) step
@@ -73,6 +106,10 @@ fail_outcome step = target_outcome (report.Failed step.answer.stale) step
 abbrev pub gone_outcome : TargetStep → Outcome
 gone_outcome step = target_outcome (report.Gone step.answer.stale) step
 
+-- A restart drops all but the history, which is read again.
+abbrev pub restart_outcome : World → Outcome
+restart_outcome w = accept (report.Restarted (length w.history)) [] begins_anew
+
 -- an event that is not before the last one
 abbrev pub outcome_in_time : Settings → World → Event → Outcome
 outcome_in_time s w (Add time labels point) = outcome_by (admit w.history labels time point) (entry_of time labels point)
@@ -80,14 +117,14 @@ outcome_in_time s w (Query time text) = query_outcome s w.history time text
 outcome_in_time s w (Scrape time target body) = scrape_outcome (scrape_step w.targets w.history target time body)
 outcome_in_time s w (Fail time target) = fail_outcome (fail_step w.targets w.history target time)
 outcome_in_time s w (Gone time target) = gone_outcome (gone_step w.targets w.history target time)
+outcome_in_time s w (Eval time file group) = eval_outcome s w time file group
+outcome_in_time s w (Reload time files) = reload_outcome w time files
+outcome_in_time s w (Restart time) = restart_outcome w
+outcome_in_time s w (Alerts time) = alerts_outcome w
 
 -- an event before the last one is refused
-abbrev pub outcome_after : Option ℕ → Settings → World → Event → Outcome
-outcome_after None s w e = outcome_in_time s w e
-outcome_after (Some last) s w e = cond (nat_lt (time_of e) last) (refuse (report.Backwards last (time_of e))) (outcome_in_time s w e)
-
 abbrev pub outcome : Settings → World → Event → Outcome
-outcome s w e = outcome_after w.last s w e
+outcome s w e = unless_backwards w.last (time_of e) (outcome_in_time s w e)
 
 -- What an event leads to: the world after it, what is answered, the entries that are kept for it,
 -- and whether it was refused.
@@ -97,22 +134,11 @@ pub record Step : Type 0 where
   pub rows : List Entry
   pub refused : Bool
 
--- An accepted event becomes the last one, and its entries come behind the history; it has these
--- targets after it.
-abbrev pub accepted_step : World → ℕ → Report → List Entry → List Target → Step
-accepted_step w time report entries targets = record {
-  world = record { history = w.history ++ entries; last = Some time; targets = targets };
-  report = report;
-  rows = entries;
-  refused = false;
-}
-
 -- A refused event changes nothing. Nothing else than an accepted one sets the last time, adds to
--- the history or changes the targets.
+-- the history or changes anything.
 abbrev pub step_by : World → ℕ → Outcome → Step
 step_by w time (refuse report) = record { world = w; report = report; rows = []; refused = true }
-step_by w time (accept report entries) = accepted_step w time report entries w.targets
-step_by w time (accept_target report entries targets) = accepted_step w time report entries targets
+step_by w time (accept report entries change) = record { world = changed_by change w time entries; report = report; rows = entries; refused = false }
 
 unfoldable pub next : Settings → World → Event → Step
 next s w e = step_by w (time_of e) (outcome s w e)

@@ -1,7 +1,14 @@
 use pr_labels::Labels;
 use pr_num::Point;
 use pr_time::Ms;
-use pr_words::Text;
+use pr_words::{Items, Text};
+
+/// A rule file, under the name by which its groups are known.
+#[derive(Debug, Drop)]
+pub struct NamedFile {
+    pub name: Text,
+    pub bytes: Items<u8>,
+}
 
 /// What happens: an order of the script.
 #[derive(Debug, Drop)]
@@ -17,12 +24,12 @@ pub enum Event {
         time: Ms,
         text: Text,
     },
-    /// A target is scraped, and offers the samples of this text. (Prometheus: Exposition formats,
+    /// A target is scraped, and offers the samples of these bytes. (Prometheus: Exposition formats,
     /// Text-based format.)
     Scrape {
         time: Ms,
         target: Labels,
-        body: Text,
+        body: Items<u8>,
     },
     /// A target is scraped, and does not answer.
     Fail {
@@ -33,5 +40,24 @@ pub enum Event {
     Gone {
         time: Ms,
         target: Labels,
+    },
+    /// A group is evaluated. (Prometheus: Recording rules, Configuring rules.)
+    Eval {
+        time: Ms,
+        file: Text,
+        group: Text,
+    },
+    /// These files take the place of all rule files of before. (Prometheus: Configuration, reload.)
+    Reload {
+        time: Ms,
+        files: Items<NamedFile>,
+    },
+    /// The engine begins anew over what it has kept.
+    Restart {
+        time: Ms,
+    },
+    /// It is asked which alerts are pending and which fire.
+    Alerts {
+        time: Ms,
     },
 }

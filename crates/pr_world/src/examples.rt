@@ -16,7 +16,7 @@ ghost use Rattle.pr_types.specs.declared.kind.TypeKind.TheVariants.{NotInstant};
 ghost use Rattle.pr_kinds.specs.declared.kind.QueryKind.TheVariants.{Lex, Parse, Typing};
 ghost use Rattle.pr_world.specs.World.{World, start};
 ghost use Rattle.pr_world.specs.Settings.{of_a_run};
-ghost use Rattle.pr_world.specs.Outcome.{refuse, accept};
+ghost use Rattle.pr_world.specs.Outcome.{refuse, accept, nothing_else};
 ghost use Rattle.pr_world.specs.Query.{parsed_outcome};
 ghost use Rattle.pr_world.specs.Step.{next, step_by, world_after, rows_of, outcome};
 ghost use Rattle.pr_world.specs.declared.event.Event.TheVariants.{Add, Query};
@@ -24,10 +24,10 @@ ghost use Rattle.pr_world.specs.declared.report.Report.TheVariants.{Added, Same,
 
 /// A sample adds its entry where it is admitted, and nothing where it is the same or in conflict.
 pub fn a_sample_adds_its_entry()
-    ensures added { outcome of_a_run (start []) (Add 0 m (whole 1)) ≡ accept Added (entry_at 0 (whole 1) ∷ []) }
-    ensures later { outcome of_a_run (start []) (Add 5 m (whole 1)) ≡ accept Added (entry_at 5 (whole 1) ∷ []) }
-    ensures same { outcome of_a_run (start one) (Add 0 m (whole 1)) ≡ accept Same [] }
-    ensures conflict { outcome of_a_run (start one) (Add 0 m (whole 2)) ≡ accept (Conflict (whole 1)) [] }
+    ensures added { outcome of_a_run (start []) (Add 0 m (whole 1)) ≡ accept Added (entry_at 0 (whole 1) ∷ []) nothing_else }
+    ensures later { outcome of_a_run (start []) (Add 5 m (whole 1)) ≡ accept Added (entry_at 5 (whole 1) ∷ []) nothing_else }
+    ensures same { outcome of_a_run (start one) (Add 0 m (whole 1)) ≡ accept Same [] nothing_else }
+    ensures conflict { outcome of_a_run (start one) (Add 0 m (whole 2)) ≡ accept (Conflict (whole 1)) [] nothing_else }
     ensures kept { rows_of of_a_run (start []) (Add 0 m (whole 1) ∷ Add 0 m (whole 1) ∷ []) ≡ entry_at 0 (whole 1) ∷ [] }
 {}
 
@@ -35,11 +35,11 @@ pub fn a_sample_adds_its_entry()
 /// adds anything, and a fault is accepted as a value is.
 #[tactic(auto, unfolding(crate::specs::Query::parsed_outcome, pr_types::specs::Operations::operation_fault, pr_match::specs::Matcher::meets, pr_match::specs::Matcher::meets_all, pr_num::specs::Arithmetic::product_of, pr_num::specs::Half::half, pr_num::specs::Half::half_abs))]
 pub fn an_expression_is_answered_by_its_meaning()
-    ensures vector { parsed_outcome of_a_run one 299999 (gives_tree (metric (codes "m"))) ≡ accept (Vector (item_of m (number 1) ∷ [])) [] }
-    ensures gone { parsed_outcome of_a_run one 300000 (gives_tree (metric (codes "m"))) ≡ accept (Vector []) [] }
-    ensures scalar { parsed_outcome of_a_run [] 0 (gives_tree (whole_number 1)) ≡ accept (Scalar (number 1)) [] }
-    ensures wide { parsed_outcome of_a_run [] 0 (gives_tree (binary (record { start = 3; end = 9 }) op.Mul false None (whole_number (10 ^ 19)) (whole_number (10 ^ 19)))) ≡ accept (QueryFault 3 TooWide) [] }
-    ensures moves { (step_by (start one) 299999 (parsed_outcome of_a_run one 299999 (gives_tree (metric (codes "m"))))).world ≡ record { history = one; last = Some 299999; targets = [] } }
+    ensures vector { parsed_outcome of_a_run one 299999 (gives_tree (metric (codes "m"))) ≡ accept (Vector (item_of m (number 1) ∷ [])) [] nothing_else }
+    ensures gone { parsed_outcome of_a_run one 300000 (gives_tree (metric (codes "m"))) ≡ accept (Vector []) [] nothing_else }
+    ensures scalar { parsed_outcome of_a_run [] 0 (gives_tree (whole_number 1)) ≡ accept (Scalar (number 1)) [] nothing_else }
+    ensures wide { parsed_outcome of_a_run [] 0 (gives_tree (binary (record { start = 3; end = 9 }) op.Mul false None (whole_number (10 ^ 19)) (whole_number (10 ^ 19)))) ≡ accept (QueryFault 3 TooWide) [] nothing_else }
+    ensures moves { (step_by (start one) 299999 (parsed_outcome of_a_run one 299999 (gives_tree (metric (codes "m"))))).world ≡ record { history = one; last = Some 299999; targets = []; groups = []; reloaded = false } }
 {}
 
 /// What has no tokens, no tree or no type is refused with its first fault: `m !`, `m +`, `"a"`.
@@ -49,18 +49,18 @@ pub fn a_text_that_is_no_expression_is_refused()
     ensures lexical { parsed_outcome of_a_run one 6000 (gives_lex_fault 3 lex.BadChar) ≡ refuse (QueryRefused 3 (Lex lex.BadChar)) }
     ensures parsing { parsed_outcome of_a_run one 6000 (gives_fault 3 parse.End) ≡ refuse (QueryRefused 3 (Parse parse.End)) }
     ensures typing { parsed_outcome of_a_run one 6000 (gives_tree (text (record { start = 1; end = 4 }) (codes "a"))) ≡ refuse (QueryRefused 1 (Typing NotInstant)) }
-    ensures unchanged { (step_by (record { history = one; last = Some 5000; targets = [] }) 6000 (parsed_outcome of_a_run one 6000 (gives_fault 3 parse.End))).world ≡ record { history = one; last = Some 5000; targets = [] } }
+    ensures unchanged { (step_by (record { history = one; last = Some 5000; targets = []; groups = []; reloaded = false }) 6000 (parsed_outcome of_a_run one 6000 (gives_fault 3 parse.End))).world ≡ record { history = one; last = Some 5000; targets = []; groups = []; reloaded = false } }
 {}
 
 /// An accepted event becomes the last one, also where it adds nothing.
 pub fn a_later_event_moves_the_time()
-    ensures same { (next of_a_run (start one) (Add 0 m (whole 1))).world ≡ record { history = one; last = Some 0; targets = [] } }
-    ensures added { (next of_a_run (start []) (Add 5 m (whole 1))).world ≡ record { history = entry_at 5 (whole 1) ∷ []; last = Some 5; targets = [] } }
+    ensures same { (next of_a_run (start one) (Add 0 m (whole 1))).world ≡ record { history = one; last = Some 0; targets = []; groups = []; reloaded = false } }
+    ensures added { (next of_a_run (start []) (Add 5 m (whole 1))).world ≡ record { history = entry_at 5 (whole 1) ∷ []; last = Some 5; targets = []; groups = []; reloaded = false } }
 {}
 
 /// An event before the last one is refused, whatever it asks for, and the last one stays the last.
 pub fn an_event_before_the_last_is_refused()
-    ensures refused { outcome of_a_run (record { history = one; last = Some 5000; targets = [] }) (Query 4000 (codes "m +")) ≡ refuse (Backwards 5000 4000) }
-    ensures unchanged { (next of_a_run (record { history = one; last = Some 5000; targets = [] }) (Add 4000 [] (whole 1))).world ≡ record { history = one; last = Some 5000; targets = [] } }
-    ensures equal { outcome of_a_run (record { history = one; last = Some 5000; targets = [] }) (Add 5000 [] (whole 1)) ≡ accept Added ((record { labels = []; time = 5000; point = whole 1 }) ∷ []) }
+    ensures refused { outcome of_a_run (record { history = one; last = Some 5000; targets = []; groups = []; reloaded = false }) (Query 4000 (codes "m +")) ≡ refuse (Backwards 5000 4000) }
+    ensures unchanged { (next of_a_run (record { history = one; last = Some 5000; targets = []; groups = []; reloaded = false }) (Add 4000 [] (whole 1))).world ≡ record { history = one; last = Some 5000; targets = []; groups = []; reloaded = false } }
+    ensures equal { outcome of_a_run (record { history = one; last = Some 5000; targets = []; groups = []; reloaded = false }) (Add 5000 [] (whole 1)) ≡ accept Added ((record { labels = []; time = 5000; point = whole 1 }) ∷ []) nothing_else }
 {}

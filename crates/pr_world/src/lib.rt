@@ -3,21 +3,37 @@
 
 mod event;
 mod examples;
+mod group_examples;
 mod laws;
 mod report;
+mod row_examples;
 mod scrape_examples;
 mod scrape_laws;
 mod scraped;
 mod target_examples;
 
-pub use event::Event;
+pub use event::{Event, NamedFile};
 pub use examples::{
     a_later_event_moves_the_time, a_sample_adds_its_entry, a_text_that_is_no_expression_is_refused,
     an_event_before_the_last_is_refused, an_expression_is_answered_by_its_meaning,
 };
-pub use laws::{a_history_is_its_rows, a_step_appends_or_changes_nothing};
+pub use group_examples::{
+    a_group_is_evaluated_at_rising_times, a_late_sample_is_seen, a_reload_continues_or_leaves_over,
+    a_restart_drops_the_groups, a_rule_has_faults_of_its_own, a_rule_that_fails_marks_nothing,
+    an_alert_is_kept_firing, an_alert_is_restored, an_alert_is_sent_again,
+    an_alert_is_written_as_it_goes, too_many_alerts_are_dropped, two_rules_record_one_series,
+};
+pub use laws::{
+    a_history_is_its_rows, a_refusal_is_told, a_restart_begins_anew,
+    a_step_appends_or_changes_nothing, files_that_are_found_are_reloaded,
+    groups_are_evaluated_at_rising_times,
+};
 pub use pr_kinds::QueryKind;
-pub use report::Report;
+pub use pr_rules::{GroupReport, Put, RuleOutcome, RuleReport};
+pub use report::{AlertLine, Report};
+pub use row_examples::{
+    a_reload_before_the_last_event_looks_for_no_file, files_are_found_in_order, rows_are_a_history,
+};
 pub use scrape_examples::{
     a_bad_body_leaves_nothing, a_label_of_the_target_is_renamed, a_refused_sample_is_dropped,
     a_scrape_adds_its_samples, a_series_that_is_no_longer_offered_is_marked, a_target_ends,

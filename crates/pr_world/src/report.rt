@@ -1,10 +1,23 @@
 use pr_expo::ExpoKind;
+use pr_fields::ProblemKind;
 use pr_kinds::QueryKind;
-use pr_labels::Item;
+use pr_labels::{Item, Labels};
+use pr_lineage::State;
 use pr_num::{Num, Point};
 use pr_query::FaultKind;
+use pr_rules::GroupReport;
 use pr_time::Ms;
-use pr_words::Items;
+use pr_words::{Items, Text};
+
+/// An alert that is pending or fires.
+#[derive(Debug, Drop)]
+pub struct AlertLine {
+    pub state: State,
+    pub labels: Labels,
+    /// Since when it is active.
+    pub active: Ms,
+    pub value: Num,
+}
 
 /// What is answered.
 #[derive(Debug, Drop)]
@@ -46,6 +59,47 @@ pub enum Report {
     /// A target is there no more: how many markers were added.
     Gone {
         stale: u64,
+    },
+    /// A group was evaluated.
+    Evaluated {
+        group: GroupReport,
+    },
+    /// There is no such group, and the event was refused.
+    NoGroup {
+        file: Text,
+        group: Text,
+    },
+    /// The group was evaluated at this time or later, and the event was refused.
+    NotLater {
+        last: Ms,
+    },
+    /// Files were reloaded: how many groups and rules there are, and how many markers were added.
+    Reloaded {
+        groups: u64,
+        rules: u64,
+        stale: u64,
+    },
+    /// A file that a reload names is missing, and the reload was refused.
+    Missing {
+        file: Text,
+    },
+    /// A file that a reload names is too large, and the reload was refused.
+    TooLarge {
+        file: Text,
+    },
+    /// A file is no rule file, and the reload was refused: its first problem.
+    Refused {
+        name: Text,
+        line: u32,
+        kind: ProblemKind,
+    },
+    /// The engine has begun anew over this many kept rows.
+    Restarted {
+        rows: u64,
+    },
+    /// The alerts that are pending or fire, by group, rule and label order.
+    Alerts {
+        list: Items<AlertLine>,
     },
     /// A number.
     Scalar {

@@ -7,7 +7,7 @@ ghost use Rattle.pr_history.specs.Lookback.{value_at};
 ghost use Rattle.pr_expo_line.specs.declared.place.ExpoKind.TheVariants.{BadLabels};
 ghost use Rattle.pr_world.specs.World.{start};
 ghost use Rattle.pr_world.specs.Settings.{of_a_run};
-ghost use Rattle.pr_world.specs.Outcome.{accept_target};
+ghost use Rattle.pr_world.specs.Outcome.{accept, targets_become};
 ghost use Rattle.pr_world.specs.Scrapes.{reported, sample_count_of, up_of};
 ghost use Rattle.pr_world.specs.ScrapeExamples.{after_first, first, j, label, of_g, of_j, second, third};
 ghost use Rattle.pr_world.specs.Step.{next, outcome, scrape_outcome};
@@ -19,11 +19,11 @@ ghost use Rattle.pr_world.specs.declared.report.Report.TheVariants as report;
 /// make the target known and add what is admitted. So is a target that does not answer.
 #[tactic(auto, unfolding(crate::specs::Scrapes::scrape_of))]
 pub fn a_scrape_answers_by_its_counts()
-    ensures scraped { scrape_outcome (scraped_target [] j first) ≡ accept_target (report.Scraped 2 0 0) after_first (record { labels = j; tracked = of_j (codes "m") ∷ of_j (codes "n") ∷ [] } ∷ []) }
-    ensures bad { scrape_outcome (scraped_target (record { labels = j; tracked = first.tracked } ∷ []) j second) ≡ accept_target (report.BadScrape 2 BadLabels 2) second.answer.admitted (record { labels = j; tracked = [] } ∷ []) }
-    ensures again { scrape_outcome (scraped_target (record { labels = j; tracked = [] } ∷ []) j third) ≡ accept_target (report.Scraped 2 0 0) third.answer.admitted (record { labels = j; tracked = of_j (codes "m") ∷ of_j (codes "n") ∷ [] } ∷ []) }
-    ensures failed { outcome of_a_run (start []) (Fail 0 (label (codes "a"))) ≡ accept_target (report.Failed 0)
-        (reported (up_of (label (codes "a"))) 0 0 ∷ reported (sample_count_of (label (codes "a"))) 0 0 ∷ []) (record { labels = label (codes "a"); tracked = [] } ∷ []) }
+    ensures scraped { scrape_outcome (scraped_target [] j first) ≡ accept (report.Scraped 2 0 0) after_first (targets_become (record { labels = j; tracked = of_j (codes "m") ∷ of_j (codes "n") ∷ [] } ∷ [])) }
+    ensures bad { scrape_outcome (scraped_target (record { labels = j; tracked = first.tracked } ∷ []) j second) ≡ accept (report.BadScrape 2 BadLabels 2) second.answer.admitted (targets_become (record { labels = j; tracked = [] } ∷ [])) }
+    ensures again { scrape_outcome (scraped_target (record { labels = j; tracked = [] } ∷ []) j third) ≡ accept (report.Scraped 2 0 0) third.answer.admitted (targets_become (record { labels = j; tracked = of_j (codes "m") ∷ of_j (codes "n") ∷ [] } ∷ [])) }
+    ensures failed { outcome of_a_run (start []) (Fail 0 (label (codes "a"))) ≡ accept (report.Failed 0)
+        (reported (up_of (label (codes "a"))) 0 0 ∷ reported (sample_count_of (label (codes "a"))) 0 0 ∷ []) (targets_become (record { labels = label (codes "a"); tracked = [] } ∷ [])) }
 {}
 
 /// After a scrape that failed nothing is tracked of a target, and all that was is stale.
@@ -43,7 +43,7 @@ pub fn a_sample_is_found_under_its_target()
 
 /// The end of an unknown target is accepted and gives nothing, and the time moves.
 pub fn an_end_without_a_target_gives_nothing()
-    ensures answered { outcome of_a_run (start []) (Gone 7 j) ≡ accept_target (report.Gone 0) [] [] }
-    ensures after { (next of_a_run (start []) (Gone 7 j)).world ≡ record { history = []; last = Some 7; targets = [] } }
+    ensures answered { outcome of_a_run (start []) (Gone 7 j) ≡ accept (report.Gone 0) [] (targets_become []) }
+    ensures after { (next of_a_run (start []) (Gone 7 j)).world ≡ record { history = []; last = Some 7; targets = []; groups = []; reloaded = false } }
     ensures taken { (next of_a_run (start []) (Gone 7 j)).refused ≡ false }
 {}

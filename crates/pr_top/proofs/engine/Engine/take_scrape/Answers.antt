@@ -1,6 +1,6 @@
-use Rattle.std.proofs.Common.{ℕ, List, sym, subst}
+use Rattle.std.proofs.Common.{sym, subst}
 use Rattle.pr_top.specs.Keeping.{KeptOfWorld, KeepsWorld}
-use Rattle.pr_top.proofs.Values.{KeepsAfter, taken_keeps}
+use Rattle.pr_top.proofs.Values.{taken_keeps}
 use Rattle.pr_world.specs.Targets.{scrape_step}
 use Rattle.pr_world.proofs.Targeting.{scrape_puts}
 use Rattle.pr_top.proofs.engine.Engine.take_scrape.Goals as goal
@@ -9,8 +9,7 @@ pub returns-clause-world : goal.returns-clause-world
 returns-clause-world c = λ w keeps.
     let kept : KeptOfWorld = record { head = c.self.inside.head; last = c.self.inside.last; targets = c.self.inside.targets } in
     let before : KeepsWorld kept w = subst (λ (k : KeptOfWorld). KeepsWorld k w) (sym c.self.view_is) keeps in
-    subst (λ (body : List ℕ). KeepsAfter c.scrape.new.head c.scrape.new.self w c.args.time (scrape_step w.targets w.history c.args.target c.args.time body)) c.as_bytes.ensures.value
-    (taken_keeps kept c.scrape.new.head c.scrape.new.self w c.args.time (scrape_step w.targets w.history c.args.target c.args.time c.as_bytes.result.now) before
-    (scrape_puts w.targets w.history c.args.target c.args.time c.as_bytes.result.now)
+    taken_keeps kept c.scrape.new.head c.scrape.new.self w c.args.time (scrape_step w.targets w.history c.args.target c.args.time c.args.body.now) before
+    (scrape_puts w.targets w.history c.args.target c.args.time c.args.body.now)
     (c.in_ok-scraped.ensures.taken w.targets w.history before.targets before.head.holds)
-    (c.in_ok-scraped.ensures.targets w.targets w.history before.targets before.head.holds))
+    (c.in_ok-scraped.ensures.targets w.targets w.history before.targets before.head.holds)

@@ -31,8 +31,8 @@ returns-in_ok-read_body-in-Scrape-clause-order g c =
     let target = c.in-Scrape.target in
     let body = string_bytes c.in_ok-read_body-in-Scrape.field-0 in
     let starts : Starts line (started.Scrape time target) = subst (Starts line) c.in-Scrape.is c.in_ok-order.ensures in
-    let is : order.Event (event.Scrape time target c.new-body.result) ≡ event_order (event_of line body) =
-    ap (λ (b : List ℕ). order.Event (event.Scrape time target b)) c.new-body.ensures ∙ sym (ap event_order (starts.1 body)) in
+    let is : order.Event (event.Scrape time target c.bytes_of-body.result) ≡ event_order (event_of line body) =
+    ap (λ (b : List ℕ). order.Event (event.Scrape time target b)) c.bytes_of-body.ensures ∙ sym (ap event_order (starts.1 body)) in
     λ over. finishes_body (ahead (unread c.args.self.now) (left c.args.input.now)) (ahead (unread c.read_body.new.self) (left c.read_body.new.input))
-    c.args.self.now.number c.read_body.new.self.number line body (order.Event (event.Scrape time target c.new-body.result)) over starts.0 is
+    c.args.self.now.number c.read_body.new.self.number line body (order.Event (event.Scrape time target c.bytes_of-body.result)) over starts.0 is
     c.in_ok-read_body-in-Scrape.ensures.body c.in_ok-read_body-in-Scrape.ensures.ends

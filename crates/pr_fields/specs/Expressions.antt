@@ -1,5 +1,5 @@
--- The expression of a rule.
-use Rattle.std.specs.Prelude.{ℕ, List, [], ◌∷◌, codes, Option, Some, None, Result, Ok, Err}
+-- Expressions: the text of one, and the field `expr` of a map.
+use Rattle.std.specs.Prelude.{ℕ, List, [], ◌∷◌, codes, Option, Some, None, Result, Ok, Err, if◌then◌else◌}
 use Rattle.pr_ast.specs.declared.tree.Expr.{Expr}
 use Rattle.pr_ast.specs.Tree.{Tree, tree_of}
 use Rattle.pr_parse.specs.Parsed.{Parsed, gives_tree, gives_lex_fault, gives_fault, parsed}
@@ -11,7 +11,7 @@ use Rattle.pr_yaml.specs.Tree.{Tree as Node}
 use Rattle.pr_fields.specs.declared.problem.Problem.{Problem}
 use Rattle.pr_fields.specs.declared.problem.ProblemKind.{ProblemKind}
 use Rattle.pr_fields.specs.declared.problem.ProblemKind.TheVariants.{WantText, Missing, Expression}
-use Rattle.pr_fields.specs.Nodes.{line_of, text_of}
+use Rattle.pr_fields.specs.Nodes.{line_of, text_of, says_nothing}
 use Rattle.pr_fields.specs.Problems.{problem}
 
 -- a tree that has a type, or its first fault
@@ -54,3 +54,7 @@ expression_problems (Err p) = p ∷ []
 abbrev pub tree_found : Result Tree Problem → Option Tree
 tree_found (Ok t) = Some t
 tree_found (Err p) = None
+
+-- the same of a value, where an empty text is told as missing
+unfoldable pub expression_value_problems : Node → List Problem
+expression_value_problems n = if says_nothing n then [] else expression_problems (by_written (line_of n) (text_of n))

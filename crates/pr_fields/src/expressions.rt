@@ -1,4 +1,4 @@
-// The expression of a rule.
+// Expressions.
 ghost use Rattle.std.specs.Prelude.{◌≡◌, ◌++◌, OnOk, IfOk, map, codes, Option};
 ghost use Rattle.std.specs.Option.{option_map};
 ghost use Rattle.pr_ast.specs.Tree.{tree_of as expression_tree};
@@ -6,10 +6,12 @@ ghost use Rattle.pr_types.specs.Typed.{checked};
 ghost use Rattle.pr_yaml.specs.Tree.{tree_of, entry_tree_of};
 ghost use Rattle.pr_fields.specs.declared.problem.ProblemKind.TheVariants.{Expression};
 ghost use Rattle.pr_fields.specs.Nodes.{line_of, text_of, written};
-ghost use Rattle.pr_rulefile.specs.Expressions.{typed_tree, typed_expression, tree_answered, by_written, expression_under, expression_problems, tree_found};
+ghost use Rattle.pr_fields.specs.Expressions.{typed_tree, typed_expression, tree_answered, by_written, expression_under, expression_problems, tree_found, expression_value_problems};
 
+use crate::access::{line_of, says_nothing, text_of, written};
+use crate::found::{push, push_missing};
+use crate::problem::{Problem, ProblemKind};
 use pr_ast::Expr;
-use pr_fields::{Problem, ProblemKind, line_of, push, push_missing, text_of, written};
 use pr_kinds::QueryKind;
 use pr_parse::{ParseError, parse};
 use pr_types::{Checked, TypeError, check};
@@ -40,7 +42,10 @@ fn typed(alloc: Global, expr: Expr) -> Result<Result<Checked, ProblemKind>, Allo
 
 /// The expression that a text is, or what is wrong with it first.
 #[tactic(auto, unfolding(crate::specs::Expressions::typed_expression))]
-fn typed_expression(alloc: Global, text: &str) -> Result<Result<Checked, ProblemKind>, AllocError>
+pub fn typed_expression(
+    alloc: Global,
+    text: &str,
+) -> Result<Result<Checked, ProblemKind>, AllocError>
     ensures { IfOk result (λ r. tree_answered r ≡ typed_expression text.now) }
 {
     match parse(alloc, text) {
@@ -55,7 +60,7 @@ fn typed_expression(alloc: Global, text: &str) -> Result<Result<Checked, Problem
 }
 
 /// The same of a value that is there.
-fn expression_in(
+pub fn expression_in(
     alloc: Global,
     node: &Node,
     found: &mut Vec<Problem>,
@@ -76,9 +81,25 @@ fn expression_in(
     }
 }
 
-/// The expression of a rule with these fields, which begins at the line.
+/// What is wrong with the expression that a value is. An empty one is told as missing.
+#[tactic(auto, unfolding(crate::specs::Expressions::expression_value_problems))]
+pub fn expression_value_problems(
+    alloc: Global,
+    node: &Node,
+    found: &mut Vec<Problem>,
+) -> Result<(), AllocError>
+    ensures { OnOk result (found.new.items ≡ found.old.items ++ expression_value_problems (tree_of node.now)) }
+{
+    if says_nothing(node) {
+        return Ok(());
+    }
+    let _expression = expression_in(alloc, node, found)?;
+    Ok(())
+}
+
+/// The expression under the field `expr` of a map with these fields, which begins at the line.
 #[tactic(auto, unfolding(crate::specs::Expressions::expression_under))]
-pub(crate) fn rule_expression(
+pub fn expression_under(
     alloc: Global,
     line: u32,
     entries: &[Entry],

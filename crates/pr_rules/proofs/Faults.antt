@@ -1,0 +1,47 @@
+-- What a rule's evaluation leaves of what was written before.
+use Rattle.std.proofs.Common.{◌≡◌, ℕ, List, [], ◌∷◌, ◌++◌, map, Result, Ok, Err, refl, sym, ap, ◌∙◌, reverse}
+use Rattle.std.proofs.lemmas.List.{reverse-append}
+use Rattle.pr_labels.specs.declared.pair.Pair.{Pair}
+use Rattle.pr_history.specs.declared.entry.Entry.{Entry}
+use Rattle.pr_puts.specs.Puts.{shown_entries, series_of}
+use Rattle.pr_lineage.specs.declared.found.Found.{Found}
+use Rattle.pr_lineage.specs.Lineage.{Step, previous, previous_from}
+use Rattle.pr_lineage.specs.Records.{evaluation}
+use Rattle.pr_rules.specs.declared.fault.RuleFailure.{RuleFailure}
+use Rattle.pr_rules.specs.declared.fault.RuleFault.{RuleFault}
+use Rattle.pr_rules.specs.declared.fault.RuleFault.TheVariants.{Eval, SameAfterRule, LimitExceeded}
+use Rattle.pr_rules.specs.Evaluations.{entry_of, failed_step, fault_outcome, outcome_of, rule_step, samples_of, step_by}
+use Rattle.pr_rules.specs.Groups.{Group, RuleState}
+use Rattle.pr_rules.specs.Settings.{Settings}
+
+-- the newest entry of a lineage
+newest : (lineage : List Step) (step : Step) → previous (lineage ++ step ∷ []) ≡ previous_from (step ∷ reverse lineage)
+newest lineage step = ap previous_from (reverse-append lineage (step ∷ []))
+
+after_fault : (now hold keep : ℕ) (kind : RuleFault) (earlier : List Step) → previous_from (evaluation now hold keep (fault_outcome kind) [] ∷ earlier) ≡ previous_from earlier
+after_fault now hold keep (Eval kind) earlier = refl
+after_fault now hold keep (SameAfterRule labels) earlier = refl
+after_fault now hold keep (LimitExceeded limit have) earlier = refl
+
+pub fault_is : (s : Settings) (g : Group) (r : RuleState) (history : List Entry) (now : ℕ) (f : RuleFailure) → outcome_of s g r history now ≡ Err f
+    → rule_step s g r history now ≡ failed_step r now f
+unfolding rule_step
+fault_is s g r history now f h = ap (λ o. step_by g r history now o) h
+
+pub fault_keeps : (r : RuleState) (now : ℕ) (f : RuleFailure) → previous (failed_step r now f).lineage ≡ previous r.lineage
+fault_keeps r now f =
+    newest r.lineage (evaluation now r.rule.hold r.rule.keep (fault_outcome f.kind) []) ∙ after_fault now r.rule.hold r.rule.keep f.kind (reverse r.lineage)
+
+pub fault_leaves : (s : Settings) (g : Group) (r : RuleState) (history : List Entry) (now : ℕ) (f : RuleFailure) → outcome_of s g r history now ≡ Err f
+    → previous (rule_step s g r history now).lineage ≡ previous r.lineage
+fault_leaves s g r history now f h = ap (λ step. previous step.lineage) (fault_is s g r history now f h) ∙ fault_keeps r now f
+
+-- what was written is what was Added or Same
+fine_writes : (g : Group) (r : RuleState) (history : List Entry) (now : ℕ) (founds : List Found)
+    → previous (step_by g r history now (Ok founds)).lineage ≡ series_of (shown_entries history (map (entry_of now) (samples_of g r now founds)))
+fine_writes g r history now founds = newest r.lineage _
+
+pub writes : (s : Settings) (g : Group) (r : RuleState) (history : List Entry) (now : ℕ) (founds : List Found) → outcome_of s g r history now ≡ Ok founds
+    → previous (rule_step s g r history now).lineage ≡ series_of (shown_entries history (map (entry_of now) (samples_of g r now founds)))
+unfolding rule_step
+writes s g r history now founds h = ap (λ o. previous (step_by g r history now o).lineage) h ∙ fine_writes g r history now founds

@@ -1,0 +1,93 @@
+-- What a rule comes to is in label order.
+use Rattle.std.proofs.Common.{◌≡◌, ℕ, Bool, true, false, List, [], ◌∷◌, map, fold, Option, Some, None, Result, Ok, Err, IfOk, refl, sym, ap, ◌∙◌, subst}
+use Rattle.std.specs.Prelude.{length}
+use Rattle.std.specs.declared.cmp.Ordering.{Ordering}
+use Rattle.std.specs.declared.cmp.Ordering.TheVariants.{Less, Equal, Greater}
+use Rattle.pr_num.specs.declared.value.Num.{Num}
+use Rattle.pr_labels.specs.declared.item.Item.{Item}
+use Rattle.pr_labels.specs.declared.pair.Pair.{Pair}
+use Rattle.pr_labels.specs.Order.{labels_cmp}
+use Rattle.pr_labels.specs.Rising.{IsRising, placed as placed_labels, with_labels}
+use Rattle.pr_labels.proofs.LabelOrder.{rising_fold, tied}
+use Rattle.pr_history.specs.declared.entry.Entry.{Entry}
+use Rattle.pr_vectors.specs.Functions.{least_twice}
+use Rattle.pr_query.specs.declared.value.Value.{Value}
+use Rattle.pr_query.specs.Answers.{go_on}
+use Rattle.pr_query.specs.Meaning.{meaning}
+use Rattle.pr_rulefile.specs.Rules.{Rule}
+use Rattle.pr_lineage.specs.declared.found.Found.{Found}
+use Rattle.pr_lineage.specs.Records.{beyond, exceeding}
+use Rattle.pr_tmpl.specs.declared.template.External.{External}
+use Rattle.pr_rules.specs.declared.fault.RuleFailure.{RuleFailure}
+use Rattle.pr_rules.specs.declared.fault.RuleFault.{RuleFault}
+use Rattle.pr_rules.specs.Evaluations.{counted, outcome_of}
+use Rattle.pr_rules.specs.Groups.{Group, RuleState}
+use Rattle.pr_rules.specs.Results.{AreInOrder, elements_of, failed_by, found_of, found_placed, in_found_order, placed, result_by, result_of, ruled, sets_in, told_apart, unless_beyond, unless_same, with_found, within_limit}
+use Rattle.pr_rules.specs.Settings.{Settings}
+
+placed_sets : (f first : Found) (rest : List Found) (o : Ordering) → labels_cmp f.labels first.labels ≡ o → sets_in (with_found rest f) ≡ with_labels (sets_in rest) f.labels
+    → sets_in (found_placed o f first rest (with_found rest f)) ≡ placed_labels o f.labels first.labels (sets_in rest) (with_labels (sets_in rest) f.labels)
+placed_sets f first rest Less e h = refl
+placed_sets f first rest Equal e h = ap (λ (l : List Pair). l ∷ sets_in rest) (tied f.labels first.labels e)
+placed_sets f first rest Greater e h = ap (λ (l : List (List Pair)). first.labels ∷ l) h
+
+with_sets : (fs : List Found) (f : Found) → sets_in (with_found fs f) ≡ with_labels (sets_in fs) f.labels
+with_sets [] f = refl
+with_sets (first ∷ rest) f = placed_sets f first rest (labels_cmp f.labels first.labels) refl (with_sets rest f)
+
+fold_sets : (fs more : List Found) → sets_in (fold with_found fs more) ≡ fold with_labels (sets_in fs) (sets_in more)
+fold_sets fs [] = refl
+fold_sets fs (f ∷ more) = fold_sets (with_found fs f) more ∙ ap (λ (l : List (List Pair)). fold with_labels l (sets_in more)) (with_sets fs f)
+
+pub founds_rise : (founds : List Found) → AreInOrder (in_found_order founds)
+founds_rise founds = subst IsRising (sym (fold_sets [] founds)) (rising_fold [] (sets_in founds) tt)
+
+-- what holds of an answer holds of what is made of it
+goes_on : {A B E : Type 0} (P : A → Type 0) (Q : B → Type 0) (next : A → Result B E) (r : Result A E) → IfOk r P → ((a : A) → P a → IfOk (next a) Q) → IfOk (go_on next r) Q
+goes_on P Q next (Ok a) h k = k a h
+goes_on P Q next (Err e) h k = tt
+
+anything : {A E : Type 0} (r : Result A E) → IfOk r (λ a. Unit {0})
+anything (Ok a) = tt
+anything (Err e) = tt
+
+apart_rises : (o : Option (List Pair)) (founds : List Found) → IfOk (unless_same o founds) AreInOrder
+apart_rises None founds = founds_rise founds
+apart_rises (Some labels) founds = tt
+
+beyond_rises : (limit : ℕ) (o : Option ℕ) (founds : List Found) → AreInOrder founds → IfOk (unless_beyond limit o founds) AreInOrder
+beyond_rises limit None founds h = h
+beyond_rises limit (Some have) founds h = tt
+
+limit_rises : (alert : Bool) (limit : ℕ) (founds : List Found) → AreInOrder founds → IfOk (within_limit alert limit founds) AreInOrder
+limit_rises true limit founds h = h
+limit_rises false limit founds h = beyond_rises limit (beyond limit (length founds)) founds h
+
+placed_rises : (r : Result (List Found) RuleFault) → IfOk r AreInOrder → IfOk (placed r) AreInOrder
+placed_rises (Ok founds) h = h
+placed_rises (Err kind) h = tt
+
+ruled_rises : (external : External) (limit : ℕ) (rule : Rule) (items : List (Item Num)) → IfOk (ruled external limit rule items) AreInOrder
+ruled_rises external limit rule items =
+    let founds = map (found_of external rule) items in
+    goes_on AreInOrder AreInOrder (within_limit rule.alert limit) (told_apart founds) (apart_rises (least_twice (sets_in founds)) founds) (limit_rises rule.alert limit)
+
+by_rises : (external : External) (limit : ℕ) (rule : Rule) (given : Result Value RuleFailure) → IfOk (result_by external limit rule given) AreInOrder
+by_rises external limit rule given =
+    goes_on (λ v. Unit {0}) AreInOrder (λ v. placed (ruled external limit rule (elements_of v))) given (anything given)
+    (λ v h. placed_rises (ruled external limit rule (elements_of v)) (ruled_rises external limit rule (elements_of v)))
+
+pub result_rises : (s : Settings) (limit : ℕ) (rule : Rule) (history : List Entry) (time : ℕ) → IfOk (result_of s limit rule history time) AreInOrder
+unfolding result_of
+result_rises s limit rule history time = by_rises s.external limit rule (failed_by (meaning s.subquery_step history rule.expr time))
+
+counted_rises : (alert : Bool) (limit : ℕ) (r : RuleState) (now : ℕ) (result : Result (List Found) RuleFailure) → IfOk result AreInOrder → IfOk (counted alert limit r now result) AreInOrder
+counted_rises false limit r now result h = h
+counted_rises true limit r now result h =
+    goes_on AreInOrder AreInOrder (λ founds. placed (unless_beyond limit (exceeding limit r.lineage now r.rule.hold r.rule.keep founds) founds)) result h
+    (λ founds k. placed_rises (unless_beyond limit (exceeding limit r.lineage now r.rule.hold r.rule.keep founds) founds)
+    (beyond_rises limit (exceeding limit r.lineage now r.rule.hold r.rule.keep founds) founds k))
+
+pub outcome_rises : (s : Settings) (g : Group) (r : RuleState) (history : List Entry) (now : ℕ) → IfOk (outcome_of s g r history now) AreInOrder
+unfolding outcome_of
+outcome_rises s g r history now = counted_rises r.rule.alert g.limit r now (result_of s g.limit r.rule history now) (result_rises s g.limit r.rule history now)

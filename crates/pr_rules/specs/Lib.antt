@@ -1,0 +1,12 @@
+pub mod Settings
+pub mod Results
+pub mod Groups
+pub mod Evaluations
+pub mod Taking
+pub mod Reloads
+pub mod Costs
+pub mod Passed
+pub mod Carried
+pub mod Times
+pub mod Replays
+pub mod Examples

@@ -1,0 +1,129 @@
+-- What a rule comes to at a moment: labels, annotations and values in label order, or a fault.
+use Rattle.std.specs.Prelude.{ℕ, Bool, true, false, List, [], ◌∷◌, codes, map, fold, length, Option, Some, None, Result, Ok, Err}
+use Rattle.std.specs.declared.cmp.Ordering.{Ordering}
+use Rattle.std.specs.declared.cmp.Ordering.TheVariants.{Less, Equal, Greater}
+use Rattle.pr_num.specs.declared.value.Num.{Num}
+use Rattle.pr_labels.specs.declared.item.Item.{Item}
+use Rattle.pr_labels.specs.declared.pair.Pair.{Pair}
+use Rattle.pr_labels.specs.Edits.{set_label, union_labels, without_name}
+use Rattle.pr_labels.specs.LabelSet.{metric_label, pair_of}
+use Rattle.pr_labels.specs.Order.{labels_cmp}
+use Rattle.pr_labels.specs.Rising.{IsRising}
+use Rattle.pr_history.specs.declared.entry.Entry.{Entry}
+use Rattle.pr_vectors.specs.Functions.{least_twice}
+use Rattle.pr_vectors.specs.Vectors.{element}
+use Rattle.pr_query.specs.declared.fault.Fault.{Fault}
+use Rattle.pr_query.specs.declared.value.Value.{Value}
+use Rattle.pr_query.specs.declared.value.Value.TheVariants.{Scalar, Vector}
+use Rattle.pr_query.specs.Answers.{go_on}
+use Rattle.pr_query.specs.Meaning.{meaning}
+use Rattle.pr_tmpl.specs.declared.template.External.{External}
+use Rattle.pr_tmpl.specs.declared.template.Part.{Part}
+use Rattle.pr_tmpl.specs.Expansion.{expansion}
+use Rattle.pr_tmpl.specs.TemplateText.{template_parts}
+use Rattle.pr_rulefile.specs.Rules.{Rule}
+use Rattle.pr_lineage.specs.declared.found.Found.{Found}
+use Rattle.pr_lineage.specs.Records.{beyond}
+use Rattle.pr_rules.specs.declared.fault.RuleFailure.{RuleFailure}
+use Rattle.pr_rules.specs.declared.fault.RuleFault.{RuleFault}
+use Rattle.pr_rules.specs.declared.fault.RuleFault.TheVariants.{Eval, SameAfterRule, LimitExceeded}
+use Rattle.pr_rules.specs.Settings.{Settings}
+
+-- a number is one element without labels
+abbrev pub elements_of : Value → List (Item Num)
+elements_of (Scalar v) = element [] v ∷ []
+elements_of (Vector items) = items
+
+-- Labels
+
+-- What a text comes to as a template, which sees the element as its expression gives it. A text
+-- that is none comes to nothing; alerts have none such.
+abbrev pub expanded_by : External → Item Num → Option (List Part) → List ℕ
+expanded_by external e (Some parts) = expansion e.labels e.value external parts
+expanded_by external e None = []
+
+abbrev pub expanded : External → Item Num → Pair → Pair
+expanded external e p = pair_of p.name (expanded_by external e (template_parts p.value))
+
+abbrev pub all_expanded : External → Item Num → List Pair → List Pair
+all_expanded external e pairs = map (expanded external e) pairs
+
+-- What is recorded gets the metric's name, and then the labels of the rule.
+abbrev pub recorded_labels : Rule → Item Num → List Pair
+recorded_labels rule e = union_labels (set_label e.labels metric_label rule.name) rule.labels
+
+-- An alert loses the metric's name, gets the labels of the rule, expanded, and then its own name.
+abbrev pub alert_labels : External → Rule → Item Num → List Pair
+alert_labels external rule e =
+    set_label (union_labels (without_name e.labels metric_label) (all_expanded external e rule.labels)) (codes "alertname") rule.name
+
+abbrev pub found_by : External → Rule → Bool → Item Num → Found
+found_by external rule false e = record { labels = recorded_labels rule e; notes = []; value = e.value }
+found_by external rule true e = record { labels = alert_labels external rule e; notes = all_expanded external e rule.notes; value = e.value }
+
+abbrev pub found_of : External → Rule → Item Num → Found
+found_of external rule e = found_by external rule rule.alert e
+
+-- Order
+
+abbrev pub found_placed : Ordering → Found → Found → List Found → List Found → List Found
+found_placed Less f first rest more = f ∷ first ∷ rest
+found_placed Equal f first rest more = f ∷ rest
+found_placed Greater f first rest more = first ∷ more
+
+abbrev pub with_found : List Found → Found → List Found
+with_found [] f = f ∷ []
+with_found (first ∷ rest) f = found_placed (labels_cmp f.labels first.labels) f first rest (with_found rest f)
+
+abbrev pub in_found_order : List Found → List Found
+in_found_order founds = fold with_found [] founds
+
+abbrev pub sets_in : List Found → List (List Pair)
+sets_in founds = map (λ f. f.labels) founds
+
+-- the label sets rise, so that none comes twice
+abbrev pub AreInOrder : List Found → Type 0
+AreInOrder founds = IsRising (sets_in founds)
+
+-- Faults
+
+abbrev pub failure : ℕ → RuleFault → RuleFailure
+failure place kind = record { place = place; kind = kind }
+
+-- A fault of the expression has the place of its part; one of the rule has none, which is told as 0.
+abbrev pub failed_by : Result Value Fault → Result Value RuleFailure
+failed_by (Ok v) = Ok v
+failed_by (Err f) = Err (failure f.place.start (Eval f.kind))
+
+abbrev pub placed : {A : Type 0} → Result A RuleFault → Result A RuleFailure
+placed (Ok a) = Ok a
+placed (Err kind) = Err (failure 0 kind)
+
+-- two elements that have the same labels afterwards, the least such
+abbrev pub unless_same : Option (List Pair) → List Found → Result (List Found) RuleFault
+unless_same None founds = Ok (in_found_order founds)
+unless_same (Some labels) founds = Err (SameAfterRule labels)
+
+abbrev pub told_apart : List Found → Result (List Found) RuleFault
+told_apart founds = unless_same (least_twice (sets_in founds)) founds
+
+-- More series, or alerts, than the limit.
+abbrev pub unless_beyond : ℕ → Option ℕ → List Found → Result (List Found) RuleFault
+unless_beyond limit None founds = Ok founds
+unless_beyond limit (Some have) founds = Err (LimitExceeded limit have)
+
+-- What is recorded has no more elements than the limit. Of an alert not the elements are counted,
+-- but the alerts that are pending or fire.
+abbrev pub within_limit : Bool → ℕ → List Found → Result (List Found) RuleFault
+within_limit true limit founds = Ok founds
+within_limit false limit founds = unless_beyond limit (beyond limit (length founds)) founds
+
+abbrev pub ruled : External → ℕ → Rule → List (Item Num) → Result (List Found) RuleFault
+ruled external limit rule items = go_on (within_limit rule.alert limit) (told_apart (map (found_of external rule) items))
+
+-- The result of a rule over a history at a moment, in a group with this limit.
+abbrev pub result_by : External → ℕ → Rule → Result Value RuleFailure → Result (List Found) RuleFailure
+result_by external limit rule given = go_on (λ v. placed (ruled external limit rule (elements_of v))) given
+
+unfoldable pub result_of : Settings → ℕ → Rule → List Entry → ℕ → Result (List Found) RuleFailure
+result_of s limit rule history time = result_by s.external limit rule (failed_by (meaning s.subquery_step history rule.expr time))

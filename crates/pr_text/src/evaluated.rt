@@ -1,0 +1,398 @@
+// The printed lines of an evaluation, and of the alerts that are asked for.
+#![tactic(auto, using(pr_labels::proofs::Fronts::front_on, pr_strings::proofs::Fronts::front_after))]
+
+ghost use Rattle.std.specs.Prelude.{◌≡◌, ◌++◌, ◌+◌, OnOk, codes, flat_map, length, take};
+ghost use Rattle.pr_labels.specs.SeriesText.{series_text};
+ghost use Rattle.pr_kinds.specs.Kinds.{number_text};
+ghost use Rattle.pr_lineage.specs.Records.{state_text};
+ghost use Rattle.pr_text.specs.Answers.{evaluated_rules, limit_exceeded, late_after, same_after_rule, send_firing, send_resolved};
+ghost use Rattle.pr_text.specs.Evaluated.{alert_text, alerts_text, conflict_line, counts_text, evaluated_text, fault_count, has_failed, late_line, note_line, outcome_text, put_line, put_line_by, restored_line, rule_fault_text, rule_lines, rules_text, sample_line, sending_line, sending_lines, sending_word, stale_line};
+ghost use Rattle.pr_text.specs.Values.{place_text};
+
+use crate::faults::push_fault_kind;
+use crate::values::{push_place, push_point, push_value};
+use pr_history::Append;
+use pr_kinds::{push_number, push_number_after};
+use pr_labels::{Labels, Pair};
+use pr_lineage::{Restored, Sending, State};
+use pr_num::{Num, Point};
+use pr_rules::{GroupReport, Put, RuleFault, RuleOutcome, RuleReport};
+use pr_strings::write_string;
+use pr_time::Ms;
+use pr_world::AlertLine;
+use std::alloc::AllocError;
+
+#[tactic(auto, unfolding(crate::specs::Answers::evaluated_rules))]
+fn push_evaluated_rules(text: &mut Vec<u8>) -> Result<(), AllocError>
+    ensures ok { OnOk result (text.new.items ≡ text.old.items ++ evaluated_rules) }
+    ensures front { take (length text.old.items) text.new.items ≡ text.old.items }
+{
+    text.extend_from_slice(b"evaluated rules ")
+}
+
+#[tactic(auto, unfolding(crate::specs::Answers::limit_exceeded))]
+fn push_limit_exceeded(text: &mut Vec<u8>) -> Result<(), AllocError>
+    ensures ok { OnOk result (text.new.items ≡ text.old.items ++ limit_exceeded) }
+    ensures front { take (length text.old.items) text.new.items ≡ text.old.items }
+{
+    text.extend_from_slice(b"LimitExceeded")
+}
+
+#[tactic(auto, unfolding(crate::specs::Answers::late_after))]
+fn push_late_after(text: &mut Vec<u8>) -> Result<(), AllocError>
+    ensures ok { OnOk result (text.new.items ≡ text.old.items ++ late_after) }
+    ensures front { take (length text.old.items) text.new.items ≡ text.old.items }
+{
+    text.extend_from_slice(b" OutOfOrder ")
+}
+
+#[tactic(auto, unfolding(crate::specs::Answers::same_after_rule))]
+fn push_same_after_rule(text: &mut Vec<u8>) -> Result<(), AllocError>
+    ensures ok { OnOk result (text.new.items ≡ text.old.items ++ same_after_rule) }
+    ensures front { take (length text.old.items) text.new.items ≡ text.old.items }
+{
+    text.extend_from_slice(b"SameAfterRule ")
+}
+
+#[tactic(auto, unfolding(crate::specs::Answers::send_firing))]
+fn push_send_firing(text: &mut Vec<u8>) -> Result<(), AllocError>
+    ensures ok { OnOk result (text.new.items ≡ text.old.items ++ send_firing) }
+    ensures front { take (length text.old.items) text.new.items ≡ text.old.items }
+{
+    text.extend_from_slice(b"send firing ")
+}
+
+#[tactic(auto, unfolding(crate::specs::Answers::send_resolved))]
+fn push_send_resolved(text: &mut Vec<u8>) -> Result<(), AllocError>
+    ensures ok { OnOk result (text.new.items ≡ text.old.items ++ send_resolved) }
+    ensures front { take (length text.old.items) text.new.items ≡ text.old.items }
+{
+    text.extend_from_slice(b"send resolved ")
+}
+
+// Samples
+
+fn push_sample(text: &mut Vec<u8>, labels: &Labels, value: Num) -> Result<(), AllocError>
+    ensures ok { OnOk result (text.new.items ≡ text.old.items ++ sample_line labels.now value) }
+    ensures front { take (length text.old.items) text.new.items ≡ text.old.items }
+{
+    text.extend_from_slice(b"sample ")?;
+    labels.write(text)?;
+    text.extend_from_slice(b" ")?;
+    push_value(text, value)?;
+    text.extend_from_slice(b"\n")
+}
+
+fn push_late(text: &mut Vec<u8>, labels: &Labels, last: Ms) -> Result<(), AllocError>
+    ensures ok { OnOk result (text.new.items ≡ text.old.items ++ late_line labels.now last) }
+    ensures front { take (length text.old.items) text.new.items ≡ text.old.items }
+{
+    text.extend_from_slice(b"dropped ")?;
+    labels.write(text)?;
+    push_late_after(text)?;
+    push_number(text, last.get())?;
+    text.extend_from_slice(b"\n")
+}
+
+fn push_conflicting(text: &mut Vec<u8>, labels: &Labels, kept: Point) -> Result<(), AllocError>
+    ensures ok { OnOk result (text.new.items ≡ text.old.items ++ conflict_line labels.now kept) }
+    ensures front { take (length text.old.items) text.new.items ≡ text.old.items }
+{
+    text.extend_from_slice(b"dropped ")?;
+    labels.write(text)?;
+    text.extend_from_slice(b" Conflict ")?;
+    push_point(text, kept)?;
+    text.extend_from_slice(b"\n")
+}
+
+fn push_put(text: &mut Vec<u8>, put: &Put) -> Result<(), AllocError>
+    ensures ok { OnOk result (text.new.items ≡ text.old.items ++ put_line put.now) }
+    ensures front { take (length text.old.items) text.new.items ≡ text.old.items }
+{
+    match put.append {
+        Append::Added | Append::Same => push_sample(text, &put.labels, put.value),
+        Append::OutOfOrder { last } => push_late(text, &put.labels, last),
+        Append::Conflict { kept } => push_conflicting(text, &put.labels, kept),
+    }
+}
+
+fn push_puts(text: &mut Vec<u8>, puts: &[Put]) -> Result<(), AllocError>
+    ensures ok { OnOk result (text.new.items ≡ text.old.items ++ flat_map put_line puts.now) }
+    ensures front { take (length text.old.items) text.new.items ≡ text.old.items }
+{
+    for put in puts {
+        push_put(text, put)?;
+    }
+    Ok(())
+}
+
+fn push_stale_line(text: &mut Vec<u8>, labels: &Labels) -> Result<(), AllocError>
+    ensures ok { OnOk result (text.new.items ≡ text.old.items ++ stale_line labels.now) }
+    ensures front { take (length text.old.items) text.new.items ≡ text.old.items }
+{
+    text.extend_from_slice(b"stale ")?;
+    labels.write(text)?;
+    text.extend_from_slice(b"\n")
+}
+
+fn push_stale_lines(text: &mut Vec<u8>, sets: &[Labels]) -> Result<(), AllocError>
+    ensures ok { OnOk result (text.new.items ≡ text.old.items ++ flat_map stale_line sets.now) }
+    ensures front { take (length text.old.items) text.new.items ≡ text.old.items }
+{
+    for labels in sets {
+        push_stale_line(text, labels)?;
+    }
+    Ok(())
+}
+
+// Notifications
+
+fn push_note(text: &mut Vec<u8>, note: &Pair) -> Result<(), AllocError>
+    ensures ok { OnOk result (text.new.items ≡ text.old.items ++ note_line note.now) }
+    ensures front { take (length text.old.items) text.new.items ≡ text.old.items }
+{
+    text.extend_from_slice(b"note ")?;
+    text.extend_from_slice(note.name.as_bytes())?;
+    text.extend_from_slice(b" ")?;
+    write_string(note.value.as_bytes(), text)?;
+    text.extend_from_slice(b"\n")
+}
+
+fn push_notes(text: &mut Vec<u8>, notes: &[Pair]) -> Result<(), AllocError>
+    ensures ok { OnOk result (text.new.items ≡ text.old.items ++ flat_map note_line notes.now) }
+    ensures front { take (length text.old.items) text.new.items ≡ text.old.items }
+{
+    for note in notes {
+        push_note(text, note)?;
+    }
+    Ok(())
+}
+
+fn push_sending_word(text: &mut Vec<u8>, firing: bool) -> Result<(), AllocError>
+    ensures ok { OnOk result (text.new.items ≡ text.old.items ++ sending_word firing) }
+    ensures front { take (length text.old.items) text.new.items ≡ text.old.items }
+{
+    if firing {
+        push_send_firing(text)
+    } else {
+        push_send_resolved(text)
+    }
+}
+
+fn push_sending(text: &mut Vec<u8>, sending: &Sending) -> Result<(), AllocError>
+    ensures ok { OnOk result (text.new.items ≡ text.old.items ++ sending_line sending.now) }
+    ensures front { take (length text.old.items) text.new.items ≡ text.old.items }
+{
+    push_sending_word(text, sending.firing)?;
+    sending.labels.write(text)?;
+    text.extend_from_slice(b" value ")?;
+    push_value(text, sending.value)?;
+    text.extend_from_slice(b" starts ")?;
+    push_number(text, sending.starts.get())?;
+    text.extend_from_slice(b" ends ")?;
+    push_number(text, sending.ends)?;
+    text.extend_from_slice(b"\n")
+}
+
+fn push_noted(text: &mut Vec<u8>, sending: &Sending) -> Result<(), AllocError>
+    ensures ok { OnOk result (text.new.items ≡ text.old.items ++ sending_lines sending.now) }
+    ensures front { take (length text.old.items) text.new.items ≡ text.old.items }
+{
+    push_sending(text, sending)?;
+    push_notes(text, sending.notes.as_slice())
+}
+
+fn push_sendings(text: &mut Vec<u8>, sendings: &[Sending]) -> Result<(), AllocError>
+    ensures ok { OnOk result (text.new.items ≡ text.old.items ++ flat_map sending_lines sendings.now) }
+    ensures front { take (length text.old.items) text.new.items ≡ text.old.items }
+{
+    for sending in sendings {
+        push_noted(text, sending)?;
+    }
+    Ok(())
+}
+
+// Rules
+
+fn push_limit(text: &mut Vec<u8>, limit: u32, have: u64) -> Result<(), AllocError>
+    ensures ok { OnOk result (text.new.items ≡ text.old.items ++ (limit_exceeded ++ number_text limit ++ number_text have)) }
+    ensures front { take (length text.old.items) text.new.items ≡ text.old.items }
+{
+    push_limit_exceeded(text)?;
+    push_number_after(text, u64::from(limit))?;
+    push_number_after(text, have)
+}
+
+fn push_same(text: &mut Vec<u8>, labels: &Labels) -> Result<(), AllocError>
+    ensures ok { OnOk result (text.new.items ≡ text.old.items ++ (same_after_rule ++ series_text labels.now)) }
+    ensures front { take (length text.old.items) text.new.items ≡ text.old.items }
+{
+    push_same_after_rule(text)?;
+    labels.write(text)
+}
+
+fn push_rule_fault(text: &mut Vec<u8>, kind: &RuleFault) -> Result<(), AllocError>
+    ensures ok { OnOk result (text.new.items ≡ text.old.items ++ rule_fault_text kind.now) }
+    ensures front { take (length text.old.items) text.new.items ≡ text.old.items }
+{
+    match kind {
+        RuleFault::Eval { kind } => push_fault_kind(text, kind),
+        RuleFault::SameAfterRule { labels } => push_same(text, labels),
+        RuleFault::LimitExceeded { limit, have } => push_limit(text, *limit, *have),
+    }
+}
+
+fn push_failure(text: &mut Vec<u8>, place: usize, kind: &RuleFault) -> Result<(), AllocError>
+    ensures ok { OnOk result (text.new.items ≡ text.old.items ++ (codes " fault " ++ rule_fault_text kind.now ++ place_text place)) }
+    ensures front { take (length text.old.items) text.new.items ≡ text.old.items }
+{
+    text.extend_from_slice(b" fault ")?;
+    push_rule_fault(text, kind)?;
+    push_place(text, place)
+}
+
+fn push_outcome(text: &mut Vec<u8>, outcome: &RuleOutcome) -> Result<(), AllocError>
+    ensures ok { OnOk result (text.new.items ≡ text.old.items ++ outcome_text outcome.now) }
+    ensures front { take (length text.old.items) text.new.items ≡ text.old.items }
+{
+    match outcome {
+        RuleOutcome::Fine => text.extend_from_slice(b" ok\n"),
+        RuleOutcome::Fault { place, kind } => push_failure(text, *place, kind),
+    }
+}
+
+fn push_rule(text: &mut Vec<u8>, number: u64, rule: &RuleReport) -> Result<(), AllocError>
+    ensures ok { OnOk result (text.new.items ≡ text.old.items ++ rule_lines number rule.now) }
+    ensures front { take (length text.old.items) text.new.items ≡ text.old.items }
+{
+    text.extend_from_slice(b"rule ")?;
+    push_number(text, number)?;
+    push_outcome(text, &rule.outcome)?;
+    push_puts(text, rule.samples.as_slice())?;
+    push_stale_lines(text, rule.stale.as_slice())?;
+    push_sendings(text, rule.sent.as_slice())
+}
+
+fn push_rules(text: &mut Vec<u8>, rules: &[RuleReport]) -> Result<(), AllocError>
+    ensures ok { OnOk result (text.new.items ≡ text.old.items ++ rules_text 1 rules.now) }
+    ensures front { take (length text.old.items) text.new.items ≡ text.old.items }
+{
+    let mut number = 0;
+    for rule in rules {
+        number += 1;
+        push_rule(text, number, rule)?;
+    }
+    Ok(())
+}
+
+fn push_restored(text: &mut Vec<u8>, alert: &Restored) -> Result<(), AllocError>
+    ensures ok { OnOk result (text.new.items ≡ text.old.items ++ restored_line alert.now) }
+    ensures front { take (length text.old.items) text.new.items ≡ text.old.items }
+{
+    text.extend_from_slice(b"restored ")?;
+    alert.labels.write(text)?;
+    text.extend_from_slice(b" active ")?;
+    push_number(text, alert.active.get())?;
+    text.extend_from_slice(b"\n")
+}
+
+fn push_all_restored(text: &mut Vec<u8>, alerts: &[Restored]) -> Result<(), AllocError>
+    ensures ok { OnOk result (text.new.items ≡ text.old.items ++ flat_map restored_line alerts.now) }
+    ensures front { take (length text.old.items) text.new.items ≡ text.old.items }
+{
+    for alert in alerts {
+        push_restored(text, alert)?;
+    }
+    Ok(())
+}
+
+fn has_failed(outcome: &RuleOutcome) -> bool
+    ensures { result ≡ has_failed outcome.now }
+{
+    match outcome {
+        RuleOutcome::Fine => false,
+        RuleOutcome::Fault { .. } => true,
+    }
+}
+
+fn fault_count(rules: &[RuleReport]) -> u64
+    ensures { result ≡ fault_count rules.now }
+{
+    let mut count = 0;
+    for rule in rules {
+        if has_failed(&rule.outcome) {
+            count += 1;
+        }
+    }
+    count
+}
+
+fn push_counts(text: &mut Vec<u8>, rules: &[RuleReport]) -> Result<(), AllocError>
+    ensures ok { OnOk result (text.new.items ≡ text.old.items ++ counts_text rules.now) }
+    ensures front { take (length text.old.items) text.new.items ≡ text.old.items }
+{
+    push_evaluated_rules(text)?;
+    push_number(text, rules.len() as u64)?;
+    text.extend_from_slice(b" faults ")?;
+    push_number(text, fault_count(rules))?;
+    text.extend_from_slice(b"\n")
+}
+
+// The lines of an evaluation, without memory a part of them.
+pub(crate) fn push_evaluated(text: &mut Vec<u8>, group: &GroupReport) -> Result<(), AllocError>
+    ensures ok { OnOk result (text.new.items ≡ text.old.items ++ evaluated_text group.now) }
+    ensures front { take (length text.old.items) text.new.items ≡ text.old.items }
+{
+    push_rules(text, group.rules.as_slice())?;
+    push_stale_lines(text, group.leftovers.as_slice())?;
+    push_all_restored(text, group.restored.as_slice())?;
+    push_counts(text, group.rules.as_slice())
+}
+
+// Alerts
+
+fn state_text(state: State) -> &'static str
+    ensures { result.now ≡ state_text state }
+{
+    match state {
+        State::Pending => "pending",
+        State::Firing => "firing",
+        State::Resolved => "resolved",
+    }
+}
+
+fn push_alert(text: &mut Vec<u8>, alert: &AlertLine) -> Result<(), AllocError>
+    ensures ok { OnOk result (text.new.items ≡ text.old.items ++ alert_text alert.now) }
+    ensures front { take (length text.old.items) text.new.items ≡ text.old.items }
+{
+    text.extend_from_slice(b"alert ")?;
+    text.extend_from_slice(state_text(alert.state).as_bytes())?;
+    text.extend_from_slice(b" ")?;
+    alert.labels.write(text)?;
+    text.extend_from_slice(b" active ")?;
+    push_number(text, alert.active.get())?;
+    text.extend_from_slice(b" value ")?;
+    push_value(text, alert.value)?;
+    text.extend_from_slice(b"\n")
+}
+
+fn push_all_alerts(text: &mut Vec<u8>, alerts: &[AlertLine]) -> Result<(), AllocError>
+    ensures ok { OnOk result (text.new.items ≡ text.old.items ++ flat_map alert_text alerts.now) }
+    ensures front { take (length text.old.items) text.new.items ≡ text.old.items }
+{
+    for alert in alerts {
+        push_alert(text, alert)?;
+    }
+    Ok(())
+}
+
+// The lines of alerts, without memory a part of them.
+pub(crate) fn push_alerts(text: &mut Vec<u8>, list: &[AlertLine]) -> Result<(), AllocError>
+    ensures ok { OnOk result (text.new.items ≡ text.old.items ++ alerts_text list.now) }
+    ensures front { take (length text.old.items) text.new.items ≡ text.old.items }
+{
+    text.extend_from_slice(b"alerts ")?;
+    push_number(text, list.len() as u64)?;
+    text.extend_from_slice(b"\n")?;
+    push_all_alerts(text, list)
+}

@@ -1,0 +1,38 @@
+// The printed values and places that stand in answers.
+#![tactic(auto, using(pr_labels::proofs::Fronts::front_on, pr_strings::proofs::Fronts::front_after))]
+
+ghost use Rattle.std.specs.Prelude.{◌≡◌, ◌++◌, OnOk, length, take};
+ghost use Rattle.pr_num.specs.Shown.{shown};
+ghost use Rattle.pr_text.specs.Values.{place_text, shown_point};
+
+use pr_kinds::push_number;
+use pr_num::{Num, Point};
+use std::alloc::AllocError;
+
+pub(crate) fn push_value(text: &mut Vec<u8>, v: Num) -> Result<(), AllocError>
+    ensures ok { OnOk result (text.new.items ≡ text.old.items ++ shown v) }
+    ensures front { take (length text.old.items) text.new.items ≡ text.old.items }
+{
+    let mut buffer = [0u8; 40];
+    let count = pr_num::write(v, &mut buffer);
+    text.extend_from_slice(&buffer[..count])
+}
+
+pub(crate) fn push_point(text: &mut Vec<u8>, p: Point) -> Result<(), AllocError>
+    ensures ok { OnOk result (text.new.items ≡ text.old.items ++ shown_point p) }
+    ensures front { take (length text.old.items) text.new.items ≡ text.old.items }
+{
+    match p {
+        Point::Value(v) => push_value(text, v),
+        Point::Stale => text.extend_from_slice(b"stale"),
+    }
+}
+
+pub(crate) fn push_place(text: &mut Vec<u8>, place: usize) -> Result<(), AllocError>
+    ensures ok { OnOk result (text.new.items ≡ text.old.items ++ place_text place) }
+    ensures front { take (length text.old.items) text.new.items ≡ text.old.items }
+{
+    text.extend_from_slice(b" at ")?;
+    push_number(text, place as u64)?;
+    text.extend_from_slice(b"\n")
+}
