@@ -1,7 +1,7 @@
 -- A text that is no rule file has a problem that can be told.
 use Rattle.std.proofs.Common.{◌≡◌, ◌≢◌, ℕ, Bool, true, false, cond, List, [], ◌∷◌, refl, subst}
 use Rattle.pr_fields.specs.declared.problem.Problem.{Problem}
-use Rattle.pr_fields.specs.Order.{in_order, is_told_before, ordered, placed}
+use Rattle.pr_fields.specs.Order.{in_order, is_told_before, ordered, inserted}
 use Rattle.pr_yaml.specs.Read.{Reading, gives_tree, gives_fault, read_of}
 use Rattle.pr_rulefile.specs.File.{RuleReading, by_problems, by_reading, file_groups, file_problems, gives_file, gives_problems, rule_file_of}
 use Rattle.pr_rulefile.specs.Groups.{Group}
@@ -10,16 +10,16 @@ abbrev HasOne : List Problem → Type 0
 HasOne [] = ⊥
 HasOne (p ∷ ps) = Unit {0}
 
-placed_one : (p : Problem) (ps : List Problem) → HasOne (placed is_told_before p ps)
-placed_one p [] = tt
-placed_one p (q ∷ qs) = by (is_told_before q p) where
-  by : (b : Bool) → HasOne (cond b (q ∷ placed is_told_before p qs) (p ∷ q ∷ qs))
+inserted_one : (p : Problem) (ps : List Problem) → HasOne (inserted is_told_before p ps)
+inserted_one p [] = tt
+inserted_one p (q ∷ qs) = by (is_told_before q p) where
+  by : (b : Bool) → HasOne (cond b (q ∷ inserted is_told_before p qs) (p ∷ q ∷ qs))
   by true = tt
   by false = tt
 
 ordered_one : (p : Problem) (ps : List Problem) → HasOne (in_order (p ∷ ps))
 unfolding in_order
-ordered_one p ps = placed_one p (ordered is_told_before ps)
+ordered_one p ps = inserted_one p (ordered is_told_before ps)
 
 abbrev TellsOne : RuleReading → Type 0
 TellsOne (gives_file groups) = Unit {0}

@@ -1,0 +1,13 @@
+mod Courses
+mod FoundAlerts
+mod Limits
+mod Lookups
+mod MergeSteps
+mod Merged
+mod MissingAlerts
+mod Moves
+mod Moving
+mod Sampled
+mod Sendings
+mod Sent
+mod Whole

@@ -1,0 +1,20 @@
+-- Which of two lists goes on first, when they are merged.
+use Rattle.std.specs.Prelude.{ℕ, ◌+◌, ◌<◌, List, [], ◌∷◌}
+use Rattle.std.specs.declared.cmp.Ordering.{Ordering}
+use Rattle.std.specs.declared.cmp.Ordering.TheVariants.{Less, Equal, Greater}
+use Rattle.pr_labels.specs.Order.{labels_cmp}
+use Rattle.pr_lineage.specs.declared.found.Found.{Found}
+use Rattle.pr_lineage.specs.declared.record.Record.{Record}
+
+-- which stands first: a record, an element, or both with the same labels
+abbrev pub turn : List Record → List Found → Ordering
+turn [] [] = Equal
+turn [] (f ∷ fs) = Greater
+turn (r ∷ rs) [] = Less
+turn (r ∷ rs) (f ∷ fs) = labels_cmp r.labels f.labels
+
+-- of which of two lists there is a first one, by which stands first and how many there are
+abbrev pub HasFirst : Ordering → ℕ → ℕ → Type 0
+HasFirst Less n k = 0 < n
+HasFirst Equal n k = 0 < n + k → (0 < n) × (0 < k)
+HasFirst Greater n k = 0 < k
