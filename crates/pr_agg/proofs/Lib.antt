@@ -9,5 +9,4 @@ pub mod Counting
 pub mod Known
 pub mod Gathered
 pub mod Answered
-pub mod Extremes
 pub mod Folded

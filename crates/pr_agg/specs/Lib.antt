@@ -1,8 +1,7 @@
 pub mod Parts
-pub mod Totals
 pub mod Firsts
 pub mod Counts
-pub mod Extremes
+pub mod Alone
 pub mod Finished
 pub mod Presence
 pub mod Lists

@@ -19,6 +19,4 @@ pub use firsts::{bottomk, topk};
 pub use folds::group_fold;
 pub use laws::folded_values_are_as_defined;
 pub use lists::quantile;
-pub use values::{
-    Counts, Greatest, Least, Presence, Totals, avg, count, greater, group, lesser, max, min, sum,
-};
+pub use values::{Counts, Greatest, Least, Presence, Totals, avg, count, group, max, min, sum};

@@ -1,20 +1,18 @@
 // Aggregations that fold the values of each part.
 ghost use Rattle.std.specs.Prelude.{◌≡◌, ◌≢◌, Ok, Err, IfOk, IfErr, MatchResult};
-ghost use Rattle.pr_num.specs.declared.value.Num.TheVariants.{NaN};
 ghost use Rattle.pr_num.specs.Arithmetic.{too_wide, whole_of};
 ghost use Rattle.pr_vectors.specs.Vectors.{IsVector};
 ghost use Rattle.pr_vectors.specs.Aggregation.{of_groups, always, count_of_values, greatest_of_values, least_of_values, mean_of_values, one_of_values, sum_of_values};
 ghost use Rattle.pr_agg.specs.declared.fault.AggFault.TheVariants as fault;
-ghost use Rattle.pr_agg.specs.Extremes.{greater, lesser};
 
 use crate::fault::AggFault;
 use crate::folds::group_fold;
 use crate::numbers::whole;
+use pr_folds::{greater, lesser};
 use pr_labels::{Grouping, Item};
 use pr_num::{Num, TooWide, Total};
 use pr_window::Fold;
 use std::alloc::{AllocError, Global};
-use std::cmp::Ordering;
 
 /// Values are folded to their total, for `sum` and `avg`: lift by `Total::zero().plus(v)`, combine
 /// by `Total::join`.
@@ -22,7 +20,7 @@ pub struct Totals;
 
 impl Fold<Num, Total> for Totals {
     ghost use Rattle.pr_num.specs.Total.{joined, one_value};
-    ghost use Rattle.pr_agg.specs.Totals.{tally_count, joined_assoc, joined_count, one_count};
+    ghost use Rattle.pr_folds.specs.Totals.{joined_assoc, joined_count, one_count, tally_count};
 
     ghost lift = { one_value };
 
@@ -41,7 +39,8 @@ impl Fold<Num, Total> for Totals {
 pub struct Greatest;
 
 impl Fold<Num, Num> for Greatest {
-    ghost use Rattle.pr_agg.specs.Extremes.{greater, greater_assoc, greater_weightless, itself, itself_weightless, no_weight};
+    ghost use Rattle.pr_folds.specs.Extremes.{greater, greater_assoc, greater_weightless, no_weight};
+    ghost use Rattle.pr_agg.specs.Alone.{itself, itself_weightless};
 
     ghost lift = { itself };
 
@@ -60,7 +59,8 @@ impl Fold<Num, Num> for Greatest {
 pub struct Least;
 
 impl Fold<Num, Num> for Least {
-    ghost use Rattle.pr_agg.specs.Extremes.{itself, itself_weightless, lesser, lesser_assoc, lesser_weightless, no_weight};
+    ghost use Rattle.pr_folds.specs.Extremes.{lesser, lesser_assoc, lesser_weightless, no_weight};
+    ghost use Rattle.pr_agg.specs.Alone.{itself, itself_weightless};
 
     ghost lift = { itself };
 
@@ -111,42 +111,6 @@ impl Fold<Num, ()> for Presence {
     ghost lifted = { weighs_nothing };
 
     ghost combined = { both_weigh_nothing };
-}
-
-/// The greater of two values, and the other one where one is NaN.
-pub fn greater(a: &Num, b: &Num) -> Num
-    ensures { result ≡ greater a.now b.now }
-{
-    match a.order(*b) {
-        Ordering::Less => *b,
-        Ordering::Equal | Ordering::Greater => *a,
-    }
-}
-
-// The first value where it is below a second one that is not NaN, and the second one else.
-#[tactic(auto, unfolding(pr_num::specs::Order::order_of))]
-fn first_unless_nan(first: &Num, second: &Num) -> Num
-    requires { second.now ≢ NaN }
-    ensures { result ≡ lesser second.now first.now }
-{
-    match first {
-        Num::NaN => *second,
-        Num::Finite(_) | Num::PosInf | Num::NegInf => match first.order(*second) {
-            Ordering::Less => *first,
-            Ordering::Equal | Ordering::Greater => *second,
-        },
-    }
-}
-
-/// The lesser of two values, and the other one where one is NaN.
-#[tactic(auto, unfolding(pr_num::specs::Order::order_of))]
-pub fn lesser(a: &Num, b: &Num) -> Num
-    ensures { result ≡ lesser a.now b.now }
-{
-    match a {
-        Num::NaN => *b,
-        Num::Finite(_) | Num::PosInf | Num::NegInf => first_unless_nan(b, a),
-    }
 }
 
 // An answer that has no values that are too wide.

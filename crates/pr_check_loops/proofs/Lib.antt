@@ -1,1 +1,2 @@
 pub mod EachFile
+pub mod Commands

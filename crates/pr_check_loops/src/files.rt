@@ -1,43 +1,35 @@
 // Checks of files, one after another.
-ghost use Rattle.std.specs.Prelude.{◌≡◌, ◌≢◌, ℕ, ◌++◌, ◌||◌, [], List, Option, Some, map, string_bytes, take, IfOk, IfSome, OnOk};
-ghost use Rattle.std.specs.Io.KnownBytes.{Appends};
-ghost use Rattle.pr_outside.specs.Contents.{IsFound, IsWithinLimit};
-ghost use Rattle.pr_check_loops.specs.FileChecks.{IsFilesFront, MeansFileCheck, Telling, all_told, any_refused, texts};
-ghost use Rattle.pr_check_loops.specs.FileStops.{FilesStop, IsFileFront, StopsFiles, Turned, stopped_unread};
+ghost use Rattle.std.specs.Prelude.{◌≡◌, ℕ, ◌++◌, ◌||◌, [], List, length, map, string_bytes, IfOk, OnOk};
+ghost use Rattle.pr_status.specs.Asks.{AsksBy};
+ghost use Rattle.pr_status.specs.Ends.{Ends, LoadEnds, no_row, place_of};
+ghost use Rattle.pr_status.specs.Outside.{AreTold, Held, Outside};
+ghost use Rattle.pr_check_loops.specs.FileChecks.{AreChecked, IsFilesFront, MeansFileCheck, Telling, all_asks, all_told};
+ghost use Rattle.pr_check_loops.specs.FileStops.{IsFileFront, Turned};
 
-use pr_outside::{Files, FilesError, Found, Sink};
+use pr_outside::{Files, Sink};
 use pr_status::{Status, Stop, send, status_of};
-use std::alloc::{AllocError, Global};
+use std::alloc::Global;
 
-/// What can be told of a file by its name and what was found under it.
+/// What can be told of a file by its name and by what it and the files hold that it names.
 pub trait FileCheck {
-    /// What is told of a file: its text, and whether it is refused.
+    /// What is told of a file: its text, whether it is refused, and the files that are asked for.
     ghost told: { Telling };
 
-    /// Appends the text that is told of a file, and says whether it is refused.
-    fn check(
+    /// Loads a file and those that it names, each once and in order, appends the text that is told
+    /// of it, and says whether it is refused.
+    fn check<F: Files>(
         &self,
         alloc: Global,
         name: &str,
-        found: &Found,
+        files: &mut F,
         text: &mut Vec<u8>,
-    ) -> Result<bool, AllocError>
-        requires { IsWithinLimit found.now }
-        ensures text { (content : Option (List ℕ)) → IsFound (Some content) found.now → OnOk result (text.new.items ≡ text.old.items ++ (told name.now content).text) }
-        ensures refused { (content : Option (List ℕ)) → IsFound (Some content) found.now → IfOk result (λ b. b ≡ (told name.now content).refused) };
-}
-
-fn load<F: Files>(files: &mut F, name: &str) -> Result<Found, Stop>
-    ensures found { IfOk result (IsFound (F.content files.old name.now)) }
-    ensures limit { IfOk result IsWithinLimit }
-    ensures same { (other : List ℕ) → F.content files.new other ≡ F.content files.old other }
-    ensures cause { FilesStop (F.faults files.old) (F.faults files.new) result }
-{
-    match files.load(name) {
-        Ok(found) => Ok(found),
-        Err(FilesError::Failed) => Err(Stop::Read),
-        Err(FilesError::Memory) => Err(Stop::Memory),
-    }
+    ) -> Result<bool, Stop>
+        ensures text { (held : Held) → AreTold (F.means files.old).content held (told held name.now).asks → OnOk result (text.new.items ≡ text.old.items ++ (told held name.now).text) }
+        ensures refused { (held : Held) → AreTold (F.means files.old).content held (told held name.now).asks → IfOk result (λ b. b ≡ (told held name.now).refused) }
+        ensures asked { (held : Held) → AreTold (F.means files.old).content held (told held name.now).asks
+            → AsksBy (F.means files.old).calls (F.means files.new).calls (length (told held name.now).asks) result }
+        ensures same { (other : List ℕ) → (F.means files.new).content other ≡ (F.means files.old).content other }
+        ensures ends { LoadEnds (F.means files.old) (F.means files.new) result };
 }
 
 // Checks one file, and says whether it is refused.
@@ -48,14 +40,18 @@ fn check_file<C: FileCheck, F: Files, O: Sink>(
     files: &mut F,
     out: &mut O,
 ) -> Result<bool, Stop>
-    ensures told { IfOk result (λ b. IfSome (F.content files.old name.now) (λ content. Turned (C.told name.now content) (O.taken out.old) (O.taken out.new) b)) }
-    ensures front { IfSome (F.content files.old name.now) (λ content. IsFileFront (C.told name.now content) (O.taken out.old) (O.taken out.new) result) }
-    ensures same { (other : List ℕ) → F.content files.new other ≡ F.content files.old other }
-    ensures cause { StopsFiles (F.faults files.old) (F.faults files.new) (O.faults out.old) (O.faults out.new) result }
+    ensures told { (held : Held) → AreTold (F.means files.old).content held (C.told held name.now).asks
+        → IfOk result (Turned (C.told held name.now) (O.means out.old).taken (O.means out.new).taken) }
+    ensures front { (held : Held) → AreTold (F.means files.old).content held (C.told held name.now).asks
+        → IsFileFront (C.told held name.now) (O.means out.old).taken (O.means out.new).taken result }
+    ensures asked { (held : Held) → AreTold (F.means files.old).content held (C.told held name.now).asks
+        → AsksBy (F.means files.old).calls (F.means files.new).calls (length (C.told held name.now).asks) result }
+    ensures same { (other : List ℕ) → (F.means files.new).content other ≡ (F.means files.old).content other }
+    ensures ends { (others : Outside) → Ends no_row ⊥ (record others { files = F.means files.old; out = O.means out.old })
+        (record others { files = F.means files.new; out = O.means out.new }) result }
 {
-    let found = load(files, name)?;
     let mut text = Vec::new(alloc);
-    let refused = check.check(alloc, name, &found, &mut text)?;
+    let refused = check.check(alloc, name, files, &mut text)?;
     send(out, &text)?;
     Ok(refused)
 }
@@ -74,11 +70,15 @@ fn check_each<C: FileCheck, F: Files, O: Sink>(
     files: &mut F,
     out: &mut O,
 ) -> Result<bool, Stop>
-    ensures told { IfOk result (λ b. IfSome (all_told C.told (F.content files.old) (map string_bytes names.now)) (λ tolds. (Appends (O.taken out.old) (O.taken out.new) (texts tolds))
-        × (b ≡ any_refused tolds))) }
-    ensures front { IfSome (all_told C.told (F.content files.old) (map string_bytes names.now)) (λ tolds. IsFilesFront tolds (O.taken out.old) (O.taken out.new) (stopped_unread result)) }
-    ensures same { (other : List ℕ) → F.content files.new other ≡ F.content files.old other }
-    ensures cause { StopsFiles (F.faults files.old) (F.faults files.new) (O.faults out.old) (O.faults out.new) result }
+    ensures told { (held : Held) (others : Outside) → AreTold (F.means files.old).content held (all_asks (all_told C.told held (map string_bytes names.now)))
+        → IfOk result (AreChecked (all_told C.told held (map string_bytes names.now)) (record others { files = F.means files.old; out = O.means out.old })
+        (record others { files = F.means files.new; out = O.means out.new })) }
+    ensures front { (held : Held) (others : Outside) → AreTold (F.means files.old).content held (all_asks (all_told C.told held (map string_bytes names.now)))
+        → IsFilesFront (all_told C.told held (map string_bytes names.now)) (record others { files = F.means files.old; out = O.means out.old })
+        (record others { files = F.means files.new; out = O.means out.new }) (place_of result) }
+    ensures same { (other : List ℕ) → (F.means files.new).content other ≡ (F.means files.old).content other }
+    ensures ends { (others : Outside) → Ends no_row ⊥ (record others { files = F.means files.old; out = O.means out.old })
+        (record others { files = F.means files.new; out = O.means out.new }) result }
 {
     let mut refused = false;
     let mut rest = names;
@@ -98,11 +98,9 @@ pub fn check_files<C: FileCheck, F: Files, O: Sink>(
     files: &mut F,
     out: &mut O,
 ) -> Status
-    ensures means { (input : ℕ) (keeper : ℕ)
-        → MeansFileCheck C.told (F.content files.old) (map string_bytes names.now) (O.taken out.old) (O.taken out.new)
-        (record { input = input; files = F.faults files.old; keeper = keeper; out = O.faults out.old })
-        (record { input = input; files = F.faults files.new; keeper = keeper; out = O.faults out.new }) result }
-    ensures same { (other : List ℕ) → F.content files.new other ≡ F.content files.old other }
+    ensures means { (others : Outside) → MeansFileCheck C.told (map string_bytes names.now) (record others { files = F.means files.old; out = O.means out.old })
+        (record others { files = F.means files.new; out = O.means out.new }) result }
+    ensures same { (other : List ℕ) → (F.means files.new).content other ≡ (F.means files.old).content other }
 {
     status_of(check_each(alloc, check, names, files, out))
 }

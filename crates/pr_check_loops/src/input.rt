@@ -1,8 +1,9 @@
 // Checks of the whole input.
 ghost use Rattle.std.specs.Prelude.{◌≡◌, ◌≢◌, ℕ, ◌+◌, ◌<◌, ◌≤◌, ◌^◌, ◌++◌, [], List, length, take, Some, IfOk, IfSome, OnOk};
 ghost use Rattle.std.specs.Io.KnownBytes.{Appends, Consumes};
+ghost use Rattle.pr_status.specs.Ends.{AtInput, Ends, KnowsLength, ReadEnds, no_row};
+ghost use Rattle.pr_status.specs.Outside.{Outside};
 ghost use Rattle.pr_status.specs.Status.{IsLong};
-ghost use Rattle.pr_status.specs.Stops.{AtInput, KnowsLength, OnTooLong, StopsReading, StopsRunning};
 ghost use Rattle.pr_check_loops.specs.Checks.{Checked};
 ghost use Rattle.pr_check_loops.specs.InputChecks.{MeansInputCheck};
 
@@ -31,10 +32,9 @@ pub trait InputCheck {
 
 // Reads the input to its end.
 fn read_all<I: Source>(alloc: Global, input: &mut I) -> Result<Vec<u8>, Stop>
-    ensures bytes { IfOk result (λ v. IfSome (I.left input.old) (λ bytes. (v.items ≡ bytes) × (I.left input.new ≡ Some []))) }
+    ensures bytes { IfOk result (λ v. IfSome (I.means input.old).left (λ bytes. (v.items ≡ bytes) × ((I.means input.new).left ≡ Some []))) }
     ensures short { IfOk result (λ v. length v.items < 2 ^ 32) }
-    ensures long { OnTooLong result (IsLong (I.left input.old)) }
-    ensures cause { StopsReading (I.faults input.old) (I.faults input.new) result }
+    ensures ends { ReadEnds (IsLong (I.means input.old).left) (I.means input.old) (I.means input.new) result }
 {
     let mut bytes = Vec::new(alloc);
     let mut piece = [0u8; PIECE];
@@ -55,12 +55,13 @@ fn check_all<C: InputCheck, I: Source, O: Sink>(
     input: &mut I,
     out: &mut O,
 ) -> Result<Verdict, Stop>
-    ensures told { IfOk result (λ v. IfSome (I.left input.old) (λ bytes. (Appends (O.taken out.old) (O.taken out.new) (C.told bytes).text)
-        × (v ≡ (C.told bytes).verdict) × (I.left input.new ≡ Some []))) }
-    ensures front { IfSome (I.left input.old) (λ bytes. (n : ℕ) × Appends (O.taken out.old) (O.taken out.new) (take n (C.told bytes).text)) }
-    ensures silent { AtInput result (Appends (O.taken out.old) (O.taken out.new) []) }
-    ensures long { KnowsLength (I.left input.old) result }
-    ensures cause { StopsRunning (I.faults input.old) (I.faults input.new) (O.faults out.old) (O.faults out.new) result }
+    ensures told { IfOk result (λ v. IfSome (I.means input.old).left (λ bytes. (Appends (O.means out.old).taken (O.means out.new).taken (C.told bytes).text)
+        × (v ≡ (C.told bytes).verdict) × ((I.means input.new).left ≡ Some []))) }
+    ensures front { IfSome (I.means input.old).left (λ bytes. (n : ℕ) × Appends (O.means out.old).taken (O.means out.new).taken (take n (C.told bytes).text)) }
+    ensures silent { AtInput result (Appends (O.means out.old).taken (O.means out.new).taken []) }
+    ensures long { KnowsLength (I.means input.old).left result }
+    ensures ends { (others : Outside) → Ends no_row (IsLong (I.means input.old).left) (record others { input = I.means input.old; out = O.means out.old })
+        (record others { input = I.means input.new; out = O.means out.new }) result }
 {
     let bytes = read_all(alloc, input)?;
     let mut text = Vec::new(alloc);
@@ -77,10 +78,8 @@ pub fn check_input<C: InputCheck, I: Source, O: Sink>(
     input: &mut I,
     out: &mut O,
 ) -> Status
-    ensures { (files : ℕ) (keeper : ℕ)
-        → MeansInputCheck C.told (I.left input.old) (I.left input.new) (O.taken out.old) (O.taken out.new)
-        (record { input = I.faults input.old; files = files; keeper = keeper; out = O.faults out.old })
-        (record { input = I.faults input.new; files = files; keeper = keeper; out = O.faults out.new }) result }
+    ensures { (others : Outside) → MeansInputCheck C.told (record others { input = I.means input.old; out = O.means out.old })
+        (record others { input = I.means input.new; out = O.means out.new }) result }
 {
     status_of(check_all(alloc, check, input, out))
 }

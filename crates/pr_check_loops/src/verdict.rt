@@ -1,6 +1,6 @@
 // How a check comes out.
 ghost use Rattle.std.specs.Prelude.{◌≡◌};
-ghost use Rattle.pr_status.specs.Stops.{stop_status};
+ghost use Rattle.pr_status.specs.Ends.{stop_status};
 ghost use Rattle.pr_check_loops.specs.Checks.{ends, ends_by};
 
 use pr_status::{Status, Stop};

@@ -1,7 +1,8 @@
 -- What `check rules` tells of a file.
-use Rattle.std.specs.Prelude.{ℕ, nat_lt, true, false, List, ◌++◌, cond, codes, decimal, flat_map, length, Option, Some, None}
+use Rattle.std.specs.Prelude.{ℕ, nat_lt, true, false, List, [], ◌∷◌, ◌++◌, cond, codes, decimal, flat_map, length, Option, Some, None}
 use Rattle.pr_outside.specs.Contents.{file_limit}
 use Rattle.pr_check_loops.specs.FileChecks.{Told}
+use Rattle.pr_status.specs.Outside.{Held}
 use Rattle.pr_rulefile.specs.File.{RuleReading, gives_file, gives_problems, rule_file_of}
 use Rattle.pr_rulefile.specs.Groups.{rule_count}
 use Rattle.pr_checks.specs.Problems.{problem_line}
@@ -23,8 +24,8 @@ problems_text lines = failed_line ++ lines
 
 -- the problems of a file, each on a line
 abbrev pub reading_told : List ℕ → RuleReading → Told
-reading_told name (gives_file groups) = record { text = success_text (rule_count groups); refused = false }
-reading_told name (gives_problems list) = record { text = problems_text (flat_map (problem_line name) list); refused = true }
+reading_told name (gives_file groups) = record { text = success_text (rule_count groups); refused = false; asks = [] }
+reading_told name (gives_problems list) = record { text = problems_text (flat_map (problem_line name) list); refused = true; asks = [] }
 
 -- a file that is missing, or too large
 unfoldable pub missing : List ℕ
@@ -40,12 +41,16 @@ abbrev pub too_large_text : List ℕ → List ℕ
 too_large_text name = problems_text (name ++ too_large)
 
 abbrev pub found_told : List ℕ → Option (List ℕ) → Told
-found_told name None = record { text = missing_text name; refused = true }
-found_told name (Some bytes) = cond (nat_lt file_limit (length bytes)) (record { text = too_large_text name; refused = true }) (reading_told name (rule_file_of bytes))
+found_told name None = record { text = missing_text name; refused = true; asks = [] }
+found_told name (Some bytes) = cond (nat_lt file_limit (length bytes)) (record { text = too_large_text name; refused = true; asks = [] }) (reading_told name (rule_file_of bytes))
 
 unfoldable pub checking_text : List ℕ → List ℕ
 checking_text name = codes "Checking " ++ (name ++ codes "\n")
 
 -- The name of the file on a line, and then how many rules it has, or what is wrong with it.
-abbrev pub rules_told : List ℕ → Option (List ℕ) → Told
-rules_told name content = record { text = checking_text name ++ (found_told name content).text; refused = (found_told name content).refused }
+-- The file alone is asked for.
+abbrev pub file_told : List ℕ → Option (List ℕ) → Told
+file_told name content = record { text = checking_text name ++ (found_told name content).text; refused = (found_told name content).refused; asks = name ∷ [] }
+
+abbrev pub rules_told : Held → List ℕ → Told
+rules_told held name = file_told name (held name)

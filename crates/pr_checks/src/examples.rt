@@ -1,5 +1,5 @@
 //! What is told of small files and expositions.
-ghost use Rattle.std.specs.Prelude.{◌≡◌, ◌<◌, ◌^◌, ℕ, List, codes, length, true, false, [], Some, None};
+ghost use Rattle.std.specs.Prelude.{◌≡◌, ◌<◌, ◌^◌, ℕ, List, codes, length, true, false, [], ◌∷◌, Some, None};
 ghost use Rattle.pr_yaml_scan.specs.declared.fault.YamlKind.TheVariants as yaml;
 ghost use Rattle.pr_lex.specs.declared.fault.LexKind.TheVariants as lex;
 ghost use Rattle.pr_parse.specs.declared.fault.ParseKind.TheVariants as parse;
@@ -9,23 +9,23 @@ ghost use Rattle.pr_fields.specs.declared.problem.ProblemKind.TheVariants.{Yaml,
 ghost use Rattle.pr_fields.specs.Problems.{problem};
 ghost use Rattle.pr_check_loops.specs.declared.verdict.Verdict.TheVariants.{Good, Complaints, Refused};
 ghost use Rattle.pr_checks.specs.Problems.{problem_line};
-ghost use Rattle.pr_checks.specs.RuleFiles.{rules_told};
+ghost use Rattle.pr_checks.specs.RuleFiles.{file_told};
 ghost use Rattle.pr_checks.specs.Metrics.{metrics_told};
 
 /// How many rules a file has; that it is not there, or too large. A file that says nothing has no
 /// rules.
 pub fn files_are_told_so()
-    ensures empty { rules_told (codes "a.yml") (Some []) ≡ record { text = codes "Checking a.yml\n  SUCCESS: 0 rules found\n"; refused = false } }
-    ensures one_rule { rules_told (codes "a.yml") (Some (codes "groups:\n- name: g\n  rules:\n  - record: a:b\n    expr: up\n")) ≡ record { text = codes "Checking a.yml\n  SUCCESS: 1 rules found\n"; refused = false } }
-    ensures missing { rules_told (codes "a.yml") None ≡ record { text = codes "Checking a.yml\n  FAILED:\na.yml: Missing\n"; refused = true } }
-    ensures too_large { (bytes : List ℕ) → 2 ^ 26 < length bytes → rules_told (codes "a.yml") (Some bytes) ≡ record { text = codes "Checking a.yml\n  FAILED:\na.yml: TooLarge\n"; refused = true } }
+    ensures empty { file_told (codes "a.yml") (Some []) ≡ record { text = codes "Checking a.yml\n  SUCCESS: 0 rules found\n"; refused = false; asks = codes "a.yml" ∷ [] } }
+    ensures one_rule { file_told (codes "a.yml") (Some (codes "groups:\n- name: g\n  rules:\n  - record: a:b\n    expr: up\n")) ≡ record { text = codes "Checking a.yml\n  SUCCESS: 1 rules found\n"; refused = false; asks = codes "a.yml" ∷ [] } }
+    ensures missing { file_told (codes "a.yml") None ≡ record { text = codes "Checking a.yml\n  FAILED:\na.yml: Missing\n"; refused = true; asks = codes "a.yml" ∷ [] } }
+    ensures too_large { (bytes : List ℕ) → 2 ^ 26 < length bytes → file_told (codes "a.yml") (Some bytes) ≡ record { text = codes "Checking a.yml\n  FAILED:\na.yml: TooLarge\n"; refused = true; asks = codes "a.yml" ∷ [] } }
 {}
 
 /// Each problem of a file stands on a line: by the lines of the file, and on one line by kind.
 pub fn problems_are_told_so()
-    ensures unknown { rules_told (codes "rules.yml") (Some (codes "groups:\n- name: g\n  every: 1m\n  rules:\n  - record: a:b\n    expr: up\n")) ≡ record { text = codes "Checking rules.yml\n  FAILED:\nrules.yml: line 3 UnknownField \"every\"\n"; refused = true } }
-    ensures by_line { rules_told (codes "a.yml") (Some (codes "groups:\n- rules:\n  - {}\n")) ≡ record { text = codes "Checking a.yml\n  FAILED:\na.yml: line 2 Missing \"name\"\na.yml: line 3 Missing \"expr\"\na.yml: line 3 NoName\n"; refused = true } }
-    ensures no_tree { rules_told (codes "a.yml") (Some (codes "a: b: c\n")) ≡ record { text = codes "Checking a.yml\n  FAILED:\na.yml: line 1 Colon\n"; refused = true } }
+    ensures unknown { file_told (codes "rules.yml") (Some (codes "groups:\n- name: g\n  every: 1m\n  rules:\n  - record: a:b\n    expr: up\n")) ≡ record { text = codes "Checking rules.yml\n  FAILED:\nrules.yml: line 3 UnknownField \"every\"\n"; refused = true; asks = codes "rules.yml" ∷ [] } }
+    ensures by_line { file_told (codes "a.yml") (Some (codes "groups:\n- rules:\n  - {}\n")) ≡ record { text = codes "Checking a.yml\n  FAILED:\na.yml: line 2 Missing \"name\"\na.yml: line 3 Missing \"expr\"\na.yml: line 3 NoName\n"; refused = true; asks = codes "a.yml" ∷ [] } }
+    ensures no_tree { file_told (codes "a.yml") (Some (codes "a: b: c\n")) ≡ record { text = codes "Checking a.yml\n  FAILED:\na.yml: line 1 Colon\n"; refused = true; asks = codes "a.yml" ∷ [] } }
 {}
 
 /// A kind is told by its name and what it tells: a name in double quotes, or a place. A kind of

@@ -3,13 +3,14 @@ ghost use Rattle.std.specs.Prelude.{◌≡◌, ◌<◌, ◌≤◌, ◌^◌, ◌+
 ghost use Rattle.pr_outside.specs.Contents.{IsFound, IsWithinLimit, file_limit};
 ghost use Rattle.pr_rulefile.specs.File.{rule_file_of};
 ghost use Rattle.pr_checks.specs.Problems.{problem_line};
-ghost use Rattle.pr_checks.specs.RuleFiles.{checking_text, failed_line, problems_text, found_told, missing, reading_told, rules_found, rules_told, success, success_text, too_large};
+ghost use Rattle.pr_checks.specs.RuleFiles.{checking_text, failed_line, problems_text, found_told, missing, file_told, reading_told, rules_found, success, success_text, too_large};
 
 use crate::problems::push_problem;
 use pr_check_loops::FileCheck;
 use pr_kinds::push_number;
-use pr_outside::Found;
+use pr_outside::{Files, Found};
 use pr_rulefile::{Problem, RuleError, check};
+use pr_status::Stop;
 use std::alloc::{AllocError, Global};
 
 /// The check of rule files: each is read whole, and all its problems are told. (Prometheus:
@@ -118,29 +119,44 @@ fn push_bytes(
     }
 }
 
+// What is told of a file by what was found under its name.
+fn push_found(
+    alloc: Global,
+    text: &mut Vec<u8>,
+    name: &str,
+    found: &Found,
+) -> Result<bool, AllocError>
+    requires { IsWithinLimit found.now }
+    ensures text { (content : Option (List ℕ)) → IsFound (Some content) found.now → OnOk result (text.new.items ≡ text.old.items ++ (file_told name.now content).text) }
+    ensures refused { (content : Option (List ℕ)) → IsFound (Some content) found.now → IfOk result (λ b. b ≡ (file_told name.now content).refused) }
+{
+    push_checking(text, name)?;
+    match found {
+        Found::Bytes { bytes } => push_bytes(alloc, text, name, bytes),
+        Found::Missing => {
+            push_unread(text, name, missing())?;
+            Ok(true)
+        }
+        Found::TooLarge => {
+            push_unread(text, name, too_large())?;
+            Ok(true)
+        }
+    }
+}
+
 impl FileCheck for RuleFiles {
     ghost use Rattle.pr_checks.specs.RuleFiles.{rules_told};
 
     ghost told = { rules_told };
 
-    fn check(
+    fn check<F: Files>(
         &self,
         alloc: Global,
         name: &str,
-        found: &Found,
+        files: &mut F,
         text: &mut Vec<u8>,
-    ) -> Result<bool, AllocError> {
-        push_checking(text, name)?;
-        match found {
-            Found::Bytes { bytes } => push_bytes(alloc, text, name, bytes),
-            Found::Missing => {
-                push_unread(text, name, missing())?;
-                Ok(true)
-            }
-            Found::TooLarge => {
-                push_unread(text, name, too_large())?;
-                Ok(true)
-            }
-        }
+    ) -> Result<bool, Stop> {
+        let found = files.load(name)?;
+        Ok(push_found(alloc, text, name, &found)?)
     }
 }

@@ -1,8 +1,7 @@
 // Rows that are kept.
-ghost use Rattle.std.specs.Prelude.{◌≡◌, ℕ, ◌<◌, ◌+◌, List, length, OnOk, OnErr, IfOk, IfSome, Some, slice_get};
-ghost use Rattle.std.specs.declared.option.Option.{Option};
+ghost use Rattle.std.specs.Prelude.{◌≡◌, ◌<◌, ◌+◌, length, OnOk, OnErr, IfOk, IfSome, Some, slice_get};
 ghost use Rattle.pr_outside.specs.Causes.{HasKeepCause};
-ghost use Rattle.pr_outside.specs.Kept.{KeepsRows, KeepsRefused, MayForget, AppendsRows};
+ghost use Rattle.pr_outside.specs.Kept.{KeepsRows, StartsRows, AppendsRows};
 
 use pr_words::Text;
 use std::alloc::AllocError;
@@ -34,46 +33,41 @@ pub struct Row {
     pub point: Text,
 }
 
-/// Where rows are kept.
+/// Where rows are kept. What is said of rows holds where they are told after the call: a keeper may
+/// stop telling its rows at any call, and starts to tell them only at a start.
 pub trait Keeper {
-    ghost use Rattle.pr_outside.specs.declared.keeping.Row.{Row};
+    ghost use Rattle.pr_outside.specs.Meant.{Store};
 
-    /// The rows in order, where they are told.
-    ghost rows: { Self → Option (List Row) };
+    /// The rows in order, where they are told; how many there are; and how often a call was
+    /// refused, at most 2^64 - 1.
+    ghost means: { Self → Store };
 
-    /// How many rows there are.
-    ghost count: { Self → ℕ };
-
-    /// How often a call was refused, at most 2^64 - 1.
-    ghost faults: { Self → ℕ };
-
-    /// Opens the store of this path; the empty path is a store in memory. A refused call leaves the
-    /// rows as they were, or untold.
+    /// Opens the store of this path; the empty path is a store in memory. Rows that were told stay
+    /// as they were.
     fn start(&mut self, path: &str) -> Result<(), KeepError>
-        ensures ok { OnOk result (KeepsRows (rows self.old) (rows self.new)) }
-        ensures err { OnErr result (MayForget (rows self.old) (rows self.new)) }
-        ensures cause { HasKeepCause (faults self.old) (faults self.new) result };
+        ensures ok { OnOk result (StartsRows (means self.old).rows (means self.new).rows) }
+        ensures err { OnErr result (KeepsRows (means self.old).rows (means self.new).rows) }
+        ensures err_count { OnErr result ((means self.new).count ≡ (means self.old).count) }
+        ensures cause { HasKeepCause (means self.old).faults (means self.new).faults result };
 
     /// How many rows there are.
     fn size(&self) -> u64
-        ensures count { result ≡ count self.now }
-        ensures rows { IfSome (rows self.now) (λ rows. result ≡ length rows) };
+        ensures count { result ≡ (means self.now).count }
+        ensures rows { IfSome (means self.now).rows (λ rows. result ≡ length rows) };
 
-    /// Appends all the rows. A refused call appends none; one that failed may leave the rows
-    /// untold.
+    /// Appends all the rows. A refused call appends none.
     fn commit(&mut self, added: &[Row]) -> Result<(), KeepError>
-        ensures ok { OnOk result (AppendsRows (rows self.old) (rows self.new) added.now) }
-        ensures ok_count { OnOk result (count self.new ≡ count self.old + length added.now) }
-        ensures err { KeepsRefused result (rows self.old) (rows self.new) }
-        ensures err_count { OnErr result (count self.new ≡ count self.old) }
-        ensures cause { HasKeepCause (faults self.old) (faults self.new) result };
+        ensures ok { OnOk result (AppendsRows (means self.old).rows (means self.new).rows added.now) }
+        ensures ok_count { OnOk result ((means self.new).count ≡ (means self.old).count + length added.now) }
+        ensures err { OnErr result (KeepsRows (means self.old).rows (means self.new).rows) }
+        ensures err_count { OnErr result ((means self.new).count ≡ (means self.old).count) }
+        ensures cause { HasKeepCause (means self.old).faults (means self.new).faults result };
 
-    /// The row of this index. It changes no rows; a call that failed may leave them untold.
+    /// The row of this index. It changes no rows.
     fn load(&mut self, index: u64) -> Result<Row, KeepError>
-        requires { index < count self.old }
-        ensures row { IfOk result (λ row. IfSome (rows self.old) (λ rows. slice_get rows index ≡ Some row)) }
-        ensures ok { OnOk result (KeepsRows (rows self.old) (rows self.new)) }
-        ensures err { KeepsRefused result (rows self.old) (rows self.new) }
-        ensures count { count self.new ≡ count self.old }
-        ensures cause { HasKeepCause (faults self.old) (faults self.new) result };
+        requires { index < (means self.old).count }
+        ensures row { IfOk result (λ row. IfSome (means self.new).rows (λ rows. slice_get rows index ≡ Some row)) }
+        ensures same { KeepsRows (means self.old).rows (means self.new).rows }
+        ensures count { (means self.new).count ≡ (means self.old).count }
+        ensures cause { HasKeepCause (means self.old).faults (means self.new).faults result };
 }

@@ -4,14 +4,16 @@ ghost use Rattle.std.specs.Io.{ReadsAtMost, WritesAtMost};
 ghost use Rattle.std.specs.Io.KnownBytes.{ReadConsumes, WriteAppends};
 ghost use Rattle.pr_outside.specs.Causes.{HasReadCause, HasWriteCause, HasFilesCause, HasKeepCause};
 ghost use Rattle.pr_outside.specs.Contents.{IsFound, IsWithinLimit};
+ghost use Rattle.pr_outside.specs.Courses.{course_after, is_last_read, is_refused};
 ghost use Rattle.pr_outside.specs.HeldFiles.{content_of, files_of};
-ghost use Rattle.pr_outside.specs.Kept.{KeepsRows, KeepsRefused, MayForget, AppendsRows};
-ghost use Rattle.pr_outside.specs.Schedule.{after_call, fails_next, schedule_of};
+ghost use Rattle.pr_outside.specs.Kept.{KeepsRows, StartsRows, AppendsRows};
+ghost use Rattle.pr_outside.specs.Schedule.{after_call, fails_next, one_more, schedule_of};
 
 use super::schedule::Schedule;
+use super::sure::is_end;
 use super::{
-    Failed, Files, FilesError, Found, HeldFile, KeepError, Keeper, Row, Sink, SinkError, Source,
-    SureFiles, SureKeeper, SureSink, SureSource,
+    Course, Failed, Files, FilesError, Found, HeldFile, KeepError, Keeper, Row, Sink, SinkError,
+    Source, SureFiles, SureKeeper, SureSink, SureSource,
 };
 use std::alloc::Global;
 use std::marker::Model;
@@ -26,6 +28,7 @@ mod tests;
 pub struct MemSource {
     inner: SureSource,
     schedule: Schedule,
+    course: Course,
 }
 
 impl Model for MemSource {
@@ -33,31 +36,31 @@ impl Model for MemSource {
 
     ghost Value = { FailingSource };
 
-    ghost view = { λ m. record { left = m.inner; schedule = m.schedule } };
+    ghost view = { λ m. record { left = m.inner.left; schedule = m.schedule; course = m.course } };
 }
 
 impl MemSource {
     /// A source of these bytes, whose calls of `read` with these numbers, counted from 1, fail.
     pub fn new(content: Vec<u8>, fails: Vec<u64>) -> MemSource
-        ensures { result ≡ record { left = content.items; schedule = schedule_of fails.items } }
+        ensures { result ≡ record { left = content.items; schedule = schedule_of fails.items; course = Course.Going } }
     {
         MemSource {
             inner: SureSource::new(content),
             schedule: Schedule::new(fails),
+            course: Course::Going,
         }
     }
 }
 
 impl Source for MemSource {
-    ghost left = { λ m. Some m.left };
-
-    ghost faults = { λ m. m.schedule.faults };
+    ghost means = { λ m. record { left = Some m.left; faults = m.schedule.faults; course = m.course } };
 
     /// Gives as many bytes as are left and fit, unless this call is to fail.
     fn read(&mut self, buf: &mut [u8]) -> Result<usize, Failed>
         ensures bound { ReadsAtMost result buf.new }
         ensures bytes { ReadConsumes (Some self.old.left) (Some self.new.left) result buf.new }
         ensures cause { HasReadCause self.old.schedule.faults self.new.schedule.faults result }
+        ensures course { self.new.course ≡ course_after self.old.course (is_last_read result buf.new) }
         ensures failed { IsErr result ↔ IsTrue (fails_next self.old.schedule) }
         ensures schedule { self.new.schedule ≡ after_call self.old.schedule }
         ensures count { IfOk result (λ n. n ≡ min (length self.old.left) (length buf.old)) }
@@ -66,9 +69,12 @@ impl Source for MemSource {
         ensures err { OnErr result (buf.new ≡ buf.old) }
     {
         if self.schedule.next_fails() {
+            self.course = self.course.after(true);
             return Err(Failed);
         }
-        self.inner.read(buf)
+        let count = self.inner.read(buf)?;
+        self.course = self.course.after(is_end(count, buf));
+        Ok(count)
     }
 }
 
@@ -78,6 +84,7 @@ impl Source for MemSource {
 pub struct MemSink {
     inner: SureSink,
     schedule: Schedule,
+    course: Course,
 }
 
 impl Model for MemSink {
@@ -85,17 +92,18 @@ impl Model for MemSink {
 
     ghost Value = { FailingSink };
 
-    ghost view = { λ m. record { taken = m.inner; schedule = m.schedule } };
+    ghost view = { λ m. record { taken = m.inner.taken; schedule = m.schedule; course = m.course } };
 }
 
 impl MemSink {
     /// An empty sink, whose calls of `write` with these numbers, counted from 1, fail.
     pub fn new(alloc: Global, fails: Vec<u64>) -> MemSink
-        ensures { result ≡ record { taken = []; schedule = schedule_of fails.items } }
+        ensures { result ≡ record { taken = []; schedule = schedule_of fails.items; course = Course.Going } }
     {
         MemSink {
             inner: SureSink::new(alloc),
             schedule: Schedule::new(fails),
+            course: Course::Going,
         }
     }
 
@@ -108,9 +116,7 @@ impl MemSink {
 }
 
 impl Sink for MemSink {
-    ghost taken = { λ m. Some m.taken };
-
-    ghost faults = { λ m. m.schedule.faults };
+    ghost means = { λ m. record { taken = Some m.taken; faults = m.schedule.faults; course = m.course } };
 
     /// Takes the whole piece, unless this call is to fail or memory runs out.
     fn write(&mut self, bytes: &[u8]) -> Result<usize, SinkError>
@@ -118,14 +124,25 @@ impl Sink for MemSink {
         ensures some { IfOk result (λ n. 0 < length bytes.now → 0 < n) }
         ensures bytes { WriteAppends (Some self.old.taken) (Some self.new.taken) result bytes.now }
         ensures cause { HasWriteCause self.old.schedule.faults self.new.schedule.faults result }
+        ensures course { self.new.course ≡ course_after self.old.course (is_refused result) }
         ensures failed { (result ≡ Err SinkError.Failed) ↔ IsTrue (fails_next self.old.schedule) }
         ensures schedule { self.new.schedule ≡ after_call self.old.schedule }
         ensures whole { IfOk result (λ n. n ≡ length bytes.now) }
     {
         if self.schedule.next_fails() {
+            self.course = self.course.after(true);
             return Err(SinkError::Failed);
         }
-        self.inner.write(bytes)
+        match self.inner.write(bytes) {
+            Ok(count) => {
+                self.course = self.course.after(false);
+                Ok(count)
+            }
+            Err(error) => {
+                self.course = self.course.after(true);
+                Err(error)
+            }
+        }
     }
 }
 
@@ -135,6 +152,7 @@ impl Sink for MemSink {
 pub struct MemFiles {
     inner: SureFiles,
     schedule: Schedule,
+    course: Course,
 }
 
 impl Model for MemFiles {
@@ -142,39 +160,50 @@ impl Model for MemFiles {
 
     ghost Value = { FailingFiles };
 
-    ghost view = { λ m. record { files = m.inner; schedule = m.schedule } };
+    ghost view = { λ m. record { files = m.inner.files; schedule = m.schedule; course = m.course } };
 }
 
 impl MemFiles {
     /// These files, whose calls of `load` with these numbers, counted from 1, fail.
     pub fn new(content: Vec<HeldFile>, fails: Vec<u64>) -> MemFiles
-        ensures { result ≡ record { files = files_of content.items; schedule = schedule_of fails.items } }
+        ensures { result ≡ record { files = files_of content.items; schedule = schedule_of fails.items; course = Course.Going } }
     {
         MemFiles {
             inner: SureFiles::new(content),
             schedule: Schedule::new(fails),
+            course: Course::Going,
         }
     }
 }
 
 impl Files for MemFiles {
-    ghost content = { λ m name. Some (content_of m.files name) };
-
-    ghost faults = { λ m. m.schedule.faults };
+    ghost means = { λ m. record { content = λ name. Some (content_of m.files name); calls = m.schedule.calls; faults = m.schedule.faults; course = m.course } };
 
     /// Copies the file of this name, unless this call is to fail or memory runs out.
     fn load(&mut self, name: &str) -> Result<Found, FilesError>
         ensures found { IfOk result (IsFound (Some (content_of self.old.files name.now))) }
         ensures limit { IfOk result IsWithinLimit }
+        ensures calls { self.new.schedule.calls ≡ one_more self.old.schedule.calls }
         ensures unchanged { self.new.files ≡ self.old.files }
         ensures cause { HasFilesCause self.old.schedule.faults self.new.schedule.faults result }
+        ensures course { self.new.course ≡ course_after self.old.course (is_refused result) }
         ensures failed { (result ≡ Err FilesError.Failed) ↔ IsTrue (fails_next self.old.schedule) }
         ensures schedule { self.new.schedule ≡ after_call self.old.schedule }
     {
         if self.schedule.next_fails() {
+            self.course = self.course.after(true);
             return Err(FilesError::Failed);
         }
-        self.inner.load(name)
+        match self.inner.load(name) {
+            Ok(found) => {
+                self.course = self.course.after(false);
+                Ok(found)
+            }
+            Err(error) => {
+                self.course = self.course.after(true);
+                Err(error)
+            }
+        }
     }
 }
 
@@ -214,16 +243,13 @@ impl MemKeeper {
 }
 
 impl Keeper for MemKeeper {
-    ghost rows = { λ m. Some m.rows };
-
-    ghost count = { λ m. length m.rows };
-
-    ghost faults = { λ m. m.schedule.faults };
+    ghost means = { λ m. record { rows = Some m.rows; count = length m.rows; faults = m.schedule.faults } };
 
     /// Ignores the path, and keeps its rows.
     fn start(&mut self, path: &str) -> Result<(), KeepError>
-        ensures ok { OnOk result (KeepsRows (Some self.old.rows) (Some self.new.rows)) }
-        ensures err { OnErr result (MayForget (Some self.old.rows) (Some self.new.rows)) }
+        ensures ok { OnOk result (StartsRows (Some self.old.rows) (Some self.new.rows)) }
+        ensures err { OnErr result (KeepsRows (Some self.old.rows) (Some self.new.rows)) }
+        ensures err_count { OnErr result (length self.new.rows ≡ length self.old.rows) }
         ensures cause { HasKeepCause self.old.schedule.faults self.new.schedule.faults result }
         ensures sure { IsOk result }
         ensures unchanged { self.new ≡ self.old }
@@ -242,7 +268,7 @@ impl Keeper for MemKeeper {
     fn commit(&mut self, added: &[Row]) -> Result<(), KeepError>
         ensures ok { OnOk result (AppendsRows (Some self.old.rows) (Some self.new.rows) added.now) }
         ensures ok_count { OnOk result (length self.new.rows ≡ length self.old.rows + length added.now) }
-        ensures err { KeepsRefused result (Some self.old.rows) (Some self.new.rows) }
+        ensures err { OnErr result (KeepsRows (Some self.old.rows) (Some self.new.rows)) }
         ensures err_count { OnErr result (length self.new.rows ≡ length self.old.rows) }
         ensures cause { HasKeepCause self.old.schedule.faults self.new.schedule.faults result }
         ensures failed { (result ≡ Err KeepError.Failed) ↔ IsTrue (fails_next self.old.schedule) }
@@ -257,9 +283,8 @@ impl Keeper for MemKeeper {
     /// Copies the row of this index, unless memory runs out.
     fn load(&mut self, index: u64) -> Result<Row, KeepError>
         requires { index < length self.old.rows }
-        ensures row { IfOk result (λ row. IfSome (Some self.old.rows) (λ rows. slice_get rows index ≡ Some row)) }
-        ensures ok { OnOk result (KeepsRows (Some self.old.rows) (Some self.new.rows)) }
-        ensures err { KeepsRefused result (Some self.old.rows) (Some self.new.rows) }
+        ensures row { IfOk result (λ row. IfSome (Some self.new.rows) (λ rows. slice_get rows index ≡ Some row)) }
+        ensures same { KeepsRows (Some self.old.rows) (Some self.new.rows) }
         ensures count { length self.new.rows ≡ length self.old.rows }
         ensures cause { HasKeepCause self.old.schedule.faults self.new.schedule.faults result }
         ensures unchanged { self.new ≡ self.old }

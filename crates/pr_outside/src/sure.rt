@@ -1,32 +1,37 @@
 // Forms in memory that never fail.
-ghost use Rattle.std.specs.Prelude.{◌≡◌, ◌≢◌, ◌↔◌, ℕ, ◌+◌, ◌<◌, ◌≤◌, List, [], ◌∷◌, ◌++◌, length, min, take, drop, Some, vec_len, IsOk, IfOk, IfSome, OnOk, OnErr, slice_get};
+ghost use Rattle.std.specs.Prelude.{◌≡◌, ◌≢◌, ◌↔◌, ℕ, ◌+◌, ◌<◌, ◌≤◌, ◌==◌, ◌&&◌, not, List, [], ◌∷◌, ◌++◌, length, min, take, drop, Some, vec_len, IsOk, IfOk, IfSome, OnOk, OnErr, slice_get};
 ghost use Rattle.std.specs.Io.{ReadsAtMost, WritesAtMost};
 ghost use Rattle.std.specs.Io.KnownBytes.{ReadConsumes, WriteAppends};
 ghost use Rattle.pr_outside.specs.Causes.{HasReadCause, HasWriteCause, HasFilesCause, HasKeepCause};
 ghost use Rattle.pr_outside.specs.Contents.{IsFound, IsWithinLimit};
+ghost use Rattle.pr_outside.specs.Courses.{course_after, is_last_read, is_refused};
 ghost use Rattle.pr_outside.specs.HeldFiles.{content_of, files_of};
-ghost use Rattle.pr_outside.specs.Kept.{KeepsRows, KeepsRefused, MayForget, AppendsRows};
+ghost use Rattle.pr_outside.specs.Kept.{KeepsRows, StartsRows, AppendsRows};
+ghost use Rattle.pr_outside.specs.Schedule.{one_more};
 
 use super::{
-    FILE_LIMIT, Failed, Files, FilesError, Found, HeldFile, KeepError, Keeper, Row, Sink,
+    Course, FILE_LIMIT, Failed, Files, FilesError, Found, HeldFile, KeepError, Keeper, Row, Sink,
     SinkError, Source,
 };
 use std::alloc::{AllocError, Global};
 use std::marker::Model;
 
-/// A source of bytes in memory that never fails. Contracts see the bytes that are left.
+/// A source of bytes in memory that never fails. Contracts see the bytes that are left, and how far
+/// its calls have come.
 #[derive(Debug, Drop)]
 pub struct SureSource {
     content: Vec<u8>,
     at: usize,
+    course: Course,
 }
 
 impl Model for SureSource {
-    ghost use Rattle.std.specs.Prelude.{List, ℕ, ◌≤◌, drop, vec_len};
+    ghost use Rattle.std.specs.Prelude.{◌≤◌, drop, vec_len};
+    ghost use Rattle.pr_outside.specs.Failing.{SureBytes};
 
-    ghost Value = { List ℕ };
+    ghost Value = { SureBytes };
 
-    ghost view = { λ s. drop s.at s.content.items };
+    ghost view = { λ s. record { left = drop s.at s.content.items; course = s.course } };
 
     ghost invariant = { λ s. s.at ≤ vec_len s.content };
 }
@@ -34,9 +39,13 @@ impl Model for SureSource {
 impl SureSource {
     /// A source of these bytes.
     pub fn new(content: Vec<u8>) -> SureSource
-        ensures { result ≡ content.items }
+        ensures { result ≡ record { left = content.items; course = Course.Going } }
     {
-        SureSource { content, at: 0 }
+        SureSource {
+            content,
+            at: 0,
+            course: Course::Going,
+        }
     }
 }
 
@@ -52,100 +61,122 @@ fn copy_prefix(from: &[u8], to: &mut [u8]) -> usize
     count
 }
 
-impl Source for SureSource {
-    ghost left = { λ s. Some s };
+// Whether a read of so many bytes into this buffer met the end.
+pub(crate) fn is_end(count: usize, buf: &[u8]) -> bool
+    ensures { result ≡ ((count == 0) && not (length buf.now == 0)) }
+{
+    count == 0 && !buf.is_empty()
+}
 
-    ghost faults = { λ _. 0 };
+impl Source for SureSource {
+    ghost means = { λ s. record { left = Some s.left; faults = 0; course = s.course } };
 
     /// Gives as many bytes as are left and fit.
     fn read(&mut self, buf: &mut [u8]) -> Result<usize, Failed>
         ensures bound { ReadsAtMost result buf.new }
-        ensures bytes { ReadConsumes (Some self.old) (Some self.new) result buf.new }
+        ensures bytes { ReadConsumes (Some self.old.left) (Some self.new.left) result buf.new }
         ensures cause { HasReadCause 0 0 result }
-        ensures count { result ≡ Ok (min (length self.old) (length buf.old)) }
-        ensures copied { IfOk result (λ n. buf.new ≡ take n self.old ++ drop n buf.old) }
-        ensures rest { IfOk result (λ n. self.new ≡ drop n self.old) }
+        ensures course { self.new.course ≡ course_after self.old.course (is_last_read result buf.new) }
+        ensures count { result ≡ Ok (min (length self.old.left) (length buf.old)) }
+        ensures copied { IfOk result (λ n. buf.new ≡ take n self.old.left ++ drop n buf.old) }
+        ensures rest { IfOk result (λ n. self.new.left ≡ drop n self.old.left) }
     {
         let count = copy_prefix(&self.content[self.at..], buf);
         self.at += count;
+        self.course = self.course.after(is_end(count, buf));
         Ok(count)
     }
 }
 
 /// A sink of bytes in memory that fails only for want of memory. Contracts see the bytes that it
-/// took.
+/// took, and how far its calls have come.
 #[derive(Debug, Drop)]
 pub struct SureSink {
     taken: Vec<u8>,
+    course: Course,
 }
 
 impl Model for SureSink {
-    ghost use Rattle.std.specs.Prelude.{List, ℕ};
+    ghost use Rattle.pr_outside.specs.Failing.{SureTaken};
 
-    ghost Value = { List ℕ };
+    ghost Value = { SureTaken };
 
-    ghost view = { λ s. s.taken.items };
+    ghost view = { λ s. record { taken = s.taken.items; course = s.course } };
 }
 
 impl SureSink {
     /// An empty sink.
     pub fn new(alloc: Global) -> SureSink
-        ensures { result ≡ [] }
+        ensures { result ≡ record { taken = []; course = Course.Going } }
     {
         SureSink {
             taken: Vec::new(alloc),
+            course: Course::Going,
         }
     }
 
     /// The bytes that it took.
     pub fn bytes(&self) -> &[u8]
-        ensures { result.now ≡ self.now }
+        ensures { result.now ≡ self.now.taken }
     {
         &self.taken
     }
 }
 
 impl Sink for SureSink {
-    ghost taken = { λ s. Some s };
-
-    ghost faults = { λ _. 0 };
+    ghost means = { λ s. record { taken = Some s.taken; faults = 0; course = s.course } };
 
     /// Takes the whole piece, unless memory runs out.
     fn write(&mut self, bytes: &[u8]) -> Result<usize, SinkError>
         ensures bound { WritesAtMost result bytes.now }
         ensures some { IfOk result (λ n. 0 < length bytes.now → 0 < n) }
-        ensures bytes { WriteAppends (Some self.old) (Some self.new) result bytes.now }
+        ensures bytes { WriteAppends (Some self.old.taken) (Some self.new.taken) result bytes.now }
         ensures cause { HasWriteCause 0 0 result }
+        ensures course { self.new.course ≡ course_after self.old.course (is_refused result) }
         ensures whole { IfOk result (λ n. n ≡ length bytes.now) }
         ensures sure { result ≢ Err SinkError.Failed }
     {
-        self.taken.extend_from_slice(bytes)?;
-        Ok(bytes.len())
+        match self.taken.extend_from_slice(bytes) {
+            Ok(()) => {
+                self.course = self.course.after(false);
+                Ok(bytes.len())
+            }
+            Err(_) => {
+                self.course = self.course.after(true);
+                Err(SinkError::Memory)
+            }
+        }
     }
 }
 
 /// Files in memory whose loads fail only for want of memory. Of two of one name the first counts.
-/// Contracts see the names and the bytes of the files.
+/// Contracts see the names and the bytes of the files, and how far its calls have come.
 #[derive(Debug, Drop)]
 pub struct SureFiles {
     content: Vec<HeldFile>,
+    calls: u64,
+    course: Course,
 }
 
 impl Model for SureFiles {
-    ghost use Rattle.std.specs.Prelude.{List, ℕ};
+    ghost use Rattle.pr_outside.specs.Failing.{SureContent};
     ghost use Rattle.pr_outside.specs.HeldFiles.{files_of};
 
-    ghost Value = { List (List ℕ × List ℕ) };
+    ghost Value = { SureContent };
 
-    ghost view = { λ s. files_of s.content.items };
+    ghost view = { λ s. record { files = files_of s.content.items; calls = s.calls; course = s.course } };
 }
 
 impl SureFiles {
     /// These files.
     pub fn new(content: Vec<HeldFile>) -> SureFiles
-        ensures { result ≡ files_of content.items }
+        ensures { result ≡ record { files = files_of content.items; calls = 0; course = Course.Going } }
     {
-        SureFiles { content }
+        SureFiles {
+            content,
+            calls: 0,
+            course: Course::Going,
+        }
     }
 }
 
@@ -176,19 +207,29 @@ fn found(bytes: &Vec<u8>) -> Result<Found, AllocError>
 }
 
 impl Files for SureFiles {
-    ghost content = { λ s name. Some (content_of s name) };
-
-    ghost faults = { λ _. 0 };
+    ghost means = { λ s. record { content = λ name. Some (content_of s.files name); calls = s.calls; faults = 0; course = s.course } };
 
     /// Copies the file of this name, unless memory runs out.
     fn load(&mut self, name: &str) -> Result<Found, FilesError>
-        ensures found { IfOk result (IsFound (Some (content_of self.old name.now))) }
+        ensures found { IfOk result (IsFound (Some (content_of self.old.files name.now))) }
         ensures limit { IfOk result IsWithinLimit }
-        ensures unchanged { self.new ≡ self.old }
+        ensures calls { self.new.calls ≡ one_more self.old.calls }
+        ensures unchanged { self.new.files ≡ self.old.files }
         ensures cause { HasFilesCause 0 0 result }
+        ensures course { self.new.course ≡ course_after self.old.course (is_refused result) }
         ensures sure { result ≢ Err FilesError.Failed }
     {
-        Ok(find_held(&self.content, name)?)
+        self.calls = self.calls.saturating_add(1);
+        match find_held(&self.content, name) {
+            Ok(found) => {
+                self.course = self.course.after(false);
+                Ok(found)
+            }
+            Err(_) => {
+                self.course = self.course.after(true);
+                Err(FilesError::Memory)
+            }
+        }
     }
 }
 
@@ -246,16 +287,13 @@ fn copy_rows(alloc: Global, rows: &[Row]) -> Result<Vec<Row>, AllocError>
 }
 
 impl Keeper for SureKeeper {
-    ghost rows = { λ s. Some s };
-
-    ghost count = { λ s. length s };
-
-    ghost faults = { λ _. 0 };
+    ghost means = { λ s. record { rows = Some s; count = length s; faults = 0 } };
 
     /// Ignores the path, and keeps its rows.
     fn start(&mut self, _path: &str) -> Result<(), KeepError>
-        ensures ok { OnOk result (KeepsRows (Some self.old) (Some self.new)) }
-        ensures err { OnErr result (MayForget (Some self.old) (Some self.new)) }
+        ensures ok { OnOk result (StartsRows (Some self.old) (Some self.new)) }
+        ensures err { OnErr result (KeepsRows (Some self.old) (Some self.new)) }
+        ensures err_count { OnErr result (length self.new ≡ length self.old) }
         ensures cause { HasKeepCause 0 0 result }
         ensures sure { IsOk result }
         ensures unchanged { self.new ≡ self.old }
@@ -274,7 +312,7 @@ impl Keeper for SureKeeper {
     fn commit(&mut self, added: &[Row]) -> Result<(), KeepError>
         ensures ok { OnOk result (AppendsRows (Some self.old) (Some self.new) added.now) }
         ensures ok_count { OnOk result (length self.new ≡ length self.old + length added.now) }
-        ensures err { KeepsRefused result (Some self.old) (Some self.new) }
+        ensures err { OnErr result (KeepsRows (Some self.old) (Some self.new)) }
         ensures err_count { OnErr result (length self.new ≡ length self.old) }
         ensures cause { HasKeepCause 0 0 result }
         ensures sure { result ≢ Err KeepError.Failed }
@@ -287,9 +325,8 @@ impl Keeper for SureKeeper {
     /// Copies the row of this index, unless memory runs out.
     fn load(&mut self, index: u64) -> Result<Row, KeepError>
         requires { index < length self.old }
-        ensures row { IfOk result (λ row. IfSome (Some self.old) (λ rows. slice_get rows index ≡ Some row)) }
-        ensures ok { OnOk result (KeepsRows (Some self.old) (Some self.new)) }
-        ensures err { KeepsRefused result (Some self.old) (Some self.new) }
+        ensures row { IfOk result (λ row. IfSome (Some self.new) (λ rows. slice_get rows index ≡ Some row)) }
+        ensures same { KeepsRows (Some self.old) (Some self.new) }
         ensures count { length self.new ≡ length self.old }
         ensures cause { HasKeepCause 0 0 result }
         ensures unchanged { self.new ≡ self.old }

@@ -43,8 +43,8 @@ added_count history entries = count_by is_added (admissions history entries)
 abbrev pub refused_count : List Entry → List Entry → ℕ
 refused_count history entries = count_by (λ a. not (is_shown a)) (admissions history entries)
 
-abbrev pub series_of : List Entry → List (List Pair)
-series_of entries = map (λ e. e.labels) entries
+abbrev pub label_sets_of : List Entry → List (List Pair)
+label_sets_of entries = map (λ e. e.labels) entries
 
 -- Markers
 

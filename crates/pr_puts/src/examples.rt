@@ -2,12 +2,12 @@
 ghost use Rattle.std.specs.Prelude.{◌≡◌, [], ◌∷◌};
 ghost use Rattle.pr_num.specs.declared.value.Point.TheVariants.{Stale};
 ghost use Rattle.pr_history.specs.Examples.{entry_at, m, marked, one, whole};
-ghost use Rattle.pr_puts.specs.Puts.{added_count, admitted, shown_entries, markers, refused_count, series_of};
+ghost use Rattle.pr_puts.specs.Puts.{added_count, admitted, shown_entries, markers, refused_count, label_sets_of};
 
 /// An equal entry is not added again, but its series shows it; another one at its time is refused.
 pub fn entries_are_admitted_in_their_turn()
     ensures admitted { admitted [] (entry_at 0 (whole 1) ∷ entry_at 0 (whole 1) ∷ entry_at 60000 Stale ∷ []) ≡ marked }
-    ensures shown { series_of (shown_entries one (entry_at 0 (whole 1) ∷ entry_at 0 (whole 2) ∷ [])) ≡ m ∷ [] }
+    ensures shown { label_sets_of (shown_entries one (entry_at 0 (whole 1) ∷ entry_at 0 (whole 2) ∷ [])) ≡ m ∷ [] }
     ensures added { added_count one (entry_at 0 (whole 1) ∷ entry_at 60000 (whole 2) ∷ []) ≡ 1 }
     ensures refused { refused_count one (entry_at 0 (whole 2) ∷ entry_at 60000 (whole 2) ∷ []) ≡ 1 }
 {}

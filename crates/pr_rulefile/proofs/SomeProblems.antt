@@ -10,16 +10,16 @@ abbrev HasOne : List Problem → Type 0
 HasOne [] = ⊥
 HasOne (p ∷ ps) = Unit {0}
 
-inserted_one : (p : Problem) (ps : List Problem) → HasOne (inserted is_told_before p ps)
-inserted_one p [] = tt
-inserted_one p (q ∷ qs) = by (is_told_before q p) where
+placed_one : (p : Problem) (ps : List Problem) → HasOne (inserted is_told_before p ps)
+placed_one p [] = tt
+placed_one p (q ∷ qs) = by (is_told_before q p) where
   by : (b : Bool) → HasOne (cond b (q ∷ inserted is_told_before p qs) (p ∷ q ∷ qs))
   by true = tt
   by false = tt
 
 ordered_one : (p : Problem) (ps : List Problem) → HasOne (in_order (p ∷ ps))
 unfolding in_order
-ordered_one p ps = inserted_one p (ordered is_told_before ps)
+ordered_one p ps = placed_one p (ordered is_told_before ps)
 
 abbrev TellsOne : RuleReading → Type 0
 TellsOne (gives_file groups) = Unit {0}

@@ -11,7 +11,7 @@ use Rattle.pr_vectors.specs.Vectors.{in_label_order}
 use Rattle.pr_lineage.specs.Lineage.{previous}
 use Rattle.pr_rulefile.specs.Groups.{Group as Definition}
 use Rattle.pr_rulefile.specs.Rules.{Rule}
-use Rattle.pr_rules.specs.Groups.{Group, RuleState, definition_of, fresh, fresh_rule, is_named, rules_of}
+use Rattle.pr_rules.specs.Groups.{Group, RuleState, definition_of, fresh, fresh_rule, is_group_named, rules_of}
 use Rattle.pr_rules.specs.Reloads.{LoadedFile, carried, continued, continued_by, continued_rule, continued_rules, continues, fresh_groups, left_by, reload_step, remains, unused_rules, waits_at_first}
 use Rattle.pr_rules.specs.Taking.{without_first}
 
@@ -117,7 +117,7 @@ continued_as new (Some old) = carried_is new old
 
 all_continued : (olds news : List Group) → map definition_of (map (continued olds) news) ≡ map definition_of news
 all_continued olds [] = refl
-all_continued olds (new ∷ news) = λ i. continued_as new (find (is_named new.file new.name) olds) i ∷ all_continued olds news i
+all_continued olds (new ∷ news) = λ i. continued_as new (find (is_group_named new.file new.name) olds) i ∷ all_continued olds news i
 
 fresh_rules : (rules : List Rule) → map (λ r. r.rule) (map fresh_rule rules) ≡ rules
 fresh_rules [] = refl

@@ -3,14 +3,14 @@ use Rattle.std.proofs.Common.{◌≡◌, ℕ, List, [], ◌∷◌, ◌++◌, map
 use Rattle.std.proofs.lemmas.List.{reverse-append}
 use Rattle.pr_labels.specs.declared.pair.Pair.{Pair}
 use Rattle.pr_history.specs.declared.entry.Entry.{Entry}
-use Rattle.pr_puts.specs.Puts.{shown_entries, series_of}
+use Rattle.pr_puts.specs.Puts.{shown_entries, label_sets_of}
 use Rattle.pr_lineage.specs.declared.found.Found.{Found}
 use Rattle.pr_lineage.specs.Lineage.{Step, previous, previous_from}
 use Rattle.pr_lineage.specs.Records.{evaluation}
 use Rattle.pr_rules.specs.declared.fault.RuleFailure.{RuleFailure}
 use Rattle.pr_rules.specs.declared.fault.RuleFault.{RuleFault}
 use Rattle.pr_rules.specs.declared.fault.RuleFault.TheVariants.{Eval, SameAfterRule, LimitExceeded}
-use Rattle.pr_rules.specs.Evaluations.{entry_of, failed_step, fault_outcome, outcome_of, rule_step, samples_of, step_by}
+use Rattle.pr_rules.specs.Evaluations.{sample_entry, failed_step, fault_outcome, rule_outcome, rule_step, rule_samples, rule_step_by}
 use Rattle.pr_rules.specs.Groups.{Group, RuleState}
 use Rattle.pr_rules.specs.Settings.{Settings}
 
@@ -23,25 +23,25 @@ after_fault now hold keep (Eval kind) earlier = refl
 after_fault now hold keep (SameAfterRule labels) earlier = refl
 after_fault now hold keep (LimitExceeded limit have) earlier = refl
 
-pub fault_is : (s : Settings) (g : Group) (r : RuleState) (history : List Entry) (now : ℕ) (f : RuleFailure) → outcome_of s g r history now ≡ Err f
+pub fault_is : (s : Settings) (g : Group) (r : RuleState) (history : List Entry) (now : ℕ) (f : RuleFailure) → rule_outcome s g r history now ≡ Err f
     → rule_step s g r history now ≡ failed_step r now f
 unfolding rule_step
-fault_is s g r history now f h = ap (λ o. step_by g r history now o) h
+fault_is s g r history now f h = ap (λ o. rule_step_by g r history now o) h
 
 pub fault_keeps : (r : RuleState) (now : ℕ) (f : RuleFailure) → previous (failed_step r now f).lineage ≡ previous r.lineage
 fault_keeps r now f =
     newest r.lineage (evaluation now r.rule.hold r.rule.keep (fault_outcome f.kind) []) ∙ after_fault now r.rule.hold r.rule.keep f.kind (reverse r.lineage)
 
-pub fault_leaves : (s : Settings) (g : Group) (r : RuleState) (history : List Entry) (now : ℕ) (f : RuleFailure) → outcome_of s g r history now ≡ Err f
+pub fault_leaves : (s : Settings) (g : Group) (r : RuleState) (history : List Entry) (now : ℕ) (f : RuleFailure) → rule_outcome s g r history now ≡ Err f
     → previous (rule_step s g r history now).lineage ≡ previous r.lineage
 fault_leaves s g r history now f h = ap (λ step. previous step.lineage) (fault_is s g r history now f h) ∙ fault_keeps r now f
 
 -- what was written is what was Added or Same
 fine_writes : (g : Group) (r : RuleState) (history : List Entry) (now : ℕ) (founds : List Found)
-    → previous (step_by g r history now (Ok founds)).lineage ≡ series_of (shown_entries history (map (entry_of now) (samples_of g r now founds)))
+    → previous (rule_step_by g r history now (Ok founds)).lineage ≡ label_sets_of (shown_entries history (map (sample_entry now) (rule_samples g r now founds)))
 fine_writes g r history now founds = newest r.lineage _
 
-pub writes : (s : Settings) (g : Group) (r : RuleState) (history : List Entry) (now : ℕ) (founds : List Found) → outcome_of s g r history now ≡ Ok founds
-    → previous (rule_step s g r history now).lineage ≡ series_of (shown_entries history (map (entry_of now) (samples_of g r now founds)))
+pub writes : (s : Settings) (g : Group) (r : RuleState) (history : List Entry) (now : ℕ) (founds : List Found) → rule_outcome s g r history now ≡ Ok founds
+    → previous (rule_step s g r history now).lineage ≡ label_sets_of (shown_entries history (map (sample_entry now) (rule_samples g r now founds)))
 unfolding rule_step
-writes s g r history now founds h = ap (λ o. previous (step_by g r history now o).lineage) h ∙ fine_writes g r history now founds
+writes s g r history now founds h = ap (λ o. previous (rule_step_by g r history now o).lineage) h ∙ fine_writes g r history now founds

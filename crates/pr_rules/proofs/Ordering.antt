@@ -20,9 +20,9 @@ use Rattle.pr_lineage.specs.Records.{beyond, exceeding}
 use Rattle.pr_tmpl.specs.declared.template.External.{External}
 use Rattle.pr_rules.specs.declared.fault.RuleFailure.{RuleFailure}
 use Rattle.pr_rules.specs.declared.fault.RuleFault.{RuleFault}
-use Rattle.pr_rules.specs.Evaluations.{counted, outcome_of}
+use Rattle.pr_rules.specs.Evaluations.{within_alerts, rule_outcome}
 use Rattle.pr_rules.specs.Groups.{Group, RuleState}
-use Rattle.pr_rules.specs.Results.{AreInOrder, elements_of, failed_by, found_of, found_placed, in_found_order, placed, result_by, result_of, ruled, sets_in, told_apart, unless_beyond, unless_same, with_found, within_limit}
+use Rattle.pr_rules.specs.Results.{FoundsRise, value_elements, failed_by, found_of, found_placed, in_found_order, without_place, rule_result_by, rule_result, ruled, sets_in, founds_apart, unless_beyond, unless_twice, with_found, within_limit}
 use Rattle.pr_rules.specs.Settings.{Settings}
 
 placed_sets : (f first : Found) (rest : List Found) (o : Ordering) → labels_cmp f.labels first.labels ≡ o → sets_in (with_found rest f) ≡ with_labels (sets_in rest) f.labels
@@ -39,7 +39,7 @@ fold_sets : (fs more : List Found) → sets_in (fold with_found fs more) ≡ fol
 fold_sets fs [] = refl
 fold_sets fs (f ∷ more) = fold_sets (with_found fs f) more ∙ ap (λ (l : List (List Pair)). fold with_labels l (sets_in more)) (with_sets fs f)
 
-pub founds_rise : (founds : List Found) → AreInOrder (in_found_order founds)
+pub founds_rise : (founds : List Found) → FoundsRise (in_found_order founds)
 founds_rise founds = subst IsRising (sym (fold_sets [] founds)) (rising_fold [] (sets_in founds) tt)
 
 -- what holds of an answer holds of what is made of it
@@ -51,43 +51,43 @@ anything : {A E : Type 0} (r : Result A E) → IfOk r (λ a. Unit {0})
 anything (Ok a) = tt
 anything (Err e) = tt
 
-apart_rises : (o : Option (List Pair)) (founds : List Found) → IfOk (unless_same o founds) AreInOrder
+apart_rises : (o : Option (List Pair)) (founds : List Found) → IfOk (unless_twice o founds) FoundsRise
 apart_rises None founds = founds_rise founds
 apart_rises (Some labels) founds = tt
 
-beyond_rises : (limit : ℕ) (o : Option ℕ) (founds : List Found) → AreInOrder founds → IfOk (unless_beyond limit o founds) AreInOrder
+beyond_rises : (limit : ℕ) (o : Option ℕ) (founds : List Found) → FoundsRise founds → IfOk (unless_beyond limit o founds) FoundsRise
 beyond_rises limit None founds h = h
 beyond_rises limit (Some have) founds h = tt
 
-limit_rises : (alert : Bool) (limit : ℕ) (founds : List Found) → AreInOrder founds → IfOk (within_limit alert limit founds) AreInOrder
+limit_rises : (alert : Bool) (limit : ℕ) (founds : List Found) → FoundsRise founds → IfOk (within_limit alert limit founds) FoundsRise
 limit_rises true limit founds h = h
 limit_rises false limit founds h = beyond_rises limit (beyond limit (length founds)) founds h
 
-placed_rises : (r : Result (List Found) RuleFault) → IfOk r AreInOrder → IfOk (placed r) AreInOrder
+placed_rises : (r : Result (List Found) RuleFault) → IfOk r FoundsRise → IfOk (without_place r) FoundsRise
 placed_rises (Ok founds) h = h
 placed_rises (Err kind) h = tt
 
-ruled_rises : (external : External) (limit : ℕ) (rule : Rule) (items : List (Item Num)) → IfOk (ruled external limit rule items) AreInOrder
+ruled_rises : (external : External) (limit : ℕ) (rule : Rule) (items : List (Item Num)) → IfOk (ruled external limit rule items) FoundsRise
 ruled_rises external limit rule items =
     let founds = map (found_of external rule) items in
-    goes_on AreInOrder AreInOrder (within_limit rule.alert limit) (told_apart founds) (apart_rises (least_twice (sets_in founds)) founds) (limit_rises rule.alert limit)
+    goes_on FoundsRise FoundsRise (within_limit rule.alert limit) (founds_apart founds) (apart_rises (least_twice (sets_in founds)) founds) (limit_rises rule.alert limit)
 
-by_rises : (external : External) (limit : ℕ) (rule : Rule) (given : Result Value RuleFailure) → IfOk (result_by external limit rule given) AreInOrder
+by_rises : (external : External) (limit : ℕ) (rule : Rule) (given : Result Value RuleFailure) → IfOk (rule_result_by external limit rule given) FoundsRise
 by_rises external limit rule given =
-    goes_on (λ v. Unit {0}) AreInOrder (λ v. placed (ruled external limit rule (elements_of v))) given (anything given)
-    (λ v h. placed_rises (ruled external limit rule (elements_of v)) (ruled_rises external limit rule (elements_of v)))
+    goes_on (λ v. Unit {0}) FoundsRise (λ v. without_place (ruled external limit rule (value_elements v))) given (anything given)
+    (λ v h. placed_rises (ruled external limit rule (value_elements v)) (ruled_rises external limit rule (value_elements v)))
 
-pub result_rises : (s : Settings) (limit : ℕ) (rule : Rule) (history : List Entry) (time : ℕ) → IfOk (result_of s limit rule history time) AreInOrder
-unfolding result_of
+pub result_rises : (s : Settings) (limit : ℕ) (rule : Rule) (history : List Entry) (time : ℕ) → IfOk (rule_result s limit rule history time) FoundsRise
+unfolding rule_result
 result_rises s limit rule history time = by_rises s.external limit rule (failed_by (meaning s.subquery_step history rule.expr time))
 
-counted_rises : (alert : Bool) (limit : ℕ) (r : RuleState) (now : ℕ) (result : Result (List Found) RuleFailure) → IfOk result AreInOrder → IfOk (counted alert limit r now result) AreInOrder
+counted_rises : (alert : Bool) (limit : ℕ) (r : RuleState) (now : ℕ) (result : Result (List Found) RuleFailure) → IfOk result FoundsRise → IfOk (within_alerts alert limit r now result) FoundsRise
 counted_rises false limit r now result h = h
 counted_rises true limit r now result h =
-    goes_on AreInOrder AreInOrder (λ founds. placed (unless_beyond limit (exceeding limit r.lineage now r.rule.hold r.rule.keep founds) founds)) result h
+    goes_on FoundsRise FoundsRise (λ founds. without_place (unless_beyond limit (exceeding limit r.lineage now r.rule.hold r.rule.keep founds) founds)) result h
     (λ founds k. placed_rises (unless_beyond limit (exceeding limit r.lineage now r.rule.hold r.rule.keep founds) founds)
     (beyond_rises limit (exceeding limit r.lineage now r.rule.hold r.rule.keep founds) founds k))
 
-pub outcome_rises : (s : Settings) (g : Group) (r : RuleState) (history : List Entry) (now : ℕ) → IfOk (outcome_of s g r history now) AreInOrder
-unfolding outcome_of
-outcome_rises s g r history now = counted_rises r.rule.alert g.limit r now (result_of s g.limit r.rule history now) (result_rises s g.limit r.rule history now)
+pub outcome_rises : (s : Settings) (g : Group) (r : RuleState) (history : List Entry) (now : ℕ) → IfOk (rule_outcome s g r history now) FoundsRise
+unfolding rule_outcome
+outcome_rises s g r history now = counted_rises r.rule.alert g.limit r now (rule_result s g.limit r.rule history now) (result_rises s g.limit r.rule history now)

@@ -12,7 +12,7 @@ use Rattle.pr_rulefile.specs.Rules.{Rule}
 use Rattle.pr_lineage.specs.declared.found.Found.{Found}
 use Rattle.pr_lineage.specs.Lineage.{Evaluation, Outcome, Step, seen, moved}
 use Rattle.pr_rules.specs.declared.fault.RuleFailure.{RuleFailure}
-use Rattle.pr_rules.specs.Evaluations.{Progress, all_rules, begun, evaluated, group_step, one_rule, outcome_of, restores, restoring, rule_step, step_by, with_restored}
+use Rattle.pr_rules.specs.Evaluations.{RulesProgress, all_rules, begun, evaluated, group_step, one_rule, rule_outcome, restores, restoring, rule_step, rule_step_by, with_restored}
 use Rattle.pr_rules.specs.Groups.{Group, RuleState, fresh, fresh_rule, rules_of}
 use Rattle.pr_rules.specs.Reloads.{LoadedFile, carried, continued, continued_by, continued_rule, continued_rules, continues, fresh_groups, is_gone, reload_step, waits_at_first}
 use Rattle.pr_rules.specs.Settings.{Settings}
@@ -42,14 +42,14 @@ evaluated_now last now r outcome wrote after h =
     subst (AreUntil (Some now)) (sym (reverse-append r.lineage _)) (omega arith, before_now last now (reverse r.lineage) after h)
 
 step_on_time : (g : Group) (last : Option ℕ) (now : ℕ) (r : RuleState) (history : List Entry) (result : Result (List Found) RuleFailure) → IsAfter now last → IsOnTime last r
-    → AreUntil (Some now) (reverse (step_by g r history now result).lineage)
+    → AreUntil (Some now) (reverse (rule_step_by g r history now result).lineage)
 step_on_time g last now r history (Ok founds) after h = evaluated_now last now r _ _ after h
 step_on_time g last now r history (Err f) after h = evaluated_now last now r _ _ after h
 
 rule_on_time : (s : Settings) (g : Group) (last : Option ℕ) (now : ℕ) (r : RuleState) (history : List Entry) → IsAfter now last → IsOnTime last r
     → AreUntil (Some now) (reverse (rule_step s g r history now).lineage)
 unfolding rule_step
-rule_on_time s g last now r history after h = step_on_time g last now r history (outcome_of s g r history now) after h
+rule_on_time s g last now r history after h = step_on_time g last now r history (rule_outcome s g r history now) after h
 
 moved_on_time : (history : List Entry) (now : ℕ) (r : RuleState) → IsOnTime (Some now) r → IsOnTime (Some now) (with_restored history now r)
 moved_on_time history now r h = subst (AreUntil (Some now)) (sym (reverse-append r.lineage (moved (restores history now r) ∷ []))) h
@@ -64,14 +64,14 @@ each_of : {X Y : Type 0} (P : X → Type 0) (Q : Y → Type 0) (f : X → Y) (xs
 each_of P Q f [] k h = tt
 each_of P Q f (x ∷ xs) k h = (k x h.0, each_of P Q f xs k h.1)
 
-rules_on_time : (s : Settings) (g : Group) (last : Option ℕ) (now : ℕ) (rules : List RuleState) (p : Progress) → IsAfter now last → AllByRecursion (IsOnTime last) rules
+rules_on_time : (s : Settings) (g : Group) (last : Option ℕ) (now : ℕ) (rules : List RuleState) (p : RulesProgress) → IsAfter now last → AllByRecursion (IsOnTime last) rules
     → AllByRecursion (IsOnTime (Some now)) p.rules → AllByRecursion (IsOnTime (Some now)) (fold (one_rule s g now) p rules).rules
 rules_on_time s g last now [] p after h k = k
 rules_on_time s g last now (r ∷ rules) p after h k =
     rules_on_time s g last now rules (one_rule s g now p r) after h.1
     (also (IsOnTime (Some now)) p.rules _ k (rule_on_time s g last now r p.history after h.0))
 
-end_on_time : (b : Bool) (g : Group) (history : List Entry) (now : ℕ) (p : Progress) (gone : List Entry) → AllByRecursion (IsOnTime (Some now)) p.rules
+end_on_time : (b : Bool) (g : Group) (history : List Entry) (now : ℕ) (p : RulesProgress) (gone : List Entry) → AllByRecursion (IsOnTime (Some now)) p.rules
     → IsTimely (restoring b g history now p gone).group
 end_on_time false g history now p gone h = h
 end_on_time true g history now p gone h =

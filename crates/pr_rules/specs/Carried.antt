@@ -52,12 +52,12 @@ abbrev pub carried_numbers : Tree → Tree → List (Option ℕ)
 carried_numbers new old = numbers_taken same_use (range_uses new) (range_uses old)
 
 -- what was passed for a new one is what was passed for the old one that it takes over
-abbrev pub passed_for : Option ℕ → PassedFor → PassedFor
-passed_for None u k = nothing_passed k
-passed_for (Some old) u k = u old
+abbrev pub passed_for_selector : Option ℕ → PassedFor → PassedFor
+passed_for_selector None u k = nothing_passed k
+passed_for_selector (Some old) u k = u old
 
 abbrev pub carried_passed : Tree → Tree → PassedFor → PassedFor
-carried_passed new old u k = passed_for (get_or (carried_numbers new old) k None) u k
+carried_passed new old u k = passed_for_selector (get_or (carried_numbers new old) k None) u k
 
 -- Rules
 

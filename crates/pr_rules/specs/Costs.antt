@@ -4,7 +4,7 @@ use Rattle.pr_history.specs.declared.entry.Entry.{Entry}
 use Rattle.pr_query.specs.Cost.{PassedFor, cost}
 use Rattle.pr_lineage.specs.Records.{living_count, records}
 use Rattle.pr_lineage.specs.Restoring.{grace_period}
-use Rattle.pr_rules.specs.Evaluations.{Progress, all_rules, begun, one_rule}
+use Rattle.pr_rules.specs.Evaluations.{RulesProgress, all_rules, begun, one_rule}
 use Rattle.pr_rules.specs.Groups.{Group, RuleState}
 use Rattle.pr_rules.specs.Settings.{Settings}
 
@@ -14,7 +14,7 @@ abbrev pub PassedByRules : Type 0
 PassedByRules = ℕ → PassedFor
 
 -- each rule over the history as it then stands
-abbrev pub rules_cost : Settings → Group → ℕ → PassedByRules → ℕ → List RuleState → Progress → ℕ
+abbrev pub rules_cost : Settings → Group → ℕ → PassedByRules → ℕ → List RuleState → RulesProgress → ℕ
 rules_cost s g now u i [] p = 0
 rules_cost s g now u i (r ∷ rules) p = cost s.subquery_step p.history (u i) r.rule.expr 0 now + rules_cost s g now u (i + 1) rules (one_rule s g now p r)
 

@@ -9,7 +9,7 @@ use Rattle.pr_labels.specs.declared.pair.Pair.{Pair}
 use Rattle.pr_history.specs.declared.append.Append.{Append}
 use Rattle.pr_history.specs.declared.entry.Entry.{Entry}
 use Rattle.pr_history.specs.Admission.{put_all}
-use Rattle.pr_puts.specs.Puts.{admitted, admissions, shown_entries, marker, markers, series_of}
+use Rattle.pr_puts.specs.Puts.{admitted, admissions, shown_entries, marker, markers, label_sets_of}
 use Rattle.pr_vectors.specs.Vectors.{element}
 use Rattle.pr_query.specs.Answers.{go_on}
 use Rattle.pr_rulefile.specs.Rules.{Rule}
@@ -28,20 +28,20 @@ use Rattle.pr_rules.specs.declared.report.Put.{Put}
 use Rattle.pr_rules.specs.declared.report.RuleOutcome.TheVariants.{Fine, Fault}
 use Rattle.pr_rules.specs.declared.report.RuleReport.{RuleReport}
 use Rattle.pr_rules.specs.Groups.{Group, RuleState, interval_of}
-use Rattle.pr_rules.specs.Results.{placed, result_of, unless_beyond}
+use Rattle.pr_rules.specs.Results.{without_place, rule_result, unless_beyond}
 use Rattle.pr_rules.specs.Settings.{Settings}
 
 -- One rule
 
 -- What a rule comes to, with the limit on its alerts, which are those of its lineage with this
 -- evaluation.
-abbrev pub counted : Bool → ℕ → RuleState → ℕ → Result (List Found) RuleFailure → Result (List Found) RuleFailure
-counted false limit r now result = result
-counted true limit r now result =
-    go_on (λ founds. placed (unless_beyond limit (exceeding limit r.lineage now r.rule.hold r.rule.keep founds) founds)) result
+abbrev pub within_alerts : Bool → ℕ → RuleState → ℕ → Result (List Found) RuleFailure → Result (List Found) RuleFailure
+within_alerts false limit r now result = result
+within_alerts true limit r now result =
+    go_on (λ founds. without_place (unless_beyond limit (exceeding limit r.lineage now r.rule.hold r.rule.keep founds) founds)) result
 
-unfoldable pub outcome_of : Settings → Group → RuleState → List Entry → ℕ → Result (List Found) RuleFailure
-outcome_of s g r history now = counted r.rule.alert g.limit r now (result_of s g.limit r.rule history now)
+unfoldable pub rule_outcome : Settings → Group → RuleState → List Entry → ℕ → Result (List Found) RuleFailure
+rule_outcome s g r history now = within_alerts r.rule.alert g.limit r now (rule_result s g.limit r.rule history now)
 
 -- the lineage with this evaluation
 abbrev pub fault_outcome : RuleFault → Outcome
@@ -57,17 +57,17 @@ evaluated r now outcome wrote = r.lineage ++ evaluation now r.rule.hold r.rule.k
 abbrev pub recorded : List Found → List (Item Num)
 recorded founds = map (λ f. element f.labels f.value) founds
 
-abbrev pub samples_by : Bool → Bool → List Found → List Record → List (Item Num)
-samples_by false waits founds alerts = recorded founds
-samples_by true true founds alerts = []
-samples_by true false founds alerts = samples alerts
+abbrev pub rule_samples_by : Bool → Bool → List Found → List Record → List (Item Num)
+rule_samples_by false waits founds alerts = recorded founds
+rule_samples_by true true founds alerts = []
+rule_samples_by true false founds alerts = samples alerts
 
-abbrev pub samples_of : Group → RuleState → ℕ → List Found → List (Item Num)
-samples_of g r now founds =
-    samples_by r.rule.alert (nat_lt 0 g.waits) founds (records_after r.lineage now r.rule.hold r.rule.keep founds)
+abbrev pub rule_samples : Group → RuleState → ℕ → List Found → List (Item Num)
+rule_samples g r now founds =
+    rule_samples_by r.rule.alert (nat_lt 0 g.waits) founds (records_after r.lineage now r.rule.hold r.rule.keep founds)
 
-abbrev pub entry_of : ℕ → Item Num → Entry
-entry_of now e = record { labels = e.labels; time = now; point = Value e.value }
+abbrev pub sample_entry : ℕ → Item Num → Entry
+sample_entry now e = record { labels = e.labels; time = now; point = Value e.value }
 
 abbrev pub put_of : Item Num × Append → Put
 put_of p = record { labels = p.0.labels; value = p.0.value; append = p.1 }
@@ -86,26 +86,26 @@ pub record RuleStep : Type 0 where
 
 -- The samples come first. Those that the series then show are written; a marker follows for each
 -- series that was written last time, and now is not.
-abbrev pub written : ℕ → RuleState → ℕ → List Found → List Entry → List (Item Num) → List Entry → List Entry → List (List Pair) → RuleStep
-written interval r now founds history items puts gone wrote = record {
+abbrev pub written_step : ℕ → RuleState → ℕ → List Found → List Entry → List (Item Num) → List Entry → List Entry → List (List Pair) → RuleStep
+written_step interval r now founds history items puts gone wrote = record {
   entries = puts ++ gone;
   report = record {
     outcome = Fine;
     samples = map put_of (zip items (admissions history puts));
-    stale = series_of (admitted (put_all history puts) gone);
+    stale = label_sets_of (admitted (put_all history puts) gone);
     sent = sent_by r.rule.alert interval (evaluated r now (came_to founds) wrote);
   };
   lineage = evaluated r now (came_to founds) wrote;
 }
 
-abbrev pub marked : ℕ → RuleState → ℕ → List Found → List Entry → List (Item Num) → List Entry → List (List Pair) → RuleStep
-marked interval r now founds history items puts wrote = written interval r now founds history items puts (markers now (previous r.lineage) wrote) wrote
+abbrev pub marked_step : ℕ → RuleState → ℕ → List Found → List Entry → List (Item Num) → List Entry → List (List Pair) → RuleStep
+marked_step interval r now founds history items puts wrote = written_step interval r now founds history items puts (markers now (previous r.lineage) wrote) wrote
 
 abbrev pub put_samples : ℕ → RuleState → ℕ → List Found → List Entry → List (Item Num) → List Entry → RuleStep
-put_samples interval r now founds history items puts = marked interval r now founds history items puts (series_of (shown_entries history puts))
+put_samples interval r now founds history items puts = marked_step interval r now founds history items puts (label_sets_of (shown_entries history puts))
 
 abbrev pub fine_step : Group → RuleState → ℕ → List Found → List Entry → List (Item Num) → RuleStep
-fine_step g r now founds history items = put_samples (interval_of g) r now founds history items (map (entry_of now) items)
+fine_step g r now founds history items = put_samples (interval_of g) r now founds history items (map (sample_entry now) items)
 
 -- A fault puts nothing, marks nothing and sends nothing, and keeps what was written before.
 abbrev pub failed_step : RuleState → ℕ → RuleFailure → RuleStep
@@ -115,30 +115,30 @@ failed_step r now f = record {
   lineage = evaluated r now (fault_outcome f.kind) [];
 }
 
-abbrev pub step_by : Group → RuleState → List Entry → ℕ → Result (List Found) RuleFailure → RuleStep
-step_by g r history now (Ok founds) = fine_step g r now founds history (samples_of g r now founds)
-step_by g r history now (Err f) = failed_step r now f
+abbrev pub rule_step_by : Group → RuleState → List Entry → ℕ → Result (List Found) RuleFailure → RuleStep
+rule_step_by g r history now (Ok founds) = fine_step g r now founds history (rule_samples g r now founds)
+rule_step_by g r history now (Err f) = failed_step r now f
 
 unfoldable pub rule_step : Settings → Group → RuleState → List Entry → ℕ → RuleStep
-rule_step s g r history now = step_by g r history now (outcome_of s g r history now)
+rule_step s g r history now = rule_step_by g r history now (rule_outcome s g r history now)
 
 -- All rules
 
 -- How far the evaluation has come: the history as it then stands, what was put, what was told, and
 -- the rules that were evaluated.
-pub record Progress : Type 0 where
+pub record RulesProgress : Type 0 where
   pub history : List Entry
   pub entries : List Entry
   pub reports : List RuleReport
   pub rules : List RuleState
 
-abbrev pub begun : List Entry → Progress
+abbrev pub begun : List Entry → RulesProgress
 begun history = record { history = history; entries = []; reports = []; rules = [] }
 
 abbrev pub with_lineage : RuleState → List Step → RuleState
 with_lineage r lineage = record { rule = r.rule; lineage = lineage }
 
-abbrev pub after_rule : Progress → RuleState → RuleStep → Progress
+abbrev pub after_rule : RulesProgress → RuleState → RuleStep → RulesProgress
 after_rule p r step = record {
   history = put_all p.history step.entries;
   entries = p.entries ++ step.entries;
@@ -146,10 +146,10 @@ after_rule p r step = record {
   rules = p.rules ++ with_lineage r step.lineage ∷ [];
 }
 
-abbrev pub one_rule : Settings → Group → ℕ → Progress → RuleState → Progress
+abbrev pub one_rule : Settings → Group → ℕ → RulesProgress → RuleState → RulesProgress
 one_rule s g now p r = after_rule p r (rule_step s g r p.history now)
 
-abbrev pub all_rules : Settings → Group → List Entry → ℕ → Progress
+abbrev pub all_rules : Settings → Group → List Entry → ℕ → RulesProgress
 all_rules s g history now = fold (one_rule s g now) (begun history) g.rules
 
 -- The end of an evaluation
@@ -184,25 +184,25 @@ group_after g now rules = record {
   leftovers = [];
 }
 
-abbrev pub ended : Group → List Entry → ℕ → Progress → List Entry → List RuleState → List Restored → GroupStep
-ended g history now p gone rules alerts = record {
+abbrev pub group_ended : Group → List Entry → ℕ → RulesProgress → List Entry → List RuleState → List Restored → GroupStep
+group_ended g history now p gone rules alerts = record {
   group = group_after g now rules;
   entries = p.entries ++ gone;
   report = record {
     rules = p.reports;
-    leftovers = series_of (admitted p.history gone);
+    leftovers = label_sets_of (admitted p.history gone);
     restored = alerts;
     admitted = admitted history (p.entries ++ gone);
   };
 }
 
 -- The restoration follows where the group has no more evaluation to wait for.
-abbrev pub restoring : Bool → Group → List Entry → ℕ → Progress → List Entry → GroupStep
-restoring false g history now p gone = ended g history now p gone p.rules []
+abbrev pub restoring : Bool → Group → List Entry → ℕ → RulesProgress → List Entry → GroupStep
+restoring false g history now p gone = group_ended g history now p gone p.rules []
 restoring true g history now p gone =
-    ended g history now p gone (map (with_restored (put_all p.history gone) now) p.rules) (flat_map (restores (put_all p.history gone) now) p.rules)
+    group_ended g history now p gone (map (with_restored (put_all p.history gone) now) p.rules) (flat_map (restores (put_all p.history gone) now) p.rules)
 
-abbrev pub after_rules : Group → List Entry → ℕ → Progress → GroupStep
+abbrev pub after_rules : Group → List Entry → ℕ → RulesProgress → GroupStep
 after_rules g history now p = restoring (g.waits == 1) g history now p (map (marker now) g.leftovers)
 
 -- the evaluation of a group over a history at a time

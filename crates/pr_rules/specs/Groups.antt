@@ -31,8 +31,8 @@ abbrev pub definition_of : Group → Definition
 definition_of g = record { name = g.name; interval = g.interval; limit = g.limit; rules = rules_of g }
 
 -- a group is known by its file and its name
-abbrev pub is_named : List ℕ → List ℕ → Group → Bool
-is_named file name g = bytes_eq g.file file && bytes_eq g.name name
+abbrev pub is_group_named : List ℕ → List ℕ → Group → Bool
+is_group_named file name g = bytes_eq g.file file && bytes_eq g.name name
 
 -- a minute, where a group says nothing of how often it is evaluated
 abbrev pub interval_of : Group → ℕ

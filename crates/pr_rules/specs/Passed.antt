@@ -9,7 +9,7 @@ use Rattle.pr_history.specs.Lookback.{entries_until}
 use Rattle.pr_query.specs.Cost.{PassedFor}
 use Rattle.pr_query.specs.Selection.{chosen_by, moment_of}
 use Rattle.pr_rules.specs.Costs.{PassedByRules}
-use Rattle.pr_rules.specs.Evaluations.{Progress, begun, one_rule, outcome_of}
+use Rattle.pr_rules.specs.Evaluations.{RulesProgress, begun, one_rule, rule_outcome}
 use Rattle.pr_rules.specs.Groups.{Group, RuleState}
 use Rattle.pr_rules.specs.Settings.{Settings}
 
@@ -37,10 +37,10 @@ ArePassed history u none node time = Unit {0}
 -- samples were put. After a fault as much was passed as before, or more.
 pub record IsPassedByRule (s : Settings) (g : Group) (r : RuleState) (history : List Entry) (now : ℕ) (u later : PassedFor) : Type 0 where
   pub none_falls : NoneFalls u later
-  pub fine : IfOk (outcome_of s g r history now) (λ founds. ArePassed history later r.rule.expr 0 now)
+  pub fine : IfOk (rule_outcome s g r history now) (λ founds. ArePassed history later r.rule.expr 0 now)
 
 -- each rule over the history as it then stands
-abbrev pub ArePassedByRules : Settings → Group → ℕ → PassedByRules → PassedByRules → ℕ → List RuleState → Progress → Type 0
+abbrev pub ArePassedByRules : Settings → Group → ℕ → PassedByRules → PassedByRules → ℕ → List RuleState → RulesProgress → Type 0
 ArePassedByRules s g now u later i [] p = Unit {0}
 ArePassedByRules s g now u later i (r ∷ rules) p =
     IsPassedByRule s g r p.history now (u i) (later i) × ArePassedByRules s g now u later (i + 1) rules (one_rule s g now p r)

@@ -10,7 +10,7 @@ use Rattle.pr_vectors.specs.Vectors.{in_label_order}
 use Rattle.pr_lineage.specs.Lineage.{previous}
 use Rattle.pr_rulefile.specs.Groups.{Group as Definition}
 use Rattle.pr_rulefile.specs.Rules.{Rule}
-use Rattle.pr_rules.specs.Groups.{Group, RuleState, fresh, fresh_rule, is_named, rules_of}
+use Rattle.pr_rules.specs.Groups.{Group, RuleState, fresh, fresh_rule, is_group_named, rules_of}
 use Rattle.pr_rules.specs.Taking.{taken, untaken}
 
 -- Rules
@@ -64,11 +64,11 @@ continued_by new (Some old) = carried new old
 continued_by new None = new
 
 abbrev pub continued : List Group → Group → Group
-continued olds new = continued_by new (find (is_named new.file new.name) olds)
+continued olds new = continued_by new (find (is_group_named new.file new.name) olds)
 
 -- the old groups that no new one continues
 abbrev pub is_gone : List Group → Group → Bool
-is_gone news old = not (list_any (is_named old.file old.name) news)
+is_gone news old = not (list_any (is_group_named old.file old.name) news)
 
 abbrev pub gone_groups : List Group → List Group → List Group
 gone_groups olds news = filter (is_gone news) olds

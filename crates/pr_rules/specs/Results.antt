@@ -20,7 +20,7 @@ use Rattle.pr_query.specs.Meaning.{meaning}
 use Rattle.pr_tmpl.specs.declared.template.External.{External}
 use Rattle.pr_tmpl.specs.declared.template.Part.{Part}
 use Rattle.pr_tmpl.specs.Expansion.{expansion}
-use Rattle.pr_tmpl.specs.TemplateText.{template_parts}
+use Rattle.pr_tmpl.specs.TemplateReading.{template_parts}
 use Rattle.pr_rulefile.specs.Rules.{Rule}
 use Rattle.pr_lineage.specs.declared.found.Found.{Found}
 use Rattle.pr_lineage.specs.Records.{beyond}
@@ -30,9 +30,9 @@ use Rattle.pr_rules.specs.declared.fault.RuleFault.TheVariants.{Eval, SameAfterR
 use Rattle.pr_rules.specs.Settings.{Settings}
 
 -- a number is one element without labels
-abbrev pub elements_of : Value → List (Item Num)
-elements_of (Scalar v) = element [] v ∷ []
-elements_of (Vector items) = items
+abbrev pub value_elements : Value → List (Item Num)
+value_elements (Scalar v) = element [] v ∷ []
+value_elements (Vector items) = items
 
 -- Labels
 
@@ -42,24 +42,24 @@ abbrev pub expanded_by : External → Item Num → Option (List Part) → List �
 expanded_by external e (Some parts) = expansion e.labels e.value external parts
 expanded_by external e None = []
 
-abbrev pub expanded : External → Item Num → Pair → Pair
-expanded external e p = pair_of p.name (expanded_by external e (template_parts p.value))
+abbrev pub expanded_pair : External → Item Num → Pair → Pair
+expanded_pair external e p = pair_of p.name (expanded_by external e (template_parts p.value))
 
 abbrev pub all_expanded : External → Item Num → List Pair → List Pair
-all_expanded external e pairs = map (expanded external e) pairs
+all_expanded external e pairs = map (expanded_pair external e) pairs
 
 -- What is recorded gets the metric's name, and then the labels of the rule.
 abbrev pub recorded_labels : Rule → Item Num → List Pair
 recorded_labels rule e = union_labels (set_label e.labels metric_label rule.name) rule.labels
 
--- An alert loses the metric's name, gets the labels of the rule, expanded, and then its own name.
-abbrev pub alert_labels : External → Rule → Item Num → List Pair
-alert_labels external rule e =
+-- An alert loses the metric's name, gets the labels of the rule, expanded_pair, and then its own name.
+abbrev pub alerting_labels : External → Rule → Item Num → List Pair
+alerting_labels external rule e =
     set_label (union_labels (without_name e.labels metric_label) (all_expanded external e rule.labels)) (codes "alertname") rule.name
 
 abbrev pub found_by : External → Rule → Bool → Item Num → Found
 found_by external rule false e = record { labels = recorded_labels rule e; notes = []; value = e.value }
-found_by external rule true e = record { labels = alert_labels external rule e; notes = all_expanded external e rule.notes; value = e.value }
+found_by external rule true e = record { labels = alerting_labels external rule e; notes = all_expanded external e rule.notes; value = e.value }
 
 abbrev pub found_of : External → Rule → Item Num → Found
 found_of external rule e = found_by external rule rule.alert e
@@ -82,8 +82,8 @@ abbrev pub sets_in : List Found → List (List Pair)
 sets_in founds = map (λ f. f.labels) founds
 
 -- the label sets rise, so that none comes twice
-abbrev pub AreInOrder : List Found → Type 0
-AreInOrder founds = IsRising (sets_in founds)
+abbrev pub FoundsRise : List Found → Type 0
+FoundsRise founds = IsRising (sets_in founds)
 
 -- Faults
 
@@ -95,35 +95,35 @@ abbrev pub failed_by : Result Value Fault → Result Value RuleFailure
 failed_by (Ok v) = Ok v
 failed_by (Err f) = Err (failure f.place.start (Eval f.kind))
 
-abbrev pub placed : {A : Type 0} → Result A RuleFault → Result A RuleFailure
-placed (Ok a) = Ok a
-placed (Err kind) = Err (failure 0 kind)
+abbrev pub without_place : {A : Type 0} → Result A RuleFault → Result A RuleFailure
+without_place (Ok a) = Ok a
+without_place (Err kind) = Err (failure 0 kind)
 
 -- two elements that have the same labels afterwards, the least such
-abbrev pub unless_same : Option (List Pair) → List Found → Result (List Found) RuleFault
-unless_same None founds = Ok (in_found_order founds)
-unless_same (Some labels) founds = Err (SameAfterRule labels)
+abbrev pub unless_twice : Option (List Pair) → List Found → Result (List Found) RuleFault
+unless_twice None founds = Ok (in_found_order founds)
+unless_twice (Some labels) founds = Err (SameAfterRule labels)
 
-abbrev pub told_apart : List Found → Result (List Found) RuleFault
-told_apart founds = unless_same (least_twice (sets_in founds)) founds
+abbrev pub founds_apart : List Found → Result (List Found) RuleFault
+founds_apart founds = unless_twice (least_twice (sets_in founds)) founds
 
 -- More series, or alerts, than the limit.
 abbrev pub unless_beyond : ℕ → Option ℕ → List Found → Result (List Found) RuleFault
 unless_beyond limit None founds = Ok founds
 unless_beyond limit (Some have) founds = Err (LimitExceeded limit have)
 
--- What is recorded has no more elements than the limit. Of an alert not the elements are counted,
+-- What is recorded has no more elements than the limit. Of an alert not the elements are within_alerts,
 -- but the alerts that are pending or fire.
 abbrev pub within_limit : Bool → ℕ → List Found → Result (List Found) RuleFault
 within_limit true limit founds = Ok founds
 within_limit false limit founds = unless_beyond limit (beyond limit (length founds)) founds
 
 abbrev pub ruled : External → ℕ → Rule → List (Item Num) → Result (List Found) RuleFault
-ruled external limit rule items = go_on (within_limit rule.alert limit) (told_apart (map (found_of external rule) items))
+ruled external limit rule items = go_on (within_limit rule.alert limit) (founds_apart (map (found_of external rule) items))
 
 -- The result of a rule over a history at a moment, in a group with this limit.
-abbrev pub result_by : External → ℕ → Rule → Result Value RuleFailure → Result (List Found) RuleFailure
-result_by external limit rule given = go_on (λ v. placed (ruled external limit rule (elements_of v))) given
+abbrev pub rule_result_by : External → ℕ → Rule → Result Value RuleFailure → Result (List Found) RuleFailure
+rule_result_by external limit rule given = go_on (λ v. without_place (ruled external limit rule (value_elements v))) given
 
-unfoldable pub result_of : Settings → ℕ → Rule → List Entry → ℕ → Result (List Found) RuleFailure
-result_of s limit rule history time = result_by s.external limit rule (failed_by (meaning s.subquery_step history rule.expr time))
+unfoldable pub rule_result : Settings → ℕ → Rule → List Entry → ℕ → Result (List Found) RuleFailure
+rule_result s limit rule history time = rule_result_by s.external limit rule (failed_by (meaning s.subquery_step history rule.expr time))

@@ -8,13 +8,13 @@ ghost use Rattle.pr_rules.specs.Carried.{carried_by_rules, carried_numbers, carr
 ghost use Rattle.pr_rules.specs.Evaluations.{group_step};
 ghost use Rattle.pr_rules.specs.Examples.{a_1, after_one, alert, down_and_written, failed_report, inside, labels_of_alert, m_is_1, of_h, of_limit_1, ranges_apart, rate_of, rule_state, rules_apart, s_is_1, s_of, sum_of, ten_passed, the_second, times, two_of_m, waiting, wrote_before};
 ghost use Rattle.pr_rules.specs.Reloads.{continued_rules, remains, unused_rules, waits_at_first};
-ghost use Rattle.pr_rules.specs.Results.{alert_labels, all_expanded};
+ghost use Rattle.pr_rules.specs.Results.{alerting_labels, all_expanded};
 ghost use Rattle.pr_rules.specs.Settings.{of_a_run};
 
 /// The labels and annotations of an alert are templates, which see the element as its expression
 /// gives it, with the metric's name. A label that comes to nothing takes one away.
 pub fn templates_see_the_element()
-    ensures labels { alert_labels of_a_run.external alert a_1 ≡ labels_of_alert }
+    ensures labels { alerting_labels of_a_run.external alert a_1 ≡ labels_of_alert }
     ensures notes { all_expanded of_a_run.external a_1 (pair_of (codes "n") (codes "{{ $labels.i }}={{ $value }}") ∷ []) ≡ pair_of (codes "n") (codes "x=1") ∷ [] }
 {}
 
@@ -49,7 +49,7 @@ pub fn what_was_passed_goes_with_the_rule()
 
 /// The samples of a rule come first, then the markers of what it wrote before and now no more, and
 /// after all rules those of what a reload left over.
-#[tactic(auto, unfolding(crate::specs::Evaluations::group_step, crate::specs::Evaluations::rule_step, crate::specs::Evaluations::outcome_of, crate::specs::Results::result_of, pr_match::specs::Matcher::meets, pr_match::specs::Matcher::meets_all))]
+#[tactic(auto, unfolding(crate::specs::Evaluations::group_step, crate::specs::Evaluations::rule_step, crate::specs::Evaluations::rule_outcome, crate::specs::Results::rule_result, pr_match::specs::Matcher::meets, pr_match::specs::Matcher::meets_all))]
 pub fn entries_stand_in_this_order()
     ensures order { (group_step of_a_run (wrote_before (s_of (codes "one") ∷ []) (m ∷ [])) m_is_1 60000).entries ≡ s_is_1 ∷ marker 60000 (s_of (codes "one")) ∷ marker 60000 m ∷ [] }
     ensures still_there { (group_step of_a_run (wrote_before (s_of (codes "two") ∷ []) []) m_is_1 60000).entries ≡ s_is_1 ∷ [] }
@@ -57,7 +57,7 @@ pub fn entries_stand_in_this_order()
 {}
 
 /// A rule that fails puts nothing and marks nothing, and goes on from what it wrote before.
-#[tactic(auto, unfolding(crate::specs::Evaluations::group_step, crate::specs::Evaluations::rule_step, crate::specs::Evaluations::outcome_of, crate::specs::Results::result_of, pr_match::specs::Matcher::meets, pr_match::specs::Matcher::meets_all))]
+#[tactic(auto, unfolding(crate::specs::Evaluations::group_step, crate::specs::Evaluations::rule_step, crate::specs::Evaluations::rule_outcome, crate::specs::Results::rule_result, pr_match::specs::Matcher::meets, pr_match::specs::Matcher::meets_all))]
 pub fn a_rule_that_fails_puts_nothing()
     ensures told { (group_step of_a_run (of_limit_1 (m ∷ [])) two_of_m 60000).report.rules ≡ failed_report (LimitExceeded 1 2) ∷ [] }
     ensures entries { (group_step of_a_run (of_limit_1 (m ∷ [])) two_of_m 60000).entries ≡ [] }
@@ -66,7 +66,7 @@ pub fn a_rule_that_fails_puts_nothing()
 
 /// The alerts of a group that waits are restored at the end of its second evaluation; until then
 /// nothing is written of them. A group that is new in a later reload does not wait.
-#[tactic(auto, unfolding(crate::specs::Evaluations::group_step, crate::specs::Evaluations::rule_step, crate::specs::Evaluations::outcome_of, crate::specs::Results::result_of, pr_match::specs::Matcher::meets, pr_match::specs::Matcher::meets_all, pr_num::specs::Order::compared))]
+#[tactic(auto, unfolding(crate::specs::Evaluations::group_step, crate::specs::Evaluations::rule_step, crate::specs::Evaluations::rule_outcome, crate::specs::Results::rule_result, pr_match::specs::Matcher::meets, pr_match::specs::Matcher::meets_all, pr_num::specs::Order::compared))]
 pub fn a_group_waits_for_two_evaluations()
     ensures first { (group_step of_a_run (waiting 2) down_and_written 1800000).report.restored ≡ [] }
     ensures nothing { (group_step of_a_run (waiting 2) down_and_written 1800000).entries ≡ [] }

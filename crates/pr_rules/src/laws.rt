@@ -8,15 +8,15 @@ ghost use Rattle.pr_labels.specs.declared.pair.Pair.{Pair};
 ghost use Rattle.pr_labels.specs.Rising.{IsRising, is_among};
 ghost use Rattle.pr_lineage.specs.declared.found.Found.{Found};
 ghost use Rattle.pr_lineage.specs.Lineage.{previous};
-ghost use Rattle.pr_puts.specs.Puts.{admitted, shown_entries, series_of};
+ghost use Rattle.pr_puts.specs.Puts.{admitted, shown_entries, label_sets_of};
 ghost use Rattle.pr_rulefile.specs.Rules.{Rule};
 ghost use Rattle.pr_rules.specs.declared.fault.RuleFailure.{RuleFailure};
-ghost use Rattle.pr_rules.specs.Evaluations.{all_rules, entry_of, failed_step, group_step, outcome_of, rule_step, samples_of};
+ghost use Rattle.pr_rules.specs.Evaluations.{all_rules, sample_entry, failed_step, group_step, rule_outcome, rule_step, rule_samples};
 ghost use Rattle.pr_rules.specs.Carried.{RangeUse, same_use};
 ghost use Rattle.pr_rules.specs.Groups.{Group, RuleState, definition_of, rules_of};
 ghost use Rattle.pr_rules.specs.Reloads.{LoadedFile, carried, continued_rule, continues, reload_step, remains};
 ghost use Rattle.pr_rules.specs.Replays.{round};
-ghost use Rattle.pr_rules.specs.Results.{AreInOrder, result_of};
+ghost use Rattle.pr_rules.specs.Results.{FoundsRise, rule_result};
 ghost use Rattle.pr_rules.specs.Settings.{Settings};
 ghost use Rattle.pr_rules.specs.Taking.{numbers_taken, taken};
 ghost use Rattle.pr_rules.specs.Times.{IsAfter, IsTimely};
@@ -24,8 +24,8 @@ ghost use Rattle.pr_rules.specs.Times.{IsAfter, IsTimely};
 /// What a rule comes to is in label order, each label set once.
 #[tactic(auto, using(crate::proofs::Ordering::result_rises, crate::proofs::Ordering::outcome_rises))]
 pub fn results_are_in_label_order()
-    ensures result { (s : Settings) (limit : ℕ) (rule : Rule) (history : List Entry) (time : ℕ) → IfOk (result_of s limit rule history time) AreInOrder }
-    ensures outcome { (s : Settings) (g : Group) (r : RuleState) (history : List Entry) (now : ℕ) → IfOk (outcome_of s g r history now) AreInOrder }
+    ensures result { (s : Settings) (limit : ℕ) (rule : Rule) (history : List Entry) (time : ℕ) → IfOk (rule_result s limit rule history time) FoundsRise }
+    ensures outcome { (s : Settings) (g : Group) (r : RuleState) (history : List Entry) (now : ℕ) → IfOk (rule_outcome s g r history now) FoundsRise }
 {}
 
 /// Each rule of a group is taken over the history with what those before it put. What an evaluation
@@ -41,12 +41,12 @@ pub fn an_evaluation_puts_its_entries()
 /// After another evaluation it has written the series that show its samples.
 #[tactic(auto, using(crate::proofs::Faults::fault_is, crate::proofs::Faults::fault_leaves, crate::proofs::Faults::writes))]
 pub fn a_fault_changes_nothing()
-    ensures nothing { (s : Settings) (g : Group) (r : RuleState) (history : List Entry) (now : ℕ) (f : RuleFailure) → outcome_of s g r history now ≡ Err f
+    ensures nothing { (s : Settings) (g : Group) (r : RuleState) (history : List Entry) (now : ℕ) (f : RuleFailure) → rule_outcome s g r history now ≡ Err f
         → rule_step s g r history now ≡ failed_step r now f }
-    ensures previous { (s : Settings) (g : Group) (r : RuleState) (history : List Entry) (now : ℕ) (f : RuleFailure) → outcome_of s g r history now ≡ Err f
+    ensures previous { (s : Settings) (g : Group) (r : RuleState) (history : List Entry) (now : ℕ) (f : RuleFailure) → rule_outcome s g r history now ≡ Err f
         → previous (rule_step s g r history now).lineage ≡ previous r.lineage }
-    ensures wrote { (s : Settings) (g : Group) (r : RuleState) (history : List Entry) (now : ℕ) (founds : List Found) → outcome_of s g r history now ≡ Ok founds
-        → previous (rule_step s g r history now).lineage ≡ series_of (shown_entries history (map (entry_of now) (samples_of g r now founds))) }
+    ensures wrote { (s : Settings) (g : Group) (r : RuleState) (history : List Entry) (now : ℕ) (founds : List Found) → rule_outcome s g r history now ≡ Ok founds
+        → previous (rule_step s g r history now).lineage ≡ label_sets_of (shown_entries history (map (sample_entry now) (rule_samples g r now founds))) }
 {}
 
 /// A group that continues another one has written, or is left over, the same series. After a reload

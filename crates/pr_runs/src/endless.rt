@@ -1,5 +1,6 @@
 // An input that does not end.
 ghost use Rattle.std.specs.Prelude.{None};
+ghost use Rattle.pr_outside.specs.declared.course.Course.TheVariants.{Going};
 
 use pr_outside::{Failed, MemFiles, MemSink, Source, SureKeeper};
 use pr_top::promtool;
@@ -10,9 +11,7 @@ use std::alloc::{AllocError, Global};
 struct Comments;
 
 impl Source for Comments {
-    ghost left = { λ s. None };
-
-    ghost faults = { λ s. 0 };
+    ghost means = { λ s. record { left = None; faults = 0; course = Going } };
 
     fn read(&mut self, buf: &mut [u8]) -> Result<usize, Failed> {
         for byte in buf.iter_mut() {

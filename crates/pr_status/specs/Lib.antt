@@ -1,2 +1,5 @@
 pub mod Status
-pub mod Stops
+pub mod Outside
+pub mod Ends
+pub mod Asks
+pub mod Words

@@ -1,10 +1,10 @@
 // How the program ends.
 ghost use Rattle.std.specs.Prelude.{◌≡◌};
+ghost use Rattle.pr_status.specs.Ends.{status_of, stop_of_files, stop_of_keeper, stop_of_sink, stop_status};
 ghost use Rattle.pr_status.specs.Status.{status_number};
-ghost use Rattle.pr_status.specs.Stops.{status_of, stop_of_sink, stop_status};
 ghost use Rattle.pr_status.specs.declared.status.Stop.TheVariants.{Memory, Read};
 
-use pr_outside::{Failed, SinkError};
+use pr_outside::{Failed, FilesError, KeepError, SinkError};
 use std::alloc::AllocError;
 
 /// How the program ends.
@@ -52,8 +52,14 @@ impl Status {
 /// Why a run was cut short.
 #[derive(Clone, Copy, Debug, PartialEq, Eq)]
 pub enum Stop {
-    /// The input, or a file, could not be read.
+    /// The input could not be read.
     Read,
+    /// A file could not be loaded.
+    Load,
+    /// The store refused.
+    Store,
+    /// The kept row of this index is a bad one.
+    BadRow { index: u64 },
     /// The output could not be written.
     Write,
     /// Memory ran out.
@@ -68,7 +74,8 @@ impl Stop {
         ensures { result ≡ stop_status self }
     {
         match self {
-            Stop::Read => Status::ReadFault,
+            Stop::Read | Stop::Load => Status::ReadFault,
+            Stop::Store | Stop::BadRow { .. } => Status::StoreFault,
             Stop::Write => Status::WriteFault,
             Stop::Memory => Status::Memory,
             Stop::TooLong => Status::TooLong,
@@ -111,5 +118,27 @@ impl From<Failed> for Stop {
 
     fn from(_: Failed) -> Stop {
         Stop::Read
+    }
+}
+
+impl From<FilesError> for Stop {
+    ghost from_gives = { λ e s. s ≡ stop_of_files e };
+
+    fn from(e: FilesError) -> Stop {
+        match e {
+            FilesError::Failed => Stop::Load,
+            FilesError::Memory => Stop::Memory,
+        }
+    }
+}
+
+impl From<KeepError> for Stop {
+    ghost from_gives = { λ e s. s ≡ stop_of_keeper e };
+
+    fn from(e: KeepError) -> Stop {
+        match e {
+            KeepError::Failed => Stop::Store,
+            KeepError::Memory => Stop::Memory,
+        }
     }
 }

@@ -1,16 +1,22 @@
 // What the definitions say of small inputs.
 ghost use Rattle.std.specs.Prelude.{◌≡◌, codes, [], ◌∷◌, Some, None};
 ghost use Rattle.std.specs.Str.{bytes_eq};
-ghost use Rattle.pr_labels.specs.LabelSet.{pair_of};
+ghost use Rattle.pr_labels.specs.LabelSet.{named, pair_of};
 ghost use Rattle.pr_num.specs.declared.value.Point.TheVariants.{Stale};
 ghost use Rattle.pr_history.specs.Examples.{m, job, number, whole};
+ghost use Rattle.pr_history.specs.declared.append.Append.TheVariants as append;
 ghost use Rattle.pr_history.specs.Series.{item_of};
-ghost use Rattle.pr_world.specs.declared.report.Report.TheVariants.{Opened, Added, Same, OutOfOrder, Conflict, Scraped, BadScrape, Failed, Gone, Scalar, Vector, QueryFault, QueryRefused, Backwards};
+ghost use Rattle.pr_fields.specs.declared.problem.ProblemKind.TheVariants.{NotForRecording};
+ghost use Rattle.pr_lineage.specs.declared.record.State.TheVariants.{Pending};
+ghost use Rattle.pr_rules.specs.declared.fault.RuleFault.TheVariants.{LimitExceeded, SameAfterRule};
+ghost use Rattle.pr_world.specs.GroupExamples.{alerts_series, big_fails, fine, firing, for_state_series, moved_to, of_alert, over};
+ghost use Rattle.pr_world.specs.declared.report.Report.TheVariants.{Opened, Added, Same, OutOfOrder, Conflict, Scraped, BadScrape, Failed, Gone, Evaluated, NoGroup, NotLater, Reloaded, Missing, TooLarge, Refused, Restarted, Alerts, Scalar, Vector, QueryFault, QueryRefused, Backwards};
 ghost use Rattle.pr_kinds.specs.declared.kind.QueryKind.TheVariants.{Parse};
 ghost use Rattle.pr_expo_line.specs.declared.place.ExpoKind.TheVariants.{BadLabels};
 ghost use Rattle.pr_world.specs.declared.event.Event.TheVariants as event;
 ghost use Rattle.pr_parse.specs.declared.fault.ParseKind.TheVariants as parse;
 ghost use Rattle.pr_query.specs.declared.fault.FaultKind.TheVariants as fault;
+ghost use Rattle.pr_text.specs.Evaluated.{alert_text, note_line, put_line_by, restored_line, rule_fault_text, rule_lines, sending_lines};
 ghost use Rattle.pr_text.specs.Faults.{fault_text};
 ghost use Rattle.pr_text.specs.Orders.{blocks_by, orders_of};
 ghost use Rattle.pr_text.specs.Printed.{shown_report, bad_line_text};
@@ -75,6 +81,36 @@ pub fn reports_are_written_so()
     ensures refused { shown_report (QueryRefused 0 (Parse parse.UnknownFunction)) ≡ codes "refused UnknownFunction at 0\n" }
     ensures backwards { shown_report (Backwards 5000 4000) ≡ codes "backwards last 5000 given 4000\n" }
     ensures bad_line { bad_line_text 70 ≡ codes "bad line 70\n" }
+{}
+
+/// What is written of rules, reloads, restarts and alerts.
+#[tactic(auto, unfolding(crate::proofs::Computing::computing))]
+pub fn groups_are_written_so()
+    ensures no_group { shown_report (NoGroup (codes "r.yml") (codes "h")) ≡ codes "no group \"r.yml\" \"h\"\n" }
+    ensures not_later { shown_report (NotLater 0) ≡ codes "not later last 0\n" }
+    ensures reloaded { shown_report (Reloaded 1 2 0) ≡ codes "reloaded groups 1 rules 2 stale 0\n" }
+    ensures missing { shown_report (Missing (codes "none.yml")) ≡ codes "missing none.yml\n" }
+    ensures too_large { shown_report (TooLarge (codes "a.yml")) ≡ codes "too large a.yml\n" }
+    ensures refused { shown_report (Refused (codes "r") 6 (NotForRecording (codes "for"))) ≡ codes "refused r line 6 NotForRecording \"for\"\n" }
+    ensures restarted { shown_report (Restarted 1) ≡ codes "restarted 1\n" }
+    ensures alerts { shown_report (Alerts []) ≡ codes "alerts 0\n" }
+    ensures evaluated { shown_report (Evaluated (record { rules = big_fails; leftovers = m ∷ []; restored = []; admitted = [] }))
+        ≡ codes "rule 1 fault TooWide at 0\nrule 2 ok\nsample b 10000000000000000000\nstale m\nevaluated rules 2 faults 1\n" }
+{}
+
+/// What is written of a rule: its samples, its markers, its notifications, or its fault.
+#[tactic(auto, unfolding(crate::proofs::Computing::computing))]
+pub fn rules_are_written_so()
+    ensures over { rule_lines 1 (fine [] (alerts_series (codes "D") (codes "firing") ∷ for_state_series (codes "D") ∷ []) (over (codes "D") 180000 240000 ∷ []))
+        ≡ codes "rule 1 ok\nstale ALERTS{alertname=\"D\",alertstate=\"firing\"}\nstale ALERTS_FOR_STATE{alertname=\"D\"}\nsend resolved {alertname=\"D\"} value 0 starts 180000 ends 240000\n" }
+    ensures fires { sending_lines (firing (codes "D") 0 240000) ≡ codes "send firing {alertname=\"D\"} value 0 starts 0 ends 240000\n" }
+    ensures note { note_line (pair_of (codes "summary") (codes "x")) ≡ codes "note summary \"x\"\n" }
+    ensures conflict { put_line_by (append.Conflict (whole 1)) (named (codes "r")) (number 2) ≡ codes "dropped r Conflict 1\n" }
+    ensures late { put_line_by (append.OutOfOrder 5) (named (codes "r")) (number 2) ≡ codes "dropped r OutOfOrder 5\n" }
+    ensures limit { rule_fault_text (LimitExceeded 1 2) ≡ codes "LimitExceeded 1 2" }
+    ensures same { rule_fault_text (SameAfterRule (named (codes "r"))) ≡ codes "SameAfterRule r" }
+    ensures restored { restored_line (moved_to (codes "H") 1260000) ≡ codes "restored {alertname=\"H\"} active 1260000\n" }
+    ensures alert { alert_text (record { state = Pending; labels = of_alert (codes "D"); active = 0; value = number 0 }) ≡ codes "alert pending {alertname=\"D\"} active 0 value 0\n" }
 {}
 
 /// The kind of a fault is written by its name and what it tells.

@@ -4,11 +4,15 @@ use Rattle.std.proofs.lemmas.List.{drop-drop}
 use Rattle.std.specs.declared.option.Option.{Option}
 use Rattle.std.specs.List.{list_all}
 use Rattle.std.specs.Io.KnownBytes.{Consumes, Keeps, IsAtEnd}
+use Rattle.pr_outside.specs.Courses.{GoesOn, IsInTime, course_after}
+use Rattle.pr_outside.specs.declared.course.Course.{Course}
+use Rattle.pr_outside.specs.declared.course.Course.TheVariants.{Going, Over, Late}
 use Rattle.pr_top.specs.Taken.{is_no_feed, are_whole_lines}
-use Rattle.pr_top.specs.LineReading.{ahead, without_feed, TakesPart, IsLine, IsNext, HandsLine, Counts, IsCutLine, IsBeyond}
-use Rattle.pr_status.specs.Stops.{AtInput}
+use Rattle.pr_top.specs.LineReading.{ahead, without_feed, TakesPart, IsLine, IsNext, HandsLine, Counts, IsCutLine, IsBeyond, IsReadOn}
+use Rattle.pr_status.specs.Ends.{AtInput}
+use Rattle.pr_status.proofs.Ended.{in_time_same}
 use Rattle.pr_status.specs.declared.status.Stop.{Stop}
-use Rattle.pr_status.specs.declared.status.Stop.TheVariants.{Read, Write, Memory, TooLong}
+use Rattle.pr_status.specs.declared.status.Stop.TheVariants.{Read, Load, Store, BadRow, Write, Memory, TooLong}
 use Rattle.pr_top.proofs.Feeds.{unended-append, some_left, without_feed-fed, unended_line}
 use Rattle.pr_top.proofs.Whole.{whole_fed}
 
@@ -19,6 +23,9 @@ at_exit {T} P Q (Err y) e h p f = subst (λ (s : Stop). AtInput {T = T} (Err s) 
   where
     on : (s : Stop) → AtInput {T = T} (Err s) P → AtInput {T = T} (Err s) Q
     on Read p = f p
+    on Load p = tt
+    on Store p = tt
+    on (BadRow index) p = tt
     on Write p = tt
     on Memory p = tt
     on TooLong p = f p
@@ -146,3 +153,29 @@ pub beyond_on : (a b : Option (List ℕ)) (m n : ℕ) → Counts a b m n → IsB
 beyond_on None b m n c le = tt
 beyond_on (Some x) None m n c le = absurd c
 beyond_on (Some x) (Some y) m n c le = omega (arith, c, le)
+
+-- no read yet
+pub read_same : (k : Course) (ended : Bool) → IsReadOn k ended k
+read_same k ended = record { in_time = in_time_same k; goes_on = λ going e. e }
+
+going_over : Over ≢ Late
+going_over e = absurd (cc)
+
+going_late : Going ≢ Late
+going_late e = absurd (cc)
+
+-- one more read, where the end was not met
+after_in_time : (last : Bool) → course_after Going last ≢ Late
+after_in_time true = going_over
+after_in_time false = going_late
+
+pub read_in_time : (first before now : Course) (last : Bool) → IsReadOn first false before → now ≡ course_after before last → IsInTime first now
+read_in_time first before now last r is = λ going late.
+    after_in_time last (ap (λ (k : Course). course_after k last) (sym (r.goes_on refl going)) ∙ sym is ∙ late)
+
+pub read_more : (first before now : Course) (last ended : Bool) → IsReadOn first false before → now ≡ course_after before last → (ended ≡ false → last ≡ false)
+    → IsReadOn first ended now
+read_more first before now last ended r is same = record {
+  in_time = read_in_time first before now last r is;
+  goes_on = λ no going. is ∙ ap (λ (k : Course). course_after k last) (r.goes_on refl going) ∙ ap (course_after Going) (same no);
+}

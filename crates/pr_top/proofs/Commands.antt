@@ -1,140 +1,129 @@
--- What a run promises, by how it ended.
-use Rattle.std.proofs.Common.{◌≡◌, ◌≢◌, ℕ, ◌<◌, ◌≤◌, ◌^◌, Bool, true, false, List, [], Option, Some, None, IfSome, Result, Ok, Err, IfOk, inl, refl, ap, subst, length, arith}
+-- What each command promises, by how it ended; and the cause of its status.
+use Rattle.std.proofs.Common.{◌≡◌, ◌≢◌, ℕ, ◌<◌, ◌≤◌, ◌^◌, Bool, List, [], None, Some, IfSome, Option, Result, Ok, Err, IfOk, OnOk, inl, inr, refl, sym, ap, ◌∙◌, subst, length, take, arith}
 use Rattle.std.specs.Io.KnownBytes.{Appends}
-use Rattle.pr_outside.specs.Causes.{Rose, IsCalm}
-use Rattle.pr_top.specs.Command.{MeansRun, IsWholeRun}
-use Rattle.pr_top.specs.Front.{IsFront}
-use Rattle.pr_status.specs.Status.{Faults, AreCalm, verdict, IsLong}
-use Rattle.pr_status.specs.Stops.{StopsRunning, KnowsLength, stopped_at_input, status_of}
-use Rattle.pr_check_loops.specs.FileChecks.{Content}
-use Rattle.pr_top.specs.Told.{told, refuses, answers_to}
+use Rattle.pr_status.specs.Ends.{Ends, KnowsLength, no_row, place_of, status_of, stop_status}
+use Rattle.pr_status.specs.Outside.{Outside, AreCalm, Held, AreTold}
+use Rattle.pr_status.specs.Status.{HasCause, IsLong, verdict}
+use Rattle.pr_status.specs.declared.status.Status.{Status}
 use Rattle.pr_status.specs.declared.status.Status.TheVariants as status
 use Rattle.pr_status.specs.declared.status.Stop.{Stop}
-use Rattle.pr_status.specs.declared.status.Stop.TheVariants.{Read, Write, Memory, TooLong}
+use Rattle.pr_check_loops.specs.Checks.{Checked, ends_by}
+use Rattle.pr_check_loops.specs.FileChecks.{MeansFileCheck, Telling}
+use Rattle.pr_check_loops.specs.InputChecks.{MeansInputCheck}
+use Rattle.pr_check_loops.specs.declared.verdict.Verdict.{Verdict}
+use Rattle.pr_check_loops.specs.declared.verdict.Verdict.TheVariants.{Good, Complaints, Refused}
+use Rattle.pr_top.specs.Front.{IsFront}
+use Rattle.pr_top.specs.Means.{IsWholeRun, MeansRun, MeansUsage, RunsOver, usage_status}
+use Rattle.pr_top.specs.Told.{answers_to, asks_of, refuses, told}
+use Rattle.pr_status.proofs.Causes.{ending_cause, stop_cause}
+use Rattle.pr_status.proofs.Ended.{calm_stop}
+use Rattle.pr_status.proofs.Telling.{at_told, long_not_short, on_told, status_is}
 
-no_rise : (before now : ℕ) → IsCalm before now → Rose before now → ⊥
-no_rise before now calm rose = omega (arith, calm.same, calm.below, rose)
+-- `run`
 
-on_told : (a : Option (List ℕ)) (P : List ℕ → Type 0) → ((x : List ℕ) → a ≡ Some x → P x) → IfSome a P
-on_told None P f = tt
-on_told (Some x) P f = f x refl
+-- what a run that was not stopped is told of
+abbrev pub IsTold : Held → Outside → Outside → Bool → List ℕ → Type 0
+IsTold held before now refused bytes = Appends before.out.taken now.out.taken (told held [] bytes) × (refused ≡ refuses held [] bytes) × (now.input.left ≡ Some [])
 
-at_told : (a : Option (List ℕ)) (P : List ℕ → Type 0) (x : List ℕ) → a ≡ Some x → IfSome a P → P x
-at_told a P x is p = subst (λ (o : Option (List ℕ)). IfSome o P) is p
+abbrev pub Tells : Outside → Outside → Result Bool Stop → Type 0
+Tells before now r = (held : Held) → IfOk r (λ refused. IfSome before.input.left (IsTold held before now refused))
 
--- what a whole run is told of
-abbrev IsTold : Bool → Option (List ℕ) → Option (List ℕ) → Option (List ℕ) → List ℕ → Type 0
-IsTold refused left old new bytes = (content : Content) → Appends old new (told content [] bytes) × (refused ≡ refuses content [] bytes) × (left ≡ Some [])
+abbrev pub Fronts : Outside → Outside → Result Bool Stop → Type 0
+Fronts before now r = (held : Held) → IfSome before.input.left (λ bytes. IsFront bytes (place_of r) [] None (answers_to held [] bytes) before now)
 
-abbrev HasFront : Bool → Option (List ℕ) → Option (List ℕ) → Option (List ℕ) → List ℕ → Type 0
-HasFront stopped left old new bytes = (content : Content) → IsFront bytes old new None left stopped [] (answers_to content [] bytes)
+whole_at : (held : Held) (before now : Outside) (refused : Bool) (bytes : List ℕ) → IsTold held before now refused bytes → IsWholeRun held [] None bytes before now refused
+whole_at held before now refused bytes t = record { written = t.0; refused = t.1; kept = tt; read = t.2 }
 
-whole : (content : Content) (a left old new : Option (List ℕ)) (refused : Bool) (bytes : List ℕ) → a ≡ Some bytes → IfSome a (IsTold refused left old new)
-    → IsWholeRun content [] bytes left old new (verdict refused)
-whole content a left old new refused bytes is t =
-    let at = at_told a (IsTold refused left old new) bytes is t content in
-    record { written = at.0; ends = ap verdict at.1; read = at.2 }
+whole_by : (held : Held) (before now : Outside) (r : Result Bool Stop) (bytes : List ℕ) → before.input.left ≡ Some bytes
+    → IfOk r (λ refused. IfSome before.input.left (IsTold held before now refused)) → IfOk r (IsWholeRun held [] None bytes before now)
+whole_by held before now (Ok refused) bytes is t = whole_at held before now refused bytes (at_told before.input.left (IsTold held before now refused) bytes is t)
+whole_by held before now (Err s) bytes is t = tt
 
--- the counts of the two other objects stay
-abbrev pub counts : ℕ → ℕ → ℕ → ℕ → Faults
-counts input files keeper out = record { input = input; files = files; keeper = keeper; out = out }
+told_by : (held : Held) (before now : Outside) (r : Result Bool Stop) (result : Status) (bytes : List ℕ) → before.input.left ≡ Some bytes → result ≡ status_of r
+    → Ends no_row (IsLong before.input.left) before now r → IfOk r (λ refused. IfSome before.input.left (IsTold held before now refused))
+    → length bytes < 2 ^ 32 → AreCalm before now → result ≢ status.Memory
+    → (result ≡ verdict (refuses held [] bytes)) × IsWholeRun held [] None bytes before now (refuses held [] bytes)
+told_by held before now (Ok refused) result bytes is answer e t few calm some =
+    let at = at_told before.input.left (IsTold held before now refused) bytes is t in
+    (answer ∙ status_is refused ∙ ap verdict at.1, whole_at held before now (refuses held [] bytes) bytes (at.0, refl, at.2))
+told_by held before now (Err s) result bytes is answer e t few calm some = elim (calm_stop Bool (IsLong before.input.left) before now s calm e.cause) [
+  | inl m ↦ absurd (some (answer ∙ ap stop_status m))
+  | inr l ↦ absurd (long_not_short bytes before.input.left is few l.1)
+]
 
-fronted : (content : Content) (a left old new : Option (List ℕ)) (stopped : Bool) → IfSome a (HasFront stopped left old new)
-    → IfSome a (λ bytes. IsFront bytes old new None left stopped [] (answers_to content [] bytes))
-fronted content a left old new stopped f =
-    on_told a (λ bytes. IsFront bytes old new None left stopped [] (answers_to content [] bytes)) (λ bytes is. at_told a (HasFront stopped left old new) bytes is f content)
+long_by : (before now : Outside) (r : Result Bool Stop) (result : Status) (bytes : List ℕ) → before.input.left ≡ Some bytes → result ≡ status_of r
+    → Ends no_row (IsLong before.input.left) before now r → KnowsLength before.input.left r → 2 ^ 32 ≤ length bytes → AreCalm before now → result ≢ status.Memory
+    → result ≡ status.TooLong
+long_by before now (Ok refused) result bytes is answer e k many calm some =
+    absurd (omega (arith, many, at_told before.input.left (λ b. length b < 2 ^ 32) bytes is k))
+long_by before now (Err s) result bytes is answer e k many calm some = elim (calm_stop Bool (IsLong before.input.left) before now s calm e.cause) [
+  | inl m ↦ absurd (some (answer ∙ ap stop_status m))
+  | inr l ↦ answer ∙ ap stop_status l.0
+]
 
--- the run was not cut short
-ended : (content : Content) (files keeper : ℕ) (a left old new : Option (List ℕ)) (i0 i1 o0 o1 : ℕ) (refused : Bool)
-    → IfSome a (IsTold refused left old new) → IfSome a (HasFront true left old new) → IfSome a (λ bytes. length bytes < 2 ^ 32)
-    → (i1 ≡ i0) × (o1 ≡ o0) → MeansRun content [] None a left old new (counts i0 files keeper o0) (counts i1 files keeper o1) (verdict refused)
-ended content files keeper a left old new i0 i1 o0 o1 true t f short cause = record {
-  told = on_told a (λ bytes. length bytes < 2 ^ 32 → AreCalm (counts i0 files keeper o0) (counts i1 files keeper o1) → status.Problem ≢ status.Memory
-      → IsWholeRun content [] bytes left old new status.Problem) (λ bytes is few calm some. whole content a left old new true bytes is t);
-  ended = λ e. on_told a (λ bytes. IsWholeRun content [] bytes left old new status.Problem) (λ bytes is. whole content a left old new true bytes is t);
-  front = fronted content a left old new true f;
-  cause = (cause.0, refl, refl, cause.1);
-  not_usage = λ e. absurd (cc);
-  not_lint = λ e. absurd (cc);
-  long = λ e. absurd (cc);
-  long_exactly = on_told a (λ bytes. 2 ^ 32 ≤ length bytes → AreCalm (counts i0 files keeper o0) (counts i1 files keeper o1) → status.Problem ≢ status.Memory
-      → status.Problem ≡ status.TooLong) (λ bytes is many calm some. absurd (omega (arith, many, at_told a (λ bytes. length bytes < 2 ^ 32) bytes is short)));
-}
-ended content files keeper a left old new i0 i1 o0 o1 false t f short cause = record {
-  told = on_told a (λ bytes. length bytes < 2 ^ 32 → AreCalm (counts i0 files keeper o0) (counts i1 files keeper o1) → status.Done ≢ status.Memory
-      → IsWholeRun content [] bytes left old new status.Done) (λ bytes is few calm some. whole content a left old new false bytes is t);
-  ended = λ e. on_told a (λ bytes. IsWholeRun content [] bytes left old new status.Done) (λ bytes is. whole content a left old new false bytes is t);
-  front = fronted content a left old new true f;
-  cause = (cause.0, refl, refl, cause.1);
-  not_usage = λ e. absurd (cc);
-  not_lint = λ e. absurd (cc);
-  long = λ e. absurd (cc);
-  long_exactly = on_told a (λ bytes. 2 ^ 32 ≤ length bytes → AreCalm (counts i0 files keeper o0) (counts i1 files keeper o1) → status.Done ≢ status.Memory
-      → status.Done ≡ status.TooLong) (λ bytes is many calm some. absurd (omega (arith, many, at_told a (λ bytes. length bytes < 2 ^ 32) bytes is short)));
-}
-
--- the run was cut short by a refused call, or for want of memory
-cut : (content : Content) (files keeper : ℕ) (a left old new : Option (List ℕ)) (i0 i1 o0 o1 : ℕ) (s : Stop)
-    → IfSome a (HasFront (stopped_at_input {T = Bool} (Err s)) left old new) → StopsRunning {T = Bool} i0 i1 o0 o1 (Err s)
-    → (s ≡ TooLong → IsLong a)
-    → MeansRun content [] None a left old new (counts i0 files keeper o0) (counts i1 files keeper o1) (status_of (Err s))
-cut content files keeper a left old new i0 i1 o0 o1 Read f cause long = record {
-  told = on_told a (λ bytes. length bytes < 2 ^ 32 → AreCalm (counts i0 files keeper o0) (counts i1 files keeper o1) → status.ReadFault ≢ status.Memory
-      → IsWholeRun content [] bytes left old new status.ReadFault) (λ bytes is few calm some. absurd (no_rise i0 i1 calm.input cause.0));
-  ended = λ e. absurd e;
-  front = fronted content a left old new true f;
-  cause = inl (cause.0, refl, refl, cause.1);
-  not_usage = λ e. absurd (cc);
-  not_lint = λ e. absurd (cc);
-  long = λ e. absurd (cc);
-  long_exactly = on_told a (λ bytes. 2 ^ 32 ≤ length bytes → AreCalm (counts i0 files keeper o0) (counts i1 files keeper o1) → status.ReadFault ≢ status.Memory
-      → status.ReadFault ≡ status.TooLong) (λ bytes is many calm some. absurd (no_rise i0 i1 calm.input cause.0));
-}
-cut content files keeper a left old new i0 i1 o0 o1 Write f cause long = record {
-  told = on_told a (λ bytes. length bytes < 2 ^ 32 → AreCalm (counts i0 files keeper o0) (counts i1 files keeper o1) → status.WriteFault ≢ status.Memory
-      → IsWholeRun content [] bytes left old new status.WriteFault) (λ bytes is few calm some. absurd (no_rise o0 o1 calm.out cause.1));
-  ended = λ e. absurd e;
-  front = fronted content a left old new false f;
-  cause = (cause.0, refl, refl, cause.1);
-  not_usage = λ e. absurd (cc);
-  not_lint = λ e. absurd (cc);
-  long = λ e. absurd (cc);
-  long_exactly = on_told a (λ bytes. 2 ^ 32 ≤ length bytes → AreCalm (counts i0 files keeper o0) (counts i1 files keeper o1) → status.WriteFault ≢ status.Memory
-      → status.WriteFault ≡ status.TooLong) (λ bytes is many calm some. absurd (no_rise o0 o1 calm.out cause.1));
-}
-cut content files keeper a left old new i0 i1 o0 o1 Memory f cause long = record {
-  told = on_told a (λ bytes. length bytes < 2 ^ 32 → AreCalm (counts i0 files keeper o0) (counts i1 files keeper o1) → status.Memory ≢ status.Memory
-      → IsWholeRun content [] bytes left old new status.Memory) (λ bytes is few calm some. absurd (some refl));
-  ended = λ e. absurd e;
-  front = fronted content a left old new false f;
-  cause = (cause.0, refl, refl, cause.1);
-  not_usage = λ e. absurd (cc);
-  not_lint = λ e. absurd (cc);
-  long = λ e. absurd (cc);
-  long_exactly = on_told a (λ bytes. 2 ^ 32 ≤ length bytes → AreCalm (counts i0 files keeper o0) (counts i1 files keeper o1) → status.Memory ≢ status.Memory
-      → status.Memory ≡ status.TooLong) (λ bytes is many calm some. absurd (some refl));
-}
-cut content files keeper a left old new i0 i1 o0 o1 TooLong f cause long = record {
-  told = on_told a (λ bytes. length bytes < 2 ^ 32 → AreCalm (counts i0 files keeper o0) (counts i1 files keeper o1) → status.TooLong ≢ status.Memory
-      → IsWholeRun content [] bytes left old new status.TooLong)
-      (λ bytes is few calm some. absurd (omega (arith, few, at_told a (λ bytes. 2 ^ 32 ≤ length bytes) bytes is (long refl))));
-  ended = λ e. absurd e;
-  front = fronted content a left old new true f;
-  cause = (cause.0, refl, refl, cause.1);
-  not_usage = λ e. absurd (cc);
-  not_lint = λ e. absurd (cc);
-  long = λ e. long refl;
-  long_exactly = on_told a (λ bytes. 2 ^ 32 ≤ length bytes → AreCalm (counts i0 files keeper o0) (counts i1 files keeper o1) → status.TooLong ≢ status.Memory
-      → status.TooLong ≡ status.TooLong) (λ bytes is many calm some. refl);
+pub means_run : (before now : Outside) (r : Result Bool Stop) (result : Status) → result ≡ status_of r → Ends no_row (IsLong before.input.left) before now r
+    → KnowsLength before.input.left r → Tells before now r → Fronts before now r → MeansRun before now result
+means_run before now r result answer e k t f = record {
+  ending = r;
+  answer = answer;
+  ends = e;
+  known = k;
+  over = on_told before.input.left (λ bytes. RunsOver [] None bytes before now r result) (λ bytes is. record {
+    whole = λ held asked. whole_by held before now r bytes is (t held);
+    front = λ held asked. at_told before.input.left (λ b. IsFront b (place_of r) [] None (answers_to held [] b) before now) bytes is (f held);
+    told = λ held asked few calm some. told_by held before now r result bytes is answer e (t held) few calm some;
+    long = λ many calm some. long_by before now r result bytes is answer e k many calm some;
+  });
 }
 
-known_long : (a : Option (List ℕ)) (s : Stop) → KnowsLength {T = Bool} a (Err s) → s ≡ TooLong → IsLong a
-known_long a s k is = subst (λ (t : Stop). KnowsLength {T = Bool} a (Err t)) is k
+-- Words that are none of the forms
 
-pub means_run : (content : Content) (files keeper : ℕ) (a left old new : Option (List ℕ)) (i0 i1 o0 o1 : ℕ) (r : Result Bool Stop)
-    → IfOk r (λ refused. IfSome a (IsTold refused left old new)) → IfSome a (HasFront (stopped_at_input r) left old new) → KnowsLength a r
-    → StopsRunning i0 i1 o0 o1 r → MeansRun content [] None a left old new (counts i0 files keeper o0) (counts i1 files keeper o1) (status_of r)
-means_run content files keeper a left old new i0 i1 o0 o1 (Ok true) t f l c = ended content files keeper a left old new i0 i1 o0 o1 true t f l c
-means_run content files keeper a left old new i0 i1 o0 o1 (Ok false) t f l c = ended content files keeper a left old new i0 i1 o0 o1 false t f l c
-means_run content files keeper a left old new i0 i1 o0 o1 (Err s) t f l c =
-    cut content files keeper a left old new i0 i1 o0 o1 s f c (known_long a s l)
+pub means_usage : (text : List ℕ) (before now : Outside) (r : Result Unit Stop) (result : Status) → result ≡ usage_status r → Ends no_row ⊥ before now r
+    → OnOk r (Appends before.out.taken now.out.taken text) → (n : ℕ) × Appends before.out.taken now.out.taken (take n text) → MeansUsage text before now result
+means_usage text before now r result answer e w f = record {
+  ending = r;
+  answer = answer;
+  ends = e;
+  whole = w;
+  front = f;
+  exactly = λ calm some. by r answer e w calm some;
+}
+  where
+    by : (r : Result Unit Stop) → result ≡ usage_status r → Ends no_row ⊥ before now r → OnOk r (Appends before.out.taken now.out.taken text) → AreCalm before now
+        → result ≢ status.Memory → (result ≡ status.Usage) × Appends before.out.taken now.out.taken text
+    by (Ok done) answer e w calm some = (answer, w)
+    by (Err s) answer e w calm some = elim (calm_stop Unit ⊥ before now s calm e.cause) [
+      | inl m ↦ absurd (some (answer ∙ ap stop_status m))
+      | inr l ↦ absurd l.1
+    ]
+
+-- The causes of statuses
+
+no_bad : (index : ℕ) → no_row index → ⊥
+no_bad index bad = bad
+
+pub run_cause : (before now : Outside) (result : Status) → MeansRun before now result → HasCause ⊥ before now result
+run_cause before now result m =
+    subst (HasCause ⊥ before now) (sym m.answer) (ending_cause no_row ⊥ (IsLong before.input.left) before now m.ending no_bad m.ends)
+
+pub files_cause : (telling : Telling) (names : List (List ℕ)) (before now : Outside) (result : Status) → MeansFileCheck telling names before now result
+    → HasCause ⊥ before now result
+files_cause telling names before now result m =
+    subst (HasCause ⊥ before now) (sym m.answer) (ending_cause no_row ⊥ ⊥ before now m.ending no_bad m.ends)
+
+check_cause : (long : Type 0) (before now : Outside) (r : Result Verdict Stop) → Ends no_row long before now r → HasCause ⊥ before now (ends_by r)
+check_cause long before now (Ok Good) e = e.cause
+check_cause long before now (Ok Complaints) e = e.cause
+check_cause long before now (Ok Refused) e = e.cause
+check_cause long before now (Err s) e = stop_cause Verdict no_row ⊥ long before now s no_bad e.cause
+
+pub input_cause : (telling : List ℕ → Checked) (before now : Outside) (result : Status) → MeansInputCheck telling before now result → HasCause ⊥ before now result
+input_cause telling before now result m =
+    subst (HasCause ⊥ before now) (sym m.answer) (check_cause (IsLong before.input.left) before now m.ending m.ends)
+
+pub usage_cause : (text : List ℕ) (before now : Outside) (result : Status) → MeansUsage text before now result → HasCause ⊥ before now result
+usage_cause text before now result m = subst (HasCause ⊥ before now) (sym m.answer) (by m.ending m.ends)
+  where
+    by : (r : Result Unit Stop) → Ends no_row ⊥ before now r → HasCause ⊥ before now (usage_status r)
+    by (Ok done) e = e.cause
+    by (Err s) e = stop_cause Unit no_row ⊥ ⊥ before now s no_bad e.cause

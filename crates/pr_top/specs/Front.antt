@@ -1,24 +1,49 @@
--- What was written and kept when a run is cut short.
-use Rattle.std.specs.Prelude.{◌≡◌, ℕ, ◌+◌, ◌≤◌, Bool, true, List, ◌++◌, length, take, flat_map, IfSome}
+-- What was written and kept where a run is cut short, by where it stopped.
+use Rattle.std.specs.Prelude.{◌≡◌, ℕ, zero, suc, ◌+◌, ◌≤◌, Bool, true, false, List, length, take, map, IfSome}
 use Rattle.std.specs.declared.option.Option.{Option}
 use Rattle.std.specs.Io.KnownBytes.{Appends}
 use Rattle.pr_history.specs.declared.entry.Entry.{Entry}
+use Rattle.pr_status.specs.Asks.{Asks, AsksAt}
+use Rattle.pr_status.specs.Ends.{Place, at_input, at_file, at_store, at_row, at_output, anywhere}
+use Rattle.pr_status.specs.Outside.{Outside}
 use Rattle.pr_top.specs.Taken.{IsPrompt}
-use Rattle.pr_top.specs.Told.{Answer, told_of}
+use Rattle.pr_top.specs.Told.{Answer, told_of, kept_after}
+
+-- Whether a run stopped between two orders, so that none is answered in part, by how many are
+-- answered. A store may stop it before the first line is written.
+abbrev pub is_between : Place → ℕ → Bool
+is_between at_input answered = true
+is_between at_file answered = true
+is_between at_store zero = false
+is_between at_store (suc answered) = true
+is_between (at_row index) answered = true
+is_between at_output answered = false
+is_between anywhere answered = false
+
+-- Where a run stopped at its input, all orders are answered whose lines ended with a line feed in
+-- what was taken of it, but for the last of them where its body may go on. Elsewhere more lines may
+-- have been taken: those of the piece that was read last.
+abbrev pub IsPromptAt : Place → List ℕ → Option (List ℕ) → ℕ → Type 0
+IsPromptAt at_input bytes left answered = IfSome left (λ rest. IsPrompt 0 bytes rest answered)
+IsPromptAt at_file bytes left answered = Unit {0}
+IsPromptAt at_store bytes left answered = Unit {0}
+IsPromptAt (at_row index) bytes left answered = Unit {0}
+IsPromptAt at_output bytes left answered = Unit {0}
+IsPromptAt anywhere bytes left answered = Unit {0}
 
 -- A number of orders was answered, the last of them maybe in part. What was written is a front of
 -- what is told of them, and holds all that is told of those before the last. The rows that are
--- kept, where they are told, are those at the start and then those of the same orders. Where the
--- run stopped at its input, by a refused read, since it is too long or at its end, no order is
--- answered in part, and all are answered whose lines ended with a line feed in what was taken of
--- the input, but for the last of them where its body may go on.
-pub record IsFront (bytes : List ℕ) (old new : Option (List ℕ)) (keeps : Option (List Entry)) (left : Option (List ℕ)) (stopped_at_input : Bool)
-    (rows : List Entry) (answers : List Answer) : Type 0 where
+-- kept, where they are told, are those at the start and then those of the same orders. Between two
+-- orders nothing lacks. Where a load stopped the run, it is one of the next order's.
+pub record IsFront (bytes : List ℕ) (place : Place) (rows : List Entry) (keeps : Option (List Entry)) (answers : List Answer) (before now : Outside) : Type 0 where
   pub answered : ℕ
   pub within : answered ≤ length answers
   pub count : ℕ
-  pub text : Appends old new (take count (told_of rows (take answered answers)))
-  pub whole : (before : ℕ) → before + 1 ≡ answered → length (told_of rows (take before answers)) ≤ count
-  pub complete : stopped_at_input ≡ true → length (told_of rows (take answered answers)) ≤ count
-  pub kept : IfSome keeps (λ now. now ≡ rows ++ flat_map (λ a. a.rows) (take answered answers))
-  pub prompt : stopped_at_input ≡ true → IfSome left (λ rest. IsPrompt 0 bytes rest answered)
+  pub text : Appends before.out.taken now.out.taken (take count (told_of rows (take answered answers)))
+  pub whole : (fewer : ℕ) → fewer + 1 ≡ answered → length (told_of rows (take fewer answers)) ≤ count
+  pub between : is_between place answered ≡ true → length (told_of rows (take answered answers)) ≤ count
+  pub kept : IfSome keeps (λ all. all ≡ kept_after rows (take answered answers))
+  pub prompt : IsPromptAt place bytes now.input.left answered
+  pub asked : ℕ
+  pub asks : Asks before.files.calls now.files.calls asked
+  pub asks_at : AsksAt place (map (λ (a : Answer). a.asks) answers) answered asked

@@ -7,8 +7,9 @@ use Rattle.pr_history.specs.Admission.{IsLawful}
 use Rattle.pr_head.specs.Stored.{Stored}
 use Rattle.pr_head.specs.Holds.{Holds, IsWhole}
 use Rattle.pr_scrape.specs.Knowing.{Knows, Tracked}
+use Rattle.pr_status.specs.Outside.{Held}
 use Rattle.pr_text.specs.declared.order.Numbered.{Numbered}
-use Rattle.pr_top.specs.Standing.{Progress}
+use Rattle.pr_top.specs.Standing.{Progress, Stands}
 use Rattle.pr_top.specs.Told.{turn}
 use Rattle.pr_world.specs.World.{World}
 
@@ -42,9 +43,15 @@ pub record Run : Type 0 where
   pub refused : Bool
 
 pub record KeepsProgress (run : Run) (p : Progress) : Type 0 where
-  pub world : KeepsWorld run.kept p.world
+  pub world : KeepsWorld run.kept p.state.world
   pub refused : run.refused ≡ p.refused
 
 -- one order further
-abbrev pub progress_after : Progress → Numbered → Progress
-progress_after p o = record { world = (turn p.world o).world; refused = p.refused || (turn p.world o).answer.refused }
+abbrev pub progress_after : Held → Progress → Numbered → Progress
+progress_after held p o = record { state = (turn held p.state o).state; refused = p.refused || (turn held p.state o).answer.refused }
+
+-- Where a run stands that keeps this, by what the files hold.
+pub record StandsBy (run : Run) (held : Held) (rows : List Entry) (before now old new : Option (List ℕ)) (lines : ℕ) : Type 0 where
+  pub progress : Progress
+  pub keeps : KeepsProgress run progress
+  pub stands : Stands held rows before now old new lines progress

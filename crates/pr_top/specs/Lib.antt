@@ -8,3 +8,5 @@ pub mod Keeping
 pub mod Asked
 pub mod Usage
 pub mod Command
+pub mod Words
+pub mod Means

@@ -3,6 +3,8 @@ use Rattle.std.specs.Prelude.{◌≡◌, ◌≢◌, ℕ, ◌+◌, ◌<◌, ◌�
 use Prim.Native.Char.{code}
 use Rattle.std.specs.List.{list_all}
 use Rattle.std.specs.Io.KnownBytes.{Consumes, IsAtEnd}
+use Rattle.pr_outside.specs.Courses.{GoesOn, IsInTime}
+use Rattle.pr_outside.specs.declared.course.Course.{Course}
 use Rattle.pr_top.specs.Taken.{is_no_feed, are_whole_lines}
 use Rattle.pr_top.specs.declared.lines.LineReader.{LineReader}
 
@@ -19,6 +21,12 @@ pub record IsReading (r : LineReader) (left : Option (List ℕ)) : Type 0 where
   pub within : r.at ≤ length r.piece.items
   pub count : r.count < 2 ^ 32 + 4096
   pub end : KnowsEnd r left
+
+-- Of the reads since an earlier time none came after the last one, and as long as the end was not
+-- met they may go on.
+pub record IsReadOn (first : Course) (ended : Bool) (now : Course) : Type 0 where
+  pub in_time : IsInTime first now
+  pub goes_on : ended ≡ false → GoesOn first now
 
 -- what is still to come, where it is told: what is held, and what is left of the input
 abbrev pub ahead : List ℕ → Option (List ℕ) → Option (List ℕ)

@@ -1,17 +1,18 @@
 // The commands, by the words of the command line.
-ghost use Rattle.std.specs.Prelude.{◌≡◌, drop, map, string_bytes};
+ghost use Rattle.std.specs.Prelude.{◌≡◌, map, string_bytes};
 ghost use Rattle.std.specs.List.{list_all};
 ghost use Rattle.pr_top.specs.Command.{command_of, is_file_word, two_words, more_words};
+ghost use Rattle.pr_top.specs.Words.{asks_for};
 
 /// What the words ask for.
-#[derive(Clone, Copy, Debug, PartialEq, Eq)]
-pub enum Command {
+#[derive(Clone, Copy)]
+pub(crate) enum Command<'a> {
     /// Answers the script of the input.
     Run,
     /// Checks the exposition of the input.
     CheckMetrics,
-    /// Checks the rule files that the words from the third on name.
-    CheckRules,
+    /// Checks the rule files of these names.
+    CheckRules { names: &'a [String] },
 }
 
 // A file is named by a word that is not empty and does not begin with a dash.
@@ -37,8 +38,8 @@ fn are_file_words(words: &[String]) -> bool
     true
 }
 
-fn two_words(first: &str, second: &str) -> Option<Command>
-    ensures { result ≡ two_words first.now second.now }
+fn two_words<'a>(first: &str, second: &str) -> Option<Command<'a>>
+    ensures { asks_for result ≡ two_words first.now second.now }
 {
     if first == "check" && second == "metrics" {
         Some(Command::CheckMetrics)
@@ -47,34 +48,24 @@ fn two_words(first: &str, second: &str) -> Option<Command>
     }
 }
 
-fn more_words(first: &str, second: &str, names: &[String]) -> Option<Command>
-    ensures { result ≡ more_words first.now second.now (map string_bytes names.now) }
+fn more_words<'a>(first: &str, second: &str, names: &'a [String]) -> Option<Command<'a>>
+    ensures { asks_for result ≡ more_words first.now second.now (map string_bytes names.now) }
 {
     if first == "check" && second == "rules" && are_file_words(names) {
-        Some(Command::CheckRules)
+        Some(Command::CheckRules { names })
     } else {
         None
     }
 }
 
 /// The command that the words ask for, where they are one of the forms.
-pub(crate) fn command_of(words: &[String]) -> Option<Command>
-    ensures { result ≡ command_of (map string_bytes words.now) }
+pub(crate) fn command_of(words: &[String]) -> Option<Command<'_>>
+    ensures { asks_for result ≡ command_of (map string_bytes words.now) }
 {
     match words {
         [word] if word.as_str() == "run" => Some(Command::Run),
         [first, second] => two_words(first, second),
         [first, second, names @ ..] => more_words(first, second, names),
         _ => None,
-    }
-}
-
-/// The words from the third on.
-pub(crate) fn names_in(words: &[String]) -> &[String]
-    ensures { map string_bytes result.now ≡ drop 2 (map string_bytes words.now) }
-{
-    match words {
-        [_, _, names @ ..] => names,
-        _ => &[],
     }
 }

@@ -12,7 +12,6 @@ mod run;
 mod session;
 mod top;
 
-pub use command::Command;
 pub use examples::a_value_is_told_for_five_minutes;
 pub use pr_status::Status;
 pub use top::promtool;

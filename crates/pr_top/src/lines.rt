@@ -2,9 +2,11 @@
 ghost use Rattle.std.specs.Prelude.{◌≡◌, ◌+◌, ◌^◌, ◌<◌, ◌≤◌, ◌++◌, ◌==◌, not, [], codes, take, drop, length, IfOk, IfSome, IfNone, OnOk, true, false};
 ghost use Rattle.std.specs.List.{list_all};
 ghost use Rattle.std.specs.Io.KnownBytes.{Consumes, Keeps, IsAtEnd};
-ghost use Rattle.pr_top.specs.LineReading.{held, KnowsEnd, IsReading, ahead, without_feed, TakesPart, HandsLine, Counts, IsCutLine, IsBeyond};
+ghost use Rattle.pr_top.specs.LineReading.{held, KnowsEnd, IsReading, IsReadOn, ahead, without_feed, TakesPart, HandsLine, Counts, IsCutLine, IsBeyond};
 ghost use Rattle.pr_top.specs.Taken.{is_no_feed};
-ghost use Rattle.pr_status.specs.Stops.{StopsReading, AtInput, OnTooLong};
+ghost use Rattle.pr_outside.specs.Courses.{IsInTime};
+ghost use Rattle.pr_outside.specs.declared.course.Course.{Course};
+ghost use Rattle.pr_status.specs.Ends.{AtInput, ReadEnds};
 
 use pr_outside::Source;
 use pr_status::Stop;
@@ -99,16 +101,17 @@ impl LineReader {
     #[tactic(auto, using(crate::proofs::Ahead::kept, crate::proofs::Ahead::joined_none))]
     fn fill<I: Source>(&mut self, input: &mut I) -> Result<bool, Stop>
         requires count { self.old.count < 2 ^ 32 + 4096 }
-        requires end { KnowsEnd self.old (I.left input.old) }
-        ensures end { OnOk result (KnowsEnd self.new (I.left input.new)) }
-        ensures taken { OnOk result (Consumes (I.left input.old) (I.left input.new) (held self.new)) }
+        requires end { KnowsEnd self.old (I.means input.old).left }
+        ensures end { OnOk result (KnowsEnd self.new (I.means input.new).left) }
+        ensures taken { OnOk result (Consumes (I.means input.old).left (I.means input.new).left (held self.new)) }
         ensures within { OnOk result (self.new.at ≤ length self.new.piece.items) }
         ensures count { OnOk result ((self.new.count ≡ self.old.count + length (held self.new)) × (self.new.count < 2 ^ 32 + 4096)) }
         ensures some { IfOk result (λ some. some ≡ true → 0 < length (held self.new)) }
-        ensures none { IfOk result (λ some. some ≡ false → IsAtEnd (I.left input.new) × (held self.new ≡ []) × (self.new.count < 2 ^ 32)) }
-        ensures stopped { AtInput result (Keeps (I.left input.old) (I.left input.new)) }
-        ensures long { OnTooLong result (2 ^ 32 ≤ self.old.count) }
-        ensures cause { StopsReading (I.faults input.old) (I.faults input.new) result }
+        ensures none { IfOk result (λ some. some ≡ false → IsAtEnd (I.means input.new).left × (held self.new ≡ []) × (self.new.count < 2 ^ 32)) }
+        ensures stopped { AtInput result (Keeps (I.means input.old).left (I.means input.new).left) }
+        ensures going { (first : Course) → IsReadOn first self.old.ended (I.means input.old).course → OnOk result (IsReadOn first self.new.ended (I.means input.new).course) }
+        ensures in_time { (first : Course) → IsReadOn first self.old.ended (I.means input.old).course → IsInTime first (I.means input.new).course }
+        ensures ends { ReadEnds (2 ^ 32 ≤ self.old.count) (I.means input.old) (I.means input.new) result }
     {
         if self.ended {
             self.piece.clear();
@@ -135,16 +138,17 @@ impl LineReader {
         input: &mut I,
         line: &mut Vec<u8>,
     ) -> Result<bool, Stop>
-        requires { IsReading self.old (I.left input.old) }
-        ensures ready { OnOk result (IsReading self.new (I.left input.new)) }
-        ensures line { IfOk result (λ more. HandsLine (ahead (held self.old) (I.left input.old)) (ahead (held self.new) (I.left input.new)) more line.new.items) }
+        requires { IsReading self.old (I.means input.old).left }
+        ensures ready { OnOk result (IsReading self.new (I.means input.new).left) }
+        ensures line { IfOk result (λ more. HandsLine (ahead (held self.old) (I.means input.old).left) (ahead (held self.new) (I.means input.new).left) more line.new.items) }
         ensures bytes { OnOk result (self.new.count + length (held self.old) ≡ self.old.count + (length line.new.items + length (held self.new))) }
         ensures some { IfOk result (λ more. more ≡ not (length line.new.items == 0)) }
-        ensures counts { OnOk result (Counts (I.left input.old) (I.left input.new) self.old.count self.new.count) }
+        ensures counts { OnOk result (Counts (I.means input.old).left (I.means input.new).left self.old.count self.new.count) }
         ensures short { IfOk result (λ more. more ≡ false → self.new.count < 2 ^ 32) }
-        ensures cut { AtInput result (IsCutLine (ahead (held self.old) (I.left input.old)) (I.left input.new)) }
-        ensures long { OnTooLong result (IsBeyond (I.left input.old) self.old.count) }
-        ensures cause { StopsReading (I.faults input.old) (I.faults input.new) result }
+        ensures cut { AtInput result (IsCutLine (ahead (held self.old) (I.means input.old).left) (I.means input.new).left) }
+        ensures going { (first : Course) → IsReadOn first self.old.ended (I.means input.old).course → OnOk result (IsReadOn first self.new.ended (I.means input.new).course) }
+        ensures in_time { (first : Course) → IsReadOn first self.old.ended (I.means input.old).course → IsInTime first (I.means input.new).course }
+        ensures ends { ReadEnds (IsBeyond (I.means input.old).left self.old.count) (I.means input.old) (I.means input.new) result }
     {
         line.clear();
         'joining: while !self.take_part(line)? {

@@ -1,9 +1,11 @@
 // The input, asked for one order after another.
 ghost use Rattle.std.specs.Prelude.{◌≡◌, ◌^◌, ◌<◌, ◌≤◌, ◌==◌, not, [], length, None, IfOk, OnOk, string_bytes, true, false};
+ghost use Rattle.pr_outside.specs.Courses.{IsInTime};
+ghost use Rattle.pr_outside.specs.declared.course.Course.{Course};
 ghost use Rattle.pr_text.specs.Script.{is_passed_over, takes_body};
-ghost use Rattle.pr_top.specs.LineReading.{ahead, HandsLine, Counts, IsCutLine, IsBeyond};
+ghost use Rattle.pr_top.specs.LineReading.{ahead, HandsLine, Counts, IsCutLine, IsBeyond, IsReadOn};
 ghost use Rattle.pr_top.specs.Reading.{unread, IsReady, HandsOrder, FinishesOrder, TakesBody, EndsBody, Advances, IsCutBody, IsCutAt};
-ghost use Rattle.pr_status.specs.Stops.{StopsReading, AtInput, OnTooLong};
+ghost use Rattle.pr_status.specs.Ends.{AtInput, ReadEnds};
 
 use super::lines::{LineReader, without_feed};
 use pr_outside::Source;
@@ -48,17 +50,18 @@ impl Reader {
 
     // Hands out the next line, and says whether there is one.
     fn next_line<I: Source>(&mut self, input: &mut I, line: &mut Vec<u8>) -> Result<bool, Stop>
-        requires { IsReady 0 self.old (I.left input.old) }
-        ensures ready { OnOk result (IsReady (length line.new.items) self.new (I.left input.new)) }
+        requires { IsReady 0 self.old (I.means input.old).left }
+        ensures ready { OnOk result (IsReady (length line.new.items) self.new (I.means input.new).left) }
         ensures some { IfOk result (λ more. more ≡ not (length line.new.items == 0)) }
-        ensures line { IfOk result (λ more. HandsLine (ahead (unread self.old) (I.left input.old)) (ahead (unread self.new) (I.left input.new)) more line.new.items) }
+        ensures line { IfOk result (λ more. HandsLine (ahead (unread self.old) (I.means input.old).left) (ahead (unread self.new) (I.means input.new).left) more line.new.items) }
         ensures waiting { OnOk result (self.new.waiting.items ≡ []) }
         ensures number { OnOk result (self.new.number ≡ self.old.number) }
-        ensures counts { OnOk result (Counts (I.left input.old) (I.left input.new) self.old.lines.count self.new.lines.count) }
+        ensures counts { OnOk result (Counts (I.means input.old).left (I.means input.new).left self.old.lines.count self.new.lines.count) }
         ensures short { IfOk result (λ more. more ≡ false → self.new.lines.count < 2 ^ 32) }
-        ensures cut { AtInput result (IsCutLine (ahead (unread self.old) (I.left input.old)) (I.left input.new)) }
-        ensures long { OnTooLong result (IsBeyond (I.left input.old) self.old.lines.count) }
-        ensures cause { StopsReading (I.faults input.old) (I.faults input.new) result }
+        ensures cut { AtInput result (IsCutLine (ahead (unread self.old) (I.means input.old).left) (I.means input.new).left) }
+        ensures going { (first : Course) → IsReadOn first self.old.lines.ended (I.means input.old).course → OnOk result (IsReadOn first self.new.lines.ended (I.means input.new).course) }
+        ensures in_time { (first : Course) → IsReadOn first self.old.lines.ended (I.means input.old).course → IsInTime first (I.means input.new).course }
+        ensures ends { ReadEnds (IsBeyond (I.means input.old).left self.old.lines.count) (I.means input.old) (I.means input.new) result }
     {
         if self.waiting.is_empty() {
             return self.lines.next_line(input, line);
@@ -70,15 +73,16 @@ impl Reader {
 
     // The body that the next lines give. The first line that is none of it is read ahead.
     fn read_body<I: Source>(&mut self, alloc: Global, input: &mut I) -> Result<String, Stop>
-        requires { IsReady 0 self.old (I.left input.old) }
-        ensures ready { OnOk result (IsReady 0 self.new (I.left input.new)) }
-        ensures body { IfOk result (λ body. TakesBody (ahead (unread self.old) (I.left input.old)) (ahead (unread self.new) (I.left input.new)) self.old.number self.new.number (string_bytes body)) }
-        ensures ends { OnOk result (EndsBody (ahead (unread self.new) (I.left input.new))) }
+        requires { IsReady 0 self.old (I.means input.old).left }
+        ensures ready { OnOk result (IsReady 0 self.new (I.means input.new).left) }
+        ensures body { IfOk result (λ body. TakesBody (ahead (unread self.old) (I.means input.old).left) (ahead (unread self.new) (I.means input.new).left) self.old.number self.new.number (string_bytes body)) }
+        ensures ended { OnOk result (EndsBody (ahead (unread self.new) (I.means input.new).left)) }
         ensures number { OnOk result (self.old.number ≤ self.new.number) }
-        ensures counts { OnOk result (Counts (I.left input.old) (I.left input.new) self.old.lines.count self.new.lines.count) }
-        ensures cut { AtInput result (IsCutBody (ahead (unread self.old) (I.left input.old)) (I.left input.new)) }
-        ensures long { OnTooLong result (IsBeyond (I.left input.old) self.old.lines.count) }
-        ensures cause { StopsReading (I.faults input.old) (I.faults input.new) result }
+        ensures counts { OnOk result (Counts (I.means input.old).left (I.means input.new).left self.old.lines.count self.new.lines.count) }
+        ensures cut { AtInput result (IsCutBody (ahead (unread self.old) (I.means input.old).left) (I.means input.new).left) }
+        ensures going { (first : Course) → IsReadOn first self.old.lines.ended (I.means input.old).course → OnOk result (IsReadOn first self.new.lines.ended (I.means input.new).course) }
+        ensures in_time { (first : Course) → IsReadOn first self.old.lines.ended (I.means input.old).course → IsInTime first (I.means input.new).course }
+        ensures ends { ReadEnds (IsBeyond (I.means input.old).left self.old.lines.count) (I.means input.old) (I.means input.new) result }
     {
         let mut body = String::new(alloc);
         let mut line = Vec::new(alloc);
@@ -99,14 +103,15 @@ impl Reader {
         input: &mut I,
         line: &[u8],
     ) -> Result<Numbered, Stop>
-        requires { IsReady 0 self.old (I.left input.old) }
-        ensures ready { OnOk result (IsReady 0 self.new (I.left input.new)) }
-        ensures order { is_passed_over line.now ≡ false → IfOk result (FinishesOrder line.now (ahead (unread self.old) (I.left input.old)) (ahead (unread self.new) (I.left input.new)) self.old.number self.new.number) }
+        requires { IsReady 0 self.old (I.means input.old).left }
+        ensures ready { OnOk result (IsReady 0 self.new (I.means input.new).left) }
+        ensures order { is_passed_over line.now ≡ false → IfOk result (FinishesOrder line.now (ahead (unread self.old) (I.means input.old).left) (ahead (unread self.new) (I.means input.new).left) self.old.number self.new.number) }
         ensures number { OnOk result (self.old.number ≤ self.new.number) }
-        ensures counts { OnOk result (Counts (I.left input.old) (I.left input.new) self.old.lines.count self.new.lines.count) }
-        ensures cut { AtInput result ((takes_body line.now ≡ true) × IsCutBody (ahead (unread self.old) (I.left input.old)) (I.left input.new)) }
-        ensures long { OnTooLong result (IsBeyond (I.left input.old) self.old.lines.count) }
-        ensures cause { StopsReading (I.faults input.old) (I.faults input.new) result }
+        ensures counts { OnOk result (Counts (I.means input.old).left (I.means input.new).left self.old.lines.count self.new.lines.count) }
+        ensures cut { AtInput result ((takes_body line.now ≡ true) × IsCutBody (ahead (unread self.old) (I.means input.old).left) (I.means input.new).left) }
+        ensures going { (first : Course) → IsReadOn first self.old.lines.ended (I.means input.old).course → OnOk result (IsReadOn first self.new.lines.ended (I.means input.new).course) }
+        ensures in_time { (first : Course) → IsReadOn first self.old.lines.ended (I.means input.old).course → IsInTime first (I.means input.new).course }
+        ensures ends { ReadEnds (IsBeyond (I.means input.old).left self.old.lines.count) (I.means input.old) (I.means input.new) result }
     {
         let number = self.number;
         match read_order(alloc, line)? {
@@ -128,15 +133,16 @@ impl Reader {
         alloc: Global,
         input: &mut I,
     ) -> Result<Option<Numbered>, Stop>
-        requires { IsReady 0 self.old (I.left input.old) }
-        ensures ready { OnOk result (IsReady 0 self.new (I.left input.new)) }
-        ensures order { IfOk result (HandsOrder (ahead (unread self.old) (I.left input.old)) (ahead (unread self.new) (I.left input.new)) self.old.number self.new.number) }
+        requires { IsReady 0 self.old (I.means input.old).left }
+        ensures ready { OnOk result (IsReady 0 self.new (I.means input.new).left) }
+        ensures order { IfOk result (HandsOrder (ahead (unread self.old) (I.means input.old).left) (ahead (unread self.new) (I.means input.new).left) self.old.number self.new.number) }
         ensures advances { IfOk result (λ o. Advances o self.old.number self.new.number) }
-        ensures counts { OnOk result (Counts (I.left input.old) (I.left input.new) self.old.lines.count self.new.lines.count) }
+        ensures counts { OnOk result (Counts (I.means input.old).left (I.means input.new).left self.old.lines.count self.new.lines.count) }
         ensures short { IfOk result (λ o. o ≡ None → self.new.lines.count < 2 ^ 32) }
-        ensures cut { AtInput result (IsCutAt (ahead (unread self.old) (I.left input.old)) (I.left input.new) self.old.number) }
-        ensures long { OnTooLong result (IsBeyond (I.left input.old) self.old.lines.count) }
-        ensures cause { StopsReading (I.faults input.old) (I.faults input.new) result }
+        ensures cut { AtInput result (IsCutAt (ahead (unread self.old) (I.means input.old).left) (I.means input.new).left self.old.number) }
+        ensures going { (first : Course) → IsReadOn first self.old.lines.ended (I.means input.old).course → OnOk result (IsReadOn first self.new.lines.ended (I.means input.new).course) }
+        ensures in_time { (first : Course) → IsReadOn first self.old.lines.ended (I.means input.old).course → IsInTime first (I.means input.new).course }
+        ensures ends { ReadEnds (IsBeyond (I.means input.old).left self.old.lines.count) (I.means input.old) (I.means input.new) result }
     {
         let mut line = Vec::new(alloc);
         'passing: while self.next_line(input, &mut line)? {

@@ -1,12 +1,13 @@
 // The command `run`: one order after another is asked for, and answered before the next one.
-ghost use Rattle.std.specs.Prelude.{◌≡◌, ℕ, ◌||◌, take, [], OnOk, IfOk, IfSome, None, Some};
+ghost use Rattle.std.specs.Prelude.{◌≡◌, ℕ, take, [], OnOk, IfOk, IfSome, None, Some};
 ghost use Rattle.std.specs.Io.KnownBytes.{Appends};
+ghost use Rattle.pr_status.specs.Ends.{Ends, KnowsLength, WriteEnds, no_row, place_of};
+ghost use Rattle.pr_status.specs.Outside.{Held, Outside};
+ghost use Rattle.pr_status.specs.Status.{IsLong};
 ghost use Rattle.pr_top.specs.Front.{IsFront};
 ghost use Rattle.pr_top.specs.Keeping.{KeepsProgress, progress_after};
 ghost use Rattle.pr_top.specs.Standing.{Progress};
-ghost use Rattle.pr_status.specs.Stops.{StopsWriting, StopsRunning, KnowsLength, stopped_at_input};
-ghost use Rattle.pr_check_loops.specs.FileChecks.{Content};
-ghost use Rattle.pr_top.specs.Told.{told, told_of, refuses, answers_to, turn};
+ghost use Rattle.pr_top.specs.Told.{answers_to, refuses, told, told_of, turn};
 
 use super::reader::Reader;
 use super::session::Session;
@@ -24,10 +25,10 @@ fn answer_order<O: Sink>(
     order: Numbered,
     out: &mut O,
 ) -> Result<(), Stop>
-    ensures text { (p : Progress) → KeepsProgress session.old p → OnOk result (Appends (O.taken out.old) (O.taken out.new) (turn p.world order).answer.text) }
-    ensures progress { (p : Progress) → KeepsProgress session.old p → OnOk result (KeepsProgress session.new (progress_after p order)) }
-    ensures front { (p : Progress) → KeepsProgress session.old p → (n : ℕ) × Appends (O.taken out.old) (O.taken out.new) (take n (turn p.world order).answer.text) }
-    ensures cause { StopsWriting (O.faults out.old) (O.faults out.new) result }
+    ensures text { (held : Held) (p : Progress) → KeepsProgress session.old p → OnOk result (Appends (O.means out.old).taken (O.means out.new).taken (turn held p.state order).answer.text) }
+    ensures progress { (held : Held) (p : Progress) → KeepsProgress session.old p → OnOk result (KeepsProgress session.new (progress_after held p order)) }
+    ensures front { (held : Held) (p : Progress) → KeepsProgress session.old p → (n : ℕ) × Appends (O.means out.old).taken (O.means out.new).taken (take n (turn held p.state order).answer.text) }
+    ensures ends { WriteEnds (O.means out.old) (O.means out.new) result }
 {
     let mut text = Vec::new(alloc);
     session.take_order(alloc, &mut text, order)?;
@@ -38,9 +39,9 @@ fn answer_order<O: Sink>(
 // Writes the line that a run begins with.
 #[tactic(auto, using(pr_status::proofs::Streams::appends_none, crate::proofs::Turns::told_none))]
 fn open<O: Sink>(alloc: Global, out: &mut O) -> Result<(), Stop>
-    ensures text { OnOk result (Appends (O.taken out.old) (O.taken out.new) (told_of [] [])) }
-    ensures front { (n : ℕ) × Appends (O.taken out.old) (O.taken out.new) (take n (told_of [] [])) }
-    ensures cause { StopsWriting (O.faults out.old) (O.faults out.new) result }
+    ensures text { OnOk result (Appends (O.means out.old).taken (O.means out.new).taken (told_of [] [])) }
+    ensures front { (n : ℕ) × Appends (O.means out.old).taken (O.means out.new).taken (take n (told_of [] [])) }
+    ensures ends { WriteEnds (O.means out.old) (O.means out.new) result }
 {
     let mut text = Vec::new(alloc);
     push_report(&mut text, &Report::Opened { rows: 0 })?;
@@ -54,14 +55,14 @@ pub(crate) fn run<I: Source, O: Sink>(
     input: &mut I,
     out: &mut O,
 ) -> Result<bool, Stop>
-    ensures told { IfOk result (λ refused. IfSome (I.left input.old) (λ bytes. (content : Content)
-        → Appends (O.taken out.old) (O.taken out.new) (told content [] bytes)
-        × (refused ≡ refuses content [] bytes) × (I.left input.new ≡ Some []))) }
+    ensures told { (held : Held) → IfOk result (λ refused. IfSome (I.means input.old).left (λ bytes. Appends (O.means out.old).taken (O.means out.new).taken (told held [] bytes)
+        × (refused ≡ refuses held [] bytes) × ((I.means input.new).left ≡ Some []))) }
     // However it ends, one number of orders is answered.
-    ensures front { IfSome (I.left input.old) (λ bytes. (content : Content)
-        → IsFront bytes (O.taken out.old) (O.taken out.new) None (I.left input.new) (stopped_at_input result) [] (answers_to content [] bytes)) }
-    ensures long { KnowsLength (I.left input.old) result }
-    ensures cause { StopsRunning (I.faults input.old) (I.faults input.new) (O.faults out.old) (O.faults out.new) result }
+    ensures front { (held : Held) (others : Outside) → IfSome (I.means input.old).left (λ bytes. IsFront bytes (place_of result) [] None (answers_to held [] bytes)
+        (record others { input = I.means input.old; out = O.means out.old }) (record others { input = I.means input.new; out = O.means out.new })) }
+    ensures long { KnowsLength (I.means input.old).left result }
+    ensures ends { (others : Outside) → Ends no_row (IsLong (I.means input.old).left) (record others { input = I.means input.old; out = O.means out.old })
+        (record others { input = I.means input.new; out = O.means out.new }) result }
 {
     open(alloc, out)?;
     let mut session = Session::start(alloc);

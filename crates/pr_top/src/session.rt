@@ -1,7 +1,8 @@
 // A run of the script, order by order.
 ghost use Rattle.std.specs.Prelude.{◌≡◌, ◌++◌, ◌||◌, [], true, OnOk};
 ghost use Rattle.pr_top.specs.Keeping.{KeepsProgress, KeepsWorld, progress_after};
-ghost use Rattle.pr_top.specs.Standing.{Progress, begun};
+ghost use Rattle.pr_status.specs.Outside.{Held};
+ghost use Rattle.pr_top.specs.Standing.{Progress, unanswered};
 ghost use Rattle.pr_top.specs.Told.{is_taken, turn, turn_by};
 ghost use Rattle.pr_world.specs.Settings.{of_a_run};
 ghost use Rattle.pr_world.specs.Step.{next};
@@ -30,7 +31,7 @@ impl Model for Session {
 impl Session {
     /// No order has come yet.
     pub(crate) fn start(alloc: Global) -> Session
-        ensures { KeepsProgress result (begun []) }
+        ensures { KeepsProgress result (unanswered []) }
     {
         Session {
             engine: Engine::start(alloc),
@@ -53,9 +54,9 @@ impl Session {
         event: Event,
     ) -> Result<(), AllocError>
         requires { is_taken event ≡ true }
-        ensures text { (p : Progress) → KeepsProgress self.old p → OnOk result (text.new.items ≡ text.old.items ++ (turn_by (next of_a_run p.world event)).answer.text) }
-        ensures world { (p : Progress) → KeepsProgress self.old p → OnOk result (KeepsWorld self.new.kept (turn_by (next of_a_run p.world event)).world) }
-        ensures refused { (p : Progress) → KeepsProgress self.old p → OnOk result (self.new.refused ≡ (self.old.refused || (turn_by (next of_a_run p.world event)).answer.refused)) }
+        ensures text { (p : Progress) → KeepsProgress self.old p → OnOk result (text.new.items ≡ text.old.items ++ (turn_by (next of_a_run p.state.world event)).answer.text) }
+        ensures world { (p : Progress) → KeepsProgress self.old p → OnOk result (KeepsWorld self.new.kept (turn_by (next of_a_run p.state.world event)).state.world) }
+        ensures refused { (p : Progress) → KeepsProgress self.old p → OnOk result (self.new.refused ≡ (self.old.refused || (turn_by (next of_a_run p.state.world event)).answer.refused)) }
     {
         let answered = self.engine.apply(alloc, event)?;
         self.refused = self.refused || answered.refused;
@@ -70,8 +71,8 @@ impl Session {
         text: &mut Vec<u8>,
         order: Numbered,
     ) -> Result<(), AllocError>
-        ensures text { (p : Progress) → KeepsProgress self.old p → OnOk result (text.new.items ≡ text.old.items ++ (turn p.world order).answer.text) }
-        ensures progress { (p : Progress) → KeepsProgress self.old p → OnOk result (KeepsProgress self.new (progress_after p order)) }
+        ensures text { (held : Held) (p : Progress) → KeepsProgress self.old p → OnOk result (text.new.items ≡ text.old.items ++ (turn held p.state order).answer.text) }
+        ensures progress { (held : Held) (p : Progress) → KeepsProgress self.old p → OnOk result (KeepsProgress self.new (progress_after held p order)) }
     {
         let number = order.number;
         match order.order {

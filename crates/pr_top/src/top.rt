@@ -1,21 +1,20 @@
 // The program as one call.
-ghost use Rattle.std.specs.Prelude.{◌≡◌, ◌≢◌, ℕ, List, None, Some, [], drop, map, take, string_bytes};
-ghost use Rattle.std.specs.Io.KnownBytes.{Appends};
-ghost use Rattle.pr_outside.specs.Causes.{IsCalm};
-ghost use Rattle.pr_top.specs.Command.{command_of, MeansRun, MeansUsage};
-ghost use Rattle.pr_status.specs.Status.{HasCause};
-ghost use Rattle.pr_top.specs.Usage.{usage_text};
+ghost use Rattle.std.specs.Prelude.{◌≡◌, ℕ, List, false, map, string_bytes};
+ghost use Rattle.pr_check_loops.specs.FileChecks.{MeansFileCheck};
 ghost use Rattle.pr_check_loops.specs.InputChecks.{MeansInputCheck};
-ghost use Rattle.pr_check_loops.specs.FileChecks.{Content, MeansFileCheck};
 ghost use Rattle.pr_checks.specs.Metrics.{metrics_told};
 ghost use Rattle.pr_checks.specs.RuleFiles.{rules_told};
-ghost use Rattle.pr_top.specs.declared.command.Command.TheVariants.{Run, CheckMetrics, CheckRules};
+ghost use Rattle.pr_status.specs.Outside.{Outside};
+ghost use Rattle.pr_status.specs.Status.{HasCause};
+ghost use Rattle.pr_top.specs.Command.{command_of, uses};
+ghost use Rattle.pr_top.specs.Means.{MeansCommand, MeansRun, MeansUsage};
+ghost use Rattle.pr_top.specs.Usage.{usage_text};
 
-use super::command::{Command, command_of, names_in};
+use super::command::{Command, command_of};
 use super::run::run;
 use pr_check_loops::{check_files, check_input};
 use pr_checks::{Metrics, RuleFiles};
-use pr_outside::{Files, Keeper, Sink, SinkError, Source};
+use pr_outside::{Files, Keeper, Sink, Source};
 use pr_status::{Status, send, status_of};
 use std::alloc::Global;
 
@@ -29,55 +28,43 @@ fn usage() -> &'static [u8]
     USAGE
 }
 
-// Does what the command `run` asks for. The counts of the files and of the keeper stay.
+// Does what the command `run` asks for.
 fn run_script<I: Source, O: Sink>(alloc: Global, input: &mut I, out: &mut O) -> Status
-    ensures { (content : Content) (files : ℕ) (keeper : ℕ)
-        → MeansRun content [] None (I.left input.old) (I.left input.new) (O.taken out.old) (O.taken out.new)
-        (record { input = I.faults input.old; files = files; keeper = keeper; out = O.faults out.old })
-        (record { input = I.faults input.new; files = files; keeper = keeper; out = O.faults out.new }) result }
+    ensures { (others : Outside) → MeansRun (record others { input = I.means input.old; out = O.means out.old })
+        (record others { input = I.means input.new; out = O.means out.new }) result }
 {
     status_of(run(alloc, input, out))
 }
 
-// Checks the exposition of the input. The counts of the files and of the keeper stay.
+// Checks the exposition of the input.
 fn check_metrics<I: Source, O: Sink>(alloc: Global, input: &mut I, out: &mut O) -> Status
-    ensures { (files : ℕ) (keeper : ℕ)
-        → MeansInputCheck metrics_told (I.left input.old) (I.left input.new) (O.taken out.old) (O.taken out.new)
-        (record { input = I.faults input.old; files = files; keeper = keeper; out = O.faults out.old })
-        (record { input = I.faults input.new; files = files; keeper = keeper; out = O.faults out.new }) result }
+    ensures { (others : Outside) → MeansInputCheck metrics_told (record others { input = I.means input.old; out = O.means out.old })
+        (record others { input = I.means input.new; out = O.means out.new }) result }
 {
     check_input(alloc, &Metrics, input, out)
 }
 
-// Checks the rule files of these names. The counts of the input and of the keeper stay.
+// Checks the rule files of these names.
 fn check_rules<F: Files, O: Sink>(
     alloc: Global,
     names: &[String],
     files: &mut F,
     out: &mut O,
 ) -> Status
-    ensures means { (input : ℕ) (keeper : ℕ)
-        → MeansFileCheck rules_told (F.content files.old) (map string_bytes names.now) (O.taken out.old) (O.taken out.new)
-        (record { input = input; files = F.faults files.old; keeper = keeper; out = O.faults out.old })
-        (record { input = input; files = F.faults files.new; keeper = keeper; out = O.faults out.new }) result }
-    ensures same { (name : List ℕ) → F.content files.new name ≡ F.content files.old name }
+    ensures means { (others : Outside) → MeansFileCheck rules_told (map string_bytes names.now) (record others { files = F.means files.old; out = O.means out.old })
+        (record others { files = F.means files.new; out = O.means out.new }) result }
+    ensures same { (name : List ℕ) → (F.means files.new).content name ≡ (F.means files.old).content name }
 {
     check_files(alloc, &RuleFiles, names, files, out)
 }
 
 // Refuses words that are none of the forms.
 fn refuse_words<O: Sink>(out: &mut O) -> Status
-    ensures exactly { IsCalm (O.faults out.old) (O.faults out.new) → result ≢ Status.Memory → result ≡ Status.Usage }
-    ensures text { result ≡ Status.Usage → Appends (O.taken out.old) (O.taken out.new) usage_text }
-    ensures front { (n : ℕ) × Appends (O.taken out.old) (O.taken out.new) (take n usage_text) }
-    ensures cause { (input : ℕ) (files : ℕ) (keeper : ℕ) → HasCause
-        (record { input = input; files = files; keeper = keeper; out = O.faults out.old })
-        (record { input = input; files = files; keeper = keeper; out = O.faults out.new }) result }
+    ensures { (others : Outside) → MeansUsage usage_text (record others { out = O.means out.old }) (record others { out = O.means out.new }) result }
 {
     match send(out, usage()) {
         Ok(()) => Status::Usage,
-        Err(SinkError::Failed) => Status::WriteFault,
-        Err(SinkError::Memory) => Status::Memory,
+        Err(stop) => stop.status(),
     }
 }
 
@@ -94,37 +81,23 @@ pub fn promtool<I: Source, F: Files, K: Keeper, O: Sink>(
     keeper: &mut K,
     out: &mut O,
 ) -> Status
-    // The command `run`, over no rows; so far it keeps none.
-    ensures run { command_of (map string_bytes words.now) ≡ Some Run
-        → MeansRun (F.content files.old) [] None (I.left input.old) (I.left input.new) (O.taken out.old) (O.taken out.new)
-        (record { input = I.faults input.old; files = F.faults files.old; keeper = K.faults keeper.old; out = O.faults out.old })
-        (record { input = I.faults input.new; files = F.faults files.new; keeper = K.faults keeper.new; out = O.faults out.new }) result }
-    // The command `check metrics`.
-    ensures check_metrics { command_of (map string_bytes words.now) ≡ Some CheckMetrics
-        → MeansInputCheck metrics_told (I.left input.old) (I.left input.new) (O.taken out.old) (O.taken out.new)
-        (record { input = I.faults input.old; files = F.faults files.old; keeper = K.faults keeper.old; out = O.faults out.old })
-        (record { input = I.faults input.new; files = F.faults files.new; keeper = K.faults keeper.new; out = O.faults out.new }) result }
-    // The command `check rules`, over the files that the words from the third on name.
-    ensures check_rules { command_of (map string_bytes words.now) ≡ Some CheckRules
-        → MeansFileCheck rules_told (F.content files.old) (drop 2 (map string_bytes words.now)) (O.taken out.old) (O.taken out.new)
-        (record { input = I.faults input.old; files = F.faults files.old; keeper = K.faults keeper.old; out = O.faults out.old })
-        (record { input = I.faults input.new; files = F.faults files.new; keeper = K.faults keeper.new; out = O.faults out.new }) result }
-    // Words that are none of the forms.
-    ensures usage { command_of (map string_bytes words.now) ≡ None
-        → MeansUsage (O.taken out.old) (O.taken out.new)
-        (record { input = I.faults input.old; files = F.faults files.old; keeper = K.faults keeper.old; out = O.faults out.old })
-        (record { input = I.faults input.new; files = F.faults files.new; keeper = K.faults keeper.new; out = O.faults out.new }) result }
+    ensures means { MeansCommand (command_of (map string_bytes words.now))
+        (record { input = I.means input.old; files = F.means files.old; store = K.means keeper.old; out = O.means out.old })
+        (record { input = I.means input.new; files = F.means files.new; store = K.means keeper.new; out = O.means out.new }) result }
+    // Each status has its cause; so far no row is a bad one.
+    ensures cause { HasCause ⊥
+        (record { input = I.means input.old; files = F.means files.old; store = K.means keeper.old; out = O.means out.old })
+        (record { input = I.means input.new; files = F.means files.new; store = K.means keeper.new; out = O.means out.new }) result }
     // What a command leaves unchanged.
-    ensures input_unused { command_of (map string_bytes words.now) ≡ None → input.new ≡ input.old }
-    ensures input { command_of (map string_bytes words.now) ≡ Some CheckRules → input.new ≡ input.old }
-    ensures files { command_of (map string_bytes words.now) ≢ Some CheckRules → files.new ≡ files.old }
-    ensures content { (name : List ℕ) → F.content files.new name ≡ F.content files.old name }
-    ensures keeper { keeper.new ≡ keeper.old }
+    ensures input { (uses (command_of (map string_bytes words.now))).input ≡ false → input.new ≡ input.old }
+    ensures files { (uses (command_of (map string_bytes words.now))).files ≡ false → files.new ≡ files.old }
+    ensures keeper { (uses (command_of (map string_bytes words.now))).store ≡ false → keeper.new ≡ keeper.old }
+    ensures content { (name : List ℕ) → (F.means files.new).content name ≡ (F.means files.old).content name }
 {
     match command_of(words) {
         Some(Command::Run) => run_script(alloc, input, out),
         Some(Command::CheckMetrics) => check_metrics(alloc, input, out),
-        Some(Command::CheckRules) => check_rules(alloc, names_in(words), files, out),
+        Some(Command::CheckRules { names }) => check_rules(alloc, names, files, out),
         None => refuse_words(out),
     }
 }

@@ -20,7 +20,7 @@ use Rattle.pr_query.specs.Meaning.{meaning}
 use Rattle.pr_rulefile.specs.File.{RuleReading, gives_file, gives_problems, rule_file_of}
 use Rattle.pr_rulefile.specs.Groups.{Group as Definition}
 use Rattle.pr_rules.specs.Evaluations.{group_step}
-use Rattle.pr_rules.specs.Groups.{Group, is_named}
+use Rattle.pr_rules.specs.Groups.{Group, is_group_named}
 use Rattle.pr_rules.specs.Reloads.{LoadedFile, reload_step}
 use Rattle.pr_rules.specs.Settings.{Settings}
 use Rattle.pr_world.specs.declared.event.Event.{Event}
@@ -30,10 +30,10 @@ use Rattle.pr_world.specs.declared.report.Report.{Report}
 use Rattle.pr_world.specs.declared.report.Report.TheVariants as report
 use Rattle.pr_world.specs.declared.scraped.BodyFault.{BodyFault}
 use Rattle.pr_world.specs.declared.scraped.Scraped.{Scraped}
-use Rattle.pr_world.specs.Loading.{Holding, holds, is_missing, is_too_large, Naming, all_found, found_by, found_outcome, named, read_first, reload_asked}
+use Rattle.pr_world.specs.Loading.{Holding, holds, is_missing, is_too_large, FileToLoad, all_found, file_found, found_outcome, with_bytes, read_first, reload_asked}
 use Rattle.pr_world.specs.Outcome.{Outcome, refuse, accept, Change, is_refusal, unless_backwards}
 use Rattle.pr_world.specs.Query.{parsed_outcome, told_answer, told_value, typed_outcome}
-use Rattle.pr_world.specs.Rounds.{all_loaded, eval_after, eval_by, evaluated, first_problem, groups_by, loaded, reload_by, reload_outcome, reloaded}
+use Rattle.pr_world.specs.Rounds.{all_loaded, eval_after, eval_by, evaluation_outcome, first_problem, groups_by, with_groups, reload_outcome_by, reload_outcome}
 use Rattle.pr_world.specs.Step.{next, outcome, outcome_in_time, report_of, rows_by, scrape_outcome, scrape_report, step_by, target_outcome, time_of}
 use Rattle.pr_world.specs.Targets.{TargetStep, scrape_step}
 use Rattle.pr_world.specs.World.{World}
@@ -81,7 +81,7 @@ told_parsed s history time (gives_fault at kind) = refl
 -- Groups
 
 told_later : (b : Bool) (s : Settings) (w : World) (g : Group) (time last : ℕ)
-    → Tells (cond b (evaluated w (group_step s g w.history time)) (refuse (report.NotLater last)))
+    → Tells (cond b (evaluation_outcome w (group_step s g w.history time)) (refuse (report.NotLater last)))
 told_later true s w g time last = refl
 told_later false s w g time last = refl
 
@@ -113,10 +113,10 @@ refuses_file name (gives_problems list) = refuses_first name list
 refuses_loaded : (files : List NamedFile) → Refuses (all_loaded files)
 refuses_loaded [] = tt
 refuses_loaded (f ∷ files) =
-    refuses_on (λ groups. go_on (λ rest. Ok (loaded f groups ∷ rest)) (all_loaded files)) (groups_by f.name (rule_file_of f.bytes)) (refuses_file f.name (rule_file_of f.bytes))
-    (λ groups. refuses_on (λ rest. Ok (loaded f groups ∷ rest)) (all_loaded files) (refuses_loaded files) (λ rest. tt))
+    refuses_on (λ groups. go_on (λ rest. Ok (with_groups f groups ∷ rest)) (all_loaded files)) (groups_by f.name (rule_file_of f.bytes)) (refuses_file f.name (rule_file_of f.bytes))
+    (λ groups. refuses_on (λ rest. Ok (with_groups f groups ∷ rest)) (all_loaded files) (refuses_loaded files) (λ rest. tt))
 
-told_reload : (w : World) (time : ℕ) (r : Result (List LoadedFile) Report) → Refuses r → Tells (reload_by w time r)
+told_reload : (w : World) (time : ℕ) (r : Result (List LoadedFile) Report) → Refuses r → Tells (reload_outcome_by w time r)
 told_reload w time (Ok files) h = refl
 told_reload w time (Err refusal) h = h
 
@@ -128,15 +128,15 @@ refuses_read : (f : NamedFile) (r : Result (List Definition) Report) → Refuses
 refuses_read f (Ok groups) h = tt
 refuses_read f (Err refusal) h = h
 
-refuses_found : (n : Naming) (h : Holding) → Refuses (found_by n h)
-refuses_found n (holds bytes) = refuses_read (named n.name bytes) (groups_by n.name (rule_file_of bytes)) (refuses_file n.name (rule_file_of bytes))
+refuses_found : (n : FileToLoad) (h : Holding) → Refuses (file_found n h)
+refuses_found n (holds bytes) = refuses_read (with_bytes n.name bytes) (groups_by n.name (rule_file_of bytes)) (refuses_file n.name (rule_file_of bytes))
 refuses_found n is_missing = refl
 refuses_found n is_too_large = refl
 
-refuses_all : (content : List ℕ → Holding) (names : List Naming) → Refuses (all_found content names)
+refuses_all : (content : List ℕ → Holding) (names : List FileToLoad) → Refuses (all_found content names)
 refuses_all content [] = tt
 refuses_all content (n ∷ names) =
-    refuses_on (λ f. go_on (λ files. Ok (f ∷ files)) (all_found content names)) (found_by n (content n.file)) (refuses_found n (content n.file))
+    refuses_on (λ f. go_on (λ files. Ok (f ∷ files)) (all_found content names)) (file_found n (content n.file)) (refuses_found n (content n.file))
     (λ f. refuses_on (λ files. Ok (f ∷ files)) (all_found content names) (refuses_all content names) (λ files. tt))
 
 -- All events
@@ -147,7 +147,7 @@ told_in_time s w (Query time text) = told_parsed s w.history time (parsed text)
 told_in_time s w (Scrape time target body) = let step = scrape_step w.targets w.history target time body in told_scrape step.answer.fault step.answer
 told_in_time s w (Fail time target) = refl
 told_in_time s w (Gone time target) = refl
-told_in_time s w (Eval time file group) = told_eval s w time file group (find (is_named file group) w.groups)
+told_in_time s w (Eval time file group) = told_eval s w time file group (find (is_group_named file group) w.groups)
 told_in_time s w (Reload time files) = told_files w time files
 told_in_time s w (Restart time) = refl
 told_in_time s w (Alerts time) = refl
@@ -160,7 +160,7 @@ told_found : (s : Settings) (w : World) (time : ℕ) (r : Result (List NamedFile
 told_found s w time (Ok files) h = told_files w time files
 told_found s w time (Err refusal) h = h
 
-pub refused_files_are_told : (s : Settings) (w : World) (time : ℕ) (content : List ℕ → Holding) (names : List Naming)
+pub refused_files_are_told : (s : Settings) (w : World) (time : ℕ) (content : List ℕ → Holding) (names : List FileToLoad)
     → is_refusal (reload_asked s w time content names).report ≡ (reload_asked s w time content names).refused
 unfolding reload_asked
 refused_files_are_told s w time content names =
@@ -169,7 +169,7 @@ refused_files_are_told s w time content names =
     (after_last Tells w.last time (found_outcome s w time found) (λ last. refl) (told_found s w time found (refuses_all content names)))
 
 -- a reload of files that are there
-pub reload_of_found : (s : Settings) (w : World) (time : ℕ) (content : List ℕ → Holding) (names : List Naming) (files : List NamedFile) → all_found content names ≡ Ok files
+pub reload_of_found : (s : Settings) (w : World) (time : ℕ) (content : List ℕ → Holding) (names : List FileToLoad) (files : List NamedFile) → all_found content names ≡ Ok files
     → reload_asked s w time content names ≡ next s w (Reload time files)
 unfolding reload_asked next
 reload_of_found s w time content names files h = ap (λ r. step_by w time (unless_backwards w.last time (found_outcome s w time r))) h

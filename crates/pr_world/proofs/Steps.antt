@@ -13,7 +13,7 @@ use Rattle.pr_types.specs.declared.kind.ValueType.{ValueType}
 use Rattle.pr_types.specs.declared.kind.TypeFault.{TypeFault}
 use Rattle.pr_types.specs.Typed.{checked}
 use Rattle.pr_rules.specs.Evaluations.{group_step}
-use Rattle.pr_rules.specs.Groups.{Group, is_named}
+use Rattle.pr_rules.specs.Groups.{Group, is_group_named}
 use Rattle.pr_rules.specs.Reloads.{LoadedFile, ReloadStep, reload_step}
 use Rattle.pr_rules.proofs.Putting.{evaluation_admits}
 use Rattle.pr_world.specs.declared.event.Event.{Event}
@@ -22,7 +22,7 @@ use Rattle.pr_world.specs.declared.event.NamedFile.{NamedFile}
 use Rattle.pr_world.specs.Settings.{Settings}
 use Rattle.pr_world.specs.Outcome.{Outcome, refuse, accept, Change, nothing_else, targets_become, groups_become, reloads, begins_anew, changed_by, unless_backwards}
 use Rattle.pr_world.specs.Query.{parsed_outcome, typed_outcome}
-use Rattle.pr_world.specs.Rounds.{all_loaded, eval_after, eval_by, eval_outcome, reload_by, reload_outcome}
+use Rattle.pr_world.specs.Rounds.{all_loaded, eval_after, eval_by, eval_outcome, reload_outcome_by, reload_outcome}
 use Rattle.pr_world.specs.declared.report.Report.{Report}
 use Rattle.pr_world.specs.declared.report.Report.TheVariants as report
 use Rattle.pr_world.specs.Step.{changes_groups, changes_targets, outcome, outcome_in_time, rows_by, entry_of, step_by, next, time_of, world_after, rows_of}
@@ -105,16 +105,16 @@ eval_held_by P refused s w time file name None h = refused (report.NoGroup file 
 eval_held_by P refused s w time file name (Some g) h = eval_held_after P refused g.last s w g time (h g)
 
 reload_held_by : (P : Outcome → Type 0) → ((report : Report) → P (refuse report)) → (w : World) (time : ℕ) (r : Result (List LoadedFile) Report)
-    → ((files : List LoadedFile) → P (reload_by w time (Ok files))) → P (reload_by w time r)
+    → ((files : List LoadedFile) → P (reload_outcome_by w time (Ok files))) → P (reload_outcome_by w time r)
 reload_held_by P refused w time (Ok files) h = h files
 reload_held_by P refused w time (Err refusal) h = refused refusal
 
 eval_held : (P : Outcome → Type 0) → ((report : Report) → P (refuse report)) → (s : Settings) (w : World) (time : ℕ) (file name : List ℕ)
     → ((g : Group) → P (eval_after None s w g time)) → P (eval_outcome s w time file name)
-eval_held P refused s w time file name h = eval_held_by P refused s w time file name (find (is_named file name) w.groups) h
+eval_held P refused s w time file name h = eval_held_by P refused s w time file name (find (is_group_named file name) w.groups) h
 
 pub reload_held : (P : Outcome → Type 0) → ((report : Report) → P (refuse report)) → (w : World) (time : ℕ) (files : List NamedFile)
-    → ((loaded : List LoadedFile) → P (reload_by w time (Ok loaded))) → P (reload_outcome w time files)
+    → ((loaded : List LoadedFile) → P (reload_outcome_by w time (Ok loaded))) → P (reload_outcome w time files)
 unfolding reload_outcome
 reload_held P refused w time files h = reload_held_by P refused w time (all_loaded files) h
 

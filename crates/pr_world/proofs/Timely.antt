@@ -5,7 +5,7 @@ use Rattle.std.specs.List.{AllByRecursion}
 use Rattle.pr_parse.specs.Parsed.{parsed}
 use Rattle.pr_history.specs.declared.entry.Entry.{Entry}
 use Rattle.pr_rules.specs.Evaluations.{group_step}
-use Rattle.pr_rules.specs.Groups.{Group, is_named}
+use Rattle.pr_rules.specs.Groups.{Group, is_group_named}
 use Rattle.pr_rules.specs.Reloads.{LoadedFile, reload_step}
 use Rattle.pr_rules.specs.Settings.{Settings}
 use Rattle.pr_rules.specs.Times.{IsAfter, IsTimely}
@@ -16,7 +16,7 @@ use Rattle.pr_world.specs.declared.report.Report.{Report}
 use Rattle.pr_world.specs.declared.report.Report.TheVariants as report
 use Rattle.pr_world.specs.Outcome.{Outcome, refuse, accept, Change, nothing_else, targets_become, groups_become, reloads, begins_anew, changed_by, unless_backwards}
 use Rattle.pr_world.specs.Query.{parsed_outcome}
-use Rattle.pr_world.specs.Rounds.{all_loaded, eval_after, eval_by, evaluated, reload_by, with_group}
+use Rattle.pr_world.specs.Rounds.{all_loaded, eval_after, eval_by, evaluation_outcome, reload_outcome_by, with_group}
 use Rattle.pr_world.specs.Step.{next, outcome, outcome_in_time, step_by, time_of, world_after}
 use Rattle.pr_world.specs.World.{World}
 use Rattle.pr_world.proofs.Steps.{OnlyAnswers, after_last, only_parsed, reload_held}
@@ -51,7 +51,7 @@ stepped w time (accept report entries change) h k = changed change w time entrie
 
 replaced : (groups : List Group) (new : Group) → AreTimely groups → IsTimely new → AreTimely (with_group groups new)
 replaced [] new h k = tt
-replaced (g ∷ groups) new h k = by (is_named new.file new.name g) (replaced groups new h.1 k) where
+replaced (g ∷ groups) new h k = by (is_group_named new.file new.name g) (replaced groups new h.1 k) where
   by : (b : Bool) → AreTimely (with_group groups new) → AreTimely (cond b (new ∷ groups) (g ∷ with_group groups new))
   by true rest = (k, h.1)
   by false rest = (h.0, rest)
@@ -67,13 +67,13 @@ found test (g ∷ groups) h = by (test g) (found test groups h.1) where
   by true rest = h.0
   by false rest = rest
 
-evaluated_so : (s : Settings) (w : World) (g : Group) (time : ℕ) → IsAfter time g.last → IsTimely g → AreTimely w.groups → Comes (evaluated w (group_step s g w.history time))
+evaluated_so : (s : Settings) (w : World) (g : Group) (time : ℕ) → IsAfter time g.last → IsTimely g → AreTimely w.groups → Comes (evaluation_outcome w (group_step s g w.history time))
 evaluated_so s w g time after h k = replaced w.groups (group_step s g w.history time).group k (evaluation_on_time s g w.history time after h)
 
 after_its_last : (s : Settings) (w : World) (g : Group) (time : ℕ) (last : Option ℕ) → g.last ≡ last → IsTimely g → AreTimely w.groups → Comes (eval_after last s w g time)
 after_its_last s w g time None e h k = evaluated_so s w g time (subst (IsAfter time) (sym e) tt) h k
 after_its_last s w g time (Some last) e h k = by (nat_lt last time) refl where
-  by : (b : Bool) → nat_lt last time ≡ b → Comes (cond b (evaluated w (group_step s g w.history time)) (refuse (report.NotLater last)))
+  by : (b : Bool) → nat_lt last time ≡ b → Comes (cond b (evaluation_outcome w (group_step s g w.history time)) (refuse (report.NotLater last)))
   by true later = evaluated_so s w g time (subst (IsAfter time) (sym e) (ltb-true last time later)) h k
   by false later = tt
 
@@ -93,7 +93,7 @@ comes_in_time s w (Query time text) h = answers_come (parsed_outcome s w.history
 comes_in_time s w (Scrape time target body) h = tt
 comes_in_time s w (Fail time target) h = tt
 comes_in_time s w (Gone time target) h = tt
-comes_in_time s w (Eval time file group) h = of_found s w time file group (find (is_named file group) w.groups) (found (is_named file group) w.groups h) h
+comes_in_time s w (Eval time file group) h = of_found s w time file group (find (is_group_named file group) w.groups) (found (is_group_named file group) w.groups h) h
 comes_in_time s w (Reload time files) h = reload_held Comes (λ report. tt) w time files (λ loaded. reload_on_time w.reloaded w.groups time loaded h)
 comes_in_time s w (Restart time) h = tt
 comes_in_time s w (Alerts time) h = tt

@@ -9,7 +9,7 @@ use Rattle.pr_rulefile.specs.Groups.{Group as Definition}
 use Rattle.pr_lineage.specs.declared.record.Record.{Record}
 use Rattle.pr_lineage.specs.Records.{is_living, records}
 use Rattle.pr_rules.specs.Evaluations.{GroupStep, group_step}
-use Rattle.pr_rules.specs.Groups.{Group, RuleState, is_named}
+use Rattle.pr_rules.specs.Groups.{Group, RuleState, is_group_named}
 use Rattle.pr_rules.specs.Reloads.{LoadedFile, ReloadStep, reload_step, rules_in}
 use Rattle.pr_rules.specs.Settings.{Settings}
 use Rattle.pr_world.specs.declared.event.NamedFile.{NamedFile}
@@ -24,27 +24,28 @@ use Rattle.pr_world.specs.World.{World}
 -- the groups, with one in the place of the first of its file and name
 abbrev pub with_group : List Group → Group → List Group
 with_group [] new = []
-with_group (g ∷ groups) new = cond (is_named new.file new.name g) (new ∷ groups) (g ∷ with_group groups new)
+with_group (g ∷ groups) new = cond (is_group_named new.file new.name g) (new ∷ groups) (g ∷ with_group groups new)
 
 -- What of the entries of an evaluation is admitted comes behind the history.
-abbrev pub evaluated : World → GroupStep → Outcome
-evaluated w step = accept (report.Evaluated step.report) step.report.admitted (groups_become (with_group w.groups step.group))
+abbrev pub evaluation_outcome : World → GroupStep → Outcome
+evaluation_outcome w step = accept (report.Evaluated step.report) step.report.admitted (groups_become (with_group w.groups step.group))
 
 -- a group is evaluated at rising times
 abbrev pub eval_after : Option ℕ → Settings → World → Group → ℕ → Outcome
-eval_after None s w g time = evaluated w (group_step s g w.history time)
-eval_after (Some last) s w g time = cond (nat_lt last time) (evaluated w (group_step s g w.history time)) (refuse (report.NotLater last))
+eval_after None s w g time = evaluation_outcome w (group_step s g w.history time)
+eval_after (Some last) s w g time = cond (nat_lt last time) (evaluation_outcome w (group_step s g w.history time)) (refuse (report.NotLater last))
 
 abbrev pub eval_by : Settings → World → ℕ → List ℕ → List ℕ → Option Group → Outcome
 eval_by s w time file name None = refuse (report.NoGroup file name)
 eval_by s w time file name (Some g) = eval_after g.last s w g time
 
 abbrev pub eval_outcome : Settings → World → ℕ → List ℕ → List ℕ → Outcome
-eval_outcome s w time file name = eval_by s w time file name (find (is_named file name) w.groups)
+eval_outcome s w time file name = eval_by s w time file name (find (is_group_named file name) w.groups)
 
 -- Reloads
 
--- a file that is refused is told by its first problem, and has one
+-- A file that is refused is told by its first problem. That it has one is a law of rule files
+-- (`a_refused_file_has_a_problem` of pr_rulefile).
 abbrev pub first_problem : List ℕ → List Problem → Result (List Definition) Report
 first_problem name [] = Ok []
 first_problem name (p ∷ ps) = Err (report.Refused name p.line p.kind)
@@ -53,26 +54,26 @@ abbrev pub groups_by : List ℕ → RuleReading → Result (List Definition) Rep
 groups_by name (gives_file groups) = Ok groups
 groups_by name (gives_problems list) = first_problem name list
 
-abbrev pub loaded : NamedFile → List Definition → LoadedFile
-loaded f groups = record { name = f.name; groups = groups }
+abbrev pub with_groups : NamedFile → List Definition → LoadedFile
+with_groups f groups = record { name = f.name; groups = groups }
 
 -- the files in order, up to the first that is no rule file
 abbrev pub all_loaded : List NamedFile → Result (List LoadedFile) Report
 all_loaded [] = Ok []
 all_loaded (f ∷ files) =
-    go_on (λ groups. go_on (λ rest. Ok (loaded f groups ∷ rest)) (all_loaded files)) (groups_by f.name (rule_file_of f.bytes))
+    go_on (λ groups. go_on (λ rest. Ok (with_groups f groups ∷ rest)) (all_loaded files)) (groups_by f.name (rule_file_of f.bytes))
 
-abbrev pub reloaded : World → ReloadStep → Outcome
-reloaded w step =
+abbrev pub reload_accepted : World → ReloadStep → Outcome
+reload_accepted w step =
     accept (report.Reloaded (length step.groups) (rules_in step.groups) (added_count w.history step.entries))
     (admitted w.history step.entries) (reloads step.groups)
 
-abbrev pub reload_by : World → ℕ → Result (List LoadedFile) Report → Outcome
-reload_by w time (Ok files) = reloaded w (reload_step w.reloaded w.groups time files)
-reload_by w time (Err refusal) = refuse refusal
+abbrev pub reload_outcome_by : World → ℕ → Result (List LoadedFile) Report → Outcome
+reload_outcome_by w time (Ok files) = reload_accepted w (reload_step w.reloaded w.groups time files)
+reload_outcome_by w time (Err refusal) = refuse refusal
 
 unfoldable pub reload_outcome : World → ℕ → List NamedFile → Outcome
-reload_outcome w time files = reload_by w time (all_loaded files)
+reload_outcome w time files = reload_outcome_by w time (all_loaded files)
 
 -- Alerts
 

@@ -17,14 +17,14 @@ ghost use Rattle.pr_world.specs.Step.{next};
 ghost use Rattle.pr_world.specs.World.{begin};
 
 /// A group is evaluated at rising times, and only where it is there.
-#[tactic(auto, unfolding(crate::specs::Step::next, pr_rules::specs::Evaluations::group_step, pr_rules::specs::Evaluations::rule_step, pr_rules::specs::Evaluations::outcome_of, pr_rules::specs::Results::result_of, pr_rules::specs::Reloads::reload_step, pr_match::specs::Matcher::meets, pr_match::specs::Matcher::meets_all, pr_num::specs::Order::compared))]
+#[tactic(auto, unfolding(crate::specs::Step::next, pr_rules::specs::Evaluations::group_step, pr_rules::specs::Evaluations::rule_step, pr_rules::specs::Evaluations::rule_outcome, pr_rules::specs::Results::rule_result, pr_rules::specs::Reloads::reload_step, pr_match::specs::Matcher::meets, pr_match::specs::Matcher::meets_all, pr_num::specs::Order::compared))]
 pub fn a_group_is_evaluated_at_rising_times()
     ensures not_later { told (loaded [] (group None 0 [])) (eval_at 0 ∷ []) (eval_at 0) ≡ report.NotLater 0 }
     ensures no_group { told (loaded [] (group None 0 [])) [] (Eval 0 file (codes "h")) ≡ report.NoGroup file (codes "h") }
 {}
 
 /// A rule that fails puts nothing and marks nothing, and the others go on.
-#[tactic(auto, unfolding(crate::specs::Step::next, pr_rules::specs::Evaluations::group_step, pr_rules::specs::Evaluations::rule_step, pr_rules::specs::Evaluations::outcome_of, pr_rules::specs::Results::result_of, pr_rules::specs::Reloads::reload_step, pr_match::specs::Matcher::meets, pr_match::specs::Matcher::meets_all, pr_num::specs::Order::compared, pr_num::specs::Arithmetic::product_of, pr_num::specs::Half::half, pr_num::specs::Half::half_abs))]
+#[tactic(auto, unfolding(crate::specs::Step::next, pr_rules::specs::Evaluations::group_step, pr_rules::specs::Evaluations::rule_step, pr_rules::specs::Evaluations::rule_outcome, pr_rules::specs::Results::rule_result, pr_rules::specs::Reloads::reload_step, pr_match::specs::Matcher::meets, pr_match::specs::Matcher::meets_all, pr_num::specs::Order::compared, pr_num::specs::Arithmetic::product_of, pr_num::specs::Half::half, pr_num::specs::Half::half_abs))]
 pub fn a_rule_that_fails_marks_nothing()
     ensures first { told_rules big [] (eval_at 0) ≡ big_fails }
     ensures second { told_rules big (eval_at 0 ∷ big_is 30000 1 ∷ []) (eval_at 30000)
@@ -34,7 +34,7 @@ pub fn a_rule_that_fails_marks_nothing()
 
 /// Where more alerts are pending and firing than the limit allows, all are dropped, and they begin
 /// anew. While a group waits, nothing is written of its alerts.
-#[tactic(auto, unfolding(crate::specs::Step::next, pr_rules::specs::Evaluations::group_step, pr_rules::specs::Evaluations::rule_step, pr_rules::specs::Evaluations::outcome_of, pr_rules::specs::Results::result_of, pr_rules::specs::Reloads::reload_step, pr_match::specs::Matcher::meets, pr_match::specs::Matcher::meets_all, pr_num::specs::Order::compared))]
+#[tactic(auto, unfolding(crate::specs::Step::next, pr_rules::specs::Evaluations::group_step, pr_rules::specs::Evaluations::rule_step, pr_rules::specs::Evaluations::rule_outcome, pr_rules::specs::Results::rule_result, pr_rules::specs::Reloads::reload_step, pr_match::specs::Matcher::meets, pr_match::specs::Matcher::meets_all, pr_num::specs::Order::compared))]
 pub fn too_many_alerts_are_dropped()
     ensures first { told_rules limited [] (eval_at 0) ≡ fine [] [] [] ∷ [] }
     ensures over { told_rules limited limit_is_met (eval_at 30000) ≡ failed (Fault 0 (rule.LimitExceeded 1 2)) ∷ [] }
@@ -44,14 +44,14 @@ pub fn too_many_alerts_are_dropped()
 {}
 
 /// Two elements that come to have the same labels, and more series than the limit allows.
-#[tactic(auto, unfolding(crate::specs::Step::next, pr_rules::specs::Evaluations::group_step, pr_rules::specs::Evaluations::rule_step, pr_rules::specs::Evaluations::outcome_of, pr_rules::specs::Results::result_of, pr_rules::specs::Reloads::reload_step, pr_match::specs::Matcher::meets, pr_match::specs::Matcher::meets_all, pr_num::specs::Order::compared))]
+#[tactic(auto, unfolding(crate::specs::Step::next, pr_rules::specs::Evaluations::group_step, pr_rules::specs::Evaluations::rule_step, pr_rules::specs::Evaluations::rule_outcome, pr_rules::specs::Results::rule_result, pr_rules::specs::Reloads::reload_step, pr_match::specs::Matcher::meets, pr_match::specs::Matcher::meets_all, pr_num::specs::Order::compared))]
 pub fn a_rule_has_faults_of_its_own()
     ensures same { told_rules colliding [] (eval_at 0) ≡ failed (Fault 0 (rule.SameAfterRule (series (codes "x") (codes "i") (codes "c")))) ∷ [] }
     ensures limit { told_rules too_many [] (eval_at 0) ≡ failed (Fault 0 (rule.LimitExceeded 1 2)) ∷ [] }
 {}
 
 /// An alert that fires is sent again after more than a minute, also while its group waits.
-#[tactic(auto, unfolding(crate::specs::Step::next, pr_rules::specs::Evaluations::group_step, pr_rules::specs::Evaluations::rule_step, pr_rules::specs::Evaluations::outcome_of, pr_rules::specs::Results::result_of, pr_rules::specs::Reloads::reload_step, pr_match::specs::Matcher::meets, pr_match::specs::Matcher::meets_all, pr_num::specs::Order::compared))]
+#[tactic(auto, unfolding(crate::specs::Step::next, pr_rules::specs::Evaluations::group_step, pr_rules::specs::Evaluations::rule_step, pr_rules::specs::Evaluations::rule_outcome, pr_rules::specs::Results::rule_result, pr_rules::specs::Reloads::reload_step, pr_match::specs::Matcher::meets, pr_match::specs::Matcher::meets_all, pr_num::specs::Order::compared))]
 pub fn an_alert_is_sent_again()
     ensures first { told_sent every_30s [] (eval_at 0) ≡ firing (codes "D") 0 240000 ∷ [] }
     ensures soon { told_sent every_30s (eval_at 0 ∷ []) (eval_at 30000) ≡ [] }
@@ -61,7 +61,7 @@ pub fn an_alert_is_sent_again()
 
 /// An alert is pending, fires and resolves. What is written of it follows, with markers for what
 /// is no longer so.
-#[tactic(auto, unfolding(crate::specs::Step::next, pr_rules::specs::Evaluations::group_step, pr_rules::specs::Evaluations::rule_step, pr_rules::specs::Evaluations::outcome_of, pr_rules::specs::Results::result_of, pr_rules::specs::Reloads::reload_step, pr_match::specs::Matcher::meets, pr_match::specs::Matcher::meets_all, pr_num::specs::Order::compared))]
+#[tactic(auto, unfolding(crate::specs::Step::next, pr_rules::specs::Evaluations::group_step, pr_rules::specs::Evaluations::rule_step, pr_rules::specs::Evaluations::rule_outcome, pr_rules::specs::Results::rule_result, pr_rules::specs::Reloads::reload_step, pr_match::specs::Matcher::meets, pr_match::specs::Matcher::meets_all, pr_num::specs::Order::compared))]
 pub fn an_alert_is_written_as_it_goes()
     ensures fires { told_rules for_3m (eval_at 0 ∷ eval_at 60000 ∷ eval_at 120000 ∷ []) (eval_at 180000)
         ≡ fine (put (alerts_series (codes "D") (codes "firing")) (number 1) ∷ put (for_state_series (codes "D")) (number 0) ∷ [])
@@ -71,7 +71,7 @@ pub fn an_alert_is_written_as_it_goes()
 {}
 
 /// An alert is kept firing for a time after it is over.
-#[tactic(auto, unfolding(crate::specs::Step::next, pr_rules::specs::Evaluations::group_step, pr_rules::specs::Evaluations::rule_step, pr_rules::specs::Evaluations::outcome_of, pr_rules::specs::Results::result_of, pr_rules::specs::Reloads::reload_step, pr_match::specs::Matcher::meets, pr_match::specs::Matcher::meets_all, pr_num::specs::Order::compared))]
+#[tactic(auto, unfolding(crate::specs::Step::next, pr_rules::specs::Evaluations::group_step, pr_rules::specs::Evaluations::rule_step, pr_rules::specs::Evaluations::rule_outcome, pr_rules::specs::Results::rule_result, pr_rules::specs::Reloads::reload_step, pr_match::specs::Matcher::meets, pr_match::specs::Matcher::meets_all, pr_num::specs::Order::compared))]
 pub fn an_alert_is_kept_firing()
     ensures kept { told_rules keeps_for_2m went_up (eval_at 120000) ≡ still_fires (firing (codes "D") 0 360000 ∷ []) }
     ensures still { told_rules keeps_for_2m (went_up ++ eval_at 120000 ∷ []) (eval_at 180000) ≡ still_fires [] }
@@ -81,7 +81,7 @@ pub fn an_alert_is_kept_firing()
 
 /// A reload that changes the labels of a rule leaves over what it wrote; one that changes the
 /// expression of an alert continues it; one without the group marks what it wrote at once.
-#[tactic(auto, unfolding(crate::specs::Step::next, pr_rules::specs::Evaluations::group_step, pr_rules::specs::Evaluations::rule_step, pr_rules::specs::Evaluations::outcome_of, pr_rules::specs::Results::result_of, pr_rules::specs::Reloads::reload_step, pr_match::specs::Matcher::meets, pr_match::specs::Matcher::meets_all, pr_num::specs::Order::compared))]
+#[tactic(auto, unfolding(crate::specs::Step::next, pr_rules::specs::Evaluations::group_step, pr_rules::specs::Evaluations::rule_step, pr_rules::specs::Evaluations::rule_outcome, pr_rules::specs::Results::rule_result, pr_rules::specs::Reloads::reload_step, pr_match::specs::Matcher::meets, pr_match::specs::Matcher::meets_all, pr_num::specs::Order::compared))]
 pub fn a_reload_continues_or_leaves_over()
     ensures told { (reload evaluated_once 1000 (labelled (codes "two") ∷ [])).report ≡ report.Reloaded 1 1 0 }
     ensures rule { told_rules (reload evaluated_once 1000 (labelled (codes "two") ∷ [])).world [] (eval_at 60000) ≡ fine (put (s_of (codes "two")) (number 1) ∷ []) [] [] ∷ [] }
@@ -95,7 +95,7 @@ pub fn a_reload_continues_or_leaves_over()
 /// At the end of its second evaluation the active time of an alert is restored from what was
 /// written of it, without the time in which nothing was written, but so that it fires after ten
 /// minutes at the earliest; and not where what was written is an hour old, or a marker.
-#[tactic(auto, unfolding(crate::specs::Step::next, pr_rules::specs::Evaluations::group_step, pr_rules::specs::Evaluations::rule_step, pr_rules::specs::Evaluations::outcome_of, pr_rules::specs::Results::result_of, pr_rules::specs::Reloads::reload_step, pr_match::specs::Matcher::meets, pr_match::specs::Matcher::meets_all, pr_num::specs::Order::compared))]
+#[tactic(auto, unfolding(crate::specs::Step::next, pr_rules::specs::Evaluations::group_step, pr_rules::specs::Evaluations::rule_step, pr_rules::specs::Evaluations::rule_outcome, pr_rules::specs::Results::rule_result, pr_rules::specs::Reloads::reload_step, pr_match::specs::Matcher::meets, pr_match::specs::Matcher::meets_all, pr_num::specs::Order::compared))]
 pub fn an_alert_is_restored()
     ensures first { told_restored (restoring (written_at 600000) 1800000) [] (eval_at 1800000) ≡ [] }
     ensures outage { told_restored (restoring (written_at 600000) 1800000) (eval_at 1800000 ∷ []) (eval_at 1860000) ≡ moved_to (codes "H") 1260000 ∷ [] }
@@ -110,7 +110,7 @@ pub fn an_alert_is_restored()
 
 /// A rule that puts the series of another one is refused its sample, and did not write it: so no
 /// marker follows.
-#[tactic(auto, unfolding(crate::specs::Step::next, pr_rules::specs::Evaluations::group_step, pr_rules::specs::Evaluations::rule_step, pr_rules::specs::Evaluations::outcome_of, pr_rules::specs::Results::result_of, pr_rules::specs::Reloads::reload_step, pr_match::specs::Matcher::meets, pr_match::specs::Matcher::meets_all, pr_num::specs::Order::compared, pr_num::specs::Arithmetic::sum_of, pr_num::specs::Total::value_of))]
+#[tactic(auto, unfolding(crate::specs::Step::next, pr_rules::specs::Evaluations::group_step, pr_rules::specs::Evaluations::rule_step, pr_rules::specs::Evaluations::rule_outcome, pr_rules::specs::Results::rule_result, pr_rules::specs::Reloads::reload_step, pr_match::specs::Matcher::meets, pr_match::specs::Matcher::meets_all, pr_num::specs::Order::compared, pr_num::specs::Arithmetic::sum_of, pr_num::specs::Total::value_of))]
 pub fn two_rules_record_one_series()
     ensures first { told_rules two_sums [] (eval_at 0)
         ≡ fine (put (named (codes "r")) (number 1) ∷ []) [] [] ∷ fine (record { labels = named (codes "r"); value = number 2; append = Conflict (whole 1) } ∷ []) [] [] ∷ [] }
@@ -119,7 +119,7 @@ pub fn two_rules_record_one_series()
 {}
 
 /// A sample that comes late is counted at the next evaluation.
-#[tactic(auto, unfolding(crate::specs::Step::next, pr_rules::specs::Evaluations::group_step, pr_rules::specs::Evaluations::rule_step, pr_rules::specs::Evaluations::outcome_of, pr_rules::specs::Results::result_of, pr_rules::specs::Reloads::reload_step, pr_match::specs::Matcher::meets, pr_match::specs::Matcher::meets_all, pr_num::specs::Order::compared, pr_vectors::specs::Ranges::over, pr_vectors::specs::Ranges::function_of, pr_num::specs::Total::value_of))]
+#[tactic(auto, unfolding(crate::specs::Step::next, pr_rules::specs::Evaluations::group_step, pr_rules::specs::Evaluations::rule_step, pr_rules::specs::Evaluations::rule_outcome, pr_rules::specs::Results::rule_result, pr_rules::specs::Reloads::reload_step, pr_match::specs::Matcher::meets, pr_match::specs::Matcher::meets_all, pr_num::specs::Order::compared, pr_vectors::specs::Ranges::over, pr_vectors::specs::Ranges::function_of, pr_num::specs::Total::value_of))]
 pub fn a_late_sample_is_seen()
     ensures first { told_rules counting [] (eval_at 60000) ≡ fine (put (series (codes "c") (codes "j") (codes "1")) (number 1) ∷ []) [] [] ∷ [] }
     ensures late { told_rules after_a_late_one [] (eval_at 120000)
@@ -127,7 +127,7 @@ pub fn a_late_sample_is_seen()
 {}
 
 /// A restart leaves the history alone.
-#[tactic(auto, unfolding(crate::specs::Step::next, pr_rules::specs::Evaluations::group_step, pr_rules::specs::Evaluations::rule_step, pr_rules::specs::Evaluations::outcome_of, pr_rules::specs::Results::result_of, pr_rules::specs::Reloads::reload_step, pr_match::specs::Matcher::meets, pr_match::specs::Matcher::meets_all, pr_num::specs::Order::compared))]
+#[tactic(auto, unfolding(crate::specs::Step::next, pr_rules::specs::Evaluations::group_step, pr_rules::specs::Evaluations::rule_step, pr_rules::specs::Evaluations::rule_outcome, pr_rules::specs::Results::rule_result, pr_rules::specs::Reloads::reload_step, pr_match::specs::Matcher::meets, pr_match::specs::Matcher::meets_all, pr_num::specs::Order::compared))]
 pub fn a_restart_drops_the_groups()
     ensures { (next of_a_run evaluated_once (Restart 7)).world ≡ begin (Some 7) evaluated_once.history }
 {}

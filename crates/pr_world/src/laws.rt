@@ -7,7 +7,7 @@ ghost use Rattle.pr_world.specs.declared.event.Event.{Event};
 ghost use Rattle.pr_rules.specs.Times.{IsTimely};
 ghost use Rattle.pr_world.specs.declared.event.Event.TheVariants.{Alerts, Query, Reload, Restart};
 ghost use Rattle.pr_world.specs.declared.event.NamedFile.{NamedFile};
-ghost use Rattle.pr_world.specs.Loading.{Holding, Naming, all_found, reload_asked};
+ghost use Rattle.pr_world.specs.Loading.{Holding, FileToLoad, all_found, reload_asked};
 ghost use Rattle.pr_world.specs.Outcome.{is_refusal};
 ghost use Rattle.pr_world.specs.Settings.{Settings};
 ghost use Rattle.pr_world.specs.Step.{changes_groups, changes_targets, next, time_of, world_after, rows_of};
@@ -53,7 +53,7 @@ pub fn a_history_is_its_rows()
 #[tactic(auto, using(crate::proofs::Refusals::refusal_is_told, crate::proofs::Refusals::refused_files_are_told))]
 pub fn a_refusal_is_told()
     ensures event { (s : Settings) (w : World) (e : Event) → is_refusal (next s w e).report ≡ (next s w e).refused }
-    ensures files { (s : Settings) (w : World) (time : ℕ) (content : List ℕ → Holding) (names : List Naming)
+    ensures files { (s : Settings) (w : World) (time : ℕ) (content : List ℕ → Holding) (names : List FileToLoad)
         → is_refusal (reload_asked s w time content names).report ≡ (reload_asked s w time content names).refused }
 {}
 
@@ -61,7 +61,7 @@ pub fn a_refusal_is_told()
 /// files.
 #[tactic(auto, using(crate::proofs::Refusals::reload_of_found))]
 pub fn files_that_are_found_are_reloaded()
-    ensures { (s : Settings) (w : World) (time : ℕ) (content : List ℕ → Holding) (names : List Naming) (files : List NamedFile) → all_found content names ≡ Ok files
+    ensures { (s : Settings) (w : World) (time : ℕ) (content : List ℕ → Holding) (names : List FileToLoad) (files : List NamedFile) → all_found content names ≡ Ok files
         → reload_asked s w time content names ≡ next s w (Reload time files) }
 {}
 

@@ -3,7 +3,7 @@
 #![tactic(auto)]
 
 use pr_outside::{DiskFiles, StdSink, StdSource, SureKeeper};
-use pr_status::{exit_of, words_of};
+use pr_status::{RuntimeLine, exit_of, words_of};
 use pr_top::{Status, promtool};
 use std::alloc::Global;
 use std::process::ExitCode;
@@ -18,7 +18,7 @@ fn run(alloc: Global, rt: &HostRuntime, words: &[String]) -> Status {
 
 fn main(rt: HostRuntime) -> ExitCode {
     let alloc = rt.alloc();
-    match words_of(alloc, &rt) {
+    match words_of(alloc, &RuntimeLine::new(&rt)) {
         Ok(words) => exit_of(run(alloc, &rt, &words)),
         Err(_) => exit_of(Status::Memory),
     }

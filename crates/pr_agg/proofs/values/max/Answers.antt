@@ -1,7 +1,8 @@
 use Rattle.std.proofs.Common.{rules, Ok, ◌≡◌}
 use Rattle.pr_vectors.specs.Aggregation.{of_groups, always, greatest_of_values}
 use Rattle.pr_vectors.specs.Vectors.{IsVector}
-use Rattle.pr_agg.specs.Extremes.{greater, itself}
+use Rattle.pr_folds.specs.Extremes.{greater}
+use Rattle.pr_agg.specs.Alone.{itself}
 use Rattle.pr_agg.specs.Finished.{value_finished}
 use Rattle.pr_agg.specs.Parts.{fold_and_finish}
 use Rattle.pr_agg.proofs.Answered.{always_answered, carried}

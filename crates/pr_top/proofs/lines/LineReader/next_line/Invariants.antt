@@ -1,8 +1,9 @@
 use Rattle.std.proofs.Common.{◌≡◌, ◌+◌, ◌-◌, ◌^◌, ◌≤◌, ◌<◌, true, length}
 use Rattle.std.specs.List.{list_all}
 use Rattle.std.specs.Io.KnownBytes.{Consumes}
+use Rattle.pr_outside.specs.declared.course.Course.{Course}
 use Rattle.pr_top.specs.Taken.{is_no_feed}
-use Rattle.pr_top.specs.LineReading.{held, KnowsEnd, ahead, Counts}
+use Rattle.pr_top.specs.LineReading.{held, KnowsEnd, ahead, Counts, IsReadOn}
 use Rattle.pr_top.proofs.lines.LineReader.next_line.Given as goal
 
 -- the line so far, and what is still to come, are what was to come
@@ -12,10 +13,11 @@ invariant-joining g l = record {
   bytes : l.self.count + length (held l.fn.self) ≡ l.fn.self.count + (length l.line.items + length (held l.self));
   count : l.self.count < 2 ^ 32 + 4096;
   unended : list_all is_no_feed l.line.items ≡ true;
-  joined : Consumes (ahead (held l.fn.self) (g.I.Source.left l.fn.input)) (ahead (held l.self) (g.I.Source.left l.input)) l.line.items;
-  end : KnowsEnd l.self (g.I.Source.left l.input);
-  counts : Counts (g.I.Source.left l.fn.input) (g.I.Source.left l.input) l.fn.self.count l.self.count;
-  calm : g.I.Source.faults l.input ≡ g.I.Source.faults l.fn.input;
+  joined : Consumes (ahead (held l.fn.self) (g.I.Source.means l.fn.input).left) (ahead (held l.self) (g.I.Source.means l.input).left) l.line.items;
+  end : KnowsEnd l.self (g.I.Source.means l.input).left;
+  counts : Counts (g.I.Source.means l.fn.input).left (g.I.Source.means l.input).left l.fn.self.count l.self.count;
+  reads : (first : Course) → IsReadOn first l.fn.self.ended (g.I.Source.means l.fn.input).course → IsReadOn first l.self.ended (g.I.Source.means l.input).course;
+  calm : (g.I.Source.means l.input).faults ≡ (g.I.Source.means l.fn.input).faults;
 }
 
 abbrev pub decreases-joining : goal.decreases-joining

@@ -1,0 +1,6 @@
+pub mod Extremes
+pub mod Summaries
+pub mod Answering
+pub mod Fractions
+pub mod Stretching
+pub mod Stretched

@@ -1,0 +1,15 @@
+//! The folds of the values of a range, and what functions of a range are of the summaries.
+#![tactic(auto)]
+
+mod answers;
+mod folds;
+mod gains;
+mod laws;
+mod neighbours;
+mod parts;
+
+pub use answers::{from_neighbours, from_total};
+pub use folds::{Greatest, Least, Sequence, Totals};
+pub use laws::{greatest_tells, least_tells, sequences_tell, totals_tell};
+pub use neighbours::Neighbours;
+pub use parts::{beside, greater, joined, lesser, spot_alone, total_alone, value_alone};
