@@ -110,8 +110,10 @@ impl Records {
         self.list = Vec::new(self.alloc);
     }
 
-    /// Takes what the rule's expression gives at a time that is above those of the evaluations
-    /// before it. The work grows with the number of records and elements.
+    /// Takes what the rule's expression gives, in label order, at a time that is above those of the
+    /// evaluations before it. An alert fires once it is active for the span `hold`, and is kept
+    /// firing for the span `keep` after it went missing; a `limit` of 0 is none. The work grows with
+    /// the number of records and elements. (Prometheus: Alerting rules.)
     ///
     /// # Errors
     /// `LimitExceeded` exactly where the limit is not 0 and the pending and firing alerts would be
@@ -148,7 +150,8 @@ impl Records {
         Ok(())
     }
 
-    /// What is written of the records, in label order, each label set once.
+    /// What is written of the pending and firing records, in label order, each label set once.
+    /// (Prometheus: Alerting rules, Inspecting alerts during runtime.)
     ///
     /// # Errors
     /// Want of memory.
@@ -159,7 +162,8 @@ impl Records {
         samples_of_all(self.alloc, &self.list)
     }
 
-    /// Whether the alert of a record is to be sent at a time.
+    /// Whether the alert of a record is to be sent at a time. (Prometheus: rules/alerting.go,
+    /// needsSending.)
     pub fn due(&self, index: usize, time: Ms) -> bool
         requires { index < length self.now }
         ensures { (r : Record) → slice_get self.now index ≡ Some r → result ≡ is_due time r }
@@ -185,7 +189,7 @@ impl Records {
 
     /// Moves the active time of a pending or firing alert to what follows from the newest sample of
     /// the series in which it was written, its point and its time. Nothing else changes. It answers
-    /// whether the active time was set.
+    /// whether the active time was set. (Prometheus: RestoreForState of its rules.)
     pub fn restore(&mut self, index: usize, point: &Point, down: Ms, now: Ms, hold: Span) -> bool
         requires in_range { index < length self.old }
         requires before { down ≤ now }

@@ -18,12 +18,16 @@ fn halves(line: &str) -> (&str, &str) {
     line.split_once(" => ").unwrap_or((line, ""))
 }
 
-// Whether the lines that were answered are those that are wanted.
-fn is_wanted(told: &str, wanted: &str) -> bool {
-    if wanted.is_empty() {
-        return told.is_empty();
+// The lines of an answer, apart by ` / `.
+fn joined(alloc: Global, lines: &str) -> Result<String, AllocError> {
+    let mut text = String::new(alloc);
+    for line in lines.lines() {
+        if !text.is_empty() {
+            text.push_str(" / ")?;
+        }
+        text.push_str(line)?;
     }
-    told.lines().eq(wanted.split(" / "))
+    Ok(text)
 }
 
 /// The first line of a row that is answered otherwise, with its answer.
@@ -32,8 +36,8 @@ pub(crate) fn difference(alloc: Global, row: &str) -> Result<Option<String>, All
     let mut rule = Rule::new(alloc);
     for line in lines.lines() {
         let (order, wanted) = halves(line);
-        let told = rule.take(alloc, order)?;
-        if !is_wanted(&told, wanted) {
+        let told = joined(alloc, &rule.take(alloc, order)?)?;
+        if told.as_str() != wanted {
             return Ok(Some(format!(in alloc; "{name}: {order} => {told}")?));
         }
     }

@@ -203,10 +203,13 @@ impl Rule {
         if hold.get() < 600_000 || down.get() > now.get() || index >= self.records.list().len() {
             return Ok(());
         }
-        if self.records.restore(index, sample, down, now, hold) {
-            push_restored(alloc, told, &self.records.list()[index])?;
+        if !self.records.restore(index, sample, down, now, hold) {
+            return Ok(());
         }
-        Ok(())
+        match self.records.list().get(index) {
+            Some(record) => push_restored(alloc, told, record),
+            None => Ok(()),
+        }
     }
 
     fn restore_all(

@@ -1,5 +1,5 @@
 -- What a check promises, by how it ended.
-use Rattle.std.proofs.Common.{◌≡◌, ◌≢◌, ℕ, ◌<◌, ◌≤◌, ◌^◌, Bool, true, false, List, [], Option, Some, None, IfSome, Result, Ok, Err, IfOk, ◌⊎◌, inl, inr, refl, sym, ap, ◌∙◌, subst, length, take, arith}
+use Rattle.std.proofs.Common.{◌≡◌, ◌≢◌, ℕ, ◌<◌, ◌≤◌, ◌^◌, Bool, List, [], Some, IfSome, Result, Ok, Err, IfOk, inl, inr, ap, ◌∙◌, length, take, arith}
 use Rattle.std.specs.Io.KnownBytes.{Appends}
 use Rattle.pr_status.specs.Ends.{Ends, AtInput, KnowsLength, no_row, place_of, status_of, stop_status}
 use Rattle.pr_status.specs.Outside.{Outside, AreCalm, Held, AreTold}
@@ -7,7 +7,6 @@ use Rattle.pr_status.specs.Status.{IsLong, verdict}
 use Rattle.pr_status.specs.declared.status.Status.{Status}
 use Rattle.pr_status.specs.declared.status.Status.TheVariants as status
 use Rattle.pr_status.specs.declared.status.Stop.{Stop}
-use Rattle.pr_status.specs.declared.status.Stop.TheVariants.{Memory, TooLong}
 use Rattle.pr_check_loops.specs.Checks.{Checked, ends, ends_by}
 use Rattle.pr_check_loops.specs.FileChecks.{Telling, MeansFileCheck, IsFilesFront, AreChecked, all_told, all_asks, any_refused, texts}
 use Rattle.pr_check_loops.specs.InputChecks.{MeansInputCheck, IsWholeCheck}

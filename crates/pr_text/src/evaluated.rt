@@ -1,13 +1,14 @@
 // The printed lines of an evaluation, and of the alerts that are asked for.
 #![tactic(auto, using(pr_labels::proofs::Fronts::front_on, pr_strings::proofs::Fronts::front_after))]
 
-ghost use Rattle.std.specs.Prelude.{◌≡◌, ◌++◌, ◌+◌, OnOk, codes, flat_map, length, take};
+ghost use Rattle.std.specs.Prelude.{◌≡◌, ◌++◌, ◌+◌, OnOk, codes, decimal, flat_map, length, take};
+ghost use Rattle.pr_num.specs.Shown.{shown};
 ghost use Rattle.pr_labels.specs.SeriesText.{series_text};
 ghost use Rattle.pr_kinds.specs.Kinds.{number_text};
 ghost use Rattle.pr_lineage.specs.Records.{state_text};
 ghost use Rattle.pr_text.specs.Answers.{evaluated_rules, limit_exceeded, late_after, same_after_rule, send_firing, send_resolved};
 ghost use Rattle.pr_text.specs.Evaluated.{alert_text, alerts_text, conflict_line, counts_text, evaluated_text, fault_count, has_failed, late_line, note_line, outcome_text, put_line, put_line_by, restored_line, rule_fault_text, rule_lines, rules_text, sample_line, sending_line, sending_lines, sending_word, stale_line};
-ghost use Rattle.pr_text.specs.Values.{place_text};
+ghost use Rattle.pr_text.specs.Values.{place_text, shown_point};
 
 use crate::faults::push_fault_kind;
 use crate::values::{push_place, push_point, push_value};
@@ -72,14 +73,45 @@ fn push_send_resolved(text: &mut Vec<u8>) -> Result<(), AllocError>
 
 // Samples
 
+fn push_sample_series(text: &mut Vec<u8>, labels: &Labels) -> Result<(), AllocError>
+    ensures ok { OnOk result (text.new.items ≡ text.old.items ++ (codes "sample " ++ series_text labels.now)) }
+    ensures front { take (length text.old.items) text.new.items ≡ text.old.items }
+{
+    text.extend_from_slice(b"sample ")?;
+    labels.write(text)
+}
+
+fn push_after_series(text: &mut Vec<u8>, value: Num) -> Result<(), AllocError>
+    ensures ok { OnOk result (text.new.items ≡ text.old.items ++ (codes " " ++ shown value ++ codes "\n")) }
+    ensures front { take (length text.old.items) text.new.items ≡ text.old.items }
+{
+    text.extend_from_slice(b" ")?;
+    push_value(text, value)?;
+    text.extend_from_slice(b"\n")
+}
+
 fn push_sample(text: &mut Vec<u8>, labels: &Labels, value: Num) -> Result<(), AllocError>
     ensures ok { OnOk result (text.new.items ≡ text.old.items ++ sample_line labels.now value) }
     ensures front { take (length text.old.items) text.new.items ≡ text.old.items }
 {
-    text.extend_from_slice(b"sample ")?;
-    labels.write(text)?;
-    text.extend_from_slice(b" ")?;
-    push_value(text, value)?;
+    push_sample_series(text, labels)?;
+    push_after_series(text, value)
+}
+
+fn push_dropped(text: &mut Vec<u8>, labels: &Labels) -> Result<(), AllocError>
+    ensures ok { OnOk result (text.new.items ≡ text.old.items ++ (codes "dropped " ++ series_text labels.now)) }
+    ensures front { take (length text.old.items) text.new.items ≡ text.old.items }
+{
+    text.extend_from_slice(b"dropped ")?;
+    labels.write(text)
+}
+
+fn push_last(text: &mut Vec<u8>, last: Ms) -> Result<(), AllocError>
+    ensures ok { OnOk result (text.new.items ≡ text.old.items ++ (late_after ++ decimal last ++ codes "\n")) }
+    ensures front { take (length text.old.items) text.new.items ≡ text.old.items }
+{
+    push_late_after(text)?;
+    push_number(text, last.get())?;
     text.extend_from_slice(b"\n")
 }
 
@@ -87,10 +119,16 @@ fn push_late(text: &mut Vec<u8>, labels: &Labels, last: Ms) -> Result<(), AllocE
     ensures ok { OnOk result (text.new.items ≡ text.old.items ++ late_line labels.now last) }
     ensures front { take (length text.old.items) text.new.items ≡ text.old.items }
 {
-    text.extend_from_slice(b"dropped ")?;
-    labels.write(text)?;
-    push_late_after(text)?;
-    push_number(text, last.get())?;
+    push_dropped(text, labels)?;
+    push_last(text, last)
+}
+
+fn push_kept(text: &mut Vec<u8>, kept: Point) -> Result<(), AllocError>
+    ensures ok { OnOk result (text.new.items ≡ text.old.items ++ (codes " Conflict " ++ shown_point kept ++ codes "\n")) }
+    ensures front { take (length text.old.items) text.new.items ≡ text.old.items }
+{
+    text.extend_from_slice(b" Conflict ")?;
+    push_point(text, kept)?;
     text.extend_from_slice(b"\n")
 }
 
@@ -98,11 +136,8 @@ fn push_conflicting(text: &mut Vec<u8>, labels: &Labels, kept: Point) -> Result<
     ensures ok { OnOk result (text.new.items ≡ text.old.items ++ conflict_line labels.now kept) }
     ensures front { take (length text.old.items) text.new.items ≡ text.old.items }
 {
-    text.extend_from_slice(b"dropped ")?;
-    labels.write(text)?;
-    text.extend_from_slice(b" Conflict ")?;
-    push_point(text, kept)?;
-    text.extend_from_slice(b"\n")
+    push_dropped(text, labels)?;
+    push_kept(text, kept)
 }
 
 fn push_put(text: &mut Vec<u8>, put: &Put) -> Result<(), AllocError>
@@ -152,9 +187,9 @@ fn push_note(text: &mut Vec<u8>, note: &Pair) -> Result<(), AllocError>
     ensures front { take (length text.old.items) text.new.items ≡ text.old.items }
 {
     text.extend_from_slice(b"note ")?;
-    text.extend_from_slice(note.name.as_bytes())?;
+    text.extend_from_slice(note.name.as_str().as_bytes())?;
     text.extend_from_slice(b" ")?;
-    write_string(note.value.as_bytes(), text)?;
+    write_string(note.value.as_str().as_bytes(), text)?;
     text.extend_from_slice(b"\n")
 }
 
@@ -179,19 +214,40 @@ fn push_sending_word(text: &mut Vec<u8>, firing: bool) -> Result<(), AllocError>
     }
 }
 
+fn push_sent(text: &mut Vec<u8>, firing: bool, labels: &Labels) -> Result<(), AllocError>
+    ensures ok { OnOk result (text.new.items ≡ text.old.items ++ (sending_word firing ++ series_text labels.now)) }
+    ensures front { take (length text.old.items) text.new.items ≡ text.old.items }
+{
+    push_sending_word(text, firing)?;
+    labels.write(text)
+}
+
+fn push_sent_value(text: &mut Vec<u8>, value: Num) -> Result<(), AllocError>
+    ensures ok { OnOk result (text.new.items ≡ text.old.items ++ (codes " value " ++ shown value)) }
+    ensures front { take (length text.old.items) text.new.items ≡ text.old.items }
+{
+    text.extend_from_slice(b" value ")?;
+    push_value(text, value)
+}
+
+fn push_times(text: &mut Vec<u8>, starts: Ms, ends: u64) -> Result<(), AllocError>
+    ensures ok { OnOk result (text.new.items ≡ text.old.items ++ (codes " starts " ++ decimal starts ++ codes " ends " ++ decimal ends ++ codes "\n")) }
+    ensures front { take (length text.old.items) text.new.items ≡ text.old.items }
+{
+    text.extend_from_slice(b" starts ")?;
+    push_number(text, starts.get())?;
+    text.extend_from_slice(b" ends ")?;
+    push_number(text, ends)?;
+    text.extend_from_slice(b"\n")
+}
+
 fn push_sending(text: &mut Vec<u8>, sending: &Sending) -> Result<(), AllocError>
     ensures ok { OnOk result (text.new.items ≡ text.old.items ++ sending_line sending.now) }
     ensures front { take (length text.old.items) text.new.items ≡ text.old.items }
 {
-    push_sending_word(text, sending.firing)?;
-    sending.labels.write(text)?;
-    text.extend_from_slice(b" value ")?;
-    push_value(text, sending.value)?;
-    text.extend_from_slice(b" starts ")?;
-    push_number(text, sending.starts.get())?;
-    text.extend_from_slice(b" ends ")?;
-    push_number(text, sending.ends)?;
-    text.extend_from_slice(b"\n")
+    push_sent(text, sending.firing, &sending.labels)?;
+    push_sent_value(text, sending.value)?;
+    push_times(text, sending.starts, sending.ends)
 }
 
 fn push_noted(text: &mut Vec<u8>, sending: &Sending) -> Result<(), AllocError>
@@ -261,16 +317,34 @@ fn push_outcome(text: &mut Vec<u8>, outcome: &RuleOutcome) -> Result<(), AllocEr
     }
 }
 
-fn push_rule(text: &mut Vec<u8>, number: u64, rule: &RuleReport) -> Result<(), AllocError>
-    ensures ok { OnOk result (text.new.items ≡ text.old.items ++ rule_lines number rule.now) }
+fn push_rule_outcome(
+    text: &mut Vec<u8>,
+    number: u64,
+    outcome: &RuleOutcome,
+) -> Result<(), AllocError>
+    ensures ok { OnOk result (text.new.items ≡ text.old.items ++ (codes "rule " ++ decimal number ++ outcome_text outcome.now)) }
     ensures front { take (length text.old.items) text.new.items ≡ text.old.items }
 {
     text.extend_from_slice(b"rule ")?;
     push_number(text, number)?;
-    push_outcome(text, &rule.outcome)?;
+    push_outcome(text, outcome)
+}
+
+fn push_rule_lines(text: &mut Vec<u8>, rule: &RuleReport) -> Result<(), AllocError>
+    ensures ok { OnOk result (text.new.items ≡ text.old.items ++ (flat_map put_line rule.now.samples ++ flat_map stale_line rule.now.stale ++ flat_map sending_lines rule.now.sent)) }
+    ensures front { take (length text.old.items) text.new.items ≡ text.old.items }
+{
     push_puts(text, rule.samples.as_slice())?;
     push_stale_lines(text, rule.stale.as_slice())?;
     push_sendings(text, rule.sent.as_slice())
+}
+
+fn push_rule(text: &mut Vec<u8>, number: u64, rule: &RuleReport) -> Result<(), AllocError>
+    ensures ok { OnOk result (text.new.items ≡ text.old.items ++ rule_lines number rule.now) }
+    ensures front { take (length text.old.items) text.new.items ≡ text.old.items }
+{
+    push_rule_outcome(text, number, &rule.outcome)?;
+    push_rule_lines(text, rule)
 }
 
 fn push_rules(text: &mut Vec<u8>, rules: &[RuleReport]) -> Result<(), AllocError>
@@ -338,15 +412,23 @@ fn push_counts(text: &mut Vec<u8>, rules: &[RuleReport]) -> Result<(), AllocErro
     text.extend_from_slice(b"\n")
 }
 
+// What is told after the rules.
+fn push_end(text: &mut Vec<u8>, group: &GroupReport) -> Result<(), AllocError>
+    ensures ok { OnOk result (text.new.items ≡ text.old.items ++ (flat_map stale_line group.now.leftovers ++ flat_map restored_line group.now.restored ++ counts_text group.now.rules)) }
+    ensures front { take (length text.old.items) text.new.items ≡ text.old.items }
+{
+    push_stale_lines(text, group.leftovers.as_slice())?;
+    push_all_restored(text, group.restored.as_slice())?;
+    push_counts(text, group.rules.as_slice())
+}
+
 // The lines of an evaluation, without memory a part of them.
 pub(crate) fn push_evaluated(text: &mut Vec<u8>, group: &GroupReport) -> Result<(), AllocError>
     ensures ok { OnOk result (text.new.items ≡ text.old.items ++ evaluated_text group.now) }
     ensures front { take (length text.old.items) text.new.items ≡ text.old.items }
 {
     push_rules(text, group.rules.as_slice())?;
-    push_stale_lines(text, group.leftovers.as_slice())?;
-    push_all_restored(text, group.restored.as_slice())?;
-    push_counts(text, group.rules.as_slice())
+    push_end(text, group)
 }
 
 // Alerts
@@ -361,19 +443,40 @@ fn state_text(state: State) -> &'static str
     }
 }
 
+fn push_state(text: &mut Vec<u8>, state: State) -> Result<(), AllocError>
+    ensures ok { OnOk result (text.new.items ≡ text.old.items ++ (codes "alert " ++ state_text state ++ codes " ")) }
+    ensures front { take (length text.old.items) text.new.items ≡ text.old.items }
+{
+    text.extend_from_slice(b"alert ")?;
+    text.extend_from_slice(state_text(state).as_bytes())?;
+    text.extend_from_slice(b" ")
+}
+
+fn push_active(text: &mut Vec<u8>, labels: &Labels, active: Ms) -> Result<(), AllocError>
+    ensures ok { OnOk result (text.new.items ≡ text.old.items ++ (series_text labels.now ++ codes " active " ++ decimal active)) }
+    ensures front { take (length text.old.items) text.new.items ≡ text.old.items }
+{
+    labels.write(text)?;
+    text.extend_from_slice(b" active ")?;
+    push_number(text, active.get())
+}
+
+fn push_alert_value(text: &mut Vec<u8>, value: Num) -> Result<(), AllocError>
+    ensures ok { OnOk result (text.new.items ≡ text.old.items ++ (codes " value " ++ shown value ++ codes "\n")) }
+    ensures front { take (length text.old.items) text.new.items ≡ text.old.items }
+{
+    text.extend_from_slice(b" value ")?;
+    push_value(text, value)?;
+    text.extend_from_slice(b"\n")
+}
+
 fn push_alert(text: &mut Vec<u8>, alert: &AlertLine) -> Result<(), AllocError>
     ensures ok { OnOk result (text.new.items ≡ text.old.items ++ alert_text alert.now) }
     ensures front { take (length text.old.items) text.new.items ≡ text.old.items }
 {
-    text.extend_from_slice(b"alert ")?;
-    text.extend_from_slice(state_text(alert.state).as_bytes())?;
-    text.extend_from_slice(b" ")?;
-    alert.labels.write(text)?;
-    text.extend_from_slice(b" active ")?;
-    push_number(text, alert.active.get())?;
-    text.extend_from_slice(b" value ")?;
-    push_value(text, alert.value)?;
-    text.extend_from_slice(b"\n")
+    push_state(text, alert.state)?;
+    push_active(text, &alert.labels, alert.active)?;
+    push_alert_value(text, alert.value)
 }
 
 fn push_all_alerts(text: &mut Vec<u8>, alerts: &[AlertLine]) -> Result<(), AllocError>

@@ -1,18 +1,17 @@
 -- What the reader of lines hands out, step by step.
-use Rattle.std.proofs.Common.{◌≡◌, ◌≢◌, ℕ, ◌+◌, ◌≤◌, ◌^◌, Bool, true, false, true≢false, not, ◌==◌, List, [], ◌∷◌, ◌++◌, None, Some, Result, Ok, Err, IsErrAnd, zero, suc, ◌<◌, take, drop, take-append-drop, refl, sym, ap, ◌∙◌, subst, append_assoc, append-nil, length, length-append, codes, arith}
-use Rattle.std.proofs.lemmas.List.{drop-drop}
+use Rattle.std.proofs.Common.{◌≡◌, ◌≢◌, ℕ, ◌+◌, ◌≤◌, ◌^◌, Bool, true, false, true≢false, not, ◌==◌, List, [], ◌∷◌, ◌++◌, None, Some, Result, Ok, Err, IsErrAnd, suc, refl, sym, ap, ◌∙◌, subst, append_assoc, length, length-append, arith}
 use Rattle.std.specs.declared.option.Option.{Option}
 use Rattle.std.specs.List.{list_all}
 use Rattle.std.specs.Io.KnownBytes.{Consumes, Keeps, IsAtEnd}
-use Rattle.pr_outside.specs.Courses.{GoesOn, IsInTime, course_after}
+use Rattle.pr_outside.specs.Courses.{IsInTime, course_after}
 use Rattle.pr_outside.specs.declared.course.Course.{Course}
 use Rattle.pr_outside.specs.declared.course.Course.TheVariants.{Going, Over, Late}
-use Rattle.pr_top.specs.Taken.{is_no_feed, are_whole_lines}
-use Rattle.pr_top.specs.LineReading.{ahead, without_feed, TakesPart, IsLine, IsNext, HandsLine, Counts, IsCutLine, IsBeyond, IsReadOn}
 use Rattle.pr_status.specs.Ends.{AtInput}
 use Rattle.pr_status.proofs.Ended.{in_time_same}
 use Rattle.pr_status.specs.declared.status.Stop.{Stop}
 use Rattle.pr_status.specs.declared.status.Stop.TheVariants.{Read, Load, Store, BadRow, Write, Memory, TooLong}
+use Rattle.pr_top.specs.Taken.{is_no_feed}
+use Rattle.pr_top.specs.LineReading.{ahead, TakesPart, IsLine, IsNext, HandsLine, Counts, IsCutLine, IsBeyond, IsReadOn}
 use Rattle.pr_top.proofs.Feeds.{unended-append, some_left, without_feed-fed, unended_line}
 use Rattle.pr_top.proofs.Whole.{whole_fed}
 

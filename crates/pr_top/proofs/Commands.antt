@@ -1,12 +1,15 @@
 -- What each command promises, by how it ended; and the cause of its status.
-use Rattle.std.proofs.Common.{◌≡◌, ◌≢◌, ℕ, ◌<◌, ◌≤◌, ◌^◌, Bool, List, [], None, Some, IfSome, Option, Result, Ok, Err, IfOk, OnOk, inl, inr, refl, sym, ap, ◌∙◌, subst, length, take, arith}
+use Rattle.std.proofs.Common.{◌≡◌, ◌≢◌, ℕ, ◌<◌, ◌≤◌, ◌^◌, Bool, List, [], None, Some, IfSome, Result, Ok, Err, IfOk, OnOk, inl, inr, refl, sym, ap, ◌∙◌, subst, length, take, arith}
 use Rattle.std.specs.Io.KnownBytes.{Appends}
 use Rattle.pr_status.specs.Ends.{Ends, KnowsLength, no_row, place_of, status_of, stop_status}
-use Rattle.pr_status.specs.Outside.{Outside, AreCalm, Held, AreTold}
+use Rattle.pr_status.specs.Outside.{Outside, AreCalm, Held}
 use Rattle.pr_status.specs.Status.{HasCause, IsLong, verdict}
 use Rattle.pr_status.specs.declared.status.Status.{Status}
 use Rattle.pr_status.specs.declared.status.Status.TheVariants as status
 use Rattle.pr_status.specs.declared.status.Stop.{Stop}
+use Rattle.pr_status.proofs.Causes.{ending_cause, stop_cause}
+use Rattle.pr_status.proofs.Ended.{calm_stop}
+use Rattle.pr_status.proofs.Telling.{at_told, long_not_short, on_told, status_is}
 use Rattle.pr_check_loops.specs.Checks.{Checked, ends_by}
 use Rattle.pr_check_loops.specs.FileChecks.{MeansFileCheck, Telling}
 use Rattle.pr_check_loops.specs.InputChecks.{MeansInputCheck}
@@ -14,10 +17,7 @@ use Rattle.pr_check_loops.specs.declared.verdict.Verdict.{Verdict}
 use Rattle.pr_check_loops.specs.declared.verdict.Verdict.TheVariants.{Good, Complaints, Refused}
 use Rattle.pr_top.specs.Front.{IsFront}
 use Rattle.pr_top.specs.Means.{IsWholeRun, MeansRun, MeansUsage, RunsOver, usage_status}
-use Rattle.pr_top.specs.Told.{answers_to, asks_of, refuses, told}
-use Rattle.pr_status.proofs.Causes.{ending_cause, stop_cause}
-use Rattle.pr_status.proofs.Ended.{calm_stop}
-use Rattle.pr_status.proofs.Telling.{at_told, long_not_short, on_told, status_is}
+use Rattle.pr_top.specs.Told.{answers_to, refuses, told}
 
 -- `run`
 

@@ -1,5 +1,5 @@
 -- Lines, by their line feeds.
-use Rattle.std.proofs.Common.{◌≡◌, ◌≢◌, ℕ, Bool, true, false, true≢false, not, ◌&&◌, eqb, cond, ◌==◌, ◌≤◌, arith, List, [], ◌∷◌, ◌++◌, length, refl, sym, ap, ◌∙◌, subst, append-nil}
+use Rattle.std.proofs.Common.{◌≡◌, ◌≢◌, ℕ, Bool, true, false, true≢false, not, ◌&&◌, eqb, cond, ◌==◌, ◌≤◌, arith, List, [], ◌∷◌, ◌++◌, length, refl, sym, ap, ◌∙◌, subst}
 use Rattle.std.specs.List.{list_all, onto_first}
 use Rattle.pr_words.specs.Lines.{lines_of}
 use Rattle.pr_top.specs.LineReading.{without_feed, IsLine}

@@ -6,20 +6,20 @@ use Rattle.std.specs.declared.option.Option.{Option}
 use Rattle.std.specs.Io.KnownBytes.{Appends}
 use Rattle.pr_words.specs.Lines.{lines_of}
 use Rattle.pr_history.specs.declared.entry.Entry.{Entry}
-use Rattle.pr_status.specs.Asks.{AsksAt, asked_by}
+use Rattle.pr_text.specs.declared.order.Numbered.{Numbered}
+use Rattle.pr_text.specs.Orders.{orders_of, orders_after}
+use Rattle.pr_text.proofs.Blocks.{orders_none}
+use Rattle.pr_status.specs.Asks.{asked_by}
 use Rattle.pr_status.specs.Ends.{Place, at_input, at_file}
 use Rattle.pr_status.specs.Outside.{Held, Outside}
 use Rattle.pr_status.specs.Status.{IsLong, IsShort}
-use Rattle.pr_text.specs.declared.order.Numbered.{Numbered}
-use Rattle.pr_text.specs.Orders.{orders_of, orders_after}
+use Rattle.pr_status.proofs.Streams.{appends_on}
 use Rattle.pr_top.specs.Front.{IsFront, IsPromptAt, is_between}
 use Rattle.pr_top.specs.LineReading.{ahead, Counts, IsBeyond}
 use Rattle.pr_top.specs.Reading.{HandsOrder, TakesOrders, IsCutAt}
 use Rattle.pr_top.specs.Standing.{Progress, Splits, Stands, unanswered}
 use Rattle.pr_top.specs.Taken.{IsPrompt}
 use Rattle.pr_top.specs.Told.{Answer, State, answers, answers_to, begun, told_of, turn, any_refused, told, refuses}
-use Rattle.pr_status.proofs.Streams.{appends_on}
-use Rattle.pr_text.proofs.Blocks.{orders_none}
 use Rattle.pr_top.proofs.Whole.{prompt_all, prompt_on}
 use Rattle.pr_top.proofs.Orders.{takes_none, takes_on, follow}
 use Rattle.pr_top.proofs.Turns.{told_more, refused_more, answer_count, asks_none, none_asked}

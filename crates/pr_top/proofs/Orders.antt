@@ -1,6 +1,5 @@
 -- What the reader of orders hands out, step by step.
 use Rattle.std.proofs.Common.{◌≡◌, ◌≢◌, ℕ, ◌+◌, Bool, true, false, true≢false, not, ◌&&◌, List, [], ◌∷◌, ◌++◌, None, Some, refl, sym, ap, ◌∙◌, subst, append_assoc, append-nil, length, length-append, arith}
-use Rattle.std.specs.Prelude.{flat_map}
 use Rattle.std.specs.declared.option.Option.{Option}
 use Rattle.std.specs.List.{list_all}
 use Rattle.std.specs.Io.KnownBytes.{Consumes, IsAtEnd}
@@ -12,9 +11,9 @@ use Rattle.pr_text.specs.Script.{is_passed_over, event_of, takes_body, is_body_l
 use Rattle.pr_text.specs.Started.{ends_body}
 use Rattle.pr_text.proofs.Blocks.{numbered, orders_none, orders_pass, orders_take, orders_body}
 use Rattle.pr_top.specs.LineReading.{ahead, without_feed, IsLine, IsNext, HandsLine, IsCutLine}
-use Rattle.pr_top.specs.Reading.{IsWaiting, TakesOrders, Takes, HandsOrder, TakesRest, FinishesOrder, TakesLines, TakesBody, EndsBody, IsCutBehind, IsCutBody, IsCutAt}
+use Rattle.pr_top.specs.Reading.{IsWaiting, TakesOrders, Takes, HandsOrder, FinishesOrder, TakesLines, TakesBody, EndsBody, IsCutBehind, IsCutBody, IsCutAt}
 use Rattle.pr_top.specs.Taken.{is_no_feed, are_whole_lines, may_go_on, IsPrompt}
-use Rattle.pr_top.proofs.Feeds.{first_left, more_left, some_left, line_first, without_feed-unended, whole_or_unended}
+use Rattle.pr_top.proofs.Feeds.{first_left, more_left, some_left, line_first, whole_or_unended}
 use Rattle.pr_top.proofs.Whole.{Parts, whole_append, lines_append, lines_split, parts, prompt_line, prompt_on}
 
 -- A line that was read ahead

@@ -1,22 +1,22 @@
 -- One more answer.
 use Rattle.std.proofs.Common.{◌≡◌, ◌≢◌, ℕ, zero, suc, Bool, true, false, ◌||◌, List, [], ◌∷◌, ◌++◌, cond, refl, sym, ap, ◌∙◌, append_assoc, append-nil, length, map, take, subst, Result, Ok, Err, OnOk, arith}
 use Rattle.std.specs.Prelude.{flat_map}
-use Rattle.pr_history.specs.declared.entry.Entry.{Entry}
 use Rattle.std.specs.declared.alloc.AllocError.{AllocError}
-use Rattle.pr_status.specs.Asks.{AsksAt, asked_by}
-use Rattle.pr_status.specs.Ends.{Place, at_input, at_file, at_store, at_row, at_output, anywhere}
-use Rattle.pr_status.specs.Outside.{Held}
-use Rattle.pr_text.specs.declared.order.Numbered.{Numbered}
-use Rattle.pr_text.specs.declared.order.Order.{Order}
-use Rattle.pr_text.specs.declared.order.Order.TheVariants as order
-use Rattle.pr_text.specs.Printed.{shown_report}
-use Rattle.pr_top.specs.Keeping.{KeepsProgress, KeepsWorld, Run, progress_after}
-use Rattle.pr_top.specs.Standing.{Progress}
-use Rattle.pr_top.specs.Told.{Answer, State, Turn, answers, any_refused, bad_turn, is_taken, told_of, turn, turn_by, turn_of}
+use Rattle.pr_history.specs.declared.entry.Entry.{Entry}
 use Rattle.pr_world.specs.declared.event.Event.{Event}
 use Rattle.pr_world.specs.Settings.{of_a_run}
 use Rattle.pr_world.specs.Step.{next}
 use Rattle.pr_world.specs.declared.report.Report.TheVariants.{Opened}
+use Rattle.pr_text.specs.declared.order.Numbered.{Numbered}
+use Rattle.pr_text.specs.declared.order.Order.{Order}
+use Rattle.pr_text.specs.declared.order.Order.TheVariants as order
+use Rattle.pr_text.specs.Printed.{shown_report}
+use Rattle.pr_status.specs.Asks.{AsksAt, asked_by}
+use Rattle.pr_status.specs.Ends.{Place, at_input, at_file, at_store, at_row, at_output, anywhere}
+use Rattle.pr_status.specs.Outside.{Held}
+use Rattle.pr_top.specs.Keeping.{KeepsProgress, KeepsWorld, Run, progress_after}
+use Rattle.pr_top.specs.Standing.{Progress}
+use Rattle.pr_top.specs.Told.{Answer, State, Turn, answers, any_refused, bad_turn, is_taken, told_of, turn, turn_by, turn_of}
 
 pub told_none : (rows : List Entry) → told_of rows [] ≡ shown_report (Opened (length rows))
 unfolding told_of

@@ -7,7 +7,7 @@ use Rattle.pr_text.specs.declared.order.Numbered.{Numbered}
 use Rattle.pr_text.proofs.Blocks.{orders_none, orders_more}
 use Rattle.pr_top.specs.Reading.{TakesOrders}
 use Rattle.pr_top.specs.Taken.{is_no_feed, are_whole_lines, IsPrompt}
-use Rattle.pr_top.proofs.Feeds.{first_left, more_left, some_left}
+use Rattle.pr_top.proofs.Feeds.{first_left, some_left}
 
 -- a line with its line feed
 pub whole_fed : (line : List ℕ) → are_whole_lines (line ++ 10 ∷ []) ≡ true

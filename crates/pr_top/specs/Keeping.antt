@@ -4,14 +4,14 @@ use Rattle.std.specs.Prelude.{◌≡◌, ℕ, ℤ, Bool, true, false, ◌||◌, 
 use Rattle.pr_labels.specs.declared.pair.Pair.{Pair}
 use Rattle.pr_history.specs.declared.entry.Entry.{Entry}
 use Rattle.pr_history.specs.Admission.{IsLawful}
+use Rattle.pr_world.specs.World.{World}
 use Rattle.pr_head.specs.Stored.{Stored}
 use Rattle.pr_head.specs.Holds.{Holds, IsWhole}
 use Rattle.pr_scrape.specs.Knowing.{Knows, Tracked}
-use Rattle.pr_status.specs.Outside.{Held}
 use Rattle.pr_text.specs.declared.order.Numbered.{Numbered}
+use Rattle.pr_status.specs.Outside.{Held}
 use Rattle.pr_top.specs.Standing.{Progress, Stands}
 use Rattle.pr_top.specs.Told.{turn}
-use Rattle.pr_world.specs.World.{World}
 
 -- the series that are held, the time of the last event, and the targets with what is tracked of
 -- each

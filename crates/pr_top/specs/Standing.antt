@@ -3,9 +3,9 @@ use Rattle.std.specs.Prelude.{◌≡◌, ℕ, Bool, false, List, ◌++◌, lengt
 use Rattle.std.specs.Io.KnownBytes.{Appends}
 use Rattle.pr_words.specs.Lines.{lines_of}
 use Rattle.pr_history.specs.declared.entry.Entry.{Entry}
-use Rattle.pr_status.specs.Outside.{Held}
 use Rattle.pr_text.specs.declared.order.Numbered.{Numbered}
 use Rattle.pr_text.specs.Orders.{orders_after}
+use Rattle.pr_status.specs.Outside.{Held}
 use Rattle.pr_top.specs.Reading.{Takes}
 use Rattle.pr_top.specs.Told.{Answer, State, answers, answers_to, any_refused, begun, told_of}
 

@@ -4,18 +4,18 @@ use Rattle.std.specs.Prelude.{ℕ, Bool, true, false, cond, List, [], ◌∷◌,
 use Rattle.std.specs.List.{list_any}
 use Rattle.pr_words.specs.Lines.{lines_of}
 use Rattle.pr_history.specs.declared.entry.Entry.{Entry}
-use Rattle.pr_status.specs.Outside.{Held}
-use Rattle.pr_text.specs.declared.order.Order.{Order}
-use Rattle.pr_text.specs.declared.order.Order.TheVariants as order
-use Rattle.pr_text.specs.declared.order.Numbered.{Numbered}
-use Rattle.pr_text.specs.Orders.{orders_of}
-use Rattle.pr_text.specs.Printed.{shown_report, bad_line_text}
 use Rattle.pr_world.specs.declared.event.Event.{Event}
 use Rattle.pr_world.specs.declared.event.Event.TheVariants as event
 use Rattle.pr_world.specs.declared.report.Report.TheVariants.{Opened}
 use Rattle.pr_world.specs.Settings.{of_a_run}
 use Rattle.pr_world.specs.Step.{Step, next}
 use Rattle.pr_world.specs.World.{World, start}
+use Rattle.pr_text.specs.declared.order.Order.{Order}
+use Rattle.pr_text.specs.declared.order.Order.TheVariants as order
+use Rattle.pr_text.specs.declared.order.Numbered.{Numbered}
+use Rattle.pr_text.specs.Orders.{orders_of}
+use Rattle.pr_text.specs.Printed.{shown_report, bad_line_text}
+use Rattle.pr_status.specs.Outside.{Held}
 
 -- what is kept in mind between two orders
 pub record State : Type 0 where

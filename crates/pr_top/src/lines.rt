@@ -2,11 +2,11 @@
 ghost use Rattle.std.specs.Prelude.{◌≡◌, ◌+◌, ◌^◌, ◌<◌, ◌≤◌, ◌++◌, ◌==◌, not, [], codes, take, drop, length, IfOk, IfSome, IfNone, OnOk, true, false};
 ghost use Rattle.std.specs.List.{list_all};
 ghost use Rattle.std.specs.Io.KnownBytes.{Consumes, Keeps, IsAtEnd};
-ghost use Rattle.pr_top.specs.LineReading.{held, KnowsEnd, IsReading, IsReadOn, ahead, without_feed, TakesPart, HandsLine, Counts, IsCutLine, IsBeyond};
-ghost use Rattle.pr_top.specs.Taken.{is_no_feed};
 ghost use Rattle.pr_outside.specs.Courses.{IsInTime};
 ghost use Rattle.pr_outside.specs.declared.course.Course.{Course};
 ghost use Rattle.pr_status.specs.Ends.{AtInput, ReadEnds};
+ghost use Rattle.pr_top.specs.LineReading.{held, KnowsEnd, IsReading, IsReadOn, ahead, without_feed, TakesPart, HandsLine, Counts, IsCutLine, IsBeyond};
+ghost use Rattle.pr_top.specs.Taken.{is_no_feed};
 
 use pr_outside::Source;
 use pr_status::Stop;

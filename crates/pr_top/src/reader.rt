@@ -3,9 +3,9 @@ ghost use Rattle.std.specs.Prelude.{◌≡◌, ◌^◌, ◌<◌, ◌≤◌, ◌=
 ghost use Rattle.pr_outside.specs.Courses.{IsInTime};
 ghost use Rattle.pr_outside.specs.declared.course.Course.{Course};
 ghost use Rattle.pr_text.specs.Script.{is_passed_over, takes_body};
+ghost use Rattle.pr_status.specs.Ends.{AtInput, ReadEnds};
 ghost use Rattle.pr_top.specs.LineReading.{ahead, HandsLine, Counts, IsCutLine, IsBeyond, IsReadOn};
 ghost use Rattle.pr_top.specs.Reading.{unread, IsReady, HandsOrder, FinishesOrder, TakesBody, EndsBody, Advances, IsCutBody, IsCutAt};
-ghost use Rattle.pr_status.specs.Ends.{AtInput, ReadEnds};
 
 use super::lines::{LineReader, without_feed};
 use pr_outside::Source;

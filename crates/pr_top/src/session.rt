@@ -1,11 +1,11 @@
 // A run of the script, order by order.
 ghost use Rattle.std.specs.Prelude.{◌≡◌, ◌++◌, ◌||◌, [], true, OnOk};
-ghost use Rattle.pr_top.specs.Keeping.{KeepsProgress, KeepsWorld, progress_after};
-ghost use Rattle.pr_status.specs.Outside.{Held};
-ghost use Rattle.pr_top.specs.Standing.{Progress, unanswered};
-ghost use Rattle.pr_top.specs.Told.{is_taken, turn, turn_by};
 ghost use Rattle.pr_world.specs.Settings.{of_a_run};
 ghost use Rattle.pr_world.specs.Step.{next};
+ghost use Rattle.pr_status.specs.Outside.{Held};
+ghost use Rattle.pr_top.specs.Keeping.{KeepsProgress, KeepsWorld, progress_after};
+ghost use Rattle.pr_top.specs.Standing.{Progress, unanswered};
+ghost use Rattle.pr_top.specs.Told.{is_taken, turn, turn_by};
 
 use super::engine::{Engine, takes};
 use pr_text::{Numbered, Order, push_bad_line, push_report};

@@ -1,11 +1,11 @@
 // The program as one call.
 ghost use Rattle.std.specs.Prelude.{◌≡◌, ℕ, List, false, map, string_bytes};
+ghost use Rattle.pr_status.specs.Outside.{Outside};
+ghost use Rattle.pr_status.specs.Status.{HasCause};
 ghost use Rattle.pr_check_loops.specs.FileChecks.{MeansFileCheck};
 ghost use Rattle.pr_check_loops.specs.InputChecks.{MeansInputCheck};
 ghost use Rattle.pr_checks.specs.Metrics.{metrics_told};
 ghost use Rattle.pr_checks.specs.RuleFiles.{rules_told};
-ghost use Rattle.pr_status.specs.Outside.{Outside};
-ghost use Rattle.pr_status.specs.Status.{HasCause};
 ghost use Rattle.pr_top.specs.Command.{command_of, uses};
 ghost use Rattle.pr_top.specs.Means.{MeansCommand, MeansRun, MeansUsage};
 ghost use Rattle.pr_top.specs.Usage.{usage_text};

@@ -1,6 +1,5 @@
-use Rattle.std.proofs.Common.{◌≡◌, ◌∙◌, refl, sym, ap, subst, map, string_bytes, Bool, Err}
-use Rattle.pr_outside.specs.Courses.{GoesOn}
-use Rattle.pr_status.specs.Ends.{place_of, no_row}
+use Rattle.std.proofs.Common.{◌∙◌, refl, sym, subst, map, string_bytes, Bool}
+use Rattle.pr_status.specs.Ends.{no_row}
 use Rattle.pr_status.specs.Outside.{Outside}
 use Rattle.pr_check_loops.specs.FileChecks.{all_told}
 use Rattle.pr_check_loops.specs.FileStops.{AreDone}

@@ -1,4 +1,4 @@
-use Rattle.std.proofs.Common.{◌≡◌, ◌∙◌, ℕ, List, Bool, Result, ◌++◌, refl, sym, ap, subst, length, take, arith}
+use Rattle.std.proofs.Common.{◌≡◌, ◌∙◌, ℕ, List, Bool, Result, ◌++◌, refl, ap, subst, length, take, arith}
 use Rattle.std.specs.Io.KnownBytes.{Appends}
 use Rattle.pr_status.specs.Asks.{AsksBy}
 use Rattle.pr_status.specs.Ends.{no_row}

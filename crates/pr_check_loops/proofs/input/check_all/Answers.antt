@@ -1,4 +1,4 @@
-use Rattle.std.proofs.Common.{◌≡◌, ◌∙◌, ℕ, List, [], Result, refl, sym, ap, subst}
+use Rattle.std.proofs.Common.{◌∙◌, [], Result, refl}
 use Rattle.std.specs.Io.KnownBytes.{Appends}
 use Rattle.pr_status.specs.Ends.{AtInput, KnowsLength, no_row}
 use Rattle.pr_status.specs.Outside.{Outside}
@@ -6,7 +6,7 @@ use Rattle.pr_status.specs.Status.{IsLong}
 use Rattle.pr_status.specs.declared.status.Stop.{Stop}
 use Rattle.pr_status.specs.declared.status.Stop.TheVariants.{Memory}
 use Rattle.pr_check_loops.specs.declared.verdict.Verdict.{Verdict}
-use Rattle.pr_status.proofs.Ended.{ends_memory, ends_more, ends_on, in_time_same, known_stop, written_by}
+use Rattle.pr_status.proofs.Ended.{ends_memory, ends_more, ends_on, known_stop, written_by}
 use Rattle.pr_check_loops.proofs.input.check_all.Goals as goal
 
 pub returns-in_err-bytes-clause-ends : goal.returns-in_err-bytes-clause-ends

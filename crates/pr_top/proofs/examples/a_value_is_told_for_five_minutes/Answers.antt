@@ -24,4 +24,4 @@ returns c =
     let zero : decimal 0 ≡ 48 ∷ [] = decimal_digit 0 (lit< tt) in
     let one : decimal 1 ≡ 49 ∷ [] = decimal_digit 1 (lit< tt) in
     let text : is_utf8 (codes "m") ≡ true = is_utf8-from_IsUtf8 (codes "m") (metric_name_is_text (codes "m") refl) in
-    rw (text, metric, name_alone, name_alone, zero, one) refl
+    rw (text, metric, name_alone, zero, one) refl

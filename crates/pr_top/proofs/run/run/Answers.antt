@@ -1,18 +1,18 @@
-use Rattle.std.proofs.Common.{◌≡◌, ◌≢◌, ◌∙◌, ℕ, ◌+◌, ◌≤◌, Bool, true≢false, List, [], Option, None, Some, IfSome, Result, Err, length, refl, sym, ap, subst, arith}
+use Rattle.std.proofs.Common.{◌≡◌, ◌∙◌, ℕ, Bool, true≢false, List, [], Option, None, Some, Result, Err, length, refl, sym, ap, subst, arith}
 use Rattle.std.specs.Io.KnownBytes.{Appends}
 use Rattle.pr_text.specs.declared.order.Numbered.{Numbered}
 use Rattle.pr_status.specs.Ends.{KnowsLength, at_output, anywhere, at_input, no_row, place_of}
-use Rattle.pr_status.specs.Outside.{Held, Outside}
+use Rattle.pr_status.specs.Outside.{Outside}
 use Rattle.pr_status.specs.Status.{IsLong}
 use Rattle.pr_status.specs.declared.status.Stop.{Stop}
+use Rattle.pr_status.proofs.Ended.{ends_longer, ends_more, ends_on, in_time_same, known_stop, quiet, read_by, read_on, written_by}
+use Rattle.pr_status.proofs.Telling.{on_told}
 use Rattle.pr_top.specs.Front.{IsFront}
-use Rattle.pr_top.specs.Keeping.{StandsBy, progress_after}
+use Rattle.pr_top.specs.Keeping.{progress_after}
 use Rattle.pr_top.specs.LineReading.{ahead, Counts, IsBeyond}
 use Rattle.pr_top.specs.Reading.{unread, HandsOrder, IsCutAt}
 use Rattle.pr_top.specs.Standing.{Stands, unanswered}
 use Rattle.pr_top.specs.Told.{answers_to, refuses, told}
-use Rattle.pr_status.proofs.Ended.{ends_longer, ends_more, ends_on, in_time_same, known_stop, quiet, read_by, read_on, written_by}
-use Rattle.pr_status.proofs.Telling.{on_told}
 use Rattle.pr_top.proofs.Ahead.{beyond_on, counts_none, counts_on, read_same}
 use Rattle.pr_top.proofs.Orders.{ahead_none}
 use Rattle.pr_top.proofs.Fronts.{stands_start, stands_more, front_opening, front_cut, front_before, front_within, front_ended, told_all, known_long, known_short, no_more}

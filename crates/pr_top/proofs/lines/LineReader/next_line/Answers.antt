@@ -1,9 +1,7 @@
 use Rattle.std.proofs.Common.{◌≡◌, ◌∙◌, ◌==◌, ◌+◌, ◌≤◌, ◌^◌, length-append, arith, sym, Bool, true, false, not, List, ℕ, length, refl, ap, subst}
+use Rattle.pr_status.proofs.Ended.{quiet, read_done, read_memory, read_on}
 use Rattle.pr_top.specs.LineReading.{held, ahead, IsBeyond, IsReadOn, TakesPart}
-use Rattle.pr_outside.specs.declared.course.Course.{Course}
-use Rattle.pr_outside.specs.Courses.{IsInTime}
-use Rattle.pr_status.proofs.Ended.{calm_read, quiet, read_done, read_memory, read_on}
-use Rattle.pr_top.proofs.Ahead.{at_exit, beyond, beyond_on, counts_fill, counts_on, joined_part, joined_fill, unended_part, line_fed, line_ended, line_cut, read_same}
+use Rattle.pr_top.proofs.Ahead.{at_exit, beyond, counts_fill, counts_on, joined_part, joined_fill, unended_part, line_fed, line_ended, line_cut, read_same}
 use Rattle.pr_top.proofs.lines.LineReader.next_line.Goals as goal
 
 pub returns-in_err-fill-clause-cut : goal.returns-in_err-fill-clause-cut

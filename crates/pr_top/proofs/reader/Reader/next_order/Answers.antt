@@ -1,8 +1,8 @@
-use Rattle.std.proofs.Common.{◌≡◌, ◌∙◌, ◌≤◌, ◌+◌, ◌++◌, Bool, true, false, None, Some, List, ℕ, [], ◌∷◌, length, sym, ap, subst, arith}
+use Rattle.std.proofs.Common.{◌≡◌, ◌∙◌, ◌≤◌, ◌+◌, Bool, true, false, None, Some, List, ℕ, [], ◌∷◌, length, sym, ap, subst, arith}
 use Rattle.pr_text.specs.Script.{is_passed_over, takes_body}
+use Rattle.pr_status.proofs.Ended.{quiet, read_done, read_on}
 use Rattle.pr_top.specs.LineReading.{ahead, without_feed, HandsLine, IsBeyond}
 use Rattle.pr_top.specs.Reading.{unread, Takes, HandsOrder, FinishesOrder}
-use Rattle.pr_status.proofs.Ended.{quiet, read_done, read_on}
 use Rattle.pr_top.proofs.Ahead.{at_exit, beyond_on, counts_on, read_same}
 use Rattle.pr_top.proofs.Feeds.{one_byte}
 use Rattle.pr_top.proofs.Orders.{takes_on, takes_passed, takes_order, takes_last, line_cut_at, body_cut_at}

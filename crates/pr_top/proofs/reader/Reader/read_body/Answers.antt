@@ -1,8 +1,8 @@
-use Rattle.std.proofs.Common.{◌≡◌, ◌∙◌, ◌≤◌, ◌+◌, ◌++◌, Bool, true, false, List, ℕ, [], ◌∷◌, length, length-append, string_bytes, sym, ap, subst, arith}
+use Rattle.std.proofs.Common.{◌≡◌, ◌∙◌, ◌≤◌, ◌+◌, ◌++◌, Bool, true, false, List, ℕ, length, length-append, string_bytes, sym, ap, subst, arith}
 use Rattle.pr_text.specs.Script.{is_body_line, body_text}
+use Rattle.pr_status.proofs.Ended.{quiet, read_done, read_memory, read_on}
 use Rattle.pr_top.specs.LineReading.{held, ahead, without_feed, HandsLine, IsBeyond, IsNext}
 use Rattle.pr_top.specs.Reading.{unread, TakesBody, EndsBody}
-use Rattle.pr_status.proofs.Ended.{quiet, read_done, read_memory, read_on}
 use Rattle.pr_top.proofs.Ahead.{at_exit, beyond_on, counts_on, read_same}
 use Rattle.pr_top.proofs.Feeds.{one_byte}
 use Rattle.pr_top.proofs.Orders.{body_cut, body_on, body_again, body_last, ends_at, ends_none}

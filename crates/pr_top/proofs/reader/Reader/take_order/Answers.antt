@@ -1,14 +1,13 @@
 use Rattle.std.proofs.Common.{◌≡◌, ◌∙◌, List, ℕ, string_bytes, refl, sym, ap, subst}
-use Rattle.pr_text.specs.declared.order.Order.{Order}
+use Rattle.pr_world.specs.declared.event.Event.TheVariants as event
 use Rattle.pr_text.specs.declared.order.Order.TheVariants as order
 use Rattle.pr_text.specs.declared.order.Started.TheVariants as started
 use Rattle.pr_text.specs.Orders.{event_order}
 use Rattle.pr_text.specs.Script.{event_of}
 use Rattle.pr_text.specs.Started.{Starts}
-use Rattle.pr_world.specs.declared.event.Event.TheVariants as event
+use Rattle.pr_status.proofs.Ended.{quiet, read_done, read_on}
 use Rattle.pr_top.specs.LineReading.{ahead, IsBeyond}
 use Rattle.pr_top.specs.Reading.{unread}
-use Rattle.pr_status.proofs.Ended.{quiet, read_done, read_on}
 use Rattle.pr_top.proofs.Ahead.{at_exit, read_same}
 use Rattle.pr_top.proofs.Orders.{finishes_whole, finishes_body}
 use Rattle.pr_top.proofs.reader.Reader.take_order.Goals as goal

@@ -1,0 +1,12 @@
+//! Which range selectors of an expression go on from those of an older one.
+#![tactic(auto)]
+
+mod choosing;
+mod gathering;
+mod laws;
+mod source;
+
+pub use choosing::continued;
+pub use gathering::sources;
+pub use laws::equal_texts_have_equal_ranges;
+pub use source::Source;

@@ -1,0 +1,8 @@
+mod Listing
+mod TableLemmas
+mod StateLemmas
+mod MakingLemmas
+mod QueryLemmas
+mod OrderLemmas
+mod FoundLemmas
+mod KeptLemmas

@@ -1,0 +1,25 @@
+use Rattle.std.proofs.Common.{ℕ, ◌^◌, ◌≤◌, IfSome, Option, subst, true≢false}
+use Rattle.sqlite.specs.Held.{state}
+use Rattle.pr_keep_sql.proofs.KeptLemmas.{read_found, read_kept, read_still}
+use Rattle.pr_keep_sql.proofs.kept.Kept.read.Goals as goal
+
+pub invariant_of-self : goal.invariant_of-self
+invariant_of-self g c = record {
+  mode = c.found.ensures.mode;
+  still = read_still c.args.is_alone (state g.S.Store c.self.inside.conn) (state g.S.Store c.found.new.conn) c.in-Ok-Some.size (rw (← c.self.view_is) at c.requires.alone) (rw (← c.self.view_is) at c.requires.live)
+      c.found.ensures.was_open c.found.ensures.same (λ clean has sound. rw c.in-Ok-Some.field-0-is at (c.in-Ok-Some.ensures.ok clean has sound));
+  idle = λ e. absurd (true≢false e);
+  small = subst (λ (o : Option ℕ). IfSome o (λ n. n ≤ 2 ^ 63)) c.in-Ok-Some.field-0-is c.in-Ok-Some.ensures.small;
+}
+
+pub returns-in-Ok-Some-clause-kept : goal.returns-in-Ok-Some-clause-kept
+returns-in-Ok-Some-clause-kept g c clean alone =
+    rw (← c.self.view_is) (read_kept c.args.is_alone (state g.S.Store c.self.inside.conn) (state g.S.Store c.found.new.conn) c.in-Ok-Some.size (rw (← c.self.view_is) at c.requires.alone)
+    (rw (← c.self.view_is) at c.requires.live) c.found.ensures.was_open c.found.ensures.same
+    (λ clean has sound. rw c.in-Ok-Some.field-0-is at (c.in-Ok-Some.ensures.ok clean has sound)) c.in-Ok-Some.ensures.open clean alone)
+
+pub returns-in-Ok-Some-clause-found : goal.returns-in-Ok-Some-clause-found
+returns-in-Ok-Some-clause-found g c clean alone =
+    rw (← c.self.view_is) (read_found c.args.is_alone (state g.S.Store c.self.inside.conn) (state g.S.Store c.found.new.conn) c.in-Ok-Some.size (rw (← c.self.view_is) at c.requires.alone)
+    (rw (← c.self.view_is) at c.requires.live) c.found.ensures.was_open c.found.ensures.same
+    (λ clean has sound. rw c.in-Ok-Some.field-0-is at (c.in-Ok-Some.ensures.ok clean has sound)) c.in-Ok-Some.ensures.open clean alone)

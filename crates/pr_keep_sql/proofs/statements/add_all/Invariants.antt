@@ -1,0 +1,14 @@
+use Rattle.std.proofs.Common.{◌≡◌, ◌+◌, ◌≤◌, take, IsTrue}
+use Rattle.sqlite.specs.State.{HasCleanDisk, KeepsCommit}
+use Rattle.sqlite.specs.Held.{state}
+use Rattle.sqlite.specs.View.{doubt}
+use Rattle.pr_keep_sql.specs.Kept.{WhileOpen}
+use Rattle.pr_keep_sql.specs.Statements.{Adds}
+use Rattle.pr_keep_sql.proofs.statements.add_all.Given as goal
+
+abbrev pub invariant-rows : goal.invariant-rows
+invariant-rows g l =
+    let old = state g.S.Store l.fn.conn in
+    let now = state g.S.Store l.tx.conn.now in
+    (l.tx.conn.ghost_name ≡ l.initial.tx.conn.ghost_name) × (l.seq ≡ l.size + l.row-index) × (doubt old.is_clean ≤ doubt now.is_clean) × (HasCleanDisk now → IsTrue now.in_transaction)
+    × (HasCleanDisk now → KeepsCommit old now) × WhileOpen now (IsTrue old.is_open × Adds l.size (take l.row-index l.rows) old.now now.now)

@@ -1,0 +1,271 @@
+// Rows kept in the tables of a connection.
+ghost use Rattle.std.specs.Prelude.{◌≡◌, ◌↔◌, ◌⊎◌, List, [], ◌+◌, ◌<◌, ◌≤◌, length, IfOk, IfSome, OnOk, OnErr, IsTrue, IsSome, Some, slice_get, true, false};
+ghost use Rattle.sqlite.specs.Held.{state};
+ghost use Rattle.sqlite.specs.State.{HasCleanDisk, IsLive};
+ghost use Rattle.sqlite.specs.View.{doubt};
+ghost use Rattle.pr_outside.specs.Causes.{HasKeepCause};
+ghost use Rattle.pr_outside.specs.Kept.{KeepsRows, AppendsRows};
+ghost use Rattle.pr_outside.specs.declared.keeping.Row.{Row as Line};
+ghost use Rattle.pr_keep_sql.specs.Counts.{AreWithin};
+ghost use Rattle.pr_keep_sql.specs.Kept.{Keeps, listed};
+ghost use Rattle.pr_keep_sql.specs.Store.{faults_in, rows_of};
+ghost use Rattle.pr_keep_sql.specs.Tables.{IsFree, kept_schema, schema_of};
+
+use crate::counts::{are_within, failed, faults_of, refusal};
+use crate::making::make;
+use crate::reading::found;
+use crate::statements::{add_all, load};
+use crate::tables::{Standing, standing_of};
+use pr_outside::{KeepError, Keeper, Row};
+use sqlite::{Alter, Connection};
+use std::marker::Model;
+
+/// Rows kept in the tables of a connection. Contracts see the connection, how many rows there are,
+/// whether the tables are ready and whether they are alone, and the counts: of the statements that
+/// were refused, and of the store's own refusals.
+#[derive(Drop)]
+pub struct Kept<S: Alter> {
+    conn: Connection<S>,
+    size: u64,
+    is_ready: bool,
+    is_alone: bool,
+    refused: u64,
+    odd: u64,
+}
+
+impl<S: Alter> Model for Kept<S> {
+    ghost use Rattle.pr_keep_sql.specs.Store.{KeptStore, store_code, IsKept};
+
+    ghost Value = { KeptStore S };
+
+    ghost coded = { store_code S.code };
+
+    ghost view = { λ k. record { conn = k.conn; size = k.size; is_ready = k.is_ready; is_alone = k.is_alone; refused = k.refused; odd = k.odd } };
+
+    ghost invariant = { λ k. IsKept S.Store k.conn k.size k.is_ready k.is_alone };
+}
+
+impl<S: Alter> Kept<S> {
+    /// The rows of a connection, whose tables are not ready yet.
+    pub fn of(conn: Connection<S>) -> Kept<S>
+        requires { conn.in_transaction ≡ false }
+        ensures { result ≡ record { conn = conn; size = 0; is_ready = false; is_alone = false; refused = 0; odd = 0 } }
+    {
+        Kept {
+            conn,
+            size: 0,
+            is_ready: false,
+            is_alone: false,
+            refused: 0,
+            odd: 0,
+        }
+    }
+
+    /// Whether the tables are ready.
+    pub fn is_ready(&self) -> bool
+        ensures { result ≡ self.now.is_ready }
+    {
+        self.is_ready
+    }
+
+    /// How many rows there are.
+    pub fn size(&self) -> u64
+        ensures count { result ≡ self.now.size }
+        ensures rows { IfSome (rows_of S.Store self.now) (λ rows. result ≡ length rows) }
+    {
+        self.size
+    }
+
+    /// How often a call was refused, up to 2^64 - 1.
+    pub fn faults(&self) -> u64
+        ensures { result ≡ faults_in self.now }
+    {
+        faults_of(self.refused, self.odd)
+    }
+
+    /// How many statements were refused, up to 2^64 - 1. Want of memory is not counted.
+    pub fn refused(&self) -> u64
+        ensures { result ≡ self.now.refused }
+    {
+        self.refused
+    }
+
+    /// How often the store refused a call itself, up to 2^64 - 1.
+    pub fn odd(&self) -> u64
+        ensures { result ≡ self.now.odd }
+    {
+        self.odd
+    }
+
+    // Makes the tables.
+    #[tactic(auto, using(crate::proofs::KeptLemmas::made_so, crate::proofs::KeptLemmas::made_told))]
+    fn make(&mut self, is_alone: bool) -> Result<(), KeepError>
+        requires fresh { self.old.is_ready ≡ false }
+        requires alone { IsTrue is_alone → (state S.Store self.old.conn).now.schema ≡ schema_of [] }
+        ensures ok { OnOk result (IsTrue self.new.is_ready × (self.new.is_alone ≡ is_alone)) }
+        ensures made { HasCleanDisk (state S.Store self.new.conn) → OnOk result (IsTrue is_alone → rows_of S.Store self.new ≡ Some []) }
+        ensures err { HasCleanDisk (state S.Store self.new.conn) → OnErr result (IsTrue (state S.Store self.new.conn).is_open → (state S.Store self.new.conn).now ≡ (state S.Store self.old.conn).now) }
+        ensures unready { OnErr result ((self.new.is_ready ≡ false) × (self.new.size ≡ 0)) }
+        ensures untold { OnErr result (self.new.is_alone ≡ false) }
+        ensures clean { doubt (state S.Store self.old.conn).is_clean ≤ doubt (state S.Store self.new.conn).is_clean }
+        ensures cause { HasKeepCause (faults_in self.old) (faults_in self.new) result }
+        ensures odd { self.new.odd ≡ self.old.odd }
+    {
+        match make(&mut self.conn) {
+            Ok(()) => {
+                self.is_ready = true;
+                self.is_alone = is_alone;
+                Ok(())
+            }
+            Err(error) => Err(refusal(&error, &mut self.refused)),
+        }
+    }
+
+    // Reads the tables that are there.
+    fn read(&mut self, is_alone: bool) -> Result<(), KeepError>
+        requires fresh { self.old.is_ready ≡ false }
+        requires alone { IsTrue is_alone → (state S.Store self.old.conn).now.schema ≡ kept_schema }
+        requires live { IsLive (state S.Store self.old.conn) }
+        ensures ok { OnOk result (IsTrue self.new.is_ready × (self.new.is_alone ≡ is_alone)) }
+        ensures kept { HasCleanDisk (state S.Store self.new.conn) → OnOk result (IsTrue is_alone → Keeps (state S.Store self.old.conn).now (listed (state S.Store self.old.conn).now) × (rows_of S.Store self.new ≡ Some (listed (state S.Store self.old.conn).now))) }
+        ensures found { HasCleanDisk (state S.Store self.new.conn) → OnOk result (IsTrue is_alone → (rows : List Line) → Keeps (state S.Store self.old.conn).now rows → rows_of S.Store self.new ≡ Some rows) }
+        ensures same { HasCleanDisk (state S.Store self.new.conn) → (state S.Store self.old.conn).now.schema ≡ kept_schema → IsTrue (state S.Store self.new.conn).is_open → (state S.Store self.new.conn).now ≡ (state S.Store self.old.conn).now }
+        ensures unready { OnErr result ((self.new.is_ready ≡ false) × (self.new.size ≡ 0)) }
+        ensures untold { OnErr result (self.new.is_alone ≡ false) }
+        ensures clean { doubt (state S.Store self.old.conn).is_clean ≤ doubt (state S.Store self.new.conn).is_clean }
+        ensures cause { HasKeepCause (faults_in self.old) (faults_in self.new) result }
+        ensures odd { HasCleanDisk (state S.Store self.new.conn) → (rows : List Line) → Keeps (state S.Store self.old.conn).now rows → self.new.odd ≡ self.old.odd }
+    {
+        match found(&mut self.conn) {
+            Ok(Some(size)) => {
+                self.size = size;
+                self.is_ready = true;
+                self.is_alone = is_alone;
+                Ok(())
+            }
+            Ok(None) => Err(failed(&mut self.odd)),
+            Err(error) => Err(refusal(&error, &mut self.refused)),
+        }
+    }
+
+    /// Makes the tables where the database has none with their names, in one transaction, or reads
+    /// those that are there: the number 1, and rows numbered from 0 on without a gap. Tables with
+    /// other names are passed over, but where anything stands beside the tables of the store, the
+    /// rows are not told. Until this has succeeded nothing is kept.
+    ///
+    /// # Errors
+    /// `Failed` where the tables, the number or the rows are others, and where a statement is
+    /// refused.
+    #[tactic(auto, using(crate::proofs::KeptLemmas::has_schema))]
+    pub fn ready(&mut self) -> Result<(), KeepError>
+        requires fresh { self.old.is_ready ≡ false }
+        ensures ok { OnOk result (IsTrue self.new.is_ready) }
+        // Rows are told where the tables are alone.
+        ensures told { HasCleanDisk (state S.Store self.new.conn) → OnOk result (IsTrue self.new.is_alone → IsSome (rows_of S.Store self.new)) }
+        ensures alone { OnOk result (IsTrue self.new.is_alone ↔ ((state S.Store self.old.conn).now.schema ≡ schema_of []) ⊎ ((state S.Store self.old.conn).now.schema ≡ kept_schema)) }
+        // Where nothing was, the tables are there and keep no row.
+        ensures made { HasCleanDisk (state S.Store self.new.conn) → OnOk result ((state S.Store self.old.conn).now.schema ≡ schema_of [] → rows_of S.Store self.new ≡ Some []) }
+        // The rows that the tables kept are told.
+        ensures found { HasCleanDisk (state S.Store self.new.conn) → OnOk result ((rows : List Line) → Keeps (state S.Store self.old.conn).now rows → rows_of S.Store self.new ≡ Some rows) }
+        // Where the tables were alone, they kept a list of rows, and they are as they were.
+        ensures kept { HasCleanDisk (state S.Store self.new.conn) → OnOk result ((state S.Store self.old.conn).now.schema ≡ kept_schema → Keeps (state S.Store self.old.conn).now (listed (state S.Store self.old.conn).now) × (rows_of S.Store self.new ≡ Some (listed (state S.Store self.old.conn).now))) }
+        ensures same { HasCleanDisk (state S.Store self.new.conn) → (state S.Store self.old.conn).now.schema ≡ kept_schema → IsTrue (state S.Store self.new.conn).is_open → (state S.Store self.new.conn).now ≡ (state S.Store self.old.conn).now }
+        // Where no table had a name of the store, a refused call leaves what is there.
+        ensures err { HasCleanDisk (state S.Store self.new.conn) → OnErr result (IsFree (state S.Store self.old.conn).now.schema → IsTrue (state S.Store self.new.conn).is_open → (state S.Store self.new.conn).now ≡ (state S.Store self.old.conn).now) }
+        ensures unready { OnErr result ((self.new.is_ready ≡ false) × (self.new.size ≡ 0)) }
+        ensures untold { OnErr result (self.new.is_alone ≡ false) }
+        ensures clean { doubt (state S.Store self.old.conn).is_clean ≤ doubt (state S.Store self.new.conn).is_clean }
+        ensures cause { HasKeepCause (faults_in self.old) (faults_in self.new) result }
+        ensures odd { IsFree (state S.Store self.old.conn).now.schema → self.new.odd ≡ self.old.odd }
+        // The tables of the store are no refusal of its own.
+        ensures kept_odd { HasCleanDisk (state S.Store self.new.conn) → (rows : List Line) → Keeps (state S.Store self.old.conn).now rows → self.new.odd ≡ self.old.odd }
+    {
+        match standing_of(self.conn.schema()) {
+            Standing::Free { is_alone } => self.make(is_alone),
+            Standing::Ours { is_alone } => self.read(is_alone),
+            Standing::Others => Err(failed(&mut self.odd)),
+        }
+    }
+
+    /// Appends all rows in one transaction. A refused call appends none.
+    #[tactic(auto, using(crate::proofs::KeptLemmas::appended, crate::proofs::KeptLemmas::stays, crate::proofs::KeptLemmas::some_told))]
+    pub fn commit(&mut self, added: &[Row]) -> Result<(), KeepError>
+        ensures ok { OnOk result (AppendsRows (rows_of S.Store self.old) (rows_of S.Store self.new) added.now) }
+        ensures ok_count { OnOk result (self.new.size ≡ self.old.size + length added.now) }
+        ensures told { HasCleanDisk (state S.Store self.new.conn) → OnOk result (IsTrue self.old.is_alone → IsSome (rows_of S.Store self.new)) }
+        ensures err { OnErr result (KeepsRows (rows_of S.Store self.old) (rows_of S.Store self.new)) }
+        ensures err_count { OnErr result (self.new.size ≡ self.old.size) }
+        ensures cause { HasKeepCause (faults_in self.old) (faults_in self.new) result }
+        ensures odd { IsTrue self.old.is_ready → AreWithin self.old.size added.now → self.new.odd ≡ self.old.odd }
+        ensures ready { (self.new.is_ready ≡ self.old.is_ready) × (self.new.is_alone ≡ self.old.is_alone) }
+    {
+        if !self.is_ready || !are_within(self.size, added) {
+            return Err(failed(&mut self.odd));
+        }
+        match add_all(&mut self.conn, self.size, added) {
+            Ok(()) => {
+                self.size += added.len() as u64;
+                Ok(())
+            }
+            Err(error) => Err(refusal(&error, &mut self.refused)),
+        }
+    }
+
+    /// The row of this index. It changes no rows.
+    #[tactic(auto, using(crate::proofs::KeptLemmas::stays, crate::proofs::KeptLemmas::some_told))]
+    pub fn load(&mut self, index: u64) -> Result<Row, KeepError>
+        requires { index < self.old.size }
+        ensures row { IfOk result (λ row. IfSome (rows_of S.Store self.new) (λ rows. slice_get rows index ≡ Some row)) }
+        ensures told { HasCleanDisk (state S.Store self.new.conn) → OnOk result (IsTrue self.old.is_alone → IsSome (rows_of S.Store self.new)) }
+        ensures same { KeepsRows (rows_of S.Store self.old) (rows_of S.Store self.new) }
+        ensures count { self.new.size ≡ self.old.size }
+        ensures cause { HasKeepCause (faults_in self.old) (faults_in self.new) result }
+        ensures odd { self.new.odd ≡ self.old.odd }
+        ensures ready { (self.new.is_ready ≡ self.old.is_ready) × (self.new.is_alone ≡ self.old.is_alone) }
+    {
+        match load(&mut self.conn, index) {
+            Ok(row) => Ok(row),
+            Err(error) => Err(refusal(&error, &mut self.refused)),
+        }
+    }
+
+    /// The connection.
+    pub fn into_connection(self) -> Connection<S>
+        ensures { result ≡ self.conn }
+    {
+        let Kept {
+            conn,
+            size: _,
+            is_ready: _,
+            is_alone: _,
+            refused: _,
+            odd: _,
+        } = self;
+        conn
+    }
+}
+
+/// The path is passed over, since the connection is open. A second start fails, and is counted among
+/// the store's own refusals.
+impl<S: Alter> Keeper for Kept<S> {
+    ghost means = { λ k. record { rows = rows_of S.Store k; count = k.size; faults = faults_in k } };
+
+    fn start(&mut self, _path: &str) -> Result<(), KeepError> {
+        if self.is_ready {
+            return Err(failed(&mut self.odd));
+        }
+        self.ready()
+    }
+
+    fn size(&self) -> u64 {
+        Kept::size(self)
+    }
+
+    fn commit(&mut self, added: &[Row]) -> Result<(), KeepError> {
+        Kept::commit(self, added)
+    }
+
+    fn load(&mut self, index: u64) -> Result<Row, KeepError> {
+        Kept::load(self, index)
+    }
+}

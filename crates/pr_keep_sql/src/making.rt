@@ -1,0 +1,58 @@
+// Making the tables.
+ghost use Rattle.std.specs.Prelude.{◌≡◌, ◌≤◌, OnOk, OnErr, IsTrue, false};
+ghost use Rattle.sqlite.specs.State.{HasCleanDisk, KeepsCommit};
+ghost use Rattle.sqlite.specs.Held.{state};
+ghost use Rattle.sqlite.specs.View.{doubt};
+ghost use Rattle.pr_keep_sql.specs.Statements.{Commits, GoesOn, Leaves, Makes, MakesKept, MakesVersion, Numbers};
+
+use sqlite::{Alter, Connection, Error, Transaction};
+
+fn make_kept<S: Alter>(tx: &mut Transaction<'_, S>) -> Result<usize, Error>
+    requires { HasCleanDisk (state S.Store tx.old.conn.now) → IsTrue (state S.Store tx.old.conn.now).in_transaction }
+    ensures reference { tx.new.conn.ghost_name ≡ tx.old.conn.ghost_name }
+    ensures ok { HasCleanDisk (state S.Store tx.new.conn.now) → OnOk result (GoesOn MakesKept (state S.Store tx.old.conn.now) (state S.Store tx.new.conn.now)) }
+    ensures kept { HasCleanDisk (state S.Store tx.new.conn.now) → KeepsCommit (state S.Store tx.old.conn.now) (state S.Store tx.new.conn.now) }
+    ensures clean { doubt (state S.Store tx.old.conn.now).is_clean ≤ doubt (state S.Store tx.new.conn.now).is_clean }
+{
+    tx.execute(
+        "CREATE TABLE kept(seq INTEGER PRIMARY KEY, series TEXT NOT NULL, time INTEGER NOT NULL, point TEXT NOT NULL)",
+        &[],
+    )
+}
+
+fn make_version<S: Alter>(tx: &mut Transaction<'_, S>) -> Result<usize, Error>
+    requires { HasCleanDisk (state S.Store tx.old.conn.now) → IsTrue (state S.Store tx.old.conn.now).in_transaction }
+    ensures reference { tx.new.conn.ghost_name ≡ tx.old.conn.ghost_name }
+    ensures ok { HasCleanDisk (state S.Store tx.new.conn.now) → OnOk result (GoesOn MakesVersion (state S.Store tx.old.conn.now) (state S.Store tx.new.conn.now)) }
+    ensures kept { HasCleanDisk (state S.Store tx.new.conn.now) → KeepsCommit (state S.Store tx.old.conn.now) (state S.Store tx.new.conn.now) }
+    ensures clean { doubt (state S.Store tx.old.conn.now).is_clean ≤ doubt (state S.Store tx.new.conn.now).is_clean }
+{
+    tx.execute("CREATE TABLE version(n INTEGER PRIMARY KEY)", &[])
+}
+
+fn number<S: Alter>(tx: &mut Transaction<'_, S>) -> Result<usize, Error>
+    requires { HasCleanDisk (state S.Store tx.old.conn.now) → IsTrue (state S.Store tx.old.conn.now).in_transaction }
+    ensures reference { tx.new.conn.ghost_name ≡ tx.old.conn.ghost_name }
+    ensures ok { HasCleanDisk (state S.Store tx.new.conn.now) → OnOk result (GoesOn Numbers (state S.Store tx.old.conn.now) (state S.Store tx.new.conn.now)) }
+    ensures kept { HasCleanDisk (state S.Store tx.new.conn.now) → KeepsCommit (state S.Store tx.old.conn.now) (state S.Store tx.new.conn.now) }
+    ensures clean { doubt (state S.Store tx.old.conn.now).is_clean ≤ doubt (state S.Store tx.new.conn.now).is_clean }
+{
+    tx.execute("INSERT INTO version (n) VALUES (1)", &[])
+}
+
+/// Makes the tables in one transaction, or nothing.
+#[tactic(auto, using(crate::proofs::MakingLemmas::made, crate::proofs::StateLemmas::undone))]
+pub(crate) fn make<S: Alter>(conn: &mut Connection<S>) -> Result<(), Error>
+    requires mode { conn.old.in_transaction ≡ false }
+    ensures mode { conn.new.in_transaction ≡ false }
+    ensures ok { HasCleanDisk (state S.Store conn.new) → OnOk result (Commits Makes (state S.Store conn.old) (state S.Store conn.new)) }
+    ensures err { HasCleanDisk (state S.Store conn.new) → OnErr result (Leaves (state S.Store conn.old) (state S.Store conn.new)) }
+    ensures clean { doubt (state S.Store conn.old).is_clean ≤ doubt (state S.Store conn.new).is_clean }
+{
+    prove!(conn.is_autocommit());
+    let mut tx = conn.transaction();
+    make_kept(&mut tx)?;
+    make_version(&mut tx)?;
+    number(&mut tx)?;
+    tx.commit()
+}

@@ -1,0 +1,4 @@
+mod PointTexts
+mod RowLaws
+mod Answered
+mod HistoryLaws

@@ -1,0 +1,16 @@
+-- Small entries and rows.
+use Rattle.std.specs.Prelude.{ℕ, pos, [], ◌∷◌, List, codes}
+use Rattle.pr_num.specs.declared.value.Num.TheVariants.{Finite}
+use Rattle.pr_num.specs.declared.value.Point.TheVariants.{Value, Stale}
+use Rattle.pr_labels.specs.LabelSet.{metric_label, pair_of}
+use Rattle.pr_history.specs.declared.entry.Entry.{Entry}
+use Rattle.pr_outside.specs.declared.keeping.Row.{Row}
+
+abbrev pub row : List ℕ → ℕ → List ℕ → Row
+row series time point = record { series = series; time = time; point = point }
+
+abbrev pub sample : Entry
+sample = record { labels = pair_of metric_label (codes "a") ∷ pair_of (codes "b") (codes "c") ∷ []; time = 7; point = Value (Finite (pos 1500000000)) }
+
+abbrev pub marker : Entry
+marker = record { labels = []; time = 0; point = Stale }

@@ -1,0 +1,13 @@
+//! Entries of the history as rows that are kept.
+#![tactic(auto)]
+
+mod decoding;
+mod encoding;
+pub mod examples;
+pub mod laws;
+mod points;
+
+pub use decoding::{RowFault, decode};
+pub use encoding::encode;
+pub use points::{read_point, write_point};
+pub use pr_history::Entry as Stored;

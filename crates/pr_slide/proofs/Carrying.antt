@@ -1,0 +1,144 @@
+-- Windows that go on under other numbers are found under them.
+use Rattle.std.proofs.Common.{◌≡◌, ℕ, zero, suc, ◌-◌, ◌<◌, ◌≤◌, Bool, true, false, cond, nat_eq, List, [], ◌∷◌, ◌++◌, length, get_or, set, take, drop, slice_get, Option, Some, None, option_and_then, refl, sym, ap, ◌∙◌, arith}
+use Rattle.std.specs.Map.{lookup}
+use Rattle.std.specs.Option.{option_map, option_map_or}
+use Rattle.std.proofs.lemmas.Grind.{common_steps}
+use borrow.Author.Tests.{eqb-true}
+use Rattle.pr_history.specs.declared.entry.Entry.{Entry}
+use Rattle.pr_slide.specs.declared.window.Window.{Window}
+use Rattle.pr_slide.specs.Windows.{AreWindowsOf, HasWindow, Nodes, found, last_in, last_asks, passed_in, passed_of}
+use Rattle.pr_slide.specs.Carried.{IsCarried, IsOnce, carried, named_in, number_from, older_of, renumbered}
+
+-- a number that goes on from an older one names it
+number_is : (at j : ℕ) (from : List (Option ℕ)) (k : ℕ) → number_from at j from ≡ Some k → (at ≤ k) × (slice_get from (k - at) ≡ Some (Some j))
+number_is at j [] k h = absurd (cc)
+number_is at j (None ∷ from) k h =
+    let more = number_is (suc at) j from k h in
+    let low = more.0 in
+    let size : k - at ≡ suc (k - suc at) = omega arith in
+    (omega arith, ap (slice_get (None ∷ from)) size ∙ more.1)
+number_is at j (Some i ∷ from) k h = by (nat_eq i j) refl h (λ g. number_is (suc at) j from k g) where
+  by : (b : Bool) → nat_eq i j ≡ b → cond b (Some at) (number_from (suc at) j from) ≡ Some k → (number_from (suc at) j from ≡ Some k → (suc at ≤ k) × (slice_get from (k - suc at) ≡ Some (Some j)))
+      → (at ≤ k) × (slice_get (Some i ∷ from) (k - at) ≡ Some (Some j))
+  by true e g more =
+      let here : at ≡ k = cc in
+      let same : i ≡ j = eqb-true i j e in
+      let none : k - at ≡ 0 = omega (arith, here) in
+      (omega (arith, here), ap (slice_get (Some i ∷ from)) none ∙ ap (λ n. Some (Some n)) same)
+  by false e g more =
+      let rest = more g in
+      let low = rest.0 in
+      let size : k - at ≡ suc (k - suc at) = omega arith in
+      (omega arith, ap (slice_get (Some i ∷ from)) size ∙ rest.1)
+
+-- and where none goes on from it, none names it
+number_none : {R : Type 0} (at j : ℕ) (from : List (Option ℕ)) (k : ℕ) → number_from at j from ≡ None → slice_get from k ≡ Some (Some j) → R
+number_none at j [] zero h e = absurd (cc)
+number_none at j [] (suc k) h e = absurd (cc)
+number_none at j (None ∷ from) zero h e = absurd (cc)
+number_none at j (None ∷ from) (suc k) h e = number_none (suc at) j from k h e
+number_none at j (Some i ∷ from) zero h e =
+    let same : i ≡ j = cc in
+    let yes : nat_eq i j ≡ true = grind (arith, common_steps) in
+    let found : Some at ≡ None = ap (λ b. cond b (Some at) (number_from (suc at) j from)) (sym yes) ∙ h in
+    absurd (cc)
+number_none {R} at j (Some i ∷ from) (suc k) h e = by (nat_eq i j) h (λ g. number_none (suc at) j from k g e) where
+  by : (b : Bool) → cond b (Some at) (number_from (suc at) j from) ≡ None → (number_from (suc at) j from ≡ None → R) → R
+  by true g more = absurd (cc)
+  by false g more = more g
+
+older_named : (from : List (Option ℕ)) (k j : ℕ) → older_of from k ≡ Some j → slice_get from k ≡ Some (Some j)
+older_named from k j h = by (slice_get from k) h where
+  by : (o : Option (Option ℕ)) → named_in o ≡ Some j → o ≡ Some (Some j)
+  by None g = absurd (cc)
+  by (Some c) g = ap Some g
+
+abbrev nothing : Nodes
+nothing = []
+
+pub found_carried : (from : List (Option ℕ)) (nodes : Nodes) (k : ℕ) → IsOnce from → lookup (nat_eq k) (carried from nodes) ≡ option_and_then (λ j. lookup (nat_eq j) nodes) (older_of from k)
+found_carried from [] k once = by (older_of from k) where
+  by : (o : Option ℕ) → lookup (nat_eq k) nothing ≡ option_and_then (λ j. lookup (nat_eq j) nothing) o
+  by None = refl
+  by (Some j) = refl
+found_carried from (n ∷ nodes) k once = by (number_from 0 n.0 from) refl (found_carried from nodes k once) where
+  -- another older one is found behind the first
+  behind : (o : Option ℕ) → older_of from k ≡ o → ((j : ℕ) → o ≡ Some j → nat_eq j n.0 ≡ false) → option_and_then (λ j. lookup (nat_eq j) nodes) o ≡ option_and_then (λ j. lookup (nat_eq j) (n ∷ nodes)) o
+  behind None e other = refl
+  behind (Some j) e other = ap (λ b. cond b (Some n.1) (lookup (nat_eq j) nodes)) (sym (other j refl))
+
+  apart : (k' : ℕ) → number_from 0 n.0 from ≡ Some k' → nat_eq k k' ≡ false → (j : ℕ) → older_of from k ≡ Some j → nat_eq j n.0 ≡ false
+  apart k' e f j g = test (nat_eq j n.0) refl where
+    test : (b : Bool) → nat_eq j n.0 ≡ b → b ≡ false
+    test false h = refl
+    test true h =
+        let same : j ≡ n.0 = eqb-true j n.0 h in
+        let there = number_is 0 n.0 from k' e in
+        let zero_off : k' - 0 ≡ k' = omega arith in
+        let first : slice_get from k ≡ Some (Some n.0) = older_named from k j g ∙ ap (λ m. Some (Some m)) same in
+        let second : slice_get from k' ≡ Some (Some n.0) = sym (ap (slice_get from) zero_off) ∙ there.1 in
+        let equal : k ≡ k' = once k k' n.0 first second in
+        let yes : nat_eq k k' ≡ true = grind (arith, common_steps) in
+        absurd (cc (yes, f))
+
+  by : (o : Option ℕ) → number_from 0 n.0 from ≡ o → lookup (nat_eq k) (carried from nodes) ≡ option_and_then (λ j. lookup (nat_eq j) nodes) (older_of from k)
+      → lookup (nat_eq k) (renumbered o n.1 (carried from nodes)) ≡ option_and_then (λ j. lookup (nat_eq j) (n ∷ nodes)) (older_of from k)
+  by None e rest = rest ∙ behind (older_of from k) refl (λ j g. test j g (nat_eq j n.0) refl) where
+    test : (j : ℕ) → older_of from k ≡ Some j → (b : Bool) → nat_eq j n.0 ≡ b → b ≡ false
+    test j g false h = refl
+    test j g true h = number_none 0 n.0 from k e (older_named from k j g ∙ ap (λ m. Some (Some m)) (eqb-true j n.0 h))
+  by (Some k') e rest = test (nat_eq k k') refl where
+    test : (b : Bool) → nat_eq k k' ≡ b → cond b (Some n.1) (lookup (nat_eq k) (carried from nodes)) ≡ option_and_then (λ j. lookup (nat_eq j) (n ∷ nodes)) (older_of from k)
+    test false f = rest ∙ behind (older_of from k) refl (apart k' e f)
+    test true f =
+        let same : k ≡ k' = eqb-true k k' f in
+        let there = number_is 0 n.0 from k' e in
+        let zero_off : k' - 0 ≡ k' = omega arith in
+        let named : slice_get from k ≡ Some (Some n.0) = ap (slice_get from) (same ∙ sym zero_off) ∙ there.1 in
+        let yes : nat_eq n.0 n.0 ≡ true = grind (arith, common_steps) in
+        sym (ap (λ o. option_and_then (λ j. lookup (nat_eq j) (n ∷ nodes)) (named_in o)) named ∙ ap (λ b. cond b (Some n.1) (lookup (nat_eq n.0) nodes)) yes)
+
+windows_carried : (from : List (Option ℕ)) (nodes : Nodes) (k q : ℕ) → IsOnce from → found (carried from nodes) k q ≡ option_and_then (λ j. found nodes j q) (older_of from k)
+windows_carried from nodes k q once = ap (option_and_then (lookup (nat_eq q))) (found_carried from nodes k once) ∙ by (older_of from k) where
+  by : (o : Option ℕ) → option_and_then (lookup (nat_eq q)) (option_and_then (λ j. lookup (nat_eq j) nodes) o) ≡ option_and_then (λ j. found nodes j q) o
+  by None = refl
+  by (Some j) = refl
+
+pub is_carried : (from : List (Option ℕ)) (nodes : Nodes) → IsOnce from → IsCarried from (last_asks nodes) (last_asks (carried from nodes)) (passed_of nodes) (passed_of (carried from nodes))
+is_carried from nodes once = record {
+  asks = λ k q. ap (option_map last_in) (windows_carried from nodes k q once) ∙ asked q (older_of from k);
+  passing = λ k q. ap passed_in (windows_carried from nodes k q once) ∙ passed q (older_of from k);
+} where
+  asked : (q : ℕ) (o : Option ℕ) → option_map last_in (option_and_then (λ j. found nodes j q) o) ≡ option_and_then (λ j. last_asks nodes j q) o
+  asked q None = refl
+  asked q (Some j) = refl
+
+  passed : (q : ℕ) (o : Option ℕ) → passed_in (option_and_then (λ j. found nodes j q) o) ≡ option_map_or (λ j. passed_of nodes j q) o 0
+  passed q None = refl
+  passed q (Some j) = refl
+
+pub fits_carried : (from : List (Option ℕ)) (nodes : Nodes) (history : List Entry) → IsOnce from → AreWindowsOf nodes history → AreWindowsOf (carried from nodes) history
+fits_carried from nodes history once fits = λ k q w at. by q w (older_of from k) (sym (windows_carried from nodes k q once) ∙ at) where
+  by : (q : ℕ) (w : Window) (o : Option ℕ) → option_and_then (λ j. found nodes j q) o ≡ Some w → HasWindow history q w
+  by q w None e = absurd (cc)
+  by q w (Some j) e = fits j q w e
+
+-- the windows at a place get their number, or go
+pub renumbered_at : (from : List (Option ℕ)) (nodes : Nodes) (i j number : ℕ) (d : ℕ × List (ℕ × Window)) → j ≡ suc i → i < length nodes → number_from 0 (get_or nodes i d).0 from ≡ Some number
+    → take j (set nodes i (number, (get_or nodes i d).1)) ++ carried from (drop j (set nodes i (number, (get_or nodes i d).1))) ≡ take i nodes ++ carried from (drop i nodes)
+renumbered_at from nodes i j number d e h found =
+    ap (λ n. take n (set nodes i (number, (get_or nodes i d).1)) ++ carried from (drop n (set nodes i (number, (get_or nodes i d).1)))) e ∙ by nodes i h found where
+      by : (nodes : Nodes) (i : ℕ) → i < length nodes → number_from 0 (get_or nodes i d).0 from ≡ Some number
+          → take (suc i) (set nodes i (number, (get_or nodes i d).1)) ++ carried from (drop (suc i) (set nodes i (number, (get_or nodes i d).1))) ≡ take i nodes ++ carried from (drop i nodes)
+      by [] i h k = absurd (omega arith)
+      by (n ∷ nodes) zero h k = ap (λ o. renumbered o n.1 (carried from nodes)) (sym k)
+      by (n ∷ nodes) (suc i) h k = ap (λ l. n ∷ l) (by nodes i (omega arith) k)
+
+pub removed_at : (from : List (Option ℕ)) (nodes nodes' : Nodes) (i j : ℕ) (d : ℕ × List (ℕ × Window)) → j ≡ suc i → nodes' ≡ take i nodes ++ drop j nodes → i < length nodes → number_from 0 (get_or nodes i d).0 from ≡ None
+    → take i nodes' ++ carried from (drop i nodes') ≡ take i nodes ++ carried from (drop i nodes)
+removed_at from nodes nodes' i j d e is h found = ap (λ l. take i l ++ carried from (drop i l)) (is ∙ ap (λ n. take i nodes ++ drop n nodes) e) ∙ by nodes i h found where
+  by : (nodes : Nodes) (i : ℕ) → i < length nodes → number_from 0 (get_or nodes i d).0 from ≡ None
+      → take i (take i nodes ++ drop (suc i) nodes) ++ carried from (drop i (take i nodes ++ drop (suc i) nodes)) ≡ take i nodes ++ carried from (drop i nodes)
+  by [] i h k = absurd (omega arith)
+  by (n ∷ nodes) zero h k = ap (λ o. renumbered o n.1 (carried from nodes)) (sym k)
+  by (n ∷ nodes) (suc i) h k = ap (λ l. n ∷ l) (by nodes i (omega arith) k)

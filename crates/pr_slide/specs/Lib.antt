@@ -1,0 +1,6 @@
+pub mod Later
+pub mod Windows
+pub mod Growing
+pub mod Places
+pub mod Carried
+pub mod Kinds

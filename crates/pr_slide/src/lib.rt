@@ -1,0 +1,14 @@
+//! Ranges that go on: for each range selector and series the values of the last range are kept, and
+//! the next ask reads only what came after them.
+#![tactic(auto)]
+
+mod laws;
+mod listed;
+mod node;
+mod sliding;
+mod spots;
+mod summed;
+mod window;
+
+pub use laws::what_was_passed_is_no_more_than_the_range;
+pub use sliding::SlidingRanges;

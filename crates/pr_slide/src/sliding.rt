@@ -1,0 +1,216 @@
+// Ranges that go on.
+ghost use Rattle.std.specs.Prelude.{◌≡◌, ◌≢◌, ◌+◌, ◌-◌, ◌<◌, ◌≤◌, ◌≤ℤ◌, ◌++◌, ◌∷◌, [], ℕ, List, Option, Some, None, Err, IfOk, IfSome, IfNone, OnOk, length, max, nat_eq, slice_get, take, drop};
+ghost use Rattle.pr_labels.specs.declared.pair.Pair.{Pair};
+ghost use Rattle.pr_history.specs.declared.entry.Entry.{Entry};
+ghost use Rattle.pr_head.specs.Stored.{Stored, count_of, position_of};
+ghost use Rattle.pr_vectors.specs.Ranges.{over};
+ghost use Rattle.pr_range.specs.declared.fault.RangeFault.TheVariants.{Memory};
+ghost use Rattle.pr_range.specs.Answers.{AnswersAsk};
+ghost use Rattle.pr_range.specs.Asks.{HasArgument};
+ghost use Rattle.pr_range.specs.Spots.{AreWithin};
+ghost use Rattle.std.specs.Map.{lookup};
+ghost use Rattle.pr_slide.specs.Places.{IsNodePlace};
+ghost use Rattle.pr_slide.specs.Carried.{IsCarried, IsOnce, carried, number_from};
+ghost use Rattle.pr_slide.specs.Windows.{AreWindowsOf, IsPut, found, last_asks, passed_in, passed_of, slid_spots, spots_in};
+
+use crate::node::Node;
+use pr_head::Head;
+use pr_num::Num;
+use pr_range::{Ask, PlainRanges, RangeFault, Ranges};
+use pr_words::Steps;
+use std::alloc::{AllocError, Global};
+use std::marker::Model;
+use std::sync::ledger::Ledger;
+
+/// Ranges that go on. The values of the last range of each range selector and series are kept, and
+/// an ask reads only the samples that came after them, late ones among them. An ask inside a
+/// subquery is read from the head anew, and leaves what is kept.
+///
+/// After want of memory it is used no more.
+#[derive(Drop)]
+pub struct SlidingRanges {
+    nodes: Vec<Node>,
+    alloc: Global,
+}
+
+impl Model for SlidingRanges {
+    ghost use Rattle.pr_slide.specs.Windows.{Nodes};
+
+    ghost Value = { Nodes };
+
+    ghost view = { λ r. r.nodes.items };
+}
+
+// The number of the range selector that goes on from an older one.
+fn number_from(from: &[Option<usize>], older: usize) -> Option<usize>
+    ensures { result ≡ number_from 0 older from.now }
+{
+    for (number, choice) in from.iter().enumerate() {
+        if *choice == Some(older) {
+            return Some(number);
+        }
+    }
+    None
+}
+
+// The windows at a place get their new number, or go. What is left stands from the answer on.
+fn renumber_at(nodes: &mut Vec<Node>, from: &[Option<usize>], place: usize) -> usize
+    requires { place < length nodes.old.items }
+    ensures carried { take result nodes.new.items ++ carried from.now (drop result nodes.new.items) ≡ take place nodes.old.items ++ carried from.now (drop place nodes.old.items) }
+    ensures within { result ≤ length nodes.new.items }
+    ensures less { length nodes.new.items - result < length nodes.old.items - place }
+{
+    match number_from(from, nodes[place].number()) {
+        Some(number) => {
+            nodes[place].renumber(number);
+            place + 1
+        }
+        None => {
+            nodes.remove(place);
+            place
+        }
+    }
+}
+
+// Gives the windows that go on their new numbers, and lets the others go.
+fn renumber_all(nodes: &mut Vec<Node>, from: &[Option<usize>])
+    ensures { nodes.new.items ≡ carried from.now nodes.old.items }
+{
+    let mut done = 0;
+    'renumbering: while done < nodes.len() {
+        done = renumber_at(nodes, from, done);
+    }
+}
+
+impl SlidingRanges {
+    /// Nothing was asked yet.
+    pub fn new(alloc: Global) -> SlidingRanges
+        ensures empty { result ≡ [] }
+        ensures fits { (history : List Entry) → AreWindowsOf result history }
+    {
+        SlidingRanges {
+            nodes: Vec::new(alloc),
+            alloc,
+        }
+    }
+
+    /// Goes on from an older value, in its storage: each range selector takes the windows of the
+    /// older one that is named for it, and the windows of the others are let go. What was last asked
+    /// and how much was passed goes with them. Takes no memory.
+    pub fn carry(&mut self, old: SlidingRanges, from: &[Option<usize>])
+        requires fresh { self.old ≡ [] }
+        requires once { IsOnce from.now }
+        ensures carried { IsCarried from.now (last_asks old) (last_asks self.new) (passed_of old) (passed_of self.new) }
+        ensures fits { (history : List Entry) → AreWindowsOf old history → AreWindowsOf self.new history }
+    {
+        let mut nodes = old.nodes;
+        renumber_all(&mut nodes, from);
+        self.nodes = nodes;
+    }
+
+    // Where the windows of a range selector stand.
+    fn place_of(&self, node: usize) -> Option<usize>
+        ensures some { IfSome result (λ i. IsNodePlace node i self.now) }
+        ensures none { IfNone result (lookup (nat_eq node) self.now ≡ None) }
+    {
+        for (i, n) in self.nodes.iter().enumerate() {
+            if node == n.number() {
+                return Some(i);
+            }
+        }
+        None
+    }
+
+    // Where they stand, be it that there are none yet.
+    fn place_for(&mut self, node: usize) -> Result<usize, AllocError>
+        ensures place { IfOk result (λ i. IsNodePlace node i self.new) }
+        ensures same { OnOk result ((k q : ℕ) → found self.new k q ≡ found self.old k q) }
+    {
+        match self.place_of(node) {
+            Some(place) => Ok(place),
+            None => {
+                self.nodes.push(Node::new(self.alloc, node))?;
+                Ok(self.nodes.len() - 1)
+            }
+        }
+    }
+
+    // An ask of the windows at a place.
+    fn ask_at<G: Ledger>(
+        &mut self,
+        head: &Head,
+        place: usize,
+        node: usize,
+        series: usize,
+        ask: &Ask,
+        reads: &mut Steps<G>,
+    ) -> Result<Option<Num>, RangeFault>
+        requires there { series < length head.now }
+        requires argument { HasArgument ask.now }
+        requires place { IsNodePlace node place self.old }
+        ensures answer { (e : List Pair × Stored) → slice_get head.now series ≡ Some e → e.1.first ≤ position_of e.1 ask.now.from → position_of e.1 ask.now.to ≤ count_of e.1
+            → AreWithin ask.now.from ask.now.to (slid_spots e.1 ask.now (passed_in (found self.old node series)) (spots_in (found self.old node series)))
+            → AnswersAsk (over ask.now (slid_spots e.1 ask.now (passed_in (found self.old node series)) (spots_in (found self.old node series)))) result }
+        ensures put { (e : List Pair × Stored) → slice_get head.now series ≡ Some e → e.1.first ≤ position_of e.1 ask.now.from → position_of e.1 ask.now.to ≤ count_of e.1
+            → result ≢ Err Memory → IsPut e.1 ask.now node series self.old self.new }
+        ensures reads { (e : List Pair × Stored) → slice_get head.now series ≡ Some e
+            → reads.new ≤ reads.old + (position_of e.1 ask.now.to - max (position_of e.1 ask.now.from) (passed_in (found self.old node series))) }
+    {
+        self.nodes[place].ask(self.alloc, head, series, ask, reads)
+    }
+
+    // An ask outside subqueries: the window goes on.
+    fn ask_outside<G: Ledger>(
+        &mut self,
+        head: &Head,
+        node: usize,
+        series: usize,
+        ask: &Ask,
+        reads: &mut Steps<G>,
+    ) -> Result<Option<Num>, RangeFault>
+        requires there { series < length head.now }
+        requires argument { HasArgument ask.now }
+        ensures answer { (e : List Pair × Stored) → slice_get head.now series ≡ Some e → e.1.first ≤ position_of e.1 ask.now.from → position_of e.1 ask.now.to ≤ count_of e.1
+            → AreWithin ask.now.from ask.now.to (slid_spots e.1 ask.now (passed_in (found self.old node series)) (spots_in (found self.old node series)))
+            → AnswersAsk (over ask.now (slid_spots e.1 ask.now (passed_in (found self.old node series)) (spots_in (found self.old node series)))) result }
+        ensures put { (e : List Pair × Stored) → slice_get head.now series ≡ Some e → e.1.first ≤ position_of e.1 ask.now.from → position_of e.1 ask.now.to ≤ count_of e.1
+            → result ≢ Err Memory → IsPut e.1 ask.now node series self.old self.new }
+        ensures reads { (e : List Pair × Stored) → slice_get head.now series ≡ Some e
+            → reads.new ≤ reads.old + (position_of e.1 ask.now.to - max (position_of e.1 ask.now.from) (passed_in (found self.old node series))) }
+    {
+        match self.place_for(node) {
+            Ok(place) => self.ask_at(head, place, node, series, ask, reads),
+            Err(_) => Err(RangeFault::Memory),
+        }
+    }
+}
+
+impl Ranges for SlidingRanges {
+    ghost use Rattle.std.specs.Prelude.{true};
+    ghost use Rattle.pr_slide.specs.Windows.{AreWindowsOf, last_asks, passed_of};
+    ghost use Rattle.pr_slide.specs.Growing.{fits_more};
+
+    ghost keeps = { true };
+
+    ghost last = { last_asks };
+
+    ghost passed = { passed_of };
+
+    ghost fits = { AreWindowsOf };
+
+    fn ask<G: Ledger>(
+        &mut self,
+        head: &Head,
+        node: usize,
+        series: usize,
+        ask: &Ask,
+        reads: &mut Steps<G>,
+    ) -> Result<Option<Num>, RangeFault> {
+        if ask.inside {
+            return PlainRanges::new(self.alloc).ask(head, node, series, ask, reads);
+        }
+        self.ask_outside(head, node, series, ask, reads)
+    }
+
+    ghost stays = { λ r history e lawful h. fits_more r history e h };
+}

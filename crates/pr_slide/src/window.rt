@@ -1,0 +1,185 @@
+// One window: the values of the last range of a series.
+ghost use Rattle.std.specs.Prelude.{◌≡◌, ◌≢◌, ◌+◌, ◌-◌, ◌<◌, ◌≤◌, ◌++◌, ◌∷◌, [], ℕ, List, OnOk, Some, Err, length, max, slice_get};
+ghost use Rattle.pr_labels.specs.declared.pair.Pair.{Pair};
+ghost use Rattle.pr_head.specs.Stored.{Stored, count_of, position_of};
+ghost use Rattle.pr_vectors.specs.Ranges.{over};
+ghost use Rattle.pr_range.specs.declared.fault.RangeFault.TheVariants.{Memory};
+ghost use Rattle.pr_range.specs.Answers.{AnswersAsk};
+ghost use Rattle.pr_range.specs.Asks.{HasArgument, remembered};
+ghost use Rattle.pr_range.specs.Spots.{AreWithin, samples_between, spots_of};
+ghost use Rattle.pr_slide.specs.Windows.{last_in, slid_spots};
+
+use crate::spots::Spots;
+use pr_head::{Head, Timed};
+use pr_history::Spot;
+use pr_num::Num;
+use pr_range::{Ask, RangeFault, RangeFn};
+use pr_words::Steps;
+use std::alloc::{AllocError, Global};
+use std::sync::ledger::Ledger;
+
+/// What is kept of a series for a range selector: the function and the range of its last ask, how
+/// many samples of the series were passed, and the values of those of them that are after the start
+/// of the range.
+#[derive(Drop)]
+pub struct Window {
+    pub(crate) func: RangeFn,
+    pub(crate) from: i64,
+    pub(crate) to: i64,
+    pub(crate) passed: u64,
+    pub(crate) spots: Spots,
+}
+
+// Puts the value of a sample at the end, if it has one.
+fn push_spot(spots: &mut Spots, sample: &Timed) -> Result<(), AllocError>
+    ensures { OnOk result (spots.new ≡ spots.old ++ spots_of (sample.now ∷ [])) }
+{
+    let number: Option<Num> = sample.number();
+    match number {
+        Some(value) => {
+            spots.push(Spot {
+                time: sample.time,
+                value,
+            })?;
+            Ok(())
+        }
+        None => Ok(()),
+    }
+}
+
+// One sample of a series that is held, put at the end if it has a value.
+fn push_at<G: Ledger>(
+    spots: &mut Spots,
+    head: &Head,
+    series: usize,
+    place: u64,
+    reads: &mut Steps<G>,
+) -> Result<(), AllocError>
+    ensures spots { (e : List Pair × Stored) → slice_get head.now series ≡ Some e → e.1.first ≤ place → place < count_of e.1
+        → OnOk result (spots.new ≡ spots.old ++ spots_of (samples_between e.1 place (place + 1))) }
+    ensures reads { reads.new ≡ reads.old + 1 }
+{
+    match head.sample(series, place, reads) {
+        Some(sample) => push_spot(spots, &sample),
+        None => Ok(()),
+    }
+}
+
+// Puts the values of the samples of a series, from one place to another, at the end.
+fn push_between<G: Ledger>(
+    spots: &mut Spots,
+    head: &Head,
+    series: usize,
+    from: u64,
+    to: u64,
+    reads: &mut Steps<G>,
+) -> Result<(), AllocError>
+    ensures spots { (e : List Pair × Stored) → slice_get head.now series ≡ Some e → e.1.first ≤ from → to ≤ count_of e.1
+        → OnOk result (spots.new ≡ spots.old ++ spots_of (samples_between e.1 from to)) }
+    ensures reads { reads.new ≤ reads.old + (to - from) }
+{
+    for place in from..to {
+        push_at(spots, head, series, place, reads)?;
+    }
+    Ok(())
+}
+
+// The place of the first held sample of a series after a moment, or the count.
+fn place_after(head: &Head, series: usize, time: i64) -> u64
+    requires { series < length head.now }
+    ensures { (e : List Pair × Stored) → slice_get head.now series ≡ Some e → result ≡ position_of e.1 time }
+{
+    match head.position(series, time) {
+        Some(place) => place,
+        None => 0,
+    }
+}
+
+impl Window {
+    /// Nothing was passed yet.
+    pub(crate) fn new(alloc: Global, func: RangeFn) -> Window
+        ensures passed { result.passed ≡ 0 }
+        ensures spots { result.spots ≡ [] }
+    {
+        Window {
+            func,
+            from: 0,
+            to: 0,
+            passed: 0,
+            spots: Spots::new(alloc, func),
+        }
+    }
+
+    // Goes on to a later range: the values that are not after its start go, and what was not passed
+    // yet comes, be it late or not.
+    fn slide<G: Ledger>(
+        &mut self,
+        head: &Head,
+        series: usize,
+        ask: &Ask,
+        reads: &mut Steps<G>,
+    ) -> Result<(), AllocError>
+        requires there { series < length head.now }
+        ensures last { OnOk result (last_in self.new ≡ remembered ask.now) }
+        ensures passed { (e : List Pair × Stored) → slice_get head.now series ≡ Some e → OnOk result (self.new.passed ≡ position_of e.1 ask.now.to) }
+        ensures spots { (e : List Pair × Stored) → slice_get head.now series ≡ Some e → e.1.first ≤ position_of e.1 ask.now.from → position_of e.1 ask.now.to ≤ count_of e.1
+            → OnOk result (self.new.spots ≡ slid_spots e.1 ask.now self.old.passed self.old.spots) }
+        ensures reads { (e : List Pair × Stored) → slice_get head.now series ≡ Some e
+            → reads.new ≤ reads.old + (position_of e.1 ask.now.to - max (position_of e.1 ask.now.from) self.old.passed) }
+    {
+        let Ask {
+            from: start,
+            to: end,
+            func,
+            ..
+        } = *ask;
+        let from = place_after(head, series, start).max(self.passed);
+        let to = place_after(head, series, end);
+        self.spots.drop_until(start);
+        push_between(&mut self.spots, head, series, from, to, reads)?;
+        self.func = func;
+        self.from = start;
+        self.to = end;
+        self.passed = to;
+        Ok(())
+    }
+
+    // Nothing is kept any more, as before the first ask.
+    fn forget(&mut self, alloc: Global)
+        ensures passed { self.new.passed ≡ 0 }
+        ensures spots { self.new.spots ≡ [] }
+    {
+        self.passed = 0;
+        self.spots = Spots::new(alloc, self.func);
+    }
+
+    /// Goes on to a later range, and answers its function.
+    pub(crate) fn ask<G: Ledger>(
+        &mut self,
+        alloc: Global,
+        head: &Head,
+        series: usize,
+        ask: &Ask,
+        reads: &mut Steps<G>,
+    ) -> Result<Option<Num>, RangeFault>
+        requires there { series < length head.now }
+        requires argument { HasArgument ask.now }
+        ensures answer { (e : List Pair × Stored) → slice_get head.now series ≡ Some e → e.1.first ≤ position_of e.1 ask.now.from → position_of e.1 ask.now.to ≤ count_of e.1
+            → AreWithin ask.now.from ask.now.to (slid_spots e.1 ask.now self.old.passed self.old.spots)
+            → AnswersAsk (over ask.now (slid_spots e.1 ask.now self.old.passed self.old.spots)) result }
+        ensures last { result ≢ Err Memory → last_in self.new ≡ remembered ask.now }
+        ensures passed { (e : List Pair × Stored) → slice_get head.now series ≡ Some e → result ≢ Err Memory → self.new.passed ≡ position_of e.1 ask.now.to }
+        ensures spots { (e : List Pair × Stored) → slice_get head.now series ≡ Some e → e.1.first ≤ position_of e.1 ask.now.from → position_of e.1 ask.now.to ≤ count_of e.1
+            → result ≢ Err Memory → self.new.spots ≡ slid_spots e.1 ask.now self.old.passed self.old.spots }
+        ensures reads { (e : List Pair × Stored) → slice_get head.now series ≡ Some e
+            → reads.new ≤ reads.old + (position_of e.1 ask.now.to - max (position_of e.1 ask.now.from) self.old.passed) }
+    {
+        match self.slide(head, series, ask, reads) {
+            Ok(()) => self.spots.answer(alloc, ask),
+            Err(_) => {
+                self.forget(alloc);
+                Err(RangeFault::Memory)
+            }
+        }
+    }
+}

@@ -1,0 +1,4 @@
+pub mod Outcomes
+pub mod Selectors
+pub mod Reloaded
+pub mod AllGroups
