@@ -5,3 +5,4 @@ pub mod Selecting
 pub mod Simulation
 pub mod Trimming
 pub mod Indexing
+pub mod Oldest

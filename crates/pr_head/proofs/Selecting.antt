@@ -1,109 +1,83 @@
--- Series in label order: a sort of those that are chosen gives the label sets in label order, each
--- once.
-use Rattle.std.proofs.Common.{◌≡◌, ℕ, zero, suc, ◌+◌, ◌<◌, Bool, true, false, cond, ◌&&◌, List, [], ◌∷◌, ◌++◌, length, get_or, slice_get, map, take, filter, None, refl, sym, ap, subst, ◌∙◌, arith}
-use Rattle.std.specs.List.{AllByRecursion, IsDistinct}
-use Rattle.std.specs.List.Sorted.{IsPermutation, IsSortedBy}
-use Rattle.std.specs.Ordering.{is_lt, is_eq}
-use Rattle.std.specs.declared.cmp.Ordering.{Ordering}
-use Rattle.std.specs.declared.cmp.Ordering.TheVariants.{Less, Equal, Greater}
-use Rattle.std.proofs.lemmas.List.{get_or-map, length-map}
-use Rattle.std.proofs.lemmas.List.Sorted.{IsPermutation-map, list_any-IsPermutation}
-use Rattle.std.proofs.lemmas.Map.Keys.{IsDistinct-IsPermutation, IsDistinct-head, IsDistinct-tail, IsDistinct-cons, apart_from_distinct}
+-- Series in label order: those that are chosen of some in label order are in label order, each once.
+use Rattle.std.proofs.Common.{◌≡◌, ℕ, zero, suc, ◌<◌, Bool, true, false, cond, ◌&&◌, List, [], ◌∷◌, length, slice_get, map, filter, Some, refl, sym, ap, subst, ◌∙◌, arith}
+use Rattle.std.specs.List.{All}
+use Rattle.std.specs.Map.{keys_of, values_of}
+use Rattle.std.proofs.lemmas.List.{length-map}
+use Rattle.std.proofs.lemmas.List.Elements.{All-cons, All-nil}
 use Rattle.pr_labels.specs.declared.pair.Pair.{Pair}
-use Rattle.pr_labels.specs.Order.{labels_cmp, labels_eq, labels_tie}
-use Rattle.pr_labels.specs.Rising.{IsRising, is_among}
-use Rattle.pr_labels.proofs.LabelOrder.{labels_decide, turned, rising_fold, among_fold, among_filter, same_rising}
+use Rattle.pr_labels.specs.Rising.{IsBelowFirstSet, IsRising, is_among}
+use Rattle.pr_labels.proofs.LabelOrder.{below_next, rising_fold, among_fold, among_filter, same_rising}
 use Rattle.pr_history.specs.declared.entry.Entry.{Entry}
-use Rattle.pr_history.specs.Series.{chosen}
+use Rattle.pr_history.specs.Series.{chosen, has_values}
 use Rattle.pr_history.proofs.Choosing.{chosen_rising, chosen_among}
-use Rattle.std.specs.Option.{option_map}
-use Rattle.std.proofs.lemmas.List.Elements.{filter-append}
 use Rattle.pr_head.specs.Stored.{Stored}
 use Rattle.pr_head.specs.Holds.{arrivals, chosen_of, labels_at, sets_of}
+use Rattle.pr_head.specs.Index.{AreNumbered, IsEnough, Numbered}
 use Rattle.pr_head.proofs.Arrivals.{among_arrivals}
 
--- a series that is not there has no pairs
-pub labels_none : (head : List (List Pair × Stored)) (i : ℕ) → None ≡ option_map (λ e. e.0) (slice_get head i) → [] ≡ labels_at (sets_of head) i
-labels_none [] i h = refl
-labels_none (e ∷ head) zero h = cc
-labels_none (e ∷ head) (suc i) h = labels_none head i h
+abbrev Sets : Type 0
+Sets = List (List Pair)
 
--- one more that may pass
-pub filter_take : (test : List Pair → Bool) (sets : List (List Pair)) (k : ℕ) → k < length sets
-    → filter test (take (k + 1) sets) ≡ filter test (take k sets) ++ filter test (labels_at sets k ∷ [])
-filter_take test sets k h = ap (filter test) (take_more sets k h) ∙ filter-append test (take k sets) (labels_at sets k ∷ []) where
-  take_more : (sets : List (List Pair)) (k : ℕ) → k < length sets → take (k + 1) sets ≡ take k sets ++ labels_at sets k ∷ []
-  take_more [] k h = absurd (omega arith)
-  take_more (s ∷ sets) zero h = refl
-  take_more (s ∷ sets) (suc k) h = let next : suc k + 1 ≡ suc (k + 1) = omega arith in ap (λ n. take n (s ∷ sets)) next ∙ ap (λ l. s ∷ l) (take_more sets k (omega arith))
+-- those that are chosen of some series, and their numbers
+abbrev picked : List Pair → Numbered → Numbered
+picked equal es = filter (λ e. has_values equal e.0) es
 
--- equality of label sets reads the same from both sides
-flips : (a b : List Pair) → labels_eq a b ≡ labels_eq b a
-flips a b = by (labels_eq a b) refl (labels_eq b a) refl where
-  by : (t : Bool) → labels_eq a b ≡ t → (u : Bool) → labels_eq b a ≡ u → t ≡ u
-  by true e true f = refl
-  by true e false f = sym (sym f ∙ (labels_decide b a).1 (sym ((labels_decide a b).0 e)))
-  by false e true f = sym e ∙ (labels_decide a b).1 (sym ((labels_decide b a).0 f))
-  by false e false f = refl
+numbered_at : (sets : Sets) (i : ℕ) (l : List Pair) → slice_get sets i ≡ Some l → labels_at sets i ≡ l
+numbered_at [] i l h = cc
+numbered_at (s ∷ sets) zero l h = cc
+numbered_at (s ∷ sets) (suc i) l h = numbered_at sets i l h
 
--- those that pass are distinct where all are
-all_filter : (P : List Pair → Type 0) (test : List Pair → Bool) (sets : List (List Pair)) → AllByRecursion P sets → AllByRecursion P (filter test sets)
-all_filter P test [] h = tt
-all_filter P test (s ∷ sets) h = by (test s) (all_filter P test sets h.1) where
-  by : (b : Bool) → AllByRecursion P (filter test sets) → AllByRecursion P (cond b (s ∷ filter test sets) (filter test sets))
-  by true k = (h.0, k)
-  by false k = k
+number_below : (sets : Sets) (i : ℕ) (l : List Pair) → slice_get sets i ≡ Some l → i < length sets
+number_below [] i l h = cc
+number_below (s ∷ sets) zero l h = omega arith
+number_below (s ∷ sets) (suc i) l h = let rest = number_below sets i l h in omega arith
 
-distinct_filter : (test : List Pair → Bool) (sets : List (List Pair)) → IsDistinct labels_eq sets → IsDistinct labels_eq (filter test sets)
-distinct_filter test [] h = h
-distinct_filter test (s ∷ sets) h = by (test s) (distinct_filter test sets (IsDistinct-tail labels_eq s sets h)) where
-  by : (b : Bool) → IsDistinct labels_eq (filter test sets) → IsDistinct labels_eq (cond b (s ∷ filter test sets) (filter test sets))
-  by true k = IsDistinct-cons labels_eq s (filter test sets) (all_filter (λ y. labels_eq s y ≡ false) test sets (IsDistinct-head labels_eq s sets h)) k
-  by false k = k
+picked_known : (equal : List Pair) (sets : Sets) (es : Numbered) → AreNumbered sets es → All (λ i. i < length sets) (values_of (picked equal es))
+picked_known equal sets [] h = All-nil (λ i. i < length sets)
+picked_known equal sets (e ∷ es) h = by (has_values equal e.0) (picked_known equal sets es h.1) where
+  by : (b : Bool) → All (λ i. i < length sets) (values_of (picked equal es)) → All (λ i. i < length sets) (values_of (cond b (e ∷ picked equal es) (picked equal es)))
+  by true rest = All-cons (λ i. i < length sets) e.1 (values_of (picked equal es)) (number_below sets e.1 e.0 h.0) rest
+  by false rest = rest
 
--- of two that differ and do not fall the first is below
-below_next : (a b : List Pair) → is_lt (labels_cmp b a) ≡ false → labels_eq a b ≡ false → labels_cmp a b ≡ Less
-below_next a b up apart = by (labels_cmp a b) refl where
-  by : (o : Ordering) → labels_cmp a b ≡ o → labels_cmp a b ≡ Less
-  by Less e = e
-  by Equal e = let ties : labels_eq a b ≡ true = labels_tie a b ∙ ap is_eq e in cc
-  by Greater e = let down : is_lt (labels_cmp b a) ≡ true = ap is_lt (turned a b e) in cc
+pub select_known : (equal : List Pair) (head : List (List Pair × Stored)) (es : Numbered) → AreNumbered (sets_of head) es → All (λ i. i < length head) (values_of (picked equal es))
+select_known equal head es h = subst (λ n. All (λ i. i < n) (values_of (picked equal es))) (length-map head (λ e. e.0)) (picked_known equal (sets_of head) es h)
 
-rising_from : (sets : List (List Pair)) → ((k : ℕ) → suc k < length sets → labels_cmp (get_or sets k []) (get_or sets (suc k) []) ≡ Less) → IsRising sets
-rising_from [] h = tt
-rising_from (s ∷ []) h = (tt, tt)
-rising_from (s ∷ t ∷ sets) h = (h 0 (omega arith), rising_from (t ∷ sets) (λ k p. h (suc k) (omega arith)))
+-- their labels are those of the series that have the values
+picked_labels : (equal : List Pair) (sets : Sets) (es : Numbered) → AreNumbered sets es → map (labels_at sets) (values_of (picked equal es)) ≡ filter (has_values equal) (keys_of es)
+picked_labels equal sets [] h = refl
+picked_labels equal sets (e ∷ es) h = by (has_values equal e.0) (picked_labels equal sets es h.1) where
+  by : (b : Bool) → map (labels_at sets) (values_of (picked equal es)) ≡ filter (has_values equal) (keys_of es)
+      → map (labels_at sets) (values_of (cond b (e ∷ picked equal es) (picked equal es))) ≡ cond b (e.0 ∷ filter (has_values equal) (keys_of es)) (filter (has_values equal) (keys_of es))
+  by true rest = λ j. numbered_at sets e.1 e.0 h.0 j ∷ rest j
+  by false rest = rest
 
--- what is sorted by its labels, which differ, rises
-sorted_rising : (f : ℕ → List Pair) (sorted : List ℕ) → IsSortedBy (λ a b. is_lt (labels_cmp (f a) (f b))) sorted → IsDistinct labels_eq (map f sorted) → IsRising (map f sorted)
-sorted_rising f sorted up apart = rising_from (map f sorted) (λ k p.
-    let size : length (map f sorted) ≡ length sorted = length-map sorted f in
-    let one = get_or-map f sorted k 0 [] (omega arith) in
-    let two = get_or-map f sorted (suc k) 0 [] (omega arith) in
-    let next : k + 1 ≡ suc k = omega arith in
-    let low : is_lt (labels_cmp (f (get_or sorted (suc k) 0)) (f (get_or sorted k 0))) ≡ false =
-    subst (λ n. is_lt (labels_cmp (f (get_or sorted n 0)) (f (get_or sorted k 0))) ≡ false) next (up k 0 (omega arith) (omega arith)) in
-    below_next (get_or (map f sorted) k []) (get_or (map f sorted) (suc k) [])
-    ((λ i. is_lt (labels_cmp (two i) (one i))) ∙ low)
-    (apart_from_distinct labels_eq (map f sorted) k (suc k) [] apart (omega arith) p))
+-- what passes of a rising list rises
+below_filter : (test : List Pair → Bool) (l : List Pair) (sets : Sets) → IsBelowFirstSet l sets → IsRising sets → IsBelowFirstSet l (filter test sets)
+below_filter test l [] h up = tt
+below_filter test l (s ∷ sets) h up = by (test s) (below_filter test l sets (below_next l s sets h up.0) up.1) where
+  by : (b : Bool) → IsBelowFirstSet l (filter test sets) → IsBelowFirstSet l (cond b (s ∷ filter test sets) (filter test sets))
+  by true rest = h
+  by false rest = rest
 
-sorted_distinct : (test : List Pair → Bool) (sets : List (List Pair)) (places sorted : List ℕ) → IsDistinct labels_eq sets → map (labels_at sets) places ≡ filter test sets
-    → IsPermutation places sorted → IsDistinct labels_eq (map (labels_at sets) sorted)
-sorted_distinct test sets places sorted once is moved =
-    IsDistinct-IsPermutation labels_eq flips (map (labels_at sets) places) (map (labels_at sets) sorted) (IsPermutation-map (labels_at sets) places sorted moved)
-    (subst (IsDistinct labels_eq) (sym is) (distinct_filter test sets once))
+rising_filter : (test : List Pair → Bool) (sets : Sets) → IsRising sets → IsRising (filter test sets)
+rising_filter test [] h = tt
+rising_filter test (s ∷ sets) h = by (test s) (rising_filter test sets h.1) where
+  by : (b : Bool) → IsRising (filter test sets) → IsRising (cond b (s ∷ filter test sets) (filter test sets))
+  by true rest = (below_filter test s sets h.0 h.1, rest)
+  by false rest = rest
 
-pub select_rising : (test : List Pair → Bool) (sets : List (List Pair)) (places sorted : List ℕ) → IsDistinct labels_eq sets → map (labels_at sets) places ≡ filter test sets
-    → IsPermutation places sorted → IsSortedBy (λ a b. is_lt (labels_cmp (labels_at sets a) (labels_at sets b))) sorted → IsRising (map (labels_at sets) sorted)
-select_rising test sets places sorted once is moved up = sorted_rising (labels_at sets) sorted up (sorted_distinct test sets places sorted once is moved)
+pub select_rising : (equal : List Pair) (sets : Sets) (es : Numbered) → IsEnough equal sets es → IsRising (map (labels_at sets) (values_of (picked equal es)))
+select_rising equal sets es h = subst IsRising (sym (picked_labels equal sets es h.numbers)) (rising_filter (has_values equal) (keys_of es) h.rising)
 
 -- so they are the chosen ones
-pub select_chosen : (test : List Pair → Bool) (sets : List (List Pair)) (places sorted : List ℕ) → IsDistinct labels_eq sets → map (labels_at sets) places ≡ filter test sets
-    → IsPermutation places sorted → IsSortedBy (λ a b. is_lt (labels_cmp (labels_at sets a) (labels_at sets b))) sorted → map (labels_at sets) sorted ≡ chosen_of test sets
-select_chosen test sets places sorted once is moved up =
-    same_rising (map (labels_at sets) sorted) (chosen_of test sets) (select_rising test sets places sorted once is moved up) (rising_fold [] (filter test sets) tt)
-    (λ one. sym (list_any-IsPermutation (labels_eq one) (map (labels_at sets) places) (map (labels_at sets) sorted) (IsPermutation-map (labels_at sets) places sorted moved))
-    ∙ ap (is_among one) is ∙ sym (among_fold one [] (filter test sets)))
+pub select_chosen : (equal : List Pair) (sets : Sets) (es : Numbered) → IsEnough equal sets es → map (labels_at sets) (values_of (picked equal es)) ≡ chosen_of (has_values equal) sets
+select_chosen equal sets es h =
+    picked_labels equal sets es h.numbers
+    ∙ same_rising (filter (has_values equal) (keys_of es)) (chosen_of (has_values equal) sets) (rising_filter (has_values equal) (keys_of es) h.rising) (rising_fold [] (filter (has_values equal) sets) tt)
+    (λ one. among_filter (has_values equal) one (keys_of es) ∙ by one (has_values equal one) refl ∙ sym (among_fold one [] (filter (has_values equal) sets) ∙ among_filter (has_values equal) one sets)) where
+      by : (one : List Pair) (b : Bool) → has_values equal one ≡ b → (b && is_among one (keys_of es)) ≡ (b && is_among one sets)
+      by one true is = h.wanted one is
+      by one false is = refl
 
 -- and the chosen label sets are those of the history
 pub chosen_arrivals : (test : List Pair → Bool) (history : List Entry) → chosen_of test (arrivals history) ≡ chosen test history

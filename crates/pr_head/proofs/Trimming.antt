@@ -24,11 +24,11 @@ is_later : ℤ → Timed → Bool
 is_later a x = is_after a x.time
 
 -- a sample that is after a moment makes those behind it so
-later_up : (a : ℤ) (s t : ℕ) → is_after a s ≡ true → s ≤ t → is_after a t ≡ true
+pub later_up : (a : ℤ) (s t : ℕ) → is_after a s ≡ true → s ≤ t → is_after a t ≡ true
 later_up (pos a) s t h k = grind (arith, common_steps)
 later_up (negsuc a) s t h k = refl
 
-all_later : (a : ℤ) (xs : List Timed) → ((k : ℕ) (d : Timed) → k < length xs → is_after a (get_or xs k d).time ≡ true) → filter (λ x. is_after a x.time) xs ≡ xs
+pub all_later : (a : ℤ) (xs : List Timed) → ((k : ℕ) (d : Timed) → k < length xs → is_after a (get_or xs k d).time ≡ true) → filter (λ x. is_after a x.time) xs ≡ xs
 all_later a [] h = refl
 all_later a (x ∷ xs) h = (λ i. cond (h 0 x (omega arith) i) (x ∷ filter (λ y. is_after a y.time) xs) (filter (λ y. is_after a y.time) xs)) ∙ ap (λ l. x ∷ l) (all_later a xs (λ k d below. h (suc k) d (omega arith)))
 

@@ -1,4 +1,5 @@
 pub mod Stored
 pub mod Holds
 pub mod Reads
-pub mod Names
+pub mod Index
+pub mod Oldest

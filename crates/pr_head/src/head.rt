@@ -1,14 +1,14 @@
 mod select;
 
-use crate::names::Names;
+use crate::index::Index;
 use crate::series::Series;
 use crate::timed::Timed;
 use indexmap::IndexMap;
 use pr_history::Append;
-use pr_labels::{Labels, METRIC_LABEL};
+use pr_labels::Labels;
 use pr_num::Point;
 use pr_time::Ms;
-use pr_words::{Steps, Text};
+use pr_words::Steps;
 use std::alloc::{AllocError, Global};
 use std::marker::Model;
 use std::sync::ledger::Ledger;
@@ -18,7 +18,9 @@ use std::sync::ledger::Ledger;
 #[derive(Drop)]
 pub struct Head {
     series: IndexMap<Labels, Series>,
-    names: Names,
+    index: Index,
+    // No held sample is older.
+    oldest: u64,
     alloc: Global,
 }
 
@@ -32,28 +34,49 @@ impl Model for Head {
     ghost view = { λ h. h.series.entries };
 
     ghost use Rattle.pr_head.specs.Holds.{sets_of};
-    ghost use Rattle.pr_head.specs.Names.{IsIndexed};
+    ghost use Rattle.pr_head.specs.Index.{IsIndexed};
+    ghost use Rattle.pr_head.specs.Oldest.{AreSince};
 
-    ghost invariant = { λ h. IsIndexed h.names (sets_of h.series.entries) };
+    ghost invariant = { λ h. IsIndexed h.index.all h.index.by_label (sets_of h.series.entries) × AreSince h.oldest h.series.entries };
 }
 
-ghost use Rattle.std.specs.Prelude.{◌≡◌, ◌+◌, ◌<◌, ◌≤ℤ◌, ◌++◌, ◌∷◌, [], ℤ, length, slice_get, List, Some, None, IfOk, IfSome, IfNone, OnOk, OnErr, option_and_then};
+ghost use Rattle.std.specs.Prelude.{◌≡◌, ◌+◌, ◌<◌, ◌≤◌, ◌≤ℤ◌, ◌++◌, ◌∷◌, [], ℤ, length, slice_get, List, Some, None, IfOk, IfSome, IfNone, OnOk, OnErr, option_and_then};
 ghost use Rattle.std.specs.Map.{lookup};
 ghost use Rattle.std.specs.Option.{option_copied, option_map};
 ghost use Rattle.indexmap.specs.IndexMap.{set_value_at};
 ghost use Rattle.pr_labels.specs.declared.pair.Pair.{Pair};
-ghost use Rattle.pr_labels.specs.LabelSet.{metric_label, text_at};
 ghost use Rattle.pr_labels.specs.Order.{labels_eq};
 ghost use Rattle.pr_history.specs.declared.entry.Entry.{Entry};
 ghost use Rattle.pr_history.specs.Admission.{admit, put, IsLawful};
+ghost use Rattle.pr_history.specs.Lookback.{is_after};
 ghost use Rattle.pr_head.specs.Stored.{Stored, admission, after_push, begun, count_of, newest_at, position_of, sample_at, trimmed};
+ghost use Rattle.pr_head.specs.Oldest.{AreSince};
 ghost use Rattle.pr_head.specs.Holds.{entry_of, sets_of, Holds, IsWhole};
 
-// The metric's name, empty where the set has none.
-fn name_of(alloc: Global, labels: &Labels) -> Result<Text, AllocError>
-    ensures { IfOk result (λ name. name ≡ text_at labels.now metric_label) }
+// The earlier of two times.
+fn earlier(a: u64, b: u64) -> u64
+    ensures first { result ≤ a }
+    ensures second { result ≤ b }
 {
-    Text::from_str(alloc, labels.get(METRIC_LABEL).unwrap_or(""))
+    if a < b { a } else { b }
+}
+
+// Whether a time is later than a moment.
+fn is_later(moment: i64, time: u64) -> bool
+    ensures { result ≡ is_after moment time }
+{
+    moment < 0 || time > moment as u64
+}
+
+// A time before which no held sample of these series stands.
+fn oldest_of(series: &IndexMap<Labels, Series>) -> u64
+    ensures { AreSince result series.now.entries }
+{
+    let mut oldest = u64::MAX;
+    for number in 0..series.len() {
+        oldest = earlier(oldest, series[number].oldest());
+    }
+    oldest
 }
 
 impl Head {
@@ -65,7 +88,8 @@ impl Head {
     {
         Head {
             series: IndexMap::new(alloc),
-            names: Names::new(alloc),
+            index: Index::new(alloc),
+            oldest: u64::MAX,
             alloc,
         }
     }
@@ -161,8 +185,9 @@ impl Head {
         }
     }
 
-    // The number of a series.
-    fn number(&self, labels: &Labels) -> Option<usize>
+    /// The number of the series with these labels, where there is one. (Series are numbered from 0
+    /// in order of arrival.)
+    pub fn number(&self, labels: &Labels) -> Option<usize>
         ensures found { IfSome result (λ i. slice_get (sets_of self.now) i ≡ Some labels.now) }
         ensures within { IfSome result (λ i. i < length self.now) }
         ensures none { IfNone result (lookup (labels_eq labels.now) self.now ≡ None) }
@@ -177,10 +202,10 @@ impl Head {
         ensures err { OnErr result (self.new ≡ self.old) }
     {
         let series = Series::begin(self.alloc, sample)?;
-        let name = name_of(self.alloc, &labels)?;
         self.series.reserve(1)?;
-        self.names.add(name, self.series.len())?;
+        self.index.add(&labels, self.series.len())?;
         self.series.insert(labels, series)?;
+        self.oldest = earlier(self.oldest, sample.time.get());
         Ok(())
     }
 
@@ -200,27 +225,8 @@ impl Head {
         ensures err { OnErr result (self.new ≡ self.old) }
     {
         self.series[series].push(sample)?;
+        self.oldest = earlier(self.oldest, sample.time.get());
         Ok(())
-    }
-
-    // Adds a sample to a series that is there, unless it is refused.
-    fn append_to(&mut self, series: usize, sample: &Timed) -> Result<Append, AllocError>
-        requires { series < length self.old }
-        ensures answer { (history : List Entry) (labels : List Pair) → Holds self.old history → slice_get (sets_of self.old) series ≡ Some labels
-            → IfOk result (λ a. a ≡ admit history labels sample.now.time sample.now.point) }
-        ensures holds { (history : List Entry) (labels : List Pair) → Holds self.old history → slice_get (sets_of self.old) series ≡ Some labels
-            → OnOk result (Holds self.new (put history (entry_of labels sample.now.time sample.now.point))) }
-        ensures whole { (history : List Entry) (labels : List Pair) (x : ℤ) → Holds self.old history → slice_get (sets_of self.old) series ≡ Some labels
-            → IsWhole self.old history x → OnOk result (IsWhole self.new (put history (entry_of labels sample.now.time sample.now.point)) x) }
-        ensures err { OnErr result (self.new ≡ self.old) }
-    {
-        match self.admit(series, sample) {
-            Append::Added => {
-                self.push(series, sample)?;
-                Ok(Append::Added)
-            }
-            refused => Ok(refused),
-        }
     }
 
     /// Adds a sample to its series, unless it is refused, and answers what became of it. Nothing is
@@ -233,19 +239,54 @@ impl Head {
             → OnOk result (IsWhole self.new (put history (entry_of labels.now time point)) x) }
         ensures err { OnErr result (self.new ≡ self.old) }
     {
-        let sample = Timed { time, point };
         match self.number(labels) {
-            Some(series) => self.append_to(series, &sample),
+            Some(series) => self.append_at(series, time, point),
             None => {
-                self.add(labels.copy(self.alloc)?, &sample)?;
+                self.add(labels.copy(self.alloc)?, &Timed { time, point })?;
                 Ok(Append::Added)
             }
         }
     }
 
+    /// Adds a sample to the series with a number, as `append` does to the series with its labels.
+    /// It finds the series by no search. Without memory nothing has changed.
+    pub fn append_at(&mut self, series: usize, time: Ms, point: Point) -> Result<Append, AllocError>
+        requires { series < length self.old }
+        ensures answer { (history : List Entry) (labels : List Pair) → Holds self.old history → slice_get (sets_of self.old) series ≡ Some labels
+            → IfOk result (λ a. a ≡ admit history labels time point) }
+        ensures holds { (history : List Entry) (labels : List Pair) → Holds self.old history → slice_get (sets_of self.old) series ≡ Some labels
+            → OnOk result (Holds self.new (put history (entry_of labels time point))) }
+        ensures whole { (history : List Entry) (labels : List Pair) (x : ℤ) → Holds self.old history → slice_get (sets_of self.old) series ≡ Some labels
+            → IsWhole self.old history x → OnOk result (IsWhole self.new (put history (entry_of labels time point)) x) }
+        ensures err { OnErr result (self.new ≡ self.old) }
+    {
+        let sample = Timed { time, point };
+        match self.admit(series, &sample) {
+            Append::Added => {
+                self.push(series, &sample)?;
+                Ok(Append::Added)
+            }
+            refused => Ok(refused),
+        }
+    }
+
+    // Forgets the samples at or before a time, series by series.
+    fn trim_each(&mut self, before: i64)
+        ensures later { self.new ≡ trimmed before self.old }
+        ensures holds { (history : List Entry) → Holds self.old history → Holds self.new history }
+        ensures whole { (history : List Entry) (x y : ℤ) → IsLawful history → Holds self.old history → IsWhole self.old history x
+            → x ≤ℤ y → before ≤ℤ y → IsWhole self.new history y }
+    {
+        'trimming: for series in 0..self.series.len() {
+            self.series[series].trim(before);
+        }
+        self.oldest = oldest_of(&self.series);
+    }
+
     /// Forgets the samples at or before a time. Each series keeps its labels, its count, its last
-    /// time and its last point, so that an old sample is refused as before. Takes no memory. (Own
-    /// choice: what no query can see is forgotten.)
+    /// time and its last point, so that an old sample is refused as before. Takes no memory, and
+    /// looks at no series where each sample that is held is later. (Own choice: what no query can
+    /// see is forgotten.)
     pub fn trim(&mut self, before: i64)
         ensures later { self.new ≡ trimmed before self.old }
         ensures holds { (history : List Entry) → Holds self.old history → Holds self.new history }
@@ -253,8 +294,9 @@ impl Head {
         ensures whole { (history : List Entry) (x y : ℤ) → IsLawful history → Holds self.old history → IsWhole self.old history x
             → x ≤ℤ y → before ≤ℤ y → IsWhole self.new history y }
     {
-        'trimming: for series in 0..self.series.len() {
-            self.series[series].trim(before);
+        if is_later(before, self.oldest) {
+            return;
         }
+        self.trim_each(before);
     }
 }

@@ -2,9 +2,11 @@
 //! time.
 #![tactic(auto)]
 
+mod by_label;
 mod head;
+mod index;
 mod laws;
-mod names;
+mod listing;
 mod series;
 mod timed;
 

@@ -3,6 +3,7 @@ ghost use Rattle.std.specs.Prelude.{◌≡◌, ◌+◌, ◌<◌, ◌≤◌, drop
 ghost use Rattle.std.specs.List.Sorted.{IsNonDecreasingBy};
 ghost use Rattle.pr_history.specs.Lookback.{is_until};
 ghost use Rattle.pr_head.specs.Stored.{admission, after_push, after_trim, begun, count_of, held_before, newest_at, position_of, sample_at};
+ghost use Rattle.pr_head.specs.Oldest.{IsSince};
 
 use crate::timed::Timed;
 use pr_history::Append;
@@ -159,6 +160,19 @@ impl Series {
             return None;
         }
         self.held(until - 1)
+    }
+
+    /// A time before which no held sample stands: that of the first, or else the last that there is.
+    pub(crate) fn oldest(&self) -> u64
+        ensures { IsSince result self.now }
+    {
+        if self.samples.is_empty() {
+            return u64::MAX;
+        }
+        match self.held(0) {
+            Some(sample) => sample.time.get(),
+            None => u64::MAX,
+        }
     }
 
     /// Forgets the samples at or before a time; the last time and point stay. Takes no memory.

@@ -13,3 +13,5 @@ pub mod GoesOn
 pub mod Fronts
 pub mod KnownNames
 pub mod LabelMaps
+pub mod Merged
+pub mod Places

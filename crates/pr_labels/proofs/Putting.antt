@@ -1,7 +1,5 @@
 -- A pair that is put in at its place, by recursion on the list, and what `set` gives.
-use Rattle.std.proofs.Common.{◌≡◌, ◌≢◌, ℕ, ◌+◌, ◌<◌, suc, List, [], ◌∷◌, ◌++◌, true, false, Bool, cond, filter, not, arith, sym, ◌∙◌, ap, refl, length, get_or, set, one-add, append-nil, ◌≤◌, ◌==◌}
-use Rattle.std.proofs.lemmas.List.{get_or_default}
-use Rattle.std.specs.List.{insert, position_or_len}
+use Rattle.std.proofs.Common.{◌≡◌, ◌≢◌, ℕ, suc, List, [], ◌∷◌, ◌++◌, true, false, Bool, cond, filter, not, arith, sym, ◌∙◌, ap, refl, length, append-nil, ◌==◌, Result, Ok, Err, OnOk, OnErr}
 use Rattle.std.specs.Cmp.Lexicographic.{slice_cmp, texts_ties}
 use Rattle.std.specs.Ordering.{nat_cmp, is_lt, is_eq, ordering_reverse}
 use Rattle.std.specs.Str.{bytes_eq}
@@ -25,52 +23,6 @@ abbrev pub put_in : List ℕ → List Pair → List Pair → List Pair
 put_in name new [] = new
 put_in name new (p ∷ ps) = by_order (slice_cmp nat_cmp p.name name) p ps new (put_in name new ps)
 
--- where the code looks for the name
-abbrev pub place : List ℕ → List Pair → ℕ
-place name ps = position_or_len (λ p. not (is_below name p)) ps
-
-abbrev next_place : Ordering → ℕ → ℕ
-next_place o n = cond (not (not (is_lt o))) (1 + n) 0
-
--- `insert` at the place, where the name does not stand there
-insert_step : (o : Ordering) (p : Pair) (ps : List Pair) (x : Pair) (n : ℕ) (rest : List Pair) → (o ≡ Equal → ⊥) → (is_lt o ≡ true → insert ps n x ≡ rest) → insert (p ∷ ps) (next_place o n) x ≡ by_order o p ps (x ∷ []) rest
-insert_step Less p ps x n rest far h = rw (one-add n) (ap (λ t. p ∷ t) (h refl))
-insert_step Equal p ps x n rest far h = absurd (far refl)
-insert_step Greater p ps x n rest far h = refl
-
--- what stands at the place, if anything does
-abbrev pub StandsApart : List ℕ → List Pair → ℕ → Type 0
-StandsApart name ps n = (y : Pair) → n < length ps → y ≡ get_or ps n y → bytes_eq y.name name ≡ false
-
-apart_here : (o : Ordering) (name : List ℕ) (p : Pair) (ps : List Pair) (n : ℕ) → bytes_eq p.name name ≡ is_eq o → StandsApart name (p ∷ ps) (next_place o n) → o ≡ Equal → ⊥
-apart_here Less name p ps n tie apart e = cc
-apart_here Equal name p ps n tie apart e = let f : bytes_eq p.name name ≡ false = apart p (omega arith) refl in cc
-apart_here Greater name p ps n tie apart e = cc
-
-apart_next : (o : Ordering) (name : List ℕ) (p : Pair) (ps : List Pair) (n : ℕ) → StandsApart name (p ∷ ps) (next_place o n) → is_lt o ≡ true → StandsApart name ps n
-apart_next Less name p ps n apart e = λ y lt is. apart y (omega arith) (rw (one-add n) is)
-apart_next Equal name p ps n apart e = cc
-apart_next Greater name p ps n apart e = cc
-
-pub inserted : (x : Pair) (ps : List Pair) → StandsApart x.name ps (place x.name ps) → insert ps (place x.name ps) x ≡ put_in x.name (x ∷ []) ps
-inserted x [] apart = refl
-inserted x (p ∷ ps) apart =
-    insert_step (slice_cmp nat_cmp p.name x.name) p ps x (place x.name ps) (put_in x.name (x ∷ []) ps) (apart_here (slice_cmp nat_cmp p.name x.name) x.name p ps (place x.name ps) (texts_ties p.name x.name) apart) (λ e. inserted x ps (apart_next (slice_cmp nat_cmp p.name x.name) x.name p ps (place x.name ps) apart e))
-
--- a write at the place, where the name stands there
-replace_step : (o : Ordering) (p : Pair) (ps : List Pair) (x y : Pair) (n : ℕ) (rest : List Pair) → bytes_eq p.name x.name ≡ is_eq o → (n < length ps → y ≡ get_or ps n y → set ps n x ≡ rest) → next_place o n < length (p ∷ ps) → y ≡ get_or (p ∷ ps) (next_place o n) y → bytes_eq y.name x.name ≡ true → set (p ∷ ps) (next_place o n) x ≡ by_order o p ps (x ∷ []) rest
-replace_step Less p ps x y n rest tie h lt is found =
-    let is' : y ≡ get_or (p ∷ ps) (suc n) y = rw (one-add n) at is in
-    rw (one-add n) (ap (λ t. p ∷ t) (h (omega arith) is'))
-replace_step Equal p ps x y n rest tie h lt is found = refl
-replace_step Greater p ps x y n rest tie h lt is found =
-    let same : bytes_eq y.name x.name ≡ bytes_eq p.name x.name = ap (λ q. bytes_eq q.name x.name) is in cc
-
-pub replaced : (x y : Pair) (ps : List Pair) → place x.name ps < length ps → y ≡ get_or ps (place x.name ps) y → bytes_eq y.name x.name ≡ true → set ps (place x.name ps) x ≡ put_in x.name (x ∷ []) ps
-replaced x y [] lt is found = absurd (omega arith)
-replaced x y (p ∷ ps) lt is found =
-    replace_step (slice_cmp nat_cmp p.name x.name) p ps x y (place x.name ps) (put_in x.name (x ∷ []) ps) (texts_ties p.name x.name) (λ lt' is'. replaced x y ps lt' is' found) lt is found
-
 -- what the filters give of pairs that are all above the name
 pub record AllAbove (name : List ℕ) (ps : List Pair) : Type 0 where
   pub none : filter (is_below name) ps ≡ []
@@ -93,7 +45,7 @@ same_first : (a b : List ℕ) (ps : List Pair) → slice_cmp nat_cmp a b ≡ Equ
 same_first a b [] e h = tt
 same_first a b (q ∷ qs) e h = sym (nat_list_cmp_total.congr a b q.name e) ∙ h
 
-below_by : (o : Ordering) (name : List ℕ) (p : Pair) (ps : List Pair) → slice_cmp nat_cmp p.name name ≡ o → (is_lt o ≡ false) → IsBelowFirst p.name ps → IsBelowFirst name ps
+pub below_by : (o : Ordering) (name : List ℕ) (p : Pair) (ps : List Pair) → slice_cmp nat_cmp p.name name ≡ o → (is_lt o ≡ false) → IsBelowFirst p.name ps → IsBelowFirst name ps
 below_by Less name p ps e l b = cc
 below_by Equal name p ps e l b = same_first p.name name ps e b
 below_by Greater name p ps e l b =
@@ -182,23 +134,6 @@ put_set name value (p ∷ ps) k s =
 pub set_is_set : (name value : List ℕ) (ps : List Pair) → is_label_name name ≡ true → IsLabelSet ps → IsLabelSet (set_label ps name value)
 set_is_set name value ps k s = rw (set_is_put name (label_of name value) ps s) (put_set name value ps k s)
 
--- the same at the number that the code found
-read_once : (ps : List Pair) (n : ℕ) (y z : Pair) → n < length ps → y ≡ get_or ps n y → z ≡ get_or ps n z → y ≡ z
-read_once ps n y z lt is is' = is ∙ get_or_default ps n y z lt ∙ sym is'
-
-pub stands_apart : (name : List ℕ) (ps : List Pair) (n : ℕ) (z : Pair) → z ≡ get_or ps n z → bytes_eq z.name name ≡ false → StandsApart name ps n
-stands_apart name ps n z is apart = λ y lt is'. ap (λ q. bytes_eq q.name name) (read_once ps n y z lt is' is) ∙ apart
-
-pub stands_behind : (name : List ℕ) (ps : List Pair) (n : ℕ) → length ps ≤ n → StandsApart name ps n
-stands_behind name ps n le = λ y lt is'. absurd (omega arith)
-
-pub put_between : (ps : List Pair) (x : Pair) (n : ℕ) → IsLabelSet ps → IsLabel x → n ≡ place x.name ps → StandsApart x.name ps n → insert ps n x ≡ set_pair ps x
-put_between ps x n s l e apart = rw e (inserted x ps (rw e at apart) ∙ set_pair_is_put x ps s l)
-
-pub put_over : (ps : List Pair) (x y : Pair) (n : ℕ) → IsLabelSet ps → IsLabel x → n ≡ place x.name ps → n < length ps → y ≡ get_or ps n y → bytes_eq y.name x.name ≡ true → set ps n x ≡ set_pair ps x
-put_over ps x y n s l e lt is found =
-    rw e (replaced x y ps (rw e at lt) (rw e at is) found ∙ set_pair_is_put x ps s l)
-
 pub not_zero : (n : ℕ) (test : Bool) → test ≡ true → test ≡ (suc n == 0) → ⊥
 not_zero n test h e = grind (arith, nat_tests)
 
@@ -206,6 +141,11 @@ empty_value : (value : List ℕ) (test : Bool) → test ≡ true → test ≡ (l
 empty_value [] test h e = refl
 empty_value (b ∷ bs) test h e = absurd (not_zero (length bs) test h e)
 
--- to set an empty value is to take the name out
-pub set_empty : (name value : List ℕ) (ps : List Pair) (test : Bool) → IsLabelSet ps → test ≡ true → test ≡ (length value == 0) → without_name ps name ≡ set_label ps name value
-set_empty name value ps test s h e = rw (empty_value value test h e) (set_nothing name ps s)
+-- to set an empty value is to set nothing
+pub set_empty : (name value : List ℕ) (ps : List Pair) (test : Bool) → test ≡ true → test ≡ (length value == 0) → set_label ps name [] ≡ set_label ps name value
+set_empty name value ps test h e = ap (set_label ps name) (sym (empty_value value test h e))
+
+-- whether or not a label could be put in, a label set remains
+pub put_is_set : {T E : Type 0} (r : Result T E) (old new : List Pair) (x : Pair) → IsLabelSet old → is_label_name x.name ≡ true → OnOk r (new ≡ set_pair old x) → OnErr r (new ≡ old) → IsLabelSet new
+put_is_set (Ok t) old new x s named ok err = rw ok (set_is_set x.name x.value old named s)
+put_is_set (Err e) old new x s named ok err = rw err s

@@ -4,3 +4,6 @@ pub mod Edits
 pub mod Order
 pub mod Rising
 pub mod SeriesText
+pub mod Chosen
+pub mod Places
+pub mod Held

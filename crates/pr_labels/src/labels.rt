@@ -1,10 +1,15 @@
 // A label set.
 mod choose;
+mod copies;
 mod edits;
+mod known;
 mod made;
+mod place;
+mod shared;
 
 use crate::pair::Pair;
-use pr_words::Text;
+use place::place_of;
+use shared::SharedPairs;
 use std::alloc::{AllocError, Global};
 use std::cmp::Ordering;
 use std::hash::{Hash, Hasher};
@@ -13,10 +18,11 @@ use std::marker::Model;
 /// The name under which a metric's name stands in a label set. (Prometheus: Data model.)
 pub const METRIC_LABEL: &str = "__name__";
 
-/// A label set. Contracts see the list of its pairs: names rise, and no value is empty.
+/// A label set. Contracts see the list of its pairs: names rise, and no value is empty. Sets that
+/// are copies of one another share their pairs.
 #[derive(Debug, Drop)]
 pub struct Labels {
-    pairs: Vec<Pair>,
+    pairs: SharedPairs,
 }
 
 impl Model for Labels {
@@ -26,9 +32,9 @@ impl Model for Labels {
 
     ghost Value = { List Pair };
 
-    ghost view = { λ l. l.pairs.items };
+    ghost view = { λ l. l.pairs };
 
-    ghost invariant = { λ l. IsLabelSet l.pairs.items };
+    ghost invariant = { λ l. IsLabelSet l.pairs };
 }
 
 impl PartialEq for Labels {
@@ -41,7 +47,7 @@ impl PartialEq for Labels {
     ghost laws = { Prim.search (comparing, rules) };
 
     fn eq(&self, other: &Labels) -> bool {
-        self.pairs == other.pairs
+        self.pairs() == other.pairs()
     }
 }
 
@@ -61,7 +67,7 @@ impl Hash for Labels {
     ghost respects_eq = { labels_alike.fed };
 
     fn hash<H: Hasher>(&self, state: &mut H) {
-        self.pairs.hash(state);
+        self.pairs().hash(state);
     }
 }
 
@@ -80,7 +86,7 @@ impl Ord for Labels {
 
     // Label order.
     fn cmp(&self, other: &Labels) -> Ordering {
-        self.pairs.cmp(&other.pairs)
+        self.pairs().cmp(other.pairs())
     }
 }
 
@@ -102,7 +108,7 @@ impl PartialOrd for Labels {
 
 ghost use Rattle.std.specs.Prelude.{◌≡◌, [], IfOk};
 ghost use Rattle.std.specs.Option.{option_copied};
-ghost use Rattle.pr_labels.specs.LabelSet.{value_of};
+ghost use Rattle.pr_labels.specs.LabelSet.{IsLabelSet, value_of};
 
 impl Labels {
     /// The empty label set.
@@ -110,7 +116,17 @@ impl Labels {
         ensures { result ≡ [] }
     {
         Labels {
-            pairs: Vec::new(alloc),
+            pairs: SharedPairs::empty(alloc),
+        }
+    }
+
+    // The label set of pairs that are one.
+    fn of_pairs(alloc: Global, pairs: Vec<Pair>) -> Labels
+        requires { IsLabelSet pairs.items }
+        ensures { result ≡ pairs.items }
+    {
+        Labels {
+            pairs: SharedPairs::new(alloc, pairs),
         }
     }
 
@@ -118,41 +134,27 @@ impl Labels {
     pub fn pairs(&self) -> &[Pair]
         ensures { result.now ≡ self.now }
     {
-        &self.pairs
+        self.pairs.as_slice()
     }
 
-    /// The value of a name, where the set has the name.
+    /// The value of a name, where the set has the name. It is found by halving.
+    #[tactic(auto, using(crate::proofs::Places::value_at, crate::proofs::Places::no_value))]
     pub fn get(&self, name: &str) -> Option<&str>
         ensures { option_copied result ≡ value_of self.now name.now }
     {
-        for pair in &self.pairs {
-            if pair.name.as_str() == name {
-                return Some(pair.value.as_str());
-            }
+        let pairs = self.pairs.as_slice();
+        match place_of(pairs, name) {
+            Ok(place) => Some(pairs[place].value.as_str()),
+            Err(_gap) => None,
         }
-        None
     }
 
-    /// Another set with the same pairs.
+    /// Another set with the same pairs, which the two share.
     pub fn copy(&self, alloc: Global) -> Result<Labels, AllocError>
         ensures { IfOk result (λ l. l ≡ self.now) }
     {
         Ok(Labels {
-            pairs: copy_pairs(alloc, &self.pairs)?,
+            pairs: self.pairs.share(alloc)?,
         })
     }
-}
-
-// Other pairs with the same names and values.
-fn copy_pairs(alloc: Global, pairs: &[Pair]) -> Result<Vec<Pair>, AllocError>
-    ensures { IfOk result (λ v. v.items ≡ pairs.now) }
-{
-    let mut copies = Vec::new(alloc);
-    for pair in pairs {
-        copies.push(Pair {
-            name: pair.name.copy(alloc)?,
-            value: pair.value.copy(alloc)?,
-        })?;
-    }
-    Ok(copies)
 }

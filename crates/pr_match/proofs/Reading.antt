@@ -8,11 +8,12 @@ use Rattle.regex.specs.Templates.{written_after}
 use Rattle.regex.specs.Writes.{both, group_of}
 use Rattle.std.proofs.lemmas.Bool.{cond-false}
 use Rattle.std.proofs.lemmas.Bool.Decides.{nat_tests}
-use Rattle.regex.specs.Strings.{regex_pattern, matcher_pattern, regex_names, IsCapturesOf, match_span}
+use Rattle.regex.specs.Strings.{regex_pattern, matcher_pattern, regex_names, IsCapturesOf, IsReadFrom, match_span}
 use Rattle.regex.specs.Search.{group_span}
 use Rattle.regex.specs.declared.string.captures.Captures.{Captures}
 use Rattle.regex.specs.declared.string.matcher.Matcher.{Matcher}
 use Rattle.regex.specs.declared.string.regex.Regex.{Regex}
+use Rattle.regex.specs.declared.string.template.Template.{Template}
 use Rattle.regex.proofs.OnLiterals.{IsReadAs, same_refl}
 use Rattle.regex.proofs.ForCallers.{alike_as_written, names_as_written, is_match_alike, found_alike, span_alike, IsNamedAs}
 use Rattle.regex_syntax.specs.Brackets.{Nested}
@@ -24,8 +25,8 @@ use Rattle.regex.specs.Sources.{IsRefusal}
 use Rattle.regex.specs.Failures.{IsRightKind}
 use Rattle.regex_syntax.specs.declared.error.ErrorKind.{ErrorKind}
 use Rattle.regex_syntax.specs.declared.error.ErrorKind.TheVariants as kind
-use Rattle.pr_match.specs.Pattern.{is_readable, is_within, anchored, first_match, matches_whole}
-use Rattle.pr_match.specs.Compiled.{IsFrom, Decides, fault_of, syntax_fault}
+use Rattle.pr_match.specs.Pattern.{is_readable, is_within, anchored, first_match, matches_whole, expanded}
+use Rattle.pr_match.specs.Compiled.{IsFrom, Decides, Expands, fault_of, syntax_fault}
 use Rattle.pr_match.specs.declared.fault.MatchError.{MatchError}
 use Rattle.pr_match.specs.declared.fault.MatchError.TheVariants.{BadPattern, Memory}
 
@@ -160,3 +161,12 @@ module _ (source : List ℕ) (r : Regex) (h : IsFrom source r) (hay : List ℕ) 
 pub decides : (pattern : List ℕ) (r : Regex) → IsFrom (anchored pattern) r → (searcher : Matcher) → matcher_pattern searcher ≡ regex_pattern r → Decides pattern searcher
 unfolding matches_whole
 decides pattern r h searcher e = λ text bytes. rw e (is_match_of_text (anchored pattern) r h text bytes)
+
+-- what it searches for, with what the template is read as, expands the two
+pub expands : (pattern template : List ℕ) (r : Regex) → IsFrom (anchored pattern) r → (searched : Re) → searched ≡ regex_pattern r →
+    (read : Template) → IsReadFrom (regex_names r) template read → Expands pattern template searched read
+unfolding expanded
+expands pattern template r h searched e read is = record {
+  none = λ text bytes found. ap (option_map (λ f. written_after f.1 (group_bytes text f.0) template 0)) (no_match_of_text (anchored pattern) r h text bytes (ap (λ re. find_str re text 0) (sym e) ∙ found));
+  some = λ text bytes m found c captures. ap Some (is true _ _ _) ∙ written_of_text (anchored pattern) r h text bytes m (ap (λ re. find_str re text 0) (sym e) ∙ found) c captures template;
+}

@@ -40,3 +40,11 @@ matches_whole pattern text = is_some (first_match (anchored pattern) text)
 unfoldable pub expanded : List ℕ → List ℕ → List ℕ → Option (List ℕ)
 expanded pattern text template =
     option_map (λ found. written_after found.1 (group_bytes text found.0) template 0) (first_match (anchored pattern) text)
+
+-- a pattern with a template
+pub record Replacement : Type 0 where
+  pub pattern : List ℕ
+  pub template : List ℕ
+
+abbrev pub replacement : List ℕ → List ℕ → Replacement
+replacement pattern template = record { pattern = pattern; template = template }

@@ -1,4 +1,4 @@
-use std::alloc::AllocError;
+use std::alloc::{AllocError, AllocFailed};
 
 /// Why a pattern was not built.
 #[derive(Clone, Copy, PartialEq, Eq, Debug)]
@@ -16,6 +16,17 @@ impl From<AllocError> for MatchError {
     ghost from_gives = { λ _ error. error ≡ Memory };
 
     fn from(_: AllocError) -> MatchError {
+        MatchError::Memory
+    }
+}
+
+impl<X: Drop> From<AllocFailed<X>> for MatchError {
+    ghost use Rattle.std.specs.Prelude.{◌≡◌};
+    ghost use Rattle.pr_match.specs.declared.fault.MatchError.TheVariants.{Memory};
+
+    ghost from_gives = { λ _ error. error ≡ Memory };
+
+    fn from(_error: AllocFailed<X>) -> MatchError {
         MatchError::Memory
     }
 }

@@ -16,5 +16,5 @@ pub use laws::{
 };
 pub use matcher::{LabelSearcher, Matcher};
 pub use op::MatchOp;
-pub use pattern::{Pattern, Searcher};
+pub use pattern::{Expander, Pattern, Searcher};
 pub use selection::{Selection, select};

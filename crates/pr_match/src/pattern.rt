@@ -14,7 +14,7 @@ use std::marker::Model;
 /// Contracts see it as its text.
 #[derive(Drop)]
 pub struct Pattern {
-    regex: Regex,
+    regex: Box<Regex>,
     text: Text,
 }
 
@@ -27,7 +27,7 @@ impl Model for Pattern {
 
     ghost view = { λ p. p.text };
 
-    ghost invariant = { λ p. IsFrom (anchored p.text) p.regex };
+    ghost invariant = { λ p. IsFrom (anchored p.text) p.regex.value };
 }
 
 impl Pattern {
@@ -44,7 +44,7 @@ impl Pattern {
         read(alloc, text)?;
         let source = format!(in alloc; "^(?s:{text})$")?;
         Ok(Pattern {
-            regex: compile(alloc, source.as_str())?,
+            regex: Box::new(alloc, compile(alloc, source.as_str())?)?,
             text: Text::from_str(alloc, text)?,
         })
     }
@@ -54,7 +54,7 @@ impl Pattern {
         ensures { IfOk result (λ s. s ≡ self.now) }
     {
         Ok(Searcher {
-            matcher: self.regex.matcher(alloc)?,
+            matcher: Box::new(alloc, self.regex.matcher(alloc)?)?,
             text: self.text.as_str(),
         })
     }
@@ -68,9 +68,27 @@ impl Pattern {
         Ok(searcher.matches(text))
     }
 
+    /// An expander with the template, which costs much more to make than to ask.
+    pub fn expander<'p>(
+        &'p self,
+        alloc: Global,
+        template: &'p str,
+    ) -> Result<Expander<'p>, AllocError>
+        ensures pattern { IfOk result (λ e. e.pattern ≡ self.now) }
+        ensures template { IfOk result (λ e. e.template ≡ template.now) }
+    {
+        Ok(Expander {
+            template: Template::new(alloc, self.regex.capture_names(), template)?,
+            matcher: self.regex.matcher(alloc)?,
+            pattern_text: self.text.as_str(),
+            template_text: template,
+        })
+    }
+
     /// The template with what each group matched in the place of `$1`, `${1}`, `$name` and
     /// `${name}`, and `$` in that of `$$`. It is `None` exactly where the pattern does not match
-    /// the whole text. (Prometheus: Query functions, `label_replace`.)
+    /// the whole text. (Prometheus: Query functions, `label_replace`.) Where many texts are asked
+    /// about, use one `expander`.
     pub fn expand(
         &self,
         alloc: Global,
@@ -79,16 +97,8 @@ impl Pattern {
     ) -> Result<Option<Text>, AllocError>
         ensures { IfOk result (λ made. made ≡ expanded self.now text.now template.now) }
     {
-        let mut matcher = self.regex.matcher(alloc)?;
-        let template = Template::new(alloc, self.regex.capture_names(), template)?;
-        match matcher.captures(text) {
-            Some(captures) => {
-                let mut out = String::new(alloc);
-                captures.expand(alloc, &template, &mut out)?;
-                Ok(Some(Text::new(out)))
-            }
-            None => Ok(None),
-        }
+        let mut expander = self.expander(alloc, template)?;
+        expander.expand(alloc, text)
     }
 }
 
@@ -96,7 +106,7 @@ impl Pattern {
 /// text.
 #[derive(Drop)]
 pub struct Searcher<'p> {
-    matcher: Matcher<'p>,
+    matcher: Box<Matcher<'p>>,
     text: &'p str,
 }
 
@@ -108,7 +118,7 @@ impl<'p> Model for Searcher<'p> {
 
     ghost view = { λ s. s.text.now };
 
-    ghost invariant = { λ s. Decides s.text.now s.matcher };
+    ghost invariant = { λ s. Decides s.text.now s.matcher.value };
 }
 
 impl<'p> Searcher<'p> {
@@ -118,6 +128,44 @@ impl<'p> Searcher<'p> {
         ensures same { self.new ≡ self.old }
     {
         self.matcher.is_match(text)
+    }
+}
+
+/// A pattern with a template, to be asked about many texts. Contracts see the texts of the two.
+#[derive(Drop)]
+pub struct Expander<'p> {
+    matcher: Matcher<'p>,
+    template: Template,
+    pattern_text: &'p str,
+    template_text: &'p str,
+}
+
+impl<'p> Model for Expander<'p> {
+    ghost use Rattle.pr_match.specs.Pattern.{Replacement, replacement};
+    ghost use Rattle.regex.specs.Strings.{matcher_pattern};
+    ghost use Rattle.pr_match.specs.Compiled.{Expands};
+
+    ghost Value = { Replacement };
+
+    ghost view = { λ e. replacement e.pattern_text.now e.template_text.now };
+
+    ghost invariant = { λ e. Expands e.pattern_text.now e.template_text.now (matcher_pattern e.matcher) e.template };
+}
+
+impl<'p> Expander<'p> {
+    /// What `Pattern::expand` makes of the text.
+    pub fn expand(&mut self, alloc: Global, text: &str) -> Result<Option<Text>, AllocError>
+        ensures made { IfOk result (λ made. made ≡ expanded self.old.pattern text.now self.old.template) }
+        ensures same { self.new ≡ self.old }
+    {
+        match self.matcher.captures(text) {
+            Some(captures) => {
+                let mut out = String::new(alloc);
+                captures.expand(alloc, &self.template, &mut out)?;
+                Ok(Some(Text::new(out)))
+            }
+            None => Ok(None),
+        }
     }
 }
 

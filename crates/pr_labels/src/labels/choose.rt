@@ -1,11 +1,20 @@
 // Label sets of some of the labels of another.
-ghost use Rattle.std.specs.Prelude.{◌≡◌, IfOk};
+ghost use Rattle.std.specs.Prelude.{◌≡◌, filter, IfOk};
+ghost use Rattle.pr_words.specs.Names.{knows};
+ghost use Rattle.pr_labels.specs.Chosen.{HasNames, is_chosen};
 ghost use Rattle.pr_labels.specs.Edits.{is_listed, listed_labels, unlisted_labels, key_labels};
+ghost use Rattle.pr_labels.specs.LabelSet.{IsLabelSet};
 
+use super::copies::copied;
+use super::known::known_names;
 use super::{Labels, METRIC_LABEL};
 use crate::pair::Pair;
 use pr_words::Text;
 use std::alloc::{AllocError, Global};
+use std::collections::BTreeSet;
+
+// The names are gone over for each label where either are so few. Else they are put in order first.
+const FEW: usize = 16;
 
 // Whether the pair's name is one of the names.
 fn is_listed(names: &[Text], pair: &Pair) -> bool
@@ -14,41 +23,104 @@ fn is_listed(names: &[Text], pair: &Pair) -> bool
     names.iter().any(|name| pair.name == *name)
 }
 
-// A pair with the same texts.
-fn copied(alloc: Global, pair: &Pair) -> Result<Pair, AllocError>
-    ensures { IfOk result (λ p. p ≡ pair.now) }
+// Whether a name is known.
+fn is_known(known: &BTreeSet<&[u8]>, name: &[u8]) -> bool
+    ensures { result ≡ knows known.now name.now }
 {
-    Ok(Pair {
-        name: pair.name.copy(alloc)?,
-        value: pair.value.copy(alloc)?,
-    })
+    known.contains(name)
+}
+
+// The names in order, where they and the labels are many.
+fn many_names<'a>(
+    alloc: Global,
+    names: &'a [Text],
+    labels: usize,
+) -> Result<Option<BTreeSet<&'a [u8]>>, AllocError>
+    ensures { IfOk result (λ many. HasNames many names.now) }
+{
+    if names.len().min(labels) <= FEW {
+        return Ok(None);
+    }
+    Ok(Some(known_names(alloc, names)?))
+}
+
+// Whether the pair's name is one of the names, of which many are in order.
+#[tactic(auto, using(crate::proofs::KnownNames::listed_among))]
+fn is_one_of(many: &Option<BTreeSet<&[u8]>>, names: &[Text], pair: &Pair) -> bool
+    requires { HasNames many.now names.now }
+    ensures { result ≡ is_listed names.now pair.now }
+{
+    match many {
+        Some(known) => is_known(known, pair.name.as_str().as_bytes()),
+        None => is_listed(names, pair),
+    }
+}
+
+// Whether the pair is chosen: its name is listed, or is not.
+#[tactic(auto, unfolding(crate::specs::Chosen::is_chosen))]
+fn is_chosen(listed: bool, many: &Option<BTreeSet<&[u8]>>, names: &[Text], pair: &Pair) -> bool
+    requires { HasNames many.now names.now }
+    ensures { result ≡ is_chosen listed names.now pair.now }
+{
+    let is_one = is_one_of(many, names, pair);
+    if listed { is_one } else { !is_one }
+}
+
+// Other pairs with the texts of those that are chosen: whose names are listed, or whose are not.
+fn copies_of(
+    alloc: Global,
+    pairs: &[Pair],
+    names: &[Text],
+    many: &Option<BTreeSet<&[u8]>>,
+    listed: bool,
+) -> Result<Vec<Pair>, AllocError>
+    requires { HasNames many.now names.now }
+    ensures { IfOk result (λ v. v.items ≡ filter (is_chosen listed names.now) pairs.now) }
+{
+    let mut copies = Vec::new(alloc);
+    for pair in pairs {
+        if is_chosen(listed, many, names, pair) {
+            copies.push(copied(alloc, pair)?)?;
+        }
+    }
+    Ok(copies)
+}
+
+// The same, as the label set that they are.
+fn chosen(
+    alloc: Global,
+    pairs: &[Pair],
+    names: &[Text],
+    listed: bool,
+) -> Result<Vec<Pair>, AllocError>
+    requires { IsLabelSet pairs.now }
+    ensures chosen { IfOk result (λ v. v.items ≡ filter (is_chosen listed names.now) pairs.now) }
+    ensures set { IfOk result (λ v. IsLabelSet v.items) }
+{
+    let many = many_names(alloc, names, pairs.len())?;
+    copies_of(alloc, pairs, names, &many, listed)
 }
 
 impl Labels {
     /// The labels with one of the names. The metric's name is kept where `__name__` is listed.
+    #[tactic(auto, using(crate::proofs::LabelSets::all_listed))]
     pub fn keep(&self, alloc: Global, names: &[Text]) -> Result<Labels, AllocError>
         ensures { IfOk result (λ l. l ≡ listed_labels self.now names.now) }
     {
-        let mut pairs = Vec::new(alloc);
-        for pair in &self.pairs {
-            if is_listed(names, pair) {
-                pairs.push(copied(alloc, pair)?)?;
-            }
-        }
-        Ok(Labels { pairs })
+        let kept = chosen(alloc, self.pairs.as_slice(), names, true)?;
+        Ok(Labels::of_pairs(alloc, kept))
     }
 
     /// The labels with none of the names.
+    #[tactic(auto, using(crate::proofs::LabelSets::none_listed, crate::proofs::LabelSets::all_others))]
     pub fn without(&self, alloc: Global, names: &[Text]) -> Result<Labels, AllocError>
         ensures { IfOk result (λ l. l ≡ unlisted_labels self.now names.now) }
     {
-        let mut pairs = Vec::new(alloc);
-        for pair in &self.pairs {
-            if !is_listed(names, pair) {
-                pairs.push(copied(alloc, pair)?)?;
-            }
+        if names.is_empty() {
+            return self.copy(alloc);
         }
-        Ok(Labels { pairs })
+        let kept = chosen(alloc, self.pairs.as_slice(), names, false)?;
+        Ok(Labels::of_pairs(alloc, kept))
     }
 
     /// The key by which series are matched or grouped: the labels with one of the names where `on`,
@@ -61,7 +133,7 @@ impl Labels {
             return self.keep(alloc, names);
         }
         let mut key = self.without(alloc, names)?;
-        key.remove(METRIC_LABEL);
+        key.remove(alloc, METRIC_LABEL)?;
         Ok(key)
     }
 }

@@ -1,68 +1,91 @@
 // Changes of a label set.
-ghost use Rattle.std.specs.Prelude.{◌≡◌, ◌≤◌, not, true, cond, length, position, OnOk, OnErr, IfErr};
-ghost use Rattle.std.specs.List.{position_or_len};
+ghost use Rattle.std.specs.Prelude.{◌≡◌, ◌<◌, [], true, cond, length, OnOk, OnErr, IfErr};
 ghost use Rattle.pr_labels.specs.Names.{is_label_name};
 ghost use Rattle.pr_labels.specs.LabelSet.{IsLabel, IsLabelSet};
-ghost use Rattle.pr_labels.specs.Edits.{is_below, set_label, set_pair, without_name};
+ghost use Rattle.pr_labels.specs.Edits.{set_label, set_pair, without_name};
+ghost use Rattle.std.specs.List.{remove};
 
 use super::Labels;
+use super::copies::copy_others;
+use super::place::place_of;
+use super::shared::SharedPairs;
 use crate::fault::LabelFault;
 use crate::names::is_label_name;
 use crate::pair::Pair;
 use pr_words::Text;
 use std::alloc::{AllocError, Global};
-
-// Whether the pair's name is below the name, by bytes.
-fn is_below(pair: &Pair, name: &str) -> bool
-    ensures { result ≡ is_below name.now pair.now }
-{
-    pair.name.as_str() < name
-}
-
-// The place of the first pair whose name is not below the name, and the same or the length.
-fn first_not_below(pairs: &[Pair], name: &str) -> Option<usize>
-    ensures { result ≡ position (λ p. not (is_below name.now p)) pairs.now }
-{
-    pairs.iter().position(|pair| !is_below(pair, name))
-}
-
-#[tactic(auto, using(pr_words::proofs::Places::place_or_end, pr_words::proofs::Places::within))]
-fn place_of(pairs: &[Pair], name: &str) -> usize
-    ensures value { result ≡ position_or_len (λ p. not (is_below name.now p)) pairs.now }
-    ensures within { result ≤ length pairs.now }
-{
-    first_not_below(pairs, name).unwrap_or(pairs.len())
-}
+use std::mem;
 
 // Puts a label in at its place, instead of the one with its name.
+#[tactic(auto, using(crate::proofs::Places::put_over, crate::proofs::Places::put_between))]
 fn put(pairs: &mut Vec<Pair>, label: Pair) -> Result<(), AllocError>
     requires set { IsLabelSet pairs.old.items }
     requires label { IsLabel label }
     ensures ok { OnOk result (pairs.new.items ≡ set_pair pairs.old.items label) }
     ensures err { OnErr result (pairs.new.items ≡ pairs.old.items) }
 {
-    let place = place_of(pairs, label.name.as_str());
-    if place < pairs.len() && pairs[place].name == label.name {
-        pairs[place] = label;
-    } else {
-        pairs.insert(place, label)?;
+    match place_of(pairs, label.name.as_str()) {
+        Ok(place) => pairs[place] = label,
+        Err(gap) => pairs.insert(gap, label)?,
     }
     Ok(())
 }
 
-// Takes out what has the name.
-fn take_out(pairs: &mut Vec<Pair>, name: &str)
-    ensures { pairs.new.items ≡ without_name pairs.old.items name.now }
+// The same of pairs that may be shared. Where they are, others come in their stead.
+fn put_in(alloc: Global, pairs: &mut SharedPairs, label: Pair) -> Result<(), AllocError>
+    requires set { IsLabelSet pairs.old }
+    requires label { IsLabel label }
+    ensures ok { OnOk result (pairs.new ≡ set_pair pairs.old label) }
+    ensures err { OnErr result (pairs.new ≡ pairs.old) }
 {
-    pairs.retain(|pair| pair.name.as_str() != name);
+    let mut alone = pairs.take(alloc)?;
+    let put = put(&mut alone, label);
+    *pairs = SharedPairs::new(alloc, alone);
+    put
+}
+
+// Takes out the pair at a place. Where the pairs are shared, others come in their stead.
+fn take_out(alloc: Global, pairs: &mut SharedPairs, place: usize) -> Result<(), AllocError>
+    requires { place < length pairs.old }
+    ensures ok { OnOk result (pairs.new ≡ remove pairs.old place) }
+    ensures err { OnErr result (pairs.new ≡ pairs.old) }
+{
+    match mem::replace(pairs, SharedPairs::empty(alloc)).into_alone() {
+        Ok(mut alone) => {
+            alone.remove(place);
+            *pairs = SharedPairs::new(alloc, alone);
+        }
+        Err(shared) => match copy_others(alloc, shared.as_slice(), place) {
+            Ok(others) => *pairs = SharedPairs::new(alloc, others),
+            Err(error) => {
+                *pairs = shared;
+                return Err(error);
+            }
+        },
+    }
+    Ok(())
 }
 
 impl Labels {
-    /// Takes a name out, where the set has it.
-    pub fn remove(&mut self, name: &str)
-        ensures { self.new ≡ without_name self.old name.now }
+    /// Takes a name out, where the set has it. Without memory the set is as it was.
+    pub fn remove(&mut self, alloc: Global, name: &str) -> Result<(), AllocError>
+        ensures ok { OnOk result (self.new ≡ without_name self.old name.now) }
+        ensures err { OnErr result (self.new ≡ self.old) }
     {
-        take_out(&mut self.pairs, name);
+        self.leave_out(alloc, name)
+    }
+
+    // The same, which is to set the name to nothing.
+    #[tactic(auto, using(crate::proofs::Places::removed, crate::proofs::Places::nothing_removed, crate::proofs::Putting::set_nothing))]
+    fn leave_out(&mut self, alloc: Global, name: &str) -> Result<(), AllocError>
+        ensures ok { OnOk result (self.new ≡ without_name self.old name.now) }
+        ensures set { OnOk result (self.new ≡ set_label self.old name.now []) }
+        ensures err { OnErr result (self.new ≡ self.old) }
+    {
+        match place_of(self.pairs.as_slice(), name) {
+            Ok(place) => take_out(alloc, &mut self.pairs, place),
+            Err(_gap) => Ok(()),
+        }
     }
 
     /// Sets the value of a name; an empty value takes the name out. After a refusal the set is as
@@ -84,25 +107,18 @@ impl Labels {
     }
 
     // The same of a label name.
-    pub(crate) fn assign(
-        &mut self,
-        alloc: Global,
-        name: &str,
-        value: &str,
-    ) -> Result<(), AllocError>
+    fn assign(&mut self, alloc: Global, name: &str, value: &str) -> Result<(), AllocError>
         requires { is_label_name name.now ≡ true }
         ensures ok { OnOk result (self.new ≡ set_label self.old name.now value.now) }
         ensures err { OnErr result (self.new ≡ self.old) }
     {
         if value.is_empty() {
-            take_out(&mut self.pairs, name);
-            return Ok(());
+            return self.leave_out(alloc, name);
         }
         let label = Pair {
             name: Text::from_str(alloc, name)?,
             value: Text::from_str(alloc, value)?,
         };
-        put(&mut self.pairs, label)?;
-        Ok(())
+        put_in(alloc, &mut self.pairs, label)
     }
 }

@@ -1,24 +1,17 @@
 // Label sets of pairs, and of two label sets.
-ghost use Rattle.std.specs.Prelude.{◌≡◌, ◌≢◌, ◌||◌, ℕ, List, filter, not, IfOk, IfErr, OnOk, None, Some};
-ghost use Rattle.std.specs.Str.{bytes_eq};
-ghost use Rattle.pr_words.specs.Names.{knows};
+ghost use Rattle.std.specs.Prelude.{◌≡◌, ◌≢◌, filter, IfOk, IfErr, OnOk, None, Some};
 ghost use Rattle.pr_labels.specs.Edits.{first_fault, has_value, labels_of, union_labels};
+ghost use Rattle.pr_labels.specs.LabelSet.{IsLabelSet};
 
-use super::{Labels, copy_pairs};
+use super::Labels;
+use super::copies::{copied, copy_pairs, push_copies};
+use super::known::add_name;
+use super::place::parted;
 use crate::fault::LabelFault;
 use crate::names::is_label_name;
 use crate::pair::Pair;
 use std::alloc::{AllocError, Global};
 use std::collections::BTreeSet;
-
-// Puts a name among those that are known, and says whether it is a new one.
-#[tactic(auto, using(crate::proofs::KnownNames::more_known))]
-fn add_name<'a>(names: &mut BTreeSet<&'a [u8]>, name: &'a [u8]) -> Result<bool, AllocError>
-    ensures new { IfOk result (λ new. new ≡ not (knows names.old name.now)) }
-    ensures known { OnOk result ((other : List ℕ) → knows names.new other ≡ (knows names.old other || bytes_eq name.now other)) }
-{
-    Ok(names.insert(name)?)
-}
 
 // Whether pairs may be a label set: the first one that may not follow those before it.
 fn check_pairs(alloc: Global, pairs: &[Pair]) -> Result<(), LabelFault>
@@ -51,6 +44,25 @@ fn drop_empty(pairs: &mut Vec<Pair>)
     pairs.retain(has_value);
 }
 
+// The pairs of both, with those of `over` where both have a name.
+fn merged(alloc: Global, own: &[Pair], over: &[Pair]) -> Result<Vec<Pair>, AllocError>
+    requires own { IsLabelSet own.now }
+    requires over { IsLabelSet over.now }
+    ensures union { IfOk result (λ v. v.items ≡ union_labels own.now over.now) }
+    ensures set { IfOk result (λ v. IsLabelSet v.items) }
+{
+    let mut pairs = Vec::with_capacity(alloc, own.len())?;
+    let mut left = own;
+    for label in over {
+        let (below, above) = parted(left, label.name.as_str());
+        push_copies(alloc, &mut pairs, below)?;
+        pairs.push(copied(alloc, label)?)?;
+        left = above;
+    }
+    push_copies(alloc, &mut pairs, left)?;
+    Ok(pairs)
+}
+
 impl Labels {
     /// The label set of pairs in any order. A pair whose value is empty is no label, but its name
     /// counts.
@@ -78,17 +90,24 @@ impl Labels {
         let mut pairs = pairs;
         drop_empty(&mut pairs);
         pairs.sort()?;
-        Ok(Labels { pairs })
+        let alloc = *pairs.allocator();
+        Ok(Labels::of_pairs(alloc, pairs))
     }
 
     /// The labels of both sets, with the values of `over` where both have a name.
+    ///
+    /// Both are gone over once. Where one of them is empty, the other one is shared.
     pub fn union(&self, alloc: Global, over: &Labels) -> Result<Labels, AllocError>
         ensures { IfOk result (λ l. l ≡ union_labels self.now over.now) }
     {
-        let mut labels = self.copy(alloc)?;
-        for label in &over.pairs {
-            labels.assign(alloc, label.name.as_str(), label.value.as_str())?;
+        let (own, over_pairs) = (self.pairs.as_slice(), over.pairs.as_slice());
+        if over_pairs.is_empty() {
+            return self.copy(alloc);
         }
-        Ok(labels)
+        if own.is_empty() {
+            return over.copy(alloc);
+        }
+        let merged = merged(alloc, own, over_pairs)?;
+        Ok(Labels::of_pairs(alloc, merged))
     }
 }

@@ -6,7 +6,7 @@ use Rattle.pr_head.proofs.Simulation.{new_is_added, put_added, holds_new, whole_
 use Rattle.pr_head.proofs.head.Head.append.Goals as goal
 
 pub returns-in-Some-clause-answer : goal.returns-in-Some-clause-answer
-returns-in-Some-clause-answer c = λ history holds. c.append_to.ensures.answer history c.args.labels.now holds c.in-Some.ensures.found
+returns-in-Some-clause-answer c = λ history holds. c.append_at.ensures.answer history c.args.labels.now holds c.in-Some.ensures.found
 
 pub returns-in_ok-add-in-None-clause-answer : goal.returns-in_ok-add-in-None-clause-answer
 returns-in_ok-add-in-None-clause-answer c = λ history holds. sym (new_is_added c.args.self.now history c.args.labels.now c.args.time c.args.point holds c.in-None.ensures.none)
@@ -28,4 +28,4 @@ returns-in_ok-add-in-None-clause-whole c = λ history x holds whole.
     (subst (λ s. IsWhole s (history ++ e ∷ []) x) (sym (c.in_ok-add-in-None.ensures.ok ∙ ap (λ l. c.args.self.now ++ (l, begun (timed e)) ∷ []) c.in_ok-copy-in-None.ensures)) after)
 
 pub returns-in-Some-clause-whole : goal.returns-in-Some-clause-whole
-returns-in-Some-clause-whole c = λ history x holds whole. c.append_to.ensures.whole history c.args.labels.now x holds c.in-Some.ensures.found whole
+returns-in-Some-clause-whole c = λ history x holds whole. c.append_at.ensures.whole history c.args.labels.now x holds c.in-Some.ensures.found whole

@@ -1,10 +1,11 @@
-use Rattle.std.proofs.Common.{◌≡◌, arith, not}
-use Rattle.std.proofs.lemmas.Grind.{common_steps}
-use Rattle.pr_labels.specs.Edits.{is_listed, unlisted_labels}
-use Rattle.pr_labels.proofs.LabelSets.{filtered_is_set}
+use Rattle.std.proofs.Common.{◌≡◌, length, arith}
+use Rattle.std.proofs.lemmas.Bool.Decides.{nat_tests}
+use Rattle.pr_labels.proofs.LabelSets.{none_listed}
+use Rattle.pr_labels.specs.Edits.{unlisted_labels}
 use Rattle.pr_labels.proofs.labels.Labels.without.Goals as goal
 
-pub invariant_of-result : goal.invariant_of-result
-invariant_of-result c =
-    let all : c.loop-pair.pairs.items ≡ unlisted_labels c.self.inside.pairs.items c.args.names.now = grind (arith, common_steps) in
-    filtered_is_set (λ p. not (is_listed c.args.names.now p)) c.self.inside.pairs.items _ c.self.invariant all
+pub returns-then-is_empty : goal.returns-then-is_empty
+returns-then-is_empty c =
+    let none : length c.args.names.now ≡ 0 = grind (arith, nat_tests) in
+    let all : c.args.self.now ≡ unlisted_labels c.args.self.now c.args.names.now = none_listed c.args.self.now c.args.names.now none in
+    rw (← all) c.copy.ensures

@@ -1,7 +1,0 @@
-use Rattle.std.proofs.Common.{◌≡◌, drop}
-use Rattle.pr_history.specs.Series.{has_values}
-use Rattle.pr_head.proofs.head.select.has_values.Given as goal
-
--- the pairs so far are met
-abbrev pub invariant-loop-pair : goal.invariant-loop-pair
-invariant-loop-pair l = has_values (drop l.pair-index l.equal) l.labels ≡ has_values l.equal l.labels

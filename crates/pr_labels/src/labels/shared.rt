@@ -1,0 +1,116 @@
+ghost use Rattle.std.specs.Prelude.{◌≡◌, [], IfOk, OnErr, MatchResult};
+
+use super::copies::copy_pairs;
+use crate::pair::Pair;
+use std::alloc::{AllocError, Global};
+use std::marker::Model;
+use std::mem;
+use std::rc::Rc;
+
+/// Pairs that label sets share, so that one more set with the same pairs costs a count. Contracts
+/// see the list of the pairs.
+#[derive(Debug, Drop)]
+pub(super) struct SharedPairs {
+    held: Held,
+}
+
+// Pairs of one set alone, or with a count of the sets that have them. Pairs without a count are
+// those for which there was no memory, and the empty list.
+#[derive(Debug, Drop)]
+enum Held {
+    Alone(Vec<Pair>),
+    Counted(Rc<Vec<Pair>>),
+}
+
+impl Model for SharedPairs {
+    ghost use Rattle.std.specs.Prelude.{List};
+    ghost use Rattle.pr_labels.specs.declared.pair.Pair.{Pair};
+    ghost use Rattle.pr_labels.specs.Held.{held_pairs};
+
+    ghost Value = { List Pair };
+
+    ghost view = { λ s. held_pairs s.held };
+}
+
+impl SharedPairs {
+    /// No pairs.
+    pub(super) fn empty(alloc: Global) -> SharedPairs
+        ensures { result ≡ [] }
+    {
+        SharedPairs {
+            held: Held::Alone(Vec::new(alloc)),
+        }
+    }
+
+    /// The pairs of a vector, to be shared where there is memory for a count.
+    pub(super) fn new(alloc: Global, pairs: Vec<Pair>) -> SharedPairs
+        ensures { result ≡ pairs.items }
+    {
+        if pairs.is_empty() {
+            return SharedPairs {
+                held: Held::Alone(pairs),
+            };
+        }
+        match Rc::new(alloc, pairs) {
+            Ok(counted) => SharedPairs {
+                held: Held::Counted(counted),
+            },
+            Err(refused) => SharedPairs {
+                held: Held::Alone(refused.value),
+            },
+        }
+    }
+
+    /// The pairs.
+    pub(super) fn as_slice(&self) -> &[Pair]
+        ensures { result.now ≡ self.now }
+    {
+        match &self.held {
+            Held::Alone(pairs) => pairs.as_slice(),
+            Held::Counted(counted) => counted.as_ref().as_slice(),
+        }
+    }
+
+    /// The same pairs, shared.
+    pub(super) fn share(&self, alloc: Global) -> Result<SharedPairs, AllocError>
+        ensures { IfOk result (λ s. s ≡ self.now) }
+    {
+        match &self.held {
+            Held::Alone(pairs) => Ok(SharedPairs::new(alloc, copy_pairs(alloc, pairs)?)),
+            Held::Counted(counted) => Ok(SharedPairs {
+                held: Held::Counted(counted.clone()?),
+            }),
+        }
+    }
+
+    /// The vector of the pairs, where no other set shares them.
+    pub(super) fn into_alone(self) -> Result<Vec<Pair>, SharedPairs>
+        ensures { MatchResult result (λ v. v.items ≡ self) (λ s. s ≡ self) }
+    {
+        match self.held {
+            Held::Alone(pairs) => Ok(pairs),
+            Held::Counted(counted) => match Rc::try_unwrap(counted) {
+                Ok(pairs) => Ok(pairs),
+                Err(counted) => Err(SharedPairs {
+                    held: Held::Counted(counted),
+                }),
+            },
+        }
+    }
+
+    /// Takes the pairs out to be changed: themselves, or where they are shared other ones with the
+    /// same texts. Without memory they stay.
+    pub(super) fn take(&mut self, alloc: Global) -> Result<Vec<Pair>, AllocError>
+        ensures ok { IfOk result (λ v. v.items ≡ self.old) }
+        ensures err { OnErr result (self.new ≡ self.old) }
+    {
+        match mem::replace(self, SharedPairs::empty(alloc)).into_alone() {
+            Ok(pairs) => Ok(pairs),
+            Err(shared) => {
+                let copies = copy_pairs(alloc, shared.as_slice());
+                *self = shared;
+                copies
+            }
+        }
+    }
+}
