@@ -1,5 +1,4 @@
 pub mod RowLemmas
-pub mod Ordered
 pub mod Mapping
 pub mod CivilDates
 pub mod Separating
@@ -7,3 +6,4 @@ pub mod LabelKeys
 pub mod Gathering
 pub mod Known
 pub mod BucketLemmas
+pub mod Twice

@@ -84,7 +84,7 @@ pub fn label_replace(
         let labels = with_expansion(alloc, &item.labels, dst, template, src, pattern)?;
         put(&mut rows, labels, item.value)?;
     }
-    told_apart(alloc, rows)
+    told_apart(rows)
 }
 
 // Puts the texts of labels behind a text, each after a separator.
@@ -149,5 +149,5 @@ pub fn label_join(
         let labels = with_label(alloc, &item.labels, dst, text.as_str())?;
         put(&mut rows, labels, item.value)?;
     }
-    told_apart(alloc, rows)
+    told_apart(rows)
 }

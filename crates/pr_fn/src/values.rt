@@ -1,12 +1,10 @@
 // Functions of each value, and the scalar of a vector.
-ghost use Rattle.std.specs.Prelude.{◌≡◌, ◌≢◌, ◌++◌, List, [], true, false, Ok, Err, IfOk, IfSome, OnOk, MatchResult, map};
+ghost use Rattle.std.specs.Prelude.{◌≡◌, ◌≢◌, ◌++◌, List, true, false, Ok, Err, IfOk, IfSome, MatchResult, map};
 ghost use Rattle.std.specs.List.{filter_map, list_any};
 ghost use Rattle.std.specs.Option.{option_to_list};
-ghost use Rattle.std.specs.BTreeMap.{IsOrdered};
 ghost use Rattle.pr_num.specs.declared.value.Num.{Num};
 ghost use Rattle.pr_num.specs.Order.{compared};
 ghost use Rattle.pr_labels.specs.declared.item.Item.{Item};
-ghost use Rattle.pr_labels.specs.Order.{labels_cmp};
 ghost use Rattle.pr_labels.specs.SeriesText.{unnamed};
 ghost use Rattle.pr_vectors.specs.Vectors.{IsVector};
 ghost use Rattle.pr_vectors.specs.Functions.{ValueFunction, are_crossed, clamped, is_too_wide, mapped, scalar_of, sign_of, at_least, at_most, told_apart, within, with_value};
@@ -15,34 +13,32 @@ ghost use Rattle.pr_fn.specs.Rows.{AreRows, without_metric};
 ghost use Rattle.pr_fn.specs.ValueFunctions.{WorksBy};
 
 use crate::fn_fault::FnFault;
-use crate::rows::{Row, no_rows, put, told_apart};
+use crate::rows::{Rows, no_rows, put, told_apart};
 use pr_labels::{Item, Labels, METRIC_LABEL};
 use pr_num::{Num, TooWide};
 use std::alloc::{AllocError, Global};
 use std::cmp::Ordering;
-use std::collections::BTreeMap;
 
 // The labels without the metric's name.
 fn unnamed(alloc: Global, labels: &Labels) -> Result<Labels, AllocError>
     ensures { IfOk result (λ l. l ≡ unnamed labels.now) }
 {
     let mut others = labels.copy(alloc)?;
-    others.remove(METRIC_LABEL);
+    others.remove(alloc, METRIC_LABEL)?;
     Ok(others)
 }
 
 // Puts what the function gives of an element among the rows.
 fn map_one<O: Fn(Num) -> Result<Num, TooWide>>(
     alloc: Global,
-    rows: &mut BTreeMap<Labels, Row>,
+    rows: &mut Rows,
     item: &Item<Num>,
     op: &O,
 ) -> Result<(), FnFault>
     requires { O.IsAlwaysCallable op.now }
-    ensures mapped { (f : ValueFunction) (front : List (Item Num)) → WorksBy O.Fn op.now f → AreRows front rows.old → MatchResult result
+    ensures { (f : ValueFunction) (front : List (Item Num)) → WorksBy O.Fn op.now f → AreRows front rows.old → MatchResult result
         (λ _. (is_too_wide f item.now ≡ false) × AreRows (front ++ option_to_list (with_value f item.now)) rows.new)
         (λ e. e ≢ FnFault.Memory → (e ≡ FnFault.TooWide) × (is_too_wide f item.now ≡ true)) }
-    ensures ordered { OnOk result (IsOrdered labels_cmp rows.new) }
 {
     match op(item.value) {
         Err(_) => Err(FnFault::TooWide),
@@ -59,12 +55,11 @@ fn map_all<O: Fn(Num) -> Result<Num, TooWide>>(
     alloc: Global,
     vector: &[Item<Num>],
     op: &O,
-) -> Result<BTreeMap<Labels, Row>, FnFault>
+) -> Result<Rows, FnFault>
     requires { O.IsAlwaysCallable op.now }
-    ensures mapped { (f : ValueFunction) → WorksBy O.Fn op.now f → MatchResult result
+    ensures { (f : ValueFunction) → WorksBy O.Fn op.now f → MatchResult result
         (λ rows. (list_any (is_too_wide f) vector.now ≡ false) × AreRows (filter_map (with_value f) vector.now) rows)
         (λ e. e ≢ FnFault.Memory → (e ≡ FnFault.TooWide) × (list_any (is_too_wide f) vector.now ≡ true)) }
-    ensures ordered { IfOk result (IsOrdered labels_cmp) }
 {
     let mut rows = no_rows(alloc);
     for item in vector {
@@ -94,7 +89,7 @@ pub fn map_values<O: Fn(Num) -> Result<Num, TooWide>>(
     ensures vector { IfOk result (λ v. IsVector v.items) }
 {
     match map_all(alloc, vector, op) {
-        Ok(rows) => told_apart(alloc, rows),
+        Ok(rows) => told_apart(rows),
         Err(fault) => Err(fault),
     }
 }
@@ -115,7 +110,7 @@ pub fn without_metrics(alloc: Global, vector: &[Item<Num>]) -> Result<Vec<Item<N
         let labels = unnamed(alloc, &item.labels)?;
         put(&mut rows, labels, item.value)?;
     }
-    told_apart(alloc, rows)
+    told_apart(rows)
 }
 
 /// The sign of a value: -1, 0 or 1. NaN stays. (Prometheus: Querying, Functions, `sgn`.)

@@ -11,7 +11,7 @@ use Rattle.pr_labels.specs.declared.item.Item.{Item}
 use Rattle.pr_labels.specs.Order.{labels_cmp}
 use Rattle.pr_labels.specs.Rising.{IsBelowFirstSet}
 use Rattle.pr_vectors.specs.Vectors.{IsVector, label_sets}
-use Rattle.pr_join.specs.Rows.{elements_of_entries}
+use Rattle.pr_ordered.specs.Entries.{items_of}
 
 -- what equals a vector is one
 pub still_vector : {V E : Type 0} (r : Result V E) (items : V → List (Item Num)) (xs : List (Item Num)) → IsVector xs → IfOk r (λ v. items v ≡ xs) → IfOk r (λ v. IsVector (items v))
@@ -19,10 +19,10 @@ still_vector (Ok v) items xs h e = subst (λ (ys : List (Item Num)). IsVector ys
 still_vector (Err x) items xs h e = tt
 
 -- the elements of a map whose keys are in order
-first_below : (labels : List Pair) (entries : List (List Pair × Num)) → AllByRecursion (λ q. labels_cmp labels q ≡ Less) (keys_of entries) → IsBelowFirstSet labels (label_sets (elements_of_entries entries))
+first_below : (labels : List Pair) (entries : List (List Pair × Num)) → AllByRecursion (λ q. labels_cmp labels q ≡ Less) (keys_of entries) → IsBelowFirstSet labels (label_sets (items_of entries))
 first_below labels [] h = tt
 first_below labels (e ∷ es) h = h.0
 
-pub sorted_vector : (entries : List (List Pair × Num)) → IsStrictlySortedBy labels_cmp (keys_of entries) → IsVector (elements_of_entries entries)
+pub sorted_vector : (entries : List (List Pair × Num)) → IsStrictlySortedBy labels_cmp (keys_of entries) → IsVector (items_of entries)
 sorted_vector [] h = tt
 sorted_vector (e ∷ es) h = (first_below e.0 es (sorted_head labels_cmp e.0 (keys_of es) h), sorted_vector es (sorted_tail labels_cmp e.0 (keys_of es) h))

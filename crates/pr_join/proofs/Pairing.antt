@@ -21,10 +21,11 @@ use Rattle.pr_join.specs.declared.join_fault.JoinFault.TheVariants as cause
 use Rattle.pr_join.specs.Faults.{match_told}
 use Rattle.pr_vectors.specs.Vectors.{in_order}
 use Rattle.pr_vectors.specs.Matching.{Kept, Operator, Paired, has_key, items_kept, joined, joined_sides, many_side, one_side, kept_pairs, kept_of, kept_if, key_of, least_shared, pair_outcome, outcomes_of, paired, pairs, pairs_with, outcome_fault, fault_of_outcomes, joined_result, side_fault, unless_fault}
+use Rattle.pr_ordered.specs.Entries.{items_of}
 use Rattle.pr_join.specs.declared.rows.Rows.{Rows}
 use Rattle.pr_join.specs.declared.places.Place.{Place}
 use Rattle.pr_join.specs.Places.{IsIndexOf, is_flagged}
-use Rattle.pr_join.specs.Rows.{HasKept, AreRowsTaken, elements, outcomes_with}
+use Rattle.pr_join.specs.Rows.{HasKept, AreRowsTaken, outcomes_with}
 use Rattle.pr_join.proofs.Placing.{first_flag}
 
 pub or_none : (x : Option MatchFault) → option_or x None ≡ x
@@ -167,7 +168,7 @@ module _ (how : Matching) (keep_name : Bool) (f : Operator) (manys ones : List (
   sides_fault Memory some h at = tt
 
   pub sides_kept : (rows : Rows) (items : List (Item Num)) → false ≡ (length manys == 0) → None ≡ option_map (λ e. e.0) (find is_flagged places.entries)
-      → AreRowsTaken how.card [] (outcomes_of how keep_name f manys ones) rows → items ≡ elements rows.items → joined_sides how keep_name f manys ones ≡ Ok items
+      → AreRowsTaken how.card [] (outcomes_of how keep_name f manys ones) rows → items ≡ items_of rows.items → joined_sides how keep_name f manys ones ≡ Ok items
   sides_kept rows items some h t is =
       ap (λ (x : Option MatchFault). joined_result how.card (outcomes_of how keep_name f manys ones) x) (no_side_fault some h)
       ∙ ap (λ (x : Option MatchFault). unless_fault x (in_order (items_kept (kept_pairs (outcomes_of how keep_name f manys ones))))) t.faultless

@@ -10,15 +10,13 @@ use Rattle.pr_labels.specs.declared.matching.Card.{Card}
 use Rattle.pr_labels.specs.declared.matching.Card.TheVariants.{OneToOne, ManyToOne, OneToMany}
 use Rattle.pr_vectors.specs.Vectors.{element, in_order}
 use Rattle.pr_vectors.specs.Matching.{Kept, Operator, fault_of_outcomes, items_kept, kept_pairs, pair_outcome, pairs_with}
+use Rattle.pr_ordered.specs.Entries.{items_of}
 use Rattle.pr_join.specs.Keys.{HasKeys}
 use Rattle.pr_join.specs.declared.rows.Rows.{Rows}
 
 -- the elements of a map
-abbrev pub elements_of_entries : List (List Pair × Num) → List (Item Num)
-elements_of_entries entries = map (λ e. element e.0 e.1) entries
-
 abbrev pub elements : BTreeMap (List Pair) Num → List (Item Num)
-elements m = elements_of_entries m.entries
+elements m = items_of m.entries
 
 abbrev pub is_one_to_one : Card → Bool
 is_one_to_one OneToOne = true
@@ -38,13 +36,13 @@ abbrev pub labels_in : Kept → List Pair
 labels_in k = k.item.labels
 
 -- the elements that the pairs before gave, by their labels
-pub record HasItems (before : List Kept) (m : BTreeMap (List Pair) Num) : Type 0 where
-  pub listed : elements m ≡ in_order (items_kept before)
-  pub labels : HasKeys labels_in before m
+pub record HasItems (before : List Kept) (entries : List (List Pair × Num)) : Type 0 where
+  pub listed : items_of entries ≡ in_order (items_kept before)
+  pub labels : HasKeys labels_in before entries
 
 -- the keys of the pairs before, where each may come once
-pub record HasTakenKeys (card : Card) (before : List Kept) (m : BTreeMap (List Pair) (Unit {0})) : Type 0 where
-  pub keys : HasKeys key_in (keyed card before) m
+pub record HasTakenKeys (card : Card) (before : List Kept) (entries : List (List Pair × Unit {0})) : Type 0 where
+  pub keys : HasKeys key_in (keyed card before) entries
 
 pub record HasKept (card : Card) (before : List Kept) (rows : Rows) : Type 0 where
   pub items : HasItems before rows.items

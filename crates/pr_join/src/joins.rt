@@ -1,8 +1,6 @@
 // Arithmetic and comparisons between two vectors.
 ghost use Rattle.std.specs.Prelude.{◌≡◌, ◌≢◌, List, [], ◌∷◌, find, Ok, Err, Some, None, IfOk, IfSome, MatchResult, OnOk};
 ghost use Rattle.pr_join.specs.declared.join_fault.JoinFault.TheVariants.{Memory};
-ghost use Rattle.std.specs.BTreeMap.{IsOrdered};
-ghost use Rattle.pr_labels.specs.Order.{labels_cmp};
 ghost use Rattle.pr_vectors.specs.Vectors.{IsVector};
 ghost use Rattle.pr_vectors.specs.Matching.{Operator, Kept, worked, paired, pair_outcome, fault_of_outcomes, key_of, outcomes_of, joined, joined_sides};
 ghost use Rattle.pr_join.specs.Faults.{match_told};
@@ -13,7 +11,7 @@ ghost use Rattle.pr_join.specs.Rows.{HasKept, AreRowsTaken, outcomes_with};
 use crate::join_fault::JoinFault;
 use crate::labels::result_labels;
 use crate::places::{Place, first_shared, first_with, key_of, places_of};
-use crate::rows::{Rows, elements_of, no_rows, take};
+use crate::rows::{Rows, no_rows, take};
 use pr_labels::{Card, Item, Labels, Matching};
 use pr_num::{Num, TooWide};
 use std::alloc::Global;
@@ -48,10 +46,9 @@ fn join_pair<O: Fn(Num, Num) -> Result<Option<Num>, TooWide>>(
 ) -> Result<(), JoinFault>
     requires callable { O.IsAlwaysCallable op.now }
     requires key { key ≡ key_of how.now many.now }
-    ensures taken { (f : Operator) (before : List Kept) → AnswersBy O.Fn op.now f → HasKept how.now.card before rows.old → MatchResult result
+    ensures { (f : Operator) (before : List Kept) → AnswersBy O.Fn op.now f → HasKept how.now.card before rows.old → MatchResult result
         (λ _. AreRowsTaken how.now.card before (pair_outcome how.now keep_name f (paired many.now one.now) ∷ []) rows.new)
         (λ e. e ≢ Memory → fault_of_outcomes how.now.card before (pair_outcome how.now keep_name f (paired many.now one.now) ∷ []) ≡ match_told e) }
-    ensures ordered { IsOrdered labels_cmp rows.old.items → OnOk result (IsOrdered labels_cmp rows.new.items) }
 {
     match worked(how.card, op, many, one) {
         Err(_) => Err(JoinFault::TooWide),
@@ -77,10 +74,9 @@ fn join_one<O: Fn(Num, Num) -> Result<Option<Num>, TooWide>>(
     requires callable { O.IsAlwaysCallable op.now }
     requires index { IsIndexOf how.now ones.now ones.now places.now }
     requires unshared { find is_flagged places.now.entries ≡ None }
-    ensures taken { (f : Operator) (before : List Kept) → AnswersBy O.Fn op.now f → HasKept how.now.card before rows.old → MatchResult result
+    ensures { (f : Operator) (before : List Kept) → AnswersBy O.Fn op.now f → HasKept how.now.card before rows.old → MatchResult result
         (λ _. AreRowsTaken how.now.card before (outcomes_with how.now keep_name f ones.now many.now) rows.new)
         (λ e. e ≢ Memory → fault_of_outcomes how.now.card before (outcomes_with how.now keep_name f ones.now many.now) ≡ match_told e) }
-    ensures ordered { IsOrdered labels_cmp rows.old.items → OnOk result (IsOrdered labels_cmp rows.new.items) }
 {
     let key = key_of(alloc, how, many)?;
     match first_with(how, ones, places, &key) {
@@ -102,10 +98,9 @@ fn join_all<O: Fn(Num, Num) -> Result<Option<Num>, TooWide>>(
     requires callable { O.IsAlwaysCallable op.now }
     requires index { IsIndexOf how.now ones.now ones.now places.now }
     requires unshared { find is_flagged places.now.entries ≡ None }
-    ensures taken { (f : Operator) → AnswersBy O.Fn op.now f → MatchResult result
+    ensures { (f : Operator) → AnswersBy O.Fn op.now f → MatchResult result
         (AreRowsTaken how.now.card [] (outcomes_of how.now keep_name f manys.now ones.now))
         (λ e. e ≢ Memory → fault_of_outcomes how.now.card [] (outcomes_of how.now keep_name f manys.now ones.now) ≡ match_told e) }
-    ensures ordered { IfOk result (λ rows. IsOrdered labels_cmp rows.items) }
 {
     let mut rows = no_rows(alloc);
     for many in manys {
@@ -139,7 +134,7 @@ fn join_sides<O: Fn(Num, Num) -> Result<Option<Num>, TooWide>>(
         return Err(JoinFault::ManyToMany { key });
     }
     match join_all(alloc, how, keep_name, op, manys, ones, &places) {
-        Ok(rows) => Ok(elements_of(alloc, rows.items)?),
+        Ok(rows) => Ok(rows.items.into_items()?),
         Err(fault) => Err(fault),
     }
 }

@@ -1,7 +1,7 @@
 // The elements of a result, as pairs give them.
 ghost use Rattle.pr_labels.specs.declared.matching.Card.{Card};
 ghost use Rattle.std.specs.Prelude.{◌≡◌, ◌≢◌, List, [], ◌∷◌, ◌++◌, Some, None, Ok, IfOk, OnOk, MatchResult};
-ghost use Rattle.std.specs.BTreeMap.{IsOrdered, Updates, insert_entry};
+ghost use Rattle.std.specs.BTreeMap.{IsOrdered, insert_entry};
 ghost use Rattle.pr_labels.specs.Order.{labels_cmp};
 ghost use Rattle.pr_join.specs.declared.join_fault.JoinFault.TheVariants.{Memory};
 ghost use Rattle.pr_vectors.specs.Vectors.{IsVector, element};
@@ -12,6 +12,7 @@ ghost use Rattle.pr_join.specs.Rows.{HasTakenKeys, HasItems, HasKept, elements, 
 use crate::join_fault::JoinFault;
 use pr_labels::{Card, Item, Labels};
 use pr_num::Num;
+use pr_ordered::Ordered;
 use std::alloc::{AllocError, Global};
 use std::collections::BTreeMap;
 
@@ -19,18 +20,17 @@ use std::collections::BTreeMap;
 /// them.
 #[derive(Drop)]
 pub struct Rows {
-    pub items: BTreeMap<Labels, Num>,
-    pub taken: BTreeMap<Labels, ()>,
+    pub items: Ordered<Num>,
+    pub taken: Ordered<()>,
 }
 
 /// No elements.
 pub fn no_rows(alloc: Global) -> Rows
-    ensures kept { (card : Card) → HasKept card [] result }
-    ensures ordered { IsOrdered labels_cmp result.items }
+    ensures { (card : Card) → HasKept card [] result }
 {
     Rows {
-        items: BTreeMap::new(alloc),
-        taken: BTreeMap::new(alloc),
+        items: Ordered::new(alloc),
+        taken: Ordered::new(alloc),
     }
 }
 
@@ -41,8 +41,6 @@ pub fn put<V: Drop>(
     value: V,
 ) -> Result<(), AllocError>
     ensures entries { OnOk result (map.new.entries ≡ insert_entry labels_cmp map.old.entries labels value) }
-    ensures updates { OnOk result (Updates labels_cmp map.old map.new labels (Some value)) }
-    ensures ordered { OnOk result (IsOrdered labels_cmp map.new) }
 {
     map.insert(labels, value)?;
     Ok(())
@@ -55,7 +53,7 @@ fn is_one_to_one(card: Card) -> bool
 }
 
 // Takes a key, which in one-to-one matching may come once.
-fn take_key(taken: &mut BTreeMap<Labels, ()>, card: Card, key: Labels) -> Result<(), JoinFault>
+fn take_key(taken: &mut Ordered<()>, card: Card, key: Labels) -> Result<(), JoinFault>
     ensures { (before : List Kept) (k : Kept) → k.key ≡ key → HasTakenKeys card before taken.old → MatchResult result
         (λ _. (key_fault card before k ≡ None) × HasTakenKeys card (before ++ k ∷ []) taken.new)
         (λ e. e ≢ Memory → key_fault card before k ≡ match_told e) }
@@ -63,25 +61,22 @@ fn take_key(taken: &mut BTreeMap<Labels, ()>, card: Card, key: Labels) -> Result
     if !is_one_to_one(card) {
         return Ok(());
     }
-    if taken.contains_key(&key) {
-        return Err(JoinFault::ManyToMany { key });
+    match taken.put(key, ())? {
+        None => Ok(()),
+        Some(key) => Err(JoinFault::ManyToMany { key }),
     }
-    put(taken, key, ())?;
-    Ok(())
 }
 
 // Takes an element, whose labels may come once.
-fn take_item(items: &mut BTreeMap<Labels, Num>, labels: Labels, value: Num) -> Result<(), JoinFault>
-    ensures taken { (before : List Kept) (k : Kept) → k.item ≡ element labels value → HasItems before items.old → MatchResult result
+fn take_item(items: &mut Ordered<Num>, labels: Labels, value: Num) -> Result<(), JoinFault>
+    ensures { (before : List Kept) (k : Kept) → k.item ≡ element labels value → HasItems before items.old → MatchResult result
         (λ _. (labels_fault before k ≡ None) × HasItems (before ++ k ∷ []) items.new)
         (λ e. e ≢ Memory → labels_fault before k ≡ match_told e) }
-    ensures ordered { OnOk result (IsOrdered labels_cmp items.new) }
 {
-    if items.contains_key(&labels) {
-        return Err(JoinFault::NotUnique { labels });
+    match items.put(labels, value)? {
+        None => Ok(()),
+        Some(labels) => Err(JoinFault::NotUnique { labels }),
     }
-    put(items, labels, value)?;
-    Ok(())
 }
 
 /// Takes what a pair gives, unless an earlier pair with its key or its labels was taken.
@@ -92,10 +87,9 @@ pub fn take(
     labels: Labels,
     value: Num,
 ) -> Result<(), JoinFault>
-    ensures taken { (before : List Kept) (k : Kept) → k ≡ kept_with key labels value → HasKept card before rows.old → MatchResult result
+    ensures { (before : List Kept) (k : Kept) → k ≡ kept_with key labels value → HasKept card before rows.old → MatchResult result
         (λ _. (outcome_fault card before (Ok (Some k)) ≡ None) × HasKept card (before ++ k ∷ []) rows.new)
         (λ e. e ≢ Memory → outcome_fault card before (Ok (Some k)) ≡ match_told e) }
-    ensures ordered { OnOk result (IsOrdered labels_cmp rows.new.items) }
 {
     take_key(&mut rows.taken, card, key)?;
     take_item(&mut rows.items, labels, value)

@@ -1,5 +1,3 @@
-pub mod Putting
-pub mod Sets
 pub mod Names
 pub mod Tallying
 pub mod Answering

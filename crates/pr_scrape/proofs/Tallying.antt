@@ -3,7 +3,7 @@ use Rattle.std.proofs.Common.{◌≡◌, ℕ, ◌+◌, Result, OnOk, OnErr, zero
 use Rattle.std.specs.Prelude.{count_by, is_none}
 use Rattle.std.specs.List.{cons_option, filter_map}
 use Rattle.std.specs.declared.result.Result.TheVariants.{Ok, Err}
-use Rattle.pr_scrape.specs.Putting.{HasTakenFront, Puts, Series}
+use Rattle.pr_intake.specs.Intake.{HasTakenFront, Puts, Series}
 use Rattle.std.proofs.lemmas.List.{map-append}
 use Rattle.std.proofs.lemmas.List.Elements.{filter_map-append}
 use Rattle.std.proofs.lemmas.List.Sums.{fold-append}

@@ -1,3 +1,2 @@
-pub mod Putting
 pub mod Tallying
 pub mod Knowing

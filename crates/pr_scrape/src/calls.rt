@@ -5,15 +5,14 @@ ghost use Rattle.pr_history.specs.declared.entry.Entry.{Entry};
 ghost use Rattle.pr_head.specs.Holds.{Holds};
 ghost use Rattle.pr_expo.specs.Families.{exposition_of};
 ghost use Rattle.pr_world.specs.Scrapes.{about, failed, gone_of, marker, reported, sample_count_of, scrape_of, scraped, scraped_by, up_of};
-ghost use Rattle.pr_scrape.specs.Putting.{HasTaken, HasTakenFront, Puts};
+ghost use Rattle.pr_intake.specs.Intake.{HasTaken, HasTakenFront, Puts};
 
-use crate::markers::put_markers;
 use crate::named::metric_of;
-use crate::put::{marker, put};
 use crate::tally::put_lines;
 use pr_expo::{ExpoError, Line};
 use pr_head::Head;
 use pr_history::Entry;
+use pr_intake::{marker, put, put_markers};
 use pr_labels::Labels;
 use pr_num::{Num, Point};
 use pr_time::Ms;

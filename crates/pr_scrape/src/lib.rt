@@ -3,10 +3,8 @@
 #![tactic(auto)]
 
 mod calls;
-mod markers;
 mod named;
 mod offered;
-mod put;
 mod tally;
 mod targets;
 

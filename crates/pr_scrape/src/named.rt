@@ -72,7 +72,7 @@ fn rename(
         return Ok(());
     }
     let free = free_name(alloc, target, labels, name)?;
-    labels.remove(name);
+    labels.remove(alloc, name)?;
     set(alloc, labels, free.as_str(), pair.value.as_str())
 }
 

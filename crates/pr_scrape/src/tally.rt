@@ -5,15 +5,14 @@ ghost use Rattle.pr_labels.specs.Rising.{with_labels};
 ghost use Rattle.pr_history.specs.declared.entry.Entry.{Entry};
 ghost use Rattle.pr_head.specs.Holds.{Holds};
 ghost use Rattle.pr_world.specs.Scrapes.{dropped_count, offered_entries, is_shown, kept_sets, offers, refused_count, tracked_after};
-ghost use Rattle.pr_scrape.specs.Putting.{HasTakenFront, Puts};
+ghost use Rattle.pr_intake.specs.Intake.{HasTakenFront, Puts};
 ghost use Rattle.pr_scrape.specs.Tallying.{Tallies};
 
-use crate::markers::add_labels;
 use crate::offered::offer_of;
-use crate::put::{is_shown, put};
 use pr_expo::Line;
 use pr_head::Head;
 use pr_history::{Append, Entry};
+use pr_intake::{add_labels, is_shown, put};
 use pr_labels::Labels;
 use pr_time::Ms;
 use pr_world::Offer;

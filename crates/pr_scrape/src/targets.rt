@@ -5,7 +5,7 @@ ghost use Rattle.pr_history.specs.declared.entry.Entry.{Entry};
 ghost use Rattle.pr_head.specs.Holds.{Holds};
 ghost use Rattle.pr_world.specs.Scrapes.{gone_of, scrape_of};
 ghost use Rattle.pr_world.specs.Targets.{Target, fail_step, gone_step, tracked_at, nothing_scraped, scrape_step, tracked_of, with_tracked, without_target};
-ghost use Rattle.pr_scrape.specs.Putting.{HasTaken, HasTakenFront};
+ghost use Rattle.pr_intake.specs.Intake.{HasTaken, HasTakenFront};
 ghost use Rattle.pr_scrape.specs.Knowing.{Knows};
 
 use crate::calls;

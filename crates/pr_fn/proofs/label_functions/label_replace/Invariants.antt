@@ -1,6 +1,4 @@
 use Rattle.std.proofs.Common.{map, take}
-use Rattle.std.specs.BTreeMap.{IsOrdered}
-use Rattle.pr_labels.specs.Order.{labels_cmp}
 use Rattle.pr_match.specs.Pattern.{expanded}
 use Rattle.pr_vectors.specs.LabelFunctions.{with_expansion}
 use Rattle.pr_fn.specs.Rows.{AreRows}
@@ -8,4 +6,4 @@ use Rattle.pr_fn.proofs.label_functions.label_replace.Given as goal
 
 -- the elements so far, with the label set
 abbrev pub invariant-loop-item : goal.invariant-loop-item
-invariant-loop-item l = AreRows (map (with_expansion l.dst l.src (λ text. expanded l.pattern text l.template)) (take l.item-index l.vector)) l.rows × IsOrdered labels_cmp l.rows
+invariant-loop-item l = AreRows (map (with_expansion l.dst l.src (λ text. expanded l.pattern text l.template)) (take l.item-index l.vector)) l.rows

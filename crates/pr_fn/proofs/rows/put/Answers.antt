@@ -1,13 +1,15 @@
-use Rattle.std.proofs.Common.{◌≡◌, Option, ap, ◌∙◌}
-use Rattle.std.specs.BTreeMap.{get}
-use Rattle.pr_labels.specs.Order.{labels_cmp}
-use Rattle.pr_fn.specs.declared.rows.Row.{Row}
-use Rattle.pr_fn.specs.Rows.{row_with}
-use Rattle.pr_fn.proofs.RowLemmas.{rows_more}
+use Rattle.std.proofs.Common.{List, Option, subst}
+use Rattle.pr_labels.specs.declared.pair.Pair.{Pair}
+use Rattle.pr_ordered.specs.Entries.{IsPut}
+use Rattle.pr_fn.proofs.RowLemmas.{rows_again, rows_more}
 use Rattle.pr_fn.proofs.rows.put.Goals as goal
 
-pub returns-clause-rows : goal.returns-clause-rows
-returns-clause-rows c = λ front h.
-    let m = c.args.rows.now in
-    let row : c.row_with-row.result ≡ row_with (get labels_cmp m c.args.labels) c.args.value = c.row_with-row.ensures ∙ ap (λ (o : Option Row). row_with o c.args.value) (c.copied.ensures ∙ c.get.ensures.value) in
-    rows_more front c.args.labels c.args.value m c.insert.new.self (rw (← row) c.in_ok-insert.ensures.entries) (rw (← row) c.in_ok-insert.ensures.updates) c.in_ok-insert.ensures.ordered h
+pub returns-in-None : goal.returns-in-None
+returns-in-None c = λ front h.
+    rows_more front c.args.labels c.args.value c.args.rows.now c.put.new.self
+    (subst (λ (o : Option (List Pair)). IsPut o c.args.labels c.args.value c.args.rows.now.elements c.put.new.self) c.in-None.is c.in_ok-put.ensures) h
+
+pub returns-in-Some : goal.returns-in-Some
+returns-in-Some c = λ front h.
+    rows_again front c.args.labels c.args.value c.args.rows.now c.put.new.self c.in-Some.labels c.keep_least.new.least
+    (subst (λ (o : Option (List Pair)). IsPut o c.args.labels c.args.value c.args.rows.now.elements c.put.new.self) c.in-Some.is c.in_ok-put.ensures) c.keep_least.ensures h

@@ -1,9 +1,7 @@
 use Rattle.std.proofs.Common.{map, take}
-use Rattle.std.specs.BTreeMap.{IsOrdered}
-use Rattle.pr_labels.specs.Order.{labels_cmp}
 use Rattle.pr_fn.specs.Rows.{AreRows, without_metric}
 use Rattle.pr_fn.proofs.values.without_metrics.Given as goal
 
 -- the elements so far, without the name
 abbrev pub invariant-loop-item : goal.invariant-loop-item
-invariant-loop-item l = AreRows (map without_metric (take l.item-index l.vector)) l.rows × IsOrdered labels_cmp l.rows
+invariant-loop-item l = AreRows (map without_metric (take l.item-index l.vector)) l.rows

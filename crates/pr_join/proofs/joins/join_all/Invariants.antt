@@ -1,11 +1,9 @@
 use Rattle.std.proofs.Common.{[], take}
-use Rattle.std.specs.BTreeMap.{IsOrdered}
-use Rattle.pr_labels.specs.Order.{labels_cmp}
 use Rattle.pr_vectors.specs.Matching.{Operator, outcomes_of}
 use Rattle.pr_join.specs.Operators.{AnswersBy}
 use Rattle.pr_join.specs.Rows.{AreRowsTaken}
 use Rattle.pr_join.proofs.joins.join_all.Given as goal
 
--- the elements so far have no fault, and what they give is kept, in label order
+-- the elements so far have no fault, and what they give is kept
 abbrev pub invariant-loop-many : goal.invariant-loop-many
-invariant-loop-many g l = ((f : Operator) → AnswersBy g.O.Fn l.op f → AreRowsTaken l.how.card [] (outcomes_of l.how l.keep_name f (take l.many-index l.manys) l.ones) l.rows) × IsOrdered labels_cmp l.rows.items
+invariant-loop-many g l = (f : Operator) → AnswersBy g.O.Fn l.op f → AreRowsTaken l.how.card [] (outcomes_of l.how l.keep_name f (take l.many-index l.manys) l.ones) l.rows

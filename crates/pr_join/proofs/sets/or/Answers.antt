@@ -6,7 +6,8 @@ use Rattle.pr_labels.specs.declared.item.Item.{Item}
 use Rattle.pr_vectors.specs.Vectors.{with_element}
 use Rattle.pr_vectors.specs.Matching.{either_side, left_alone}
 use Rattle.pr_vectors.proofs.Vectors.{vector_in_order}
-use Rattle.pr_join.specs.Rows.{elements, elements_of_entries}
+use Rattle.pr_ordered.specs.Entries.{items_of}
+use Rattle.pr_join.specs.Rows.{elements}
 use Rattle.pr_join.proofs.Ordered.{still_vector}
 use Rattle.pr_join.proofs.sets.or.Goals as goal
 
@@ -15,7 +16,7 @@ returns-clause-items c =
     let left = c.args.left.now in
     let whole : elements c.put_all-2.new.items ≡ either_side c.args.how.now left c.args.right.now = c.in_ok-put_all-2.ensures
     ∙ ap (λ (xs : List (Item Num)). fold with_element xs c.deref.result.now) c.in_ok-put_all.ensures
-    ∙ ap (λ (es : List (List Pair × Num)). fold with_element (fold with_element (elements_of_entries es) left) c.deref.result.now) c.new-items.ensures.empty
+    ∙ ap (λ (es : List (List Pair × Num)). fold with_element (fold with_element (items_of es) left) c.deref.result.now) c.new-items.ensures.empty
     ∙ ap (λ (xs : List (Item Num)). fold with_element (fold with_element [] left) xs) c.deref.ensures.value
     ∙ sym (fold-append with_element [] left c.in_ok-others.others.items)
     ∙ ap (λ (xs : List (Item Num)). fold with_element [] (left ++ xs)) c.in_ok-others.ensures in

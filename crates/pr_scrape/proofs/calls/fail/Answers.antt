@@ -3,9 +3,10 @@ use Rattle.pr_labels.specs.declared.pair.Pair.{Pair}
 use Rattle.pr_history.specs.declared.entry.Entry.{Entry}
 use Rattle.pr_history.specs.Admission.{put_all}
 use Rattle.pr_world.specs.Scrapes.{about, added_count, failure_entries, marker, markers}
-use Rattle.pr_scrape.specs.Putting.{HasTakenFront, Puts}
-use Rattle.pr_scrape.proofs.Answering.{markers_all, same_answer}
-use Rattle.pr_scrape.proofs.Putting.{front_if, front_more, front_then, puts_then, rows_are, rows_counted}
+use Rattle.pr_intake.specs.Intake.{HasTakenFront, Puts}
+use Rattle.pr_scrape.proofs.Answering.{same_answer}
+use Rattle.pr_intake.proofs.Intake.{front_if, front_more, front_then, puts_then, rows_are, rows_counted}
+use Rattle.pr_intake.proofs.Markers.{markers_all}
 use Rattle.pr_scrape.proofs.calls.fail.Goals as goal
 
 pub returns-in_err-put_markers-clause-front : goal.returns-in_err-put_markers-clause-front

@@ -1,6 +1,6 @@
 use Rattle.std.proofs.Common.{[], ◌∷◌}
 use Rattle.pr_history.specs.Admission.{put_all}
-use Rattle.pr_scrape.proofs.Putting.{front_if, front_more, front_then, puts_then}
+use Rattle.pr_intake.proofs.Intake.{front_if, front_more, front_then, puts_then}
 use Rattle.pr_scrape.proofs.calls.put_two.Goals as goal
 
 pub returns-in_err-put-clause-front : goal.returns-in_err-put-clause-front

@@ -2,7 +2,7 @@ use Rattle.std.proofs.Common.{List, OnOk, OnErr, IfOk, ◌≡◌, rules}
 use Rattle.std.specs.declared.result.Result.TheVariants.{Ok, Err}
 use Rattle.pr_expo.specs.declared.exposition.ExpoError.TheVariants.{Fault}
 use Rattle.pr_expo.specs.Families.{exposition_of}
-use Rattle.pr_scrape.specs.Putting.{HasTaken, HasTakenFront}
+use Rattle.pr_intake.specs.Intake.{HasTaken, HasTakenFront}
 use Rattle.pr_scrape.proofs.Bodies.{by_fault, by_samples}
 use Rattle.pr_scrape.proofs.calls.scrape_body.Goals as goal
 

@@ -4,9 +4,9 @@ use Rattle.pr_history.specs.declared.entry.Entry.{Entry}
 use Rattle.pr_history.specs.Admission.{put_all}
 use Rattle.pr_world.specs.Scrapes.{about, offered_entries, markers, offers, tracked_after}
 use Rattle.std.specs.declared.option.Option.TheVariants.{None}
-use Rattle.pr_scrape.specs.Putting.{HasTakenFront, Puts}
+use Rattle.pr_intake.specs.Intake.{HasTakenFront, Puts}
 use Rattle.pr_scrape.proofs.Answering.{same_answer}
-use Rattle.pr_scrape.proofs.Putting.{front_all, front_if, front_more, front_then, puts_then, rows_are, rows_between, rows_counted}
+use Rattle.pr_intake.proofs.Intake.{front_all, front_if, front_more, front_then, puts_then, rows_are, rows_between, rows_counted}
 use Rattle.pr_scrape.proofs.calls.scrape_lines.Goals as goal
 
 pub returns-in_err-tally-clause-front : goal.returns-in_err-tally-clause-front

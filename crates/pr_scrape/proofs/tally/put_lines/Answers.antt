@@ -5,7 +5,7 @@ use Rattle.pr_expo.specs.declared.exposition.Line.{Line}
 use Rattle.pr_world.specs.Scrapes.{offered_entries, offers}
 use Rattle.pr_scrape.specs.Tallying.{Tallies}
 use Rattle.pr_scrape.specs.declared.tally.Tally.{Tally}
-use Rattle.pr_scrape.proofs.Putting.{front_if, next_front, next_of, next_puts}
+use Rattle.pr_intake.proofs.Intake.{front_if, next_front, next_of, next_puts}
 use Rattle.pr_scrape.proofs.Tallying.{offered_parts, tallies_then}
 use Rattle.pr_scrape.proofs.tally.put_lines.Goals as goal
 

@@ -2,7 +2,7 @@ use Rattle.std.proofs.Common.{◌≤◌, List, take}
 use Rattle.pr_history.specs.declared.entry.Entry.{Entry}
 use Rattle.pr_head.specs.Holds.{Holds}
 use Rattle.pr_world.specs.Scrapes.{offered_entries, offers}
-use Rattle.pr_scrape.specs.Putting.{Puts}
+use Rattle.pr_intake.specs.Intake.{Puts}
 use Rattle.pr_scrape.specs.Tallying.{Tallies}
 use Rattle.pr_scrape.proofs.tally.put_lines.Given as goal
 

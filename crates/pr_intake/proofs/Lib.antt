@@ -1,0 +1,4 @@
+pub mod Gone
+pub mod Intake
+pub mod Markers
+pub mod Sets

@@ -1,0 +1,62 @@
+// Markers for the series that are gone, and which series got one.
+ghost use Rattle.std.specs.Prelude.{◌≡◌, [], ◌++◌, List, OnOk, IfOk, fold};
+ghost use Rattle.pr_labels.specs.Rising.{with_labels};
+ghost use Rattle.pr_history.specs.declared.entry.Entry.{Entry};
+ghost use Rattle.pr_puts.specs.Puts.{admitted, label_sets_of, markers};
+ghost use Rattle.pr_head.specs.Holds.{Holds};
+ghost use Rattle.pr_intake.specs.Intake.{Puts};
+
+use crate::marking::{add_labels, put_markers};
+use pr_head::Head;
+use pr_history::Entry;
+use pr_labels::Labels;
+use pr_time::Ms;
+use std::alloc::{AllocError, Global};
+use std::collections::BTreeSet;
+
+// The label sets of a list.
+fn set_of(alloc: Global, list: &[Labels]) -> Result<BTreeSet<Labels>, AllocError>
+    ensures { IfOk result (λ s. s.keys ≡ fold with_labels [] list.now) }
+{
+    let mut sets = BTreeSet::new(alloc);
+    for labels in list {
+        add_labels(&mut sets, labels.copy(alloc)?)?;
+    }
+    Ok(sets)
+}
+
+// Puts rows behind others, and tells their series.
+fn move_rows(
+    alloc: Global,
+    rows: &mut Vec<Entry>,
+    more: Vec<Entry>,
+) -> Result<Vec<Labels>, AllocError>
+    ensures rows { OnOk result (rows.new.items ≡ rows.old.items ++ more.items) }
+    ensures series { IfOk result (λ v. v.items ≡ label_sets_of more.items) }
+{
+    let mut series = Vec::new(alloc);
+    for entry in more {
+        series.push(entry.labels.copy(alloc)?)?;
+        rows.push(entry)?;
+    }
+    Ok(series)
+}
+
+/// Puts a marker for each series of the old ones that is not among the new ones, and answers the
+/// series that got one: a marker that is refused marks nothing.
+pub fn mark(
+    alloc: Global,
+    head: &mut Head,
+    rows: &mut Vec<Entry>,
+    now: Ms,
+    old: &[Labels],
+    new: &[Labels],
+) -> Result<Vec<Labels>, AllocError>
+    ensures puts { (history : List Entry) → Holds head.old history → OnOk result (Puts head.old head.new rows.old.items rows.new.items history (markers now old.now new.now)) }
+    ensures marked { (history : List Entry) → Holds head.old history → IfOk result (λ v. v.items ≡ label_sets_of (admitted history (markers now old.now new.now))) }
+{
+    let news = set_of(alloc, new)?;
+    let mut marked = Vec::new(alloc);
+    put_markers(alloc, head, &mut marked, now, old, &news)?;
+    move_rows(alloc, rows, marked)
+}

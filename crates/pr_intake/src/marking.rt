@@ -1,0 +1,67 @@
+// Stale markers.
+ghost use Rattle.std.specs.Prelude.{◌≡◌, [], ◌∷◌, List, OnOk, OnErr};
+ghost use Rattle.pr_labels.specs.Rising.{is_among, with_labels};
+ghost use Rattle.pr_history.specs.declared.entry.Entry.{Entry};
+ghost use Rattle.pr_head.specs.Holds.{Holds};
+ghost use Rattle.pr_puts.specs.Puts.{markers};
+ghost use Rattle.pr_intake.specs.Intake.{HasTakenFront, Puts};
+
+use crate::taking::{marker, put};
+use pr_head::Head;
+use pr_history::Entry;
+use pr_labels::Labels;
+use pr_time::Ms;
+use std::alloc::{AllocError, Global};
+use std::collections::BTreeSet;
+
+/// Puts a label set among those that are there, unless it is among them.
+pub fn add_labels(sets: &mut BTreeSet<Labels>, labels: Labels) -> Result<(), AllocError>
+    ensures { OnOk result (sets.new.keys ≡ with_labels sets.old.keys labels) }
+{
+    sets.insert(labels)?;
+    Ok(())
+}
+
+// Whether a label set is among those that are there.
+fn is_among(sets: &BTreeSet<Labels>, labels: &Labels) -> bool
+    ensures { result ≡ is_among labels.now sets.now.keys }
+{
+    sets.contains(labels)
+}
+
+// Puts a marker for a series, unless it is among the new ones.
+fn put_marker(
+    alloc: Global,
+    head: &mut Head,
+    rows: &mut Vec<Entry>,
+    now: Ms,
+    labels: &Labels,
+    new: &BTreeSet<Labels>,
+) -> Result<(), AllocError>
+    ensures puts { (history : List Entry) → Holds head.old history → OnOk result (Puts head.old head.new rows.old.items rows.new.items history (markers now (labels.now ∷ []) new.now.keys)) }
+    ensures front { (history : List Entry) → Holds head.old history → OnErr result (HasTakenFront head.old head.new history (markers now (labels.now ∷ []) new.now.keys)) }
+{
+    if is_among(new, labels) {
+        return Ok(());
+    }
+    put(head, rows, marker(alloc, now, labels)?)?;
+    Ok(())
+}
+
+/// Puts a marker for each series that is not among the new ones.
+pub fn put_markers(
+    alloc: Global,
+    head: &mut Head,
+    rows: &mut Vec<Entry>,
+    now: Ms,
+    old: &[Labels],
+    new: &BTreeSet<Labels>,
+) -> Result<(), AllocError>
+    ensures puts { (history : List Entry) → Holds head.old history → OnOk result (Puts head.old head.new rows.old.items rows.new.items history (markers now old.now new.now.keys)) }
+    ensures front { (history : List Entry) → Holds head.old history → OnErr result (HasTakenFront head.old head.new history (markers now old.now new.now.keys)) }
+{
+    for labels in old {
+        put_marker(alloc, head, rows, now, labels, new)?;
+    }
+    Ok(())
+}

@@ -1,6 +1,0 @@
-use Rattle.std.proofs.Common.{◌∙◌}
-use Rattle.pr_scrape.proofs.Sets.{set_among}
-use Rattle.pr_scrape.proofs.markers.is_among.Goals as goal
-
-pub returns : goal.returns
-returns c = c.contains.ensures ∙ set_among c.args.labels.now c.args.sets.now.keys
