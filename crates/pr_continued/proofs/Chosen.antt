@@ -3,7 +3,8 @@ use Rattle.std.proofs.Common.{◌≡◌, ℕ, zero, suc, ◌+◌, ◌<◌, Bool,
 use Rattle.std.proofs.lemmas.Grind.{common_steps}
 use Rattle.std.proofs.lemmas.List.{drop_more}
 use Rattle.pr_continued.specs.declared.source.Source.{Source}
-use Rattle.pr_continued.specs.Continued.{AreBelow, IsOnce, continued, continued_after, first_free, is_chosen, same_source, chooses}
+use Rattle.pr_range.specs.Carried.{IsOnce}
+use Rattle.pr_continued.specs.Continued.{AreBelow, continued, continued_after, first_free, is_chosen, same_source, chooses}
 
 -- what is chosen is free, and one of the older ones
 pub free_is : (taken : ℕ → Bool) (new : Source) (at : ℕ) (older : List Source) (n : ℕ) → first_free taken new at older ≡ Some n → (taken n ≡ false) × (n < at + length older)

@@ -29,10 +29,6 @@ continued_after done older (new ∷ more) = continued_after (done ++ first_free 
 abbrev pub continued : List Source → List Source → List (Option ℕ)
 continued older new = continued_after [] older new
 
--- no older one is named twice
-abbrev pub IsOnce : List (Option ℕ) → Type 0
-IsOnce from = (i j n : ℕ) → slice_get from i ≡ Some (Some n) → slice_get from j ≡ Some (Some n) → i ≡ j
-
 -- each one that is named is there
 abbrev pub AreBelow : ℕ → List (Option ℕ) → Type 0
 AreBelow size from = (i n : ℕ) → slice_get from i ≡ Some (Some n) → n < size

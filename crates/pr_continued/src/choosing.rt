@@ -1,7 +1,8 @@
 // Which older range selector each one chooses.
 ghost use Rattle.std.specs.Prelude.{◌≡◌, ◌<◌, ℕ, List, Some, IfOk, IfSome, length, slice_get};
 ghost use Rattle.std.specs.List.{list_any};
-ghost use Rattle.pr_continued.specs.Continued.{continued, first_free, is_chosen, chooses, IsOnce, AreBelow};
+ghost use Rattle.pr_range.specs.Carried.{IsOnce};
+ghost use Rattle.pr_continued.specs.Continued.{continued, first_free, is_chosen, chooses, AreBelow};
 
 use crate::source::{Source, same};
 use std::alloc::{AllocError, Global};

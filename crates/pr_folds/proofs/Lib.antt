@@ -4,3 +4,4 @@ pub mod Answering
 pub mod Fractions
 pub mod Stretching
 pub mod Stretched
+pub mod Over

@@ -1,10 +1,11 @@
 -- What functions of a range are of the summaries of its values.
-use Rattle.std.specs.Prelude.{◌-◌, pos, ℤ, Bool, true, false, cond, nat_lt, Option, Some, None, Result, Ok}
+use Rattle.std.specs.Prelude.{◌-◌, ◌<◌, ◌<ℤ◌, pos, ℤ, Bool, true, false, cond, nat_lt, Option, Some, None, Result, Ok}
 use Rattle.pr_num.specs.declared.value.Num.{Num}
 use Rattle.pr_num.specs.declared.value.Num.TheVariants.{NaN}
 use Rattle.pr_num.specs.declared.value.TooWide.{TooWide}
 use Rattle.pr_num.specs.Arithmetic.{whole_of}
 use Rattle.pr_num.specs.Total.{Tally, mean_of, value_of}
+use Rattle.pr_vectors.specs.declared.range.Ask.{Ask}
 use Rattle.pr_vectors.specs.declared.range.RangeFn.{RangeFn}
 use Rattle.pr_vectors.specs.declared.range.RangeFn.TheVariants.{Rate, Increase, Delta, Changes, Resets, SumOverTime, AvgOverTime, CountOverTime, LastOverTime, PresentOverTime}
 use Rattle.pr_vectors.specs.Spots.{some_value}
@@ -25,6 +26,10 @@ from_total AvgOverTime t = Ok (Some (mean_of t))
 from_total CountOverTime t = Ok (Some (whole_of (pos t.count)))
 from_total PresentOverTime t = Ok (Some (whole_of (pos 1)))
 from_total _ t = Ok None
+
+-- The range has a length, and the last value comes after the first, where there are two or more.
+abbrev pub IsSpread : Ask → Neighbours → Type 0
+IsSpread a s = 1 < s.count → (a.from <ℤ a.to) × (s.first.time < s.last.time)
 
 -- a formula of two values at least
 abbrev pub of_two_at_least : Neighbours → Result Num TooWide → Result (Option Num) TooWide

@@ -1,8 +1,8 @@
 // Answers from summaries.
-ghost use Rattle.std.specs.Prelude.{◌≡◌, ◌<◌, ◌≤◌, ◌^◌, ◌<ℤ◌, true, pos};
+ghost use Rattle.std.specs.Prelude.{◌≡◌, ◌<◌, ◌≤◌, ◌^◌, ◌<ℤ◌, IsTrue, true, pos};
 ghost use Rattle.pr_num.specs.Arithmetic.{whole_of};
 ghost use Rattle.pr_vectors.specs.Spots.{some_value};
-ghost use Rattle.pr_folds.specs.Answers.{from_neighbours, from_total, gain_from, is_gain, is_of_neighbours, is_of_total, of_two_at_least};
+ghost use Rattle.pr_folds.specs.Answers.{from_neighbours, from_total, gain_from, is_gain, is_of_neighbours, is_of_total, IsSpread, of_two_at_least};
 ghost use Rattle.pr_folds.specs.Neighbours.{weight_of};
 
 use crate::gains::{delta, increase, rate};
@@ -26,6 +26,34 @@ fn whole(count: u64) -> Num
     ensures { result ≡ whole_of (pos count) }
 {
     Num::whole(count as i64)
+}
+
+/// Whether a function is one of the total.
+pub fn is_of_total(func: RangeFn) -> bool
+    ensures { result ≡ is_of_total func }
+{
+    match func {
+        RangeFn::SumOverTime
+        | RangeFn::AvgOverTime
+        | RangeFn::CountOverTime
+        | RangeFn::PresentOverTime => true,
+        _ => false,
+    }
+}
+
+/// Whether a function is one of what is kept of neighbours.
+pub fn is_of_neighbours(func: RangeFn) -> bool
+    ensures { result ≡ is_of_neighbours func }
+{
+    match func {
+        RangeFn::LastOverTime
+        | RangeFn::Changes
+        | RangeFn::Resets
+        | RangeFn::Rate
+        | RangeFn::Increase
+        | RangeFn::Delta => true,
+        _ => false,
+    }
 }
 
 /// The sum, the mean or the number of the values of a total, or that there are some.
@@ -63,29 +91,39 @@ fn gain_from(func: RangeFn, ask: &Ask, kept: &Neighbours) -> Result<Num, TooWide
     }
 }
 
+// Whether the range has a length, and the last value comes after the first.
+fn is_rising(ask: &Ask, kept: &Neighbours) -> bool
+    ensures range { IsTrue result → ask.now.from <ℤ ask.now.to }
+    ensures rising { IsTrue result → kept.now.first.time < kept.now.last.time }
+    ensures all { ask.now.from <ℤ ask.now.to → kept.now.first.time < kept.now.last.time → result ≡ true }
+{
+    ask.from < ask.to && kept.first.time < kept.last.time
+}
+
 // The same, and nothing of one value.
 fn of_two_at_least(func: RangeFn, ask: &Ask, kept: &Neighbours) -> Result<Option<Num>, TooWide>
     requires func { is_gain func ≡ true }
     requires few { weight_of kept.now ≤ 2 ^ 20 }
-    requires rising { 1 < kept.now.count → kept.now.first.time < kept.now.last.time }
-    requires long { 1 < kept.now.count → ask.now.from <ℤ ask.now.to }
-    ensures { result ≡ of_two_at_least kept.now (gain_from func ask.now.from ask.now.to kept.now) }
+    ensures { IsSpread ask.now kept.now → result ≡ of_two_at_least kept.now (gain_from func ask.now.from ask.now.to kept.now) }
 {
-    if kept.count > 1 {
-        some_value(gain_from(func, ask, kept))
-    } else {
-        Ok(None)
+    if kept.count <= 1 {
+        return Ok(None);
     }
+    if !is_rising(ask, kept) {
+        return Ok(None);
+    }
+    some_value(gain_from(func, ask, kept))
 }
 
 /// The last value, how many changes or falls there are, or a gain, from what is kept of the values of
 /// a range, of which there are no more than 2^20.
+///
+/// The answer is pinned where the range has a length and the last of two values or more comes after
+/// the first, as in a series.
 pub fn from_neighbours(func: RangeFn, ask: &Ask, kept: &Neighbours) -> Result<Option<Num>, TooWide>
     requires func { is_of_neighbours func ≡ true }
     requires few { weight_of kept.now ≤ 2 ^ 20 }
-    requires rising { 1 < kept.now.count → kept.now.first.time < kept.now.last.time }
-    requires long { 1 < kept.now.count → ask.now.from <ℤ ask.now.to }
-    ensures { result ≡ from_neighbours func ask.now.from ask.now.to kept.now }
+    ensures { IsSpread ask.now kept.now → result ≡ from_neighbours func ask.now.from ask.now.to kept.now }
 {
     match func {
         RangeFn::LastOverTime => Ok(Some(kept.last.value)),

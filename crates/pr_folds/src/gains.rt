@@ -13,8 +13,8 @@ use pr_num::{Num, TooWide, compare_products, half_product, muldiv_units};
 use pr_vectors::Ask;
 use std::cmp::Ordering;
 
-// The units of a finite value.
-fn units_of(value: &Num) -> i128
+/// The units of a finite value, and zero of another one.
+pub fn units_of(value: &Num) -> i128
     ensures value { result ≡ units_in value.now }
     ensures small { IsNano result }
 {

@@ -7,9 +7,14 @@ mod gains;
 mod laws;
 mod neighbours;
 mod parts;
+mod summarize;
 
-pub use answers::{from_neighbours, from_total};
+pub use answers::{from_neighbours, from_total, is_of_neighbours, is_of_total};
 pub use folds::{Greatest, Least, Sequence, Totals};
+pub use gains::units_of;
 pub use laws::{greatest_tells, least_tells, sequences_tell, totals_tell};
 pub use neighbours::Neighbours;
-pub use parts::{beside, greater, joined, lesser, spot_alone, total_alone, value_alone};
+pub use parts::{
+    beside, falls, greater, is_special, joined, lesser, spot_alone, total_alone, value_alone,
+};
+pub use summarize::Summarize;

@@ -72,7 +72,8 @@ pub fn lesser(a: &Num, b: &Num) -> Num
     }
 }
 
-fn is_special(value: &Num) -> bool
+/// Whether a value is no finite number.
+pub fn is_special(value: &Num) -> bool
     ensures { result ≡ is_special value.now }
 {
     match value {
@@ -96,8 +97,8 @@ pub fn spot_alone(spot: &Spot) -> Neighbours
     }
 }
 
-// Whether the second of two values is below the first.
-fn falls(before: &Num, value: &Num) -> bool
+/// Whether the second of two values is below the first.
+pub fn falls(before: &Num, value: &Num) -> bool
     ensures { result ≡ falls (before.now, value.now) }
 {
     match before.compare(*value) {

@@ -1,15 +1,11 @@
-pub mod Totals
-pub mod Extremes
 pub mod Neighbours
 pub mod Between
 pub mod Timeline
 pub mod Lawful
 pub mod Reading
-pub mod Fractions
-pub mod Losses
-pub mod Stretching
-pub mod Stretched
+pub mod Specials
 pub mod Sums
 pub mod Spreads
 pub mod Slopes
 pub mod Rising
+pub mod Finishing

@@ -21,11 +21,6 @@ pub last_none : (first : Spot) (rest : List Spot) → None ≡ slice_get rest (l
 last_none first [] h = refl
 last_none first (y ∷ ys) h = let same : None ≡ Some (last_of y ys) = h ∙ ap (slice_get (y ∷ ys)) (one_less (length ys)) ∙ last_at y ys in cc
 
--- the pairs from a place on are that place's with the next one, and those from there on
-pub pairs_more : (v : Num) (xs : List Spot) (i : ℕ) (d : Spot) → i < length xs
-    → neighbours (v ∷ numbers_of (drop i xs)) ≡ (v, (get_or xs i d).value) ∷ neighbours ((get_or xs i d).value ∷ numbers_of (drop (i + 1) xs))
-pairs_more v xs i d h = ap (λ l. neighbours (v ∷ numbers_of l)) (drop_more xs i d h)
-
 -- the last two of a list
 pub two_first : (first : Spot) (rest : List Spot) (d : Spot) → 2 ≤ length rest → get_or rest (length rest - 2) d ≡ (last_two first rest).0
 two_first first [] d h = absurd (omega arith)

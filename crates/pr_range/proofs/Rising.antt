@@ -1,11 +1,17 @@
 -- Values of a range have rising times.
-use Rattle.std.proofs.Common.{◌≡◌, ◌<◌, ◌≤◌, ℤ, pos, ◌<ℤ◌, Bool, true, false, None, Result, Ok, List, [], ◌∷◌, length, refl, sym, ◌∙◌, arith}
+use Rattle.std.proofs.Common.{◌≡◌, ◌<◌, ◌≤◌, ℤ, pos, ◌<ℤ◌, Bool, true, false, Some, None, Result, Ok, List, [], ◌∷◌, length, refl, sym, subst, ◌∙◌, arith}
 use Rattle.std.proofs.lemmas.Int.{ints}
 use Rattle.pr_history.specs.declared.spot.Spot.{Spot}
 use Rattle.pr_vectors.specs.Extrapolation.{last_two}
 use Rattle.pr_vectors.specs.Spots.{last_of, of_two}
 use Rattle.pr_num.specs.declared.value.Num.{Num}
 use Rattle.pr_num.specs.declared.value.TooWide.{TooWide}
+use Rattle.pr_vectors.specs.declared.range.Ask.{Ask}
+use Rattle.pr_window.specs.Folding.{folded}
+use Rattle.pr_folds.specs.declared.neighbours.Neighbours.{Neighbours}
+use Rattle.pr_folds.specs.Answers.{IsSpread}
+use Rattle.pr_folds.specs.Neighbours.{beside, neighbours_of, spot_alone}
+use Rattle.pr_folds.proofs.Summaries.{sequence_folded}
 use Rattle.pr_range.specs.Spots.{AreWithin}
 
 pub within_long : (from to : ℤ) (first : Spot) (rest : List Spot) → AreWithin from to (first ∷ rest) → from <ℤ to
@@ -28,8 +34,19 @@ none_of_one formula first [] h = refl
 none_of_one formula first (y ∷ ys) h = absurd (omega arith)
 
 pub rising_all : {P : Type 0} (from to : ℤ) (first : Spot) (rest : List Spot) (b : Bool) → AreWithin from to (first ∷ rest) → (length rest ≡ 0 → ⊥) → b ≡ false
-    → (from <ℤ to → first.time < (last_of first rest).time → (last_two first rest).0.time < (last_two first rest).1.time → b ≡ true) → P
+    → (first.time < (last_of first rest).time → (last_two first rest).0.time < (last_two first rest).1.time → b ≡ true) → P
 rising_all from to first [] b h some not_so all = absurd (some refl)
 rising_all from to first (y ∷ ys) b h some not_so all =
-    let yes = all (within_long from to first (y ∷ ys) h) (within_rising from to first y ys h) (within_last from to first y ys h) in
+    let yes = all (within_rising from to first y ys h) (within_last from to first y ys h) in
     absurd (cc (sym not_so ∙ yes))
+
+-- what is kept of neighbours in a range
+pub spread_within : (a : Ask) (spots : List Spot) (s : Neighbours) → AreWithin a.from a.to spots → folded spot_alone beside spots ≡ Some s → IsSpread a s
+spread_within a [] s h k = absurd (cc)
+spread_within a (first ∷ rest) s h k = subst (IsSpread a) (kept_is (neighbours_of first rest) s (sym (sequence_folded first rest) ∙ k)) (by rest h) where
+  kept_is : (t u : Neighbours) → Some t ≡ Some u → t ≡ u
+  kept_is t u e = cc
+
+  by : (rest : List Spot) → AreWithin a.from a.to (first ∷ rest) → IsSpread a (neighbours_of first rest)
+  by [] within = λ two. absurd (omega arith)
+  by (y ∷ ys) within = λ two. (within_long a.from a.to first (y ∷ ys) within, within_rising a.from a.to first y ys within)

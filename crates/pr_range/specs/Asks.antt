@@ -4,8 +4,9 @@ use Rattle.pr_num.specs.declared.value.Num.{Num}
 use Rattle.pr_labels.specs.declared.pair.Pair.{Pair}
 use Rattle.pr_history.specs.declared.entry.Entry.{Entry}
 use Rattle.pr_history.specs.Admission.{IsLawful}
+use Rattle.pr_history.specs.Lookback.{entries_until}
 use Rattle.pr_head.specs.Stored.{Stored}
-use Rattle.pr_head.specs.Holds.{Holds, IsWhole, sets_of}
+use Rattle.pr_head.specs.Holds.{Holds, sets_of}
 use Rattle.pr_vectors.specs.declared.range.Ask.{Ask}
 use Rattle.pr_vectors.specs.declared.range.RangeFn.{RangeFn}
 use Rattle.pr_vectors.specs.declared.range.RangeFn.TheVariants.{PredictLinear, QuantileOverTime}
@@ -39,13 +40,13 @@ LastAsks = ℕ → ℕ → Option LastAsk
 abbrev pub Passed : Type 0
 Passed = ℕ → ℕ → ℕ
 
--- A head stands for a lawful history, has the series, and has forgotten nothing above the start of
--- the range.
+-- A head stands for a lawful history, has the series, and has forgotten nothing of it above the
+-- start of the range. What it has forgotten of other series does not matter.
 pub record MayAsk (head : List (List Pair × Stored)) (history : List Entry) (series : ℕ) (labels : List Pair) (a : Ask) : Type 0 where
   pub lawful : IsLawful history
   pub holds : Holds head history
   pub named : slice_get (sets_of head) series ≡ Some labels
-  pub whole : IsWhole head history a.from
+  pub whole : (e : List Pair × Stored) → slice_get head series ≡ Some e → e.1.first ≤ entries_until history labels a.from
 
 -- An ask outside subqueries may follow the last ones: the function of its node stays, and its range
 -- does not begin or end earlier than the last one of its node and series. One inside a subquery may

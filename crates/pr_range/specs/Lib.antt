@@ -1,7 +1,6 @@
 pub mod Answers
 pub mod Spots
 pub mod Asks
-pub mod Picked
-pub mod Stretches
+pub mod Carried
 pub mod Parted
 pub mod Formulas

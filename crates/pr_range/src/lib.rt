@@ -3,7 +3,7 @@
 #![tactic(auto)]
 
 mod fault;
-mod gains;
+mod finishes;
 mod lines;
 mod over;
 mod plain;
@@ -13,6 +13,7 @@ mod steps;
 mod values;
 
 pub use fault::RangeFault;
+pub use finishes::{answer_from_extreme, answer_from_neighbours, answer_from_total};
 pub use over::over_list;
 pub use plain::PlainRanges;
 pub use pr_history::Spot;

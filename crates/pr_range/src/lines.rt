@@ -1,15 +1,31 @@
 // The straight line through the values of a range, by least squares.
 ghost use Rattle.std.specs.Prelude.{◌≡◌, ◌≢◌, ◌+◌, ◌-◌, ◌*◌, ◌^◌, ◌<◌, ◌≤◌, ◌∷◌, true, false, ℤ, pos, ◌+ℤ◌, ◌-ℤ◌, ◌*ℤ◌, IfSome, IfNone, length, unsigned_abs};
+ghost use Rattle.std.specs.List.{list_any};
 ghost use Rattle.pr_num.specs.Arithmetic.{fitted};
 ghost use Rattle.pr_num.specs.Half.{half};
 ghost use Rattle.pr_vectors.specs.Regression.{count, deriv_of, is_slope_wide, line_after, line_at, line_in, ms_ahead, predicted, slope_bottom, slope_of, slope_top, sum_abs_xy, sum_abs_y, sum_x, sum_xx, sum_xy, sum_y, time_from, times_ahead, units_from};
-ghost use Rattle.pr_vectors.specs.Spots.{last_of, units_in};
+ghost use Rattle.pr_vectors.specs.Histogram.{is_special};
+ghost use Rattle.pr_vectors.specs.Spots.{has_special, last_of, numbers_of, units_in};
 ghost use Rattle.pr_range.specs.Parted.{IsParted};
 
-use crate::gains::{has_special, units_of};
+use pr_folds::{is_special, units_of};
 use pr_history::Spot;
 use pr_num::{Num, TooWide, half, half_product};
 use pr_vectors::Ask;
+
+fn is_any_special(spots: &[Spot]) -> bool
+    ensures { result ≡ list_any (λ s. is_special s.value) spots.now }
+{
+    spots.iter().any(|s| is_special(&s.value))
+}
+
+// Whether one of the values is not finite.
+#[tactic(auto, using(crate::proofs::Specials::any_special))]
+fn has_special(first: &Spot, rest: &[Spot]) -> bool
+    ensures { result ≡ has_special (numbers_of (first.now ∷ rest.now)) }
+{
+    is_special(&first.value) || is_any_special(rest)
+}
 
 // How long after the first value another one stands, in milliseconds.
 fn time_from(first: &Spot, spot: &Spot) -> u64

@@ -78,6 +78,10 @@ impl Ranges for PlainRanges {
 
     ghost fits = { λ _ history. Unit {0} };
 
+    fn empty(alloc: Global) -> PlainRanges {
+        PlainRanges::new(alloc)
+    }
+
     fn ask<G: Ledger>(
         &mut self,
         head: &Head,
@@ -87,6 +91,10 @@ impl Ranges for PlainRanges {
         reads: &mut Steps<G>,
     ) -> Result<Option<Num>, RangeFault> {
         ask_plainly(self.alloc, head, series, ask, reads)
+    }
+
+    fn carry(&mut self, old: PlainRanges, from: &[Option<usize>]) {
+        *self = old;
     }
 
     ghost stays = { λ s history e lawful h. tt };

@@ -5,12 +5,14 @@ ghost use Rattle.pr_history.specs.Admission.{IsLawful};
 ghost use Rattle.pr_history.specs.Lookback.{entries_until};
 ghost use Rattle.pr_range.specs.declared.fault.RangeFault.TheVariants.{Memory};
 ghost use Rattle.pr_range.specs.Asks.{AreMoved, HasArgument, IsAskAnswer, IsReadyToAsk, LastAsks, MayAsk, Passed};
+ghost use Rattle.pr_range.specs.Carried.{IsCarried, IsFresh, IsOnce};
 
 use crate::fault::RangeFault;
 use pr_head::Head;
 use pr_num::Num;
 use pr_vectors::Ask;
 use pr_words::Steps;
+use std::alloc::Global;
 use std::sync::ledger::Ledger;
 
 /// What answers functions of ranges. It may keep something from one ask to the next.
@@ -26,6 +28,13 @@ pub trait Ranges {
     ghost passed: { Self → Passed };
 
     ghost fits: { Self → List Entry → Type 0 };
+
+    /// Nothing was asked yet.
+    fn empty(alloc: Global) -> Self
+    where
+        Self: Sized,
+        ensures fresh { IsFresh (last result) (passed result) }
+        ensures fits { (history : List Entry) → fits result history };
 
     /// The function of the values of a series in a range, nothing where it has none there. `node`
     /// is the number of the range selector in its expression, and `series` that of the series in
@@ -49,6 +58,16 @@ pub trait Ranges {
             → result ≢ Err Memory → fits self.new history }
         ensures moved { (history : List Entry) (labels : List Pair) → MayAsk head.now history series labels ask.now → fits self.old history → IsReadyToAsk (last self.old) node series ask.now
             → result ≢ Err Memory → AreMoved keeps node series ask.now (entries_until history labels ask.now.to) (last self.old) (last self.new) (passed self.old) (passed self.new) };
+
+    /// Goes on from an older value, in its storage: each range selector takes what the older one that
+    /// is named for it has, and the others begin anew. What was kept before is let go. Takes no
+    /// memory.
+    fn carry(&mut self, old: Self, from: &[Option<usize>])
+    where
+        Self: Sized,
+        requires once { IsOnce from.now }
+        ensures carried { IsCarried from.now (last old) (last self.new) (passed old) (passed self.new) }
+        ensures fits { (history : List Entry) → fits old history → fits self.new history };
 
     /// What is kept is true of each later history.
     ghost stays: { (s : Self) (history : List Entry) (e : Entry) → IsLawful (history ++ e ∷ []) → fits s history → fits s (history ++ e ∷ []) };

@@ -4,8 +4,7 @@ ghost use Rattle.pr_num.specs.Units.{IsNano};
 ghost use Rattle.pr_vectors.specs.Extrapolation.{idelta_of, idelta_step, irate_of, irate_step, last_two, step_counter, step_gauge};
 ghost use Rattle.pr_vectors.specs.Spots.{has_special};
 
-use crate::gains::{is_special, units_of};
-use crate::values::falls;
+use pr_folds::{falls, is_special, units_of};
 use pr_history::Spot;
 use pr_num::{Num, TooWide, muldiv_units};
 

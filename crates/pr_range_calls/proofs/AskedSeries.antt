@@ -19,6 +19,7 @@ use Rattle.pr_history.specs.declared.entry.Entry.{Entry}
 use Rattle.pr_history.specs.Lookback.{entries_until}
 use Rattle.pr_head.specs.Stored.{Stored}
 use Rattle.pr_head.specs.Holds.{arrivals, labels_at, sets_of}
+use Rattle.pr_head.proofs.Simulation.{entry_at}
 use Rattle.pr_vectors.specs.declared.range.Ask.{Ask}
 use Rattle.pr_vectors.specs.declared.range.AskFault.{AskFault}
 use Rattle.pr_vectors.specs.declared.range.AskFault.TheVariants as fault
@@ -166,7 +167,17 @@ pub may_ask : (head : Head) (history : List Entry) (a : Ask) (Fits : Type 0) (la
     → MayAsk head history series (labels_at (arrivals history) series) a
 may_ask head history a Fits last node series may h =
     let named : slice_get (sets_of head) series ≡ Some (labels_at (sets_of head) series) = slice_get-get_or (sets_of head) series [] (omega (arith, length-map head (λ (e : List Pair × Stored). e.0))) in
-    record { lawful = may.lawful; holds = may.holds; named = named ∙ ap (λ l. Some (labels_at l series)) may.holds.numbered; whole = may.whole }
+    let labels = labels_at (arrivals history) series in
+    let there : slice_get (sets_of head) series ≡ Some labels = named ∙ ap (λ l. Some (labels_at l series)) may.holds.numbered in
+    let found = entry_at head series labels there in
+    record {
+      lawful = may.lawful;
+      holds = may.holds;
+      named = there;
+      whole = λ e at. subst (λ l. e.1.first ≤ entries_until history l a.from) (same_labels e (labels, found.0) (sym at ∙ found.1)) (may.whole series e at);
+    } where
+      same_labels : (e f : List Pair × Stored) → Some e ≡ Some f → e.0 ≡ f.0
+      same_labels e f is = let same : e ≡ f = cc in ap (λ (p : List Pair × Stored). p.0) same
 
 -- the reads of one more series
 pub reads_step : (history : List Entry) (a : Ask) (p p' : ℕ → ℕ) (numbers : List ℕ) (i before reads after : ℕ) → i < length numbers → p' (get_or numbers i 0) ≡ p (get_or numbers i 0)

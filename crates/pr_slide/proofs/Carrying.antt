@@ -7,7 +7,8 @@ use borrow.Author.Tests.{eqb-true}
 use Rattle.pr_history.specs.declared.entry.Entry.{Entry}
 use Rattle.pr_slide.specs.declared.window.Window.{Window}
 use Rattle.pr_slide.specs.Windows.{AreWindowsOf, HasWindow, Nodes, found, last_in, last_asks, passed_in, passed_of}
-use Rattle.pr_slide.specs.Carried.{IsCarried, IsOnce, carried, named_in, number_from, older_of, renumbered}
+use Rattle.pr_range.specs.Carried.{IsCarried, IsOnce, named_in, older_of}
+use Rattle.pr_slide.specs.Carried.{carried, number_from, renumbered}
 
 -- a number that goes on from an older one names it
 number_is : (at j : ℕ) (from : List (Option ℕ)) (k : ℕ) → number_from at j from ≡ Some k → (at ≤ k) × (slice_get from (k - at) ≡ Some (Some j))

@@ -2,12 +2,12 @@
 //! the next ask reads only what came after them.
 #![tactic(auto)]
 
+mod kept;
 mod laws;
 mod listed;
 mod node;
 mod sliding;
 mod spots;
-mod summed;
 mod window;
 
 pub use laws::what_was_passed_is_no_more_than_the_range;

@@ -10,7 +10,7 @@ ghost use Rattle.pr_range.specs.Asks.{HasArgument};
 ghost use Rattle.pr_range.specs.Spots.{AreWithin};
 ghost use Rattle.std.specs.Map.{lookup};
 ghost use Rattle.pr_slide.specs.Places.{IsNodePlace};
-ghost use Rattle.pr_slide.specs.Carried.{IsCarried, IsOnce, carried, number_from};
+ghost use Rattle.pr_slide.specs.Carried.{carried, number_from};
 ghost use Rattle.pr_slide.specs.Windows.{AreWindowsOf, IsPut, found, last_asks, passed_in, passed_of, slid_spots, spots_in};
 
 use crate::node::Node;
@@ -92,20 +92,6 @@ impl SlidingRanges {
             nodes: Vec::new(alloc),
             alloc,
         }
-    }
-
-    /// Goes on from an older value, in its storage: each range selector takes the windows of the
-    /// older one that is named for it, and the windows of the others are let go. What was last asked
-    /// and how much was passed goes with them. Takes no memory.
-    pub fn carry(&mut self, old: SlidingRanges, from: &[Option<usize>])
-        requires fresh { self.old ≡ [] }
-        requires once { IsOnce from.now }
-        ensures carried { IsCarried from.now (last_asks old) (last_asks self.new) (passed_of old) (passed_of self.new) }
-        ensures fits { (history : List Entry) → AreWindowsOf old history → AreWindowsOf self.new history }
-    {
-        let mut nodes = old.nodes;
-        renumber_all(&mut nodes, from);
-        self.nodes = nodes;
     }
 
     // Where the windows of a range selector stand.
@@ -198,6 +184,10 @@ impl Ranges for SlidingRanges {
 
     ghost fits = { AreWindowsOf };
 
+    fn empty(alloc: Global) -> SlidingRanges {
+        SlidingRanges::new(alloc)
+    }
+
     fn ask<G: Ledger>(
         &mut self,
         head: &Head,
@@ -210,6 +200,12 @@ impl Ranges for SlidingRanges {
             return PlainRanges::new(self.alloc).ask(head, node, series, ask, reads);
         }
         self.ask_outside(head, node, series, ask, reads)
+    }
+
+    fn carry(&mut self, old: SlidingRanges, from: &[Option<usize>]) {
+        let mut nodes = old.nodes;
+        renumber_all(&mut nodes, from);
+        self.nodes = nodes;
     }
 
     ghost stays = { λ r history e lawful h. fits_more r history e h };

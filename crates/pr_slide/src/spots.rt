@@ -1,16 +1,25 @@
 // The values of a window, oldest first, kept as its function needs them.
-ghost use Rattle.std.specs.Prelude.{◌≡◌, ◌++◌, ◌∷◌, [], OnOk};
+ghost use Rattle.std.specs.Prelude.{◌≡◌, ◌++◌, ◌∷◌, [], OnOk, length, true};
+ghost use Rattle.pr_vectors.specs.declared.range.RangeFn.TheVariants.{MaxOverTime, MinOverTime};
 ghost use Rattle.pr_vectors.specs.Ranges.{over};
+ghost use Rattle.pr_folds.specs.Answers.{is_of_neighbours, is_of_total};
 ghost use Rattle.pr_range.specs.Answers.{AnswersAsk};
 ghost use Rattle.pr_range.specs.Asks.{HasArgument};
 ghost use Rattle.pr_range.specs.Spots.{AreWithin};
+ghost use Rattle.pr_slide.specs.Kinds.{kept_in};
 ghost use Rattle.pr_slide.specs.Later.{later};
 
+use crate::kept::Kept;
 use crate::listed::Listed;
-use crate::summed::{Summed, is_of_total};
+use pr_folds::{
+    Greatest, Least, Neighbours, Sequence, Summarize, Totals, is_of_neighbours, is_of_total,
+};
 use pr_history::Spot;
-use pr_num::Num;
-use pr_range::{Ask, RangeFault, RangeFn, over_list};
+use pr_num::{Num, Total};
+use pr_range::{
+    Ask, RangeFault, RangeFn, answer_from_extreme, answer_from_neighbours, answer_from_total,
+    over_list,
+};
 use std::alloc::{AllocError, Global};
 use std::marker::Model;
 
@@ -20,7 +29,13 @@ pub enum Kind {
     /// In a list, which an ask goes over.
     Listed { spots: Listed },
     /// With their total.
-    Summed { spots: Summed },
+    Totals { spots: Kept<Total, Totals> },
+    /// With the greatest of them.
+    Greatest { spots: Kept<Num, Greatest> },
+    /// With the least of them.
+    Least { spots: Kept<Num, Least> },
+    /// With what is kept of them one after another.
+    Sequence { spots: Kept<Neighbours, Sequence> },
 }
 
 /// The values of a window. Contracts see the values.
@@ -47,17 +62,108 @@ fn answer_listed(alloc: Global, spots: &[Spot], ask: &Ask) -> Result<Option<Num>
     over_list(alloc, spots, ask)
 }
 
-// A function of values that are kept with their total; another one goes over a list of them.
-fn answer_summed(alloc: Global, spots: &Summed, ask: &Ask) -> Result<Option<Num>, RangeFault>
+// A function that the summary of kept values does not tell goes over a list of them.
+fn answer_unfolded<A: Copy, M: Summarize<A>>(
+    alloc: Global,
+    spots: &Kept<A, M>,
+    ask: &Ask,
+) -> Result<Option<Num>, RangeFault>
+    requires { HasArgument ask.now }
+    ensures { AreWithin ask.now.from ask.now.to spots.now → AnswersAsk (over ask.now spots.now) result }
+{
+    match spots.listed(alloc) {
+        Ok(list) => answer_listed(alloc, &list, ask),
+        Err(_) => Err(RangeFault::Memory),
+    }
+}
+
+fn answer_total(
+    alloc: Global,
+    spots: &Kept<Total, Totals>,
+    ask: &Ask,
+) -> Result<Option<Num>, RangeFault>
     requires { HasArgument ask.now }
     ensures { AreWithin ask.now.from ask.now.to spots.now → AnswersAsk (over ask.now spots.now) result }
 {
     if is_of_total(ask.func) {
-        return spots.answer(ask);
+        answer_from_total(ask, spots.len(), spots.summary())
+    } else {
+        answer_unfolded(alloc, spots, ask)
     }
-    match spots.listed(alloc) {
-        Ok(list) => answer_listed(alloc, &list, ask),
-        Err(_) => Err(RangeFault::Memory),
+}
+
+fn answer_greatest(
+    alloc: Global,
+    spots: &Kept<Num, Greatest>,
+    ask: &Ask,
+) -> Result<Option<Num>, RangeFault>
+    requires { HasArgument ask.now }
+    ensures { AreWithin ask.now.from ask.now.to spots.now → AnswersAsk (over ask.now spots.now) result }
+{
+    match ask.func {
+        RangeFn::MaxOverTime => answer_from_extreme(spots.len(), spots.summary()),
+        _ => answer_unfolded(alloc, spots, ask),
+    }
+}
+
+fn answer_least(
+    alloc: Global,
+    spots: &Kept<Num, Least>,
+    ask: &Ask,
+) -> Result<Option<Num>, RangeFault>
+    requires { HasArgument ask.now }
+    ensures { AreWithin ask.now.from ask.now.to spots.now → AnswersAsk (over ask.now spots.now) result }
+{
+    match ask.func {
+        RangeFn::MinOverTime => answer_from_extreme(spots.len(), spots.summary()),
+        _ => answer_unfolded(alloc, spots, ask),
+    }
+}
+
+fn answer_neighbours(
+    alloc: Global,
+    spots: &Kept<Neighbours, Sequence>,
+    ask: &Ask,
+) -> Result<Option<Num>, RangeFault>
+    requires { HasArgument ask.now }
+    ensures { AreWithin ask.now.from ask.now.to spots.now → AnswersAsk (over ask.now spots.now) result }
+{
+    if is_of_neighbours(ask.func) {
+        answer_from_neighbours(ask, spots.len(), spots.summary())
+    } else {
+        answer_unfolded(alloc, spots, ask)
+    }
+}
+
+// How the values of a function are kept.
+fn kind_for(alloc: Global, func: RangeFn) -> Kind
+    ensures { kept_in result ≡ [] }
+{
+    match func {
+        RangeFn::SumOverTime
+        | RangeFn::AvgOverTime
+        | RangeFn::CountOverTime
+        | RangeFn::PresentOverTime => Kind::Totals {
+            spots: Kept::new(alloc),
+        },
+        RangeFn::MaxOverTime => Kind::Greatest {
+            spots: Kept::new(alloc),
+        },
+        RangeFn::MinOverTime => Kind::Least {
+            spots: Kept::new(alloc),
+        },
+        RangeFn::Rate | RangeFn::Increase | RangeFn::Delta | RangeFn::Changes | RangeFn::Resets =>
+            Kind::Sequence {
+                spots: Kept::new(alloc),
+            },
+        RangeFn::LastOverTime
+        | RangeFn::QuantileOverTime
+        | RangeFn::Irate
+        | RangeFn::Idelta
+        | RangeFn::Deriv
+        | RangeFn::PredictLinear => Kind::Listed {
+            spots: Listed::new(alloc),
+        },
     }
 }
 
@@ -66,18 +172,8 @@ impl Spots {
     pub(crate) fn new(alloc: Global, func: RangeFn) -> Spots
         ensures { result ≡ [] }
     {
-        if is_of_total(func) {
-            Spots {
-                kind: Kind::Summed {
-                    spots: Summed::new(alloc),
-                },
-            }
-        } else {
-            Spots {
-                kind: Kind::Listed {
-                    spots: Listed::new(alloc),
-                },
-            }
+        Spots {
+            kind: kind_for(alloc, func),
         }
     }
 
@@ -88,7 +184,10 @@ impl Spots {
     {
         match &self.kind {
             Kind::Listed { spots } => answer_listed(alloc, spots.as_slice(), ask),
-            Kind::Summed { spots } => answer_summed(alloc, spots, ask),
+            Kind::Totals { spots } => answer_total(alloc, spots, ask),
+            Kind::Greatest { spots } => answer_greatest(alloc, spots, ask),
+            Kind::Least { spots } => answer_least(alloc, spots, ask),
+            Kind::Sequence { spots } => answer_neighbours(alloc, spots, ask),
         }
     }
 
@@ -99,7 +198,10 @@ impl Spots {
         let _value: Num = spot.value;
         match &mut self.kind {
             Kind::Listed { spots } => spots.push(spot),
-            Kind::Summed { spots } => spots.push(spot),
+            Kind::Totals { spots } => spots.push(spot),
+            Kind::Greatest { spots } => spots.push(spot),
+            Kind::Least { spots } => spots.push(spot),
+            Kind::Sequence { spots } => spots.push(spot),
         }
     }
 
@@ -109,7 +211,10 @@ impl Spots {
     {
         match &mut self.kind {
             Kind::Listed { spots } => spots.drop_until(time),
-            Kind::Summed { spots } => spots.drop_until(time),
+            Kind::Totals { spots } => spots.drop_until(time),
+            Kind::Greatest { spots } => spots.drop_until(time),
+            Kind::Least { spots } => spots.drop_until(time),
+            Kind::Sequence { spots } => spots.drop_until(time),
         }
     }
 }

@@ -1,5 +1,6 @@
 use Rattle.std.proofs.Common.{◌≡◌, ℕ, ◌++◌, ◌∷◌, [], length, length-append, Option, ap, sym, subst, ◌∙◌, arith}
-use Rattle.pr_continued.specs.Continued.{AreBelow, IsOnce, first_free, is_chosen}
+use Rattle.pr_range.specs.Carried.{IsOnce}
+use Rattle.pr_continued.specs.Continued.{AreBelow, first_free, is_chosen}
 use Rattle.pr_continued.proofs.Chosen.{below_more, once_more, rest_more}
 use Rattle.pr_continued.proofs.choosing.continued.Goals as goal
 

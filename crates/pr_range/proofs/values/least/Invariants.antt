@@ -1,8 +1,0 @@
-use Rattle.std.proofs.Common.{◌≡◌, ◌∷◌, take}
-use Rattle.pr_vectors.specs.Aggregation.{least_of_values}
-use Rattle.pr_vectors.specs.Spots.{numbers_of}
-use Rattle.pr_range.proofs.values.least.Given as goal
-
--- the least value so far
-abbrev pub invariant-loop-spot : goal.invariant-loop-spot
-invariant-loop-spot l = l.best ≡ least_of_values (l.first.value ∷ numbers_of (take l.spot-index l.rest))

@@ -1,7 +1,0 @@
-use Rattle.std.proofs.Common.{not, rules, ◌∙◌}
-use Rattle.pr_history.specs.Lookback.{is_after}
-use Rattle.pr_slide.proofs.Folded.{dropped_is}
-use Rattle.pr_slide.proofs.summed.drop_counted.Goals as goal
-
-pub returns : goal.returns
-returns g c = c.drop_while.ensures.items (λ s. not (is_after c.args.time s.time)) (record { gives = λ x b k. search rules }) ∙ dropped_is c.args.time c.args.window.now.items
