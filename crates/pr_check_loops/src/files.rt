@@ -20,14 +20,14 @@ pub trait FileCheck {
     fn check<F: Files>(
         &self,
         alloc: Global,
-        name: &str,
+        name: &String,
         files: &mut F,
         text: &mut Vec<u8>,
     ) -> Result<bool, Stop>
-        ensures text { (held : Held) → AreTold (F.means files.old).content held (told held name.now).asks → OnOk result (text.new.items ≡ text.old.items ++ (told held name.now).text) }
-        ensures refused { (held : Held) → AreTold (F.means files.old).content held (told held name.now).asks → IfOk result (λ b. b ≡ (told held name.now).refused) }
-        ensures asked { (held : Held) → AreTold (F.means files.old).content held (told held name.now).asks
-            → AsksBy (F.means files.old).calls (F.means files.new).calls (length (told held name.now).asks) result }
+        ensures text { (held : Held) → AreTold (F.means files.old).content held (told held (string_bytes name.now)).asks → OnOk result (text.new.items ≡ text.old.items ++ (told held (string_bytes name.now)).text) }
+        ensures refused { (held : Held) → AreTold (F.means files.old).content held (told held (string_bytes name.now)).asks → IfOk result (λ b. b ≡ (told held (string_bytes name.now)).refused) }
+        ensures asked { (held : Held) → AreTold (F.means files.old).content held (told held (string_bytes name.now)).asks
+            → AsksBy (F.means files.old).calls (F.means files.new).calls (length (told held (string_bytes name.now)).asks) result }
         ensures same { (other : List ℕ) → (F.means files.new).content other ≡ (F.means files.old).content other }
         ensures ends { LoadEnds (F.means files.old) (F.means files.new) result };
 }
@@ -36,16 +36,16 @@ pub trait FileCheck {
 fn check_file<C: FileCheck, F: Files, O: Sink>(
     alloc: Global,
     check: &C,
-    name: &str,
+    name: &String,
     files: &mut F,
     out: &mut O,
 ) -> Result<bool, Stop>
-    ensures told { (held : Held) → AreTold (F.means files.old).content held (C.told held name.now).asks
-        → IfOk result (Turned (C.told held name.now) (O.means out.old).taken (O.means out.new).taken) }
-    ensures front { (held : Held) → AreTold (F.means files.old).content held (C.told held name.now).asks
-        → IsFileFront (C.told held name.now) (O.means out.old).taken (O.means out.new).taken result }
-    ensures asked { (held : Held) → AreTold (F.means files.old).content held (C.told held name.now).asks
-        → AsksBy (F.means files.old).calls (F.means files.new).calls (length (C.told held name.now).asks) result }
+    ensures told { (held : Held) → AreTold (F.means files.old).content held (C.told held (string_bytes name.now)).asks
+        → IfOk result (Turned (C.told held (string_bytes name.now)) (O.means out.old).taken (O.means out.new).taken) }
+    ensures front { (held : Held) → AreTold (F.means files.old).content held (C.told held (string_bytes name.now)).asks
+        → IsFileFront (C.told held (string_bytes name.now)) (O.means out.old).taken (O.means out.new).taken result }
+    ensures asked { (held : Held) → AreTold (F.means files.old).content held (C.told held (string_bytes name.now)).asks
+        → AsksBy (F.means files.old).calls (F.means files.new).calls (length (C.told held (string_bytes name.now)).asks) result }
     ensures same { (other : List ℕ) → (F.means files.new).content other ≡ (F.means files.old).content other }
     ensures ends { (others : Outside) → Ends no_row ⊥ (record others { files = F.means files.old; out = O.means out.old })
         (record others { files = F.means files.new; out = O.means out.new }) result }

@@ -1,11 +1,12 @@
 -- What `check rules` tells of a file.
-use Rattle.std.specs.Prelude.{ℕ, nat_lt, true, false, List, [], ◌∷◌, ◌++◌, cond, codes, decimal, flat_map, length, Option, Some, None}
-use Rattle.pr_outside.specs.Contents.{file_limit}
+use Rattle.std.specs.Prelude.{ℕ, true, false, List, [], ◌∷◌, ◌++◌, codes, decimal, flat_map, Option}
 use Rattle.pr_check_loops.specs.FileChecks.{Told}
 use Rattle.pr_status.specs.Outside.{Held}
+use Rattle.pr_loading.specs.Loading.{Holding, holds, is_missing, is_too_large, Made, goes_on, holding_by}
 use Rattle.pr_rulefile.specs.File.{RuleReading, gives_file, gives_problems, rule_file_of}
 use Rattle.pr_rulefile.specs.Groups.{rule_count}
 use Rattle.pr_checks.specs.Problems.{problem_line}
+use Rattle.pr_checks.specs.declared.rules.RuleText.{RuleText}
 
 unfoldable pub success : List ℕ
 success = codes "  SUCCESS: "
@@ -40,17 +41,27 @@ missing_text name = problems_text (name ++ missing)
 abbrev pub too_large_text : List ℕ → List ℕ
 too_large_text name = problems_text (name ++ too_large)
 
-abbrev pub found_told : List ℕ → Option (List ℕ) → Told
-found_told name None = record { text = missing_text name; refused = true; asks = [] }
-found_told name (Some bytes) = cond (nat_lt file_limit (length bytes)) (record { text = too_large_text name; refused = true; asks = [] }) (reading_told name (rule_file_of bytes))
+-- by what its name holds
+abbrev pub found_told : List ℕ → Holding → Told
+found_told name is_missing = record { text = missing_text name; refused = true; asks = [] }
+found_told name is_too_large = record { text = too_large_text name; refused = true; asks = [] }
+found_told name (holds bytes) = reading_told name (rule_file_of bytes)
 
 unfoldable pub checking_text : List ℕ → List ℕ
 checking_text name = codes "Checking " ++ (name ++ codes "\n")
 
 -- The name of the file on a line, and then how many rules it has, or what is wrong with it.
+abbrev pub lines_told : List ℕ → Holding → List ℕ
+lines_told name holding = checking_text name ++ (found_told name holding).text
+
+-- What is made of a file: its lines come behind those so far, and it is refused or not. The next file
+-- is asked for in either case.
+abbrev pub with_file : List ℕ → RuleText → Holding → Made RuleText
+with_file name before holding = goes_on (record { text = before.text ++ lines_told name holding; refused = (found_told name holding).refused })
+
 -- The file alone is asked for.
 abbrev pub file_told : List ℕ → Option (List ℕ) → Told
-file_told name content = record { text = checking_text name ++ (found_told name content).text; refused = (found_told name content).refused; asks = name ∷ [] }
+file_told name content = record { text = lines_told name (holding_by content); refused = (found_told name (holding_by content)).refused; asks = name ∷ [] }
 
 abbrev pub rules_told : Held → List ℕ → Told
 rules_told held name = file_told name (held name)

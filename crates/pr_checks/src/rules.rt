@@ -8,10 +8,14 @@ ghost use Rattle.pr_checks.specs.RuleFiles.{checking_text, failed_line, problems
 use crate::problems::push_problem;
 use pr_check_loops::FileCheck;
 use pr_kinds::push_number;
+use pr_loading::{Taker, load_each};
 use pr_outside::{Files, Found};
 use pr_rulefile::{Problem, RuleError, check};
 use pr_status::Stop;
+use pr_words::Items;
 use std::alloc::{AllocError, Global};
+use std::mem::replace;
+use std::slice::from_ref;
 
 /// The check of rule files: each is read whole, and all its problems are told. (Prometheus:
 /// `promtool check rules`; the kinds and their order are an own choice.)
@@ -144,6 +148,26 @@ fn push_found(
     }
 }
 
+/// The lines that are told of files, and whether the last one is refused.
+#[derive(Drop)]
+struct RuleText {
+    text: Items<u8>,
+    refused: bool,
+}
+
+impl Taker for RuleText {
+    ghost use Rattle.pr_checks.specs.RuleFiles.{with_file};
+
+    ghost make = { with_file };
+
+    fn take(&mut self, alloc: Global, name: &str, found: &Found) -> Result<bool, AllocError> {
+        let mut text = replace(&mut self.text, Items::empty(alloc)).into_vec();
+        self.refused = push_found(alloc, &mut text, name, found)?;
+        self.text = Items::new(text);
+        Ok(true)
+    }
+}
+
 impl FileCheck for RuleFiles {
     ghost use Rattle.pr_checks.specs.RuleFiles.{rules_told};
 
@@ -152,11 +176,17 @@ impl FileCheck for RuleFiles {
     fn check<F: Files>(
         &self,
         alloc: Global,
-        name: &str,
+        name: &String,
         files: &mut F,
         text: &mut Vec<u8>,
     ) -> Result<bool, Stop> {
-        let found = files.load(name)?;
-        Ok(push_found(alloc, text, name, &found)?)
+        let mut told = RuleText {
+            text: Items::new(replace(text, Vec::new(alloc))),
+            refused: false,
+        };
+        load_each(alloc, &mut told, from_ref(name), files)?;
+        let refused = told.refused;
+        *text = told.text.into_vec();
+        Ok(refused)
     }
 }

@@ -21,18 +21,6 @@ abbrev pub verdict : Bool → Status
 verdict true = Problem
 verdict false = Done
 
--- a run was not cut short
-abbrev pub IsEnded : Status → Type 0
-IsEnded Done = Unit {0}
-IsEnded Problem = Unit {0}
-IsEnded Usage = ⊥
-IsEnded Lint = ⊥
-IsEnded ReadFault = ⊥
-IsEnded WriteFault = ⊥
-IsEnded StoreFault = ⊥
-IsEnded Memory = ⊥
-IsEnded TooLong = ⊥
-
 -- The table of statuses, where `bad` says that a row which is kept is a bad one: the first call of
 -- the outside that is refused ends the program with its object's status; so does a bad row, and
 -- want of memory, neither of which is a refused call.

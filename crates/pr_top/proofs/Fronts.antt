@@ -1,5 +1,5 @@
 -- Where a run stands between two orders, and what it has written when it is cut short.
-use Rattle.std.proofs.Common.{◌≡◌, ◌≢◌, ℕ, ◌+◌, ◌≤◌, ◌<◌, ◌^◌, Bool, true, ◌||◌, List, [], ◌∷◌, ◌++◌, None, Some, IfSome, refl, sym, ap, ◌∙◌, subst, append_assoc, append-nil, length, length-append, zero, suc, map, take, take_all, arith}
+use Rattle.std.proofs.Common.{◌≡◌, ◌≢◌, ℕ, ◌+◌, ◌≤◌, ◌<◌, ◌^◌, Bool, true, false, ◌||◌, List, [], ◌∷◌, ◌++◌, None, Some, IfSome, refl, sym, ap, ◌∙◌, subst, append_assoc, append-nil, length, length-append, zero, suc, map, take, take_all, arith}
 use Rattle.std.proofs.Math.Seq.{take-append-add}
 use Rattle.std.proofs.lemmas.List.{take-append-le}
 use Rattle.std.specs.declared.option.Option.{Option}
@@ -14,7 +14,7 @@ use Rattle.pr_status.specs.Ends.{Place, at_input, at_file}
 use Rattle.pr_status.specs.Outside.{Held, Outside}
 use Rattle.pr_status.specs.Status.{IsLong, IsShort}
 use Rattle.pr_status.proofs.Streams.{appends_on}
-use Rattle.pr_top.specs.Front.{IsFront, IsPromptAt, is_between}
+use Rattle.pr_top.specs.Front.{IsFront, IsPromptAt, is_between, last_line}
 use Rattle.pr_top.specs.LineReading.{ahead, Counts, IsBeyond}
 use Rattle.pr_top.specs.Reading.{HandsOrder, TakesOrders, IsCutAt}
 use Rattle.pr_top.specs.Standing.{Progress, Splits, Stands, unanswered}
@@ -125,29 +125,41 @@ asks_nothing : (held : Held) (rows : List Entry) (bytes : List ℕ) (all : List 
 asks_nothing held rows bytes all is = λ k.
     ap (λ (l : List Answer). asked_by k (map (λ (a : Answer). a.asks) l)) (sym is) ∙ none_asked held (begun rows) (orders_of (lines_of bytes)) k
 
+-- no file was asked for, and the store is as it was
+abbrev pub Untouched : Outside → Outside → Type 0
+Untouched before now = (now.files.calls ≡ before.files.calls) × (now.store ≡ before.store)
+
+-- a place that is neither a load nor a row, so that no line follows the answers
+abbrev pub IsOther : Place → Type 0
+IsOther place = (place ≢ at_file) × (last_line place ≡ [])
+
+alone : (place : Place) (old new : Option (List ℕ)) (text : List ℕ) → last_line place ≡ [] → Appends old new text → Appends old new (text ++ last_line place)
+alone place old new text none p =
+    subst (λ (l : List ℕ). Appends old new (text ++ l)) (sym none) (subst (Appends old new) (sym (append-nil text)) p)
+
 -- a part of the first line was written, or nothing
 pub front_opening : (held : Held) (bytes : List ℕ) (rows : List Entry) (place : Place) (before now : Outside) (n : ℕ)
     → Appends before.out.taken now.out.taken (take n (told_of rows [])) → (is_between place 0 ≡ true → ⊥) → IsPromptAt place bytes now.input.left 0
-    → place ≢ at_file → now.files.calls ≡ before.files.calls → IsFront bytes place rows None (answers_to held rows bytes) before now
+    → IsOther place → Untouched before now → IsFront bytes place false rows (answers_to held rows bytes) before now
 front_opening held bytes rows place before now n p within prompt other calls = record {
   answered = 0;
   within = omega arith;
   count = n;
-  text = p;
+  text = alone place before.out.taken now.out.taken (take n (told_of rows [])) other.1 p;
   whole = λ k h. no_order (λ k. length (told_of rows (take k (answers_to held rows bytes))) ≤ n) k h;
   between = λ at. absurd (within at);
-  kept = tt;
+  kept = calls.1;
   prompt = prompt;
   asked = 0;
-  asks = (omega (arith, calls), omega (arith, calls));
-  asks_at = asks_none place (map (λ (a : Answer). a.asks) (answers_to held rows bytes)) 0 other
+  asks = (omega (arith, calls.0), omega (arith, calls.0));
+  asks_at = asks_none place (map (λ (a : Answer). a.asks) (answers_to held rows bytes)) 0 other.0
       (none_asked held (begun rows) (orders_of (lines_of bytes)) 0);
 }
 
 -- these answers were written whole
 front_at : (bytes : List ℕ) (rows : List Entry) (done rest : List Answer) (place : Place) (before now : Outside) → Appends before.out.taken now.out.taken (told_of rows done)
-    → IsPromptAt place bytes now.input.left (length done) → place ≢ at_file → now.files.calls ≡ before.files.calls → AskNothing (done ++ rest)
-    → IsFront bytes place rows None (done ++ rest) before now
+    → IsPromptAt place bytes now.input.left (length done) → IsOther place → Untouched before now → AskNothing (done ++ rest)
+    → IsFront bytes place false rows (done ++ rest) before now
 front_at bytes rows done rest place before now p prompt other calls none =
     let text : List ℕ = told_of rows done in
     let e : text ≡ take (length text) (told_of rows (take (length done) (done ++ rest))) =
@@ -156,22 +168,23 @@ front_at bytes rows done rest place before now p prompt other calls none =
       answered = length done;
       within = omega (arith, length-append done rest);
       count = length text;
-      text = subst (Appends before.out.taken now.out.taken) e p;
+      text = alone place before.out.taken now.out.taken (take (length text) (told_of rows (take (length done) (done ++ rest)))) other.1
+          (subst (Appends before.out.taken now.out.taken) e p);
       whole = λ k h. let le : k ≤ length done = omega arith in
           subst (λ (ys : List Answer). length (told_of rows ys) ≤ length text) (sym (take-append-le k done rest le)) (told_shorter rows k done);
       between = λ at. omega (arith, ap (λ (ys : List Answer). length (told_of rows ys)) (front_of done rest));
-      kept = tt;
+      kept = calls.1;
       prompt = prompt;
       asked = 0;
-      asks = (omega (arith, calls), omega (arith, calls));
-      asks_at = asks_none place (map (λ (a : Answer). a.asks) (done ++ rest)) (length done) other (none (length done));
+      asks = (omega (arith, calls.0), omega (arith, calls.0));
+      asks_at = asks_none place (map (λ (a : Answer). a.asks) (done ++ rest)) (length done) other.0 (none (length done));
     }
 
 -- and of one more a part
 front_in : (bytes : List ℕ) (rows : List Entry) (done rest : List Answer) (a : Answer) (place : Place) (mid : Option (List ℕ)) (before now : Outside) (n : ℕ)
     → Appends before.out.taken mid (told_of rows done) → Appends mid now.out.taken (take n a.text) → (is_between place (length done + 1) ≡ true → ⊥)
-    → IsPromptAt place bytes now.input.left (length done + 1) → place ≢ at_file → now.files.calls ≡ before.files.calls → AskNothing (done ++ a ∷ rest)
-    → IsFront bytes place rows None (done ++ a ∷ rest) before now
+    → IsPromptAt place bytes now.input.left (length done + 1) → IsOther place → Untouched before now → AskNothing (done ++ a ∷ rest)
+    → IsFront bytes place false rows (done ++ a ∷ rest) before now
 front_in bytes rows done rest a place mid before now n p q within prompt other calls none =
     let text : List ℕ = told_of rows done in
     let here : take (length done + 1) (done ++ a ∷ rest) ≡ done ++ a ∷ [] = take-append-add done (a ∷ rest) 1 in
@@ -182,16 +195,17 @@ front_in bytes rows done rest a place mid before now n p q within prompt other c
       answered = length done + 1;
       within = omega (arith, length-append done (a ∷ rest));
       count = length text + n;
-      text = subst (Appends before.out.taken now.out.taken) e (appends_on before.out.taken mid now.out.taken text (take n a.text) p q);
+      text = alone place before.out.taken now.out.taken (take (length text + n) (told_of rows (take (length done + 1) (done ++ a ∷ rest)))) other.1
+          (subst (Appends before.out.taken now.out.taken) e (appends_on before.out.taken mid now.out.taken text (take n a.text) p q));
       whole = λ k h. let le : k ≤ length done = omega arith in
           let short : length (told_of rows (take k done)) ≤ length text + n = omega (arith, told_shorter rows k done) in
           subst (λ (ys : List Answer). length (told_of rows ys) ≤ length text + n) (sym (take-append-le k done (a ∷ rest) le)) short;
       between = λ at. absurd (within at);
-      kept = tt;
+      kept = calls.1;
       prompt = prompt;
       asked = 0;
-      asks = (omega (arith, calls), omega (arith, calls));
-      asks_at = asks_none place (map (λ (a : Answer). a.asks) (done ++ a ∷ rest)) (length done + 1) other (none (length done + 1));
+      asks = (omega (arith, calls.0), omega (arith, calls.0));
+      asks_at = asks_none place (map (λ (a : Answer). a.asks) (done ++ a ∷ rest)) (length done + 1) other.0 (none (length done + 1));
     }
 
 -- where the input tells its bytes
@@ -208,30 +222,30 @@ prompt_at bytes y (Some rest) orders answered m t each cut =
 
 -- the next order could not be had: at the input, or for want of memory
 pub front_cut : (held : Held) (rows : List Entry) (bytes : List ℕ) (b : Option (List ℕ)) (m : ℕ) (p : Progress) (before now : Outside)
-    → Stands held rows (Some bytes) b before.out.taken now.out.taken m p → IsCutAt b now.input.left m → now.files.calls ≡ before.files.calls
-    → IsFront bytes at_input rows None (answers_to held rows bytes) before now
+    → Stands held rows (Some bytes) b before.out.taken now.out.taken m p → IsCutAt b now.input.left m → Untouched before now
+    → IsFront bytes at_input false rows (answers_to held rows bytes) before now
 front_cut held rows bytes None m p before now s cut calls = absurd s.split
 front_cut held rows bytes (Some y) m p before now s cut calls =
     let rest : List Answer = answers held p.state (orders_after m (lines_of y)) in
-    subst (λ (l : List Answer). IsFront bytes at_input rows None l before now) (sym s.split)
-    (front_at bytes rows s.done rest at_input before now s.told (prompt_at bytes y now.input.left s.orders (length s.done) m s.taken s.each cut) (λ e. absurd (cc)) calls
+    subst (λ (l : List Answer). IsFront bytes at_input false rows l before now) (sym s.split)
+    (front_at bytes rows s.done rest at_input before now s.told (prompt_at bytes y now.input.left s.orders (length s.done) m s.taken s.each cut) ((λ e. absurd (cc)), refl) calls
     (asks_nothing held rows bytes (s.done ++ rest) s.split))
 
 pub front_before : (held : Held) (rows : List Entry) (bytes : List ℕ) (b : Option (List ℕ)) (m : ℕ) (p : Progress) (place : Place) (before now : Outside)
-    → Stands held rows (Some bytes) b before.out.taken now.out.taken m p → ((n : ℕ) → IsPromptAt place bytes now.input.left n) → place ≢ at_file
-    → now.files.calls ≡ before.files.calls → IsFront bytes place rows None (answers_to held rows bytes) before now
+    → Stands held rows (Some bytes) b before.out.taken now.out.taken m p → ((n : ℕ) → IsPromptAt place bytes now.input.left n) → IsOther place
+    → Untouched before now → IsFront bytes place false rows (answers_to held rows bytes) before now
 front_before held rows bytes None m p place before now s prompt other calls = absurd s.split
 front_before held rows bytes (Some y) m p place before now s prompt other calls =
     let rest : List Answer = answers held p.state (orders_after m (lines_of y)) in
-    subst (λ (l : List Answer). IsFront bytes place rows None l before now) (sym s.split)
+    subst (λ (l : List Answer). IsFront bytes place false rows l before now) (sym s.split)
     (front_at bytes rows s.done rest place before now s.told (prompt (length s.done)) other calls (asks_nothing held rows bytes (s.done ++ rest) s.split))
 
 -- an order was answered in part
 pub front_within : (held : Held) (rows : List Entry) (bytes : List ℕ) (b c mid : Option (List ℕ)) (m n : ℕ) (p : Progress) (o : Numbered) (place : Place)
     (before now : Outside) (count : ℕ)
     → Stands held rows (Some bytes) b before.out.taken mid m p → HandsOrder b c m n (Some o) → Appends mid now.out.taken (take count (turn held p.state o).answer.text)
-    → ((n : ℕ) → is_between place n ≡ true → ⊥) → ((n : ℕ) → IsPromptAt place bytes now.input.left n) → place ≢ at_file → now.files.calls ≡ before.files.calls
-    → IsFront bytes place rows None (answers_to held rows bytes) before now
+    → ((n : ℕ) → is_between place n ≡ true → ⊥) → ((n : ℕ) → IsPromptAt place bytes now.input.left n) → IsOther place → Untouched before now
+    → IsFront bytes place false rows (answers_to held rows bytes) before now
 front_within held rows bytes None c mid m n p o place before now count s h t within prompt other calls = absurd s.split
 front_within held rows bytes (Some y) None mid m n p o place before now count s h t within prompt other calls = absurd h
 front_within held rows bytes (Some y) (Some z) mid m n p o place before now count s h t within prompt other calls =
@@ -239,19 +253,19 @@ front_within held rows bytes (Some y) (Some z) mid m n p o place before now coun
     let rest : List Answer = answers held (turn held p.state o).state (orders_after n (lines_of z)) in
     let split : answers_to held rows bytes ≡ s.done ++ a ∷ rest =
     s.split ∙ ap (λ (os : List Numbered). s.done ++ answers held p.state os) (follow y z m n (o ∷ []) h) in
-    subst (λ (l : List Answer). IsFront bytes place rows None l before now) (sym split)
+    subst (λ (l : List Answer). IsFront bytes place false rows l before now) (sym split)
     (front_in bytes rows s.done rest a place mid before now count s.told t (within (length s.done + 1)) (prompt (length s.done + 1)) other calls
     (asks_nothing held rows bytes (s.done ++ a ∷ rest) split))
 
 -- all was answered
 pub front_ended : (held : Held) (rows : List Entry) (bytes unread : List ℕ) (b : Option (List ℕ)) (m n : ℕ) (p : Progress) (before now : Outside)
     → Stands held rows (Some bytes) b before.out.taken now.out.taken m p → HandsOrder b (ahead unread now.input.left) m n None
-    → now.files.calls ≡ before.files.calls → IsFront bytes at_input rows None (answers_to held rows bytes) before now
+    → Untouched before now → IsFront bytes at_input false rows (answers_to held rows bytes) before now
 front_ended held rows bytes unread b m n p before now s h calls =
     let all : answers_to held rows bytes ≡ s.done = all_done held rows bytes b (ahead unread now.input.left) s.done p.state m n s.split h in
     let none : now.input.left ≡ Some [] = none_left held bytes unread b now.input.left rows s.done p.state m n s.split h in
-    subst (λ (l : List Answer). IsFront bytes at_input rows None l before now) (sym (all ∙ sym (append-nil s.done)))
-    (front_at bytes rows s.done [] at_input before now s.told (prompt_ended now.input.left none (ap length all)) (λ e. absurd (cc)) calls
+    subst (λ (l : List Answer). IsFront bytes at_input false rows l before now) (sym (all ∙ sym (append-nil s.done)))
+    (front_at bytes rows s.done [] at_input before now s.told (prompt_ended now.input.left none (ap length all)) ((λ e. absurd (cc)), refl) calls
     (asks_nothing held rows bytes (s.done ++ []) (all ∙ sym (append-nil s.done))))
   where
     prompt_ended : (a : Option (List ℕ)) → a ≡ Some [] → length (answers_to held rows bytes) ≡ length s.done

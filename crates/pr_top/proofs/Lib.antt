@@ -8,3 +8,4 @@ pub mod Ahead
 pub mod Turns
 pub mod Fronts
 pub mod Commands
+pub mod WordTimes

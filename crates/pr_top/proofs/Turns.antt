@@ -54,7 +54,7 @@ answer_count held s (o ∷ orders) = omega (arith, answer_count held (turn held 
 no_asks_of : (held : Held) (s : State) (number : ℕ) (o : Order) → (turn_of held s number o).answer.asks ≡ []
 no_asks_of held s number (order.Event e) = by (is_taken e)
   where
-    by : (taken : Bool) → (cond taken (turn_by (next of_a_run s.world e)) (bad_turn s number)).answer.asks ≡ []
+    by : (taken : Bool) → (cond taken (turn_by s (next of_a_run s.world e)) (bad_turn s number)).answer.asks ≡ []
     by true = refl
     by false = refl
 no_asks_of held s number order.Bad = refl
@@ -83,8 +83,8 @@ asks_none anywhere steps done other none = omega arith
 
 -- one event further
 pub event_progress : (held : Held) (r : Result Unit AllocError) (before after : Run) (p : Progress) (o : Numbered) (given e : Event) → o.order ≡ order.Event given → given ≡ e
-    → is_taken e ≡ true → KeepsProgress before p → OnOk r (KeepsWorld after.kept (turn_by (next of_a_run p.state.world e)).state.world)
-    → OnOk r (after.refused ≡ (before.refused || (turn_by (next of_a_run p.state.world e)).answer.refused)) → OnOk r (KeepsProgress after (progress_after held p o))
+    → is_taken e ≡ true → KeepsProgress before p → OnOk r (KeepsWorld after.kept (turn_by p.state (next of_a_run p.state.world e)).state.world)
+    → OnOk r (after.refused ≡ (before.refused || (turn_by p.state (next of_a_run p.state.world e)).answer.refused)) → OnOk r (KeepsProgress after (progress_after held p o))
 unfolding turn
 event_progress held r before after p o given e is same taken keeps w f =
     subst (λ (q : Order). OnOk r (KeepsProgress after (record { state = (turn_of held p.state o.number q).state; refused = p.refused || (turn_of held p.state o.number q).answer.refused })))
@@ -92,10 +92,10 @@ event_progress held r before after p o given e is same taken keeps w f =
     (subst (λ (b : Bool). OnOk r (KeepsProgress after (record { state = (at b).state; refused = p.refused || (at b).answer.refused }))) (sym taken) (by r w f))
   where
     at : Bool → Turn
-    at b = cond b (turn_by (next of_a_run p.state.world e)) (bad_turn p.state o.number)
+    at b = cond b (turn_by p.state (next of_a_run p.state.world e)) (bad_turn p.state o.number)
 
-    by : (r : Result Unit AllocError) → OnOk r (KeepsWorld after.kept (turn_by (next of_a_run p.state.world e)).state.world)
-        → OnOk r (after.refused ≡ (before.refused || (turn_by (next of_a_run p.state.world e)).answer.refused))
-        → OnOk r (KeepsProgress after (record { state = (turn_by (next of_a_run p.state.world e)).state; refused = p.refused || (turn_by (next of_a_run p.state.world e)).answer.refused }))
-    by (Ok done) w f = record { world = w; refused = f ∙ ap (λ (b : Bool). b || (turn_by (next of_a_run p.state.world e)).answer.refused) keeps.refused }
+    by : (r : Result Unit AllocError) → OnOk r (KeepsWorld after.kept (turn_by p.state (next of_a_run p.state.world e)).state.world)
+        → OnOk r (after.refused ≡ (before.refused || (turn_by p.state (next of_a_run p.state.world e)).answer.refused))
+        → OnOk r (KeepsProgress after (record { state = (turn_by p.state (next of_a_run p.state.world e)).state; refused = p.refused || (turn_by p.state (next of_a_run p.state.world e)).answer.refused }))
+    by (Ok done) w f = record { world = w; refused = f ∙ ap (λ (b : Bool). b || (turn_by p.state (next of_a_run p.state.world e)).answer.refused) keeps.refused }
     by (Err error) w f = tt

@@ -4,7 +4,7 @@ use Rattle.std.specs.declared.alloc.AllocError.{AllocError}
 use Rattle.pr_history.specs.Admission.{put_all, IsLawful}
 use Rattle.pr_history.proofs.Lawful.{put_all_lawful}
 use Rattle.pr_head.specs.Holds.{Holds, IsWhole}
-use Rattle.pr_scrape.specs.Putting.{HasTaken, Series}
+use Rattle.pr_intake.specs.Intake.{HasTaken, Series}
 use Rattle.pr_scrape.specs.Knowing.{Knows, Tracked}
 use Rattle.pr_top.specs.Asked.{HasOutcome}
 use Rattle.pr_top.specs.Keeping.{KeptOfWorld, IsHeadOf, KeepsWorld}

@@ -1,39 +1,124 @@
 -- What the words of the command line ask for, and what each command leaves unused.
-use Rattle.std.specs.Prelude.{ℕ, Bool, true, false, not, ◌==◌, ◌&&◌, cond, List, [], ◌∷◌, codes, Option, Some, None}
+use Rattle.std.specs.Prelude.{ℕ, zero, suc, ◌+◌, ◌*◌, ◌^◌, Bool, true, false, not, ◌==◌, ◌&&◌, cond, nat_lt, List, [], ◌∷◌, codes, Option, Some, None}
 use Prim.Native.Char.{code}
 use Rattle.std.specs.List.{list_all}
 use Rattle.std.specs.Str.{bytes_eq}
+use Rattle.pr_words.specs.Decimals.{plain_decimal}
+use Rattle.pr_time.specs.SpanAnswer.{span_of}
 
+-- the times from a first one to a last one by a step, in milliseconds
+pub record Times : Type 0 where
+  pub first : ℕ
+  pub last : ℕ
+  pub step : ℕ
+
+-- All that the words may ask for. Names are those of files, and a path is that of a store; the empty
+-- path is a store in memory.
 pub data Command : Type 0 where
-  -- answers the script of the input
-  runs : Command
-  -- checks the rule files of these names
+  -- answers the script of the input, over the store of this path
+  runs : List ℕ → Command
+  -- checks test files
+  tests_rules : List (List ℕ) → Command
+  -- checks rule files
   checks_rules : List (List ℕ) → Command
   -- checks the exposition of the input
   checks_metrics : Command
+  -- answers a script of so many rounds that is made up, and sums up what it tells
+  exercises : ℕ → Command
+  -- evaluates the recording rules of files at these times, over the store of this path
+  backfills : List ℕ → Times → List (List ℕ) → Command
 
--- a word that names a file: it is not empty, and does not begin with a dash
+-- a word that names a file or a store: it is not empty, and does not begin with a dash
 abbrev pub is_file_word : List ℕ → Bool
 is_file_word [] = false
 is_file_word (b ∷ word) = not (b == code "-")
 
-abbrev pub one_word : List ℕ → Option Command
-one_word word = cond (bytes_eq word (codes "run")) (Some runs) None
+-- names of files, one or more
+abbrev pub are_names : List (List ℕ) → Bool
+are_names [] = false
+are_names (name ∷ names) = list_all is_file_word (name ∷ names)
 
-abbrev pub two_words : List ℕ → List ℕ → Option Command
-two_words first second = cond (bytes_eq first (codes "check") && bytes_eq second (codes "metrics")) (Some checks_metrics) None
+-- What the words behind the first one ask for.
+abbrev pub run_of : List (List ℕ) → Option Command
+run_of [] = Some (runs [])
+run_of (option ∷ []) = None
+run_of (option ∷ path ∷ []) = cond (bytes_eq option (codes "--store") && is_file_word path) (Some (runs path)) None
+run_of (option ∷ path ∷ other ∷ words) = None
 
-abbrev pub more_words : List ℕ → List ℕ → List (List ℕ) → Option Command
-more_words first second names =
-    cond (bytes_eq first (codes "check") && (bytes_eq second (codes "rules") && list_all is_file_word names)) (Some (checks_rules names)) None
+abbrev pub test_of : List (List ℕ) → Option Command
+test_of [] = None
+test_of (kind ∷ names) = cond (bytes_eq kind (codes "rules") && are_names names) (Some (tests_rules names)) None
 
--- the command that the words ask for, where they are one of the forms: `run`, `check metrics`, and
--- `check rules` with one file or more
+abbrev pub check_of : List (List ℕ) → Option Command
+check_of [] = None
+check_of (kind ∷ []) = cond (bytes_eq kind (codes "metrics")) (Some checks_metrics) None
+check_of (kind ∷ name ∷ names) = cond (bytes_eq kind (codes "rules") && are_names (name ∷ names)) (Some (checks_rules (name ∷ names))) None
+
+-- how many rounds: a plain decimal from 1 to 100,000
+abbrev pub rounds_by : Option ℕ → Option Command
+rounds_by None = None
+rounds_by (Some zero) = None
+rounds_by (Some (suc n)) = Some (exercises (suc n))
+
+abbrev pub exercise_of : List (List ℕ) → Option Command
+exercise_of [] = None
+exercise_of (rounds ∷ []) = rounds_by (plain_decimal 100001 rounds)
+exercise_of (rounds ∷ other ∷ words) = None
+
+-- a time: a plain decimal below 2^42
+abbrev pub time_of : List ℕ → Option ℕ
+time_of word = plain_decimal (2 ^ 42) word
+
+-- a step: the text of a span of 1 to 2^40 milliseconds
+abbrev pub is_step : ℕ → Bool
+is_step ms = not (nat_lt (2 ^ 40) ms) && nat_lt 0 ms
+
+abbrev pub step_in : Option ℕ → Option ℕ
+step_in None = None
+step_in (Some ms) = cond (is_step ms) (Some ms) None
+
+abbrev pub step_of : List ℕ → Option ℕ
+step_of word = step_in (span_of word)
+
+-- The last time is not before the first, and there are 2^20 times at most.
+abbrev pub are_times : ℕ → ℕ → ℕ → Bool
+are_times first last step = not (nat_lt last first) && nat_lt last (first + 2 ^ 20 * step)
+
+abbrev pub times_by : Option ℕ → Option ℕ → Option ℕ → Option Times
+times_by None last step = None
+times_by (Some first) None step = None
+times_by (Some first) (Some last) None = None
+times_by (Some first) (Some last) (Some step) = cond (are_times first last step) (Some (record { first = first; last = last; step = step })) None
+
+abbrev pub times_of : List ℕ → List ℕ → List ℕ → Option Times
+times_of first last step = times_by (time_of first) (time_of last) (step_of step)
+
+abbrev pub backfill_by : List ℕ → Option Times → List (List ℕ) → Option Command
+backfill_by path None names = None
+backfill_by path (Some times) names = cond (is_file_word path && are_names names) (Some (backfills path times names)) None
+
+abbrev pub backfill_of : List (List ℕ) → Option Command
+backfill_of [] = None
+backfill_of (path ∷ []) = None
+backfill_of (path ∷ first ∷ []) = None
+backfill_of (path ∷ first ∷ last ∷ []) = None
+backfill_of (path ∷ first ∷ last ∷ step ∷ names) = backfill_by path (times_of first last step) names
+
+-- by the first word and those behind it
+abbrev pub command_by : List ℕ → List (List ℕ) → Option Command
+command_by first words =
+    cond (bytes_eq first (codes "run")) (run_of words)
+    (cond (bytes_eq first (codes "test")) (test_of words)
+    (cond (bytes_eq first (codes "check")) (check_of words)
+    (cond (bytes_eq first (codes "exercise")) (exercise_of words)
+    (cond (bytes_eq first (codes "backfill")) (backfill_of words) None))))
+
+-- The command that the words ask for, where they are one of the forms: `run`, `run --store PATH`,
+-- `test rules FILE..`, `check rules FILE..`, `check metrics`, `exercise N`, and `backfill PATH FIRST
+-- LAST STEP FILE..`, each with one file or more.
 abbrev pub command_of : List (List ℕ) → Option Command
 command_of [] = None
-command_of (word ∷ []) = one_word word
-command_of (first ∷ second ∷ []) = two_words first second
-command_of (first ∷ second ∷ name ∷ names) = more_words first second (name ∷ names)
+command_of (first ∷ words) = command_by first words
 
 -- which of the objects a command may use; each may use the output
 pub record Uses : Type 0 where
@@ -41,12 +126,22 @@ pub record Uses : Type 0 where
   pub files : Bool
   pub store : Bool
 
+abbrev pub uses_nothing : Uses
+uses_nothing = record { input = false; files = false; store = false }
+
+-- A script is answered over no store yet, and no script names files. `run --store`, `test rules`,
+-- `exercise` and `backfill` are not done yet: their words are answered as words that are none of the
+-- forms, and use nothing.
 abbrev pub uses_of : Command → Uses
-uses_of runs = record { input = true; files = false; store = false }
+uses_of (runs []) = record { input = true; files = false; store = false }
+uses_of (runs (b ∷ path)) = uses_nothing
+uses_of (tests_rules names) = uses_nothing
 uses_of (checks_rules names) = record { input = false; files = true; store = false }
 uses_of checks_metrics = record { input = true; files = false; store = false }
+uses_of (exercises rounds) = uses_nothing
+uses_of (backfills path times names) = uses_nothing
 
 -- words that are none of the forms use nothing
 abbrev pub uses : Option Command → Uses
-uses None = record { input = false; files = false; store = false }
+uses None = uses_nothing
 uses (Some c) = uses_of c

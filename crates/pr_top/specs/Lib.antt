@@ -1,4 +1,5 @@
 pub mod Told
+pub mod Rows
 pub mod Front
 pub mod Taken
 pub mod LineReading

@@ -1,6 +1,6 @@
 -- What a run of the script writes, keeps and refuses, by what the files hold, the rows at the start
 -- and the bytes of its input.
-use Rattle.std.specs.Prelude.{ℕ, Bool, true, false, cond, List, [], ◌∷◌, ◌++◌, length, flat_map}
+use Rattle.std.specs.Prelude.{ℕ, Bool, true, false, cond, List, [], ◌∷◌, ◌++◌, length, flat_map, codes, decimal}
 use Rattle.std.specs.List.{list_any}
 use Rattle.pr_words.specs.Lines.{lines_of}
 use Rattle.pr_history.specs.declared.entry.Entry.{Entry}
@@ -17,13 +17,20 @@ use Rattle.pr_text.specs.Orders.{orders_of}
 use Rattle.pr_text.specs.Printed.{shown_report, bad_line_text}
 use Rattle.pr_status.specs.Outside.{Held}
 
--- what is kept in mind between two orders
+-- somebody who is to be given notices, and those that were offered since it was known
+pub record Receiver : Type 0 where
+  pub name : List ℕ
+  pub notices : List (List ℕ)
+
+-- What is kept in mind between two orders: the world; and the receivers, which are no part of it. So
+-- far no order names one.
 pub record State : Type 0 where
   pub world : World
+  pub receivers : List Receiver
 
 -- over these rows at the start
 abbrev pub begun : List Entry → State
-begun rows = record { world = start rows }
+begun rows = record { world = start rows; receivers = [] }
 
 -- what is told of an order: its text, the rows that are kept for it, whether it is refused, and the
 -- files that are asked for
@@ -38,11 +45,11 @@ pub record Turn : Type 0 where
   pub answer : Answer
   pub state : State
 
--- an event is answered by its report; so far none asks for a file
-abbrev pub turn_by : Step → Turn
-turn_by step = record {
+-- an event is answered by its report; so far none asks for a file, and none sends notices
+abbrev pub turn_by : State → Step → Turn
+turn_by s step = record {
   answer = record { text = shown_report step.report; rows = step.rows; refused = step.refused; asks = [] };
-  state = record { world = step.world };
+  state = record { world = step.world; receivers = s.receivers };
 }
 
 -- what spells no order is refused with the number of its line, and changes nothing
@@ -62,7 +69,7 @@ is_taken (event.Restart time) = false
 is_taken (event.Alerts time) = false
 
 abbrev pub turn_of : Held → State → ℕ → Order → Turn
-turn_of held s number (order.Event e) = cond (is_taken e) (turn_by (next of_a_run s.world e)) (bad_turn s number)
+turn_of held s number (order.Event e) = cond (is_taken e) (turn_by s (next of_a_run s.world e)) (bad_turn s number)
 turn_of held s number order.Bad = bad_turn s number
 
 unfoldable pub turn : Held → State → Numbered → Turn
@@ -85,14 +92,19 @@ asks_of answered = flat_map (λ (a : Answer). a.asks) answered
 unfoldable pub told_of : List Entry → List Answer → List ℕ
 told_of rows answered = shown_report (Opened (length rows)) ++ flat_map (λ (a : Answer). a.text) answered
 
--- the rows that are kept after answers: those at the start, and those of the answers
+-- The only line where a row at the start is bad, and the last one where a run that begins anew finds
+-- one.
+unfoldable pub bad_row_text : ℕ → List ℕ
+bad_row_text index = codes "bad row " ++ (decimal index ++ codes "\n")
+
+-- the entries that are kept after answers: those at the start, and those of the answers
 abbrev pub kept_after : List Entry → List Answer → List Entry
 kept_after rows answered = rows ++ flat_map (λ (a : Answer). a.rows) answered
 
 abbrev pub any_refused : List Answer → Bool
 any_refused answered = list_any (λ (a : Answer). a.refused) answered
 
--- what a run writes that reads these bytes, the rows that it keeps, and whether it refuses an order
+-- what a run writes that reads these bytes, the entries that it keeps, and whether it refuses an order
 abbrev pub told : Held → List Entry → List ℕ → List ℕ
 told held rows bytes = told_of rows (answers_to held rows bytes)
 

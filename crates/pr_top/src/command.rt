@@ -1,21 +1,54 @@
 // The commands, by the words of the command line.
 ghost use Rattle.std.specs.Prelude.{◌≡◌, map, string_bytes};
 ghost use Rattle.std.specs.List.{list_all};
-ghost use Rattle.pr_top.specs.Command.{command_of, is_file_word, two_words, more_words};
-ghost use Rattle.pr_top.specs.Words.{asks_for};
+ghost use Rattle.pr_top.specs.Command.{are_names, are_times, backfill_by, backfill_of, check_of, command_of, exercise_of, is_file_word, run_of, step_of, test_of, time_of, times_by, times_of};
+ghost use Rattle.pr_top.specs.Words.{asks_for, times_for};
+
+use pr_time::{Ms, Span, read_span};
+use pr_words::plain_decimal;
+
+// There are at most so many times.
+const MOST_TIMES: u64 = 1 << 20;
+
+/// The times from a first one to a last one by a step.
+#[derive(Clone, Copy)]
+pub(crate) struct Times {
+    first: Ms,
+    last: Ms,
+    step: Span,
+}
 
 /// What the words ask for.
 #[derive(Clone, Copy)]
 pub(crate) enum Command<'a> {
-    /// Answers the script of the input.
-    Run,
+    /// Answers the script of the input, over the store of this path; the empty path is a store in
+    /// memory.
+    Run {
+        path: &'a str,
+    },
+    /// Checks the test files of these names.
+    TestRules {
+        names: &'a [String],
+    },
+    /// Checks the rule files of these names.
+    CheckRules {
+        names: &'a [String],
+    },
     /// Checks the exposition of the input.
     CheckMetrics,
-    /// Checks the rule files of these names.
-    CheckRules { names: &'a [String] },
+    /// Answers a script of so many rounds that is made up.
+    Exercise {
+        rounds: u64,
+    },
+    /// Evaluates the recording rules of these files at these times, over the store of this path.
+    Backfill {
+        path: &'a str,
+        times: Times,
+        names: &'a [String],
+    },
 }
 
-// A file is named by a word that is not empty and does not begin with a dash.
+// A file or a store is named by a word that is not empty and does not begin with a dash.
 fn is_file_word(word: &str) -> bool
     ensures { result ≡ is_file_word word.now }
 {
@@ -38,23 +71,125 @@ fn are_file_words(words: &[String]) -> bool
     true
 }
 
-fn two_words<'a>(first: &str, second: &str) -> Option<Command<'a>>
-    ensures { asks_for result ≡ two_words first.now second.now }
+fn are_names(words: &[String]) -> bool
+    ensures { result ≡ are_names (map string_bytes words.now) }
 {
-    if first == "check" && second == "metrics" {
-        Some(Command::CheckMetrics)
+    match words {
+        [] => false,
+        [_, ..] => are_file_words(words),
+    }
+}
+
+fn run_of(words: &[String]) -> Option<Command<'_>>
+    ensures { asks_for result ≡ run_of (map string_bytes words.now) }
+{
+    match words {
+        [] => Some(Command::Run { path: "" }),
+        [option, path] if option.as_str() == "--store" && is_file_word(path) => {
+            Some(Command::Run { path })
+        }
+        _ => None,
+    }
+}
+
+fn test_of(words: &[String]) -> Option<Command<'_>>
+    ensures { asks_for result ≡ test_of (map string_bytes words.now) }
+{
+    match words {
+        [kind, names @ ..] if kind.as_str() == "rules" && are_names(names) => {
+            Some(Command::TestRules { names })
+        }
+        _ => None,
+    }
+}
+
+fn check_of(words: &[String]) -> Option<Command<'_>>
+    ensures { asks_for result ≡ check_of (map string_bytes words.now) }
+{
+    match words {
+        [kind] if kind.as_str() == "metrics" => Some(Command::CheckMetrics),
+        [kind, names @ ..] if kind.as_str() == "rules" && are_names(names) => {
+            Some(Command::CheckRules { names })
+        }
+        _ => None,
+    }
+}
+
+fn exercise_of(words: &[String]) -> Option<Command<'_>>
+    ensures { asks_for result ≡ exercise_of (map string_bytes words.now) }
+{
+    let [rounds] = words else {
+        return None;
+    };
+    match plain_decimal(rounds.as_bytes(), 100_001) {
+        None | Some(0) => None,
+        Some(rounds) => Some(Command::Exercise { rounds }),
+    }
+}
+
+fn time_of(word: &str) -> Option<Ms>
+    ensures { result ≡ time_of word.now }
+{
+    Ms::new(plain_decimal(word.as_bytes(), 1 << 42)?)
+}
+
+#[tactic(auto, using(crate::proofs::WordTimes::step_read, crate::proofs::WordTimes::zero_read, crate::proofs::WordTimes::no_step))]
+fn step_of(word: &str) -> Option<Span>
+    ensures { result ≡ step_of word.now }
+{
+    match read_span(word.as_bytes()) {
+        Ok(step) => { if step.get() > 0 { Some(step) } else { None } }
+        Err(_) => None,
+    }
+}
+
+// Whether there are times, and at most 2^20 of them.
+fn are_times(first: Ms, last: Ms, step: Span) -> bool
+    ensures { result ≡ are_times first last step }
+{
+    let (first, last) = (first.get(), last.get());
+    !(last < first) && last < first + MOST_TIMES * step.get()
+}
+
+fn times_by(first: Option<Ms>, last: Option<Ms>, step: Option<Span>) -> Option<Times>
+    ensures { times_for result ≡ times_by first last step }
+{
+    let (Some(first), Some(last), Some(step)) = (first, last, step) else {
+        return None;
+    };
+    if are_times(first, last, step) {
+        Some(Times { first, last, step })
     } else {
         None
     }
 }
 
-fn more_words<'a>(first: &str, second: &str, names: &'a [String]) -> Option<Command<'a>>
-    ensures { asks_for result ≡ more_words first.now second.now (map string_bytes names.now) }
+fn times_of(first: &str, last: &str, step: &str) -> Option<Times>
+    ensures { times_for result ≡ times_of first.now last.now step.now }
 {
-    if first == "check" && second == "rules" && are_file_words(names) {
-        Some(Command::CheckRules { names })
-    } else {
-        None
+    times_by(time_of(first), time_of(last), step_of(step))
+}
+
+fn backfill_by<'a>(path: &'a str, times: Option<Times>, names: &'a [String]) -> Option<Command<'a>>
+    ensures { asks_for result ≡ backfill_by path.now (times_for times) (map string_bytes names.now) }
+{
+    match times {
+        Some(times) if is_file_word(path) && are_names(names) => {
+            Some(Command::Backfill { path, times, names })
+        }
+        _ => None,
+    }
+}
+
+#[tactic(auto, using(crate::proofs::WordTimes::few))]
+fn backfill_of(words: &[String]) -> Option<Command<'_>>
+    ensures { asks_for result ≡ backfill_of (map string_bytes words.now) }
+{
+    match words {
+        [path, first, last, step, names @ ..] => {
+            backfill_by(path, times_of(first, last, step), names)
+        }
+        _ => None,
     }
 }
 
@@ -62,10 +197,18 @@ fn more_words<'a>(first: &str, second: &str, names: &'a [String]) -> Option<Comm
 pub(crate) fn command_of(words: &[String]) -> Option<Command<'_>>
     ensures { asks_for result ≡ command_of (map string_bytes words.now) }
 {
-    match words {
-        [word] if word.as_str() == "run" => Some(Command::Run),
-        [first, second] => two_words(first, second),
-        [first, second, names @ ..] => more_words(first, second, names),
-        _ => None,
+    let (first, rest) = words.split_first()?;
+    if first.as_str() == "run" {
+        run_of(rest)
+    } else if first.as_str() == "test" {
+        test_of(rest)
+    } else if first.as_str() == "check" {
+        check_of(rest)
+    } else if first.as_str() == "exercise" {
+        exercise_of(rest)
+    } else if first.as_str() == "backfill" {
+        backfill_of(rest)
+    } else {
+        None
     }
 }

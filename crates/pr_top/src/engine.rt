@@ -129,6 +129,18 @@ fn last_after(last: Option<Ms>, refused: bool, time: Ms) -> Option<Ms>
     if refused { last } else { Some(time) }
 }
 
+// Refuses an event that is before the last one.
+fn backwards(last: Ms, event: Event) -> Answered
+    ensures report { result.report ≡ Report.Backwards last (time_of event) }
+    ensures refused { result.refused ≡ true }
+{
+    let given = time_of(&event);
+    Answered {
+        report: Report::Backwards { last, given },
+        refused: true,
+    }
+}
+
 impl Engine {
     /// Nothing has happened yet.
     pub(crate) fn start(alloc: Global) -> Engine
@@ -272,10 +284,7 @@ impl Engine {
     {
         let given = time_of(&event);
         match self.last {
-            Some(last) if given.get() < last.get() => Ok(Answered {
-                report: Report::Backwards { last, given },
-                refused: true,
-            }),
+            Some(last) if given.get() < last.get() => Ok(backwards(last, event)),
             _ => self.take(alloc, event),
         }
     }

@@ -1,5 +1,5 @@
 // The command `run`: one order after another is asked for, and answered before the next one.
-ghost use Rattle.std.specs.Prelude.{◌≡◌, ℕ, take, [], OnOk, IfOk, IfSome, None, Some};
+ghost use Rattle.std.specs.Prelude.{◌≡◌, ℕ, take, [], OnOk, IfOk, IfSome, Some, false};
 ghost use Rattle.std.specs.Io.KnownBytes.{Appends};
 ghost use Rattle.pr_status.specs.Ends.{Ends, KnowsLength, WriteEnds, no_row, place_of};
 ghost use Rattle.pr_status.specs.Outside.{Held, Outside};
@@ -58,7 +58,7 @@ pub(crate) fn run<I: Source, O: Sink>(
     ensures told { (held : Held) → IfOk result (λ refused. IfSome (I.means input.old).left (λ bytes. Appends (O.means out.old).taken (O.means out.new).taken (told held [] bytes)
         × (refused ≡ refuses held [] bytes) × ((I.means input.new).left ≡ Some []))) }
     // However it ends, one number of orders is answered.
-    ensures front { (held : Held) (others : Outside) → IfSome (I.means input.old).left (λ bytes. IsFront bytes (place_of result) [] None (answers_to held [] bytes)
+    ensures front { (held : Held) (others : Outside) → IfSome (I.means input.old).left (λ bytes. IsFront bytes (place_of result) false [] (answers_to held [] bytes)
         (record others { input = I.means input.old; out = O.means out.old }) (record others { input = I.means input.new; out = O.means out.new })) }
     ensures long { KnowsLength (I.means input.old).left result }
     ensures ends { (others : Outside) → Ends no_row (IsLong (I.means input.old).left) (record others { input = I.means input.old; out = O.means out.old })

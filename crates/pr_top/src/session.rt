@@ -54,9 +54,9 @@ impl Session {
         event: Event,
     ) -> Result<(), AllocError>
         requires { is_taken event ≡ true }
-        ensures text { (p : Progress) → KeepsProgress self.old p → OnOk result (text.new.items ≡ text.old.items ++ (turn_by (next of_a_run p.state.world event)).answer.text) }
-        ensures world { (p : Progress) → KeepsProgress self.old p → OnOk result (KeepsWorld self.new.kept (turn_by (next of_a_run p.state.world event)).state.world) }
-        ensures refused { (p : Progress) → KeepsProgress self.old p → OnOk result (self.new.refused ≡ (self.old.refused || (turn_by (next of_a_run p.state.world event)).answer.refused)) }
+        ensures text { (p : Progress) → KeepsProgress self.old p → OnOk result (text.new.items ≡ text.old.items ++ (turn_by p.state (next of_a_run p.state.world event)).answer.text) }
+        ensures world { (p : Progress) → KeepsProgress self.old p → OnOk result (KeepsWorld self.new.kept (turn_by p.state (next of_a_run p.state.world event)).state.world) }
+        ensures refused { (p : Progress) → KeepsProgress self.old p → OnOk result (self.new.refused ≡ (self.old.refused || (turn_by p.state (next of_a_run p.state.world event)).answer.refused)) }
     {
         let answered = self.engine.apply(alloc, event)?;
         self.refused = self.refused || answered.refused;

@@ -1,14 +1,15 @@
 // The program as one call.
-ghost use Rattle.std.specs.Prelude.{◌≡◌, ℕ, List, false, map, string_bytes};
+ghost use Rattle.std.specs.Prelude.{◌≡◌, ℕ, List, Some, false, map, string_bytes};
 ghost use Rattle.pr_status.specs.Outside.{Outside};
 ghost use Rattle.pr_status.specs.Status.{HasCause};
 ghost use Rattle.pr_check_loops.specs.FileChecks.{MeansFileCheck};
 ghost use Rattle.pr_check_loops.specs.InputChecks.{MeansInputCheck};
 ghost use Rattle.pr_checks.specs.Metrics.{metrics_told};
 ghost use Rattle.pr_checks.specs.RuleFiles.{rules_told};
-ghost use Rattle.pr_top.specs.Command.{command_of, uses};
+ghost use Rattle.pr_top.specs.Command.{command_of, uses, uses_of};
 ghost use Rattle.pr_top.specs.Means.{MeansCommand, MeansRun, MeansUsage};
 ghost use Rattle.pr_top.specs.Usage.{usage_text};
+ghost use Rattle.pr_top.specs.Words.{asked_by};
 
 use super::command::{Command, command_of};
 use super::run::run;
@@ -28,9 +29,9 @@ fn usage() -> &'static [u8]
     USAGE
 }
 
-// Does what the command `run` asks for.
+// Answers the script of the input, over no store.
 fn run_script<I: Source, O: Sink>(alloc: Global, input: &mut I, out: &mut O) -> Status
-    ensures { (others : Outside) → MeansRun (record others { input = I.means input.old; out = O.means out.old })
+    ensures { (others : Outside) → MeansRun false (record others { input = I.means input.old; out = O.means out.old })
         (record others { input = I.means input.new; out = O.means out.new }) result }
 {
     status_of(run(alloc, input, out))
@@ -68,11 +69,41 @@ fn refuse_words<O: Sink>(out: &mut O) -> Status
     }
 }
 
+// Does what the words ask for. What is not done yet is refused as words that are none of the forms.
+fn do_command<I: Source, F: Files, O: Sink>(
+    alloc: Global,
+    command: Command<'_>,
+    input: &mut I,
+    files: &mut F,
+    out: &mut O,
+) -> Status
+    ensures means { (others : Outside) → MeansCommand (Some (asked_by command.entry)) (record others { input = I.means input.old; files = F.means files.old; out = O.means out.old })
+        (record others { input = I.means input.new; files = F.means files.new; out = O.means out.new }) result }
+    ensures input { (uses_of (asked_by command.entry)).input ≡ false → input.new ≡ input.old }
+    ensures files { (uses_of (asked_by command.entry)).files ≡ false → files.new ≡ files.old }
+    ensures content { (name : List ℕ) → (F.means files.new).content name ≡ (F.means files.old).content name }
+{
+    match command {
+        Command::Run { path } => {
+            if path.is_empty() {
+                run_script(alloc, input, out)
+            } else {
+                refuse_words(out)
+            }
+        }
+        Command::TestRules { .. } => refuse_words(out),
+        Command::CheckRules { names } => check_rules(alloc, names, files, out),
+        Command::CheckMetrics => check_metrics(alloc, input, out),
+        Command::Exercise { .. } => refuse_words(out),
+        Command::Backfill { .. } => refuse_words(out),
+    }
+}
+
 /// Does all that the program does. The words are those after the program's name, `out` is the
-/// standard output, and the status is what the process ends with. The forms are `run`, which reads
-/// a script from `input` and answers it; `check metrics`, which checks the exposition that `input`
-/// is; and `check rules FILE..`, which checks rule files, one after another. Want of memory alone
-/// may come at any time.
+/// standard output, and the status is what the process ends with. What is done so far is `run`,
+/// which reads a script from `input` and answers it; `check metrics`, which checks the exposition
+/// that `input` is; and `check rules FILE..`, which checks rule files, one after another. Want of
+/// memory alone may come at any time.
 pub fn promtool<I: Source, F: Files, K: Keeper, O: Sink>(
     alloc: Global,
     words: &[String],
@@ -81,6 +112,7 @@ pub fn promtool<I: Source, F: Files, K: Keeper, O: Sink>(
     keeper: &mut K,
     out: &mut O,
 ) -> Status
+    // Words of a command that is not done yet are answered as words that are none of the forms.
     ensures means { MeansCommand (command_of (map string_bytes words.now))
         (record { input = I.means input.old; files = F.means files.old; store = K.means keeper.old; out = O.means out.old })
         (record { input = I.means input.new; files = F.means files.new; store = K.means keeper.new; out = O.means out.new }) result }
@@ -95,9 +127,7 @@ pub fn promtool<I: Source, F: Files, K: Keeper, O: Sink>(
     ensures content { (name : List ℕ) → (F.means files.new).content name ≡ (F.means files.old).content name }
 {
     match command_of(words) {
-        Some(Command::Run) => run_script(alloc, input, out),
-        Some(Command::CheckMetrics) => check_metrics(alloc, input, out),
-        Some(Command::CheckRules { names }) => check_rules(alloc, names, files, out),
+        Some(command) => do_command(alloc, command, input, files, out),
         None => refuse_words(out),
     }
 }

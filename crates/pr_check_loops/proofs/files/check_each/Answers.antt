@@ -19,13 +19,13 @@ checking-preserved g c =
       done = λ held is.
           let all = all_told told held (map string_bytes c.args.names.now) in
           let asks = next_told string_bytes told held (files c.args.files.now).content (files c.checking.files).content c.checking.rest.now c.in-Some.after.now
-          c.in-Some.name.now c.deref.result.now all (out c.args.out.now).taken (out c.checking.out).taken (files c.args.files.now).calls (files c.checking.files).calls
-          c.checking.refused c.in-Some.ensures.cases.0 c.deref.ensures here.same is (here.done held is) in
+          c.in-Some.name.now (string_bytes c.in-Some.name.now) all (out c.args.out.now).taken (out c.checking.out).taken (files c.args.files.now).calls (files c.checking.files).calls
+          c.checking.refused c.in-Some.ensures.cases.0 refl here.same is (here.done held is) in
           subst (λ (b : Bool). AreDone told held (map string_bytes c.in-Some.after.now) all (out c.args.out.now).taken (out c.check_file.new.out).taken
           (files c.args.files.now).calls (files c.check_file.new.files).calls b) (sym c.either-refused.ensures)
-          (next_done string_bytes told held c.checking.rest.now c.in-Some.after.now c.in-Some.name.now c.deref.result.now all (out c.args.out.now).taken
+          (next_done string_bytes told held c.checking.rest.now c.in-Some.after.now c.in-Some.name.now (string_bytes c.in-Some.name.now) all (out c.args.out.now).taken
           (out c.checking.out).taken (out c.check_file.new.out).taken (files c.args.files.now).calls (files c.checking.files).calls (files c.check_file.new.files).calls
-          c.checking.refused c.in_ok-check_file.field-0 c.in-Some.ensures.cases.0 c.deref.ensures (here.done held is) (next.told held asks) (next.asked held asks));
+          c.checking.refused c.in_ok-check_file.field-0 c.in-Some.ensures.cases.0 refl (here.done held is) (next.told held asks) (next.asked held asks));
       same = λ other. next.same other ∙ here.same other;
       files = ends.cause.1 ∙ here.files;
       out = ends.cause.3 ∙ here.out;
@@ -59,11 +59,11 @@ returns-in_err-check_file-clause-front g c =
     let before : Outside = record others { files = files c.args.files.now; out = out c.args.out.now } in
     let now : Outside = record others { files = files c.check_file.new.files; out = out c.check_file.new.out } in
     let asks = next_told string_bytes told held (files c.args.files.now).content (files c.checking.files).content c.checking.rest.now c.in-Some.after.now
-    c.in-Some.name.now c.deref.result.now all (out c.args.out.now).taken (out c.checking.out).taken (files c.args.files.now).calls (files c.checking.files).calls
-    c.checking.refused c.in-Some.ensures.cases.0 c.deref.ensures here.same is (here.done held is) in
+    c.in-Some.name.now (string_bytes c.in-Some.name.now) all (out c.args.out.now).taken (out c.checking.out).taken (files c.args.files.now).calls (files c.checking.files).calls
+    c.checking.refused c.in-Some.ensures.cases.0 refl here.same is (here.done held is) in
     handed_on all before now c.from_residual.result e c.from_residual.ensures.1
-    (next_cut string_bytes told held c.checking.rest.now c.in-Some.after.now c.in-Some.name.now c.deref.result.now all before now (out c.checking.out).taken
-    (files c.checking.files).calls c.checking.refused e c.in-Some.ensures.cases.0 c.deref.ensures (here.done held is)
+    (next_cut string_bytes told held c.checking.rest.now c.in-Some.after.now c.in-Some.name.now (string_bytes c.in-Some.name.now) all before now (out c.checking.out).taken
+    (files c.checking.files).calls c.checking.refused e c.in-Some.ensures.cases.0 refl (here.done held is)
     (c.in_err-check_file.ensures.front held asks) (c.in_err-check_file.ensures.asked held asks))
 
 pub returns-in_err-check_file-clause-ends : goal.returns-in_err-check_file-clause-ends

@@ -1,4 +1,4 @@
-use Rattle.std.proofs.Common.{◌≡◌, ◌∙◌, ℕ, List, Bool, Result, ◌++◌, refl, ap, subst, length, take, arith}
+use Rattle.std.proofs.Common.{◌≡◌, ◌∙◌, ℕ, List, Bool, string_bytes, Result, ◌++◌, refl, ap, subst, length, take, arith}
 use Rattle.std.specs.Io.KnownBytes.{Appends}
 use Rattle.pr_status.specs.Asks.{AsksBy}
 use Rattle.pr_status.specs.Ends.{no_row}
@@ -22,7 +22,7 @@ pub returns-in_err-send-clause-front : goal.returns-in_err-send-clause-front
 returns-in_err-send-clause-front g c =
     let out = g.O.Sink.means in
     λ held asks.
-    let told = g.C.FileCheck.told held c.args.name.now in
+    let told = g.C.FileCheck.told held (string_bytes c.args.name.now) in
     let text : c.deref.result.now ≡ told.text =
     c.deref.ensures.value ∙ c.in_ok-refused.ensures.text held asks ∙ ap (λ (l : List ℕ). l ++ told.text) c.new-text.ensures.items in
     let front = c.in_err-send.ensures.front in
@@ -35,7 +35,7 @@ returns-in_err-send-clause-asked g c =
     let files = g.F.Files.means in
     let out = g.O.Sink.means in
     λ held asks.
-    let told = g.C.FileCheck.told held c.args.name.now in
+    let told = g.C.FileCheck.told held (string_bytes c.args.name.now) in
     let asked = c.in_ok-refused.ensures.asked held asks in
     written_by _ Bool (λ (r : Result Bool Stop). AsksBy (files c.args.files.now).calls (files c.check.new.files).calls (length told.asks) r) (out c.args.out.now)
     (out c.send.new.out) c.from_residual-in_err-send.result c.in_err-send.field-0.0 c.from_residual-in_err-send.ensures.1 c.in_err-send.ensures.ends asked

@@ -1,4 +1,4 @@
-use Rattle.std.proofs.Common.{◌≡◌, ◌∙◌, ℕ, Bool, true≢false, List, [], Option, None, Some, Result, Err, length, refl, sym, ap, subst, arith}
+use Rattle.std.proofs.Common.{◌≡◌, ◌∙◌, ℕ, Bool, false, true≢false, List, [], Option, None, Some, Result, Err, length, refl, sym, ap, subst, arith}
 use Rattle.std.specs.Io.KnownBytes.{Appends}
 use Rattle.pr_text.specs.declared.order.Numbered.{Numbered}
 use Rattle.pr_status.specs.Ends.{KnowsLength, at_output, anywhere, at_input, no_row, place_of}
@@ -28,11 +28,11 @@ returns-in_err-open-clause-front g c =
     λ held others.
     let before : Outside = record others { input = input c.args.input.now; out = out c.args.out.now } in
     let now : Outside = record others { input = input c.args.input.now; out = out c.open.new.out } in
-    on_told (input c.args.input.now).left (λ bytes. IsFront bytes (place_of c.from_residual.result) [] None (answers_to held [] bytes) before now) (λ bytes is.
-    written_by _ Bool (λ (r : Result Bool Stop). IsFront bytes (place_of r) [] None (answers_to held [] bytes) before now) (out c.args.out.now) (out c.open.new.out)
+    on_told (input c.args.input.now).left (λ bytes. IsFront bytes (place_of c.from_residual.result) false [] (answers_to held [] bytes) before now) (λ bytes is.
+    written_by _ Bool (λ (r : Result Bool Stop). IsFront bytes (place_of r) false [] (answers_to held [] bytes) before now) (out c.args.out.now) (out c.open.new.out)
     c.from_residual.result c.in_err-open.field-0.0 c.from_residual.ensures.1 c.in_err-open.ensures.ends
-    (front_opening held bytes [] at_output before now front.0 front.1 (λ e. true≢false (sym e)) tt (λ e. absurd (cc)) refl)
-    (front_opening held bytes [] anywhere before now front.0 front.1 (λ e. true≢false (sym e)) tt (λ e. absurd (cc)) refl))
+    (front_opening held bytes [] at_output before now front.0 front.1 (λ e. true≢false (sym e)) tt ((λ e. absurd (cc)), refl) (refl, refl))
+    (front_opening held bytes [] anywhere before now front.0 front.1 (λ e. true≢false (sym e)) tt ((λ e. absurd (cc)), refl) (refl, refl)))
 
 pub returns-in_err-open-clause-long : goal.returns-in_err-open-clause-long
 returns-in_err-open-clause-long g c =
@@ -65,14 +65,14 @@ returns-in_err-order-clause-front g c =
     let before : Outside = record others { input = input c.args.input.now; out = out c.args.out.now } in
     let now : Outside = record others { input = input c.next_order.new.input; out = out c.answering.out } in
     on_told (input c.args.input.now).left
-    (λ bytes. IsFront bytes (place_of c.from_residual-in_err-order.result) [] None (answers_to held [] bytes) before now) (λ bytes is.
+    (λ bytes. IsFront bytes (place_of c.from_residual-in_err-order.result) false [] (answers_to held [] bytes) before now) (λ bytes is.
     let stands = subst (λ (a : Option (List ℕ)). Stands held [] a ahead_of (out c.args.out.now).taken (out c.answering.out).taken r.number here.progress) is here.stands in
-    read_by _ Bool (λ (r : Result Bool Stop). IsFront bytes (place_of r) [] None (answers_to held [] bytes) before now) (IsBeyond (input c.answering.input).left r.lines.count)
+    read_by _ Bool (λ (r : Result Bool Stop). IsFront bytes (place_of r) false [] (answers_to held [] bytes) before now) (IsBeyond (input c.answering.input).left r.lines.count)
     (IsCutAt ahead_of left r.number) (input c.answering.input) (input c.next_order.new.input) c.from_residual-in_err-order.result c.in_err-order.field-0.0
     c.from_residual-in_err-order.ensures.1 c.in_err-order.ensures.ends c.in_err-order.ensures.cut
-    (λ cut. front_cut held [] bytes ahead_of r.number here.progress before now stands cut refl)
-    (front_before held [] bytes ahead_of r.number here.progress anywhere before now stands (λ n. tt) (λ e. absurd (cc)) refl)
-    (λ cut. front_cut held [] bytes ahead_of r.number here.progress before now stands cut refl))
+    (λ cut. front_cut held [] bytes ahead_of r.number here.progress before now stands cut (refl, refl))
+    (front_before held [] bytes ahead_of r.number here.progress anywhere before now stands (λ n. tt) ((λ e. absurd (cc)), refl) (refl, refl))
+    (λ cut. front_cut held [] bytes ahead_of r.number here.progress before now stands cut (refl, refl)))
 
 pub returns-in_err-order-clause-long : goal.returns-in_err-order-clause-long
 returns-in_err-order-clause-long g c =
@@ -185,14 +185,14 @@ returns-in_err-answer_order-clause-front g c =
     let before : Outside = record others { input = input c.args.input.now; out = out c.args.out.now } in
     let now : Outside = record others { input = input c.next_order.new.input; out = out c.answer_order.new.out } in
     on_told (input c.args.input.now).left
-    (λ bytes. IsFront bytes (place_of c.from_residual-in_err-answer_order.result) [] None (answers_to held [] bytes) before now) (λ bytes is.
+    (λ bytes. IsFront bytes (place_of c.from_residual-in_err-answer_order.result) false [] (answers_to held [] bytes) before now) (λ bytes is.
     let stands = subst (λ (a : Option (List ℕ)). Stands held [] a ahead_of (out c.args.out.now).taken (out c.answering.out).taken r.number here.progress) is here.stands in
-    written_by _ Bool (λ (r : Result Bool Stop). IsFront bytes (place_of r) [] None (answers_to held [] bytes) before now) (out c.answering.out) (out c.answer_order.new.out)
+    written_by _ Bool (λ (r : Result Bool Stop). IsFront bytes (place_of r) false [] (answers_to held [] bytes) before now) (out c.answering.out) (out c.answer_order.new.out)
     c.from_residual-in_err-answer_order.result c.in_err-answer_order.field-0.0 c.from_residual-in_err-answer_order.ensures.1 c.in_err-answer_order.ensures.ends
     (front_within held [] bytes ahead_of after (out c.answering.out).taken r.number next.number here.progress c.in-Some.order at_output before now part.0 stands hands part.1
-    (λ n e. true≢false (sym e)) (λ n. tt) (λ e. absurd (cc)) refl)
+    (λ n e. true≢false (sym e)) (λ n. tt) ((λ e. absurd (cc)), refl) (refl, refl))
     (front_within held [] bytes ahead_of after (out c.answering.out).taken r.number next.number here.progress c.in-Some.order anywhere before now part.0 stands hands part.1
-    (λ n e. true≢false (sym e)) (λ n. tt) (λ e. absurd (cc)) refl))
+    (λ n e. true≢false (sym e)) (λ n. tt) ((λ e. absurd (cc)), refl) (refl, refl)))
 
 pub returns-in_err-answer_order-clause-long : goal.returns-in_err-answer_order-clause-long
 returns-in_err-answer_order-clause-long g c =
@@ -252,9 +252,9 @@ returns-clause-front g c =
     let here = c.answering.invariant.stands held in
     let before : Outside = record others { input = input c.args.input.now; out = out c.args.out.now } in
     let now : Outside = record others { input = input c.next_order.new.input; out = out c.answering.out } in
-    on_told (input c.args.input.now).left (λ bytes. IsFront bytes at_input [] None (answers_to held [] bytes) before now) (λ bytes is.
+    on_told (input c.args.input.now).left (λ bytes. IsFront bytes at_input false [] (answers_to held [] bytes) before now) (λ bytes is.
     let stands = subst (λ (a : Option (List ℕ)). Stands held [] a ahead_of (out c.args.out.now).taken (out c.answering.out).taken r.number here.progress) is here.stands in
-    front_ended held [] bytes (unread next) ahead_of r.number next.number here.progress before now stands hands refl)
+    front_ended held [] bytes (unread next) ahead_of r.number next.number here.progress before now stands hands (refl, refl))
 
 pub returns-clause-long : goal.returns-clause-long
 returns-clause-long g c =

@@ -1,0 +1,25 @@
+use Rattle.std.proofs.Common.{◌≡◌, ℕ, ◌≤◌, [], ◌∷◌, refl, sym, subst, length, take, arith}
+use Rattle.pr_text.specs.Printed.{shown_report}
+use Rattle.pr_top.specs.Told.{bad_row_text, told_of}
+use Rattle.pr_run_laws.specs.Examples.{added, reloaded}
+use Rattle.pr_run_laws.proofs.Lines.{none}
+use Rattle.pr_run_laws.proofs.fronts.a_run_stops_at_a_file.Goals as goal
+
+pub returns : goal.returns
+unfolding shown_report told_of bad_row_text
+returns c =
+    λ e file. record {
+      answered = 1;
+      within = omega arith;
+      count = 15;
+      text = rw none refl;
+      whole = λ fewer k.
+          let is : fewer ≡ 0 = omega (arith, k) in
+          subst (λ (n : ℕ). length (told_of [] (take n (added e ∷ reloaded file ∷ []))) ≤ 15) (sym is) (rw none (omega arith));
+      between = λ b. rw none (omega arith);
+      kept = refl;
+      prompt = tt;
+      asked = 1;
+      asks = (omega arith, omega arith);
+      asks_at = (omega arith, omega arith);
+    }

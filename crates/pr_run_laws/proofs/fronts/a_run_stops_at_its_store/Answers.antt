@@ -1,0 +1,25 @@
+use Rattle.std.proofs.Common.{◌≡◌, ℕ, ◌≤◌, [], ◌∷◌, refl, sym, subst, length, take, arith}
+use Rattle.pr_text.specs.Printed.{shown_report}
+use Rattle.pr_top.specs.Told.{bad_row_text, told_of}
+use Rattle.pr_run_laws.specs.Examples.{added}
+use Rattle.pr_run_laws.proofs.Lines.{none}
+use Rattle.pr_run_laws.proofs.fronts.a_run_stops_at_its_store.Goals as goal
+
+pub returns : goal.returns
+unfolding shown_report told_of bad_row_text
+returns c =
+    λ e f g. record {
+      answered = 2;
+      within = omega arith;
+      count = 21;
+      text = rw none refl;
+      whole = λ fewer k.
+          let is : fewer ≡ 1 = omega (arith, k) in
+          subst (λ (n : ℕ). length (told_of [] (take n (added e ∷ added f ∷ added g ∷ []))) ≤ 21) (sym is) (rw none (omega arith));
+      between = λ b. rw none (omega arith);
+      kept = refl;
+      prompt = tt;
+      asked = 0;
+      asks = (omega arith, omega arith);
+      asks_at = (omega arith, omega arith);
+    }

@@ -1,0 +1,52 @@
+-- What is read of the word for a step.
+use Rattle.std.proofs.Common.{◌≡◌, ℕ, ◌≤◌, ◌<◌, ◌^◌, Bool, true, false, cond, List, [], Option, Some, None, refl, sym, ap, ◌∙◌, arith, Global, String, ◌∷◌, length, map, string_bytes}
+use Rattle.std.specs.Prelude.{nat_lt, not, ◌&&◌}
+use Rattle.std.proofs.lemmas.Bool.{lt-ltb, ltb-true}
+use Rattle.pr_forms.specs.Form.{rule, Reads}
+use Rattle.pr_time.specs.SpanAnswer.{span_of}
+use Rattle.pr_time.specs.SpanText.{production, seen, Text, Value, span, IsTooLong, ReadsSpan}
+use Rattle.pr_time.specs.declared.text.SpanFault.{SpanFault}
+use Rattle.pr_time.specs.declared.text.SpanFault.TheVariants.{BadSpan, SpanTooLong}
+use Rattle.pr_time.proofs.SpanTotal.{reading_of_span, span_of_reading}
+use Rattle.pr_top.specs.Command.{backfill_of, step_in, step_of}
+
+small_enough : (ms : ℕ) → ms ≤ 2 ^ 40 → nat_lt (2 ^ 40) ms ≡ false
+small_enough ms small = by (nat_lt (2 ^ 40) ms) refl
+  where
+    by : (b : Bool) → nat_lt (2 ^ 40) ms ≡ b → b ≡ false
+    by true is = absurd (omega (arith, ltb-true (2 ^ 40) ms is, small))
+    by false is = refl
+
+step : (ms : ℕ) → 0 < ms → ms ≤ 2 ^ 40 → step_in (Some ms) ≡ Some ms
+step ms some small =
+    ap (λ (b : Bool). cond (not b && nat_lt 0 ms) (Some ms) None) (small_enough ms small)
+    ∙ ap (λ (b : Bool). cond b (Some ms) None) (lt-ltb 0 ms some)
+
+none : (ms : ℕ) → 2 ^ 40 < ms → step_in (Some ms) ≡ None
+none ms large = ap (λ (b : Bool). cond (not b && nat_lt 0 ms) (Some ms) None) (lt-ltb (2 ^ 40) ms large)
+
+-- what a span that was read, or refused, says of the step
+pub step_read : (word : List ℕ) (s : ℕ) → ReadsSpan word s → s ≤ 2 ^ 40 → 0 < s → Some s ≡ step_of word
+step_read word s reads small some = sym (ap step_in (span_of_reading word s reads) ∙ step s some small)
+
+pub zero_read : (word : List ℕ) (s : ℕ) → ReadsSpan word s → s ≡ 0 → None ≡ step_of word
+zero_read word s reads is = sym (ap step_in (span_of_reading word s reads ∙ ap Some is))
+
+pub no_step : (word : List ℕ) (e : SpanFault) → ((v : Value) → Reads production (rule Text) (seen word) v [] → IsTooLong v e) → None ≡ step_of word
+no_step word e only = sym (by (span_of word) refl)
+  where
+    too_long : (ms : ℕ) (e : SpanFault) → IsTooLong (span ms) e → 2 ^ 40 < ms
+    too_long ms (BadSpan at) bad = absurd bad
+    too_long ms SpanTooLong large = large
+
+    by : (o : Option ℕ) → span_of word ≡ o → step_in o ≡ None
+    by None is = refl
+    by (Some ms) is = none ms (too_long ms e (only (span ms) (reading_of_span word ms is)))
+
+-- fewer than four words
+pub few : (words : List (String Global)) → length words < 4 → None ≡ backfill_of (map string_bytes words)
+few [] short = refl
+few (a ∷ []) short = refl
+few (a ∷ b ∷ []) short = refl
+few (a ∷ b ∷ c ∷ []) short = refl
+few (a ∷ b ∷ c ∷ d ∷ words) short = absurd (omega (arith, short))
