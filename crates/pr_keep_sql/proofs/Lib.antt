@@ -6,3 +6,4 @@ mod QueryLemmas
 mod OrderLemmas
 mod FoundLemmas
 mod KeptLemmas
+mod OpenedLemmas

@@ -4,3 +4,4 @@ pub mod Counts
 pub mod Statements
 pub mod Store
 pub mod Found
+pub mod Opened

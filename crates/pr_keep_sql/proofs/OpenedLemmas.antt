@@ -1,0 +1,78 @@
+-- What a store of a path tells and counts.
+use Rattle.std.proofs.Common.{◌≡◌, ℕ, ◌+◌, ◌-◌, ◌^◌, ◌<◌, ◌≤◌, min, Result, Ok, Err, Option, Some, None, List, [], IfOk, OnOk, OnErr, refl, sym, ap, subst, ◌∙◌, arith}
+use Rattle.sqlite.specs.Effect.{Database, IsDatabase}
+use Rattle.sqlite.specs.Files.{AreFoundIn}
+use Rattle.sqlite.specs.Held.{Held, state}
+use Rattle.sqlite.specs.Recovery.{Image}
+use Rattle.sqlite.specs.Start.{FindsIn}
+use Rattle.sqlite.specs.State.{HasCleanDisk, Opens, State}
+use Rattle.sqlite.specs.Steps.{over_memory}
+use Rattle.sqlite.specs.Store.{Ghosts}
+use Rattle.sqlite.specs.View.{doubt}
+use Rattle.sqlite_trees.specs.declared.memory.MemStore.{MemStore}
+use Rattle.pr_outside.specs.Causes.{HasKeepCause}
+use Rattle.pr_outside.specs.Kept.{KeepsRows, StartsRows}
+use Rattle.pr_outside.specs.declared.keeping.KeepError.{KeepError}
+use Rattle.pr_outside.specs.declared.keeping.KeepError.TheVariants.{Failed, Memory}
+use Rattle.pr_outside.specs.declared.keeping.Row.{Row as Line}
+use Rattle.pr_keep_sql.specs.Counts.{faults_of}
+use Rattle.pr_keep_sql.specs.Kept.{Keeps, listed}
+use Rattle.pr_keep_sql.specs.Opened.{IsFoundIn, TellsOf, rows_in}
+use Rattle.pr_keep_sql.specs.Store.{KeptStore, rows_of}
+use Rattle.pr_keep_sql.specs.Tables.{kept_schema, schema_of}
+use Rattle.pr_keep_sql.specs.declared.opened.Opened.{Opened}
+use Rattle.pr_keep_sql.specs.declared.opened.Opened.TheVariants.{Nothing}
+
+-- memory returns what was written
+memory_clean : (c : Held MemStore) → HasCleanDisk (state over_memory c)
+unfolding doubt
+memory_clean c = refl
+
+same_rows : (rows : Option (List Line)) → KeepsRows rows rows
+same_rows None = tt
+same_rows (Some rows) = refl
+
+any_start : (rows : Option (List Line)) → StartsRows None rows
+any_start None = tt
+any_start (Some rows) = tt
+
+-- a start is the first, or leaves what is open
+module _ {S X E : Type 0} (g : Ghosts S) (old new : Opened S) where
+  pub starts_on : (r : Result X E) → OnOk r (old ≡ Nothing) → OnOk r (StartsRows (rows_in g old) (rows_in g new))
+  starts_on (Ok x) first = rw first (any_start (rows_in g new))
+  starts_on (Err e) first = tt
+
+  pub stays_on : (r : Result X E) → OnErr r (new ≡ old) → OnErr r (KeepsRows (rows_in g old) (rows_in g new))
+  stays_on (Ok x) same = tt
+  stays_on (Err e) same = rw same (same_rows (rows_in g old))
+
+-- what is told of a connection that was found, once its tables are ready
+pub tells_of : {S E : Type 0} (g : Ghosts S) (Finds : Database → Type 0) (c : Held S) (r : Result (KeptStore S) E) → (HasCleanDisk (state g c) → IsDatabase (state g c).now) → (HasCleanDisk (state g c) → Finds (state g c).now)
+    → IfOk r (λ k. doubt (state g c).is_clean ≤ doubt (state g k.conn).is_clean)
+    → IfOk r (λ k. HasCleanDisk (state g k.conn) → (state g c).now.schema ≡ schema_of [] → rows_of g k ≡ Some [])
+    → IfOk r (λ k. HasCleanDisk (state g k.conn) → (state g c).now.schema ≡ kept_schema → Keeps (state g c).now (listed (state g c).now) × (rows_of g k ≡ Some (listed (state g c).now)))
+    → IfOk r (λ k. HasCleanDisk (state g k.conn) → TellsOf Finds (rows_of g k))
+tells_of g Finds c (Err e) is_sound is_found less over_nothing over_tables = tt
+tells_of g Finds c (Ok k) is_sound is_found less over_nothing over_tables = λ clean.
+    let early : HasCleanDisk (state g c) = omega (arith, less, clean) in
+    record { db = (state g c).now; sound = is_sound early; found = is_found early; made = over_nothing clean; kept = over_tables clean }
+
+pub empty_in : {E : Type 0} (c : Held MemStore) (r : Result (KeptStore MemStore) E) → (state over_memory c).now.schema ≡ schema_of []
+    → IfOk r (λ k. HasCleanDisk (state over_memory k.conn) → (state over_memory c).now.schema ≡ schema_of [] → rows_of over_memory k ≡ Some []) → IfOk r (λ k. rows_of over_memory k ≡ Some [])
+empty_in c (Err e) bare made = tt
+empty_in c (Ok k) bare made = made (memory_clean k.conn) bare
+
+-- what is open at last had no refusal
+pub counts_first : (own now : ℕ) → own < 2 ^ 64 → now ≡ 0 → faults_of own now ≡ own
+counts_first own now small none = omega (arith, none)
+
+-- and what was not opened is counted
+pub counts_refusal : (X : Type 0) (own before now : ℕ) (e : KeepError) → own < 2 ^ 64 → before ≡ 0 → HasKeepCause {T = X} before now (Err e) → HasKeepCause {T = X} own (faults_of own now) (Err e)
+counts_refusal X own before now Failed small none h = (omega (arith, h.0, none), omega arith)
+counts_refusal X own before now Memory small none h = omega (arith, h, none)
+
+-- an open by what the files held
+pub found_in : (image : Image) (s : State) → Opens s → FindsIn image s → IsFoundIn image s.now
+found_in image s opens finds =
+    let same : s.committed.trees ≡ s.now.trees = ap (λ (d : Database). d.trees) (sym opens.clean) in
+    record { found = subst (AreFoundIn image) same finds.reads; held = λ trees h. sym same ∙ finds.holds trees h }

@@ -1,0 +1,57 @@
+-- What a store of a path has opened, and what it tells.
+use Rattle.std.specs.Prelude.{◌≡◌, ℕ, List, [], Option, Some, None}
+use Rattle.sqlite.specs.Effect.{Database, IsDatabase}
+use Rattle.sqlite.specs.Files.{AreFoundIn, HoldsDatabase}
+use Rattle.sqlite.specs.Held.{state}
+use Rattle.sqlite.specs.Recovery.{Image}
+use Rattle.sqlite.specs.State.{HasCleanDisk}
+use Rattle.sqlite.specs.Steps.{over_memory}
+use Rattle.sqlite.specs.Store.{Ghosts}
+use Rattle.sqlite.specs.Tree.{Trees}
+use Rattle.pr_outside.specs.declared.keeping.Row.{Row}
+use Rattle.pr_keep_sql.specs.Counts.{faults_of}
+use Rattle.pr_keep_sql.specs.Kept.{Keeps, listed}
+use Rattle.pr_keep_sql.specs.Store.{faults_in, rows_of}
+use Rattle.pr_keep_sql.specs.Tables.{kept_schema, schema_of}
+use Rattle.pr_keep_sql.specs.declared.opened.Opened.{Opened}
+use Rattle.pr_keep_sql.specs.declared.opened.Opened.TheVariants.{Nothing, Memory, File}
+
+-- What files that held this recover to: the database, or nothing where there was none.
+pub record IsFoundIn (image : Image) (db : Database) : Type 0 where
+  pub found : AreFoundIn image db.trees
+  pub held : (trees : Trees) → HoldsDatabase image trees → db.trees ≡ trees
+
+-- What is told once a database of which this is known was found, and its tables are ready.
+pub record TellsOf (Finds : Database → Type 0) (told : Option (List Row)) : Type 0 where
+  pub db : Database
+  pub sound : IsDatabase db
+  pub found : Finds db
+  -- over nothing the tables are made, and there is no row
+  pub made : db.schema ≡ schema_of [] → told ≡ Some []
+  -- over the tables alone, the rows that they keep
+  pub kept : db.schema ≡ kept_schema → Keeps db (listed db) × (told ≡ Some (listed db))
+
+module _ {S : Type 0} (g : Ghosts S) where
+  -- the rows, where they are told
+  abbrev pub rows_in : Opened S → Option (List Row)
+  rows_in Nothing = None
+  rows_in (Memory kept) = rows_of over_memory kept
+  rows_in (File kept) = rows_of g kept
+
+  -- the disk has returned what was written
+  abbrev pub IsTrusted : Opened S → Type 0
+  IsTrusted Nothing = Unit {0}
+  IsTrusted (Memory kept) = Unit {0}
+  IsTrusted (File kept) = HasCleanDisk (state g kept.conn)
+
+-- how many rows there are
+abbrev pub size_in : {S : Type 0} → Opened S → ℕ
+size_in Nothing = 0
+size_in (Memory kept) = kept.size
+size_in (File kept) = kept.size
+
+-- how often a call was refused, by the count of the store's own and that of what is open
+abbrev pub faults_with : {S : Type 0} → ℕ → Opened S → ℕ
+faults_with own Nothing = own
+faults_with own (Memory kept) = faults_of own (faults_in kept)
+faults_with own (File kept) = faults_of own (faults_in kept)

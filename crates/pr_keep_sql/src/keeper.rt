@@ -1,0 +1,175 @@
+ghost use Rattle.std.specs.Prelude.{◌≡◌, ◌≢◌, ◌+◌, ◌<◌, [], length, Some, IfOk, IfSome, IsSome, OnOk, OnErr, slice_get};
+ghost use Rattle.pr_outside.specs.Causes.{HasKeepCause};
+ghost use Rattle.pr_outside.specs.Kept.{AppendsRows, KeepsRows};
+ghost use Rattle.pr_keep_sql.specs.Opened.{IsTrusted, TellsOf, faults_with, rows_in, size_in};
+ghost use Rattle.pr_keep_sql.specs.declared.opened.Opened.TheVariants.{Nothing};
+
+use crate::counts::{failed, faults_of};
+use crate::opened::{Opened, in_file, in_memory};
+use crate::opening::Open;
+use pr_outside::{KeepError, Keeper, Row};
+use sqlite::Alter;
+use std::alloc::Global;
+
+/// Rows kept in a file of SQLite, by its path, or in memory: `SqlKeeper<_, DiskFile<..>>` over the
+/// files of the disk.
+#[derive(Drop)]
+pub struct SqlKeeper<S: Alter, O: Open<S>> {
+    alloc: Global,
+    files: O,
+    opened: Opened<S>,
+    own: u64,
+}
+
+impl<S: Alter + Drop, O: Open<S>> SqlKeeper<S, O> {
+    /// A store that has opened nothing yet, over these files.
+    pub fn new(alloc: Global, files: O) -> SqlKeeper<S, O>
+        ensures nothing { result.opened ≡ Nothing }
+        ensures faultless { result.own ≡ 0 }
+    {
+        SqlKeeper {
+            alloc,
+            files,
+            opened: Opened::Nothing,
+            own: 0,
+        }
+    }
+
+    // Opens tables in memory.
+    fn start_in_memory(&mut self) -> Result<(), KeepError>
+        requires { self.old.opened ≡ Nothing }
+        ensures empty { OnOk result (rows_in S.Store self.new.opened ≡ Some []) }
+        ensures err { OnErr result (self.new.opened ≡ self.old.opened) }
+        ensures cause { HasKeepCause self.old.own (faults_with self.new.own self.new.opened) result }
+    {
+        match in_memory(self.alloc, &mut self.own) {
+            Ok(kept) => {
+                self.opened = Opened::Memory(kept);
+                Ok(())
+            }
+            Err(error) => Err(error),
+        }
+    }
+
+    // Opens the file at this path.
+    fn start_at(&mut self, path: &str) -> Result<(), KeepError>
+        requires { self.old.opened ≡ Nothing }
+        ensures told { IsTrusted S.Store self.new.opened → OnOk result (TellsOf O.finds (rows_in S.Store self.new.opened)) }
+        ensures err { OnErr result (self.new.opened ≡ self.old.opened) }
+        ensures cause { HasKeepCause self.old.own (faults_with self.new.own self.new.opened) result }
+    {
+        match in_file(&mut self.files, path, &mut self.own) {
+            Ok(kept) => {
+                self.opened = Opened::File(kept);
+                Ok(())
+            }
+            Err(error) => Err(error),
+        }
+    }
+
+    /// Opens the file at this path, or tables in memory where the path is empty. What stands in the
+    /// tables of a file stays, and is told where nothing stands beside them.
+    ///
+    /// # Errors
+    /// `Failed` where something is open already, where the file cannot be opened, where it has
+    /// tables of the store that are others or not in order, and where a statement is refused. What
+    /// was open stays open.
+    pub fn start(&mut self, path: &str) -> Result<(), KeepError>
+        ensures first { OnOk result (self.old.opened ≡ Nothing) }
+        ensures empty { OnOk result (path.now ≡ [] → rows_in S.Store self.new.opened ≡ Some []) }
+        ensures told { IsTrusted S.Store self.new.opened → OnOk result (path.now ≢ [] → TellsOf O.finds (rows_in S.Store self.new.opened)) }
+        ensures err { OnErr result (self.new.opened ≡ self.old.opened) }
+        ensures cause { HasKeepCause (faults_with self.old.own self.old.opened) (faults_with self.new.own self.new.opened) result }
+    {
+        if !self.opened.is_nothing() {
+            return Err(failed(&mut self.own));
+        }
+        if path.is_empty() {
+            self.start_in_memory()
+        } else {
+            self.start_at(path)
+        }
+    }
+
+    /// How many rows there are: none before a start.
+    pub fn size(&self) -> u64
+        ensures count { result ≡ size_in self.now.opened }
+        ensures rows { IfSome (rows_in S.Store self.now.opened) (λ rows. result ≡ length rows) }
+    {
+        match &self.opened {
+            Opened::Nothing => 0,
+            Opened::Memory(kept) => kept.size(),
+            Opened::File(kept) => kept.size(),
+        }
+    }
+
+    /// Appends all rows in one transaction. A refused call appends none.
+    ///
+    /// # Errors
+    /// `Failed` before a start, where a number or a time is above 2^63 - 1, and where a statement is
+    /// refused.
+    pub fn commit(&mut self, added: &[Row]) -> Result<(), KeepError>
+        ensures ok { OnOk result (AppendsRows (rows_in S.Store self.old.opened) (rows_in S.Store self.new.opened) added.now) }
+        ensures ok_count { OnOk result (size_in self.new.opened ≡ size_in self.old.opened + length added.now) }
+        ensures told { IsTrusted S.Store self.new.opened → OnOk result (IsSome (rows_in S.Store self.old.opened) → IsSome (rows_in S.Store self.new.opened)) }
+        ensures err { OnErr result (KeepsRows (rows_in S.Store self.old.opened) (rows_in S.Store self.new.opened)) }
+        ensures err_count { OnErr result (size_in self.new.opened ≡ size_in self.old.opened) }
+        ensures cause { HasKeepCause (faults_with self.old.own self.old.opened) (faults_with self.new.own self.new.opened) result }
+    {
+        match &mut self.opened {
+            Opened::Nothing => Err(failed(&mut self.own)),
+            Opened::Memory(kept) => kept.commit(added),
+            Opened::File(kept) => kept.commit(added),
+        }
+    }
+
+    /// The row of this index. It changes no rows.
+    ///
+    /// # Errors
+    /// `Failed` where the query is refused, or the row is none of the store.
+    pub fn load(&mut self, index: u64) -> Result<Row, KeepError>
+        requires { index < size_in self.old.opened }
+        ensures row { IfOk result (λ row. IfSome (rows_in S.Store self.new.opened) (λ rows. slice_get rows index ≡ Some row)) }
+        ensures told { IsTrusted S.Store self.new.opened → OnOk result (IsSome (rows_in S.Store self.old.opened) → IsSome (rows_in S.Store self.new.opened)) }
+        ensures same { KeepsRows (rows_in S.Store self.old.opened) (rows_in S.Store self.new.opened) }
+        ensures count { size_in self.new.opened ≡ size_in self.old.opened }
+        ensures cause { HasKeepCause (faults_with self.old.own self.old.opened) (faults_with self.new.own self.new.opened) result }
+    {
+        match &mut self.opened {
+            Opened::Nothing => Err(failed(&mut self.own)),
+            Opened::Memory(kept) => kept.load(index),
+            Opened::File(kept) => kept.load(index),
+        }
+    }
+
+    /// How often a call was refused, up to 2^64 - 1. Want of memory is not counted.
+    pub fn faults(&self) -> u64
+        ensures { result ≡ faults_with self.now.own self.now.opened }
+    {
+        match &self.opened {
+            Opened::Nothing => self.own,
+            Opened::Memory(kept) => faults_of(self.own, kept.faults()),
+            Opened::File(kept) => faults_of(self.own, kept.faults()),
+        }
+    }
+}
+
+impl<S: Alter + Drop, O: Open<S>> Keeper for SqlKeeper<S, O> {
+    ghost means = { λ k. record { rows = rows_in S.Store k.opened; count = size_in k.opened; faults = faults_with k.own k.opened } };
+
+    fn start(&mut self, path: &str) -> Result<(), KeepError> {
+        SqlKeeper::start(self, path)
+    }
+
+    fn size(&self) -> u64 {
+        SqlKeeper::size(self)
+    }
+
+    fn commit(&mut self, added: &[Row]) -> Result<(), KeepError> {
+        SqlKeeper::commit(self, added)
+    }
+
+    fn load(&mut self, index: u64) -> Result<Row, KeepError> {
+        SqlKeeper::load(self, index)
+    }
+}

@@ -1,0 +1,89 @@
+// What a store of a path has opened.
+ghost use Rattle.std.specs.Prelude.{◌≡◌, ◌↔◌, ◌≤◌, [], IfOk, IsTrue, Some, false};
+ghost use Rattle.sqlite.specs.Held.{state};
+ghost use Rattle.sqlite.specs.State.{HasCleanDisk};
+ghost use Rattle.sqlite.specs.Steps.{over_memory};
+ghost use Rattle.sqlite.specs.View.{doubt};
+ghost use Rattle.pr_outside.specs.Causes.{HasKeepCause};
+ghost use Rattle.pr_keep_sql.specs.Counts.{faults_of};
+ghost use Rattle.pr_keep_sql.specs.Kept.{Keeps, listed};
+ghost use Rattle.pr_keep_sql.specs.Opened.{TellsOf};
+ghost use Rattle.pr_keep_sql.specs.Store.{faults_in, rows_of};
+ghost use Rattle.pr_keep_sql.specs.Tables.{kept_schema, schema_of};
+ghost use Rattle.pr_keep_sql.specs.declared.opened.Opened.TheVariants.{Nothing};
+
+use crate::counts::{faults_of, refusal};
+use crate::kept::Kept;
+use crate::opening::Open;
+use pr_outside::KeepError;
+use sqlite::{Alter, Connection, MemStore};
+use std::alloc::Global;
+
+/// What a store of a path has opened.
+#[derive(Drop)]
+pub(crate) enum Opened<S: Alter> {
+    /// Nothing yet.
+    Nothing,
+    /// Tables in memory.
+    Memory(Kept<MemStore>),
+    /// The tables of a file.
+    File(Kept<S>),
+}
+
+impl<S: Alter> Opened<S> {
+    /// Whether nothing is open.
+    pub(crate) fn is_nothing(&self) -> bool
+        ensures { IsTrue result ↔ (self.now ≡ Nothing) }
+    {
+        matches!(self, Opened::Nothing)
+    }
+}
+
+// The rows of a connection, once its tables are ready. A refusal is counted.
+#[tactic(auto, using(crate::proofs::OpenedLemmas::counts_first, crate::proofs::OpenedLemmas::counts_refusal))]
+fn readied<S: Alter + Drop>(conn: Connection<S>, own: &mut u64) -> Result<Kept<S>, KeepError>
+    requires { conn.in_transaction ≡ false }
+    ensures counts { IfOk result (λ k. faults_of own.new (faults_in k) ≡ own.old) }
+    ensures made { IfOk result (λ k. HasCleanDisk (state S.Store k.conn) → (state S.Store conn).now.schema ≡ schema_of [] → rows_of S.Store k ≡ Some []) }
+    ensures kept { IfOk result (λ k. HasCleanDisk (state S.Store k.conn) → (state S.Store conn).now.schema ≡ kept_schema → Keeps (state S.Store conn).now (listed (state S.Store conn).now) × (rows_of S.Store k ≡ Some (listed (state S.Store conn).now))) }
+    ensures clean { IfOk result (λ k. doubt (state S.Store conn).is_clean ≤ doubt (state S.Store k.conn).is_clean) }
+    ensures cause { HasKeepCause own.old own.new result }
+{
+    let before = *own;
+    let mut kept = Kept::of(conn);
+    match kept.ready() {
+        Ok(()) => Ok(kept),
+        Err(error) => {
+            *own = faults_of(before, kept.faults());
+            Err(error)
+        }
+    }
+}
+
+/// Tables in memory, which are empty.
+pub(crate) fn in_memory(alloc: Global, own: &mut u64) -> Result<Kept<MemStore>, KeepError>
+    ensures counts { IfOk result (λ k. faults_of own.new (faults_in k) ≡ own.old) }
+    ensures empty { IfOk result (λ k. rows_of over_memory k ≡ Some []) }
+    ensures cause { HasKeepCause own.old own.new result }
+{
+    match Connection::open_in_memory(alloc) {
+        Ok(conn) => readied(conn, own),
+        Err(error) => Err(KeepError::from(error)),
+    }
+}
+
+/// The tables of the file at a path. A refused opening is counted.
+pub(crate) fn in_file<S: Alter + Drop, O: Open<S>>(
+    files: &mut O,
+    path: &str,
+    own: &mut u64,
+) -> Result<Kept<S>, KeepError>
+    ensures counts { IfOk result (λ k. faults_of own.new (faults_in k) ≡ own.old) }
+    ensures told { IfOk result (λ k. HasCleanDisk (state S.Store k.conn) → TellsOf O.finds (rows_of S.Store k)) }
+    ensures cause { HasKeepCause own.old own.new result }
+{
+    match files.open(path) {
+        Ok(conn) => readied(conn, own),
+        Err(error) => Err(refusal(&error, own)),
+    }
+}
