@@ -1,0 +1,47 @@
+-- What `exercise N` writes: counts of the lines that a run of its events would write.
+use Rattle.std.specs.Prelude.{ℕ, Bool, ◌&&◌, List, [], ◌∷◌, ◌++◌, codes, decimal, length, count_by}
+use Rattle.std.specs.Str.{bytes_eq}
+use Rattle.pr_words.specs.Fields.{first_field, after_field}
+use Rattle.pr_words.specs.Lines.{lines_of}
+use Rattle.pr_history.specs.declared.entry.Entry.{Entry}
+use Rattle.pr_text.specs.Printed.{shown_report}
+use Rattle.pr_world.specs.declared.event.Event.{Event}
+use Rattle.pr_world.specs.declared.report.Report.TheVariants.{Opened}
+use Rattle.pr_rules.specs.Settings.{of_a_run}
+use Rattle.pr_world.specs.Step.{next, rows_of}
+use Rattle.pr_world.specs.World.{World, start}
+use Rattle.pr_exercise.specs.Exercise.{exercise_events}
+
+-- the texts of the reports of events, one after another
+abbrev pub reports_text : World → List Event → List ℕ
+reports_text w [] = []
+reports_text w (e ∷ events) = shown_report (next of_a_run w e).report ++ reports_text (next of_a_run w e).world events
+
+unfoldable pub exercise_lines : List Entry → ℕ → List (List ℕ)
+exercise_lines history n = lines_of (shown_report (Opened (length history)) ++ reports_text (start history) (exercise_events n))
+
+abbrev pub begins_with : List ℕ → List ℕ → Bool
+begins_with word line = bytes_eq (first_field line) word
+
+-- the line of a rule that has a fault
+abbrev pub tells_fault : List ℕ → Bool
+tells_fault line = begins_with (codes "rule") line && bytes_eq (first_field (after_field (after_field line))) (codes "fault")
+
+abbrev pub number_line : List ℕ → ℕ → List ℕ
+number_line word n = word ++ (codes " " ++ (decimal n ++ codes "\n"))
+
+abbrev pub summary_of : ℕ → List (List ℕ) → List ℕ
+summary_of n lines =
+    number_line (codes "exercise") n
+    ++ (number_line (codes "lines") (length lines)
+    ++ (number_line (codes "samples") (count_by (begins_with (codes "sample")) lines)
+    ++ (number_line (codes "stales") (count_by (begins_with (codes "stale")) lines)
+    ++ (number_line (codes "sends") (count_by (begins_with (codes "send")) lines)
+    ++ number_line (codes "faults") (count_by tells_fault lines)))))
+
+-- The text of `exercise N` over the history of the kept rows, and the rows that it keeps.
+unfoldable pub summary : List Entry → ℕ → List ℕ
+summary history n = summary_of n (exercise_lines history n)
+
+abbrev pub exercise_rows : List Entry → ℕ → List Entry
+exercise_rows history n = rows_of of_a_run (start history) (exercise_events n)

@@ -1,0 +1,8 @@
+//! What `exercise N` does, and what it writes: the model, of definitions without bodies.
+#![tactic(auto)]
+
+mod examples;
+
+pub use examples::{
+    first_draws, lines_are_counted, the_first_turn_has_these_events, turns_begin_so,
+};

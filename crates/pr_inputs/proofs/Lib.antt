@@ -1,0 +1,4 @@
+pub mod Parts
+pub mod Even
+pub mod Keeping
+mod Computing

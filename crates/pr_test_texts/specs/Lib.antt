@@ -1,0 +1,3 @@
+pub mod FailureText
+pub mod TestsTold
+pub mod Worked

@@ -1,0 +1,32 @@
+//! What is told of small test files.
+ghost use Rattle.std.specs.Prelude.{◌≡◌, true, false, [], ◌∷◌, codes};
+ghost use Rattle.pr_num.specs.declared.value.Num.TheVariants.{NaN};
+ghost use Rattle.pr_history.specs.Examples.{number};
+ghost use Rattle.pr_testfile.specs.Reading.{gives_file};
+ghost use Rattle.pr_verdict.specs.Worked.{down_failure, down_file, down_tests, x_failure, x_file};
+ghost use Rattle.pr_test_texts.specs.FailureText.{failure_text};
+ghost use Rattle.pr_test_texts.specs.TestsTold.{lines_with, names_by, reading_lines, tests_told, told_by};
+ghost use Rattle.pr_test_texts.specs.Worked.{nothing_held};
+
+/// A check is told with its time, what is expected and what comes.
+#[tactic(auto, unfolding(crate::proofs::Computing::computing))]
+pub fn failures_are_printed_so()
+    ensures sample { failure_text (x_file (number 1) (number 2)) (x_failure (number 1) (number 2)) ≡ codes "test 1 promql 1 at 0s\nexpected x 2\ngot x 1\n" }
+    ensures alert { failure_text (down_tests 240000) down_failure ≡ codes "test 1 alert 1 at 4m\nexpected {alertname=\"InstanceDown\",instance=\"localhost:9090\",job=\"prometheus\",severity=\"page\"} {summary=\"Instance localhost:9090 down\"}\ngot nothing\n" }
+{}
+
+/// Checks that differ are told as they are, and else that all is well.
+#[tactic(auto, unfolding(crate::proofs::Computing::computing))]
+pub fn a_test_file_is_told()
+    ensures differs { told_by [] (reading_lines nothing_held (codes "t.yml") (gives_file (x_file (number 1) (number 2)))) ≡ record { text = codes "  FAILED:\ntest 1 promql 1 at 0s\nexpected x 2\ngot x 1\n"; refused = true; asks = [] } }
+    ensures same { told_by [] (reading_lines nothing_held (codes "t.yml") (gives_file (x_file NaN NaN))) ≡ record { text = codes "  SUCCESS\n"; refused = false; asks = [] } }
+    ensures fires { told_by [] (lines_with (down_tests 600000) (record { wrong = []; files = down_file ∷ [] })) ≡ record { text = codes "  SUCCESS\n"; refused = false; asks = [] } }
+    ensures asked { names_by (codes "a/t.yml") (gives_file (down_tests 600000)) ≡ codes "a/alerts.yml" ∷ [] }
+    ensures no_rules { told_by [] (reading_lines nothing_held (codes "a/t.yml") (gives_file (down_tests 600000))) ≡ record { text = codes "  FAILED:\na/alerts.yml: Missing\n"; refused = true; asks = [] } }
+{}
+
+/// A test file that is not there is told, and asks for no rule file.
+#[tactic(auto, unfolding(crate::proofs::Computing::computing))]
+pub fn a_file_that_is_missing_is_told()
+    ensures { tests_told nothing_held (codes "t.yml") ≡ record { text = codes "Unit Testing:  t.yml\n  FAILED:\nt.yml: Missing\n"; refused = true; asks = codes "t.yml" ∷ [] } }
+{}

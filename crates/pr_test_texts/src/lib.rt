@@ -1,0 +1,6 @@
+//! What `test rules` prints: the model, of definitions without bodies.
+#![tactic(auto)]
+
+mod examples;
+
+pub use examples::{a_file_that_is_missing_is_told, a_test_file_is_told, failures_are_printed_so};

@@ -1,0 +1,6 @@
+pub mod KnownSets
+pub mod Weak
+pub mod Files
+pub mod Exprs
+pub mod Intervals
+pub mod LabelSets

@@ -1,0 +1,12 @@
+pub mod Words
+pub mod Fields
+pub mod Scalars
+pub mod Labels
+pub mod Samples
+pub mod Alerts
+pub mod Checks
+pub mod Series
+pub mod Tests
+pub mod File
+pub mod Reading
+pub mod Known

@@ -1,0 +1,23 @@
+-- What computes the verdict of files that are written out.
+use Rattle.std.specs.Prelude.{⊤}
+use lib.Utf8.{encode}
+use Rattle.pr_forms.specs.Reading.{bad_place, reading}
+use Rattle.pr_num.specs.Arithmetic.{sum_of, product_of}
+use Rattle.pr_num.specs.Half.{half, half_abs}
+use Rattle.pr_num.specs.Order.{compared}
+use Rattle.pr_strings.specs.StringAnswer.{bad_string_place, string_of}
+use Rattle.pr_match.specs.Matcher.{meets, meets_all}
+use Rattle.pr_tmpl.specs.Expansion.{expansion, through}
+use Rattle.pr_tmpl.specs.Pieces.{pieces}
+use Rattle.pr_tmpl.specs.TemplateReading.{template_parts}
+use Rattle.pr_inputs.specs.Points.{points_in, points}
+use Rattle.pr_rules.specs.Results.{rule_result}
+use Rattle.pr_rules.specs.Evaluations.{rule_outcome, rule_step, group_step}
+use Rattle.pr_world.specs.Step.{next}
+use Rattle.pr_testfile.specs.Series.{point_at, entries_at, places, entries_of}
+use Rattle.pr_verdict.specs.Events.{events_of, world_at}
+use Rattle.pr_verdict.specs.Verdict.{test_verdict, verdict}
+
+unfoldable pub computing : ⊤
+unfolding encode bad_place reading sum_of product_of half half_abs compared bad_string_place string_of meets meets_all expansion through pieces template_parts points_in points rule_result rule_outcome rule_step group_step next point_at entries_at places entries_of events_of world_at test_verdict verdict
+computing = tt

@@ -1,0 +1,4 @@
+pub mod RuleFiles
+pub mod Events
+pub mod Verdict
+pub mod Worked
