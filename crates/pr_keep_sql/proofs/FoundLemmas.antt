@@ -18,7 +18,7 @@ use Rattle.sqlite_schema.specs.Names.{same_name}
 use Rattle.sqlite_schema.specs.Rules.{are_typed, suits, Keeps as Holds}
 use Rattle.sqlite_schema.specs.declared.schema.Constraint.TheVariants.{Datatype}
 use Rattle.pr_outside.specs.declared.keeping.Row.{Row as Line}
-use Rattle.pr_keep_sql.specs.Tables.{IsFree, column_of, kept, kept_schema, stored, stored_from}
+use Rattle.pr_keep_sql.specs.Tables.{Has, HasOurs, IsFree, column_of, is_named, kept, kept_schema, schema_of, stored, stored_from, version}
 use Rattle.pr_keep_sql.specs.Kept.{KeepsSo, number_in, text_in, versions}
 use Rattle.pr_keep_sql.specs.Found.{AreFound, IsFoundAt, IsTyped, shown_cells}
 use Rattle.pr_keep_sql.proofs.QueryLemmas.{rows_shown, rows_text}
@@ -134,6 +134,20 @@ count_found old new found rows n has number sound h same f count =
     let table = table_kept (old.now.trees 0) rows (typed_rows old.now has sound) (rows_shown old new rows has h) (subst (AreFound 0) same f) in
     let told = told_by old.now (map line_in rows) (record { schema = has; version = number; table = table }) in
     record { keeps = told.1; counted = count ∙ ap length same ∙ sym (ap length told.0 ∙ length-map rows line_in) }
+
+-- where nothing is, no name is taken
+pub bare_is_free : (schema : Schema) → schema ≡ schema_of [] → IsFree schema
+bare_is_free schema is = subst IsFree (sym is) (All-nil (λ table. is_named table ≡ false))
+
+-- the tables of the store are both there
+pub ours_are_there : (schema : Schema) → schema ≡ kept_schema → HasOurs schema
+ours_are_there schema is = subst HasOurs (sym is) (here, there)
+  where
+    here : Has kept kept_schema.tables
+    here = (0, kept, lit< tt, refl, refl)
+
+    there : Has version kept_schema.tables
+    there = (1, version, lit< tt, refl, refl)
 
 -- the tables of the store are not free of its names
 pub not_free : IsFree kept_schema → ⊥

@@ -84,11 +84,7 @@ module _ (alone : Bool) (old new : State) (size : ℕ) (still : IsTrue alone →
       let after = done.does before.keeps before.counted in
       record { keeps = after.0; counted = (let len = ap length after.1 ∙ length-append (listed old.now) added in omega (arith, len, before.counted)) }
 
-  -- a row that was found leaves the connection open
-  pub found_open : (HasCleanDisk new → IsTrue old.is_open × (old.now.schema ≡ kept_schema → IsTrue new.is_open)) → HasCleanDisk new → IsTrue alone → IsTrue new.is_open
-  found_open h clean a = let it = h clean in it.1 (still a (early clean) it.0).keeps.schema
-
-  module _ (was_open : HasCleanDisk new → IsTrue new.is_open → IsTrue old.is_open) (same : HasCleanDisk new → old.now.schema ≡ kept_schema → IsTrue new.is_open → new.now ≡ old.now) where
+  module _ (was_open : HasCleanDisk new → IsTrue new.is_open → IsTrue old.is_open) (same : HasCleanDisk new → IsTrue new.is_open → new.now ≡ old.now) where
     before_by : IsTrue alone → (clean : HasCleanDisk new) → IsTrue new.is_open → KeepsSo old.now size
     before_by a clean up = still a (early clean) (was_open clean up)
 
@@ -97,10 +93,10 @@ module _ (alone : Bool) (old new : State) (size : ℕ) (still : IsTrue alone →
     keeps =
         keeps_by alone old.is_open old.is_clean new.is_open new.is_clean (listed old.now) (listed new.now)
         (λ a up clean. let disk = clean_disk new.is_clean clean in
-        (was_open disk up, clean_before old.is_clean new.is_clean less clean, ap listed (same disk (before_by a disk up).keeps.schema up)))
+        (was_open disk up, clean_before old.is_clean new.is_clean less clean, ap listed (same disk up)))
 
     pub stays : IsTrue alone → WhileOpen new (KeepsSo new.now size)
-    stays = λ a clean up. let before = before_by a clean up in subst (λ db. KeepsSo db size) (sym (same clean before.keeps.schema up)) before
+    stays = λ a clean up. subst (λ db. KeepsSo db size) (sym (same clean up)) (before_by a clean up)
 
     -- what is found is what the list has, where it is told afterwards
     pub told_row : (at : ℕ) (row : Line) → (HasCleanDisk new → Keeps old.now (listed old.now) → slice_get (listed old.now) at ≡ Some row) → IfSome (told alone new) (λ rows. slice_get rows at ≡ Some row)
@@ -108,7 +104,7 @@ module _ (alone : Bool) (old new : State) (size : ℕ) (still : IsTrue alone →
         by_told alone new.is_open new.is_clean (listed new.now) (λ rows. slice_get rows at ≡ Some row)
         (λ a up c. let clean = clean_disk new.is_clean c in
         let before = before_by a clean up in
-        ap (λ db. slice_get (listed db) at) (same clean before.keeps.schema up) ∙ found clean before.keeps)
+        ap (λ db. slice_get (listed db) at) (same clean up) ∙ found clean before.keeps)
 
 told_is : (up clean : Bool) (rows : List Line) → IsTrue up → IsTrue clean → cond (up && clean) (Some rows) None ≡ Some rows
 told_is true true rows p q = refl
@@ -144,23 +140,18 @@ has_schema db rows keeps = keeps.schema
 
 -- tables that were read, and left
 module _ (alone : Bool) (old new : State) (size : ℕ) (plain : IsTrue alone → old.now.schema ≡ kept_schema) (live : IsLive old) (was_open : HasCleanDisk new → IsTrue new.is_open → IsTrue old.is_open)
-    (same : HasCleanDisk new → old.now.schema ≡ kept_schema → IsTrue new.is_open → new.now ≡ old.now) (ok : HasCleanDisk new → old.now.schema ≡ kept_schema → IsDatabase old.now → KeepsSo old.now size) where
+    (same : HasCleanDisk new → IsTrue new.is_open → new.now ≡ old.now) (ok : HasCleanDisk new → old.now.schema ≡ kept_schema → IsDatabase old.now → KeepsSo old.now size) where
   kept_so : HasCleanDisk new → IsTrue new.is_open → IsTrue alone → KeepsSo old.now size
   kept_so clean up a = ok clean (plain a) (live (was_open clean up)).0
 
   pub read_still : IsTrue alone → WhileOpen new (KeepsSo new.now size)
-  read_still = λ a clean up. subst (λ db. KeepsSo db size) (sym (same clean (plain a) up)) (kept_so clean up a)
+  read_still = λ a clean up. subst (λ db. KeepsSo db size) (sym (same clean up)) (kept_so clean up a)
 
   -- keep what they kept, and tell it
-  pub read_kept : (HasCleanDisk new → old.now.schema ≡ kept_schema → IsTrue new.is_open) → HasCleanDisk new → IsTrue alone → Keeps old.now (listed old.now) × (told alone new ≡ Some (listed old.now))
+  pub read_kept : (HasCleanDisk new → IsTrue new.is_open) → HasCleanDisk new → IsTrue alone → Keeps old.now (listed old.now) × (told alone new ≡ Some (listed old.now))
   read_kept opened clean a =
-      let up = opened clean (plain a) in
-      ((kept_so clean up a).keeps, told_all alone new clean up a ∙ ap (λ db. Some (listed db)) (same clean (plain a) up))
+      let up = opened clean in
+      ((kept_so clean up a).keeps, told_all alone new clean up a ∙ ap (λ db. Some (listed db)) (same clean up))
 
-  pub read_found : (HasCleanDisk new → old.now.schema ≡ kept_schema → IsTrue new.is_open) → HasCleanDisk new → IsTrue alone → (rows : List Line) → Keeps old.now rows → told alone new ≡ Some rows
+  pub read_found : (HasCleanDisk new → IsTrue new.is_open) → HasCleanDisk new → IsTrue alone → (rows : List Line) → Keeps old.now rows → told alone new ≡ Some rows
   read_found opened clean a = told_rows old.now (told alone new) (λ _. read_kept opened clean a)
-
--- nothing is told of tables that are not ready
-pub untold_by : {T E : Type 0} (r : Result T E) (before : Option (List Line)) (alone : Bool) (s : State) → OnErr r (alone ≡ false) → OnErr r (KeepsRows before (told alone s))
-untold_by (Ok x) before alone s h = tt
-untold_by (Err e) before alone s h = rw h (untold_keeps before)

@@ -3,6 +3,7 @@ mod TableLemmas
 mod StateLemmas
 mod MakingLemmas
 mod QueryLemmas
+mod QueryTexts
 mod OrderLemmas
 mod FoundLemmas
 mod KeptLemmas

@@ -6,16 +6,14 @@ use Rattle.sqlite.specs.State.{State, ExecutesInside, Executes, IsUnchanged, IsR
 use Rattle.sqlite.specs.Order.{Row}
 use Rattle.sqlite.specs.declared.types.Value.TheVariants.{Int, Text}
 use Rattle.sqlite.specs.declared.error.Error.{Error}
-use Rattle.sqlite.proofs.Callers.{IsPlain}
-use Rattle.sqlite.specs.Listing.{understood}
 use Rattle.pr_outside.specs.declared.keeping.Row.{Row as Line}
-use Rattle.pr_keep_sql.specs.Tables.{kept_schema}
 use Rattle.pr_keep_sql.specs.Kept.{listed, Keeps}
 use Rattle.pr_keep_sql.specs.Statements.{Adds, GoesOn, Leaves, ShowsAt, shown}
 use Rattle.sqlite_resolve.specs.declared.compiled.Compiled.{Compiled}
 use Rattle.sqlite_schema.specs.declared.command.Returning.{Returning}
 use Rattle.pr_keep_sql.proofs.Listing.{listed_rows}
-use Rattle.pr_keep_sql.proofs.TableLemmas.{adds, finds, insert_text, select_text, select_plain}
+use Rattle.pr_keep_sql.proofs.QueryTexts.{OnlyReads, select_only_read}
+use Rattle.pr_keep_sql.proofs.TableLemmas.{adds, finds, insert_text, select_text}
 
 -- the list of the relation is the one that the table tells
 pub told_by : (db : Database) (rows : List Line) → Keeps db rows → (listed db ≡ rows) × Keeps db (listed db)
@@ -75,13 +73,10 @@ unfolding IsNotRun
 not_run sql params a b e settled (inl h) = unchanged_leaves a b h.1
 not_run sql params a b e settled (inr h) = rolled_leaves a b settled h.3
 
--- a query without RETURNING changes nothing
-pub shown_same : (sql : List ℕ) (params : Row) (old new : State) (rows : List Row) → old.now.schema ≡ kept_schema → IsPlain (understood kept_schema sql) → Shown sql params old new rows → IsUnchanged old new
+-- a query changes nothing
+pub shown_same : (sql : List ℕ) (params : Row) (old new : State) (rows : List Row) → OnlyReads sql → Shown sql params old new rows → IsUnchanged old new
 unfolding Shown
-shown_same sql params old new rows has plain h =
-    let known = sym h.1.is ∙ ap (λ s. understood s sql) has in
-    let bare = subst IsPlain (sym known) plain in
-    (rw bare.0 at h.2).3
+shown_same sql params old new rows only h = let bare = only old.now.schema h.0 h.1.is in (rw bare at h.2).3
 
 not_shown : (old new : State) (sql : List ℕ) (c : Compiled) (params : Row) (e : Error) (o : Option Returning) → (IsTrue old.is_open → old.now ≡ old.committed) → FailsToShow old new sql c params e o → Leaves old new
 not_shown old new sql c params e None settled h = unchanged_leaves old new h.3
@@ -116,18 +111,18 @@ module _ (params : Row) (old new : State) where
   row_open (Err e) settled (inl h) = fails_open select_text params old new e settled h
   row_open (Err e) settled (inr h) = λ _. shown_open select_text params old new [] h.1
 
-  pub row_same : (r : Result Row Error) → (IsTrue old.is_open → old.now ≡ old.committed) → QueriesRow select_text params old new r → old.now.schema ≡ kept_schema → IsTrue new.is_open → new.now ≡ old.now
+  pub row_same : (r : Result Row Error) → (IsTrue old.is_open → old.now ≡ old.committed) → QueriesRow select_text params old new r → IsTrue new.is_open → new.now ≡ old.now
   unfolding QueriesRow
-  row_same (Ok row) settled (inl h) has = λ _. h.1.0.now_is
-  row_same (Ok row) settled (inr h) has = λ _. (shown_same select_text params old new h.0 has select_plain h.1).0.now_is
-  row_same (Err e) settled (inl h) has = fails_same select_text params old new e settled h
-  row_same (Err e) settled (inr h) has = λ _. (shown_same select_text params old new [] has select_plain h.1).0.now_is
+  row_same (Ok row) settled (inl h) = λ _. h.1.0.now_is
+  row_same (Ok row) settled (inr h) = λ _. (shown_same select_text params old new h.0 select_only_read h.1).0.now_is
+  row_same (Err e) settled (inl h) = fails_same select_text params old new e settled h
+  row_same (Err e) settled (inr h) = λ _. (shown_same select_text params old new [] select_only_read h.1).0.now_is
 
   -- and leaves the connection open
-  pub row_shows : (r : Result Row Error) → QueriesRow select_text params old new r → OnOk r (IsTrue old.is_open × (old.now.schema ≡ kept_schema → IsTrue new.is_open))
+  pub row_shows : (r : Result Row Error) → QueriesRow select_text params old new r → OnOk r (IsTrue old.is_open × IsTrue new.is_open)
   unfolding QueriesRow
-  row_shows (Ok row) (inl h) = (h.1.0.was_open, λ _. h.1.0.is_open)
-  row_shows (Ok row) (inr h) = (shown_open select_text params old new h.0 h.1, λ has. (shown_same select_text params old new h.0 has select_plain h.1).0.is_open)
+  row_shows (Ok row) (inl h) = (h.1.0.was_open, h.1.0.is_open)
+  row_shows (Ok row) (inr h) = (shown_open select_text params old new h.0 h.1, (shown_same select_text params old new h.0 select_only_read h.1).0.is_open)
   row_shows (Err e) h = tt
 
 pub found_at : (old new : State) (at : ℕ) (r : Result Row Error) → QueriesRow select_text (Int (pos at) ∷ []) old new r → Keeps old.now (listed old.now) → IfOk r (ShowsAt (listed old.now) at)

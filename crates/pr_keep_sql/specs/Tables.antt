@@ -1,5 +1,5 @@
 -- The tables of the store: their definitions, and the rows in them.
-use Rattle.std.specs.Prelude.{◌≡◌, ℕ, ◌+◌, pos, Bool, true, false, ◌||◌, List, [], ◌∷◌, All, Some, codes}
+use Rattle.std.specs.Prelude.{◌≡◌, ℕ, ◌+◌, pos, Bool, true, false, ◌||◌, List, [], ◌∷◌, All, Any, Some, codes}
 use Rattle.sqlite.specs.Collation.TheVariants.{Binary}
 use Rattle.sqlite.specs.declared.types.Value.TheVariants.{Null, Int, Text as Words}
 use Rattle.sqlite.specs.Order.{Row as Cells}
@@ -54,6 +54,18 @@ is_named table = same_name table.name (codes "kept") || same_name table.name (co
 -- no table has one
 abbrev pub IsFree : Schema → Type 0
 IsFree schema = All (λ table. is_named table ≡ false) schema.tables
+
+-- a table of this definition stands there, in whichever tree
+abbrev pub Has : Table → List Table → Type 0
+Has wanted tables = Any (λ table. table ≡ record wanted { tree = table.tree }) tables
+
+-- both tables of the store stand there, whatever stands beside them
+abbrev pub HasOurs : Schema → Type 0
+HasOurs schema = Has kept schema.tables × Has version schema.tables
+
+-- A table has a name of the store, and they are not both tables of the store.
+abbrev pub IsOther : Schema → Type 0
+IsOther schema = (¬ IsFree schema) × (¬ HasOurs schema)
 
 -- A row as the table `kept` stores it: its number, which is the row's own, and the others.
 abbrev pub stored : ℕ → Row → Cells

@@ -1,22 +1,23 @@
 // Rows kept in the tables of a connection.
-ghost use Rattle.std.specs.Prelude.{◌≡◌, ◌↔◌, ◌⊎◌, List, [], ◌+◌, ◌<◌, ◌≤◌, length, IfOk, IfSome, OnOk, OnErr, IsTrue, IsSome, Some, slice_get, true, false};
+ghost use Rattle.std.specs.Prelude.{◌≡◌, ◌↔◌, ◌⊎◌, List, [], ◌+◌, ◌<◌, ◌≤◌, length, IfOk, IfSome, OnOk, OnErr, IsTrue, IsSome, Some, Err, slice_get, true, false};
 ghost use Rattle.sqlite.specs.Held.{state};
 ghost use Rattle.sqlite.specs.State.{HasCleanDisk, IsLive};
 ghost use Rattle.sqlite.specs.View.{doubt};
 ghost use Rattle.pr_outside.specs.Causes.{HasKeepCause};
 ghost use Rattle.pr_outside.specs.Kept.{KeepsRows, AppendsRows};
 ghost use Rattle.pr_outside.specs.declared.keeping.Row.{Row as Line};
-ghost use Rattle.pr_keep_sql.specs.Counts.{AreWithin};
+ghost use Rattle.pr_outside.specs.declared.keeping.KeepError.TheVariants.{Failed};
+ghost use Rattle.pr_keep_sql.specs.Counts.{AreWithin, one_more};
 ghost use Rattle.pr_keep_sql.specs.Kept.{Keeps, listed};
 ghost use Rattle.pr_keep_sql.specs.Store.{faults_in, rows_of};
-ghost use Rattle.pr_keep_sql.specs.Tables.{IsFree, kept_schema, schema_of};
+ghost use Rattle.pr_keep_sql.specs.Tables.{IsFree, IsOther, kept_schema, schema_of};
 
 use crate::counts::{are_within, failed, faults_of, refusal};
 use crate::making::make;
 use crate::reading::found;
 use crate::statements::{add_all, load};
 use crate::tables::{Standing, standing_of};
-use pr_outside::{KeepError, Keeper, Row};
+use pr_outside::{KeepError, Row};
 use sqlite::{Alter, Connection};
 use std::marker::Model;
 
@@ -129,7 +130,7 @@ impl<S: Alter> Kept<S> {
         ensures ok { OnOk result (IsTrue self.new.is_ready × (self.new.is_alone ≡ is_alone)) }
         ensures kept { HasCleanDisk (state S.Store self.new.conn) → OnOk result (IsTrue is_alone → Keeps (state S.Store self.old.conn).now (listed (state S.Store self.old.conn).now) × (rows_of S.Store self.new ≡ Some (listed (state S.Store self.old.conn).now))) }
         ensures found { HasCleanDisk (state S.Store self.new.conn) → OnOk result (IsTrue is_alone → (rows : List Line) → Keeps (state S.Store self.old.conn).now rows → rows_of S.Store self.new ≡ Some rows) }
-        ensures same { HasCleanDisk (state S.Store self.new.conn) → (state S.Store self.old.conn).now.schema ≡ kept_schema → IsTrue (state S.Store self.new.conn).is_open → (state S.Store self.new.conn).now ≡ (state S.Store self.old.conn).now }
+        ensures same { HasCleanDisk (state S.Store self.new.conn) → IsTrue (state S.Store self.new.conn).is_open → (state S.Store self.new.conn).now ≡ (state S.Store self.old.conn).now }
         ensures unready { OnErr result ((self.new.is_ready ≡ false) × (self.new.size ≡ 0)) }
         ensures untold { OnErr result (self.new.is_alone ≡ false) }
         ensures clean { doubt (state S.Store self.old.conn).is_clean ≤ doubt (state S.Store self.new.conn).is_clean }
@@ -151,14 +152,14 @@ impl<S: Alter> Kept<S> {
     /// Makes the tables where the database has none with their names, in one transaction, or reads
     /// those that are there: the number 1, and rows numbered from 0 on without a gap. Tables with
     /// other names are passed over, but where anything stands beside the tables of the store, the
-    /// rows are not told. Until this has succeeded nothing is kept.
+    /// rows are not told. Until this has succeeded nothing is kept. A further call reads the tables
+    /// anew.
     ///
     /// # Errors
     /// `Failed` where the tables, the number or the rows are others, and where a statement is
-    /// refused.
-    #[tactic(auto, using(crate::proofs::KeptLemmas::has_schema))]
+    /// refused. What is in the database then stays as it was.
+    #[tactic(auto, using(crate::proofs::KeptLemmas::has_schema, crate::proofs::FoundLemmas::bare_is_free, crate::proofs::FoundLemmas::not_free))]
     pub fn ready(&mut self) -> Result<(), KeepError>
-        requires fresh { self.old.is_ready ≡ false }
         ensures ok { OnOk result (IsTrue self.new.is_ready) }
         // Rows are told where the tables are alone.
         ensures told { HasCleanDisk (state S.Store self.new.conn) → OnOk result (IsTrue self.new.is_alone → IsSome (rows_of S.Store self.new)) }
@@ -167,11 +168,13 @@ impl<S: Alter> Kept<S> {
         ensures made { HasCleanDisk (state S.Store self.new.conn) → OnOk result ((state S.Store self.old.conn).now.schema ≡ schema_of [] → rows_of S.Store self.new ≡ Some []) }
         // The rows that the tables kept are told.
         ensures found { HasCleanDisk (state S.Store self.new.conn) → OnOk result ((rows : List Line) → Keeps (state S.Store self.old.conn).now rows → rows_of S.Store self.new ≡ Some rows) }
-        // Where the tables were alone, they kept a list of rows, and they are as they were.
+        // Where the tables were alone, they kept a list of rows.
         ensures kept { HasCleanDisk (state S.Store self.new.conn) → OnOk result ((state S.Store self.old.conn).now.schema ≡ kept_schema → Keeps (state S.Store self.old.conn).now (listed (state S.Store self.old.conn).now) × (rows_of S.Store self.new ≡ Some (listed (state S.Store self.old.conn).now))) }
-        ensures same { HasCleanDisk (state S.Store self.new.conn) → (state S.Store self.old.conn).now.schema ≡ kept_schema → IsTrue (state S.Store self.new.conn).is_open → (state S.Store self.new.conn).now ≡ (state S.Store self.old.conn).now }
-        // Where no table had a name of the store, a refused call leaves what is there.
-        ensures err { HasCleanDisk (state S.Store self.new.conn) → OnErr result (IsFree (state S.Store self.old.conn).now.schema → IsTrue (state S.Store self.new.conn).is_open → (state S.Store self.new.conn).now ≡ (state S.Store self.old.conn).now) }
+        // Nothing is changed where a table has a name of the store, and by a refused call.
+        ensures same { HasCleanDisk (state S.Store self.new.conn) → (¬ IsFree (state S.Store self.old.conn).now.schema) → IsTrue (state S.Store self.new.conn).is_open → (state S.Store self.new.conn).now ≡ (state S.Store self.old.conn).now }
+        ensures err { HasCleanDisk (state S.Store self.new.conn) → OnErr result (IsTrue (state S.Store self.new.conn).is_open → (state S.Store self.new.conn).now ≡ (state S.Store self.old.conn).now) }
+        // Other tables with a name of the store are refused, and looked into no further.
+        ensures others { IsOther (state S.Store self.old.conn).now.schema → (result ≡ Err Failed) × (self.new.odd ≡ one_more self.old.odd) × (self.new.refused ≡ self.old.refused) × (self.new.conn ≡ self.old.conn) }
         ensures unready { OnErr result ((self.new.is_ready ≡ false) × (self.new.size ≡ 0)) }
         ensures untold { OnErr result (self.new.is_alone ≡ false) }
         ensures clean { doubt (state S.Store self.old.conn).is_clean ≤ doubt (state S.Store self.new.conn).is_clean }
@@ -180,6 +183,9 @@ impl<S: Alter> Kept<S> {
         // The tables of the store are no refusal of its own.
         ensures kept_odd { HasCleanDisk (state S.Store self.new.conn) → (rows : List Line) → Keeps (state S.Store self.old.conn).now rows → self.new.odd ≡ self.old.odd }
     {
+        self.size = 0;
+        self.is_ready = false;
+        self.is_alone = false;
         match standing_of(self.conn.schema()) {
             Standing::Free { is_alone } => self.make(is_alone),
             Standing::Ours { is_alone } => self.read(is_alone),
@@ -242,30 +248,5 @@ impl<S: Alter> Kept<S> {
             odd: _,
         } = self;
         conn
-    }
-}
-
-/// The path is passed over, since the connection is open. A second start fails, and is counted among
-/// the store's own refusals.
-impl<S: Alter> Keeper for Kept<S> {
-    ghost means = { λ k. record { rows = rows_of S.Store k; count = k.size; faults = faults_in k } };
-
-    fn start(&mut self, _path: &str) -> Result<(), KeepError> {
-        if self.is_ready {
-            return Err(failed(&mut self.odd));
-        }
-        self.ready()
-    }
-
-    fn size(&self) -> u64 {
-        Kept::size(self)
-    }
-
-    fn commit(&mut self, added: &[Row]) -> Result<(), KeepError> {
-        Kept::commit(self, added)
-    }
-
-    fn load(&mut self, index: u64) -> Result<Row, KeepError> {
-        Kept::load(self, index)
     }
 }

@@ -1,8 +1,8 @@
 // Whether the tables of a database are those of the store.
-ghost use Rattle.std.specs.Prelude.{◌≡◌, ◌↔◌, ◌⊎◌, ◌∷◌, [], All, IsTrue, Some, false, true};
+ghost use Rattle.std.specs.Prelude.{◌≡◌, ◌↔◌, ◌⊎◌, ◌∷◌, [], All, Any, Bool, IsTrue, Some, false, true};
 ghost use Rattle.sqlite.specs.declared.types.Value.TheVariants.{Null};
-ghost use Rattle.pr_keep_sql.specs.Tables.{column_of, table_of, IsFree, is_named, kept, version, kept_schema, schema_of};
-ghost use Rattle.pr_keep_sql.specs.declared.tables.Standing.TheVariants.{Free, Ours};
+ghost use Rattle.pr_keep_sql.specs.Tables.{column_of, table_of, Has, HasOurs, IsFree, IsOther, is_named, kept, version, kept_schema, schema_of};
+ghost use Rattle.pr_keep_sql.specs.declared.tables.Standing.TheVariants.{Free, Ours, Others};
 
 use sqlite_schema::code::Terms;
 use sqlite_schema::names::same_name;
@@ -139,10 +139,23 @@ fn is_free(schema: &Schema) -> bool
         .all(|table| !is_named(table))
 }
 
-// Whether both tables of the store are there, wherever they stand among others.
-fn has_ours(tables: &[Table]) -> bool {
+fn has_kept(tables: &[Table]) -> bool
+    ensures { IsTrue result ↔ Has kept tables.now }
+{
     tables.iter().any(|table| is_kept(table, table.tree))
-        && tables.iter().any(|table| is_version(table, table.tree))
+}
+
+fn has_version(tables: &[Table]) -> bool
+    ensures { IsTrue result ↔ Has version tables.now }
+{
+    tables.iter().any(|table| is_version(table, table.tree))
+}
+
+// Whether both tables of the store are there, wherever they stand among others.
+fn has_ours(schema: &Schema) -> bool
+    ensures { IsTrue result ↔ HasOurs schema.now }
+{
+    has_kept(schema.tables.as_slice()) && has_version(schema.tables.as_slice())
 }
 
 /// What a database has, by the names of its tables.
@@ -157,11 +170,13 @@ pub(crate) enum Standing {
 }
 
 /// What this database has. Nothing else stands there where the tables of the store are alone.
-#[tactic(auto, using(crate::proofs::FoundLemmas::not_free))]
+#[tactic(auto, using(crate::proofs::FoundLemmas::not_free, crate::proofs::FoundLemmas::bare_is_free))]
 pub(crate) fn standing_of(schema: &Schema) -> Standing
     ensures bare { (result ≡ Free true) ↔ (schema.now ≡ schema_of []) }
     ensures alone { (result ≡ Ours true) ↔ (schema.now ≡ kept_schema) }
     ensures free { IsFree schema.now → (result ≡ Free true) ⊎ (result ≡ Free false) }
+    ensures frees { (is_alone : Bool) → result ≡ Free is_alone → IsFree schema.now }
+    ensures others { (result ≡ Others) ↔ IsOther schema.now }
 {
     if is_bare(schema) {
         return Standing::Free { is_alone: true };
@@ -172,7 +187,7 @@ pub(crate) fn standing_of(schema: &Schema) -> Standing
     if is_ours(schema) {
         return Standing::Ours { is_alone: true };
     }
-    if has_ours(schema.tables.as_slice()) {
+    if has_ours(schema) {
         Standing::Ours { is_alone: false }
     } else {
         Standing::Others

@@ -1,5 +1,5 @@
--- The history that kept rows tell, and the first row that tells none.
-use Rattle.std.specs.Prelude.{ℕ, ◌+◌, Bool, true, false, cond, List, [], ◌∷◌, ◌++◌, Option, Some, None, option_and_then, option_map, unwrap_or}
+-- The history that kept rows tell, or the first row that tells none.
+use Rattle.std.specs.Prelude.{ℕ, ◌+◌, List, [], ◌∷◌, ◌++◌, map, Option, Some, None, Result, Ok, Err}
 use Rattle.pr_history.specs.Admission.{admit}
 use Rattle.pr_history.specs.declared.append.Append.{Append}
 use Rattle.pr_history.specs.declared.append.Append.TheVariants.{Added, Same, OutOfOrder, Conflict}
@@ -7,34 +7,25 @@ use Rattle.pr_history.specs.declared.entry.Entry.{Entry}
 use Rattle.pr_outside.specs.declared.keeping.Row.{Row}
 use Rattle.pr_row.specs.Rows.{decoded, IsEntry}
 
-abbrev pub is_added : Append → Bool
-is_added Added = true
-is_added Same = false
-is_added (OutOfOrder last) = false
-is_added (Conflict kept) = false
+-- what is told later, where the row with this index is added; else that index
+abbrev pub taken_by : Append → ℕ → Result (List Entry) ℕ → Result (List Entry) ℕ
+taken_by Added index later = later
+taken_by Same index later = Err index
+taken_by (OutOfOrder last) index later = Err index
+taken_by (Conflict kept) index later = Err index
 
--- an entry that is added to the history before it
-abbrev pub next_entry : List Entry → Option Entry → Option Entry
-next_entry history None = None
-next_entry history (Some e) = cond (is_added (admit history e.labels e.time e.point)) (Some e) None
+-- After a history of so many rows: the entries of further rows, or none where a row is that of no
+-- entry.
+abbrev pub history_after : ℕ → List Entry → List (Option Entry) → Result (List Entry) ℕ
+history_after index history [] = Ok history
+history_after index history (None ∷ rows) = Err index
+history_after index history (Some e ∷ rows) =
+    taken_by (admit history e.labels e.time e.point) index (history_after (index + 1) (history ++ e ∷ []) rows)
 
--- what the rows after a history tell: all of it, or that some row is no row text or is not added
-abbrev pub history_after : List Entry → List Row → Option (List Entry)
-history_after history [] = Some history
-history_after history (row ∷ rows) = option_and_then (λ e. history_after (history ++ e ∷ []) rows) (next_entry history (decoded row))
-
--- the history of all rows, where none is bad
-abbrev pub history_of : List Row → Option (List Entry)
-history_of rows = history_after [] rows
-
--- the index of the first bad row of those after a history and so many rows
-abbrev pub bad_after : List Entry → ℕ → List Row → Option ℕ
-bad_after history index [] = None
-bad_after history index (row ∷ rows) = unwrap_or (option_map (λ e. bad_after (history ++ e ∷ []) (index + 1) rows) (next_entry history (decoded row))) (Some index)
-
--- the index of the first bad row
-abbrev pub first_bad : List Row → Option ℕ
-first_bad rows = bad_after [] 0 rows
+-- The history of these rows; or the index of the first bad one, which is the row of no entry, or is
+-- not added to those before it.
+abbrev pub history_of : List Row → Result (List Entry) ℕ
+history_of rows = history_after 0 [] (map decoded rows)
 
 -- each is an entry
 abbrev pub AreEntries : List Entry → Type 0

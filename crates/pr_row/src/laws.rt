@@ -1,10 +1,11 @@
 //! Laws of rows, each as the contract of a function that does nothing.
-ghost use Rattle.std.specs.Prelude.{◌≡◌, ℕ, List, ◌++◌, map, Some, None, option_and_then};
-ghost use Rattle.pr_history.specs.Admission.{IsLawfulAfter};
+ghost use Rattle.std.specs.Prelude.{◌≡◌, ◌≢◌, ◌<◌, ℕ, List, [], ◌∷◌, ◌++◌, length, map, Some, None, Ok, Err};
 ghost use Rattle.pr_num.specs.declared.value.Point.{Point};
-ghost use Rattle.pr_row.specs.Histories.{history_after, bad_after, AreEntries};
+ghost use Rattle.pr_history.specs.Admission.{admit, IsLawful, IsLawfulAfter};
+ghost use Rattle.pr_history.specs.declared.append.Append.TheVariants.{Added};
 ghost use Rattle.pr_history.specs.declared.entry.Entry.{Entry};
 ghost use Rattle.pr_outside.specs.declared.keeping.Row.{Row};
+ghost use Rattle.pr_row.specs.Histories.{history_of, AreEntries};
 ghost use Rattle.pr_row.specs.Points.{IsFitPoint, point_of, shown_point};
 ghost use Rattle.pr_row.specs.Rows.{encoded, decoded, IsEntry};
 
@@ -20,12 +21,14 @@ pub fn rows_decode_as_their_entries()
     ensures only { (row : Row) (entry : Entry) → decoded row ≡ Some entry → row ≡ encoded entry }
 {}
 
-/// The rows of entries that are added, one after another, to the history of the rows before tell
-/// the history with these entries. What rows tell is told part by part. Rows tell a history, or
-/// one of them is the first bad one.
+/// What rows tell is lawful, and has an entry for each of them. It goes on with the rows of entries
+/// that are added, and with each row whose entry is; a row of no entry, and one whose entry is not
+/// added, is the first bad one, and stays so whatever comes behind it.
 pub fn rows_tell_a_history()
-    ensures added { (history entries : List Entry) → AreEntries entries → IsLawfulAfter history entries → history_after history (map encoded entries) ≡ Some (history ++ entries) }
-    ensures parts { (history : List Entry) (rows more : List Row) → history_after history (rows ++ more) ≡ option_and_then (λ h. history_after h more) (history_after history rows) }
-    ensures good { (history out : List Entry) (index : ℕ) (rows : List Row) → history_after history rows ≡ Some out → bad_after history index rows ≡ None }
-    ensures bad { (history : List Entry) (at index : ℕ) (rows : List Row) → bad_after history index rows ≡ Some at → history_after history rows ≡ None }
+    ensures lawful { (rows : List Row) (history : List Entry) → history_of rows ≡ Ok history → IsLawful history × (length history ≡ length rows) }
+    ensures added { (rows : List Row) (history entries : List Entry) → history_of rows ≡ Ok history → AreEntries entries → IsLawfulAfter history entries → history_of (rows ++ map encoded entries) ≡ Ok (history ++ entries) }
+    ensures next { (rows : List Row) (row : Row) (history : List Entry) (e : Entry) → history_of rows ≡ Ok history → decoded row ≡ Some e → admit history e.labels e.time e.point ≡ Added → history_of (rows ++ row ∷ []) ≡ Ok (history ++ e ∷ []) }
+    ensures no_entry { (rows more : List Row) (row : Row) (history : List Entry) → history_of rows ≡ Ok history → decoded row ≡ None → history_of (rows ++ row ∷ more) ≡ Err (length rows) }
+    ensures refused { (rows more : List Row) (row : Row) (history : List Entry) (e : Entry) → history_of rows ≡ Ok history → decoded row ≡ Some e → admit history e.labels e.time e.point ≢ Added → history_of (rows ++ row ∷ more) ≡ Err (length rows) }
+    ensures first { (rows more : List Row) (at : ℕ) → history_of rows ≡ Err at → (at < length rows) × (history_of (rows ++ more) ≡ Err at) }
 {}

@@ -1,8 +1,5 @@
 -- The four objects of small runs, and small answers.
-use Rattle.std.specs.Prelude.{ℕ, pos, false, List, [], ◌∷◌, length, codes, Option, Some, None}
-use Rattle.pr_num.specs.declared.value.Num.TheVariants.{Finite}
-use Rattle.pr_num.specs.declared.value.Point.TheVariants.{Value}
-use Rattle.pr_labels.specs.LabelSet.{metric_label, pair_of}
+use Rattle.std.specs.Prelude.{ℕ, false, List, [], ◌∷◌, length, codes, Option, Some, None}
 use Rattle.pr_history.specs.declared.entry.Entry.{Entry}
 use Rattle.pr_outside.specs.declared.course.Course.TheVariants.{Going}
 use Rattle.pr_outside.specs.declared.keeping.Row.{Row}
@@ -32,10 +29,3 @@ added e = record { text = codes "added\n"; rows = e ∷ []; refused = false; ask
 -- a reload of one file, which adds nothing
 abbrev pub reloaded : List ℕ → Answer
 reloaded file = record { text = codes "reloaded\n"; rows = []; refused = false; asks = file ∷ [] }
-
-abbrev pub row : List ℕ → ℕ → List ℕ → Row
-row series time point = record { series = series; time = time; point = point }
-
--- a sample of the series `m`, of the value 1
-abbrev pub sample : ℕ → Entry
-sample time = record { labels = pair_of metric_label (codes "m") ∷ []; time = time; point = Value (Finite (pos 1000000000)) }

@@ -1,18 +1,13 @@
 //! What a run begins with.
-ghost use Rattle.std.specs.Prelude.{◌≡◌, ℕ, List, codes, [], ◌∷◌, true, Ok, Err};
+ghost use Rattle.std.specs.Prelude.{◌≡◌, List, codes, [], ◌∷◌, true};
 ghost use Rattle.pr_outside.specs.declared.keeping.Row.{Row};
-ghost use Rattle.pr_top.specs.Rows.{BeginsWith, IsBadIn, opened};
+ghost use Rattle.pr_top.specs.Rows.{BeginsWith};
 ghost use Rattle.pr_top.specs.Told.{bad_row_text};
-ghost use Rattle.pr_run_laws.specs.Examples.{outside_of, row, sample, untold_of};
+ghost use Rattle.pr_run_laws.specs.Examples.{outside_of, untold_of};
 
-/// Rows tell their history, or the first one that is the row of no entry, or that is not added to
-/// those before it.
-pub fn rows_tell_a_history_or_one_is_bad()
-    ensures good { opened (row (codes "m") 0 (codes "1") ∷ row (codes "m") 1 (codes "1") ∷ []) ≡ Ok (sample 0 ∷ sample 1 ∷ []) }
-    ensures late { opened (row (codes "m") 1 (codes "1") ∷ row (codes "m") 1 (codes "1") ∷ []) ≡ Err 1 }
-    ensures no_row { opened (row (codes "m") 0 (codes "01") ∷ []) ≡ Err 0 }
-    ensures none { opened [] ≡ Ok [] }
-    ensures line { bad_row_text 1 ≡ codes "bad row 1\n" }
+/// A bad row is told by its index.
+pub fn a_bad_row_is_told_by_its_index()
+    ensures { bad_row_text 1 ≡ codes "bad row 1\n" }
 {}
 
 /// A store that tells its rows only once it is opened began with as many of those at the end as the

@@ -3,6 +3,7 @@ use Rattle.std.proofs.Common.{◌≡◌, ◌≢◌, ℕ, ◌<◌, ◌≤◌, ◌
 use Rattle.std.specs.Prelude.{◌==◌}
 use Rattle.std.specs.Io.KnownBytes.{Appends}
 use Rattle.pr_outside.specs.declared.keeping.Row.{Row}
+use Rattle.pr_row.specs.Histories.{history_of}
 use Rattle.pr_status.specs.Ends.{Ends, KnowsLength, no_row, place_of, status_of, stop_status}
 use Rattle.pr_status.specs.Outside.{Outside, AreCalm, Held}
 use Rattle.pr_status.specs.Status.{HasCause, IsLong, verdict}
@@ -22,7 +23,6 @@ use Rattle.pr_checks.specs.Metrics.{metrics_told}
 use Rattle.pr_checks.specs.RuleFiles.{rules_told}
 use Rattle.pr_top.specs.Command.{Command, runs, tests_rules, checks_rules, checks_metrics, exercises, backfills}
 use Rattle.pr_top.specs.Means.{IsWholeRun, MeansCommand, MeansRun, MeansUsage, RunsBy, RunsOver, usage_status}
-use Rattle.pr_top.specs.Rows.{opened}
 use Rattle.pr_top.specs.Told.{answers_to, refuses, told}
 use Rattle.pr_top.specs.Usage.{usage_text}
 
@@ -71,7 +71,7 @@ long_by before now (Err s) result bytes is answer e k many calm some = elim (cal
 
 -- what is promised over these rows at the start
 abbrev RunsFrom : Outside → Outside → Result Bool Stop → Status → List Row → Type 0
-RunsFrom before now r result rows = IfSome before.input.left (λ bytes. RunsBy false (opened rows) rows bytes before now r result)
+RunsFrom before now r result rows = IfSome before.input.left (λ bytes. RunsBy false (history_of rows) rows bytes before now r result)
 
 pub means_run : (before now : Outside) (r : Result Bool Stop) (result : Status) → now.store ≡ before.store → result ≡ status_of r
     → Ends no_row (IsLong before.input.left) before now r → KnowsLength before.input.left r → Tells before now r → Fronts before now r → MeansRun false before now result

@@ -3,6 +3,7 @@ use Rattle.std.specs.Prelude.{◌≡◌, ◌≢◌, ℕ, ◌<◌, ◌≤◌, ◌
 use Rattle.std.specs.Io.KnownBytes.{Appends}
 use Rattle.pr_history.specs.declared.entry.Entry.{Entry}
 use Rattle.pr_outside.specs.declared.keeping.Row.{Row}
+use Rattle.pr_row.specs.Histories.{history_of}
 use Rattle.pr_status.specs.Ends.{Ends, KnowsLength, no_row, place_of, status_of, stop_status}
 use Rattle.pr_status.specs.Outside.{Outside, AreCalm, Held, AreTold}
 use Rattle.pr_status.specs.Status.{IsLong, verdict}
@@ -15,7 +16,7 @@ use Rattle.pr_checks.specs.Metrics.{metrics_told}
 use Rattle.pr_checks.specs.RuleFiles.{rules_told}
 use Rattle.pr_top.specs.Command.{Command, runs, tests_rules, checks_rules, checks_metrics, exercises, backfills, uses_of}
 use Rattle.pr_top.specs.Front.{IsBadStart, IsFront}
-use Rattle.pr_top.specs.Rows.{AreKept, BeginsWith, IsBadIn, opened}
+use Rattle.pr_top.specs.Rows.{AreKept, BeginsWith, IsBadIn}
 use Rattle.pr_top.specs.Told.{answers_to, asks_of, bad_row_text, told, kept, refuses}
 use Rattle.pr_top.specs.Usage.{usage_text}
 
@@ -62,7 +63,7 @@ pub record MeansRun (stored : Bool) (before now : Outside) (result : Status) : T
   pub known : KnowsLength before.input.left ending
   -- what is written and kept, over the rows at the start
   pub over : (rows : List Row) → BeginsWith stored before now rows
-      → IfSome before.input.left (λ bytes. RunsBy stored (opened rows) rows bytes before now ending result)
+      → IfSome before.input.left (λ bytes. RunsBy stored (history_of rows) rows bytes before now ending result)
 
 -- how the program ends where the words are none of the forms, by how the writing of the text ended
 abbrev pub usage_status : Result Unit Stop → Status

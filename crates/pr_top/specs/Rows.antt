@@ -1,19 +1,14 @@
 -- The rows that a command begins with, and those that are kept at its end.
-use Rattle.std.specs.Prelude.{◌≡◌, ℕ, Bool, true, false, List, [], ◌++◌, length, map, take, Option, Some, None, IfSome, Result, Err}
+use Rattle.std.specs.Prelude.{◌≡◌, ℕ, Bool, true, false, List, [], ◌++◌, length, map, take, Option, Some, None, IfSome, Err}
 use Rattle.pr_history.specs.declared.entry.Entry.{Entry}
 use Rattle.pr_outside.specs.Meant.{Store}
 use Rattle.pr_outside.specs.declared.keeping.Row.{Row}
-use Rattle.pr_row.specs.Rows.{decoded, encoded}
-use Rattle.pr_world.specs.Rows.{history_of}
+use Rattle.pr_row.specs.Rows.{encoded}
+use Rattle.pr_row.specs.Histories.{history_of}
 use Rattle.pr_world.specs.declared.report.Report.TheVariants.{Opened}
 use Rattle.pr_text.specs.Printed.{shown_report}
 use Rattle.pr_status.specs.Ends.{no_row}
 use Rattle.pr_status.specs.Outside.{Outside}
-
--- What rows tell: the history of their entries; or the index of the first bad one, which is the row of
--- no entry, or is not added to those before it.
-abbrev pub opened : List Row → Result (List Entry) ℕ
-opened rows = history_of (map decoded rows)
 
 -- The output tells that it was handed the line with this number of rows first.
 abbrev pub HasOpened : Option (List ℕ) → Option (List ℕ) → ℕ → Type 0
@@ -36,8 +31,8 @@ BeginsWith false before now rows = rows ≡ []
 
 -- the first bad row of those that are told at the start, or else at the end
 abbrev pub IsBadAmong : Option (List Row) → Option (List Row) → ℕ → Type 0
-IsBadAmong (Some rows) now index = opened rows ≡ Err index
-IsBadAmong None (Some rows) index = opened rows ≡ Err index
+IsBadAmong (Some rows) now index = history_of rows ≡ Err index
+IsBadAmong None (Some rows) index = history_of rows ≡ Err index
 IsBadAmong None None index = Unit {0}
 
 -- which row may be a bad one, for a command that is over the store, and for any other one

@@ -5,7 +5,6 @@ pub mod World
 pub mod Settings
 pub mod Outcome
 pub mod Rounds
-pub mod Rows
 pub mod ScrapeExamples
 pub mod Query
 pub mod Step

@@ -1,5 +1,5 @@
 // Laws of the world.
-ghost use Rattle.std.specs.Prelude.{◌≡◌, ℕ, ◌++◌, List, [], map, Some, Ok, true, false};
+ghost use Rattle.std.specs.Prelude.{◌≡◌, ℕ, ◌++◌, List, [], Some, Ok, true, false};
 ghost use Rattle.std.specs.List.{AllByRecursion};
 ghost use Rattle.pr_history.specs.Admission.{IsLawful};
 ghost use Rattle.pr_history.specs.declared.entry.Entry.{Entry};
@@ -11,7 +11,6 @@ ghost use Rattle.pr_world.specs.Loading.{Holding, FileToLoad, all_found, reload_
 ghost use Rattle.pr_world.specs.Outcome.{is_refusal};
 ghost use Rattle.pr_world.specs.Settings.{Settings};
 ghost use Rattle.pr_world.specs.Step.{changes_groups, changes_targets, next, time_of, world_after, rows_of};
-ghost use Rattle.pr_world.specs.Rows.{history_of};
 ghost use Rattle.pr_world.specs.World.{World, begin, start};
 
 /// A refused event changes nothing and keeps no row. An accepted one becomes the last, and what it
@@ -30,14 +29,13 @@ pub fn a_step_appends_or_changes_nothing()
         → ((next s w e).world.groups ≡ w.groups) × ((next s w e).world.reloaded ≡ w.reloaded) }
 {}
 
-/// A restart leaves the history, which is read again from its rows, and nothing else but the time.
-#[tactic(auto, using(crate::proofs::Steps::restarted, crate::proofs::Steps::restarted_over, crate::proofs::Rows::rows_read))]
+/// A restart leaves the history, and nothing else but the time.
+#[tactic(auto, using(crate::proofs::Steps::restarted, crate::proofs::Steps::restarted_over))]
 pub fn a_restart_begins_anew()
     ensures anew { (s : Settings) (w : World) (time : ℕ) → (next s w (Restart time)).refused ≡ false
         → (next s w (Restart time)).world ≡ begin (Some time) w.history }
     ensures over { (s : Settings) (rows : List Entry) (events : List Event) (time : ℕ) → (next s (world_after s (start rows) events) (Restart time)).refused ≡ false
         → (next s (world_after s (start rows) events) (Restart time)).world ≡ begin (Some time) (rows ++ rows_of s (start rows) events) }
-    ensures rows { (history : List Entry) → IsLawful history → history_of (map Some history) ≡ Ok history }
 {}
 
 /// The history of a world is the one that it began with and then the rows of its events, and stays

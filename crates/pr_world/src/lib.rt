@@ -5,8 +5,8 @@ mod event;
 mod examples;
 mod group_examples;
 mod laws;
+mod loading_examples;
 mod report;
-mod row_examples;
 mod scrape_examples;
 mod scrape_laws;
 mod scraped;
@@ -28,12 +28,12 @@ pub use laws::{
     a_step_appends_or_changes_nothing, files_that_are_found_are_reloaded,
     groups_are_evaluated_at_rising_times,
 };
+pub use loading_examples::{
+    a_reload_before_the_last_event_looks_for_no_file, files_are_found_in_order,
+};
 pub use pr_kinds::QueryKind;
 pub use pr_rules::{GroupReport, Put, RuleOutcome, RuleReport};
 pub use report::{AlertLine, Report};
-pub use row_examples::{
-    a_reload_before_the_last_event_looks_for_no_file, files_are_found_in_order, rows_are_a_history,
-};
 pub use scrape_examples::{
     a_bad_body_leaves_nothing, a_label_of_the_target_is_renamed, a_refused_sample_is_dropped,
     a_scrape_adds_its_samples, a_series_that_is_no_longer_offered_is_marked, a_target_ends,

@@ -4,7 +4,8 @@ use Rattle.sqlite.specs.Held.{state}
 use Rattle.pr_keep_sql.specs.Found.{AreFound}
 use Rattle.pr_keep_sql.proofs.FoundLemmas.{count_found}
 use Rattle.pr_keep_sql.proofs.OrderLemmas.{rows_in_order}
-use Rattle.pr_keep_sql.proofs.QueryLemmas.{rows_plain, rows_text}
+use Rattle.pr_keep_sql.proofs.QueryLemmas.{rows_text}
+use Rattle.pr_keep_sql.proofs.QueryTexts.{rows_only_read}
 use Rattle.pr_keep_sql.proofs.StateLemmas.{fails_open, fails_same, shown_open, shown_same}
 use Rattle.pr_keep_sql.proofs.reading.count.Goals as goal
 
@@ -13,7 +14,7 @@ returns-in_err-found-clause-was_open g c clean =
     fails_open _ _ (state g.S.Store c.args.conn.now) (state g.S.Store c.query_all.new.self) _ (c.is_autocommit.ensures.settled (c.is_autocommit.ensures.value ∙ ap not c.requires.mode)) (c.in_err-found.ensures.err clean)
 
 pub returns-in_err-found-clause-same : goal.returns-in_err-found-clause-same
-returns-in_err-found-clause-same g c clean has =
+returns-in_err-found-clause-same g c clean =
     fails_same _ _ (state g.S.Store c.args.conn.now) (state g.S.Store c.query_all.new.self) _ (c.is_autocommit.ensures.settled (c.is_autocommit.ensures.value ∙ ap not c.requires.mode)) (c.in_err-found.ensures.err clean)
 
 pub returns-clause-ok : goal.returns-clause-ok
@@ -29,7 +30,7 @@ pub returns-clause-was_open : goal.returns-clause-was_open
 returns-clause-was_open g c clean up = shown_open rows_text _ (state g.S.Store c.args.conn.now) (state g.S.Store c.query_all.new.self) _ (c.in_ok-found.ensures.ok clean)
 
 pub returns-clause-same : goal.returns-clause-same
-returns-clause-same g c clean has up = (shown_same rows_text _ (state g.S.Store c.args.conn.now) (state g.S.Store c.query_all.new.self) _ has rows_plain (c.in_ok-found.ensures.ok clean)).0.now_is
+returns-clause-same g c clean up = (shown_same rows_text _ (state g.S.Store c.args.conn.now) (state g.S.Store c.query_all.new.self) _ rows_only_read (c.in_ok-found.ensures.ok clean)).0.now_is
 
 pub returns-clause-open : goal.returns-clause-open
-returns-clause-open g c clean has = (shown_same rows_text _ (state g.S.Store c.args.conn.now) (state g.S.Store c.query_all.new.self) _ has rows_plain (c.in_ok-found.ensures.ok clean)).0.is_open
+returns-clause-open g c clean = (shown_same rows_text _ (state g.S.Store c.args.conn.now) (state g.S.Store c.query_all.new.self) _ rows_only_read (c.in_ok-found.ensures.ok clean)).0.is_open

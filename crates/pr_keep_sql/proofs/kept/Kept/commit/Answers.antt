@@ -10,4 +10,4 @@ returns-in-Ok-clause-ok g c =
 pub returns-in-Err-clause-err : goal.returns-in-Err-clause-err
 returns-in-Err-clause-err g c =
     rw (← c.self.view_is) (keeps c.self.inside.is_alone (state g.S.Store c.self.inside.conn) (state g.S.Store c.add_all.new.conn) c.self.inside.size c.self.invariant.still c.add_all.ensures.clean
-    (λ clean. (c.in-Err.ensures.err clean).was_open) (λ clean has. (c.in-Err.ensures.err clean).now))
+    (λ clean. (c.in-Err.ensures.err clean).was_open) (λ clean. (c.in-Err.ensures.err clean).now))

@@ -1,5 +1,5 @@
 use Rattle.sqlite.specs.Held.{state}
-use Rattle.pr_keep_sql.proofs.KeptLemmas.{found_open, keeps, some_told, told_row}
+use Rattle.pr_keep_sql.proofs.KeptLemmas.{keeps, some_told, told_row}
 use Rattle.pr_keep_sql.proofs.kept.Kept.load.Goals as goal
 
 pub returns-in-Ok-clause-row : goal.returns-in-Ok-clause-row
@@ -20,5 +20,5 @@ returns-in-Err-clause-same g c =
 pub returns-in-Ok-clause-told : goal.returns-in-Ok-clause-told
 returns-in-Ok-clause-told g c clean alone =
     some_told c.self.inside.is_alone (state g.S.Store c.load.new.conn) clean
-    (found_open c.self.inside.is_alone (state g.S.Store c.self.inside.conn) (state g.S.Store c.load.new.conn) c.self.inside.size c.self.invariant.still c.load.ensures.clean c.in-Ok.ensures.open clean (rw (← c.self.view_is) at alone))
+    (c.in-Ok.ensures.open clean).1
     (rw (← c.self.view_is) at alone)

@@ -1,22 +1,10 @@
-// What small lists of rows and of files are.
-ghost use Rattle.std.specs.Prelude.{◌≡◌, codes, [], ◌∷◌, None, Some, Ok, Err};
-ghost use Rattle.pr_num.specs.declared.value.Point.TheVariants.{Stale};
-ghost use Rattle.pr_history.specs.Examples.{entry_at, marked, one, whole};
+// What small lists of files are.
+ghost use Rattle.std.specs.Prelude.{◌≡◌, codes, [], ◌∷◌, Some, Ok, Err};
+ghost use Rattle.pr_history.specs.Examples.{one};
 ghost use Rattle.pr_world.specs.declared.report.Report.TheVariants.{Backwards, Missing, TooLarge};
 ghost use Rattle.pr_world.specs.Loading.{all_found, is_missing, is_too_large, reload_asked};
-ghost use Rattle.pr_world.specs.Rows.{history_of};
 ghost use Rattle.pr_world.specs.Settings.{of_a_run};
 ghost use Rattle.pr_world.specs.World.{begin};
-
-/// Rows are a history where each reads and is added to those before it; else the first one counts
-/// that does not.
-pub fn rows_are_a_history()
-    ensures whole { history_of (Some (entry_at 0 (whole 1)) ∷ Some (entry_at 60000 Stale) ∷ []) ≡ Ok marked }
-    ensures none { history_of [] ≡ Ok [] }
-    ensures unread { history_of (Some (entry_at 0 (whole 1)) ∷ None ∷ Some (entry_at 0 (whole 2)) ∷ []) ≡ Err 1 }
-    ensures same { history_of (Some (entry_at 0 (whole 1)) ∷ Some (entry_at 60000 Stale) ∷ Some (entry_at 60000 Stale) ∷ []) ≡ Err 2 }
-    ensures older { history_of (Some (entry_at 60000 Stale) ∷ Some (entry_at 0 (whole 1)) ∷ None ∷ []) ≡ Err 1 }
-{}
 
 /// Files are looked for in order, up to the first that is not there or is too large.
 pub fn files_are_found_in_order()
