@@ -24,11 +24,11 @@ abbrev after_last : ℕ → List ℕ → Option (List ℕ)
 after_last c [] = None
 after_last c (x ∷ xs) = first_some (after_last c xs) (cond (nat_eq x c) (Some xs) None)
 
-abbrev before_first : ℕ → List ℕ → List ℕ
+abbrev pub before_first : ℕ → List ℕ → List ℕ
 before_first c [] = []
 before_first c (x ∷ xs) = cond (nat_eq x c) [] (x ∷ before_first c xs)
 
-abbrev Lacks : ℕ → List ℕ → Type 0
+abbrev pub Lacks : ℕ → List ℕ → Type 0
 Lacks c xs = list_all (λ x. not (nat_eq x c)) xs ≡ true
 
 eq_same : (n : ℕ) → nat_eq n n ≡ true
@@ -45,7 +45,7 @@ after_is : (c : ℕ) (xs ys : List ℕ) → Lacks c ys → after_last c (xs ++ c
 after_is c [] ys h = ap (λ o. first_some o (cond (nat_eq c c) (Some ys) None)) (none_after c ys h) ∙ ap (λ b. cond b (Some ys) None) (eq_same c)
 after_is c (x ∷ xs) ys h = ap (λ o. first_some o (cond (nat_eq x c) (Some (xs ++ c ∷ ys)) None)) (after_is c xs ys h)
 
-before_is : (c : ℕ) (xs ys : List ℕ) → Lacks c xs → before_first c (xs ++ c ∷ ys) ≡ xs
+pub before_is : (c : ℕ) (xs ys : List ℕ) → Lacks c xs → before_first c (xs ++ c ∷ ys) ≡ xs
 before_is c [] ys h = ap (λ b. cond b [] (c ∷ before_first c ys)) (eq_same c)
 before_is c (x ∷ xs) ys h = by (nat_eq x c) h (λ k. before_is c xs ys k) where
   by : (b : Bool) → (not b && list_all (λ y. not (nat_eq y c)) xs) ≡ true → (Lacks c xs → before_first c (xs ++ c ∷ ys) ≡ xs) → cond b [] (x ∷ before_first c (xs ++ c ∷ ys)) ≡ x ∷ xs

@@ -1,62 +1,56 @@
-// Which older range selector each one chooses.
-ghost use Rattle.std.specs.Prelude.{◌≡◌, ◌<◌, ℕ, List, Some, IfOk, IfSome, length, slice_get};
-ghost use Rattle.std.specs.List.{list_any};
+// Which older range selector each one goes on from.
+ghost use Rattle.std.specs.Prelude.{◌≡◌, IfOk, length};
+ghost use Rattle.pr_ast.specs.Tree.{tree_of};
 ghost use Rattle.pr_range.specs.Carried.{IsOnce};
-ghost use Rattle.pr_continued.specs.Continued.{continued, first_free, is_chosen, chooses, AreBelow};
+ghost use Rattle.pr_rules.specs.Carried.{carried_numbers, range_uses, same_use};
+ghost use Rattle.pr_rules.specs.Taking.{numbered, numbers_taken};
+ghost use Rattle.pr_continued.specs.Named.{AreBelow};
+ghost use Rattle.pr_continued.specs.Waiting.{AreWaiting, key_of};
 
-use crate::source::{Source, same};
+use crate::gathering::sources;
+use crate::source::Source;
+use crate::waiting::Waiting;
+use pr_ast::Expr;
 use std::alloc::{AllocError, Global};
 
-fn chooses(choice: Option<usize>, place: usize) -> bool
-    ensures { result ≡ chooses place choice }
+// All older ones wait.
+fn waiting(alloc: Global, old: &[Source]) -> Result<Waiting, AllocError>
+    ensures { IfOk result (λ w. AreWaiting key_of w (numbered old.now)) }
 {
-    match choice {
-        Some(taken) => taken == place,
-        None => false,
+    let mut waiting = Waiting::new(alloc);
+    for (number, source) in old.iter().enumerate() {
+        waiting.push(alloc, source.key(alloc)?, number)?;
     }
+    Ok(waiting)
 }
 
-// Whether an older one is taken.
-fn is_chosen(done: &[Option<usize>], place: usize) -> bool
-    ensures { result ≡ is_chosen done.now place }
-{
-    for choice in done {
-        if chooses(*choice, place) {
-            return true;
-        }
-    }
-    false
-}
-
-// The first older one that is equal and not yet taken.
-fn first_free(done: &[Option<usize>], new: &Source, old: &[Source]) -> Option<usize>
-    ensures { result ≡ first_free (is_chosen done.now) new.now 0 old.now }
-{
-    for (place, other) in old.iter().enumerate() {
-        if same(other, new) && !is_chosen(done, place) {
-            return Some(place);
-        }
-    }
-    None
-}
-
-/// For each range selector, in order, the number of the first older one that is equal and not yet
-/// taken.
-pub fn continued(
+// For each new one the first older one that is equal and not yet taken.
+fn continued(
     alloc: Global,
-    old: &[Source],
     new: &[Source],
+    old: &[Source],
 ) -> Result<Vec<Option<usize>>, AllocError>
-    ensures answer { IfOk result (λ v. v.items ≡ continued old.now new.now) }
-    ensures size { IfOk result (λ v. length v.items ≡ length new.now) }
-    // No older one is named twice, and each that is named is there.
-    ensures once { IfOk result (λ v. IsOnce v.items) }
-    ensures below { IfOk result (λ v. AreBelow (length old.now) v.items) }
+    ensures answer { IfOk result (λ v. v.items ≡ numbers_taken same_use new.now old.now) }
 {
-    let mut done = Vec::new(alloc);
+    let mut waiting = waiting(alloc, old)?;
+    let mut numbers = Vec::new(alloc);
     for source in new {
-        let choice = first_free(&done, source, old);
-        done.push(choice)?;
+        numbers.push(waiting.take(&source.key(alloc)?))?;
     }
-    Ok(done)
+    Ok(numbers)
+}
+
+/// For each range selector of a new expression, in the order of their numbers, the number of the
+/// one of an old expression whose windows it takes over: the first that is printed alike under the
+/// same function and that none before it takes. Range selectors inside subqueries are among them.
+/// (Own choice: windows that go on change no answer.)
+pub fn carried(alloc: Global, new: &Expr, old: &Expr) -> Result<Vec<Option<usize>>, AllocError>
+    ensures answer { IfOk result (λ v. v.items ≡ carried_numbers (tree_of new.now) (tree_of old.now)) }
+    // No old one is named twice, and each that is named is there.
+    ensures once { IfOk result (λ v. IsOnce v.items) }
+    ensures below { IfOk result (λ v. AreBelow (length (range_uses (tree_of old.now))) v.items) }
+{
+    let old = sources(alloc, old)?;
+    let new = sources(alloc, new)?;
+    continued(alloc, &new, &old)
 }

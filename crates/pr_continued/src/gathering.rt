@@ -2,7 +2,7 @@
 ghost use Rattle.std.specs.Prelude.{◌≡◌, ◌++◌, ◌∷◌, [], IfOk, OnOk};
 ghost use Rattle.pr_ast.specs.Tree.{tree_of, trees_of};
 ghost use Rattle.pr_ast.specs.Print.{tree_text};
-ghost use Rattle.pr_continued.specs.Sources.{source_of, sources_in, sources_of};
+ghost use Rattle.pr_rules.specs.Carried.{range_uses, uses_under};
 
 use crate::source::Source;
 use pr_ast::{Expr, ExprKind, Func, print};
@@ -21,41 +21,34 @@ fn printed(alloc: Global, e: &Expr) -> Result<Text, AllocError>
     }
 }
 
-// One more range selector.
-fn push_source(alloc: Global, func: Func, e: &Expr, out: &mut Vec<Source>) -> Result<(), AllocError>
-    ensures { OnOk result (out.new.items ≡ out.old.items ++ source_of func (tree_of e.now) ∷ []) }
-{
-    let func = Text::from_str(alloc, func.text())?;
-    let text = printed(alloc, e)?;
-    out.push(Source { func, text })?;
-    Ok(())
-}
-
-// Those of an expression that is an argument of a function.
+// Those of an expression, which may be an argument of a function.
 #[cycle(sources)]
 fn push_sources(
     alloc: Global,
-    func: Func,
+    func: Option<Func>,
     e: &Expr,
     out: &mut Vec<Source>,
 ) -> Result<(), AllocError>
-    ensures { OnOk result (out.new.items ≡ out.old.items ++ sources_in func (tree_of e.now)) }
+    ensures { OnOk result (out.new.items ≡ out.old.items ++ uses_under func (tree_of e.now)) }
 {
     match &e.kind {
         ExprKind::Number { .. } | ExprKind::Text { .. } | ExprKind::Select { .. } => Ok(()),
-        ExprKind::Range { .. } => push_source(alloc, func, e, out),
-        ExprKind::Sub { inner, .. } => push_sources(alloc, func, inner, out),
-        ExprKind::Neg { inner } => push_sources(alloc, func, inner, out),
-        ExprKind::Binary { left, right, .. } => {
-            push_sources(alloc, func, left, out)?;
-            push_sources(alloc, func, right, out)
+        ExprKind::Range { .. } => {
+            out.push(Source::new(printed(alloc, e)?, func))?;
+            Ok(())
         }
-        ExprKind::Call { func: called, args } => push_all(alloc, *called, args, out),
+        ExprKind::Sub { inner, .. } => push_sources(alloc, None, inner, out),
+        ExprKind::Neg { inner } => push_sources(alloc, None, inner, out),
+        ExprKind::Binary { left, right, .. } => {
+            push_sources(alloc, None, left, out)?;
+            push_sources(alloc, None, right, out)
+        }
+        ExprKind::Call { func, args } => push_all(alloc, Some(*func), args, out),
         ExprKind::Aggregate { param, inner, .. } => {
             if let Some(first) = param {
-                push_sources(alloc, func, first, out)?;
+                push_sources(alloc, None, first, out)?;
             }
-            push_sources(alloc, func, inner, out)
+            push_sources(alloc, None, inner, out)
         }
     }
 }
@@ -64,11 +57,11 @@ fn push_sources(
 #[cycle(sources)]
 fn push_all(
     alloc: Global,
-    func: Func,
+    func: Option<Func>,
     args: &[Expr],
     out: &mut Vec<Source>,
 ) -> Result<(), AllocError>
-    ensures { OnOk result (out.new.items ≡ out.old.items ++ sources_in func (trees_of args.now)) }
+    ensures { OnOk result (out.new.items ≡ out.old.items ++ uses_under func (trees_of args.now)) }
 {
     for arg in args {
         push_sources(alloc, func, arg, out)?;
@@ -78,10 +71,10 @@ fn push_all(
 
 /// The range selectors of an expression, in the order of their numbers, those inside subqueries
 /// among them.
-pub fn sources(alloc: Global, e: &Expr) -> Result<Vec<Source>, AllocError>
-    ensures { IfOk result (λ v. v.items ≡ sources_of (tree_of e.now)) }
+pub(crate) fn sources(alloc: Global, e: &Expr) -> Result<Vec<Source>, AllocError>
+    ensures { IfOk result (λ v. v.items ≡ range_uses (tree_of e.now)) }
 {
     let mut out = Vec::new(alloc);
-    push_sources(alloc, Func::PresentOverTime, e, &mut out)?;
+    push_sources(alloc, None, e, &mut out)?;
     Ok(out)
 }

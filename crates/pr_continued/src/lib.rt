@@ -5,8 +5,7 @@ mod choosing;
 mod gathering;
 mod laws;
 mod source;
+mod waiting;
 
-pub use choosing::continued;
-pub use gathering::sources;
+pub use choosing::carried;
 pub use laws::equal_texts_have_equal_ranges;
-pub use source::Source;

@@ -1,21 +1,52 @@
-ghost use Rattle.std.specs.Prelude.{◌≡◌};
-ghost use Rattle.pr_continued.specs.Continued.{same_source};
+ghost use Rattle.std.specs.Prelude.{◌≡◌, ◌++◌, codes, IfOk};
+ghost use Rattle.pr_rules.specs.Carried.{func_name};
+ghost use Rattle.pr_continued.specs.Waiting.{key_of};
 
+use pr_ast::Func;
 use pr_words::Text;
+use std::alloc::{AllocError, Global};
+use std::marker::Model;
 
-/// A range selector of an expression: the name of the function that it stands under, and its
-/// printed text.
-#[derive(Drop, Debug)]
-pub struct Source {
-    /// The name of the function.
-    pub func: Text,
-    /// The printed text.
-    pub text: Text,
+/// A range selector of an expression: its printed text, and the function that it stands under, if
+/// it stands under one. Contracts see both as a use of a range.
+#[derive(Drop)]
+pub(crate) struct Source {
+    printed: Text,
+    func: Option<Func>,
 }
 
-// Whether both are equal.
-pub(crate) fn same(a: &Source, b: &Source) -> bool
-    ensures { result ≡ same_source a.now b.now }
+impl Model for Source {
+    ghost use Rattle.pr_rules.specs.Carried.{RangeUse};
+
+    ghost Value = { RangeUse };
+
+    ghost view = { λ s. record { printed = s.printed; func = s.func } };
+}
+
+// The name of the function; nothing where there is none.
+fn func_name(func: Option<Func>) -> &'static str
+    ensures { result.now ≡ func_name func }
 {
-    a.func == b.func && a.text == b.text
+    match func {
+        Some(func) => func.text(),
+        None => "",
+    }
+}
+
+impl Source {
+    pub(crate) fn new(printed: Text, func: Option<Func>) -> Source
+        ensures { result ≡ record { printed = printed; func = func } }
+    {
+        Source { printed, func }
+    }
+
+    /// What tells its kind: those of one key have one printed text and stand under one function.
+    pub(crate) fn key(&self, alloc: Global) -> Result<Text, AllocError>
+        ensures { IfOk result (λ t. t ≡ key_of self.now) }
+    {
+        let mut key = String::from_str(alloc, func_name(self.func))?;
+        key.push_str("(")?;
+        key.push_str(self.printed.as_str())?;
+        Ok(Text::new(key))
+    }
 }

@@ -1,18 +1,12 @@
-use Rattle.std.proofs.Common.{◌≡◌, ℕ, ◌++◌, ◌∷◌, [], length, length-append, Option, ap, sym, subst, ◌∙◌, arith}
-use Rattle.pr_range.specs.Carried.{IsOnce}
-use Rattle.pr_continued.specs.Continued.{AreBelow, first_free, is_chosen}
-use Rattle.pr_continued.proofs.Chosen.{below_more, once_more, rest_more}
+use Rattle.pr_rules.specs.Carried.{same_use}
+use Rattle.pr_continued.specs.Waiting.{key_of}
+use Rattle.pr_continued.proofs.Keys.{same_keys}
+use Rattle.pr_continued.proofs.Taking.{one_taken, others_wait}
 use Rattle.pr_continued.proofs.choosing.continued.Goals as goal
 
 pub loop-source-preserved : goal.loop-source-preserved
-loop-source-preserved c =
-    let choice : c.first_free-choice.result ≡ first_free (is_chosen c.loop-source.done.items) c.source-item.result 0 c.args.old.now =
-    c.first_free-choice.ensures ∙ ap (λ l. first_free (is_chosen l) c.source-item.result 0 c.args.old.now) c.deref.ensures.value in
-    let items : c.push.new.self.items ≡ c.loop-source.done.items ++ first_free (is_chosen c.loop-source.done.items) c.source-item.result 0 c.args.old.now ∷ [] =
-    c.in_ok-push.ensures.items ∙ ap (λ x. c.loop-source.done.items ++ x ∷ []) choice in
-    record {
-      rest = rest_more c.loop-source.done.items c.push.new.self.items c.args.old.now c.args.new.now c.loop-source.source-index c.source-item.result c.loop-source-test.true c.source-item.is items c.loop-source.invariant.rest;
-      size = omega (arith, ap length items, length-append {A = Option ℕ}, c.loop-source.invariant.size);
-      once = subst IsOnce (sym items) (once_more c.loop-source.done.items c.source-item.result c.args.old.now c.loop-source.invariant.once);
-      below = subst (AreBelow (length c.args.old.now)) (sym items) (below_more c.loop-source.done.items c.source-item.result c.args.old.now c.loop-source.invariant.below);
-    }
+loop-source-preserved c = record {
+  taken = one_taken same_use key_of same_keys c.args.new.now c.args.old.now c.loop-source.source-index c.source-item.result c.loop-source.numbers.items c.push.new.self.items c.take.result c.loop-source.waiting c.in_ok-key.field-0 c.loop-source-test.true c.source-item.is c.in_ok-key.ensures c.loop-source.invariant.taken c.loop-source.invariant.waiting
+      c.take.ensures.first c.in_ok-push.ensures.items;
+  waiting = others_wait same_use key_of same_keys c.args.new.now c.args.old.now c.loop-source.source-index c.source-item.result c.loop-source.waiting c.take.new.self c.in_ok-key.field-0 c.loop-source-test.true c.source-item.is c.in_ok-key.ensures c.loop-source.invariant.waiting c.take.ensures.rest;
+}

@@ -1,0 +1,9 @@
+pub mod Lists
+pub mod Each
+pub mod Numbers
+pub mod Selectors
+pub mod Ready
+pub mod Uses
+pub mod Carrying
+pub mod Falling
+pub mod Passing
