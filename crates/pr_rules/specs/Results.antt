@@ -52,7 +52,7 @@ all_expanded external e pairs = map (expanded_pair external e) pairs
 abbrev pub recorded_labels : Rule → Item Num → List Pair
 recorded_labels rule e = union_labels (set_label e.labels metric_label rule.name) rule.labels
 
--- An alert loses the metric's name, gets the labels of the rule, expanded_pair, and then its own name.
+-- An alert loses the metric's name, gets the labels of the rule, expanded, and then its own name.
 abbrev pub alerting_labels : External → Rule → Item Num → List Pair
 alerting_labels external rule e =
     set_label (union_labels (without_name e.labels metric_label) (all_expanded external e rule.labels)) (codes "alertname") rule.name
@@ -112,7 +112,7 @@ abbrev pub unless_beyond : ℕ → Option ℕ → List Found → Result (List Fo
 unless_beyond limit None founds = Ok founds
 unless_beyond limit (Some have) founds = Err (LimitExceeded limit have)
 
--- What is recorded has no more elements than the limit. Of an alert not the elements are within_alerts,
+-- What is recorded has no more elements than the limit. Of an alert not the elements are counted,
 -- but the alerts that are pending or fire.
 abbrev pub within_limit : Bool → ℕ → List Found → Result (List Found) RuleFault
 within_limit true limit founds = Ok founds

@@ -1,0 +1,4 @@
+pub mod Templated
+pub mod RowLemmas
+pub mod Ruling
+pub mod Files

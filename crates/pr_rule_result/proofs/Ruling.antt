@@ -1,0 +1,25 @@
+-- What a rule comes to, by the answer of its expression.
+use Rattle.std.proofs.Common.{◌≡◌, ℕ, Result, Ok, Err, sym, ap, subst}
+use Rattle.std.specs.Prelude.{Vec}
+use Rattle.std.specs.declared.alloc.Global.{Global}
+use Rattle.pr_ast.specs.declared.place.Place.{Place}
+use Rattle.pr_tmpl.specs.declared.template.External.{External}
+use Rattle.pr_rulefile.specs.Rules.{Rule}
+use Rattle.pr_lineage.specs.declared.found.Found.{Found}
+use Rattle.pr_query.specs.declared.fault.Fault.{Fault}
+use Rattle.pr_query.specs.declared.fault.FaultKind.{FaultKind}
+use Rattle.pr_query.specs.declared.value.Value.{Value}
+use Rattle.pr_query.specs.Answers.{fault}
+use Rattle.pr_rules.specs.declared.fault.RuleFault.TheVariants.{Eval}
+use Rattle.pr_rules.specs.Results.{failed_by, failure, rule_result_by, ruled, value_elements, without_place}
+use Rattle.pr_rule_result.specs.declared.error.RuleError.{RuleError}
+use Rattle.pr_rule_result.specs.Coming.{ComesTo}
+
+-- of a value, and of a fault
+pub by_value : (meant : Result Value Fault) (v : Value) (external : External) (limit : ℕ) (rule : Rule) (r : Result (Vec Found Global) RuleError) → meant ≡ Ok v
+    → ComesTo (without_place (ruled external limit rule (value_elements v))) r → ComesTo (rule_result_by external limit rule (failed_by meant)) r
+by_value meant v external limit rule r e h = subst (λ (m : Result Value Fault). ComesTo (rule_result_by external limit rule (failed_by m)) r) (sym e) h
+
+pub by_fault : (meant : Result Value Fault) (place : Place) (kind : FaultKind) (external : External) (limit : ℕ) (rule : Rule) → meant ≡ Err (fault place kind)
+    → rule_result_by external limit rule (failed_by meant) ≡ Err (failure place.start (Eval kind))
+by_fault meant place kind external limit rule e = ap (λ (m : Result Value Fault). rule_result_by external limit rule (failed_by m)) e

@@ -1,0 +1,13 @@
+-- How an answer stands to what a rule comes to.
+use Rattle.std.specs.Prelude.{◌≡◌, List, Result, Ok, Err, Vec}
+use Rattle.std.specs.declared.alloc.Global.{Global}
+use Rattle.pr_lineage.specs.declared.found.Found.{Found}
+use Rattle.pr_rules.specs.declared.fault.RuleFailure.{RuleFailure}
+use Rattle.pr_rule_result.specs.declared.error.RuleError.{RuleError}
+use Rattle.pr_rule_result.specs.declared.error.RuleError.TheVariants.{Failed, Memory}
+
+-- An answer is what is meant: the elements, or the fault. Of want of memory nothing is said.
+abbrev pub ComesTo : Result (List Found) RuleFailure → Result (Vec Found Global) RuleError → Type 0
+ComesTo meant (Ok v) = meant ≡ Ok v.items
+ComesTo meant (Err (Failed failure)) = meant ≡ Err failure
+ComesTo meant (Err Memory) = Unit {0}

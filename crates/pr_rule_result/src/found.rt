@@ -1,0 +1,65 @@
+// What a rule makes of an element.
+ghost use Rattle.std.specs.Prelude.{◌≡◌, false, true, IfOk};
+ghost use Rattle.pr_rulefile.specs.Rules.{rule_of_def};
+ghost use Rattle.pr_tmpl.specs.declared.template.External.{External};
+ghost use Rattle.pr_rules.specs.Results.{found_by, found_of};
+ghost use Rattle.pr_rule_result.specs.Templates.{IsTemplatesOf};
+
+use crate::labels::{alerting_labels, expanded_notes, recorded_labels};
+use crate::templates::RuleTemplates;
+use pr_labels::Item;
+use pr_lineage::Found;
+use pr_num::Num;
+use pr_rulefile::RuleDef;
+use pr_tmpl::External;
+use pr_words::Items;
+use std::alloc::{AllocError, Global};
+
+// What is recorded of it.
+fn recorded(alloc: Global, rule: &RuleDef, item: &Item<Num>) -> Result<Found, AllocError>
+    ensures { (external : External) → IfOk result (λ f. f ≡ found_by external (rule_of_def rule.now) false item.now) }
+{
+    Ok(Found {
+        labels: recorded_labels(alloc, rule, item)?,
+        notes: Items::empty(alloc),
+        value: item.value,
+    })
+}
+
+// The alert that it is.
+#[tactic(auto, using(crate::proofs::Templated::expanded_so))]
+fn alerting(
+    alloc: Global,
+    external: &External,
+    rule: &RuleDef,
+    templates: &RuleTemplates,
+    item: &Item<Num>,
+) -> Result<Found, AllocError>
+    ensures { rule.now.alert ≡ true → IsTemplatesOf templates.now (rule_of_def rule.now)
+        → IfOk result (λ f. f ≡ found_by external.now (rule_of_def rule.now) true item.now) }
+{
+    let labels = alerting_labels(alloc, external, rule, templates.labels.as_slice(), item)?;
+    let notes = expanded_notes(alloc, external, templates.notes.as_slice(), item)?;
+    Ok(Found {
+        labels,
+        notes,
+        value: item.value,
+    })
+}
+
+/// What a rule makes of an element: what it records of it, or the alert that it is.
+pub(crate) fn found_of(
+    alloc: Global,
+    external: &External,
+    rule: &RuleDef,
+    templates: &RuleTemplates,
+    item: &Item<Num>,
+) -> Result<Found, AllocError>
+    ensures { IsTemplatesOf templates.now (rule_of_def rule.now) → IfOk result (λ f. f ≡ found_of external.now (rule_of_def rule.now) item.now) }
+{
+    if rule.alert {
+        alerting(alloc, external, rule, templates, item)
+    } else {
+        recorded(alloc, rule, item)
+    }
+}

@@ -1,0 +1,17 @@
+//! What the answer of a rule's expression comes to: labels, annotations and values in label order,
+//! or a fault.
+#![tactic(auto)]
+
+mod comes;
+mod error;
+mod found;
+mod labels;
+mod laws;
+mod rows;
+mod ruled;
+mod templates;
+
+pub use comes::rule_result;
+pub use error::RuleError;
+pub use laws::rules_that_read_have_templates;
+pub use templates::{NamedTemplate, RuleTemplates, templates_of};

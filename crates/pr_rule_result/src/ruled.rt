@@ -1,0 +1,103 @@
+// What a rule makes of a vector.
+ghost use Rattle.std.specs.Prelude.{◌≡◌, ◌++◌, false, List, [], ◌∷◌, IfOk, OnOk, map};
+ghost use Rattle.pr_lineage.specs.declared.found.Found.{Found};
+ghost use Rattle.pr_rulefile.specs.Rules.{rule_of_def};
+ghost use Rattle.pr_rules.specs.declared.fault.RuleFault.TheVariants.{LimitExceeded};
+ghost use Rattle.pr_rules.specs.Results.{FoundsRise, failure, found_of, ruled, within_limit, without_place};
+ghost use Rattle.pr_rule_result.specs.Coming.{ComesTo};
+ghost use Rattle.pr_rule_result.specs.Rows.{AreRows};
+ghost use Rattle.pr_rule_result.specs.Templates.{IsTemplatesOf};
+
+use crate::error::RuleError;
+use crate::found::found_of;
+use crate::rows::{Rows, founds_apart, no_rows, put};
+use crate::templates::RuleTemplates;
+use pr_labels::Item;
+use pr_lineage::Found;
+use pr_num::Num;
+use pr_rulefile::RuleDef;
+use pr_rules::{RuleFailure, RuleFault};
+use pr_tmpl::External;
+use std::alloc::{AllocError, Global};
+
+// Puts what the rule makes of an element.
+fn put_found(
+    alloc: Global,
+    rows: &mut Rows,
+    external: &External,
+    rule: &RuleDef,
+    templates: &RuleTemplates,
+    item: &Item<Num>,
+) -> Result<(), AllocError>
+    ensures { (front : List Found) → IsTemplatesOf templates.now (rule_of_def rule.now) → AreRows front rows.old
+        → OnOk result (AreRows (front ++ found_of external.now (rule_of_def rule.now) item.now ∷ []) rows.new) }
+{
+    let found = found_of(alloc, external, rule, templates, item)?;
+    put(rows, found)
+}
+
+// What the rule makes of all elements.
+fn all_found(
+    alloc: Global,
+    external: &External,
+    rule: &RuleDef,
+    templates: &RuleTemplates,
+    items: &[Item<Num>],
+) -> Result<Rows, AllocError>
+    ensures { IsTemplatesOf templates.now (rule_of_def rule.now) → IfOk result (AreRows (map (found_of external.now (rule_of_def rule.now)) items.now)) }
+{
+    let mut rows = no_rows(alloc);
+    for item in items {
+        put_found(alloc, &mut rows, external, rule, templates, item)?;
+    }
+    Ok(rows)
+}
+
+fn limit_exceeded(limit: u32, have: u64) -> RuleFailure
+    ensures { result ≡ failure 0 (LimitExceeded limit have) }
+{
+    RuleFailure {
+        place: 0,
+        kind: RuleFault::LimitExceeded { limit, have },
+    }
+}
+
+// No more elements than the limit, of which 0 is none.
+fn limited(limit: u32, founds: Vec<Found>) -> Result<Vec<Found>, RuleError>
+    ensures comes { ComesTo (without_place (within_limit false limit founds.items)) result }
+    ensures rising { FoundsRise founds.items → IfOk result (λ v. FoundsRise v.items) }
+{
+    let have = founds.len() as u64;
+    if limit == 0 || have <= limit as u64 {
+        return Ok(founds);
+    }
+    Err(RuleError::Failed {
+        failure: limit_exceeded(limit, have),
+    })
+}
+
+/// What a rule makes of a vector, in label order. The limit is one on what is recorded: of an alert
+/// not the elements are counted.
+pub(crate) fn ruled(
+    alloc: Global,
+    external: &External,
+    limit: u32,
+    rule: &RuleDef,
+    templates: &RuleTemplates,
+    items: &[Item<Num>],
+) -> Result<Vec<Found>, RuleError>
+    ensures comes { IsTemplatesOf templates.now (rule_of_def rule.now) → ComesTo (without_place (ruled external.now limit (rule_of_def rule.now) items.now)) result }
+    ensures rising { IfOk result (λ v. FoundsRise v.items) }
+{
+    let rows = all_found(alloc, external, rule, templates, items)?;
+    match founds_apart(alloc, rows) {
+        Ok(founds) => {
+            if rule.alert {
+                Ok(founds)
+            } else {
+                limited(limit, founds)
+            }
+        }
+        Err(error) => Err(error),
+    }
+}

@@ -1,0 +1,27 @@
+use Rattle.std.proofs.Common.{sym, ◌∙◌, subst}
+use Rattle.std.specs.Prelude.{Err, List, Result}
+use Rattle.pr_lineage.specs.declared.found.Found.{Found}
+use Rattle.pr_rulefile.specs.Rules.{Rule, rule_of_def}
+use Rattle.pr_rules.specs.declared.fault.RuleFailure.{RuleFailure}
+use Rattle.pr_rule_result.specs.Coming.{ComesTo}
+use Rattle.pr_rule_result.specs.Templates.{IsTemplatesOf}
+use Rattle.pr_rule_step.proofs.Reckoning.{meant_so, offers_error}
+use Rattle.pr_rule_step.proofs.outcome.outcome.Goals as goal
+
+pub returns-in-Ok-clause-offers : goal.returns-in-Ok-clause-offers
+returns-in-Ok-clause-offers g c = λ s group r history is same templates stands may.
+    let at = c.args.at.now in
+    let code = rule_of_def c.args.rule.now in
+    let own = subst (λ (q : Rule). IsTemplatesOf c.args.templates.now q) (sym same) templates in
+    c.offer.ensures s group r history is same stands c.in-Ok.ensures.rising
+    (sym (meant_so at.step at.external.now at.limit at.interval at.waits s group code r.rule history at.time is same) ∙ c.in-Ok.ensures.comes history may own)
+
+pub returns-in-Err-clause-offers : goal.returns-in-Err-clause-offers
+returns-in-Err-clause-offers g c = λ s group r history is same templates stands may.
+    let at = c.args.at.now in
+    let code = rule_of_def c.args.rule.now in
+    let own = subst (λ (q : Rule). IsTemplatesOf c.args.templates.now q) (sym same) templates in
+    offers_error c.a_fault_leaves_the_records.ensures c.in-Err.error s group r history at.time c.args.records.now
+    (subst (λ (m : Result (List Found) RuleFailure). ComesTo m (Err c.in-Err.error)) (meant_so at.step at.external.now at.limit at.interval at.waits s group code r.rule history at.time is same)
+    (c.in-Err.ensures.comes history may own))
+    stands

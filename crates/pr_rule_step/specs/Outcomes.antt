@@ -1,0 +1,31 @@
+-- What a rule comes to before anything is put: its samples and notifications, and its records.
+use Rattle.std.specs.Prelude.{◌≡◌, ℕ, true, List, [], Result, Ok, Err}
+use Rattle.pr_labels.specs.declared.pair.Pair.{Pair}
+use Rattle.pr_lineage.specs.declared.found.Found.{Found}
+use Rattle.pr_lineage.specs.declared.record.Record.{Record}
+use Rattle.pr_lineage.specs.Lineage.{came_to}
+use Rattle.pr_rules.specs.declared.fault.RuleFailure.{RuleFailure}
+use Rattle.pr_rules.specs.Evaluations.{evaluated, fault_outcome, rule_samples, sent_by}
+use Rattle.pr_rules.specs.Groups.{Group, RuleState, interval_of}
+use Rattle.pr_alert.specs.Standing.{StandsFor}
+use Rattle.pr_rule_result.specs.declared.error.RuleError.{RuleError}
+use Rattle.pr_rule_result.specs.declared.error.RuleError.TheVariants.{Failed, Memory}
+use Rattle.pr_rule_step.specs.declared.offered.Offered.{Offered}
+
+-- The rule comes to these samples and notifications, and where it is an alert to these records,
+-- whatever is written then.
+pub record IsOffered (offered : Offered) (alerts : List Record) (g : Group) (r : RuleState) (now : ℕ) (founds : List Found) : Type 0 where
+  pub samples : offered.samples ≡ rule_samples g r now founds
+  pub sent : (wrote : List (List Pair)) → offered.sent ≡ sent_by r.rule.alert (interval_of g) (evaluated r now (came_to founds) wrote)
+  pub records : (wrote : List (List Pair)) → r.rule.alert ≡ true → StandsFor alerts (evaluated r now (came_to founds) wrote)
+
+-- A rule has a fault, and its records stand for it after that.
+pub record HasFailed (came : Result (List Found) RuleFailure) (alerts : List Record) (r : RuleState) (now : ℕ) (failure : RuleFailure) : Type 0 where
+  pub outcome : came ≡ Err failure
+  pub records : r.rule.alert ≡ true → StandsFor alerts (evaluated r now (fault_outcome failure.kind) [])
+
+-- What is offered is what the outcome of the rule comes to, or its fault.
+abbrev pub Offers : Result (List Found) RuleFailure → List Record → Group → RuleState → ℕ → Result Offered RuleError → Type 0
+Offers came alerts g r now (Ok offered) = (founds : List Found) × ((came ≡ Ok founds) × IsOffered offered alerts g r now founds)
+Offers came alerts g r now (Err (Failed failure)) = HasFailed came alerts r now failure
+Offers came alerts g r now (Err Memory) = Unit {0}

@@ -1,0 +1,39 @@
+-- How what is remembered of a rule stands for it, and the step of a rule in code.
+use Rattle.std.specs.Prelude.{◌≡◌, ℕ, Bool, true, nat_lt, List, Option}
+use Rattle.pr_labels.specs.declared.pair.Pair.{Pair}
+use Rattle.pr_history.specs.declared.entry.Entry.{Entry}
+use Rattle.pr_tmpl.specs.declared.template.External.{External}
+use Rattle.pr_lineage.specs.declared.record.Record.{Record}
+use Rattle.pr_lineage.specs.Lineage.{previous}
+use Rattle.pr_rulefile.specs.Rules.{Rule}
+use Rattle.pr_rules.specs.declared.report.RuleReport.{RuleReport}
+use Rattle.pr_rules.specs.Evaluations.{RuleStep}
+use Rattle.pr_rules.specs.Groups.{Group, RuleState}
+use Rattle.pr_rules.specs.Settings.{Settings}
+use Rattle.pr_intake.specs.Intake.{Puts, Series}
+use Rattle.pr_alert.specs.Standing.{StandsFor}
+use Rattle.pr_rule_result.specs.declared.templates.RuleTemplates.{RuleTemplates}
+use Rattle.pr_rule_result.specs.Templates.{IsTemplatesOf}
+
+-- The step of subqueries and the external texts are those of the settings; limit, interval and
+-- waiting are those of the group.
+pub record IsEvaluationOf (blank : ℕ) (outside : External) (most : ℕ) (every : Option ℕ) (waiting : Bool) (s : Settings) (g : Group) : Type 0 where
+  pub step : blank ≡ s.subquery_step
+  pub external : outside ≡ s.external
+  pub limit : most ≡ g.limit
+  pub interval : every ≡ g.interval
+  pub waits : waiting ≡ nat_lt 0 g.waits
+
+-- The templates are the rule's, the series are what it wrote last, and where it is an alert the
+-- records are its alerts.
+pub record StandsForRule (known : RuleTemplates) (wrote : List (List Pair)) (alerts : List Record) (code : Rule) (r : RuleState) : Type 0 where
+  pub rule : code ≡ r.rule
+  pub templates : IsTemplatesOf known r.rule
+  pub previous : wrote ≡ previous r.lineage
+  pub records : r.rule.alert ≡ true → StandsFor alerts r.lineage
+
+-- A rule came this step: the head has taken its entries, what was added stands behind the rows, and
+-- it is told so.
+pub record HasStepped (old new : Series) (rows more : List Entry) (answer : RuleReport) (history : List Entry) (step : RuleStep) : Type 0 where
+  pub puts : Puts old new rows more history step.entries
+  pub report : answer ≡ step.report

@@ -1,0 +1,98 @@
+// The samples of a rule are put, and what becomes of each is told.
+ghost use Rattle.std.specs.Prelude.{◌≡◌, ◌++◌, ◌∷◌, [], cond, List, IfOk, OnOk};
+ghost use Rattle.pr_history.specs.declared.entry.Entry.{Entry};
+ghost use Rattle.pr_head.specs.Holds.{Holds};
+ghost use Rattle.pr_puts.specs.Puts.{is_shown};
+ghost use Rattle.pr_rules.specs.Evaluations.{sample_entry, put_of};
+ghost use Rattle.pr_rule_step.specs.Written.{Writes};
+
+use pr_head::Head;
+use pr_history::{Append, Entry};
+use pr_intake::{is_shown, put};
+use pr_labels::{Item, Labels};
+use pr_num::{Num, Point};
+use pr_rules::Put;
+use pr_time::Ms;
+use std::alloc::{AllocError, Global};
+
+// A sample at a time.
+fn sample_entry(alloc: Global, now: Ms, item: &Item<Num>) -> Result<Entry, AllocError>
+    ensures { IfOk result (λ e. e ≡ sample_entry now item.now) }
+{
+    Ok(Entry {
+        labels: item.labels.copy(alloc)?,
+        time: now,
+        point: Point::Value(item.value),
+    })
+}
+
+// Notes the series of a sample that it shows.
+fn note_shown(
+    alloc: Global,
+    wrote: &mut Vec<Labels>,
+    item: &Item<Num>,
+    answer: &Append,
+) -> Result<(), AllocError>
+    ensures { OnOk result (wrote.new.items ≡ wrote.old.items ++ (cond (is_shown answer.now) (item.now.labels ∷ []) [])) }
+{
+    if is_shown(answer) {
+        wrote.push(item.labels.copy(alloc)?)?;
+    }
+    Ok(())
+}
+
+// Notes what became of a sample.
+fn note_told(
+    alloc: Global,
+    told: &mut Vec<Put>,
+    item: &Item<Num>,
+    answer: Append,
+) -> Result<(), AllocError>
+    ensures { OnOk result (told.new.items ≡ told.old.items ++ put_of (item.now, answer) ∷ []) }
+{
+    told.push(Put {
+        labels: item.labels.copy(alloc)?,
+        value: item.value,
+        append: answer,
+    })?;
+    Ok(())
+}
+
+// Puts a sample.
+fn put_sample(
+    alloc: Global,
+    head: &mut Head,
+    rows: &mut Vec<Entry>,
+    told: &mut Vec<Put>,
+    wrote: &mut Vec<Labels>,
+    now: Ms,
+    item: &Item<Num>,
+) -> Result<(), AllocError>
+    ensures { (history : List Entry) → Holds head.old history
+        → OnOk result (Writes head.old head.new rows.old.items rows.new.items told.old.items told.new.items wrote.old.items wrote.new.items history now (item.now ∷ [])) }
+{
+    let entry = sample_entry(alloc, now, item)?;
+    let answer = put(head, rows, entry)?;
+    note_shown(alloc, wrote, item, &answer)?;
+    note_told(alloc, told, item, answer)
+}
+
+/// Puts samples in order: into the head, behind the rows where they are added, and behind what is
+/// told. The series that show them are put behind those that were written.
+pub(crate) fn put_samples(
+    alloc: Global,
+    head: &mut Head,
+    rows: &mut Vec<Entry>,
+    told: &mut Vec<Put>,
+    wrote: &mut Vec<Labels>,
+    now: Ms,
+    items: &[Item<Num>],
+) -> Result<(), AllocError>
+    ensures { (history : List Entry) → Holds head.old history
+        → OnOk result (Writes head.old head.new rows.old.items rows.new.items told.old.items told.new.items wrote.old.items wrote.new.items history now items.now) }
+{
+    for item in items {
+        put_sample(alloc, head, rows, told, wrote, now, item)?;
+    }
+    Ok(())
+}

@@ -1,0 +1,94 @@
+// What a rule comes to is put.
+ghost use Rattle.std.specs.Prelude.{◌≡◌, ℕ, List, IfOk, OnOk};
+ghost use Rattle.pr_history.specs.declared.entry.Entry.{Entry};
+ghost use Rattle.pr_head.specs.Holds.{Holds};
+ghost use Rattle.pr_lineage.specs.declared.found.Found.{Found};
+ghost use Rattle.pr_lineage.specs.declared.record.Record.{Record};
+ghost use Rattle.pr_lineage.specs.Lineage.{previous};
+ghost use Rattle.pr_rules.specs.declared.fault.RuleFailure.{RuleFailure};
+ghost use Rattle.pr_rules.specs.Evaluations.{failed_step, fine_step, rule_samples};
+ghost use Rattle.pr_rules.specs.Groups.{Group, RuleState};
+ghost use Rattle.pr_rule_step.specs.Outcomes.{IsOffered};
+ghost use Rattle.pr_rule_step.specs.Standing.{HasStepped};
+ghost use Rattle.pr_rule_step.specs.Written.{HasWritten};
+
+use crate::offered::Offered;
+use crate::samples::put_samples;
+use pr_head::Head;
+use pr_history::Entry;
+use pr_intake::mark;
+use pr_labels::{Item, Labels};
+use pr_num::Num;
+use pr_rules::{Put, RuleFailure, RuleOutcome, RuleReport};
+use pr_time::Ms;
+use pr_words::Items;
+use std::alloc::{AllocError, Global};
+
+// What became of the samples of a rule, and the series that got a marker.
+#[derive(Drop)]
+struct Written {
+    told: Items<Put>,
+    stale: Items<Labels>,
+}
+
+// Puts the samples of a rule, and then a marker for each series that it wrote last and now not.
+fn write(
+    alloc: Global,
+    head: &mut Head,
+    rows: &mut Vec<Entry>,
+    last: &mut Items<Labels>,
+    now: Ms,
+    items: &[Item<Num>],
+) -> Result<Written, AllocError>
+    ensures { (history : List Entry) → Holds head.old history
+        → IfOk result (λ w. HasWritten head.old head.new rows.old.items rows.new.items last.old last.new w.told w.stale history now items.now) }
+{
+    let mut told = Vec::new(alloc);
+    let mut wrote = Vec::new(alloc);
+    put_samples(alloc, head, rows, &mut told, &mut wrote, now, items)?;
+    let stale = mark(alloc, head, rows, now, last.as_slice(), &wrote)?;
+    *last = Items::new(wrote);
+    Ok(Written {
+        told: Items::new(told),
+        stale: Items::new(stale),
+    })
+}
+
+/// Puts what a rule comes to, and tells it. The series that it wrote last are now those that show
+/// its samples.
+pub(crate) fn tell(
+    alloc: Global,
+    head: &mut Head,
+    rows: &mut Vec<Entry>,
+    last: &mut Items<Labels>,
+    now: Ms,
+    offered: Offered,
+) -> Result<RuleReport, AllocError>
+    ensures steps { (history : List Entry) (g : Group) (r : RuleState) (founds : List Found) (alerts : List Record) → Holds head.old history → last.old ≡ previous r.lineage → IsOffered offered alerts g r now founds
+        → IfOk result (λ report. HasStepped head.old head.new rows.old.items rows.new.items report history (fine_step g r now founds history (rule_samples g r now founds))) }
+    ensures wrote { (history : List Entry) (g : Group) (r : RuleState) (founds : List Found) (alerts : List Record) → Holds head.old history → last.old ≡ previous r.lineage → IsOffered offered alerts g r now founds
+        → OnOk result (last.new ≡ previous (fine_step g r now founds history (rule_samples g r now founds)).lineage) }
+{
+    let written = write(alloc, head, rows, last, now, offered.samples.as_slice())?;
+    Ok(RuleReport {
+        outcome: RuleOutcome::Fine,
+        samples: written.told,
+        stale: written.stale,
+        sent: offered.sent,
+    })
+}
+
+/// What is told of a rule that has a fault.
+pub(crate) fn failed(alloc: Global, failure: RuleFailure) -> RuleReport
+    ensures { (r : RuleState) (now : ℕ) → result ≡ (failed_step r now failure).report }
+{
+    RuleReport {
+        outcome: RuleOutcome::Fault {
+            place: failure.place,
+            kind: failure.kind,
+        },
+        samples: Items::empty(alloc),
+        stale: Items::empty(alloc),
+        sent: Items::empty(alloc),
+    }
+}
