@@ -1,0 +1,4 @@
+pub mod Receivers
+pub mod Calls
+pub mod Accounts
+pub mod Examples

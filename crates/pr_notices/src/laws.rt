@@ -1,0 +1,23 @@
+// Laws of what receivers are given.
+ghost use Rattle.std.specs.Prelude.{◌≡◌, ℕ, List, [], false};
+ghost use Rattle.pr_notices.specs.Accounts.{IsAccounted};
+ghost use Rattle.pr_notices.specs.Calls.{Call, after, after_all, batches, forgets};
+ghost use Rattle.pr_notices.specs.Receivers.{AreReceivers, Receiver, after_add, joins};
+ghost use Rattle.pr_notices.specs.declared.joined.Joined.TheVariants.{New};
+
+/// At first and after each call the place of each receiver lies in its stream, with at most 10,000
+/// notices behind it; no name stands twice; and there are at most 64 receivers.
+#[tactic(auto, using(crate::proofs::Kept::none_known, crate::proofs::Kept::kept_after))]
+pub fn receivers_stay_within_their_bounds()
+    ensures begin { AreReceivers [] }
+    ensures stay { (rs : List Receiver) (call : Call) → AreReceivers rs → AreReceivers (after rs call) }
+{}
+
+/// What a receiver was given since it was added, batch by batch, is its stream up to its place, without
+/// exactly the notices that were counted as lost, each notice once and in order. Its stream is all that
+/// was offered since. A count of 2^64 - 1 stands for so many or more.
+#[tactic(auto, using(crate::proofs::Accounted::accounted_since_added))]
+pub fn a_receiver_is_given_its_stream_in_order()
+    ensures { (name : List ℕ) (rs : List Receiver) (calls : List Call) → joins name rs ≡ New → forgets calls ≡ false
+        → IsAccounted name calls (after_all (after_add name rs) calls) (batches name (after_add name rs) calls) }
+{}

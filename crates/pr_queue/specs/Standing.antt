@@ -1,0 +1,14 @@
+-- What a notifier stands for.
+use Rattle.std.specs.Prelude.{◌≡◌, min, List, drop, map}
+use Rattle.pr_notices.specs.Receivers.{AreReceivers, Receiver, most_counted}
+use Rattle.pr_queue.specs.Queues.{Waiting}
+
+-- The queue of a receiver has what stands in its stream from its place on, and the count of what was
+-- passed over since its last batch.
+abbrev pub waiting_of : Receiver → Waiting
+waiting_of r = record { name = r.name; notices = drop r.next r.stream; dropped = min most_counted r.passed }
+
+-- The queues are those of these receivers, one for each.
+pub record StandsFor (queues : List Waiting) (rs : List Receiver) : Type 0 where
+  pub queued : queues ≡ map waiting_of rs
+  pub receivers : AreReceivers rs
