@@ -1,0 +1,78 @@
+// The alerts of a rule that fire.
+ghost use Rattle.std.specs.Prelude.{◌≡◌, ◌++◌, ◌∷◌, [], OnOk, IfOk, filter, map};
+ghost use Rattle.pr_verdict.specs.Verdict.{found_of, is_firing};
+
+use pr_labels::Pair;
+use pr_lineage::{Found, Record, State};
+use pr_words::Items;
+use std::alloc::{AllocError, Global};
+
+fn is_firing(state: State) -> bool
+    ensures { result ≡ is_firing state }
+{
+    match state {
+        State::Firing => true,
+        State::Pending | State::Resolved => false,
+    }
+}
+
+fn copy_pair(alloc: Global, pair: &Pair) -> Result<Pair, AllocError>
+    ensures { IfOk result (λ p. p ≡ pair.now) }
+{
+    Ok(Pair {
+        name: pair.name.copy(alloc)?,
+        value: pair.value.copy(alloc)?,
+    })
+}
+
+/// The same annotations again.
+pub(crate) fn copy_notes(alloc: Global, notes: &[Pair]) -> Result<Items<Pair>, AllocError>
+    ensures { IfOk result (λ list. list ≡ notes.now) }
+{
+    let mut copies = Vec::new(alloc);
+    for note in notes {
+        copies.push(copy_pair(alloc, note)?)?;
+    }
+    Ok(Items::new(copies))
+}
+
+fn found_of(alloc: Global, alert: &Record) -> Result<Found, AllocError>
+    ensures { IfOk result (λ f. f ≡ found_of alert.now) }
+{
+    Ok(Found {
+        labels: alert.labels.copy(alloc)?,
+        notes: copy_notes(alloc, alert.notes.as_slice())?,
+        value: alert.value,
+    })
+}
+
+// Puts an alert behind others, if it fires.
+fn push_if_firing(alloc: Global, alert: &Record, founds: &mut Vec<Found>) -> Result<(), AllocError>
+    ensures { OnOk result (founds.new.items ≡ founds.old.items ++ map found_of (filter (λ r. is_firing r.state) (alert.now ∷ []))) }
+{
+    if is_firing(alert.state) {
+        founds.push(found_of(alloc, alert)?)?;
+    }
+    Ok(())
+}
+
+/// Puts those of a rule's alerts that fire behind others. An alert that is pending, or over, is not
+/// among them. (Prometheus: cmd/promtool/unittest.go, where only firing alerts are compared.)
+///
+/// # Errors
+/// Want of memory.
+#[tactic(auto, using(crate::proofs::FiringAlerts::one_more))]
+pub fn push_firing(
+    alloc: Global,
+    records: &[Record],
+    founds: &mut Vec<Found>,
+) -> Result<(), AllocError>
+    ensures { OnOk result (founds.new.items ≡ founds.old.items ++ map found_of (filter (λ r. is_firing r.state) records.now)) }
+{
+    let mut rest = records;
+    'alerts: while let Some((alert, after)) = rest.split_first() {
+        push_if_firing(alloc, alert, founds)?;
+        rest = after;
+    }
+    Ok(())
+}
