@@ -1,0 +1,6 @@
+pub mod Told
+pub mod Loaded
+pub mod Queries
+pub mod Values
+pub mod Steps
+pub mod Answering

@@ -1,0 +1,16 @@
+use Rattle.std.proofs.Common.{◌≡◌, ◌≤◌, ◌-◌}
+use Rattle.pr_outside.specs.Kept.{KeepsRows}
+use Rattle.pr_engine.specs.Loading.{IsLoadedTo}
+use Rattle.pr_engine.proofs.loading.load.Given as goal
+
+abbrev pub invariant-loading : goal.invariant-loading
+invariant-loading g l = record {
+  loaded : IsLoadedTo l.index l.head (g.K.Keeper.means l.keeper);
+  within : l.index ≤ l.size;
+  same : KeepsRows (g.K.Keeper.means l.fn.keeper).rows (g.K.Keeper.means l.keeper).rows;
+  count : (g.K.Keeper.means l.keeper).count ≡ (g.K.Keeper.means l.fn.keeper).count;
+  calm : (g.K.Keeper.means l.keeper).faults ≡ (g.K.Keeper.means l.fn.keeper).faults;
+}
+
+abbrev pub decreases-loading : goal.decreases-loading
+decreases-loading g l = l.size - l.index

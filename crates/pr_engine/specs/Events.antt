@@ -1,0 +1,88 @@
+-- Events, and what they may read.
+use Rattle.std.specs.Prelude.{◌≡◌, ℕ, Bool, true, false, nat_lt, List, Option, Some, None, IsSome, Result, Ok, Err}
+use Rattle.pr_ast.specs.Tree.{Tree}
+use Rattle.pr_history.specs.declared.entry.Entry.{Entry}
+use Rattle.pr_outside.specs.Meant.{Store}
+use Rattle.pr_parse.specs.Parsed.{Parsed, gives_tree, gives_lex_fault, gives_fault, parsed}
+use Rattle.pr_query.specs.Cost.{cost, nothing_passed}
+use Rattle.pr_types.specs.Typed.{checked}
+use Rattle.pr_types.specs.declared.kind.TypeFault.{TypeFault}
+use Rattle.pr_types.specs.declared.kind.ValueType.{ValueType}
+use Rattle.pr_world.specs.Settings.{Settings, of_a_run}
+use Rattle.pr_world.specs.Step.{Step, outcome_in_time, step_by, time_of}
+use Rattle.pr_world.specs.World.{World}
+use Rattle.pr_world.specs.declared.event.Event.{Event}
+use Rattle.pr_world.specs.declared.event.Event.TheVariants as event
+
+-- the settings of a run, with this step of subqueries that name none
+abbrev pub settings_of : ℕ → Settings
+settings_of step = record { subquery_step = step; external = of_a_run.external }
+
+-- So far an order about rules is none that is taken, but for an evaluation: no group is there.
+abbrev pub is_taken : Event → Bool
+is_taken (event.Add time labels point) = true
+is_taken (event.Query time text) = true
+is_taken (event.Scrape time target body) = true
+is_taken (event.Fail time target) = true
+is_taken (event.Gone time target) = true
+is_taken (event.Eval time file group) = true
+is_taken (event.Reload time files) = false
+is_taken (event.Restart time) = true
+is_taken (event.Alerts time) = true
+
+abbrev pub is_restart : Event → Bool
+is_restart (event.Add time labels point) = false
+is_restart (event.Query time text) = false
+is_restart (event.Scrape time target body) = false
+is_restart (event.Fail time target) = false
+is_restart (event.Gone time target) = false
+is_restart (event.Eval time file group) = false
+is_restart (event.Reload time files) = false
+is_restart (event.Restart time) = true
+is_restart (event.Alerts time) = false
+
+-- a time is not before that of the last event
+abbrev pub IsNotBefore : Option ℕ → ℕ → Type 0
+IsNotBefore None time = Unit {0}
+IsNotBefore (Some last) time = nat_lt time last ≡ false
+
+-- What an event comes to that is not before the last one.
+abbrev pub step_in_time : ℕ → World → Event → Step
+step_in_time step w e = step_by w (time_of e) (outcome_in_time (settings_of step) w e)
+
+-- what a restart reads again is known where the store tells its rows
+abbrev pub IsKnownAfter : Event → Store → Type 0
+IsKnownAfter (event.Add time labels point) store = Unit {0}
+IsKnownAfter (event.Query time text) store = Unit {0}
+IsKnownAfter (event.Scrape time target body) store = Unit {0}
+IsKnownAfter (event.Fail time target) store = Unit {0}
+IsKnownAfter (event.Gone time target) store = Unit {0}
+IsKnownAfter (event.Eval time file group) store = Unit {0}
+IsKnownAfter (event.Reload time files) store = Unit {0}
+IsKnownAfter (event.Restart time) store = IsSome store.rows
+IsKnownAfter (event.Alerts time) store = Unit {0}
+
+-- How many samples are read for an event at most: for a query those of its expression, where it has a
+-- type, and for no other.
+abbrev pub typed_cost : ℕ → List Entry → ℕ → Tree → Result ValueType TypeFault → ℕ
+typed_cost step history time tree (Ok type) = cost step history nothing_passed tree 0 time
+typed_cost step history time tree (Err f) = 0
+
+abbrev pub parsed_cost : ℕ → List Entry → ℕ → Parsed → ℕ
+parsed_cost step history time (gives_tree tree) = typed_cost step history time tree (checked tree)
+parsed_cost step history time (gives_lex_fault at kind) = 0
+parsed_cost step history time (gives_fault at kind) = 0
+
+abbrev pub query_cost : ℕ → List Entry → ℕ → List ℕ → ℕ
+query_cost step history time text = parsed_cost step history time (parsed text)
+
+abbrev pub event_cost : ℕ → World → Event → ℕ
+event_cost step w (event.Add time labels point) = 0
+event_cost step w (event.Query time text) = query_cost step w.history time text
+event_cost step w (event.Scrape time target body) = 0
+event_cost step w (event.Fail time target) = 0
+event_cost step w (event.Gone time target) = 0
+event_cost step w (event.Eval time file group) = 0
+event_cost step w (event.Reload time files) = 0
+event_cost step w (event.Restart time) = 0
+event_cost step w (event.Alerts time) = 0

@@ -1,0 +1,209 @@
+// The engine.
+ghost use Rattle.std.specs.Prelude.{◌≡◌, ◌≢◌, ℕ, ◌+◌, ◌<◌, ◌≤◌, [], false, true, Some, None, Ok, Err, IfOk, IfSome, IsSome, OnOk, OnErr, Option, Result};
+ghost use Rattle.pr_outside.specs.Kept.{KeepsRows, StartsRows};
+ghost use Rattle.pr_row.specs.Histories.{history_of};
+ghost use Rattle.pr_world.specs.Outcome.{is_refusal};
+ghost use Rattle.pr_world.specs.Step.{next, time_of};
+ghost use Rattle.pr_world.specs.World.{World};
+ghost use Rattle.pr_engine.specs.declared.fault.Cause.{Cause};
+ghost use Rattle.pr_engine.specs.Causes.{HasApplyCause, HasStartCause, broken_after, cause_of, last_after};
+ghost use Rattle.pr_engine.specs.Events.{IsKnownAfter, IsNotBefore, event_cost, is_restart, is_taken, settings_of};
+ghost use Rattle.pr_engine.specs.Standing.{StandsFor, StandsForSome, Starts};
+
+use crate::fault::{ApplyError, Cause, StartError};
+use crate::standing::Standing;
+use crate::telling::{is_refusal, is_restart, time_of};
+use pr_outside::Keeper;
+use pr_time::{Ms, Span};
+use pr_words::Steps;
+use pr_world::{Event, Report};
+use std::alloc::Global;
+use std::marker::Model;
+use std::sync::ledger::Ledger;
+
+/// The engine. It is handed its store at each call. Contracts see what it keeps, and say of each world
+/// that it stands for, with the store, what becomes of it.
+#[derive(Drop)]
+pub struct Engine {
+    standing: Standing,
+    step: Span,
+    last: Option<Ms>,
+    broken: Option<Cause>,
+}
+
+impl Model for Engine {
+    ghost use Rattle.std.specs.Prelude.{◌<◌};
+    ghost use Rattle.pr_engine.specs.Standing.{Kept};
+
+    ghost Value = { Kept };
+
+    ghost view = { λ e. record { parts = e.standing; step = e.step; last = e.last; broken = e.broken } };
+
+    ghost invariant = { λ e. 0 < e.step };
+}
+
+// What breaks an engine that answers so.
+fn cause_of(error: &ApplyError) -> Cause
+    ensures { result ≡ cause_of error.now }
+{
+    match error {
+        ApplyError::Memory => Cause::Memory,
+        ApplyError::StoreFailed => Cause::StoreFailed,
+        ApplyError::BadRow { .. } => Cause::BadRow,
+        ApplyError::Broken { first } => *first,
+    }
+}
+
+// What an engine is broken by after an answer.
+fn broken_after(before: Option<Cause>, answer: &Result<Report, ApplyError>) -> Option<Cause>
+    ensures { result ≡ broken_after before answer.now }
+{
+    match answer {
+        Ok(report) => { if is_refusal(report) { before } else { None } }
+        Err(error) => Some(before.unwrap_or(cause_of(error))),
+    }
+}
+
+// The time of the last event after an answer.
+fn last_after(before: Option<Ms>, time: Ms, answer: &Result<Report, ApplyError>) -> Option<Ms>
+    ensures { result ≡ last_after before time answer.now }
+{
+    match answer {
+        Ok(report) if !is_refusal(report) => Some(time),
+        _ => before,
+    }
+}
+
+impl Engine {
+    /// Opens the store of a path, and reads the rows that it has. The step is that of subqueries that
+    /// name none; it is not 0.
+    ///
+    /// # Errors
+    /// `StoreFailed` where the store refused a call; `BadRow` with the index of the first row that is
+    /// the row of no entry, or is not added to those before it; `Memory`.
+    #[tactic(auto, using(crate::proofs::Answering::keep_started))]
+    pub fn start<K: Keeper>(
+        alloc: Global,
+        keeper: &mut K,
+        path: &str,
+        step: Span,
+    ) -> Result<Engine, StartError>
+        requires { 0 < step }
+        ensures stands { IfOk result (λ e. Starts e (K.means keeper.new)) }
+        ensures whole { IfOk result (λ e. (e.broken ≡ None) × (e.step ≡ step)) }
+        ensures bad { (at : ℕ) → result ≡ Err (StartError.BadRow at) → IfSome (K.means keeper.new).rows (λ rows. history_of rows ≡ Err at) }
+        ensures rows { StartsRows (K.means keeper.old).rows (K.means keeper.new).rows }
+        ensures cause { HasStartCause (K.means keeper.old).faults (K.means keeper.new).faults result }
+    {
+        match keeper.start(path) {
+            Ok(()) => {}
+            Err(error) => return Err(StartError::from(error)),
+        }
+        match Standing::begin(alloc, keeper) {
+            Ok(standing) => Ok(Engine {
+                standing,
+                step,
+                last: None,
+                broken: None,
+            }),
+            Err(error) => Err(error),
+        }
+    }
+
+    /// The time of the last event that was accepted since the start, where one was.
+    pub fn last(&self) -> Option<Ms>
+        ensures { result ≡ self.now.last }
+    {
+        self.last
+    }
+
+    /// How many rows are kept.
+    pub fn rows<K: Keeper>(&self, keeper: &K) -> u64
+        ensures { result ≡ (K.means keeper.now).count }
+    {
+        keeper.size()
+    }
+
+    // Answers an event that is not before the last one. Of a broken engine it is a restart.
+    #[tactic(auto, using(crate::proofs::Answering::stands_after, crate::proofs::Answering::stands_broken, crate::proofs::Answering::stands_anew, crate::proofs::Answering::report_in_time, crate::proofs::Answering::rows_in_time, crate::proofs::Answering::keeps_whole, crate::proofs::Answering::known_else))]
+    fn answer<K: Keeper, G: Ledger>(
+        &mut self,
+        alloc: Global,
+        keeper: &mut K,
+        event: Event,
+        reads: &mut Steps<G>,
+    ) -> Result<Report, ApplyError>
+        requires taken { is_taken event ≡ true }
+        requires whole { is_restart event ≡ false → self.old.broken ≡ None }
+        requires in_time { IsNotBefore self.old.last (time_of event) }
+        ensures report { (w : World) → StandsFor self.old (K.means keeper.old) w → IfOk result (λ r. r ≡ (next (settings_of self.old.step) w event).report) }
+        ensures world { (w : World) → StandsFor self.old (K.means keeper.old) w → IsKnownAfter event (K.means keeper.new)
+            → OnOk result (StandsFor self.new (K.means keeper.new) (next (settings_of self.old.step) w event).world) }
+        ensures some { (w : World) → StandsFor self.old (K.means keeper.old) w → OnOk result (StandsForSome self.new (K.means keeper.new)) }
+        ensures err { (w : World) → StandsFor self.old (K.means keeper.old) w → OnErr result (StandsFor self.new (K.means keeper.new) w) }
+        ensures broken { self.new.broken ≡ broken_after self.old.broken result }
+        ensures step { self.new.step ≡ self.old.step }
+        ensures none { (w : World) → StandsFor self.old (K.means keeper.old) w → is_restart event ≡ false → (next (settings_of self.old.step) w event).rows ≡ []
+            → keeper.new ≡ keeper.old }
+        ensures told { IsSome (K.means keeper.new).rows → IsSome (K.means keeper.old).rows }
+        ensures bad { (at : ℕ) → result ≡ Err (ApplyError.BadRow at) → (is_restart event ≡ true) × IfSome (K.means keeper.new).rows (λ rows. history_of rows ≡ Err at) }
+        ensures unbroken { (first : Cause) → result ≢ Err (ApplyError.Broken first) }
+        ensures cause { HasApplyCause (K.means keeper.old).faults (K.means keeper.new).faults result }
+        ensures reads { (w : World) → StandsFor self.old (K.means keeper.old) w → reads.new ≤ reads.old + event_cost self.old.step w event }
+    {
+        let time = time_of(&event);
+        let answer = self.standing.answer(alloc, keeper, self.step, event, reads);
+        self.last = last_after(self.last, time, &answer);
+        self.broken = broken_after(self.broken, &answer);
+        answer
+    }
+
+    /// Takes an event, and answers it. What it adds is kept by one commit before it is answered, and
+    /// nothing after the commit takes memory.
+    ///
+    /// # Errors
+    /// `Memory`; `StoreFailed` where the store refused a call; `BadRow` of a restart, with the index
+    /// of the first row that is the row of no entry, or is not added to those before it. Then the
+    /// store has the rows from before the event, and all but restarts are answered by `Broken`, with
+    /// the first cause, until one succeeds.
+    #[tactic(auto, unfolding(pr_world::specs::Step::next))]
+    pub fn apply<K: Keeper, G: Ledger>(
+        &mut self,
+        alloc: Global,
+        keeper: &mut K,
+        event: Event,
+        reads: &mut Steps<G>,
+    ) -> Result<Report, ApplyError>
+        requires { is_taken event ≡ true }
+        ensures report { (w : World) → StandsFor self.old (K.means keeper.old) w → IfOk result (λ r. r ≡ (next (settings_of self.old.step) w event).report) }
+        ensures world { (w : World) → StandsFor self.old (K.means keeper.old) w → IsKnownAfter event (K.means keeper.new)
+            → OnOk result (StandsFor self.new (K.means keeper.new) (next (settings_of self.old.step) w event).world) }
+        // Also after a restart over a store that does not tell its rows.
+        ensures some { (w : World) → StandsFor self.old (K.means keeper.old) w → OnOk result (StandsForSome self.new (K.means keeper.new)) }
+        // After an error the store has the rows of before, and the time is that of the last event.
+        ensures err { (w : World) → StandsFor self.old (K.means keeper.old) w → OnErr result (StandsFor self.new (K.means keeper.new) w) }
+        // What breaks the engine first is kept until a restart succeeds.
+        ensures broken { self.new.broken ≡ broken_after self.old.broken result }
+        ensures refuses { (first : Cause) → self.old.broken ≡ Some first → is_restart event ≡ false → result ≡ Err (ApplyError.Broken first) }
+        ensures only { (first : Cause) → result ≡ Err (ApplyError.Broken first) → (self.old.broken ≡ Some first) × (is_restart event ≡ false) }
+        ensures step { self.new.step ≡ self.old.step }
+        // No commit is made for an event that adds nothing, a refused one among them.
+        ensures none { (w : World) → StandsFor self.old (K.means keeper.old) w → is_restart event ≡ false → (next (settings_of self.old.step) w event).rows ≡ []
+            → keeper.new ≡ keeper.old }
+        ensures told { IsSome (K.means keeper.new).rows → IsSome (K.means keeper.old).rows }
+        ensures bad { (at : ℕ) → result ≡ Err (ApplyError.BadRow at) → (is_restart event ≡ true) × IfSome (K.means keeper.new).rows (λ rows. history_of rows ≡ Err at) }
+        ensures cause { HasApplyCause (K.means keeper.old).faults (K.means keeper.new).faults result }
+        // A query alone reads samples.
+        ensures reads { (w : World) → StandsFor self.old (K.means keeper.old) w → reads.new ≤ reads.old + event_cost self.old.step w event }
+    {
+        match self.broken {
+            Some(first) if !is_restart(&event) => return Err(ApplyError::Broken { first }),
+            _ => {}
+        }
+        let given = time_of(&event);
+        match self.last {
+            Some(last) if given.get() < last.get() => Ok(Report::Backwards { last, given }),
+            _ => self.answer(alloc, keeper, event, reads),
+        }
+    }
+}

@@ -1,0 +1,15 @@
+//! The engine: it answers events, one after another, and keeps the rows of what they add.
+#![tactic(auto)]
+
+mod engine;
+mod fault;
+mod keeping;
+mod loading;
+mod query;
+mod standing;
+mod taken;
+mod telling;
+
+pub use engine::Engine;
+pub use fault::{ApplyError, Cause, StartError};
+pub use telling::{is_refusal, takes};

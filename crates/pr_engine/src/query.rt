@@ -1,0 +1,151 @@
+// The answer to a query, over a head.
+ghost use Rattle.std.specs.Prelude.{◌≡◌, ℕ, ◌+◌, ◌<◌, ◌≤◌, List, [], Result, IfOk};
+ghost use Rattle.pr_ast.specs.Tree.{tree_of};
+ghost use Rattle.pr_parse.specs.Parsed.{Parsed, IsFaultOf};
+ghost use Rattle.pr_types.specs.Typed.{checked};
+ghost use Rattle.pr_history.specs.declared.entry.Entry.{Entry};
+ghost use Rattle.pr_query.specs.declared.fault.Fault.{Fault};
+ghost use Rattle.pr_query.specs.declared.value.Value.{Value};
+ghost use Rattle.pr_query.specs.Cost.{cost, nothing_passed};
+ghost use Rattle.pr_query.specs.Meaning.{meaning};
+ghost use Rattle.pr_values.specs.Answers.{AnswersTo};
+ghost use Rattle.pr_world.specs.declared.report.Report.TheVariants.{QueryRefused};
+ghost use Rattle.pr_world.specs.Outcome.{accept, nothing_else, refuse};
+ghost use Rattle.pr_world.specs.Query.{parsed_outcome, query_outcome, told_answer, told_value, typed_outcome};
+ghost use Rattle.pr_engine.specs.Asked.{HasOutcome};
+ghost use Rattle.pr_engine.specs.Events.{parsed_cost, query_cost, settings_of, typed_cost};
+ghost use Rattle.pr_engine.specs.Standing.{IsHeadOf};
+
+use crate::taken::Taken;
+use pr_ast::Expr;
+use pr_eval::{EvalError, Value, eval};
+use pr_head::Head;
+use pr_parse::{ParseError, parse};
+use pr_range::PlainRanges;
+use pr_time::{Ms, Span};
+use pr_types::{Checked, TypeError, check};
+use pr_words::{Items, Steps};
+use pr_world::{QueryKind, Report};
+use std::alloc::{AllocError, Global};
+use std::sync::ledger::Ledger;
+
+fn told_value(value: Value) -> Report
+    ensures { result ≡ told_value value }
+{
+    match value {
+        Value::Scalar { value } => Report::Scalar { value },
+        Value::Vector { items } => Report::Vector { items },
+    }
+}
+
+// What is told of what an expression gives.
+#[tactic(auto, using(crate::proofs::Queries::told_ok, crate::proofs::Queries::told_fault))]
+fn told_answer(answer: Result<Value, EvalError>) -> Result<Report, AllocError>
+    ensures { (meant : Result Value Fault) → AnswersTo meant answer → IfOk result (λ report. report ≡ told_answer meant) }
+{
+    match answer {
+        Ok(value) => Ok(told_value(value)),
+        Err(EvalError::Fault { place, kind }) => Ok(Report::QueryFault {
+            place: place.start,
+            kind,
+        }),
+        Err(EvalError::Memory) => Err(AllocError),
+    }
+}
+
+// What an expression gives, as it is told.
+fn answer<G: Ledger>(
+    alloc: Global,
+    head: &Head,
+    expression: &Checked,
+    time: Ms,
+    step: Span,
+    reads: &mut Steps<G>,
+) -> Result<Report, AllocError>
+    requires { 0 < step }
+    ensures report { (history : List Entry) → IsHeadOf head.now history
+        → IfOk result (λ report. report ≡ told_answer (meaning step history (tree_of expression.now) time)) }
+    ensures reads { (history : List Entry) → IsHeadOf head.now history
+        → reads.new ≤ reads.old + cost step history nothing_passed (tree_of expression.now) 0 time }
+{
+    let mut ranges = PlainRanges::new(alloc);
+    told_answer(eval(alloc, expression, head, time, step, &mut ranges, reads))
+}
+
+// What is told and adds nothing.
+fn nothing_added(alloc: Global, report: Report) -> Taken
+    ensures { result ≡ record { report = report; added = [] } }
+{
+    Taken {
+        report,
+        added: Items::empty(alloc),
+    }
+}
+
+// Refuses a text.
+fn refusal(alloc: Global, place: usize, kind: QueryKind) -> Taken
+    ensures { HasOutcome (refuse (QueryRefused place kind)) result }
+{
+    nothing_added(alloc, Report::QueryRefused { place, kind })
+}
+
+// Answers an expression.
+#[tactic(auto, using(crate::proofs::Queries::typed_answer, crate::proofs::Queries::untyped_answer, crate::proofs::Queries::typed_reads, crate::proofs::Queries::no_reads))]
+fn ask_parsed<G: Ledger>(
+    alloc: Global,
+    head: &Head,
+    expression: Expr,
+    time: Ms,
+    step: Span,
+    reads: &mut Steps<G>,
+) -> Result<Taken, AllocError>
+    requires { 0 < step }
+    ensures answer { (history : List Entry) → IsHeadOf head.now history
+        → IfOk result (HasOutcome (typed_outcome (settings_of step) history time (tree_of expression) (checked (tree_of expression)))) }
+    ensures reads { (history : List Entry) → IsHeadOf head.now history
+        → reads.new ≤ reads.old + typed_cost step history time (tree_of expression) (checked (tree_of expression)) }
+{
+    match check(alloc, expression) {
+        Ok(expression) => {
+            let report = answer(alloc, head, &expression, time, step, reads)?;
+            Ok(nothing_added(alloc, report))
+        }
+        Err(TypeError::Fault { at, kind }) => Ok(refusal(alloc, at, QueryKind::Typing { kind })),
+        Err(TypeError::Memory) => Err(AllocError),
+    }
+}
+
+// Refuses a text that is no expression.
+#[tactic(auto, using(crate::proofs::Queries::lex_answer, crate::proofs::Queries::parse_answer))]
+fn refuse_text(alloc: Global, error: ParseError) -> Result<Taken, AllocError>
+    ensures { (parsed : Parsed) (step : ℕ) (history : List Entry) (time : ℕ) → IsFaultOf parsed error
+        → IfOk result (HasOutcome (parsed_outcome (settings_of step) history time parsed)) }
+{
+    match error {
+        ParseError::Lex { at, kind } => Ok(refusal(alloc, at, QueryKind::Lex { kind })),
+        ParseError::Fault { at, kind } => Ok(refusal(alloc, at, QueryKind::Parse { kind })),
+        ParseError::Memory => Err(AllocError),
+    }
+}
+
+/// Answers a text: by what it gives as an expression, or by its first fault. The step is that of
+/// subqueries that name none.
+#[tactic(auto, using(crate::proofs::Queries::tree_answer, crate::proofs::Queries::tree_reads))]
+pub(crate) fn ask<G: Ledger>(
+    alloc: Global,
+    head: &Head,
+    text: &str,
+    time: Ms,
+    step: Span,
+    reads: &mut Steps<G>,
+) -> Result<Taken, AllocError>
+    requires { 0 < step }
+    ensures answer { (history : List Entry) → IsHeadOf head.now history
+        → IfOk result (HasOutcome (query_outcome (settings_of step) history time text.now)) }
+    ensures reads { (history : List Entry) → IsHeadOf head.now history → reads.new ≤ reads.old + query_cost step history time text.now }
+{
+    match parse(alloc, text) {
+        Ok(expression) => ask_parsed(alloc, head, expression, time, step, reads),
+        Err(error) => refuse_text(alloc, error),
+    }
+}

@@ -1,0 +1,119 @@
+// What is told of events and of reports.
+ghost use Rattle.std.specs.Prelude.{◌≡◌};
+ghost use Rattle.pr_world.specs.Outcome.{is_refusal};
+ghost use Rattle.pr_world.specs.Step.{report_of, scrape_report, time_of};
+ghost use Rattle.pr_engine.specs.Events.{is_restart, is_taken};
+
+use pr_history::Append;
+use pr_scrape::Scraped;
+use pr_time::Ms;
+use pr_world::{Event, Report};
+
+pub(crate) fn time_of(event: &Event) -> Ms
+    ensures { result ≡ time_of event.now }
+{
+    match event {
+        Event::Add { time, .. } => *time,
+        Event::Query { time, .. } => *time,
+        Event::Scrape { time, .. } => *time,
+        Event::Fail { time, .. } => *time,
+        Event::Gone { time, .. } => *time,
+        Event::Eval { time, .. } => *time,
+        Event::Reload { time, .. } => *time,
+        Event::Restart { time } => *time,
+        Event::Alerts { time } => *time,
+    }
+}
+
+pub(crate) fn is_restart(event: &Event) -> bool
+    ensures { result ≡ is_restart event.now }
+{
+    match event {
+        Event::Restart { .. } => true,
+        Event::Add { .. }
+        | Event::Query { .. }
+        | Event::Scrape { .. }
+        | Event::Fail { .. }
+        | Event::Gone { .. }
+        | Event::Eval { .. }
+        | Event::Reload { .. }
+        | Event::Alerts { .. } => false,
+    }
+}
+
+/// Whether the engine takes such an event. So far no rule files are reloaded.
+pub fn takes(event: &Event) -> bool
+    ensures { result ≡ is_taken event.now }
+{
+    match event {
+        Event::Add { .. }
+        | Event::Query { .. }
+        | Event::Scrape { .. }
+        | Event::Fail { .. }
+        | Event::Gone { .. }
+        | Event::Eval { .. }
+        | Event::Restart { .. }
+        | Event::Alerts { .. } => true,
+        Event::Reload { .. } => false,
+    }
+}
+
+/// Whether an event was refused that is answered so. (Own choice: a refused event changes nothing,
+/// and is told by the status of a run.)
+pub fn is_refusal(report: &Report) -> bool
+    ensures { result ≡ is_refusal report.now }
+{
+    match report {
+        Report::NoGroup { .. }
+        | Report::NotLater { .. }
+        | Report::Missing { .. }
+        | Report::TooLarge { .. }
+        | Report::Refused { .. }
+        | Report::QueryRefused { .. }
+        | Report::Backwards { .. } => true,
+        Report::Opened { .. }
+        | Report::Added
+        | Report::Same
+        | Report::OutOfOrder { .. }
+        | Report::Conflict { .. }
+        | Report::Scraped { .. }
+        | Report::BadScrape { .. }
+        | Report::Failed { .. }
+        | Report::Gone { .. }
+        | Report::Evaluated { .. }
+        | Report::Reloaded { .. }
+        | Report::Restarted { .. }
+        | Report::Alerts { .. }
+        | Report::Scalar { .. }
+        | Report::Vector { .. }
+        | Report::QueryFault { .. } => false,
+    }
+}
+
+pub(crate) fn report_of(answer: Append) -> Report
+    ensures { result ≡ report_of answer }
+{
+    match answer {
+        Append::Added => Report::Added,
+        Append::Same => Report::Same,
+        Append::OutOfOrder { last } => Report::OutOfOrder { last },
+        Append::Conflict { kept } => Report::Conflict { kept },
+    }
+}
+
+pub(crate) fn scrape_report(scraped: &Scraped) -> Report
+    ensures { result ≡ scrape_report scraped.now.fault scraped.now }
+{
+    match scraped.fault {
+        Some(fault) => Report::BadScrape {
+            line: fault.line,
+            kind: fault.kind,
+            stale: scraped.stale,
+        },
+        None => Report::Scraped {
+            added: scraped.added,
+            dropped: scraped.dropped,
+            stale: scraped.stale,
+        },
+    }
+}
