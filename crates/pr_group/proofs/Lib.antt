@@ -1,0 +1,17 @@
+pub mod Keys
+pub mod Spared
+pub mod Unused
+pub mod Numbers
+pub mod Wrote
+pub mod Continued
+pub mod Stepping
+pub mod Going
+pub mod Places
+pub mod Staying
+pub mod Ruling
+pub mod Coming
+pub mod ForState
+pub mod Restored
+pub mod Lasting
+pub mod Ending
+pub mod Beginning

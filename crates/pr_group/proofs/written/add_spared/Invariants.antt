@@ -1,0 +1,8 @@
+use Rattle.std.proofs.Common.{◌≡◌, drop, flat_map, fold}
+use Rattle.pr_labels.specs.Rising.{with_labels}
+use Rattle.pr_group.specs.Carrying.{previous_in}
+use Rattle.pr_group.proofs.written.add_spared.Given as goal
+
+-- what is there, and what is to come
+abbrev pub invariant-loop-rule : goal.invariant-loop-rule
+invariant-loop-rule g l = fold with_labels l.sets.keys (flat_map previous_in (drop l.rule-index l.rules)) ≡ fold with_labels l.fn.sets.keys (flat_map previous_in l.rules)

@@ -1,0 +1,8 @@
+use Rattle.std.proofs.Common.{◌≡◌, drop, flat_map, fold}
+use Rattle.pr_labels.specs.Rising.{with_labels}
+use Rattle.pr_rule_step.specs.declared.remembered.Remembered.{Remembered}
+use Rattle.pr_group.proofs.written.add_written.Given as goal
+
+-- what is there, and what is to come
+abbrev pub invariant-loop-rule : goal.invariant-loop-rule
+invariant-loop-rule g l = fold with_labels l.sets.keys (flat_map (λ (m : Remembered g.row.R.Denot). m.previous) (drop l.rule-index l.rules)) ≡ fold with_labels l.fn.sets.keys (flat_map (λ (m : Remembered g.row.R.Denot). m.previous) l.rules)

@@ -1,0 +1,5 @@
+pub mod Keeping
+pub mod Matching
+pub mod Carrying
+pub mod Evaluating
+pub mod Restoring

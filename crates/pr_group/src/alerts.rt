@@ -1,0 +1,32 @@
+// The alerts of a group.
+ghost use Rattle.std.specs.Prelude.{◌≡◌, ℕ, List, option_copied, slice_get, Some, IfSome};
+ghost use Rattle.pr_history.specs.declared.entry.Entry.{Entry};
+ghost use Rattle.pr_alert.specs.Standing.{StandsFor};
+ghost use Rattle.pr_rules.specs.Groups.{Group, RuleState};
+ghost use Rattle.pr_group.specs.Keeping.{KeepsGroup, alerts_at};
+
+use crate::group::GroupOver;
+use pr_alert::Records;
+use pr_range::Ranges;
+
+impl<R: Ranges + Drop> GroupOver<R> {
+    // The alerts of the rule with a number, where it is an alert.
+    fn alerts(&self, rule: usize) -> Option<&Records>
+        ensures { option_copied result ≡ alerts_at self.now rule }
+    {
+        let code = self.def.rules.as_slice().get(rule)?;
+        if !code.alert {
+            return None;
+        }
+        Some(self.rules.get(rule)?.records())
+    }
+
+    /// The alerts of the rule with this number, counted from 0; none where no alerting rule has it.
+    pub fn records(&self, rule: usize) -> Option<&Records>
+        ensures same { option_copied result ≡ alerts_at self.now rule }
+        ensures stands { (history : List Entry) (g : Group) (r : RuleState) → KeepsGroup R.fits R.last R.passed self.now history g → slice_get g.rules rule ≡ Some r
+            → IfSome (option_copied result) (λ records. StandsFor records r.lineage) }
+    {
+        self.alerts(rule)
+    }
+}

@@ -1,0 +1,47 @@
+// What tells a rule's kind, its name and its labels, as one text.
+ghost use Rattle.std.specs.Prelude.{◌≡◌, ◌++◌, IfOk, OnOk};
+ghost use Rattle.pr_rulefile.specs.Rules.{name_key};
+ghost use Rattle.pr_group.specs.Matching.{key_of, labels_key, pair_key};
+
+use pr_labels::Pair;
+use pr_rulefile::RuleDef;
+use pr_strings::write_string;
+use pr_words::Text;
+use std::alloc::{AllocError, Global};
+
+fn push_pair(out: &mut Vec<u8>, pair: &Pair) -> Result<(), AllocError>
+    ensures { OnOk result (out.new.items ≡ out.old.items ++ pair_key pair.now) }
+{
+    write_string(pair.name.as_str().as_bytes(), out)?;
+    write_string(pair.value.as_str().as_bytes(), out)
+}
+
+fn push_labels(out: &mut Vec<u8>, labels: &[Pair]) -> Result<(), AllocError>
+    ensures { OnOk result (out.new.items ≡ out.old.items ++ labels_key labels.now) }
+{
+    for pair in labels {
+        push_pair(out, pair)?;
+    }
+    Ok(())
+}
+
+fn kind_word(alert: bool) -> &'static str
+    ensures { result.now ≡ name_key alert }
+{
+    if alert { "alert" } else { "record" }
+}
+
+/// What tells which rules may go on from one another: those of one key have one kind, one name and
+/// the same labels.
+pub(crate) fn key(alloc: Global, rule: &RuleDef) -> Result<Text, AllocError>
+    ensures { IfOk result (λ t. t ≡ key_of rule.now) }
+{
+    let mut key = Vec::new(alloc);
+    key.extend_from_slice(kind_word(rule.alert).as_bytes())?;
+    write_string(rule.name.as_str().as_bytes(), &mut key)?;
+    push_labels(&mut key, rule.labels.as_slice())?;
+    match String::from_utf8(key) {
+        Ok(key) => Ok(Text::new(key)),
+        Err(_) => Err(AllocError),
+    }
+}

@@ -1,0 +1,40 @@
+// Which older rules new ones go on from.
+ghost use Rattle.std.specs.Prelude.{◌≡◌, IfOk, length};
+ghost use Rattle.pr_range.specs.Carried.{IsOnce};
+ghost use Rattle.pr_rules.specs.Taking.{numbered, numbers_taken};
+ghost use Rattle.pr_continued.specs.Named.{AreBelow};
+ghost use Rattle.pr_continued.specs.Waiting.{AreWaiting};
+ghost use Rattle.pr_group.specs.Matching.{continues_def, key_of};
+
+use crate::key::key;
+use crate::waiting::Waiting;
+use pr_rulefile::RuleDef;
+use std::alloc::{AllocError, Global};
+
+// All older ones wait.
+fn waiting(alloc: Global, old: &[RuleDef]) -> Result<Waiting, AllocError>
+    ensures { IfOk result (λ w. AreWaiting key_of w (numbered old.now)) }
+{
+    let mut waiting = Waiting::new(alloc);
+    for (number, rule) in old.iter().enumerate() {
+        waiting.push(alloc, key(alloc, rule)?, number)?;
+    }
+    Ok(waiting)
+}
+
+/// For each new rule the number of the older one that it goes on from: the first of its kind with
+/// its name and its labels that none before it goes on from.
+pub(crate) fn continued_numbers(
+    alloc: Global,
+    new: &[RuleDef],
+    old: &[RuleDef],
+) -> Result<Vec<Option<usize>>, AllocError>
+    ensures answer { IfOk result (λ v. v.items ≡ numbers_taken continues_def new.now old.now) }
+{
+    let mut waiting = waiting(alloc, old)?;
+    let mut numbers = Vec::new(alloc);
+    for rule in new {
+        numbers.push(waiting.take(&key(alloc, rule)?))?;
+    }
+    Ok(numbers)
+}

@@ -1,0 +1,73 @@
+// The rules of a group, one after the other.
+ghost use Rattle.std.specs.Prelude.{◌≡◌, ℕ, ◌+◌, ◌<◌, ◌≤◌, false, List, Option, IfOk, IfSome, length};
+ghost use Rattle.pr_history.specs.declared.entry.Entry.{Entry};
+ghost use Rattle.pr_query.specs.Cost.{cost};
+ghost use Rattle.pr_eval.specs.Evaluated.{passed_outside};
+ghost use Rattle.pr_rule_step.specs.Standing.{IsEvaluationOf};
+ghost use Rattle.pr_rules.specs.Costs.{rules_cost};
+ghost use Rattle.pr_rules.specs.Evaluations.{all_rules, begun};
+ghost use Rattle.pr_rules.specs.Groups.{Group, RuleState};
+ghost use Rattle.pr_rules.specs.Settings.{Settings};
+ghost use Rattle.pr_group.specs.Evaluating.{HasCome, HasDone, MayEvaluateRules};
+ghost use Rattle.pr_group.specs.Keeping.{KeepsRule, MayEvaluateOver, passed_of};
+
+use pr_head::Head;
+use pr_history::Entry;
+use pr_range::Ranges;
+use pr_rule_step::{Evaluation, Remembered};
+use pr_rulefile::RuleDef;
+use pr_rules::RuleReport;
+use pr_words::Steps;
+use std::alloc::AllocError;
+use std::sync::ledger::Ledger;
+
+// Evaluates a rule.
+fn evaluate_rule<R: Ranges, G: Ledger>(
+    at: &Evaluation<'_>,
+    code: &RuleDef,
+    kept: &mut Remembered<R>,
+    head: &mut Head,
+    rows: &mut Vec<Entry>,
+    reads: &mut Steps<G>,
+) -> Result<RuleReport, AllocError>
+    requires { 0 < at.now.step }
+    ensures done { (s : Settings) (g : Group) (r : RuleState) (history : List Entry) (until : Option ℕ) → IsEvaluationOf at.now.step at.now.external.now at.now.limit at.now.interval at.now.waits s g
+        → MayEvaluateOver head.old history at.now.time → IfSome until (λ u. u ≤ at.now.time) → KeepsRule R.fits R.last R.passed history until code.now kept.old r
+        → IfOk result (λ report. HasDone R.fits R.last R.passed R.keeps s g r history at.now.time code.now kept.old kept.new head.old head.new rows.old.items rows.new.items report) }
+    ensures reads { (s : Settings) (g : Group) (r : RuleState) (history : List Entry) (until : Option ℕ) → IsEvaluationOf at.now.step at.now.external.now at.now.limit at.now.interval at.now.waits s g
+        → MayEvaluateOver head.old history at.now.time → IfSome until (λ u. u ≤ at.now.time) → KeepsRule R.fits R.last R.passed history until code.now kept.old r
+        → reads.new ≤ reads.old + cost s.subquery_step history (passed_outside false history (R.passed kept.old.ranges)) r.rule.expr 0 at.now.time }
+{
+    let _checked = code.expr.expr();
+    kept.evaluate(at, code, head, rows, reads)
+}
+
+/// Evaluates the rules of a group in order, each over the head as those before it leave it, and
+/// tells of each. What is added is put behind the rows.
+///
+/// # Errors
+/// Want of memory.
+pub(crate) fn evaluate_rules<R: Ranges, G: Ledger>(
+    at: &Evaluation<'_>,
+    codes: &[RuleDef],
+    rules: &mut Vec<Remembered<R>>,
+    head: &mut Head,
+    rows: &mut Vec<Entry>,
+    reads: &mut Steps<G>,
+) -> Result<Vec<RuleReport>, AllocError>
+    requires some { 0 < at.now.step }
+    requires each { length rules.old.items ≡ length codes.now }
+    ensures come { (s : Settings) (g : Group) (history : List Entry) (until : Option ℕ)
+        → MayEvaluateRules R.fits R.last R.passed at.now.step at.now.external.now at.now.limit at.now.interval at.now.waits s g head.old history at.now.time until codes.now rules.old.items
+        → IfOk result (λ told. HasCome R.fits R.last R.passed R.keeps s g history at.now.time codes.now rules.old.items rules.new.items head.old head.new rows.old.items rows.new.items told.items (length g.rules) (all_rules s g history at.now.time)) }
+    ensures reads { (s : Settings) (g : Group) (history : List Entry) (until : Option ℕ)
+        → MayEvaluateRules R.fits R.last R.passed at.now.step at.now.external.now at.now.limit at.now.interval at.now.waits s g head.old history at.now.time until codes.now rules.old.items
+        → reads.new ≤ reads.old + rules_cost s g at.now.time (passed_of R.passed history rules.old.items) 0 g.rules (begun history) }
+    ensures many { length rules.new.items ≡ length rules.old.items }
+{
+    let mut told = Vec::new(at.alloc);
+    for index in 0..codes.len() {
+        told.push(evaluate_rule(at, &codes[index], &mut rules[index], head, rows, reads)?)?;
+    }
+    Ok(told)
+}
