@@ -1,0 +1,12 @@
+pub mod Places
+pub mod Names
+pub mod Each
+pub mod Evaluated
+pub mod Loaded
+pub mod Apart
+pub mod Parts
+pub mod Continued
+pub mod Remaining
+pub mod Replaced
+pub mod Reloaded
+pub mod Listed

@@ -1,0 +1,171 @@
+-- The alerts that are listed.
+use native.Mathlib.Numerals.{unary_clauses}
+use Rattle.std.proofs.Common.{◌≡◌, ℕ, ◌+◌, ◌<◌, ◌≤◌, Bool, true, false, cond, List, [], ◌∷◌, ◌++◌, append_assoc, append-nil, length, length-append, map, Option, Some, None, Result, Ok, Err, OnOk, slice_get, refl, sym, ap, ◌∙◌, arith}
+use Rattle.std.specs.Prelude.{filter, flat_map, option_and_then}
+use Rattle.std.specs.Option.{option_map}
+use Rattle.std.proofs.lemmas.List.{length-map, map-append}
+use Rattle.std.proofs.lemmas.Option.{slice_get-map}
+use Rattle.pr_history.specs.declared.entry.Entry.{Entry}
+use Rattle.pr_lineage.specs.declared.record.Record.{Record}
+use Rattle.pr_lineage.specs.Records.{is_living, records}
+use Rattle.pr_range.specs.Asks.{LastAsks, Passed}
+use Rattle.pr_rulefile.specs.Groups.{Group as Definition}
+use Rattle.pr_rulefile.specs.Rules.{Rule, rule_of_def}
+use Rattle.pr_rulefile.specs.declared.rules.RuleDef.{RuleDef}
+use Rattle.pr_rule_step.specs.declared.remembered.Remembered.{Remembered}
+use Rattle.pr_rules.specs.Groups.{Group, RuleState}
+use Rattle.pr_rules.specs.Settings.{Settings}
+use Rattle.pr_group.specs.Keeping.{KeepsGroup, KeptGroup, alerts_at, alerts_of_rule}
+use Rattle.pr_world.specs.declared.report.AlertLine.{AlertLine}
+use Rattle.pr_world.specs.Rounds.{alert_line, alerts_by, group_alerts, rule_alerts}
+use Rattle.pr_manager.specs.Keeping.{KeepEach}
+
+-- One record
+
+pub living_then : (lines more : List AlertLine) (r : Record) (rs : List Record) (all : List AlertLine) → more ≡ lines ++ alert_line r ∷ [] → is_living r ≡ true → lines ++ map alert_line (filter is_living (r ∷ rs)) ≡ all
+    → more ++ map alert_line (filter is_living rs) ≡ all
+living_then lines more r rs all push living h =
+    ap (λ (l : List AlertLine). l ++ map alert_line (filter is_living rs)) push
+    ∙ append_assoc lines (alert_line r ∷ []) (map alert_line (filter is_living rs))
+    ∙ ap (λ b. lines ++ map alert_line (cond b (r ∷ filter is_living rs) (filter is_living rs))) (sym living)
+    ∙ h
+
+pub passed_over : (lines : List AlertLine) (r : Record) (rs : List Record) (all : List AlertLine) → is_living r ≡ false → lines ++ map alert_line (filter is_living (r ∷ rs)) ≡ all → lines ++ map alert_line (filter is_living rs) ≡ all
+passed_over lines r rs all living h = ap (λ b. lines ++ map alert_line (cond b (r ∷ filter is_living rs) (filter is_living rs))) (sym living) ∙ h
+
+pub living_end : (lines : List AlertLine) (rs : List Record) (all : List AlertLine) → length rs ≡ 0 → lines ++ map alert_line (filter is_living rs) ≡ all → lines ≡ all
+living_end lines [] all none h = sym (append-nil lines) ∙ h
+living_end lines (r ∷ rs) all none h = absurd (omega (arith, none))
+
+-- One rule
+
+-- the code of a rule, by its number
+record HasCode (codes : List RuleDef) (i : ℕ) (rule : Rule) : Type 0 where
+  code : RuleDef
+  at : slice_get codes i ≡ Some code
+  is : rule ≡ rule_of_def code
+
+some_of : {A B : Type 0} (f : A → B) (o : Option A) (b : B) → option_map f o ≡ Some b → (a : A) × (o ≡ Some a) × (f a ≡ b)
+some_of f None b h = absurd cc
+some_of f (Some a) b h = (a, refl, cc)
+
+has_code : {R : Type 0} (fits : R → List Entry → Type 0) (last : R → LastAsks) (passed : R → Passed) (history : List Entry) (k : KeptGroup R) (g : Group) (i : ℕ) (r : RuleState) → KeepsGroup fits last passed k history g
+    → slice_get g.rules i ≡ Some r → HasCode k.def.rules i r.rule
+has_code fits last passed history k g i r h at =
+    let rules : map (λ (x : RuleState). x.rule) g.rules ≡ map rule_of_def k.def.rules = ap (λ (d : Definition). d.rules) h.definition in
+    let there : option_map rule_of_def (slice_get k.def.rules i) ≡ Some r.rule =
+    sym (slice_get-map rule_of_def k.def.rules i) ∙ ap (λ l. slice_get l i) (sym rules) ∙ slice_get-map (λ (x : RuleState). x.rule) g.rules i ∙ ap (option_map (λ (x : RuleState). x.rule)) at in
+    let it = some_of rule_of_def (slice_get k.def.rules i) r.rule there in
+    record { code = it.0; at = it.1; is = sym it.2 }
+
+alerts_are : {R : Type 0} (k : KeptGroup R) (i : ℕ) (code : RuleDef) → slice_get k.def.rules i ≡ Some code → alerts_at k i ≡ alerts_of_rule k.rules i code
+alerts_are k i code at = ap (option_and_then (alerts_of_rule k.rules i)) at
+
+-- an alerting rule has alerts
+pub some_alerts : {R : Type 0} (fits : R → List Entry → Type 0) (last : R → LastAsks) (passed : R → Passed) (history : List Entry) (k : KeptGroup R) (g : Group) (i : ℕ) (r : RuleState) (rs : List Record) → KeepsGroup fits last passed k history g
+    → slice_get g.rules i ≡ Some r → alerts_at k i ≡ Some rs → r.rule.alert ≡ true
+some_alerts {R} fits last passed history k g i r rs h at found =
+    let c = has_code fits last passed history k g i r h at in
+    ap (λ (x : Rule). x.alert) c.is ∙ by c.code.alert (sym (alerts_are k i c.code c.at) ∙ found)
+  where
+    by : (b : Bool) → cond b (option_map (λ (m : Remembered R). m.records) (slice_get k.rules i)) None ≡ Some rs → b ≡ true
+    by true e = refl
+    by false e = absurd cc
+
+-- and none has a rule that records
+pub not_alert : {R : Type 0} (fits : R → List Entry → Type 0) (last : R → LastAsks) (passed : R → Passed) (history : List Entry) (k : KeptGroup R) (g : Group) (i : ℕ) (r : RuleState) (b : Bool) → KeepsGroup fits last passed k history g
+    → slice_get g.rules i ≡ Some r → ((code : RuleDef) → slice_get k.def.rules i ≡ Some code → b ≡ code.alert) → b ≡ false → r.rule.alert ≡ false
+not_alert fits last passed history k g i r b h at is none =
+    let c = has_code fits last passed history k g i r h at in
+    ap (λ (x : Rule). x.alert) c.is ∙ sym (is c.code c.at) ∙ none
+
+pub on_on : {T E : Type 0} (P Q : Type 0) (result : Result T E) → (P → Q) → OnOk result P → OnOk result Q
+on_on P Q (Ok x) by h = by h
+on_on P Q (Err e) by h = tt
+
+pub listed_some : (lines more : List AlertLine) (r : RuleState) (rs : List Record) → r.rule.alert ≡ true → rs ≡ records r.lineage → more ≡ lines ++ map alert_line (filter is_living rs) → more ≡ lines ++ map alert_line (rule_alerts r)
+listed_some lines more r rs alert is h =
+    h ∙ ap (λ l. lines ++ map alert_line (filter is_living l)) is ∙ ap (λ b. lines ++ map alert_line (alerts_by b r)) (sym alert)
+
+pub listed_none : (lines : List AlertLine) (r : RuleState) → r.rule.alert ≡ false → lines ≡ lines ++ map alert_line (rule_alerts r)
+listed_none lines r alert = sym (append-nil lines) ∙ ap (λ b. lines ++ map alert_line (alerts_by b r)) (sym alert)
+
+-- The rules of a group
+
+pub record RulesLeft (g : Group) (i : ℕ) (lines all : List AlertLine) : Type 0 where
+  pub done : List RuleState
+  pub rest : List RuleState
+  pub parts : g.rules ≡ done ++ rest
+  pub count : i ≡ length done
+  pub told : lines ++ map alert_line (flat_map rule_alerts rest) ≡ all
+
+at_seam : {A : Type 0} (xs : List A) (y : A) (ys : List A) → slice_get (xs ++ y ∷ ys) (length xs) ≡ Some y
+at_seam [] y ys = refl
+at_seam (x ∷ xs) y ys = at_seam xs y ys
+
+pub rules_first : (g : Group) (lines : List AlertLine) → RulesLeft g 0 lines (lines ++ map alert_line (group_alerts g))
+rules_first g lines = record { done = []; rest = g.rules; parts = refl; count = refl; told = refl }
+
+pub rules_then : (g : Group) (i : ℕ) (lines more all : List AlertLine) → i < length g.rules → ((r : RuleState) → slice_get g.rules i ≡ Some r → more ≡ lines ++ map alert_line (rule_alerts r))
+    → RulesLeft g i lines all → RulesLeft g (i + 1) more all
+rules_then g i lines more all less by h = at h.done h.rest h.parts h.count h.told where
+  at : (done rest : List RuleState) → g.rules ≡ done ++ rest → i ≡ length done → lines ++ map alert_line (flat_map rule_alerts rest) ≡ all → RulesLeft g (i + 1) more all
+  at done [] parts count told =
+      let none : length g.rules ≡ length done = ap length (parts ∙ append-nil done) in
+      absurd (omega (arith, less, none, count))
+  at done (r ∷ rest) parts count told =
+      let there : slice_get g.rules i ≡ Some r = (λ j. slice_get (parts j) (count j)) ∙ at_seam done r rest in
+      let longer : length (done ++ r ∷ []) ≡ length done + 1 = length-append done (r ∷ []) in
+      record {
+        done = done ++ r ∷ [];
+        rest = rest;
+        parts = parts ∙ sym (append_assoc done (r ∷ []) rest);
+        count = omega (arith, longer, count);
+        told = ap (λ (l : List AlertLine). l ++ map alert_line (flat_map rule_alerts rest)) (by r there)
+            ∙ append_assoc lines (map alert_line (rule_alerts r)) (map alert_line (flat_map rule_alerts rest))
+            ∙ ap (λ (l : List AlertLine). lines ++ l) (sym (map-append alert_line (rule_alerts r) (flat_map rule_alerts rest)))
+            ∙ told;
+      }
+
+pub rules_end : (g : Group) (i : ℕ) (lines all : List AlertLine) → length g.rules ≤ i → RulesLeft g i lines all → lines ≡ all
+rules_end g i lines all past h = at h.done h.rest h.parts h.count h.told where
+  at : (done rest : List RuleState) → g.rules ≡ done ++ rest → i ≡ length done → lines ++ map alert_line (flat_map rule_alerts rest) ≡ all → lines ≡ all
+  at done [] parts count told = sym (append-nil lines) ∙ told
+  at done (r ∷ rest) parts count told =
+      let longer : length g.rules ≡ length done + length (r ∷ rest) = ap length parts ∙ length-append done (r ∷ rest) in
+      let some : length (r ∷ rest) ≡ length rest + 1 = simp unary_clauses refl in
+      absurd (omega (arith, longer, some, past, count))
+
+-- All groups
+
+pub record GroupsLeft {R : Type 0} (fits : R → List Entry → Type 0) (last : R → LastAsks) (passed : R → Passed) (s : Settings) (history : List Entry) (ks : List (KeptGroup R)) (lines all : List AlertLine) : Type 0 where
+  pub groups : List Group
+  pub each : KeepEach fits last passed s history ks groups
+  pub told : lines ++ map alert_line (flat_map group_alerts groups) ≡ all
+
+pub groups_then : {R : Type 0} (fits : R → List Entry → Type 0) (last : R → LastAsks) (passed : R → Passed) (s : Settings) (history : List Entry) (k : KeptGroup R) (ks : List (KeptGroup R)) (lines more all : List AlertLine)
+    → ((g : Group) → KeepsGroup fits last passed k history g → more ≡ lines ++ map alert_line (group_alerts g)) → GroupsLeft fits last passed s history (k ∷ ks) lines all → GroupsLeft fits last passed s history ks more all
+groups_then fits last passed s history k ks lines more all by h = at h.groups h.each h.told where
+  at : (groups : List Group) → KeepEach fits last passed s history (k ∷ ks) groups → lines ++ map alert_line (flat_map group_alerts groups) ≡ all → GroupsLeft fits last passed s history ks more all
+  at [] each told = absurd each
+  at (g ∷ groups) each told = record {
+    groups = groups;
+    each = each.1;
+    told = ap (λ (l : List AlertLine). l ++ map alert_line (flat_map group_alerts groups)) (by g each.0.keeps)
+        ∙ append_assoc lines (map alert_line (group_alerts g)) (map alert_line (flat_map group_alerts groups))
+        ∙ ap (λ (l : List AlertLine). lines ++ l) (sym (map-append alert_line (group_alerts g) (flat_map group_alerts groups)))
+        ∙ told;
+  }
+
+pub groups_end : {R : Type 0} (fits : R → List Entry → Type 0) (last : R → LastAsks) (passed : R → Passed) (s : Settings) (history : List Entry) (ks : List (KeptGroup R)) (lines all : List AlertLine)
+    → length ks ≡ 0 → GroupsLeft fits last passed s history ks lines all → lines ≡ all
+groups_end fits last passed s history [] lines all none h = at h.groups h.each h.told where
+  at : (groups : List Group) → KeepEach fits last passed s history [] groups → lines ++ map alert_line (flat_map group_alerts groups) ≡ all → lines ≡ all
+  at [] each told = sym (append-nil lines) ∙ told
+  at (g ∷ groups) each told = absurd each
+groups_end fits last passed s history (k ∷ ks) lines all none h = absurd (omega (arith, none))
+
+-- as many rules are kept as the group has
+pub as_many_rules : {R : Type 0} (fits : R → List Entry → Type 0) (last : R → LastAsks) (passed : R → Passed) (history : List Entry) (k : KeptGroup R) (g : Group) → KeepsGroup fits last passed k history g → length k.def.rules ≡ length g.rules
+as_many_rules fits last passed history k g h =
+    sym (length-map k.def.rules rule_of_def) ∙ ap (λ (d : Definition). length d.rules) (sym h.definition) ∙ length-map g.rules (λ (r : RuleState). r.rule)

@@ -1,0 +1,173 @@
+-- Groups that are replaced at a reload.
+use Rattle.std.proofs.Common.{◌≡◌, ℕ, suc, ◌+◌, Bool, true, false, cond, not, ◌||◌, List, [], ◌∷◌, ◌++◌, map, length, Option, Some, refl, sym, ap, subst, ◌∙◌}
+use Rattle.std.specs.Prelude.{filter, find, flat_map, sum_by}
+use Rattle.std.specs.List.{AllByRecursion, list_any}
+use Rattle.std.proofs.lemmas.List.{length-map}
+use Rattle.std.proofs.lemmas.List.Sums.{sum_by-cons}
+use Rattle.pr_history.specs.Admission.{IsLawful, put_all}
+use Rattle.pr_history.proofs.Lawful.{put_all_lawful}
+use Rattle.pr_history.specs.declared.entry.Entry.{Entry}
+use Rattle.pr_head.specs.Holds.{Holds, IsWhole}
+use Rattle.pr_intake.specs.Intake.{HasTaken, Series}
+use Rattle.pr_puts.proofs.Putting.{admitted_counted, puts_admitted}
+use Rattle.pr_puts.specs.Puts.{added_count, admitted, marker}
+use Rattle.pr_range.specs.Asks.{LastAsks, Passed}
+use Rattle.pr_rulefile.specs.Groups.{Group as Definition}
+use Rattle.pr_rulefile.specs.Rules.{rule_of_def}
+use Rattle.pr_rules.specs.Groups.{Group, RuleState, fresh, is_group_named}
+use Rattle.pr_rules.specs.Reloads.{LoadedFile, continued, continued_by, gone_groups, is_gone, reload_by, remains, rules_in}
+use Rattle.pr_rules.specs.Settings.{Settings}
+use Rattle.pr_group.specs.Keeping.{KeepsGroup, KeptGroup}
+use Rattle.pr_world.specs.declared.report.Report.{Report}
+use Rattle.pr_world.specs.declared.report.Report.TheVariants as report
+use Rattle.pr_manager.specs.declared.naming.GroupName.{GroupName}
+use Rattle.pr_manager.specs.Continuing.{GoOn, GoesOn, KeepsAny}
+use Rattle.pr_manager.specs.Keeping.{KeepEach, KeepsUnder}
+use Rattle.pr_manager.specs.Loading.{fresh_by}
+use Rattle.pr_manager.specs.Naming.{is_among, kept_under, name_of, names_of, same_name, site_of, value_of}
+use Rattle.pr_manager.specs.Replacing.{HasReplaced}
+use Rattle.pr_manager.proofs.Apart.{names_are}
+use Rattle.pr_manager.proofs.Each.{StaysKept, each_stays}
+use Rattle.pr_manager.proofs.Names.{kept_site}
+use Rattle.pr_manager.proofs.Parts.{is_first, is_later_one}
+
+-- Old groups that are gone
+
+named_sites : (g : Group) (fresh_ones : List Group) → is_among (site_of g) (map site_of fresh_ones) ≡ list_any (is_group_named g.file g.name) fresh_ones
+named_sites g [] = refl
+named_sites g (f ∷ fs) = ap (λ b. is_group_named g.file g.name f || b) (named_sites g fs)
+
+pub gone_are_kept : {R : Type 0} (fits : R → List Entry → Type 0) (last : R → LastAsks) (passed : R → Passed) (s : Settings) (history : List Entry) (names : List GroupName) (news : List Group) → names ≡ map site_of news
+    → (ks : List (KeptGroup R)) (olds : List Group) → KeepEach fits last passed s history ks olds → KeepEach fits last passed s history (filter (λ k. not (is_among (name_of k) names)) ks) (gone_groups olds news)
+gone_are_kept fits last passed s history names news are [] [] h = tt
+gone_are_kept fits last passed s history names news are [] (g ∷ olds) h = absurd h
+gone_are_kept fits last passed s history names news are (k ∷ ks) [] h = absurd h
+gone_are_kept {R} fits last passed s history names news are (k ∷ ks) (g ∷ olds) h =
+    by (not (is_among (name_of k) names)) (is_gone news g) ((λ i. not (is_among (kept_site fits last passed history k g h.0.keeps i) (are i))) ∙ ap not (named_sites g news))
+    (gone_are_kept fits last passed s history names news are ks olds h.1)
+  where
+    by : (b d : Bool) → b ≡ d → KeepEach fits last passed s history (filter (λ m. not (is_among (name_of m) names)) ks) (gone_groups olds news)
+        → KeepEach fits last passed s history (cond b (k ∷ filter (λ m. not (is_among (name_of m) names)) ks) (filter (λ m. not (is_among (name_of m) names)) ks)) (cond d (g ∷ gone_groups olds news) (gone_groups olds news))
+    by true true e rest = (h.0, rest)
+    by true false e rest = absurd cc
+    by false true e rest = absurd cc
+    by false false e rest = rest
+
+-- Old groups that are found by their names
+
+pub found_any : {R : Type 0} (fits : R → List Entry → Type 0) (last : R → LastAsks) (passed : R → Passed) (s : Settings) (history : List Entry) (q : GroupName) (ks : List (KeptGroup R)) (olds : List Group)
+    → KeepEach fits last passed s history ks olds → KeepsAny fits last passed history (kept_under q ks) (find (is_group_named q.file q.name) olds)
+found_any fits last passed s history q [] [] h = tt
+found_any fits last passed s history q [] (g ∷ olds) h = absurd h
+found_any fits last passed s history q (k ∷ ks) [] h = absurd h
+found_any {R} fits last passed s history q (k ∷ ks) (g ∷ olds) h =
+    by (same_name (name_of k) q) (is_group_named q.file q.name g) (ap (λ n. same_name n q) (kept_site fits last passed history k g h.0.keeps)) (found_any fits last passed s history q ks olds h.1)
+  where
+    by : (b d : Bool) → b ≡ d → KeepsAny fits last passed history (kept_under q ks) (find (is_group_named q.file q.name) olds)
+        → KeepsAny fits last passed history (cond b (Some k) (kept_under q ks)) (cond d (Some g) (find (is_group_named q.file q.name) olds))
+    by true true e rest = h.0.keeps
+    by true false e rest = absurd cc
+    by false true e rest = absurd cc
+    by false false e rest = rest
+
+-- New groups
+
+-- a group to which nothing has happened
+pub record IsNew (g : Group) : Type 0 where
+  pub waits : ℕ
+  pub file : List ℕ
+  pub definition : Definition
+  pub is : g ≡ fresh waits file definition
+
+new_in_file : (waits : ℕ) (file : List ℕ) (ds : List Definition) (more : List Group) → AllByRecursion IsNew more → AllByRecursion IsNew (map (fresh waits file) ds ++ more)
+new_in_file waits file [] more h = h
+new_in_file waits file (d ∷ ds) more h = (record { waits = waits; file = file; definition = d; is = refl }, new_in_file waits file ds more h)
+
+all_new : (waits : ℕ) (files : List LoadedFile) → AllByRecursion IsNew (fresh_by waits files)
+all_new waits [] = tt
+all_new waits (f ∷ files) = new_in_file waits f.name f.groups (fresh_by waits files) (all_new waits files)
+
+one_done : {R : Type 0} (fits : R → List Entry → Type 0) (last : R → LastAsks) (passed : R → Passed) (s : Settings) (history : List Entry) (olds : List Group) (k done : KeptGroup R) (old : Option (KeptGroup R)) (g : Group) → IsNew g
+    → KeepsUnder fits last passed s history k g → KeepsAny fits last passed history old (find (is_group_named g.file g.name) olds) → GoesOn fits last passed k old done → KeepsUnder fits last passed s history done (continued olds g)
+one_done fits last passed s history olds k done old g is under any goes =
+    let whole = goes.keeps history is.waits is.file is.definition (find (is_group_named g.file g.name) olds) (subst (λ x. KeepsGroup fits last passed k history x) is.is under.keeps) any in
+    record {
+      keeps = subst (λ x. KeepsGroup fits last passed done history (continued_by x (find (is_group_named g.file g.name) olds))) (sym is.is) whole;
+      told = goes.settings ∙ under.told;
+    }
+
+pub all_done : {R : Type 0} (fits : R → List Entry → Type 0) (last : R → LastAsks) (passed : R → Passed) (s : Settings) (history : List Entry) (olds : List Group) (was : List (KeptGroup R)) (found : GroupName → Option (KeptGroup R))
+    → KeepEach fits last passed s history was olds → (names : List GroupName) → ((q : GroupName) → is_among q names ≡ true → found q ≡ kept_under q was)
+    → (ks dones : List (KeptGroup R)) (news : List Group) → ((q : GroupName) → is_among q (names_of ks) ≡ true → is_among q names ≡ true)
+    → AllByRecursion IsNew news → KeepEach fits last passed s history ks news → GoOn fits last passed found ks dones → KeepEach fits last passed s history dones (map (continued olds) news)
+all_done fits last passed s history olds was found each names waiting [] [] [] among new h goes = tt
+all_done fits last passed s history olds was found each names waiting [] [] (g ∷ news) among new h goes = absurd h
+all_done fits last passed s history olds was found each names waiting [] (d ∷ dones) news among new h goes = absurd goes
+all_done fits last passed s history olds was found each names waiting (k ∷ ks) [] news among new h goes = absurd goes
+all_done fits last passed s history olds was found each names waiting (k ∷ ks) (d ∷ dones) [] among new h goes = absurd h
+all_done fits last passed s history olds was found each names waiting (k ∷ ks) (d ∷ dones) (g ∷ news) among new h goes =
+    let q = name_of k in
+    let site = kept_site fits last passed history k g h.0.keeps in
+    let old : found q ≡ kept_under q was = waiting q (among q (is_first k ks)) in
+    let any = subst (λ n. KeepsAny fits last passed history (kept_under q was) (find (is_group_named n.file n.name) olds)) site (found_any fits last passed s history q was olds each) in (
+      one_done fits last passed s history olds k d (kept_under q was) g new.0 h.0 any (subst (λ o. GoesOn fits last passed k o d) old goes.0),
+      all_done fits last passed s history olds was found each names waiting ks dones news (λ n e. among n (is_later_one (name_of k) n (names_of ks) e)) new.1 h.1 goes.1,
+    )
+
+-- What is told
+
+so_many_rules : {R : Type 0} (fits : R → List Entry → Type 0) (last : R → LastAsks) (passed : R → Passed) (history : List Entry) (k : KeptGroup R) (g : Group) → KeepsGroup fits last passed k history g → length k.def.rules ≡ length g.rules
+so_many_rules fits last passed history k g h =
+    sym (length-map k.def.rules rule_of_def) ∙ ap (λ (d : Definition). length d.rules) (sym h.definition) ∙ length-map g.rules (λ (r : RuleState). r.rule)
+
+rules_counted : {R : Type 0} (fits : R → List Entry → Type 0) (last : R → LastAsks) (passed : R → Passed) (s : Settings) (history : List Entry) (ks : List (KeptGroup R)) (groups : List Group)
+    → KeepEach fits last passed s history ks groups → sum_by (λ k. length k.def.rules) ks ≡ rules_in groups
+rules_counted fits last passed s history [] [] h = refl
+rules_counted fits last passed s history [] (g ∷ groups) h = absurd h
+rules_counted fits last passed s history (k ∷ ks) [] h = absurd h
+rules_counted fits last passed s history (k ∷ ks) (g ∷ groups) h =
+    sum_by-cons (λ k. length k.def.rules) k ks
+    ∙ (λ i. so_many_rules fits last passed history k g h.0.keeps i + rules_counted fits last passed s history ks groups h.1 i)
+    ∙ sym (sum_by-cons (λ (x : Group). length x.rules) g groups)
+
+as_many : {R : Type 0} (fits : R → List Entry → Type 0) (last : R → LastAsks) (passed : R → Passed) (s : Settings) (history : List Entry) (ks : List (KeptGroup R)) (groups : List Group) → KeepEach fits last passed s history ks groups → length ks ≡ length groups
+as_many fits last passed s history [] [] h = refl
+as_many fits last passed s history [] (g ∷ groups) h = absurd h
+as_many fits last passed s history (k ∷ ks) [] h = absurd h
+as_many fits last passed s history (k ∷ ks) (g ∷ groups) h = ap suc (as_many fits last passed s history ks groups h.1)
+
+-- The whole
+
+pub replaced : {R : Type 0} (fits : R → List Entry → Type 0) (last : R → LastAsks) (passed : R → Passed) → StaysKept fits last passed → (s : Settings) (history : List Entry) (olds : List Group) (waits time : ℕ) (files : List LoadedFile)
+    → (was ks dones gone : List (KeptGroup R)) (waiting : List (GroupName × KeptGroup R)) (old new : Series) (added : List Entry) (told : Report)
+    → KeepEach fits last passed s history was olds → KeepEach fits last passed s history ks (fresh_by waits files) → IsLawful history → Holds old history
+    → ((q : GroupName) → is_among q (names_of ks) ≡ true → value_of waiting q ≡ kept_under q was) → gone ≡ filter (λ k. not (is_among (name_of k) (names_of ks))) was
+    → GoOn fits last passed (value_of waiting) ks dones
+    → ((t : Settings) (h : List Entry) (groups : List Group) → KeepEach fits last passed t h gone groups → Holds old h → HasTaken old new h (map (marker time) (flat_map remains groups)))
+    → ((t : Settings) (h : List Entry) (groups : List Group) → KeepEach fits last passed t h gone groups → Holds old h → added ≡ admitted h (map (marker time) (flat_map remains groups)))
+    → told ≡ report.Reloaded (length dones) (sum_by (λ k. length k.def.rules) dones) (length added)
+    → HasReplaced fits last passed s history (reload_by olds time (fresh_by waits files)) old new dones (record { report = told; added = added })
+replaced fits last passed stays s history olds waits time files was ks dones gone waiting old new added told each fresh_each lawful holds waits_so gone_so goes taken marked is =
+    let news = fresh_by waits files in
+    let step = reload_by olds time news in
+    let left : KeepEach fits last passed s history gone (gone_groups olds news) =
+    subst (λ l. KeepEach fits last passed s history l (gone_groups olds news)) (sym gone_so)
+    (gone_are_kept fits last passed s history (names_of ks) news (names_are fits last passed s history ks news fresh_each) was olds each) in
+    let takes = taken s history (gone_groups olds news) left holds in
+    let adds : added ≡ admitted history step.entries = marked s history (gone_groups olds news) left holds in
+    let later : put_all history step.entries ≡ history ++ admitted history step.entries = puts_admitted history step.entries in
+    let lawful_later = subst IsLawful later (put_all_lawful history step.entries lawful) in
+    let done = all_done fits last passed s history olds was (value_of waiting) each (names_of ks) waits_so ks dones news (λ q e. e) (all_new waits files) fresh_each goes in
+    let many = as_many fits last passed s history dones step.groups done in
+    let rules = rules_counted fits last passed s history dones step.groups done in
+    let count : length added ≡ added_count history step.entries = ap length adds ∙ admitted_counted history step.entries in
+    record {
+      report = is ∙ (λ i. report.Reloaded (many i) (rules i) (count i));
+      added = adds;
+      keeps = each_stays fits last passed stays s history (admitted history step.entries) lawful_later dones step.groups done;
+      head = record {
+        holds = subst (λ l. Holds new l) later takes.holds;
+        whole = λ x h. subst (λ l. IsWhole new l x) later (takes.whole x h);
+        lawful = lawful_later;
+      };
+    }

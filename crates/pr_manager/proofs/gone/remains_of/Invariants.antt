@@ -1,0 +1,16 @@
+use Rattle.std.proofs.Common.{List, length}
+use Rattle.std.specs.Prelude.{flat_map}
+use Rattle.pr_history.specs.declared.entry.Entry.{Entry}
+use Rattle.pr_rules.specs.Groups.{Group}
+use Rattle.pr_rules.specs.Reloads.{remains}
+use Rattle.pr_rules.specs.Settings.{Settings}
+use Rattle.pr_manager.specs.Keeping.{KeepEach}
+use Rattle.pr_manager.proofs.Remaining.{AreLeft}
+use Rattle.pr_manager.proofs.gone.remains_of.Given as goal
+
+abbrev pub invariant-remaining : goal.invariant-remaining
+invariant-remaining g l = (s : Settings) (history : List Entry) (groups : List Group) → KeepEach g.R.Ranges.fits g.R.Ranges.last g.R.Ranges.passed s history l.gone groups
+    → AreLeft g.R.Ranges.fits g.R.Ranges.last g.R.Ranges.passed s history l.rest l.sets.items (flat_map remains groups)
+
+abbrev pub decreases-remaining : goal.decreases-remaining
+decreases-remaining g l = length l.rest

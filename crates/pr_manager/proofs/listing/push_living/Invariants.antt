@@ -1,0 +1,11 @@
+use Rattle.std.proofs.Common.{◌≡◌, ◌++◌, length, map}
+use Rattle.std.specs.Prelude.{filter}
+use Rattle.pr_lineage.specs.Records.{is_living}
+use Rattle.pr_world.specs.Rounds.{alert_line}
+use Rattle.pr_manager.proofs.listing.push_living.Given as goal
+
+abbrev pub invariant-listing : goal.invariant-listing
+invariant-listing l = l.lines ++ map alert_line (filter is_living l.rest) ≡ l.initial.lines ++ map alert_line (filter is_living l.records)
+
+abbrev pub decreases-listing : goal.decreases-listing
+decreases-listing l = length l.rest
