@@ -1,19 +1,21 @@
 -- What an engine stands for after an answer.
-use Rattle.std.proofs.Common.{◌≡◌, ◌≢◌, ℕ, ◌+◌, ◌≤◌, Bool, true, false, cond, List, [], ◌++◌, length, map, Option, Some, None, Result, Ok, Err, OnOk, OnErr, refl, sym, ap, ◌∙◌, subst, append-nil, arith, true≢false}
+use Rattle.std.proofs.Common.{◌≡◌, ◌≢◌, ℕ, ◌+◌, Bool, true, false, cond, List, [], ◌++◌, length, map, Option, Some, None, Result, Ok, Err, IfOk, OnOk, refl, sym, ap, ◌∙◌, subst, append-nil, true≢false}
 use Rattle.std.specs.Prelude.{IfSome, IsSome}
 use Rattle.pr_history.specs.Admission.{IsLawful}
 use Rattle.pr_history.specs.declared.entry.Entry.{Entry}
 use Rattle.pr_intake.specs.Intake.{Series}
+use Rattle.pr_manager.specs.Keeping.{KeepsGroups, KeptManager, settings_in}
 use Rattle.pr_outside.specs.Causes.{HasKeepCause}
 use Rattle.pr_outside.specs.Kept.{AppendsRows, KeepsRows}
 use Rattle.pr_outside.specs.Meant.{Store}
 use Rattle.pr_outside.specs.declared.keeping.KeepError.{KeepError}
 use Rattle.pr_outside.specs.declared.keeping.KeepError.TheVariants as keeping
 use Rattle.pr_outside.specs.declared.keeping.Row.{Row}
+use Rattle.pr_range.specs.Asks.{LastAsks, Passed}
 use Rattle.pr_row.specs.Histories.{history_of}
 use Rattle.pr_row.specs.Rows.{encoded}
 use Rattle.pr_scrape.specs.Knowing.{Knows, Tracked}
-use Rattle.pr_world.specs.Outcome.{Outcome, refuse, accept, Change, nothing_else, targets_become, groups_become, reloads, begins_anew, changed_by, is_refusal}
+use Rattle.pr_world.specs.Outcome.{Outcome, is_refusal}
 use Rattle.pr_world.specs.Settings.{Settings}
 use Rattle.pr_world.specs.Step.{Step, next, outcome, step_by, time_of}
 use Rattle.pr_world.specs.World.{World, begin}
@@ -23,16 +25,18 @@ use Rattle.pr_world.specs.declared.report.Report.{Report}
 use Rattle.pr_world.specs.declared.report.Report.TheVariants as report
 use Rattle.pr_world.proofs.Refusals.{refusal_is_told}
 use Rattle.pr_engine.specs.Causes.{HasApplyCause, HasStartCause, apply_error, last_after, restart_error, start_error}
-use Rattle.pr_engine.specs.Events.{IsKnownAfter, IsNotBefore, event_cost, is_restart, settings_of, step_in_time}
+use Rattle.pr_engine.specs.Events.{IsKnownAfter, is_restart, settings_of, step_in_time}
 use Rattle.pr_engine.specs.Loading.{IsLoaded}
 use Rattle.pr_engine.specs.Rows.{AreRead, TellsOf}
-use Rattle.pr_engine.specs.Standing.{Begins, Kept, KeptParts, KeepsUnless, KeepsWorld, StandsFor, StandsForSome, Starts}
+use Rattle.pr_engine.specs.Standing.{Begins, Forgets, Kept, KeptParts, KeepsBefore, KeepsUnless, KeepsWorld, StandsFor, StandsForSome, Starts}
+use Rattle.pr_engine.specs.Times.{IsNotBefore}
 use Rattle.pr_engine.specs.declared.fault.ApplyError.{ApplyError}
 use Rattle.pr_engine.specs.declared.fault.ApplyError.TheVariants as apply
 use Rattle.pr_engine.specs.declared.fault.Cause.{Cause}
 use Rattle.pr_engine.specs.declared.fault.StartError.{StartError}
 use Rattle.pr_engine.specs.declared.fault.StartError.TheVariants as start
-use Rattle.pr_engine.proofs.Steps.{in_time, stepped_history, tells_more}
+use Rattle.pr_engine.proofs.Steps.{in_time, stepped_history, stepped_last, tells_more}
+use Rattle.pr_engine.proofs.Times.{head_of_all}
 use Rattle.pr_engine.proofs.Told.{told_on}
 
 -- Errors
@@ -76,20 +80,26 @@ tells_still before now history same count tells = record {
   rows = told_on (λ rows. history_of rows ≡ Ok history) before.rows now.rows same tells.rows;
 }
 
-pub kept_tells : (parts : KeptParts) (w : World) (time : ℕ) (o : Outcome) (before now : Store) (added : List Entry) → TellsOf before w.history → added ≡ (step_by w time o).rows
-    → KeepsWorld parts (step_by w time o).world → AreRead added → AppendsRows before.rows now.rows (map encoded added) → now.count ≡ before.count + length added
+pub kept_tells : (w : World) (time : ℕ) (o : Outcome) (before now : Store) (added : List Entry) → TellsOf before w.history → added ≡ (step_by w time o).rows
+    → IsLawful (step_by w time o).world.history → AreRead added → AppendsRows before.rows now.rows (map encoded added) → now.count ≡ before.count + length added
     → TellsOf now (step_by w time o).world.history
-kept_tells parts w time o before now added tells is keeps are appends count =
+kept_tells w time o before now added tells is lawful are appends count =
     let after : (step_by w time o).world.history ≡ w.history ++ added = stepped_history w time o ∙ ap (λ (l : List Entry). w.history ++ l) (sym is) in
-    subst (λ (h : List Entry). TellsOf now h) (sym after) (tells_more before now w.history added tells are (subst IsLawful after keeps.head.lawful) appends count)
+    subst (λ (h : List Entry). TellsOf now h) (sym after) (tells_more before now w.history added tells are (subst IsLawful after lawful) appends count)
 
 pub some_before : (old now : Option (List Row)) → KeepsRows old now → IsSome now → IsSome old
 some_before old None same some = absurd (true≢false (sym some))
 some_before None (Some now) same some = absurd same
 some_before (Some rows) (Some now) same some = refl
 
-pub begins : (head : Series) (tracked : Tracked) (store : Store) → IsLoaded head store → Knows tracked [] → Begins (record { head = head; targets = tracked }) store
-begins head tracked store l k = record { history = l.history; keeps = λ last. record { head = l.head; targets = k; groups = refl }; tells = l.tells }
+pub begins : {R : Type 0} (fits : R → List Entry → Type 0) (asked : R → LastAsks) (passed : R → Passed) (step : ℕ) (head : Series) (tracked : Tracked) (manager : KeptManager R) (store : Store) → IsLoaded head store → Knows tracked []
+    → settings_in manager ≡ settings_of step → ((history : List Entry) → KeepsGroups fits asked passed manager history [] false)
+    → Begins fits asked passed step (record { head = head; targets = tracked; manager = manager }) store
+begins fits asked passed step head tracked manager store l k told none = record {
+  history = l.history;
+  keeps = λ last. record { head = head_of_all head last l.history l.head; targets = k; settings = told; groups = none l.history };
+  tells = l.tells;
+}
 
 same_history : (rows all : List Row) (history other : List Entry) → history_of rows ≡ Ok history → history_of all ≡ Ok other → all ≡ rows → other ≡ history
 same_history rows all history other told again same = let both : Ok other ≡ Ok history = sym again ∙ ap history_of same ∙ told in cc
@@ -100,10 +110,10 @@ read_again old None history other same some told again = absurd (true≢false (s
 read_again None (Some now) history other same some told again = absurd same
 read_again (Some rows) (Some now) history other same some told again = same_history rows now history other told again same
 
-pub begun_keeps : (k : KeptParts) (before now : Store) (w : World) (last : Option ℕ) → Begins k now → KeepsRows before.rows now.rows → TellsOf before w.history
-    → IsSome now.rows → KeepsWorld k (begin last w.history)
-begun_keeps k before now w last b same tells some =
-    subst (λ (h : List Entry). KeepsWorld k (begin last h)) (read_again before.rows now.rows w.history b.history same some tells.rows b.tells.rows) (b.keeps last)
+pub begun_keeps : {R : Type 0} (fits : R → List Entry → Type 0) (asked : R → LastAsks) (passed : R → Passed) (step : ℕ) (k : KeptParts R) (before now : Store) (w : World) (last : Option ℕ) → Begins fits asked passed step k now → KeepsRows before.rows now.rows
+    → TellsOf before w.history → IsSome now.rows → KeepsWorld fits asked passed step k (begin last w.history)
+begun_keeps fits asked passed step k before now w last b same tells some =
+    subst (λ (h : List Entry). KeepsWorld fits asked passed step k (begin last h)) (read_again before.rows now.rows w.history b.history same some tells.rows b.tells.rows) (b.keeps last)
 
 -- Restarts
 
@@ -150,32 +160,42 @@ anew_report step w e r is told = told ∙ sym (ap (λ (s : Step). s.report) (res
 anew_world : (step : ℕ) (w : World) (e : Event) → is_restart e ≡ true → (step_in_time step w e).world ≡ begin (Some (time_of e)) w.history
 anew_world step w e is = ap (λ (s : Step). s.world) (restart_step step w e is) ∙ ap (begin (Some (time_of e))) (append-nil w.history)
 
-pub anew_keeps : (step : ℕ) (w : World) (e : Event) (k : KeptParts) → is_restart e ≡ true → KeepsWorld k (begin (Some (time_of e)) w.history) → KeepsWorld k (step_in_time step w e).world
-anew_keeps step w e k is keeps = subst (KeepsWorld k) (sym (anew_world step w e is)) keeps
+pub anew_keeps : {R : Type 0} (fits : R → List Entry → Type 0) (asked : R → LastAsks) (passed : R → Passed) (step : ℕ) (w : World) (e : Event) (k : KeptParts R) → is_restart e ≡ true → KeepsWorld fits asked passed step k (begin (Some (time_of e)) w.history)
+    → KeepsWorld fits asked passed step k (step_in_time step w e).world
+anew_keeps fits asked passed step w e k is keeps = subst (λ (v : World). KeepsWorld fits asked passed step k v) (sym (anew_world step w e is)) keeps
 
 pub anew_tells : (step : ℕ) (w : World) (e : Event) (store : Store) → is_restart e ≡ true → TellsOf store w.history → TellsOf store (step_in_time step w e).world.history
 anew_tells step w e store is tells = subst (λ (v : World). TellsOf store v.history) (sym (anew_world step w e is)) tells
 
+-- it forgets nothing, and reads nothing
+pub anew_forgets : (e : Event) (r : Report) (head : Series) → is_restart e ≡ true → Forgets e r head
+anew_forgets (event.Add time labels point) r head is = tt
+anew_forgets (event.Query time text) r head is = tt
+anew_forgets (event.Scrape time target body) r head is = tt
+anew_forgets (event.Fail time target) r head is = tt
+anew_forgets (event.Gone time target) r head is = tt
+anew_forgets (event.Eval time file group) r head is = absurd cc
+anew_forgets (event.Reload time files) r head is = tt
+anew_forgets (event.Restart time) r head is = tt
+anew_forgets (event.Alerts time) r head is = tt
+
 -- The engine
 
-keeps_unless : (broken : Option Cause) (k : KeptParts) (w : World) → KeepsWorld k w → KeepsUnless broken k w
-keeps_unless None k w keeps = keeps
-keeps_unless (Some first) k w keeps = tt
+keeps_unless : {R : Type 0} (fits : R → List Entry → Type 0) (asked : R → LastAsks) (passed : R → Passed) (step : ℕ) (broken : Option Cause) (k : KeptParts R) (w : World) → KeepsWorld fits asked passed step k w → KeepsUnless fits asked passed step broken k w
+keeps_unless fits asked passed step None k w keeps = keeps
+keeps_unless fits asked passed step (Some first) k w keeps = tt
 
-pub keeps_whole : (broken : Option Cause) (k : KeptParts) (w : World) → broken ≡ None → KeepsUnless broken k w → KeepsWorld k w
-keeps_whole None k w is keeps = keeps
-keeps_whole (Some first) k w is keeps = absurd cc
+pub keeps_whole : {R : Type 0} (fits : R → List Entry → Type 0) (asked : R → LastAsks) (passed : R → Passed) (step : ℕ) (broken : Option Cause) (k : KeptParts R) (w : World) → broken ≡ None → KeepsUnless fits asked passed step broken k w → KeepsWorld fits asked passed step k w
+keeps_whole fits asked passed step None k w is keeps = keeps
+keeps_whole fits asked passed step (Some first) k w is keeps = absurd cc
 
-changed_last : (c : Change) (w : World) (time : ℕ) (entries : List Entry) → (changed_by c w time entries).last ≡ Some time
-changed_last nothing_else w time entries = refl
-changed_last (targets_become targets) w time entries = refl
-changed_last (groups_become groups) w time entries = refl
-changed_last (reloads groups) w time entries = refl
-changed_last begins_anew w time entries = refl
-
-stepped_last : (w : World) (time : ℕ) (o : Outcome) → (step_by w time o).world.last ≡ cond (step_by w time o).refused w.last (Some time)
-stepped_last w time (refuse report) = refl
-stepped_last w time (accept report entries change) = changed_last change w time entries
+-- what an engine keeps that is not broken, where an event comes in time
+pub keeps_before : {R : Type 0} (fits : R → List Entry → Type 0) (asked : R → LastAsks) (passed : R → Passed) (k : Kept R) (store : Store) (w : World) (time : ℕ) → StandsFor fits asked passed k store w → k.broken ≡ None → IsNotBefore k.last time
+    → KeepsBefore fits asked passed k.step k.parts w time
+keeps_before fits asked passed k store w time stands whole late = record {
+  keeps = keeps_whole fits asked passed k.step k.broken k.parts w whole stands.keeps;
+  in_time = subst (λ (l : Option ℕ). IsNotBefore l time) stands.last late;
+}
 
 next_last : (s : Settings) (w : World) (e : Event) → (next s w e).world.last ≡ cond (next s w e).refused w.last (Some (time_of e))
 unfolding next
@@ -189,28 +209,35 @@ last_is s w e last r same told =
     ∙ ap (λ (l : Option ℕ). cond (next s w e).refused l (Some (time_of e))) same
     ∙ sym (next_last s w e)
 
-pub stands_after : (k : Kept) (parts : KeptParts) (before now : Store) (w : World) (e : Event) (r : Report) (broken : Option Cause) → StandsFor k before w
-    → IsNotBefore k.last (time_of e) → r ≡ (step_in_time k.step w e).report → KeepsWorld parts (step_in_time k.step w e).world
+pub stands_after : {R : Type 0} (fits : R → List Entry → Type 0) (asked : R → LastAsks) (passed : R → Passed) (k : Kept R) (parts : KeptParts R) (before now : Store) (w : World) (e : Event) (r : Report) (broken : Option Cause) → StandsFor fits asked passed k before w
+    → IsNotBefore k.last (time_of e) → r ≡ (step_in_time k.step w e).report → KeepsWorld fits asked passed k.step parts (step_in_time k.step w e).world
     → TellsOf now (step_in_time k.step w e).world.history
-    → StandsFor (record { parts = parts; step = k.step; last = last_after k.last (time_of e) (Ok r); broken = broken }) now (next (settings_of k.step) w e).world
-stands_after k parts before now w e r broken stands late told keeps tells =
+    → StandsFor fits asked passed (record { parts = parts; step = k.step; last = last_after k.last (time_of e) (Ok r); broken = broken }) now (next (settings_of k.step) w e).world
+stands_after fits asked passed k parts before now w e r broken stands late told keeps tells =
     let is : next (settings_of k.step) w e ≡ step_in_time k.step w e =
     in_time k.step w e (subst (λ (l : Option ℕ). IsNotBefore l (time_of e)) stands.last late) in
     record {
       last = last_is (settings_of k.step) w e k.last r stands.last (told ∙ sym (ap (λ (s : Step). s.report) is));
       tells = subst (λ (s : Step). TellsOf now s.world.history) (sym is) tells;
-      keeps = keeps_unless broken parts (next (settings_of k.step) w e).world (subst (λ (s : Step). KeepsWorld parts s.world) (sym is) keeps);
+      keeps = keeps_unless fits asked passed k.step broken parts (next (settings_of k.step) w e).world (subst (λ (s : Step). KeepsWorld fits asked passed k.step parts s.world) (sym is) keeps);
     }
 
-pub stands_broken : (k : Kept) (parts : KeptParts) (before now : Store) (w : World) (first : Cause) → StandsFor k before w → TellsOf now w.history
-    → StandsFor (record { parts = parts; step = k.step; last = k.last; broken = Some first }) now w
-stands_broken k parts before now w first stands tells = record { last = stands.last; tells = tells; keeps = tt }
+pub stands_answered : {R : Type 0} (fits : R → List Entry → Type 0) (asked : R → LastAsks) (passed : R → Passed) (result : Result Report ApplyError) (k : Kept R) (parts : KeptParts R) (before now : Store) (w : World) (e : Event) (broken : Option Cause)
+    → StandsFor fits asked passed k before w → IsNotBefore k.last (time_of e) → IfOk result (λ r. r ≡ (step_in_time k.step w e).report)
+    → OnOk result (KeepsWorld fits asked passed k.step parts (step_in_time k.step w e).world) → OnOk result (TellsOf now (step_in_time k.step w e).world.history)
+    → OnOk result (StandsFor fits asked passed (record { parts = parts; step = k.step; last = last_after k.last (time_of e) result; broken = broken }) now (next (settings_of k.step) w e).world)
+stands_answered fits asked passed (Ok r) k parts before now w e broken stands late told keeps tells = stands_after fits asked passed k parts before now w e r broken stands late told keeps tells
+stands_answered fits asked passed (Err x) k parts before now w e broken stands late told keeps tells = tt
 
-pub stands_anew : (parts : KeptParts) (now : Store) (step : ℕ) (last : Option ℕ) (broken : Option Cause) → Begins parts now
-    → StandsForSome (record { parts = parts; step = step; last = last; broken = broken }) now
-stands_anew parts now step last broken b = record {
+pub stands_broken : {R : Type 0} (fits : R → List Entry → Type 0) (asked : R → LastAsks) (passed : R → Passed) (k : Kept R) (parts : KeptParts R) (before now : Store) (w : World) (first : Cause) → StandsFor fits asked passed k before w → TellsOf now w.history
+    → StandsFor fits asked passed (record { parts = parts; step = k.step; last = k.last; broken = Some first }) now w
+stands_broken fits asked passed k parts before now w first stands tells = record { last = stands.last; tells = tells; keeps = tt }
+
+pub stands_anew : {R : Type 0} (fits : R → List Entry → Type 0) (asked : R → LastAsks) (passed : R → Passed) (parts : KeptParts R) (now : Store) (step : ℕ) (last : Option ℕ) (broken : Option Cause) → Begins fits asked passed step parts now
+    → StandsForSome fits asked passed (record { parts = parts; step = step; last = last; broken = broken }) now
+stands_anew fits asked passed parts now step last broken b = record {
   world = begin last b.history;
-  stands = record { last = refl; tells = b.tells; keeps = keeps_unless broken parts (begin last b.history) (b.keeps last) };
+  stands = record { last = refl; tells = b.tells; keeps = keeps_unless fits asked passed step broken parts (begin last b.history) (b.keeps last) };
 }
 
 pub report_in_time : (step : ℕ) (w : World) (e : Event) (r : Report) → IsNotBefore w.last (time_of e) → r ≡ (step_in_time step w e).report → r ≡ (next (settings_of step) w e).report
@@ -219,23 +246,14 @@ report_in_time step w e r late told = told ∙ sym (ap (λ (s : Step). s.report)
 pub rows_in_time : (step : ℕ) (w : World) (e : Event) → IsNotBefore w.last (time_of e) → (next (settings_of step) w e).rows ≡ [] → (step_in_time step w e).rows ≡ []
 rows_in_time step w e late none = sym (ap (λ (s : Step). s.rows) (in_time step w e late)) ∙ none
 
-pub starts : (parts : KeptParts) (now : Store) (step : ℕ) → Begins parts now → Starts (record { parts = parts; step = step; last = None; broken = None }) now
-starts parts now step b = record { history = b.history; stands = record { last = refl; tells = b.tells; keeps = b.keeps None } }
+pub starts : {R : Type 0} (fits : R → List Entry → Type 0) (asked : R → LastAsks) (passed : R → Passed) (parts : KeptParts R) (now : Store) (step : ℕ) → Begins fits asked passed step parts now → Starts fits asked passed (record { parts = parts; step = step; last = None; broken = None }) now
+starts fits asked passed parts now step b = record { history = b.history; stands = record { last = refl; tells = b.tells; keeps = b.keeps None } }
 
 -- whatever was answered, the engine stands for some world
-pub some_stands : (r : Result Report ApplyError) (e : Event) (parts : KeptParts) (now : Store) (v : World) (step : ℕ) (last : Option ℕ) (broken : Option Cause)
-    → (is_restart e ≡ true → OnOk r (Begins parts now)) → (IsKnownAfter e now → OnOk r (KeepsWorld parts v)) → OnOk r (TellsOf now v.history)
-    → OnOk r (StandsForSome (record { parts = parts; step = step; last = last; broken = broken }) now)
-some_stands (Err x) e parts now v step last broken anew keeps tells = tt
-some_stands (Ok x) e parts now v step last broken anew keeps tells = by (is_restart e) refl where
-  still : KeepsWorld parts v → StandsForSome (record { parts = parts; step = step; last = last; broken = broken }) now
-  still k =
-      let there : World = record v { last = last } in
-      record {
-        world = there;
-        stands = record { last = refl; tells = tells; keeps = keeps_unless broken parts there (record { head = k.head; targets = k.targets; groups = k.groups }) };
-      }
-
-  by : (b : Bool) → is_restart e ≡ b → StandsForSome (record { parts = parts; step = step; last = last; broken = broken }) now
-  by true is = stands_anew parts now step last broken (anew is)
-  by false is = still (keeps (known_else e now is))
+pub some_stands : {R : Type 0} (fits : R → List Entry → Type 0) (asked : R → LastAsks) (passed : R → Passed) (r : Result Report ApplyError) (e : Event) (k : Kept R) (now : Store) (v : World)
+    → (is_restart e ≡ true → OnOk r (Begins fits asked passed k.step k.parts now)) → (IsKnownAfter e now → OnOk r (StandsFor fits asked passed k now v)) → OnOk r (StandsForSome fits asked passed k now)
+some_stands fits asked passed (Err x) e k now v anew stands = tt
+some_stands fits asked passed (Ok x) e k now v anew stands = by (is_restart e) refl where
+  by : (b : Bool) → is_restart e ≡ b → StandsForSome fits asked passed k now
+  by true is = stands_anew fits asked passed k.parts now k.step k.last k.broken (anew is)
+  by false is = record { world = v; stands = stands (known_else e now is) }

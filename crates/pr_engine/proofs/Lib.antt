@@ -1,4 +1,5 @@
 pub mod Told
+pub mod Times
 pub mod Loaded
 pub mod Queries
 pub mod Values

@@ -1,5 +1,5 @@
 -- Rows that are read, one after another.
-use Rattle.std.proofs.Common.{◌≡◌, ◌≢◌, ℤ, ℕ, suc, ◌+◌, ◌<◌, ◌≤◌, Bool, true, false, cond, List, [], ◌∷◌, ◌++◌, length, map, drop, get_or, Option, Some, None, Result, Ok, Err, OnOk, refl, sym, ap, ◌∙◌, subst, append-nil, arith}
+use Rattle.std.proofs.Common.{◌≡◌, ◌≢◌, ℤ, ℕ, suc, ◌+◌, ◌<◌, Bool, false, cond, List, [], ◌∷◌, ◌++◌, length, map, drop, Option, Some, None, Result, Ok, Err, OnOk, refl, sym, ap, ◌∙◌, subst, arith}
 use Rattle.std.specs.Prelude.{IfSome, slice_get}
 use Rattle.std.proofs.Math.Seq.{drop-cons}
 use Rattle.std.proofs.lemmas.List.{length-append}
@@ -19,11 +19,10 @@ use Rattle.pr_row.specs.Histories.{history_after, history_of, taken_by}
 use Rattle.pr_row.specs.Rows.{decoded}
 use Rattle.pr_engine.specs.Causes.{HasStartCause}
 use Rattle.pr_engine.specs.Loading.{HoldsNext, IsLoaded, IsLoadedTo, OnBadRow, next_entry}
-use Rattle.pr_engine.specs.Rows.{TellsOf}
-use Rattle.pr_engine.specs.Standing.{IsHeadOf}
+use Rattle.pr_engine.specs.Standing.{HoldsAll}
 use Rattle.pr_engine.specs.declared.fault.StartError.{StartError}
 use Rattle.pr_engine.specs.declared.fault.StartError.TheVariants as start
-use Rattle.pr_engine.proofs.Told.{told_and, told_by, told_on}
+use Rattle.pr_engine.proofs.Told.{told_and, told_on}
 
 -- the next row as a step
 by_next : ℕ → List Entry → List (Option Entry) → Option Entry → Result (List Entry) ℕ
@@ -82,7 +81,7 @@ pub loaded_bad : (index : ℕ) (series : Series) (before now : Store) (row : Row
 unfolding by_next
 loaded_bad index series before now row l same at none = told_next index series before now row l same at None none
 
-pub none_loaded : (series : Series) (store : Store) → IsHeadOf series [] → IsLoadedTo 0 series store
+pub none_loaded : (series : Series) (store : Store) → HoldsAll series [] → IsLoadedTo 0 series store
 none_loaded series store head = record { history = []; head = head; count = refl; rest = by store.rows } where
   by : (o : Option (List Row)) → IfSome o (λ rows. history_of rows ≡ history_after 0 [] (map decoded (drop 0 rows)))
   by None = tt
@@ -110,7 +109,7 @@ all_loaded index size series store l end count sizes = record {
 
 -- an entry that was added is the next one
 pub head_more : (new : Series) (history : List Entry) (e : Entry) (a : Append) → IsLawful history → a ≡ Added → a ≡ admit history e.labels e.time e.point → Holds new (put history e)
-    → ((x : ℤ) → IsWhole new (put history e) x) → IsHeadOf new (history ++ e ∷ [])
+    → ((x : ℤ) → IsWhole new (put history e) x) → HoldsAll new (history ++ e ∷ [])
 head_more new history e a lawful is answer holds whole =
     let added : admit history e.labels e.time e.point ≡ Added = sym answer ∙ is in
     let more : put history e ≡ history ++ e ∷ [] = ap (λ (b : Append). put_by b history e) added in
@@ -133,7 +132,7 @@ next_refused : (history : List Entry) (row : Row) (e : Entry) → decoded row �
 next_refused history row e is none = ap (next_entry history) is ∙ ap (λ (b : Bool). cond b (Some e) None) none
 
 pub holds_next : (result : Result Unit StartError) (history : List Entry) (row : Row) (e : Entry) (series : Series) → decoded row ≡ Some e
-    → OnOk result (admit history e.labels e.time e.point ≡ Added) → OnOk result (IsHeadOf series (history ++ e ∷ [])) → OnOk result (HoldsNext history row series)
+    → OnOk result (admit history e.labels e.time e.point ≡ Added) → OnOk result (HoldsAll series (history ++ e ∷ [])) → OnOk result (HoldsNext history row series)
 holds_next (Ok done) history row e series is added head = record { entry = e; follows = next_added history row e is added; head = head }
 holds_next (Err error) history row e series is added head = tt
 
@@ -148,13 +147,13 @@ pub none_next : (history : List Entry) (row : Row) → decoded row ≡ None → 
 none_next history row is = ap (next_entry history) is
 
 pub row_loaded : (result : Result Unit StartError) (index : ℕ) (old new : Series) (before now : Store) (row : Row) → KeepsRows before.rows now.rows
-    → IfSome now.rows (λ rows. slice_get rows index ≡ Some row) → ((history : List Entry) → IsHeadOf old history → OnOk result (HoldsNext history row new))
+    → IfSome now.rows (λ rows. slice_get rows index ≡ Some row) → ((history : List Entry) → HoldsAll old history → OnOk result (HoldsNext history row new))
     → IsLoadedTo index old before → OnOk result (IsLoadedTo (index + 1) new now)
 row_loaded (Ok done) index old new before now row same at next l = loaded_more index old new before now row l same at (next l.history l.head)
 row_loaded (Err error) index old new before now row same at next l = tt
 
 pub row_refused : (result : Result Unit StartError) (index : ℕ) (series : Series) (before now : Store) (row : Row) → KeepsRows before.rows now.rows
-    → IfSome now.rows (λ rows. slice_get rows index ≡ Some row) → ((history : List Entry) → IsHeadOf series history → OnBadRow index (next_entry history (decoded row) ≡ None) result)
+    → IfSome now.rows (λ rows. slice_get rows index ≡ Some row) → ((history : List Entry) → HoldsAll series history → OnBadRow index (next_entry history (decoded row) ≡ None) result)
     → IsLoadedTo index series before → (at : ℕ) → result ≡ Err (start.BadRow at) → IfSome now.rows (λ rows. history_of rows ≡ Err at)
 row_refused result index series before now row same there next l at is =
     let bad : (at ≡ index) × (next_entry l.history (decoded row) ≡ None) =

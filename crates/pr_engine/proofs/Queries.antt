@@ -1,6 +1,5 @@
 -- The answer to a query, by what its text, its tree and its value are.
-use Rattle.std.proofs.Common.{◌≡◌, ℕ, ◌+◌, ◌≤◌, pos, ◌-ℤ◌, Bool, true, false, List, [], Option, Some, None, Result, Ok, Err, IfOk, is_ok, refl, sym, ap, subst, arith}
-use Rattle.std.specs.Int.Signed.{≤ℤ_refl}
+use Rattle.std.proofs.Common.{◌≡◌, ℕ, ◌+◌, ◌≤◌, true, List, [], Option, Some, None, Result, Ok, Err, IfOk, is_ok, refl, sym, ap, subst, arith}
 use Rattle.std.specs.declared.alloc.AllocError.{AllocError}
 use Rattle.pr_labels.specs.declared.pair.Pair.{Pair}
 use Rattle.pr_history.specs.declared.entry.Entry.{Entry}
@@ -9,12 +8,14 @@ use Rattle.pr_ast.specs.declared.place.Place.{Place}
 use Rattle.pr_ast.specs.Tree.{Tree}
 use Rattle.pr_ast.specs.Reach.{reads_back}
 use Rattle.pr_lex.specs.declared.fault.LexKind.{LexKind}
+use Rattle.pr_group.specs.Keeping.{MayEvaluateOver}
 use Rattle.pr_parse.specs.declared.fault.ParseKind.{ParseKind}
 use Rattle.pr_parse.specs.Parsed.{Parsed, gives_tree, gives_lex_fault, gives_fault}
 use Rattle.pr_types.specs.declared.kind.ValueType.{ValueType}
 use Rattle.pr_types.specs.declared.kind.TypeKind.{TypeKind}
 use Rattle.pr_types.specs.declared.kind.TypeFault.{TypeFault}
 use Rattle.pr_types.specs.Signatures.{fault as type_fault}
+use Rattle.pr_types.specs.Checking.{MayEvaluate}
 use Rattle.pr_types.specs.Typed.{checked}
 use Rattle.pr_query.specs.declared.fault.Fault.{Fault}
 use Rattle.pr_query.specs.declared.fault.FaultKind.{FaultKind}
@@ -25,25 +26,25 @@ use Rattle.pr_query.specs.Meaning.{meaning}
 use Rattle.pr_eval.specs.Looks.{KeepsFor}
 use Rattle.pr_eval.specs.Asking.{Sought}
 use Rattle.pr_eval.specs.Evaluated.{AreReady, IsReadyFor, MayBegin, asks_of}
-use Rattle.pr_world.specs.declared.report.Report.{Report}
 use Rattle.pr_world.specs.declared.report.Report.TheVariants.{QueryFault, QueryRefused}
 use Rattle.pr_kinds.specs.declared.kind.QueryKind.TheVariants.{Lex, Parse, Typing}
-use Rattle.pr_world.specs.Outcome.{accept, nothing_else, refuse}
+use Rattle.pr_world.specs.Outcome.{refuse}
 use Rattle.pr_world.specs.Query.{parsed_outcome, told_answer, told_value, typed_outcome}
 use Rattle.pr_world.specs.Settings.{Settings}
-use Rattle.pr_engine.specs.Asked.{HasOutcome}
 use Rattle.pr_engine.specs.Events.{parsed_cost, typed_cost}
-use Rattle.pr_engine.specs.Standing.{IsHeadOf}
+use Rattle.pr_engine.specs.Taken.{HasOutcome, added_in, report_in}
+use Rattle.pr_engine.specs.Times.{forgotten_at}
 use Rattle.pr_engine.specs.declared.taken.Taken.{Taken}
+use Rattle.pr_engine.proofs.Times.{back_enough}
 
--- a head of which nothing is forgotten keeps what any expression looks at
-pub keeps_for : (head : List (List Pair × Stored)) (history : List Entry) (t : Tree) (time : ℕ) → IsHeadOf head history → KeepsFor head history t time
-keeps_for head history t time h = record {
+-- a head keeps what an expression looks at that may be evaluated
+pub keeps_for : (head : List (List Pair × Stored)) (history : List Entry) (t : Tree) (time : ℕ) → MayEvaluateOver head history time → MayEvaluate t → KeepsFor head history t time
+keeps_for head history t time h may = record {
   lawful = h.lawful;
   holds = h.holds;
-  forgotten = pos time -ℤ pos (reads_back t);
-  whole = h.whole (pos time -ℤ pos (reads_back t));
-  back = ≤ℤ_refl (pos time -ℤ pos (reads_back t));
+  forgotten = forgotten_at time;
+  whole = h.whole;
+  back = back_enough time (reads_back t) may.reaches;
 }
 
 -- Where nothing is remembered, everything may be asked.
@@ -53,8 +54,9 @@ nothing_kept node asks = λ i q e. by (node + i) q where
   by k None = tt
   by k (Some q) = λ s b e. absurd cc
 
-pub may_begin : (head : List (List Pair × Stored)) (history : List Entry) (t : Tree) (time : ℕ) → IsHeadOf head history → MayBegin head history t time (Unit {0}) (λ k s. None)
-may_begin head history t time h = record { keeps = keeps_for head history t time h; fits = tt; ready = nothing_kept 0 (asks_of history t time) }
+pub may_begin : (head : List (List Pair × Stored)) (history : List Entry) (t : Tree) (time : ℕ) → MayEvaluateOver head history time → MayEvaluate t
+    → MayBegin head history t time (Unit {0}) (λ k s. None)
+may_begin head history t time h may = record { keeps = keeps_for head history t time h may; fits = tt; ready = nothing_kept 0 (asks_of history t time) }
 
 -- what is told of an answer
 pub told_ok : (meant : Result Value Fault) (v : Value) → meant ≡ Ok v → told_value v ≡ told_answer meant
@@ -65,7 +67,7 @@ told_fault meant place kind h = ap told_answer (sym h)
 
 -- whether it has a type
 pub typed_answer : (s : Settings) (history : List Entry) (time : ℕ) (t : Tree) (r : Result ValueType TypeFault) (a : Taken) → is_ok r ≡ true
-    → a.report ≡ told_answer (meaning s.subquery_step history t time) → a.added ≡ [] → HasOutcome (typed_outcome s history time t r) a
+    → report_in a ≡ told_answer (meaning s.subquery_step history t time) → added_in a ≡ [] → HasOutcome (typed_outcome s history time t r) a
 typed_answer s history time t (Ok type) a h k n = (k, n, refl, refl)
 typed_answer s history time t (Err f) a h k n = absurd cc
 

@@ -1,5 +1,5 @@
 -- Histories and rows, one event further.
-use Rattle.std.proofs.Common.{◌≡◌, ℕ, ◌+◌, Bool, true, false, cond, List, [], ◌∷◌, ◌++◌, length, map, Option, Some, None, Result, Ok, Err, refl, sym, ap, ◌∙◌, subst, append_assoc, append-nil, arith, true≢false}
+use Rattle.std.proofs.Common.{◌≡◌, ℕ, ◌+◌, Bool, false, cond, List, [], ◌∷◌, ◌++◌, length, map, Option, Some, None, Ok, refl, sym, ap, ◌∙◌, append_assoc, append-nil, arith, true≢false}
 use Rattle.std.specs.Prelude.{IfSome, IsSome, nat_lt}
 use Rattle.std.proofs.lemmas.List.{length-append, map-append}
 use Rattle.pr_history.specs.Admission.{IsLawful, IsLawfulAfter, admit}
@@ -13,13 +13,13 @@ use Rattle.pr_outside.specs.declared.keeping.Row.{Row}
 use Rattle.pr_row.specs.Histories.{history_after, history_of, taken_by}
 use Rattle.pr_row.specs.Rows.{decoded, encoded}
 use Rattle.pr_world.specs.Outcome.{Outcome, refuse, accept, Change, nothing_else, targets_become, groups_become, reloads, begins_anew, changed_by, unless_backwards}
-use Rattle.pr_world.specs.Settings.{Settings}
 use Rattle.pr_world.specs.Step.{next, outcome_in_time, step_by, time_of}
 use Rattle.pr_world.specs.World.{World}
 use Rattle.pr_world.specs.declared.event.Event.{Event}
 use Rattle.pr_world.specs.declared.report.Report.TheVariants as report
-use Rattle.pr_engine.specs.Events.{IsNotBefore, settings_of, step_in_time}
+use Rattle.pr_engine.specs.Events.{settings_of, step_in_time}
 use Rattle.pr_engine.specs.Rows.{AreRead, TellsOf}
+use Rattle.pr_engine.specs.Times.{IsNotBefore}
 
 -- the entries of a step come behind the history
 changed_history : (c : Change) (w : World) (time : ℕ) (entries : List Entry) → (changed_by c w time entries).history ≡ w.history ++ entries
@@ -32,6 +32,21 @@ changed_history begins_anew w time entries = refl
 pub stepped_history : (w : World) (time : ℕ) (o : Outcome) → (step_by w time o).world.history ≡ w.history ++ (step_by w time o).rows
 stepped_history w time (refuse report) = sym (append-nil w.history)
 stepped_history w time (accept report entries change) = changed_history change w time entries
+
+-- the time of the last event
+changed_last : (c : Change) (w : World) (time : ℕ) (entries : List Entry) → (changed_by c w time entries).last ≡ Some time
+changed_last nothing_else w time entries = refl
+changed_last (targets_become targets) w time entries = refl
+changed_last (groups_become groups) w time entries = refl
+changed_last (reloads groups) w time entries = refl
+changed_last begins_anew w time entries = refl
+
+pub stepped_last : (w : World) (time : ℕ) (o : Outcome) → (step_by w time o).world.last ≡ cond (step_by w time o).refused w.last (Some time)
+stepped_last w time (refuse report) = refl
+stepped_last w time (accept report entries change) = changed_last change w time entries
+
+pub last_in_time : (step : ℕ) (w : World) (e : Event) → (step_in_time step w e).world.last ≡ cond (step_in_time step w e).refused w.last (Some (time_of e))
+last_in_time step w e = stepped_last w (time_of e) (outcome_in_time (settings_of step) w e)
 
 -- rows that tell a history, and then the rows of entries that are added to it
 told_more : (index : ℕ) (before history : List Entry) (rows more : List (Option Entry)) → history_after index before rows ≡ Ok history

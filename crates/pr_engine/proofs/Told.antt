@@ -1,5 +1,5 @@
 -- Rows that are told after a call.
-use Rattle.std.proofs.Common.{◌≡◌, ℕ, List, [], ◌∷◌, ◌++◌, Option, Some, None, sym, subst, append-nil}
+use Rattle.std.proofs.Common.{◌≡◌, List, [], Option, Some, None, sym, subst, append-nil}
 use Rattle.std.specs.Prelude.{IfSome}
 use Rattle.pr_outside.specs.Kept.{AppendsRows, KeepsRows}
 use Rattle.pr_outside.specs.declared.keeping.Row.{Row}

@@ -1,10 +1,14 @@
 -- Events, and what they may read.
-use Rattle.std.specs.Prelude.{◌≡◌, ℕ, Bool, true, false, nat_lt, List, Option, Some, None, IsSome, Result, Ok, Err}
+use Rattle.std.specs.Prelude.{ℕ, Bool, true, false, List, map, IsSome, Result, Ok, Err}
+use Rattle.std.specs.List.{IsDistinct}
+use Rattle.std.specs.Str.{bytes_eq}
 use Rattle.pr_ast.specs.Tree.{Tree}
 use Rattle.pr_history.specs.declared.entry.Entry.{Entry}
 use Rattle.pr_outside.specs.Meant.{Store}
 use Rattle.pr_parse.specs.Parsed.{Parsed, gives_tree, gives_lex_fault, gives_fault, parsed}
+use Rattle.pr_manager.specs.Rounds.{eval_cost}
 use Rattle.pr_query.specs.Cost.{cost, nothing_passed}
+use Rattle.pr_rules.specs.Costs.{PassedByRules}
 use Rattle.pr_types.specs.Typed.{checked}
 use Rattle.pr_types.specs.declared.kind.TypeFault.{TypeFault}
 use Rattle.pr_types.specs.declared.kind.ValueType.{ValueType}
@@ -18,18 +22,6 @@ use Rattle.pr_world.specs.declared.event.Event.TheVariants as event
 abbrev pub settings_of : ℕ → Settings
 settings_of step = record { subquery_step = step; external = of_a_run.external }
 
--- So far an order about rules is none that is taken, but for an evaluation: no group is there.
-abbrev pub is_taken : Event → Bool
-is_taken (event.Add time labels point) = true
-is_taken (event.Query time text) = true
-is_taken (event.Scrape time target body) = true
-is_taken (event.Fail time target) = true
-is_taken (event.Gone time target) = true
-is_taken (event.Eval time file group) = true
-is_taken (event.Reload time files) = false
-is_taken (event.Restart time) = true
-is_taken (event.Alerts time) = true
-
 abbrev pub is_restart : Event → Bool
 is_restart (event.Add time labels point) = false
 is_restart (event.Query time text) = false
@@ -41,10 +33,17 @@ is_restart (event.Reload time files) = false
 is_restart (event.Restart time) = true
 is_restart (event.Alerts time) = false
 
--- a time is not before that of the last event
-abbrev pub IsNotBefore : Option ℕ → ℕ → Type 0
-IsNotBefore None time = Unit {0}
-IsNotBefore (Some last) time = nat_lt time last ≡ false
+-- The files of a reload have names of their own.
+abbrev pub HasDistinctFiles : Event → Type 0
+HasDistinctFiles (event.Add time labels point) = Unit {0}
+HasDistinctFiles (event.Query time text) = Unit {0}
+HasDistinctFiles (event.Scrape time target body) = Unit {0}
+HasDistinctFiles (event.Fail time target) = Unit {0}
+HasDistinctFiles (event.Gone time target) = Unit {0}
+HasDistinctFiles (event.Eval time file group) = Unit {0}
+HasDistinctFiles (event.Reload time files) = IsDistinct bytes_eq (map (λ f. f.name) files)
+HasDistinctFiles (event.Restart time) = Unit {0}
+HasDistinctFiles (event.Alerts time) = Unit {0}
 
 -- What an event comes to that is not before the last one.
 abbrev pub step_in_time : ℕ → World → Event → Step
@@ -63,7 +62,8 @@ IsKnownAfter (event.Restart time) store = IsSome store.rows
 IsKnownAfter (event.Alerts time) store = Unit {0}
 
 -- How many samples are read for an event at most: for a query those of its expression, where it has a
--- type, and for no other.
+-- type; for an evaluation those of its group, where there is one, without those that were passed; and
+-- for no other.
 abbrev pub typed_cost : ℕ → List Entry → ℕ → Tree → Result ValueType TypeFault → ℕ
 typed_cost step history time tree (Ok type) = cost step history nothing_passed tree 0 time
 typed_cost step history time tree (Err f) = 0
@@ -76,13 +76,14 @@ parsed_cost step history time (gives_fault at kind) = 0
 abbrev pub query_cost : ℕ → List Entry → ℕ → List ℕ → ℕ
 query_cost step history time text = parsed_cost step history time (parsed text)
 
-abbrev pub event_cost : ℕ → World → Event → ℕ
-event_cost step w (event.Add time labels point) = 0
-event_cost step w (event.Query time text) = query_cost step w.history time text
-event_cost step w (event.Scrape time target body) = 0
-event_cost step w (event.Fail time target) = 0
-event_cost step w (event.Gone time target) = 0
-event_cost step w (event.Eval time file group) = 0
-event_cost step w (event.Reload time files) = 0
-event_cost step w (event.Restart time) = 0
-event_cost step w (event.Alerts time) = 0
+-- What was passed of a group is known by its file and its name.
+abbrev pub event_cost : ℕ → (List ℕ → List ℕ → PassedByRules) → World → Event → ℕ
+event_cost step passed w (event.Add time labels point) = 0
+event_cost step passed w (event.Query time text) = query_cost step w.history time text
+event_cost step passed w (event.Scrape time target body) = 0
+event_cost step passed w (event.Fail time target) = 0
+event_cost step passed w (event.Gone time target) = 0
+event_cost step passed w (event.Eval time file group) = eval_cost (settings_of step) w time file group (passed file group)
+event_cost step passed w (event.Reload time files) = 0
+event_cost step passed w (event.Restart time) = 0
+event_cost step passed w (event.Alerts time) = 0

@@ -1,6 +1,7 @@
 pub mod Rows
 pub mod Causes
+pub mod Times
 pub mod Events
 pub mod Standing
 pub mod Loading
-pub mod Asked
+pub mod Taken

@@ -9,7 +9,7 @@ use Rattle.pr_puts.specs.Puts.{is_added}
 use Rattle.pr_row.specs.Histories.{history_after, history_of}
 use Rattle.pr_row.specs.Rows.{decoded}
 use Rattle.pr_engine.specs.Rows.{TellsOf}
-use Rattle.pr_engine.specs.Standing.{IsHeadOf}
+use Rattle.pr_engine.specs.Standing.{HoldsAll}
 use Rattle.pr_engine.specs.declared.fault.StartError.{StartError}
 use Rattle.pr_engine.specs.declared.fault.StartError.TheVariants as start
 
@@ -29,17 +29,17 @@ next_entry history (Some e) = cond (is_added (admit history e.labels e.time e.po
 pub record HoldsNext (history : List Entry) (row : Row) (series : Series) : Type 0 where
   pub entry : Entry
   pub follows : next_entry history (decoded row) ≡ Some entry
-  pub head : IsHeadOf series (history ++ entry ∷ [])
+  pub head : HoldsAll series (history ++ entry ∷ [])
 
 -- A head holds the history that some first rows tell; what all tell is what the others tell after it.
 pub record IsLoadedTo (index : ℕ) (series : Series) (store : Store) : Type 0 where
   pub history : List Entry
-  pub head : IsHeadOf series history
+  pub head : HoldsAll series history
   pub count : length history ≡ index
   pub rest : IfSome store.rows (λ rows. history_of rows ≡ history_after index history (map decoded (drop index rows)))
 
 -- a head holds the history that all rows tell
 pub record IsLoaded (series : Series) (store : Store) : Type 0 where
   pub history : List Entry
-  pub head : IsHeadOf series history
+  pub head : HoldsAll series history
   pub tells : TellsOf store history

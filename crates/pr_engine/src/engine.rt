@@ -1,19 +1,22 @@
 // The engine.
 ghost use Rattle.std.specs.Prelude.{◌≡◌, ◌≢◌, ℕ, ◌+◌, ◌<◌, ◌≤◌, [], false, true, Some, None, Ok, Err, IfOk, IfSome, IsSome, OnOk, OnErr, Option, Result};
 ghost use Rattle.pr_outside.specs.Kept.{KeepsRows, StartsRows};
+ghost use Rattle.pr_manager.specs.Naming.{passed_by_named};
 ghost use Rattle.pr_row.specs.Histories.{history_of};
 ghost use Rattle.pr_world.specs.Outcome.{is_refusal};
 ghost use Rattle.pr_world.specs.Step.{next, time_of};
 ghost use Rattle.pr_world.specs.World.{World};
 ghost use Rattle.pr_engine.specs.declared.fault.Cause.{Cause};
 ghost use Rattle.pr_engine.specs.Causes.{HasApplyCause, HasStartCause, broken_after, cause_of, last_after};
-ghost use Rattle.pr_engine.specs.Events.{IsKnownAfter, IsNotBefore, event_cost, is_restart, is_taken, settings_of};
-ghost use Rattle.pr_engine.specs.Standing.{StandsFor, StandsForSome, Starts};
+ghost use Rattle.pr_engine.specs.Events.{HasDistinctFiles, IsKnownAfter, event_cost, is_restart, settings_of};
+ghost use Rattle.pr_engine.specs.Standing.{Forgets, StandsFor, StandsForSome, Starts};
+ghost use Rattle.pr_engine.specs.Times.{IsNotBefore};
 
 use crate::fault::{ApplyError, Cause, StartError};
 use crate::standing::Standing;
 use crate::telling::{is_refusal, is_restart, time_of};
 use pr_outside::Keeper;
+use pr_range::Ranges;
 use pr_time::{Ms, Span};
 use pr_words::Steps;
 use pr_world::{Event, Report};
@@ -24,18 +27,23 @@ use std::sync::ledger::Ledger;
 /// The engine. It is handed its store at each call. Contracts see what it keeps, and say of each world
 /// that it stands for, with the store, what becomes of it.
 #[derive(Drop)]
-pub struct Engine {
-    standing: Standing,
+pub struct Engine<R> {
+    standing: Standing<R>,
     step: Span,
     last: Option<Ms>,
     broken: Option<Cause>,
 }
 
-impl Model for Engine {
+impl<R> Model for Engine<R> {
     ghost use Rattle.std.specs.Prelude.{◌<◌};
     ghost use Rattle.pr_engine.specs.Standing.{Kept};
 
-    ghost Value = { Kept };
+    ghost Value = { Kept R };
+
+    ghost use Rattle.pr_ast.specs.contracts.tree.ExprKind as expressions;
+    ghost use Rattle.std.specs.Coded.{codes};
+
+    ghost coded = { Prim.hlevel (codes, expressions.the_row.coded) };
 
     ghost view = { λ e. record { parts = e.standing; step = e.step; last = e.last; broken = e.broken } };
 
@@ -74,7 +82,7 @@ fn last_after(before: Option<Ms>, time: Ms, answer: &Result<Report, ApplyError>)
     }
 }
 
-impl Engine {
+impl<R: Ranges + Drop> Engine<R> {
     /// Opens the store of a path, and reads the rows that it has. The step is that of subqueries that
     /// name none; it is not 0.
     ///
@@ -87,9 +95,9 @@ impl Engine {
         keeper: &mut K,
         path: &str,
         step: Span,
-    ) -> Result<Engine, StartError>
+    ) -> Result<Engine<R>, StartError>
         requires { 0 < step }
-        ensures stands { IfOk result (λ e. Starts e (K.means keeper.new)) }
+        ensures stands { IfOk result (λ e. Starts R.fits R.last R.passed e (K.means keeper.new)) }
         ensures whole { IfOk result (λ e. (e.broken ≡ None) × (e.step ≡ step)) }
         ensures bad { (at : ℕ) → result ≡ Err (StartError.BadRow at) → IfSome (K.means keeper.new).rows (λ rows. history_of rows ≡ Err at) }
         ensures rows { StartsRows (K.means keeper.old).rows (K.means keeper.new).rows }
@@ -99,7 +107,7 @@ impl Engine {
             Ok(()) => {}
             Err(error) => return Err(StartError::from(error)),
         }
-        match Standing::begin(alloc, keeper) {
+        match Standing::<R>::begin(alloc, keeper, step) {
             Ok(standing) => Ok(Engine {
                 standing,
                 step,
@@ -133,23 +141,25 @@ impl Engine {
         event: Event,
         reads: &mut Steps<G>,
     ) -> Result<Report, ApplyError>
-        requires taken { is_taken event ≡ true }
+        requires files { HasDistinctFiles event }
         requires whole { is_restart event ≡ false → self.old.broken ≡ None }
         requires in_time { IsNotBefore self.old.last (time_of event) }
-        ensures report { (w : World) → StandsFor self.old (K.means keeper.old) w → IfOk result (λ r. r ≡ (next (settings_of self.old.step) w event).report) }
-        ensures world { (w : World) → StandsFor self.old (K.means keeper.old) w → IsKnownAfter event (K.means keeper.new)
-            → OnOk result (StandsFor self.new (K.means keeper.new) (next (settings_of self.old.step) w event).world) }
-        ensures some { (w : World) → StandsFor self.old (K.means keeper.old) w → OnOk result (StandsForSome self.new (K.means keeper.new)) }
-        ensures err { (w : World) → StandsFor self.old (K.means keeper.old) w → OnErr result (StandsFor self.new (K.means keeper.new) w) }
+        ensures report { (w : World) → StandsFor R.fits R.last R.passed self.old (K.means keeper.old) w → IfOk result (λ r. r ≡ (next (settings_of self.old.step) w event).report) }
+        ensures world { (w : World) → StandsFor R.fits R.last R.passed self.old (K.means keeper.old) w → IsKnownAfter event (K.means keeper.new)
+            → OnOk result (StandsFor R.fits R.last R.passed self.new (K.means keeper.new) (next (settings_of self.old.step) w event).world) }
+        ensures some { (w : World) → StandsFor R.fits R.last R.passed self.old (K.means keeper.old) w → OnOk result (StandsForSome R.fits R.last R.passed self.new (K.means keeper.new)) }
+        ensures forgets { IfOk result (λ r. Forgets event r self.new.parts.head) }
+        ensures err { (w : World) → StandsFor R.fits R.last R.passed self.old (K.means keeper.old) w → OnErr result (StandsFor R.fits R.last R.passed self.new (K.means keeper.new) w) }
         ensures broken { self.new.broken ≡ broken_after self.old.broken result }
         ensures step { self.new.step ≡ self.old.step }
-        ensures none { (w : World) → StandsFor self.old (K.means keeper.old) w → is_restart event ≡ false → (next (settings_of self.old.step) w event).rows ≡ []
+        ensures none { (w : World) → StandsFor R.fits R.last R.passed self.old (K.means keeper.old) w → is_restart event ≡ false → (next (settings_of self.old.step) w event).rows ≡ []
             → keeper.new ≡ keeper.old }
         ensures told { IsSome (K.means keeper.new).rows → IsSome (K.means keeper.old).rows }
         ensures bad { (at : ℕ) → result ≡ Err (ApplyError.BadRow at) → (is_restart event ≡ true) × IfSome (K.means keeper.new).rows (λ rows. history_of rows ≡ Err at) }
         ensures unbroken { (first : Cause) → result ≢ Err (ApplyError.Broken first) }
         ensures cause { HasApplyCause (K.means keeper.old).faults (K.means keeper.new).faults result }
-        ensures reads { (w : World) → StandsFor self.old (K.means keeper.old) w → reads.new ≤ reads.old + event_cost self.old.step w event }
+        ensures reads { (w : World) → StandsFor R.fits R.last R.passed self.old (K.means keeper.old) w
+            → reads.new ≤ reads.old + event_cost self.old.step (passed_by_named R.passed self.old.parts.manager w.history) w event }
     {
         let time = time_of(&event);
         let answer = self.standing.answer(alloc, keeper, self.step, event, reads);
@@ -174,27 +184,30 @@ impl Engine {
         event: Event,
         reads: &mut Steps<G>,
     ) -> Result<Report, ApplyError>
-        requires { is_taken event ≡ true }
-        ensures report { (w : World) → StandsFor self.old (K.means keeper.old) w → IfOk result (λ r. r ≡ (next (settings_of self.old.step) w event).report) }
-        ensures world { (w : World) → StandsFor self.old (K.means keeper.old) w → IsKnownAfter event (K.means keeper.new)
-            → OnOk result (StandsFor self.new (K.means keeper.new) (next (settings_of self.old.step) w event).world) }
+        requires { HasDistinctFiles event }
+        ensures report { (w : World) → StandsFor R.fits R.last R.passed self.old (K.means keeper.old) w → IfOk result (λ r. r ≡ (next (settings_of self.old.step) w event).report) }
+        ensures world { (w : World) → StandsFor R.fits R.last R.passed self.old (K.means keeper.old) w → IsKnownAfter event (K.means keeper.new)
+            → OnOk result (StandsFor R.fits R.last R.passed self.new (K.means keeper.new) (next (settings_of self.old.step) w event).world) }
         // Also after a restart over a store that does not tell its rows.
-        ensures some { (w : World) → StandsFor self.old (K.means keeper.old) w → OnOk result (StandsForSome self.new (K.means keeper.new)) }
+        ensures some { (w : World) → StandsFor R.fits R.last R.passed self.old (K.means keeper.old) w → OnOk result (StandsForSome R.fits R.last R.passed self.new (K.means keeper.new)) }
+        // After an accepted evaluation no sample is held that is 45 days old.
+        ensures forgets { IfOk result (λ r. Forgets event r self.new.parts.head) }
         // After an error the store has the rows of before, and the time is that of the last event.
-        ensures err { (w : World) → StandsFor self.old (K.means keeper.old) w → OnErr result (StandsFor self.new (K.means keeper.new) w) }
+        ensures err { (w : World) → StandsFor R.fits R.last R.passed self.old (K.means keeper.old) w → OnErr result (StandsFor R.fits R.last R.passed self.new (K.means keeper.new) w) }
         // What breaks the engine first is kept until a restart succeeds.
         ensures broken { self.new.broken ≡ broken_after self.old.broken result }
         ensures refuses { (first : Cause) → self.old.broken ≡ Some first → is_restart event ≡ false → result ≡ Err (ApplyError.Broken first) }
         ensures only { (first : Cause) → result ≡ Err (ApplyError.Broken first) → (self.old.broken ≡ Some first) × (is_restart event ≡ false) }
         ensures step { self.new.step ≡ self.old.step }
         // No commit is made for an event that adds nothing, a refused one among them.
-        ensures none { (w : World) → StandsFor self.old (K.means keeper.old) w → is_restart event ≡ false → (next (settings_of self.old.step) w event).rows ≡ []
+        ensures none { (w : World) → StandsFor R.fits R.last R.passed self.old (K.means keeper.old) w → is_restart event ≡ false → (next (settings_of self.old.step) w event).rows ≡ []
             → keeper.new ≡ keeper.old }
         ensures told { IsSome (K.means keeper.new).rows → IsSome (K.means keeper.old).rows }
         ensures bad { (at : ℕ) → result ≡ Err (ApplyError.BadRow at) → (is_restart event ≡ true) × IfSome (K.means keeper.new).rows (λ rows. history_of rows ≡ Err at) }
         ensures cause { HasApplyCause (K.means keeper.old).faults (K.means keeper.new).faults result }
-        // A query alone reads samples.
-        ensures reads { (w : World) → StandsFor self.old (K.means keeper.old) w → reads.new ≤ reads.old + event_cost self.old.step w event }
+        // A query and an evaluation alone read samples.
+        ensures reads { (w : World) → StandsFor R.fits R.last R.passed self.old (K.means keeper.old) w
+            → reads.new ≤ reads.old + event_cost self.old.step (passed_by_named R.passed self.old.parts.manager w.history) w event }
     {
         match self.broken {
             Some(first) if !is_restart(&event) => return Err(ApplyError::Broken { first }),

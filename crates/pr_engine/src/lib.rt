@@ -6,10 +6,11 @@ mod fault;
 mod keeping;
 mod loading;
 mod query;
+mod rules;
 mod standing;
 mod taken;
 mod telling;
 
 pub use engine::Engine;
 pub use fault::{ApplyError, Cause, StartError};
-pub use telling::{is_refusal, takes};
+pub use telling::is_refusal;

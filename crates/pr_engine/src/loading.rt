@@ -9,7 +9,7 @@ ghost use Rattle.pr_row.specs.Histories.{history_of};
 ghost use Rattle.pr_row.specs.Rows.{decoded};
 ghost use Rattle.pr_engine.specs.Causes.{HasStartCause};
 ghost use Rattle.pr_engine.specs.Loading.{HoldsNext, IsLoaded, IsLoadedTo, OnBadRow, next_entry};
-ghost use Rattle.pr_engine.specs.Standing.{IsHeadOf};
+ghost use Rattle.pr_engine.specs.Standing.{HoldsAll};
 
 use crate::fault::StartError;
 use pr_head::Head;
@@ -21,9 +21,9 @@ use std::alloc::Global;
 // Adds the entry of a row to the head.
 #[tactic(auto, using(crate::proofs::Loaded::head_more, crate::proofs::Loaded::not_added))]
 fn add_entry(head: &mut Head, entry: &Entry, index: u64) -> Result<(), StartError>
-    ensures added { (history : List Entry) → IsHeadOf head.old history → OnOk result (admit history entry.now.labels entry.now.time entry.now.point ≡ Added) }
-    ensures head { (history : List Entry) → IsHeadOf head.old history → OnOk result (IsHeadOf head.new (history ++ entry.now ∷ [])) }
-    ensures bad { (history : List Entry) → IsHeadOf head.old history → OnBadRow index (is_added (admit history entry.now.labels entry.now.time entry.now.point) ≡ false) result }
+    ensures added { (history : List Entry) → HoldsAll head.old history → OnOk result (admit history entry.now.labels entry.now.time entry.now.point ≡ Added) }
+    ensures head { (history : List Entry) → HoldsAll head.old history → OnOk result (HoldsAll head.new (history ++ entry.now ∷ [])) }
+    ensures bad { (history : List Entry) → HoldsAll head.old history → OnBadRow index (is_added (admit history entry.now.labels entry.now.time entry.now.point) ≡ false) result }
     ensures never { result ≢ Err StartError.StoreFailed }
 {
     match head.append(&entry.labels, entry.time, entry.point) {
@@ -36,8 +36,8 @@ fn add_entry(head: &mut Head, entry: &Entry, index: u64) -> Result<(), StartErro
 // Adds the entry of a row that was loaded, where it is the row of one.
 #[tactic(auto, using(crate::proofs::Loaded::holds_next, crate::proofs::Loaded::bad_next, crate::proofs::Loaded::none_next))]
 fn add_row(alloc: Global, head: &mut Head, row: &Row, index: u64) -> Result<(), StartError>
-    ensures ok { (history : List Entry) → IsHeadOf head.old history → OnOk result (HoldsNext history row.now head.new) }
-    ensures bad { (history : List Entry) → IsHeadOf head.old history → OnBadRow index (next_entry history (decoded row.now) ≡ None) result }
+    ensures ok { (history : List Entry) → HoldsAll head.old history → OnOk result (HoldsNext history row.now head.new) }
+    ensures bad { (history : List Entry) → HoldsAll head.old history → OnBadRow index (next_entry history (decoded row.now) ≡ None) result }
     ensures never { result ≢ Err StartError.StoreFailed }
 {
     match decode(alloc, row) {

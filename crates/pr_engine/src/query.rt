@@ -1,6 +1,7 @@
 // The answer to a query, over a head.
 ghost use Rattle.std.specs.Prelude.{◌≡◌, ℕ, ◌+◌, ◌<◌, ◌≤◌, List, [], Result, IfOk};
 ghost use Rattle.pr_ast.specs.Tree.{tree_of};
+ghost use Rattle.pr_group.specs.Keeping.{MayEvaluateOver};
 ghost use Rattle.pr_parse.specs.Parsed.{Parsed, IsFaultOf};
 ghost use Rattle.pr_types.specs.Typed.{checked};
 ghost use Rattle.pr_history.specs.declared.entry.Entry.{Entry};
@@ -12,9 +13,8 @@ ghost use Rattle.pr_values.specs.Answers.{AnswersTo};
 ghost use Rattle.pr_world.specs.declared.report.Report.TheVariants.{QueryRefused};
 ghost use Rattle.pr_world.specs.Outcome.{accept, nothing_else, refuse};
 ghost use Rattle.pr_world.specs.Query.{parsed_outcome, query_outcome, told_answer, told_value, typed_outcome};
-ghost use Rattle.pr_engine.specs.Asked.{HasOutcome};
 ghost use Rattle.pr_engine.specs.Events.{parsed_cost, query_cost, settings_of, typed_cost};
-ghost use Rattle.pr_engine.specs.Standing.{IsHeadOf};
+ghost use Rattle.pr_engine.specs.Taken.{HasOutcome, added_in, report_in};
 
 use crate::taken::Taken;
 use pr_ast::Expr;
@@ -63,20 +63,22 @@ fn answer<G: Ledger>(
     reads: &mut Steps<G>,
 ) -> Result<Report, AllocError>
     requires { 0 < step }
-    ensures report { (history : List Entry) → IsHeadOf head.now history
+    ensures report { (history : List Entry) → MayEvaluateOver head.now history time
         → IfOk result (λ report. report ≡ told_answer (meaning step history (tree_of expression.now) time)) }
-    ensures reads { (history : List Entry) → IsHeadOf head.now history
+    ensures reads { (history : List Entry) → MayEvaluateOver head.now history time
         → reads.new ≤ reads.old + cost step history nothing_passed (tree_of expression.now) 0 time }
 {
+    let _typed = expression.expr();
     let mut ranges = PlainRanges::new(alloc);
     told_answer(eval(alloc, expression, head, time, step, &mut ranges, reads))
 }
 
 // What is told and adds nothing.
 fn nothing_added(alloc: Global, report: Report) -> Taken
-    ensures { result ≡ record { report = report; added = [] } }
+    ensures report { report_in result ≡ report }
+    ensures added { added_in result ≡ [] }
 {
-    Taken {
+    Taken::Told {
         report,
         added: Items::empty(alloc),
     }
@@ -100,9 +102,9 @@ fn ask_parsed<G: Ledger>(
     reads: &mut Steps<G>,
 ) -> Result<Taken, AllocError>
     requires { 0 < step }
-    ensures answer { (history : List Entry) → IsHeadOf head.now history
+    ensures answer { (history : List Entry) → MayEvaluateOver head.now history time
         → IfOk result (HasOutcome (typed_outcome (settings_of step) history time (tree_of expression) (checked (tree_of expression)))) }
-    ensures reads { (history : List Entry) → IsHeadOf head.now history
+    ensures reads { (history : List Entry) → MayEvaluateOver head.now history time
         → reads.new ≤ reads.old + typed_cost step history time (tree_of expression) (checked (tree_of expression)) }
 {
     match check(alloc, expression) {
@@ -140,9 +142,9 @@ pub(crate) fn ask<G: Ledger>(
     reads: &mut Steps<G>,
 ) -> Result<Taken, AllocError>
     requires { 0 < step }
-    ensures answer { (history : List Entry) → IsHeadOf head.now history
+    ensures answer { (history : List Entry) → MayEvaluateOver head.now history time
         → IfOk result (HasOutcome (query_outcome (settings_of step) history time text.now)) }
-    ensures reads { (history : List Entry) → IsHeadOf head.now history → reads.new ≤ reads.old + query_cost step history time text.now }
+    ensures reads { (history : List Entry) → MayEvaluateOver head.now history time → reads.new ≤ reads.old + query_cost step history time text.now }
 {
     match parse(alloc, text) {
         Ok(expression) => ask_parsed(alloc, head, expression, time, step, reads),

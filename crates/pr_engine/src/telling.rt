@@ -2,7 +2,7 @@
 ghost use Rattle.std.specs.Prelude.{◌≡◌};
 ghost use Rattle.pr_world.specs.Outcome.{is_refusal};
 ghost use Rattle.pr_world.specs.Step.{report_of, scrape_report, time_of};
-ghost use Rattle.pr_engine.specs.Events.{is_restart, is_taken};
+ghost use Rattle.pr_engine.specs.Events.{is_restart};
 
 use pr_history::Append;
 use pr_scrape::Scraped;
@@ -38,23 +38,6 @@ pub(crate) fn is_restart(event: &Event) -> bool
         | Event::Eval { .. }
         | Event::Reload { .. }
         | Event::Alerts { .. } => false,
-    }
-}
-
-/// Whether the engine takes such an event. So far no rule files are reloaded.
-pub fn takes(event: &Event) -> bool
-    ensures { result ≡ is_taken event.now }
-{
-    match event {
-        Event::Add { .. }
-        | Event::Query { .. }
-        | Event::Scrape { .. }
-        | Event::Fail { .. }
-        | Event::Gone { .. }
-        | Event::Eval { .. }
-        | Event::Restart { .. }
-        | Event::Alerts { .. } => true,
-        Event::Reload { .. } => false,
     }
 }
 

@@ -1,15 +1,17 @@
 use Rattle.std.proofs.Common.{sym, subst}
-use Rattle.pr_engine.specs.Standing.{KeptParts, KeepsWorld}
+use Rattle.pr_engine.specs.Standing.{KeepsBefore, KeptParts}
 use Rattle.pr_engine.proofs.Values.{taken_keeps}
 use Rattle.pr_world.specs.Targets.{gone_step}
 use Rattle.pr_world.proofs.Targeting.{gone_puts}
 use Rattle.pr_engine.proofs.standing.Standing.take_end.Goals as goal
 
 pub returns-clause-world : goal.returns-clause-world
-returns-clause-world c = λ w keeps.
-    let kept : KeptParts = record { head = c.self.inside.head; targets = c.self.inside.targets } in
-    let before : KeepsWorld kept w = subst (λ (k : KeptParts). KeepsWorld k w) (sym c.self.view_is) keeps in
-    taken_keeps kept c.gone.new.head c.gone.new.self w c.args.time (gone_step w.targets w.history c.args.target.now c.args.time) before
+returns-clause-world g c = λ step w before.
+    let R = g.R.Ranges in
+    let kept : KeptParts g.row.R.Denot = record { head = c.self.inside.head; targets = c.self.inside.targets; manager = c.self.inside.manager } in
+    let b : KeepsBefore R.fits R.last R.passed step kept w c.args.time = subst (λ (k : KeptParts g.row.R.Denot). KeepsBefore R.fits R.last R.passed step k w c.args.time) (sym c.self.view_is) before in
+    taken_keeps R.fits R.last R.passed step kept c.gone.new.head c.gone.new.self w c.args.time (gone_step w.targets w.history c.args.target.now c.args.time) b
+    (λ more lawful. c.kept_groups_stay.ensures kept.manager w.history more w.groups w.reloaded b.keeps.groups lawful)
     (gone_puts w.targets w.history c.args.target.now c.args.time)
-    (c.in_ok-ended.ensures.taken w.targets w.history before.targets before.head.holds)
-    (c.in_ok-ended.ensures.targets w.targets w.history before.targets before.head.holds)
+    (c.in_ok-ended.ensures.taken w.targets w.history b.keeps.targets b.keeps.head.holds)
+    (c.in_ok-ended.ensures.targets w.targets w.history b.keeps.targets b.keeps.head.holds)

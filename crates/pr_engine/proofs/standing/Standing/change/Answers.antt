@@ -1,0 +1,107 @@
+use Rattle.std.proofs.Common.{◌≡◌, ◌+◌, ◌≤◌, ℕ, List, IfOk, sym, subst}
+use Rattle.pr_manager.specs.Naming.{passed_by_named}
+use Rattle.pr_world.specs.Step.{time_of}
+use Rattle.pr_world.specs.declared.event.Event.{Event}
+use Rattle.pr_world.specs.declared.event.Event.TheVariants.{Scrape}
+use Rattle.pr_engine.specs.Events.{event_cost, step_in_time}
+use Rattle.pr_engine.specs.Standing.{KeepsBefore}
+use Rattle.pr_engine.specs.Taken.{added_in, report_in}
+use Rattle.pr_engine.proofs.standing.Standing.change.Goals as goal
+
+pub returns-in-Add-clause-report : goal.returns-in-Add-clause-report
+returns-in-Add-clause-report g c = λ w before.
+    let R = g.R.Ranges in
+    let b = subst (λ (e : Event). KeepsBefore R.fits R.last R.passed c.args.step c.args.self.now w (time_of e)) c.in-Add.is before in
+    subst (λ (e : Event). IfOk c.take_sample.result (λ t. report_in t ≡ (step_in_time c.args.step w e).report)) (sym c.in-Add.is)
+    (c.take_sample.ensures.report c.args.step w b)
+
+pub returns-in-Add-clause-rows : goal.returns-in-Add-clause-rows
+returns-in-Add-clause-rows g c = λ w before.
+    let R = g.R.Ranges in
+    let b = subst (λ (e : Event). KeepsBefore R.fits R.last R.passed c.args.step c.args.self.now w (time_of e)) c.in-Add.is before in
+    subst (λ (e : Event). IfOk c.take_sample.result (λ t. added_in t ≡ (step_in_time c.args.step w e).rows)) (sym c.in-Add.is)
+    (c.take_sample.ensures.rows c.args.step w b)
+
+pub returns-in-Scrape-clause-report : goal.returns-in-Scrape-clause-report
+returns-in-Scrape-clause-report g c = λ w before.
+    let R = g.R.Ranges in
+    let b = subst (λ (e : Event). KeepsBefore R.fits R.last R.passed c.args.step c.args.self.now w (time_of e)) c.in-Scrape.is before in
+    subst (λ (e : Event). IfOk c.take_scrape.result (λ t. report_in t ≡ (step_in_time c.args.step w e).report)) (sym c.in-Scrape.is)
+    (subst (λ (body : List ℕ). IfOk c.take_scrape.result (λ t. report_in t ≡ (step_in_time c.args.step w (Scrape c.in-Scrape.time c.in-Scrape.target body)).report)) c.as_slice.ensures (c.take_scrape.ensures.report c.args.step w b))
+
+pub returns-in-Scrape-clause-rows : goal.returns-in-Scrape-clause-rows
+returns-in-Scrape-clause-rows g c = λ w before.
+    let R = g.R.Ranges in
+    let b = subst (λ (e : Event). KeepsBefore R.fits R.last R.passed c.args.step c.args.self.now w (time_of e)) c.in-Scrape.is before in
+    subst (λ (e : Event). IfOk c.take_scrape.result (λ t. added_in t ≡ (step_in_time c.args.step w e).rows)) (sym c.in-Scrape.is)
+    (subst (λ (body : List ℕ). IfOk c.take_scrape.result (λ t. added_in t ≡ (step_in_time c.args.step w (Scrape c.in-Scrape.time c.in-Scrape.target body)).rows)) c.as_slice.ensures (c.take_scrape.ensures.rows c.args.step w b))
+
+pub returns-in-Fail-clause-report : goal.returns-in-Fail-clause-report
+returns-in-Fail-clause-report g c = λ w before.
+    let R = g.R.Ranges in
+    let b = subst (λ (e : Event). KeepsBefore R.fits R.last R.passed c.args.step c.args.self.now w (time_of e)) c.in-Fail.is before in
+    subst (λ (e : Event). IfOk c.take_failure.result (λ t. report_in t ≡ (step_in_time c.args.step w e).report)) (sym c.in-Fail.is)
+    (c.take_failure.ensures.report c.args.step w b)
+
+pub returns-in-Fail-clause-rows : goal.returns-in-Fail-clause-rows
+returns-in-Fail-clause-rows g c = λ w before.
+    let R = g.R.Ranges in
+    let b = subst (λ (e : Event). KeepsBefore R.fits R.last R.passed c.args.step c.args.self.now w (time_of e)) c.in-Fail.is before in
+    subst (λ (e : Event). IfOk c.take_failure.result (λ t. added_in t ≡ (step_in_time c.args.step w e).rows)) (sym c.in-Fail.is)
+    (c.take_failure.ensures.rows c.args.step w b)
+
+pub returns-in-Gone-clause-report : goal.returns-in-Gone-clause-report
+returns-in-Gone-clause-report g c = λ w before.
+    let R = g.R.Ranges in
+    let b = subst (λ (e : Event). KeepsBefore R.fits R.last R.passed c.args.step c.args.self.now w (time_of e)) c.in-Gone.is before in
+    subst (λ (e : Event). IfOk c.take_end.result (λ t. report_in t ≡ (step_in_time c.args.step w e).report)) (sym c.in-Gone.is)
+    (c.take_end.ensures.report c.args.step w b)
+
+pub returns-in-Gone-clause-rows : goal.returns-in-Gone-clause-rows
+returns-in-Gone-clause-rows g c = λ w before.
+    let R = g.R.Ranges in
+    let b = subst (λ (e : Event). KeepsBefore R.fits R.last R.passed c.args.step c.args.self.now w (time_of e)) c.in-Gone.is before in
+    subst (λ (e : Event). IfOk c.take_end.result (λ t. added_in t ≡ (step_in_time c.args.step w e).rows)) (sym c.in-Gone.is)
+    (c.take_end.ensures.rows c.args.step w b)
+
+pub returns-in-Eval-clause-report : goal.returns-in-Eval-clause-report
+returns-in-Eval-clause-report g c = λ w before.
+    let R = g.R.Ranges in
+    let b = subst (λ (e : Event). KeepsBefore R.fits R.last R.passed c.args.step c.args.self.now w (time_of e)) c.in-Eval.is before in
+    subst (λ (e : Event). IfOk c.take_evaluation.result (λ t. report_in t ≡ (step_in_time c.args.step w e).report)) (sym c.in-Eval.is)
+    (c.take_evaluation.ensures.report c.args.step w b)
+
+pub returns-in-Reload-clause-report : goal.returns-in-Reload-clause-report
+returns-in-Reload-clause-report g c = λ w before.
+    let R = g.R.Ranges in
+    let b = subst (λ (e : Event). KeepsBefore R.fits R.last R.passed c.args.step c.args.self.now w (time_of e)) c.in-Reload.is before in
+    subst (λ (e : Event). IfOk c.take_reload.result (λ t. report_in t ≡ (step_in_time c.args.step w e).report)) (sym c.in-Reload.is)
+    (c.take_reload.ensures.report c.args.step w b)
+
+pub returns-in-Reload-clause-rows : goal.returns-in-Reload-clause-rows
+returns-in-Reload-clause-rows g c = λ w before.
+    let R = g.R.Ranges in
+    let b = subst (λ (e : Event). KeepsBefore R.fits R.last R.passed c.args.step c.args.self.now w (time_of e)) c.in-Reload.is before in
+    subst (λ (e : Event). IfOk c.take_reload.result (λ t. added_in t ≡ (step_in_time c.args.step w e).rows)) (sym c.in-Reload.is)
+    (c.take_reload.ensures.rows c.args.step w b)
+
+pub returns-in-Alerts-clause-report : goal.returns-in-Alerts-clause-report
+returns-in-Alerts-clause-report g c = λ w before.
+    let R = g.R.Ranges in
+    let b = subst (λ (e : Event). KeepsBefore R.fits R.last R.passed c.args.step c.args.self.now w (time_of e)) c.in-Alerts.is before in
+    subst (λ (e : Event). IfOk c.list_alerts.result (λ t. report_in t ≡ (step_in_time c.args.step w e).report)) (sym c.in-Alerts.is)
+    (c.list_alerts.ensures.report c.args.step c.in-Alerts.time w b.keeps)
+
+pub returns-in-Alerts-clause-rows : goal.returns-in-Alerts-clause-rows
+returns-in-Alerts-clause-rows g c = λ w before.
+    let R = g.R.Ranges in
+    let b = subst (λ (e : Event). KeepsBefore R.fits R.last R.passed c.args.step c.args.self.now w (time_of e)) c.in-Alerts.is before in
+    subst (λ (e : Event). IfOk c.list_alerts.result (λ t. added_in t ≡ (step_in_time c.args.step w e).rows)) (sym c.in-Alerts.is)
+    (c.list_alerts.ensures.rows c.args.step c.in-Alerts.time w)
+
+pub returns-in-Eval-clause-reads : goal.returns-in-Eval-clause-reads
+returns-in-Eval-clause-reads g c = λ w before.
+    let R = g.R.Ranges in
+    let b = subst (λ (e : Event). KeepsBefore R.fits R.last R.passed c.args.step c.args.self.now w (time_of e)) c.in-Eval.is before in
+    subst (λ (e : Event). c.take_evaluation.new.reads ≤ c.args.reads.now + event_cost c.args.step (passed_by_named R.passed c.args.self.now.manager w.history) w e) (sym c.in-Eval.is)
+    (c.take_evaluation.ensures.reads c.args.step w b)
