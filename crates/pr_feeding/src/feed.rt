@@ -1,0 +1,119 @@
+// The samples of a test, put into a head place by place.
+ghost use Rattle.std.specs.Prelude.{◌≡◌, ℕ, ◌+◌, ◌*◌, ◌<◌, ◌∷◌, [], List, length, slice_get, Some, IfOk, OnOk};
+ghost use Rattle.std.specs.List.{filter_map};
+ghost use Rattle.pr_inputs.specs.declared.input.InputSeries.{InputSeries};
+ghost use Rattle.pr_history.specs.declared.entry.Entry.{Entry};
+ghost use Rattle.pr_head.specs.Holds.{Holds};
+ghost use Rattle.pr_intake.specs.Intake.{HasTaken};
+ghost use Rattle.pr_testfile.specs.Series.{entries_at, entry_at};
+ghost use Rattle.pr_feeding.specs.Feeding.{HasFed, IsAt, IsFeeding};
+
+use crate::progress::{Progress, next_point};
+use pr_head::Head;
+use pr_inputs::InputSeries;
+use pr_num::Point;
+use pr_time::Ms;
+use std::alloc::{AllocError, Global};
+use std::marker::Model;
+
+/// How far the series of a test have come. Contracts see that of each.
+#[derive(Drop)]
+pub struct Feed {
+    each: Vec<Progress>,
+}
+
+impl Model for Feed {
+    ghost use Rattle.std.specs.Prelude.{List};
+    ghost use Rattle.pr_feeding.specs.declared.progress.Progress.{Progress};
+
+    ghost Value = { List Progress };
+
+    ghost view = { λ f. f.each.items };
+}
+
+// Puts a sample into the head, whatever is answered to it.
+fn put(head: &mut Head, series: &InputSeries, time: Ms, point: Point) -> Result<(), AllocError>
+    ensures { (history : List Entry) → Holds head.old history
+        → OnOk result (HasTaken head.old head.new history ((record { labels = series.now.labels; time = time; point = point }) ∷ [])) }
+{
+    match head.append(&series.labels, time, point) {
+        Ok(_answer) => Ok(()),
+        Err(error) => Err(error),
+    }
+}
+
+// Puts what a series has at the next place.
+fn put_next(
+    head: &mut Head,
+    series: &InputSeries,
+    progress: &mut Progress,
+    time: Ms,
+) -> Result<(), AllocError>
+    ensures taken { (interval place : ℕ) (history : List Entry) → IsAt series.now.values place progress.old → time ≡ place * interval → Holds head.old history
+        → OnOk result (HasTaken head.old head.new history (filter_map (entry_at interval place) (series.now ∷ []))) }
+    ensures at { (place : ℕ) → IsAt series.now.values place progress.old → IsAt series.now.values (place + 1) progress.new }
+{
+    match next_point(series.values.as_slice(), progress) {
+        Some(point) => put(head, series, time, point),
+        None => Ok(()),
+    }
+}
+
+impl Feed {
+    /// All series stand at their first place.
+    pub fn new(alloc: Global, series: &[InputSeries]) -> Result<Feed, AllocError>
+        ensures { IfOk result (λ f. HasFed series.now 0 f) }
+    {
+        let mut each = Vec::new(alloc);
+        for _one in series {
+            each.push(Progress {
+                stretch: 0,
+                within: 0,
+            })?;
+        }
+        Ok(Feed { each })
+    }
+
+    // Puts what the series with a number has at the next place.
+    fn put_one(
+        &mut self,
+        head: &mut Head,
+        series: &[InputSeries],
+        number: usize,
+        time: Ms,
+    ) -> Result<(), AllocError>
+        requires { number < length series.now }
+        ensures taken { (interval place : ℕ) (history : List Entry) (s : InputSeries) → IsFeeding series.now place number self.old → slice_get series.now number ≡ Some s
+            → time ≡ place * interval → Holds head.old history → OnOk result (HasTaken head.old head.new history (filter_map (entry_at interval place) (s ∷ []))) }
+        ensures fed { (place : ℕ) → IsFeeding series.now place number self.old → OnOk result (IsFeeding series.now place (number + 1) self.new) }
+    {
+        if number >= self.each.len() {
+            return Ok(());
+        }
+        let mut progress = self.each[number];
+        put_next(head, &series[number], &mut progress, time)?;
+        self.each[number] = progress;
+        Ok(())
+    }
+
+    /// Puts what all series have at the next place, in their order, whatever is answered to each
+    /// sample. The place then lies behind.
+    ///
+    /// # Errors
+    /// Want of memory: then it is used no more.
+    pub fn put_place(
+        &mut self,
+        head: &mut Head,
+        series: &[InputSeries],
+        time: Ms,
+    ) -> Result<(), AllocError>
+        ensures taken { (interval place : ℕ) (history : List Entry) → HasFed series.now place self.old → time ≡ place * interval → Holds head.old history
+            → OnOk result (HasTaken head.old head.new history (entries_at interval series.now place)) }
+        ensures fed { (place : ℕ) → HasFed series.now place self.old → OnOk result (HasFed series.now (place + 1) self.new) }
+    {
+        'series: for number in 0..series.len() {
+            self.put_one(head, series, number, time)?;
+        }
+        Ok(())
+    }
+}

@@ -1,0 +1,11 @@
+//! The samples of a test, put into a head place by place from the stretches of values that they are
+//! written with.
+#![tactic(auto)]
+
+mod feed;
+mod longest;
+mod point;
+mod progress;
+
+pub use feed::Feed;
+pub use longest::places;

@@ -1,0 +1,49 @@
+// How far the values of a series have come.
+ghost use Rattle.std.specs.Prelude.{◌≡◌, ℕ, ◌+◌, ◌^◌, ◌<◌, slice_get, Some};
+ghost use Rattle.pr_inputs.specs.declared.stretch.Stretch.{Stretch};
+ghost use Rattle.pr_inputs.specs.Points.{size};
+ghost use Rattle.pr_testfile.specs.Series.{point_at};
+ghost use Rattle.pr_feeding.specs.Feeding.{IsAt};
+
+use crate::point::{point_in, size};
+use pr_inputs::Stretch;
+use pr_num::Point;
+
+/// So many stretches of a series lie behind, and so many places of the one after them.
+#[derive(Clone, Copy, Drop)]
+pub struct Progress {
+    pub stretch: usize,
+    pub within: u64,
+}
+
+// Goes on to a stretch that has not ended.
+fn settle(stretches: &[Stretch], progress: &mut Progress)
+    ensures at { (place : ℕ) → IsAt stretches.now place progress.old → IsAt stretches.now place progress.new }
+    ensures within { (s : Stretch) → slice_get stretches.now progress.new.stretch ≡ Some s → progress.new.within < size s }
+    ensures small { (s : Stretch) → slice_get stretches.now progress.new.stretch ≡ Some s → progress.new.within < 2 ^ 32 }
+{
+    'ended: while let Some(stretch) = stretches.get(progress.stretch) {
+        let size = size(stretch);
+        if progress.within < size {
+            return;
+        }
+        progress.within -= size;
+        progress.stretch += 1;
+    }
+}
+
+/// The point of a series at the next place, where there is one. The place then lies behind.
+pub(crate) fn next_point(stretches: &[Stretch], progress: &mut Progress) -> Option<Point>
+    ensures point { (place : ℕ) → IsAt stretches.now place progress.old → result ≡ point_at stretches.now place }
+    ensures at { (place : ℕ) → IsAt stretches.now place progress.old → IsAt stretches.now (place + 1) progress.new }
+{
+    settle(stretches, progress);
+    match stretches.get(progress.stretch) {
+        Some(stretch) => {
+            let point = point_in(stretch, progress.within);
+            progress.within += 1;
+            point
+        }
+        None => None,
+    }
+}

@@ -1,0 +1,26 @@
+use Rattle.std.proofs.Common.{◌≡◌, ℕ, ◌+◌, List, ap, ◌∙◌, pos, ◌-ℤ◌, arith}
+use Rattle.std.proofs.lemmas.Int.{ints}
+use Rattle.pr_labels.specs.declared.item.Item.{Item}
+use Rattle.pr_num.specs.declared.value.Num.{Num}
+use Rattle.pr_ast.specs.Tree.{tree_of}
+use Rattle.pr_ast.specs.Reach.{reads_back}
+use Rattle.pr_eval.specs.Looks.{KeepsFor}
+use Rattle.pr_query.specs.Meaning.{meaning}
+use Rattle.pr_verdict.specs.declared.failure.Shown.{Shown}
+use Rattle.pr_verdict.specs.Verdict.{expr_failure, given_by}
+use Rattle.pr_unit.proofs.Answers.{if_ok}
+use Rattle.pr_unit.proofs.checks.check_expr.Goals as goal
+
+pub returns-in-Ok : goal.returns-in-Ok
+returns-in-Ok g c = λ s w h.
+    let t = tree_of c.args.check.now.expr in
+    let time = c.args.check.now.time in
+    let back = pos time -ℤ pos (reads_back t) in
+    let keeps : KeepsFor c.args.run.now.head w.history t time = record { lawful = h.lawful; holds = h.holds; forgotten = back; whole = h.whole back; back = omega (arith, ints) } in
+    let got : c.in-Ok.got ≡ given_by (meaning c.args.every w.history t time) = c.in-Ok.ensures w.history keeps in
+    if_ok c.expr_failure.result _ _
+    (λ list e.
+    e ∙ ap (λ (n : ℕ). expr_failure c.args.test n c.as_slice.result.now c.in-Ok.got) c.in_ok-number.ensures
+    ∙ ap (λ (x : List (Item Num)). expr_failure c.args.test (c.args.index + 1) x c.in-Ok.got) c.as_slice.ensures
+    ∙ ap (λ (x : Shown). expr_failure c.args.test (c.args.index + 1) c.args.check.now.expected x) got)
+    c.expr_failure.ensures

@@ -1,0 +1,8 @@
+use Rattle.std.proofs.Common.{arith}
+use Rattle.pr_verdict.specs.Verdict.{alert_check}
+use Rattle.pr_unit.proofs.Filling.{ends_filling}
+use Rattle.pr_unit.proofs.checks.fill_alerts.Goals as goal
+
+pub returns : goal.returns
+returns g c = λ interval gs t s stands h.
+    ends_filling (alert_check interval gs c.args.test t) (λ x. x.time) c.args.checks.now c.args.time c.checks.index c.checks.slots.items (omega (arith, c.checks-test.false)) (c.checks.invariant interval gs t s stands h)

@@ -1,0 +1,13 @@
+use Rattle.std.proofs.Common.{◌≡◌, List, take}
+use Rattle.std.specs.List.{flat_map}
+use Rattle.pr_history.specs.declared.entry.Entry.{Entry}
+use Rattle.pr_rules.specs.Groups.{Group}
+use Rattle.pr_rules.specs.Settings.{Settings}
+use Rattle.pr_verdict.specs.Verdict.{firing_of}
+use Rattle.pr_unit.specs.Kept.{KeepsGroups}
+use Rattle.pr_unit.proofs.firing.firing.Given as goal
+
+-- those of the first groups
+abbrev pub invariant-groups : goal.invariant-groups
+invariant-groups g l = (history : List Entry) (s : Settings) (gs : List Group) → KeepsGroups g.R.Ranges.fits g.R.Ranges.last g.R.Ranges.passed l.groups history s gs
+    → l.founds.items ≡ flat_map (λ group. flat_map (firing_of l.name) group.rules) (take l.number gs)

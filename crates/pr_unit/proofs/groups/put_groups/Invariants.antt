@@ -1,0 +1,19 @@
+use Rattle.std.proofs.Common.{◌++◌, List, map}
+use Rattle.std.specs.Prelude.{All}
+use Rattle.pr_history.specs.declared.entry.Entry.{Entry}
+use Rattle.pr_rulefile.specs.Groups.{group_of_def}
+use Rattle.pr_rule_result.specs.Templates.{HaveTemplates}
+use Rattle.pr_rules.specs.Groups.{Group, fresh}
+use Rattle.pr_unit.specs.Kept.{KeepsGroups}
+use Rattle.pr_unit.proofs.Building.{KeepsPart}
+use Rattle.pr_unit.proofs.groups.put_groups.Given as goal
+
+-- the groups of the definitions so far are kept
+abbrev pub invariant-loop-def : goal.invariant-loop-def
+invariant-loop-def g l = record {
+  templates : All HaveTemplates l.def-iterator.rest.items;
+  kept : (history : List Entry) (gs : List Group)
+      → KeepsGroups g.R.Ranges.fits g.R.Ranges.last g.R.Ranges.passed l.initial.groups.items history (record { subquery_step = l.step; external = l.external }) gs
+      → KeepsPart g.R.Ranges.fits g.R.Ranges.last g.R.Ranges.passed l.groups.items history (record { subquery_step = l.step; external = l.external }) l.file l.def-iterator.rest.items
+      (gs ++ map (fresh 0 l.file) (map group_of_def l.fn.defs.items));
+}

@@ -1,0 +1,19 @@
+use Rattle.std.proofs.Common.{◌≡◌, List, length, map, take}
+use Rattle.pr_rules.specs.Groups.{Group}
+use Rattle.pr_rules.specs.Settings.{Settings}
+use Rattle.pr_world.specs.Step.{world_after}
+use Rattle.pr_world.specs.World.{World}
+use Rattle.pr_verdict.specs.Events.{eval_at}
+use Rattle.pr_test_rounds.specs.Rounds.{AreApart, IsInRound}
+use Rattle.pr_unit.specs.Kept.{StandsForWorld}
+use Rattle.pr_unit.proofs.round.evaluate_all.Given as goal
+
+-- the first groups were evaluated
+abbrev pub invariant-groups : goal.invariant-groups
+invariant-groups g l = record {
+  stands : (s : Settings) (w : World) (gs : List Group) → AreApart gs → StandsForWorld g.R.Ranges.fits g.R.Ranges.last g.R.Ranges.passed l.initial.head l.initial.groups.items s w → IsInRound gs l.time 0 w
+      → StandsForWorld g.R.Ranges.fits g.R.Ranges.last g.R.Ranges.passed l.head l.groups.items s (world_after s w (map (eval_at l.time) (take l.number gs)));
+  round : (s : Settings) (w : World) (gs : List Group) → AreApart gs → StandsForWorld g.R.Ranges.fits g.R.Ranges.last g.R.Ranges.passed l.initial.head l.initial.groups.items s w → IsInRound gs l.time 0 w
+      → IsInRound gs l.time l.number (world_after s w (map (eval_at l.time) (take l.number gs)));
+  many : length l.groups.items ≡ length l.initial.groups.items;
+}

@@ -1,0 +1,18 @@
+use Rattle.std.proofs.Common.{subst, sym, ap, ◌∙◌}
+use Rattle.pr_testfile.specs.Tests.{plain_test}
+use Rattle.pr_verdict.specs.Events.{by_names, groups_of, settings_of}
+use Rattle.pr_unit.specs.Kept.{KeepsGroups, name_of}
+use Rattle.pr_unit.specs.Ordered.{named_first}
+use Rattle.pr_unit.proofs.Answers.{if_ok}
+use Rattle.pr_unit.proofs.Keeping.{kept_by_names}
+use Rattle.pr_unit.proofs.test.groups_in_order.Goals as goal
+
+pub returns : goal.returns
+returns g c = λ history loaded h.
+    let s = settings_of c.args.file.now.interval (plain_test c.args.test.now) in
+    let order = c.args.file.now.order in
+    let kept = c.in_ok-groups.groups.items in
+    let keeps = kept_by_names g.R.Ranges.fits g.R.Ranges.last g.R.Ranges.passed history s order kept (groups_of loaded) (c.in_ok-groups.ensures history loaded h) in
+    if_ok c.in_order.result _ _
+    (λ v e. subst (λ ks. KeepsGroups g.R.Ranges.fits g.R.Ranges.last g.R.Ranges.passed ks history s (by_names order (groups_of loaded))) (ap (λ names. named_first name_of names kept) (sym c.as_slice.ensures) ∙ sym e) keeps)
+    c.in_order.ensures

@@ -1,0 +1,22 @@
+use Rattle.std.proofs.Common.{ℕ, ◌+◌, subst}
+use Rattle.pr_testfile.specs.Tests.{plain_test}
+use Rattle.pr_test_rounds.proofs.Beginning.{apart_at_first, new_at_first}
+use Rattle.pr_verdict.specs.Events.{by_names, groups_of, last_check, settings_of}
+use Rattle.pr_unit.specs.Run.{rounds_until}
+use Rattle.pr_unit.specs.Slots.{AreAllFilled}
+use Rattle.pr_unit.proofs.Answers.{on_ok}
+use Rattle.pr_unit.proofs.Filling.{verdict_is}
+use Rattle.pr_unit.proofs.test.run_test.Goals as goal
+
+pub returns : goal.returns
+returns g c = λ loaded load told.
+    let file = c.args.file.now in
+    let t = plain_test c.args.test.now in
+    let every = file.interval in
+    let gs = by_names file.order (groups_of loaded) in
+    let run = c.in_ok-run.ensures every gs (settings_of every t) (rounds_until every (last_check t)) 0 (new_at_first file.order loaded) (λ history. c.in_ok-groups.ensures history loaded load) in
+    let filled = c.in_ok-slots.ensures gs (apart_at_first file.order loaded told) run in
+    let counted = subst (λ (n : ℕ). AreAllFilled every gs n t c.in_ok-slots.slots.alerts.items c.in_ok-slots.slots.exprs.items) c.in_ok-number_of.ensures filled in
+    on_ok c.gather-2.result _ _
+    (λ e. verdict_is every gs (c.args.index + 1) t c.args.failures.now.items c.gather.new.failures.items c.gather-2.new.failures.items c.in_ok-slots.slots.alerts.items c.in_ok-slots.slots.exprs.items counted c.in_ok-gather.ensures e)
+    c.gather-2.ensures

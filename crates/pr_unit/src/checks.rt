@@ -1,0 +1,157 @@
+// Checks at the time that a test has come to.
+ghost use Rattle.std.specs.Prelude.{◌≡◌, ℕ, ◌+◌, ◌<◌, List, IfOk, OnOk, length, map};
+ghost use Rattle.pr_rules.specs.Groups.{Group};
+ghost use Rattle.pr_rules.specs.Settings.{Settings};
+ghost use Rattle.pr_world.specs.World.{World};
+ghost use Rattle.pr_query.specs.Meaning.{meaning};
+ghost use Rattle.pr_testfile.specs.Checks.{plain_check};
+ghost use Rattle.pr_testfile.specs.Tests.{PlainTest};
+ghost use Rattle.pr_verdict.specs.Events.{world_at};
+ghost use Rattle.pr_verdict.specs.Verdict.{alert_check, alert_failure, expr_check, expr_failure, firing, given_by};
+ghost use Rattle.pr_unit.specs.Kept.{StandsForWorld};
+ghost use Rattle.pr_unit.specs.Slots.{AreFilled, AreFilling};
+
+use crate::firing::firing;
+use crate::run::Run;
+use pr_expected::{alert_failure, expr_failure, given};
+use pr_range::Ranges;
+use pr_testfile::{AlertCheck, ExprCheck};
+use pr_time::{Ms, Span};
+use pr_verdict::Failure;
+use pr_words::Items;
+use std::alloc::{AllocError, Global};
+
+// The number of a check or a test, counted from 1. More than 2^32 of them take all memory.
+pub(crate) fn number_of(index: usize) -> Result<u32, AllocError>
+    ensures { IfOk result (λ n. n ≡ index + 1) }
+{
+    if index < u32::MAX as usize {
+        Ok(index as u32 + 1)
+    } else {
+        Err(AllocError)
+    }
+}
+
+fn check_alert<R: Ranges + Drop>(
+    alloc: Global,
+    run: &Run<R>,
+    test: u32,
+    index: usize,
+    check: &AlertCheck,
+) -> Result<Items<Failure>, AllocError>
+    ensures { (s : Settings) (w : World) → StandsForWorld R.fits R.last R.passed run.now.head run.now.groups.items s w
+        → IfOk result (λ list. list ≡ alert_failure test (index + 1) check.now.expected (firing check.now.name w)) }
+{
+    let found = firing(alloc, &run.groups, check.name.as_str())?;
+    alert_failure(
+        alloc,
+        test,
+        number_of(index)?,
+        check.expected.as_slice(),
+        found,
+    )
+}
+
+fn check_expr<R: Ranges + Drop>(
+    alloc: Global,
+    run: &Run<R>,
+    test: u32,
+    index: usize,
+    check: &ExprCheck,
+    every: Span,
+) -> Result<Items<Failure>, AllocError>
+    requires { 0 < every }
+    ensures { (s : Settings) (w : World) → StandsForWorld R.fits R.last R.passed run.now.head run.now.groups.items s w
+        → IfOk result (λ list. list ≡ expr_failure test (index + 1) check.now.expected (given_by (meaning every w.history (plain_check check.now).expr check.now.time))) }
+{
+    let number = number_of(index)?;
+    match given(alloc, &run.head, &check.expr, check.time, every) {
+        Ok(got) => expr_failure(alloc, test, number, check.expected.as_slice(), got),
+        Err(error) => Err(error),
+    }
+}
+
+// What is found at the check of alerts with a number is put into its slot, where it is of that time.
+fn fill_alert<R: Ranges + Drop>(
+    alloc: Global,
+    run: &Run<R>,
+    test: u32,
+    index: usize,
+    checks: &[AlertCheck],
+    time: Ms,
+    slots: &mut Vec<Items<Failure>>,
+) -> Result<(), AllocError>
+    requires { index < length checks.now }
+    ensures { (interval : ℕ) (gs : List Group) (t : PlainTest) (s : Settings) → StandsForWorld R.fits R.last R.passed run.now.head run.now.groups.items s (world_at interval gs t time)
+        → AreFilling (alert_check interval gs test t) (λ c. c.time) checks.now time index slots.old.items
+        → OnOk result (AreFilling (alert_check interval gs test t) (λ c. c.time) checks.now time (index + 1) slots.new.items) }
+{
+    if checks[index].time != time || index >= slots.len() {
+        return Ok(());
+    }
+    slots[index] = check_alert(alloc, run, test, index, &checks[index])?;
+    Ok(())
+}
+
+/// What is found at the checks of alerts of a time is put into their slots.
+pub(crate) fn fill_alerts<R: Ranges + Drop>(
+    alloc: Global,
+    run: &Run<R>,
+    test: u32,
+    checks: &[AlertCheck],
+    time: Ms,
+    slots: &mut Vec<Items<Failure>>,
+) -> Result<(), AllocError>
+    ensures { (interval : ℕ) (gs : List Group) (t : PlainTest) (s : Settings) → StandsForWorld R.fits R.last R.passed run.now.head run.now.groups.items s (world_at interval gs t time)
+        → AreFilled (alert_check interval gs test t) (λ c. c.time) checks.now time slots.old.items
+        → OnOk result (AreFilled (alert_check interval gs test t) (λ c. c.time) checks.now (time + 1) slots.new.items) }
+{
+    'checks: for index in 0..checks.len() {
+        fill_alert(alloc, run, test, index, checks, time, slots)?;
+    }
+    Ok(())
+}
+
+fn fill_expr<R: Ranges + Drop>(
+    alloc: Global,
+    run: &Run<R>,
+    test: u32,
+    index: usize,
+    checks: &[ExprCheck],
+    time: Ms,
+    every: Span,
+    slots: &mut Vec<Items<Failure>>,
+) -> Result<(), AllocError>
+    requires within { index < length checks.now }
+    requires some { 0 < every }
+    ensures { (gs : List Group) (t : PlainTest) (s : Settings) → StandsForWorld R.fits R.last R.passed run.now.head run.now.groups.items s (world_at every gs t time)
+        → AreFilling (expr_check every gs test t) (λ c. c.time) (map plain_check checks.now) time index slots.old.items
+        → OnOk result (AreFilling (expr_check every gs test t) (λ c. c.time) (map plain_check checks.now) time (index + 1) slots.new.items) }
+{
+    if checks[index].time != time || index >= slots.len() {
+        return Ok(());
+    }
+    slots[index] = check_expr(alloc, run, test, index, &checks[index], every)?;
+    Ok(())
+}
+
+/// What is found at the checks of expressions of a time is put into their slots.
+pub(crate) fn fill_exprs<R: Ranges + Drop>(
+    alloc: Global,
+    run: &Run<R>,
+    test: u32,
+    checks: &[ExprCheck],
+    time: Ms,
+    every: Span,
+    slots: &mut Vec<Items<Failure>>,
+) -> Result<(), AllocError>
+    requires { 0 < every }
+    ensures { (gs : List Group) (t : PlainTest) (s : Settings) → StandsForWorld R.fits R.last R.passed run.now.head run.now.groups.items s (world_at every gs t time)
+        → AreFilled (expr_check every gs test t) (λ c. c.time) (map plain_check checks.now) time slots.old.items
+        → OnOk result (AreFilled (expr_check every gs test t) (λ c. c.time) (map plain_check checks.now) (time + 1) slots.new.items) }
+{
+    'checks: for index in 0..checks.len() {
+        fill_expr(alloc, run, test, index, checks, time, every, slots)?;
+    }
+    Ok(())
+}

@@ -1,0 +1,15 @@
+//! The tests of a test file, run over rule files: the checks whose expectation differs.
+#![tactic(auto)]
+
+mod checks;
+mod firing;
+mod groups;
+mod order;
+mod round;
+mod run;
+mod slots;
+mod test;
+mod tests;
+mod times;
+
+pub use tests::{run_tests, run_tests_over};

@@ -1,0 +1,86 @@
+// A round of evaluations: each group once.
+ghost use Rattle.std.specs.Prelude.{◌≡◌, ◌<◌, List, length, map, slice_get, Some, OnOk};
+ghost use Rattle.pr_history.specs.declared.entry.Entry.{Entry};
+ghost use Rattle.pr_history.specs.Admission.{put_all};
+ghost use Rattle.pr_intake.specs.Intake.{HasTaken};
+ghost use Rattle.pr_rules.specs.Evaluations.{group_step};
+ghost use Rattle.pr_rules.specs.Groups.{Group};
+ghost use Rattle.pr_rules.specs.Settings.{Settings};
+ghost use Rattle.pr_rules.specs.Times.{IsAfter};
+ghost use Rattle.pr_world.specs.Step.{next, world_after};
+ghost use Rattle.pr_world.specs.World.{World};
+ghost use Rattle.pr_verdict.specs.Events.{eval_at};
+ghost use Rattle.pr_test_rounds.specs.Rounds.{AreApart, IsInRound};
+ghost use Rattle.pr_group.specs.Keeping.{KeepsGroup, MayEvaluateOver, settings_of};
+ghost use Rattle.pr_unit.specs.Kept.{StandsForWorld};
+
+use pr_group::{GroupOver, a_kept_group_stays};
+use pr_head::Head;
+use pr_range::Ranges;
+use pr_time::Ms;
+use pr_words::Steps;
+use std::alloc::{AllocError, Global};
+use std::marker::Brand;
+use std::sync::ledger::{Blank, Ledger};
+
+// Its reads are counted for the proofs alone.
+fn evaluate<G: Ledger, R: Ranges + Drop>(
+    alloc: Global,
+    group: &mut GroupOver<R>,
+    time: Ms,
+    head: &mut Head,
+    blank: Blank,
+) -> Result<(), AllocError>
+    requires name { blank.name ≡ G.name }
+    requires parts { blank.parts ≡ G.parts }
+    requires some { 0 < G.parts }
+    ensures head { (history : List Entry) (g : Group) → MayEvaluateOver head.old history time → KeepsGroup R.fits R.last R.passed group.old history g → IsAfter time g.last
+        → OnOk result (HasTaken head.old head.new history (group_step (settings_of group.old) g history time).entries) }
+    ensures keeps { (history : List Entry) (g : Group) → MayEvaluateOver head.old history time → KeepsGroup R.fits R.last R.passed group.old history g → IsAfter time g.last
+        → OnOk result (KeepsGroup R.fits R.last R.passed group.new (put_all history (group_step (settings_of group.old) g history time).entries) (group_step (settings_of group.old) g history time).group) }
+    ensures settings { OnOk result (settings_of group.new ≡ settings_of group.old) }
+{
+    let mut reads: Steps<G> = Steps::new(blank);
+    match group.evaluate(alloc, time, head, &mut reads) {
+        Ok(_report) => Ok(()),
+        Err(error) => Err(error),
+    }
+}
+
+// The group with a number is evaluated.
+fn evaluate_at<R: Ranges + Drop>(
+    alloc: Global,
+    groups: &mut Vec<GroupOver<R>>,
+    number: usize,
+    time: Ms,
+    head: &mut Head,
+) -> Result<(), AllocError>
+    requires { number < length groups.old.items }
+    ensures stands { (s : Settings) (w : World) (gs : List Group) (g : Group) → AreApart gs → slice_get gs number ≡ Some g → StandsForWorld R.fits R.last R.passed head.old groups.old.items s w → IsInRound gs time number w
+        → OnOk result (StandsForWorld R.fits R.last R.passed head.new groups.new.items s (next s w (eval_at time g)).world) }
+    ensures many { OnOk result (length groups.new.items ≡ length groups.old.items) }
+{
+    a_kept_group_stays::<R>();
+    evaluate::<Brand, R>(alloc, &mut groups[number], time, head, Blank::new(1))
+}
+
+/// Each group is evaluated once, in order.
+///
+/// # Errors
+/// Want of memory: then the groups and the head are used no more.
+pub(crate) fn evaluate_all<R: Ranges + Drop>(
+    alloc: Global,
+    groups: &mut Vec<GroupOver<R>>,
+    time: Ms,
+    head: &mut Head,
+) -> Result<(), AllocError>
+    ensures stands { (s : Settings) (w : World) (gs : List Group) → AreApart gs → StandsForWorld R.fits R.last R.passed head.old groups.old.items s w → IsInRound gs time 0 w
+        → OnOk result (StandsForWorld R.fits R.last R.passed head.new groups.new.items s (world_after s w (map (eval_at time) gs))) }
+    ensures round { (s : Settings) (w : World) (gs : List Group) → AreApart gs → StandsForWorld R.fits R.last R.passed head.old groups.old.items s w → IsInRound gs time 0 w
+        → OnOk result (IsInRound gs time (length gs) (world_after s w (map (eval_at time) gs))) }
+{
+    'groups: for number in 0..groups.len() {
+        evaluate_at(alloc, groups, number, time, head)?;
+    }
+    Ok(())
+}

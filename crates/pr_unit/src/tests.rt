@@ -1,0 +1,60 @@
+//! All tests of a file.
+ghost use Rattle.std.specs.Prelude.{◌≡◌, ◌<◌, List, Ok, IfOk, map};
+ghost use Rattle.std.specs.List.{IsDistinct};
+ghost use Rattle.std.specs.Str.{bytes_eq};
+ghost use Rattle.pr_rules.specs.Reloads.{LoadedFile};
+ghost use Rattle.pr_world.specs.Rounds.{all_loaded};
+ghost use Rattle.pr_testfile.specs.File.{plain_file};
+ghost use Rattle.pr_verdict.specs.Verdict.{verdict};
+ghost use Rattle.pr_unit.specs.Loaded.{AreShort};
+
+use crate::test::run_test;
+use pr_range::Ranges;
+use pr_slide::SlidingRanges;
+use pr_testfile::TestFile;
+use pr_verdict::Failure;
+use pr_world::NamedFile;
+use std::alloc::{AllocError, Global};
+
+/// The checks of a test file whose expectation differs from what happens, in the order of the file:
+/// in each test first those of alerts and then those of expressions. Each test begins with nothing;
+/// its groups are those of the rule files, evaluated at the interval of the file. What is kept of
+/// ranges is of the type `R`. (Prometheus: Unit testing for rules.)
+///
+/// # Errors
+/// Want of memory.
+pub fn run_tests_over<R: Ranges + Drop>(
+    alloc: Global,
+    file: &TestFile,
+    rules: &[NamedFile],
+) -> Result<Vec<Failure>, AllocError>
+    // A test file that is read has an interval above 0 (`intervals_are_above_0` of pr_testfile).
+    requires some { 0 < file.now.interval }
+    requires short { AreShort rules.now }
+    requires names { IsDistinct bytes_eq (map (λ f. f.name) rules.now) }
+    ensures { (loaded : List LoadedFile) → all_loaded rules.now ≡ Ok loaded → IfOk result (λ v. v.items ≡ verdict (plain_file file.now) loaded) }
+{
+    let mut failures = Vec::new(alloc);
+    let tests = file.tests.as_slice();
+    'tests: for index in 0..tests.len() {
+        run_test::<R>(alloc, file, index, &tests[index], rules, &mut failures)?;
+    }
+    Ok(failures)
+}
+
+/// The same, with ranges that slide from one evaluation to the next.
+///
+/// # Errors
+/// Want of memory.
+pub fn run_tests(
+    alloc: Global,
+    file: &TestFile,
+    rules: &[NamedFile],
+) -> Result<Vec<Failure>, AllocError>
+    requires some { 0 < file.now.interval }
+    requires short { AreShort rules.now }
+    requires names { IsDistinct bytes_eq (map (λ f. f.name) rules.now) }
+    ensures { (loaded : List LoadedFile) → all_loaded rules.now ≡ Ok loaded → IfOk result (λ v. v.items ≡ verdict (plain_file file.now) loaded) }
+{
+    run_tests_over::<SlidingRanges>(alloc, file, rules)
+}
