@@ -1,5 +1,5 @@
 -- The texts of small runs.
-use Rattle.std.proofs.Common.{◌≡◌, ℕ, ◌+◌, ◌≤◌, zero, suc, List, [], ◌∷◌, ◌++◌, Some, codes, refl, ap, subst, lit<, decimal, length, length-append, map, take, drop, arith}
+use Rattle.std.proofs.Common.{◌≡◌, ℕ, ◌+◌, ◌≤◌, zero, suc, List, [], ◌∷◌, ◌++◌, Some, codes, refl, ap, lit<, decimal, length, length-append, map, take, drop, arith}
 use Rattle.std.proofs.lemmas.Fmt.{decimal_digit}
 use Rattle.std.proofs.lemmas.List.{length-take}
 use Rattle.pr_history.specs.declared.entry.Entry.{Entry}
@@ -8,8 +8,7 @@ use Rattle.pr_row.specs.Rows.{encoded}
 use Rattle.pr_text.specs.Printed.{shown_report}
 use Rattle.pr_status.specs.Asks.{Asks, AsksAt, asked_by}
 use Rattle.pr_status.specs.Ends.{at_file}
-use Rattle.pr_top.specs.Rows.{HasOpened}
-use Rattle.pr_top.specs.Told.{kept_after, told_of}
+use Rattle.pr_run.specs.Told.{kept_after, told_of}
 use Rattle.pr_run_laws.specs.Examples.{added, reloaded}
 
 pub none : decimal 0 ≡ 48 ∷ []
@@ -23,32 +22,6 @@ two = decimal_digit 2 (lit< tt)
 
 pub seven : decimal 7 ≡ 55 ∷ []
 seven = decimal_digit 7 (lit< tt)
-
--- the text with the number of rows in it
-abbrev Opens : List ℕ → List ℕ → Type 0
-Opens rest number = codes "opened 1\nadded\n" ≡ [] ++ ((codes "opened " ++ number ++ codes "\n") ++ rest)
-
-abbrev first : List ℕ → ℕ
-first [] = 0
-first (b ∷ bytes) = b
-
-not_none : (rest : List ℕ) → Opens rest (48 ∷ []) → ⊥
-not_none rest e = let number : 49 ≡ 48 = ap (λ (l : List ℕ). first (drop 7 l)) e in absurd (omega (arith, number))
-
-not_two : (rest : List ℕ) → Opens rest (50 ∷ []) → ⊥
-not_two rest e = let number : 49 ≡ 50 = ap (λ (l : List ℕ). first (drop 7 l)) e in absurd (omega (arith, number))
-
--- one row of two was there at first
-pub one_opened : (r s : Row) (rows : List Row) → rows ≡ take (length rows) (r ∷ s ∷ []) → HasOpened (Some []) (Some (codes "opened 1\nadded\n")) (length rows) → rows ≡ r ∷ []
-unfolding shown_report
-one_opened r s [] is o = absurd (not_none o.0 (subst (Opens o.0) none o.1))
-one_opened r s (a ∷ []) is o = is
-one_opened r s (a ∷ b ∷ []) is o = absurd (not_two o.0 (subst (Opens o.0) two o.1))
-one_opened r s (a ∷ b ∷ c ∷ rows) is o = absurd (cc)
-
-pub none_opened : (rows : List Row) → HasOpened (Some []) (Some []) (length rows) → ⊥
-unfolding shown_report
-none_opened rows o = let e : [] ≡ [] ++ ((codes "opened " ++ decimal (length rows) ++ codes "\n") ++ o.0) = o.1 in absurd (cc)
 
 -- The rows of two orders are kept, and no text of theirs is written: no number of orders has both.
 pub kept_in_part : (e f : Entry) (n count : ℕ) → n ≤ 2

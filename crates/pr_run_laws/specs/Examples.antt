@@ -4,7 +4,7 @@ use Rattle.pr_history.specs.declared.entry.Entry.{Entry}
 use Rattle.pr_outside.specs.declared.course.Course.TheVariants.{Going}
 use Rattle.pr_outside.specs.declared.keeping.Row.{Row}
 use Rattle.pr_status.specs.Outside.{Outside}
-use Rattle.pr_top.specs.Told.{Answer}
+use Rattle.pr_run.specs.Told.{Answer}
 
 -- so many bytes were taken, what is told of rows is this, and so many files were asked for
 abbrev pub outside_by : List ℕ → Option (List Row) → ℕ → ℕ → Outside

@@ -5,36 +5,36 @@ ghost use Rattle.pr_history.specs.declared.entry.Entry.{Entry};
 ghost use Rattle.pr_outside.specs.declared.keeping.Row.{Row};
 ghost use Rattle.pr_row.specs.Rows.{encoded};
 ghost use Rattle.pr_status.specs.Ends.{at_file, at_output, at_row, at_store, anywhere};
-ghost use Rattle.pr_top.specs.Front.{IsBadStart, IsFront};
+ghost use Rattle.pr_run.specs.Front.{IsBadStart, IsFront};
 ghost use Rattle.pr_run_laws.specs.Examples.{added, outside_of, reloaded, untold_of};
 
 /// A store that refuses the third order's rows leaves the rows and the texts of the two before.
 pub fn a_run_stops_at_its_store()
-    ensures { (e f g : Entry) → IsFront [] at_store true [] (added e ∷ added f ∷ added g ∷ []) (outside_of [] [] 0)
+    ensures { (e f g : Entry) → IsFront [] at_store [] (added e ∷ added f ∷ added g ∷ []) (outside_of [] [] 0)
         (outside_of (codes "opened 0\nadded\nadded\n") (encoded e ∷ encoded f ∷ []) 0) }
 {}
 
 /// A file that can't be loaded leaves the orders before its reload.
 pub fn a_run_stops_at_a_file()
-    ensures { (e : Entry) (file : List ℕ) → IsFront [] at_file true [] (added e ∷ reloaded file ∷ []) (outside_of [] [] 0)
+    ensures { (e : Entry) (file : List ℕ) → IsFront [] at_file [] (added e ∷ reloaded file ∷ []) (outside_of [] [] 0)
         (outside_of (codes "opened 0\nadded\n") (encoded e ∷ []) 1) }
 {}
 
 /// An output that refuses leaves the rows of the order that it was told in part.
 pub fn a_run_stops_at_its_output()
-    ensures { (e f g : Entry) → IsFront [] at_output true [] (added e ∷ added f ∷ added g ∷ []) (outside_of [] [] 0)
+    ensures { (e f g : Entry) → IsFront [] at_output [] (added e ∷ added f ∷ added g ∷ []) (outside_of [] [] 0)
         (outside_of (codes "opened 0\nadded\nad") (encoded e ∷ encoded f ∷ []) 0) }
 {}
 
 /// A run that begins anew and finds a bad row tells so behind the orders before it; a store that
 /// told its rows would have none.
 pub fn a_run_stops_at_a_row()
-    ensures { (e f : Entry) → IsFront [] (at_row 7) true [] (added e ∷ added f ∷ []) (untold_of [] 0) (untold_of (codes "opened 0\nadded\nbad row 7\n") 0) }
+    ensures { (e f : Entry) → IsFront [] (at_row 7) [] (added e ∷ added f ∷ []) (untold_of [] 0) (untold_of (codes "opened 0\nadded\nbad row 7\n") 0) }
 {}
 
 /// Want of memory may come when an order's rows are kept and none of its text is written.
 pub fn a_run_stops_for_memory()
-    ensures { (e f : Entry) → IsFront [] anywhere true [] (added e ∷ added f ∷ []) (outside_of [] [] 0) (outside_of (codes "opened 0\n") (encoded e ∷ []) 0) }
+    ensures { (e f : Entry) → IsFront [] anywhere [] (added e ∷ added f ∷ []) (outside_of [] [] 0) (outside_of (codes "opened 0\n") (encoded e ∷ []) 0) }
 {}
 
 /// Over rows of which one is bad, the line that tells so is written in part where the output
@@ -48,10 +48,10 @@ pub fn a_bad_row_is_told_alone()
 /// The rows of no order are kept but those of orders that were told, the last of them maybe in part:
 /// where none of the first one was told, not those of two.
 pub fn no_more_is_kept_than_told()
-    ensures { (e f : Entry) → IsFront [] anywhere true [] (added e ∷ added f ∷ []) (outside_of [] [] 0) (outside_of (codes "opened 0\n") (encoded e ∷ encoded f ∷ []) 0) → ⊥ }
+    ensures { (e f : Entry) → IsFront [] anywhere [] (added e ∷ added f ∷ []) (outside_of [] [] 0) (outside_of (codes "opened 0\n") (encoded e ∷ encoded f ∷ []) 0) → ⊥ }
 {}
 
 /// No order is answered whose file could not be loaded.
 pub fn no_order_is_answered_without_its_file()
-    ensures { (e : Entry) (file : List ℕ) → IsFront [] at_file true [] (reloaded file ∷ added e ∷ []) (outside_of [] [] 0) (outside_of (codes "opened 0\nreloaded\n") [] 1) → ⊥ }
+    ensures { (e : Entry) (file : List ℕ) → IsFront [] at_file [] (reloaded file ∷ added e ∷ []) (outside_of [] [] 0) (outside_of (codes "opened 0\nreloaded\n") [] 1) → ⊥ }
 {}

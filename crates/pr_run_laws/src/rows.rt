@@ -1,20 +1,18 @@
 //! What a run begins with.
-ghost use Rattle.std.specs.Prelude.{◌≡◌, List, codes, [], ◌∷◌, true};
+ghost use Rattle.std.specs.Prelude.{◌≡◌, List, codes, [], ◌∷◌, None, Some};
 ghost use Rattle.pr_outside.specs.declared.keeping.Row.{Row};
-ghost use Rattle.pr_top.specs.Rows.{BeginsWith};
-ghost use Rattle.pr_top.specs.Told.{bad_row_text};
-ghost use Rattle.pr_run_laws.specs.Examples.{outside_of, untold_of};
+ghost use Rattle.pr_run.specs.Rows.{AreFirst};
+ghost use Rattle.pr_run.specs.Told.{bad_row_text};
 
 /// A bad row is told by its index.
 pub fn a_bad_row_is_told_by_its_index()
     ensures { bad_row_text 1 ≡ codes "bad row 1\n" }
 {}
 
-/// A store that tells its rows only once it is opened began with as many of those at the end as the
-/// first line says; where it was not opened nothing is known of them.
-pub fn rows_that_are_told_late_are_counted_by_the_first_line()
-    ensures late { (r s : Row) → BeginsWith true (untold_of (codes "") 0) (outside_of (codes "opened 1\nadded\n") (r ∷ s ∷ []) 0) (r ∷ []) }
-    ensures no_other { (r s : Row) (rows : List Row) → BeginsWith true (untold_of (codes "") 0) (outside_of (codes "opened 1\nadded\n") (r ∷ s ∷ []) 0) rows → rows ≡ r ∷ [] }
-    ensures unopened { (r : Row) (rows : List Row) → BeginsWith true (untold_of (codes "") 0) (outside_of (codes "") (r ∷ []) 0) rows → ⊥ }
-    ensures told { (r : Row) (rows : List Row) → BeginsWith true (outside_of (codes "") (r ∷ []) 0) (untold_of (codes "") 0) rows → rows ≡ r ∷ [] }
+/// A store that tells its rows at the end alone began with the first of these; one that told them before
+/// began with those.
+pub fn rows_that_are_told_late_are_the_first_ones()
+    ensures late { (r s : Row) → AreFirst (r ∷ []) None (r ∷ s ∷ []) }
+    ensures no_other { (r s t : Row) → AreFirst (t ∷ []) None (r ∷ s ∷ []) → t ∷ [] ≡ r ∷ [] }
+    ensures told { (r s : Row) (rows : List Row) → AreFirst rows (Some (r ∷ [])) (r ∷ s ∷ []) → rows ≡ r ∷ [] }
 {}

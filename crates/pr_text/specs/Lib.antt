@@ -1,8 +1,5 @@
 pub mod Answers
-pub mod Orders
 pub mod Faults
 pub mod Values
 pub mod Evaluated
 pub mod Printed
-pub mod Script
-pub mod Started

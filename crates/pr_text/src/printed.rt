@@ -217,7 +217,13 @@ fn push_scalar(text: &mut Vec<u8>, value: Num) -> Result<(), AllocError>
     text.extend_from_slice(b"\n")
 }
 
-fn push_query_fault(text: &mut Vec<u8>, place: usize, kind: &FaultKind) -> Result<(), AllocError>
+/// Appends the line that tells of a fault of an expression. Want of memory alone is an error, and
+/// then what stood there stays, maybe with a part of the line behind.
+pub fn push_query_fault(
+    text: &mut Vec<u8>,
+    place: usize,
+    kind: &FaultKind,
+) -> Result<(), AllocError>
     ensures ok { OnOk result (text.new.items ≡ text.old.items ++ query_fault_text place kind.now) }
     ensures front { take (length text.old.items) text.new.items ≡ text.old.items }
 {

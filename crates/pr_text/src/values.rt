@@ -9,7 +9,8 @@ use pr_kinds::push_number;
 use pr_num::{Num, Point};
 use std::alloc::AllocError;
 
-pub(crate) fn push_value(text: &mut Vec<u8>, v: Num) -> Result<(), AllocError>
+/// Appends a number. Want of memory alone is an error, and then what stood there stays.
+pub fn push_value(text: &mut Vec<u8>, v: Num) -> Result<(), AllocError>
     ensures ok { OnOk result (text.new.items ≡ text.old.items ++ shown v) }
     ensures front { take (length text.old.items) text.new.items ≡ text.old.items }
 {

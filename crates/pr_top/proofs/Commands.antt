@@ -1,95 +1,132 @@
 -- What each command promises, by how it ended; and the cause of its status.
-use Rattle.std.proofs.Common.{◌≡◌, ◌≢◌, ℕ, ◌<◌, ◌≤◌, ◌^◌, Bool, true, false, List, [], ◌∷◌, Option, None, Some, IfSome, Result, Ok, Err, IfOk, OnOk, inl, inr, refl, sym, ap, ◌∙◌, subst, length, take, arith, eqb-true, true≢false}
-use Rattle.std.specs.Prelude.{◌==◌}
+use Rattle.std.proofs.Common.{◌≡◌, ◌≢◌, ℕ, ◌<◌, ◌≤◌, ◌^◌, Bool, true, false, List, [], Option, None, Some, IfSome, Result, Ok, Err, IfOk, OnOk, inl, inr, refl, sym, ap, ◌∙◌, subst, length, take, take_all, arith}
 use Rattle.std.specs.Io.KnownBytes.{Appends}
+use Rattle.pr_history.specs.declared.entry.Entry.{Entry}
+use Rattle.pr_outside.specs.Causes.{IsCalm, Rose}
 use Rattle.pr_outside.specs.declared.keeping.Row.{Row}
 use Rattle.pr_row.specs.Histories.{history_of}
-use Rattle.pr_status.specs.Ends.{Ends, KnowsLength, no_row, place_of, status_of, stop_status}
-use Rattle.pr_status.specs.Outside.{Outside, AreCalm, Held}
+use Rattle.pr_status.specs.Ends.{Ends, KnowsLength, StopsBy, no_row, place_of, status_of, stop_status}
+use Rattle.pr_status.specs.Outside.{Outside, AreCalm, AreTold, Held}
 use Rattle.pr_status.specs.Status.{HasCause, IsLong, verdict}
 use Rattle.pr_status.specs.declared.status.Status.{Status}
 use Rattle.pr_status.specs.declared.status.Status.TheVariants as status
 use Rattle.pr_status.specs.declared.status.Stop.{Stop}
+use Rattle.pr_status.specs.declared.status.Stop.TheVariants as stop
 use Rattle.pr_status.proofs.Causes.{ending_cause, stop_cause}
 use Rattle.pr_status.proofs.Ended.{calm_stop}
-use Rattle.pr_status.proofs.Telling.{at_told, long_not_short, on_told, status_is}
+use Rattle.pr_status.proofs.Telling.{at_told, long_not_short, status_is}
 use Rattle.pr_check_loops.specs.Checks.{Checked, ends_by}
 use Rattle.pr_check_loops.specs.FileChecks.{MeansFileCheck, Telling}
 use Rattle.pr_check_loops.specs.InputChecks.{MeansInputCheck}
 use Rattle.pr_check_loops.specs.declared.verdict.Verdict.{Verdict}
 use Rattle.pr_check_loops.specs.declared.verdict.Verdict.TheVariants.{Good, Complaints, Refused}
-use Rattle.pr_top.specs.Front.{IsFront}
 use Rattle.pr_checks.specs.Metrics.{metrics_told}
 use Rattle.pr_checks.specs.RuleFiles.{rules_told}
+use Rattle.pr_test_texts.specs.TestsTold.{tests_told}
+use Rattle.pr_run.specs.Rows.{IsBadIn, OverRows}
+use Rattle.pr_run.specs.Runs.{EndsBy, EndsInto, EndsOver, IsStopped, IsWholeRun, MeansRun, RunsBy}
+use Rattle.pr_run.specs.Told.{answers_to, asks_of, bad_row_text, refuses}
 use Rattle.pr_top.specs.Command.{Command, runs, tests_rules, checks_rules, checks_metrics, exercises, backfills}
-use Rattle.pr_top.specs.Means.{IsWholeRun, MeansCommand, MeansRun, MeansUsage, RunsBy, RunsOver, usage_status}
-use Rattle.pr_top.specs.Told.{answers_to, refuses, told}
+use Rattle.pr_top.specs.Means.{HasBadRow, MeansCommand, MeansUsage, usage_status}
 use Rattle.pr_top.specs.Usage.{usage_text}
 
 -- `run`
 
--- what a run that was not stopped is told of
-abbrev pub IsTold : Held → Outside → Outside → Bool → List ℕ → Type 0
-IsTold held before now refused bytes = Appends before.out.taken now.out.taken (told held [] bytes) × (refused ≡ refuses held [] bytes) × (now.input.left ≡ Some [])
+no_rise : (before now : ℕ) → IsCalm before now → Rose before now → ⊥
+no_rise before now calm rose = omega (arith, calm.same, calm.below, rose)
 
-abbrev pub Tells : Outside → Outside → Result Bool Stop → Type 0
-Tells before now r = (held : Held) → IfOk r (λ refused. IfSome before.input.left (IsTold held before now refused))
+-- Where no call was refused, only want of memory stops a run, a bad row, or an input that is too long.
+data CalmStop (bad : ℕ → Type 0) (long : Type 0) (s : Stop) : Type 0 where
+  by_memory : s ≡ stop.Memory → CalmStop bad long s
+  by_length : s ≡ stop.TooLong → long → CalmStop bad long s
+  by_row : (index : ℕ) → s ≡ stop.BadRow index → bad index → CalmStop bad long s
 
-abbrev pub Fronts : Outside → Outside → Result Bool Stop → Type 0
-Fronts before now r = (held : Held) → IfSome before.input.left (λ bytes. IsFront bytes (place_of r) false [] (answers_to held [] bytes) before now)
+calm_run : (bad : ℕ → Type 0) (long : Type 0) (before now : Outside) (s : Stop) → AreCalm before now → StopsBy {T = Bool} bad long before now (Err s) → CalmStop bad long s
+calm_run bad long before now stop.Read calm c = absurd (no_rise before.input.faults now.input.faults calm.input c.0)
+calm_run bad long before now stop.Load calm c = absurd (no_rise before.files.faults now.files.faults calm.files c.1)
+calm_run bad long before now stop.Store calm c = absurd (no_rise before.store.faults now.store.faults calm.store c.2)
+calm_run bad long before now (stop.BadRow index) calm c = by_row index refl c.1
+calm_run bad long before now stop.Write calm c = absurd (no_rise before.out.faults now.out.faults calm.out c.3)
+calm_run bad long before now stop.Memory calm c = by_memory refl
+calm_run bad long before now stop.TooLong calm c = by_length refl c.1
 
-whole_at : (held : Held) (before now : Outside) (refused : Bool) (bytes : List ℕ) → now.store ≡ before.store → IsTold held before now refused bytes
-    → IsWholeRun held false [] bytes before now refused
-whole_at held before now refused bytes same t = record { written = t.0; refused = t.1; kept = same; read = t.2 }
+module _ (before now : Outside) (bytes : List ℕ) (is : before.input.left ≡ Some bytes) (result : Status) (bad : ℕ → Type 0) where
+  told_by : (history : List Entry) (r : Result Bool Stop) → result ≡ status_of r → Ends bad (IsLong before.input.left) before now r → EndsOver history bytes before now r
+      → (held : Held) → AreTold before.files.content held (asks_of (answers_to held history bytes)) → length bytes < 2 ^ 32 → AreCalm before now → result ≢ status.Memory
+      → (result ≡ verdict (refuses held history bytes)) × IsWholeRun held history bytes before now (refuses held history bytes)
+  told_by history (Ok came) answer e o held told few calm some =
+      let whole = o.whole held told in
+      (answer ∙ status_is came ∙ ap verdict whole.refused, subst (IsWholeRun held history bytes before now) whole.refused whole)
+  told_by history (Err s) answer e o held told few calm some = by (calm_run bad (IsLong before.input.left) before now s calm e.cause)
+    where
+      by : CalmStop bad (IsLong before.input.left) s → (result ≡ verdict (refuses held history bytes)) × IsWholeRun held history bytes before now (refuses held history bytes)
+      by (by_memory m) = absurd (some (answer ∙ ap stop_status m))
+      by (by_length l long) = absurd (long_not_short bytes before.input.left is few long)
+      by (by_row index m b) = absurd (o.fine index (ap (λ (z : Stop). Err z) m))
 
-whole_by : (held : Held) (before now : Outside) (r : Result Bool Stop) (bytes : List ℕ) → now.store ≡ before.store → before.input.left ≡ Some bytes
-    → IfOk r (λ refused. IfSome before.input.left (IsTold held before now refused)) → IfOk r (IsWholeRun held false [] bytes before now)
-whole_by held before now (Ok refused) bytes same is t = whole_at held before now refused bytes same (at_told before.input.left (IsTold held before now refused) bytes is t)
-whole_by held before now (Err s) bytes same is t = tt
+  long_by : (history : List Entry) (r : Result Bool Stop) → result ≡ status_of r → Ends bad (IsLong before.input.left) before now r → KnowsLength before.input.left r
+      → EndsOver history bytes before now r → 2 ^ 32 ≤ length bytes → AreCalm before now → result ≢ status.Memory → result ≡ status.TooLong
+  long_by history (Ok came) answer e k o many calm some = absurd (omega (arith, many, at_told before.input.left (λ b. length b < 2 ^ 32) bytes is k))
+  long_by history (Err s) answer e k o many calm some = by (calm_run bad (IsLong before.input.left) before now s calm e.cause)
+    where
+      by : CalmStop bad (IsLong before.input.left) s → result ≡ status.TooLong
+      by (by_memory m) = absurd (some (answer ∙ ap stop_status m))
+      by (by_length l long) = answer ∙ ap stop_status l
+      by (by_row index m b) = absurd (o.fine index (ap (λ (z : Stop). Err z) m))
 
-told_by : (held : Held) (before now : Outside) (r : Result Bool Stop) (result : Status) (bytes : List ℕ) → now.store ≡ before.store → before.input.left ≡ Some bytes
-    → result ≡ status_of r → Ends no_row (IsLong before.input.left) before now r → IfOk r (λ refused. IfSome before.input.left (IsTold held before now refused))
-    → length bytes < 2 ^ 32 → AreCalm before now → result ≢ status.Memory
-    → (result ≡ verdict (refuses held [] bytes)) × IsWholeRun held false [] bytes before now (refuses held [] bytes)
-told_by held before now (Ok refused) result bytes same is answer e t few calm some =
-    let at = at_told before.input.left (IsTold held before now refused) bytes is t in
-    (answer ∙ status_is refused ∙ ap verdict at.1, whole_at held before now (refuses held [] bytes) bytes same (at.0, refl, at.2))
-told_by held before now (Err s) result bytes same is answer e t few calm some = elim (calm_stop Bool (IsLong before.input.left) before now s calm e.cause) [
-  | inl m ↦ absurd (some (answer ∙ ap stop_status m))
-  | inr l ↦ absurd (long_not_short bytes before.input.left is few l.1)
-]
+  into_by : (index : ℕ) (rows : List Row) (r : Result Bool Stop) → result ≡ status_of r → Ends bad (IsLong before.input.left) before now r → EndsInto index rows before now r
+      → AreCalm before now → result ≢ status.Memory → (result ≡ status.StoreFault) × Appends before.out.taken now.out.taken (bad_row_text index)
+  into_by index rows (Ok came) answer e o calm some = absurd o.stopped
+  into_by index rows (Err s) answer e o calm some = by (calm_run bad (IsLong before.input.left) before now s calm e.cause)
+    where
+      whole : (at : ℕ) → s ≡ stop.BadRow at → Appends before.out.taken now.out.taken (bad_row_text index)
+      whole at m =
+          let line = o.front.line at (ap (λ (z : Stop). place_of {T = Bool} (Err z)) m) in
+          subst (Appends before.out.taken now.out.taken) (take_all o.front.count (bad_row_text index) line.1) o.front.text
 
-long_by : (before now : Outside) (r : Result Bool Stop) (result : Status) (bytes : List ℕ) → before.input.left ≡ Some bytes → result ≡ status_of r
-    → Ends no_row (IsLong before.input.left) before now r → KnowsLength before.input.left r → 2 ^ 32 ≤ length bytes → AreCalm before now → result ≢ status.Memory
-    → result ≡ status.TooLong
-long_by before now (Ok refused) result bytes is answer e k many calm some =
-    absurd (omega (arith, many, at_told before.input.left (λ b. length b < 2 ^ 32) bytes is k))
-long_by before now (Err s) result bytes is answer e k many calm some = elim (calm_stop Bool (IsLong before.input.left) before now s calm e.cause) [
-  | inl m ↦ absurd (some (answer ∙ ap stop_status m))
-  | inr l ↦ answer ∙ ap stop_status l.0
-]
+      by : CalmStop bad (IsLong before.input.left) s → (result ≡ status.StoreFault) × Appends before.out.taken now.out.taken (bad_row_text index)
+      by (by_memory m) = absurd (some (answer ∙ ap stop_status m))
+      by (by_length l long) = absurd (subst (λ (z : Stop). IsStopped (Err z)) l o.stopped)
+      by (by_row at m b) = (answer ∙ ap stop_status m, whole at m)
 
--- what is promised over these rows at the start
-abbrev RunsFrom : Outside → Outside → Result Bool Stop → Status → List Row → Type 0
-RunsFrom before now r result rows = IfSome before.input.left (λ bytes. RunsBy false (history_of rows) rows bytes before now r result)
+  runs_by : (told : Result (List Entry) ℕ) (rows : List Row) (r : Result Bool Stop) → result ≡ status_of r → Ends bad (IsLong before.input.left) before now r
+      → KnowsLength before.input.left r → EndsBy told rows bytes before now r → RunsBy told rows bytes before now r result
+  runs_by (Ok history) rows r answer e k o = record {
+    done = o;
+    told = λ held told few calm some. told_by history r answer e o held told few calm some;
+    long = λ many calm some. long_by history r answer e k o many calm some;
+  }
+  runs_by (Err index) rows r answer e k o = record { done = o; told = λ calm some. into_by index rows r answer e o calm some }
 
-pub means_run : (before now : Outside) (r : Result Bool Stop) (result : Status) → now.store ≡ before.store → result ≡ status_of r
-    → Ends no_row (IsLong before.input.left) before now r → KnowsLength before.input.left r → Tells before now r → Fronts before now r → MeansRun false before now result
-means_run before now r result same answer e k t f = record {
+if_rows : (o : Option (List Row)) (P Q : List Row → Type 0) → ((rows : List Row) → P rows → Q rows) → IfSome o P → IfSome o Q
+if_rows None P Q f p = tt
+if_rows (Some rows) P Q f p = f rows p
+
+if_bytes : (o : Option (List ℕ)) (P Q : List ℕ → Type 0) → ((bytes : List ℕ) → o ≡ Some bytes → P bytes → Q bytes) → IfSome o P → IfSome o Q
+if_bytes None P Q f p = tt
+if_bytes (Some bytes) P Q f p = f bytes refl p
+
+pub means_run : (before now : Outside) (r : Result Bool Stop) (result : Status) → result ≡ status_of r → Ends (IsBadIn now.store) (IsLong before.input.left) before now r
+    → KnowsLength before.input.left r
+    → IfSome now.store.rows (λ all. IfSome before.input.left (λ bytes. OverRows before.store.rows all (λ rows. EndsBy (history_of rows) rows bytes before now r)))
+    → MeansRun before now result
+means_run before now r result answer e k over = record {
   ending = r;
   answer = answer;
   ends = e;
   known = k;
-  over = λ rows is. subst (RunsFrom before now r result) (sym is) over_none;
+  over = if_rows now.store.rows
+      (λ all. IfSome before.input.left (λ bytes. OverRows before.store.rows all (λ rows. EndsBy (history_of rows) rows bytes before now r)))
+      (λ all. IfSome before.input.left (λ bytes. OverRows before.store.rows all (λ rows. RunsBy (history_of rows) rows bytes before now r result)))
+      (λ all p. if_bytes before.input.left
+      (λ bytes. OverRows before.store.rows all (λ rows. EndsBy (history_of rows) rows bytes before now r))
+      (λ bytes. OverRows before.store.rows all (λ rows. RunsBy (history_of rows) rows bytes before now r result))
+      (λ bytes is o. record {
+        rows = o.rows;
+        first = o.first;
+        holds = runs_by before now bytes is result (IsBadIn now.store) (history_of o.rows) o.rows r answer e k o.holds;
+      }) p) over;
 }
-  where
-    over_none : RunsFrom before now r result []
-    over_none = on_told before.input.left (λ bytes. RunsOver false [] bytes before now r result) (λ bytes is. record {
-      whole = λ held asked. whole_by held before now r bytes same is (t held);
-      front = λ held asked. at_told before.input.left (λ b. IsFront b (place_of r) false [] (answers_to held [] b) before now) bytes is (f held);
-      told = λ held asked few calm some. told_by held before now r result bytes same is answer e (t held) few calm some;
-      long = λ many calm some. long_by before now r result bytes is answer e k many calm some;
-    })
 
 -- Words that are none of the forms
 
@@ -117,9 +154,10 @@ means_usage text before now r result answer e w f = record {
 no_bad : (index : ℕ) → no_row index → ⊥
 no_bad index bad = bad
 
-run_cause : (before now : Outside) (result : Status) → MeansRun false before now result → HasCause ⊥ before now result
+run_cause : (before now : Outside) (result : Status) → MeansRun before now result → HasCause ((index : ℕ) × IsBadIn now.store index) before now result
 run_cause before now result m =
-    subst (HasCause ⊥ before now) (sym m.answer) (ending_cause no_row ⊥ (IsLong before.input.left) before now m.ending no_bad m.ends)
+    subst (HasCause ((index : ℕ) × IsBadIn now.store index) before now) (sym m.answer)
+    (ending_cause (IsBadIn now.store) ((index : ℕ) × IsBadIn now.store index) (IsLong before.input.left) before now m.ending (λ index bad. (index, bad)) m.ends)
 
 files_cause : (telling : Telling) (names : List (List ℕ)) (before now : Outside) (result : Status) → MeansFileCheck telling names before now result
     → HasCause ⊥ before now result
@@ -143,23 +181,11 @@ usage_cause text before now result m = subst (HasCause ⊥ before now) (sym m.an
     by (Ok done) e = e.cause
     by (Err s) e = stop_cause Unit no_row ⊥ ⊥ before now s no_bad e.cause
 
-pub command_cause : (c : Option Command) (before now : Outside) (result : Status) → MeansCommand c before now result → HasCause ⊥ before now result
+pub command_cause : (c : Option Command) (before now : Outside) (result : Status) → MeansCommand c before now result → HasCause (HasBadRow c now.store) before now result
 command_cause None before now result m = usage_cause usage_text before now result m
-command_cause (Some (runs [])) before now result m = run_cause before now result m
-command_cause (Some (runs (b ∷ path))) before now result m = usage_cause usage_text before now result m
-command_cause (Some (tests_rules names)) before now result m = usage_cause usage_text before now result m
+command_cause (Some (runs path)) before now result m = run_cause before now result m
+command_cause (Some (tests_rules names)) before now result m = files_cause tests_told names before now result m
 command_cause (Some (checks_rules names)) before now result m = files_cause rules_told names before now result m
 command_cause (Some checks_metrics) before now result m = input_cause metrics_told before now result m
 command_cause (Some (exercises rounds)) before now result m = usage_cause usage_text before now result m
 command_cause (Some (backfills path times names)) before now result m = usage_cause usage_text before now result m
-
--- A run is over no store where its path is empty, and where it is not it is not done yet.
-pub run_in_memory : (path : List ℕ) (before now : Outside) (result : Status) → (length path == 0) ≡ true → MeansRun false before now result
-    → MeansCommand (Some (runs path)) before now result
-run_in_memory [] before now result none m = m
-run_in_memory (b ∷ path) before now result none m = let e : length (b ∷ path) ≡ 0 = eqb-true (length (b ∷ path)) 0 none in absurd (omega (arith, e))
-
-pub run_over : (path : List ℕ) (before now : Outside) (result : Status) → (length path == 0) ≡ false → MeansUsage usage_text before now result
-    → MeansCommand (Some (runs path)) before now result
-run_over [] before now result some m = absurd (true≢false some)
-run_over (b ∷ path) before now result some m = m

@@ -1,11 +1,3 @@
-pub mod Values
-pub mod Queries
-pub mod ExpressionExamples
-pub mod Feeds
-pub mod Orders
-pub mod Whole
-pub mod Ahead
-pub mod Turns
-pub mod Fronts
 pub mod Commands
 pub mod WordTimes
+pub mod EngineEnds

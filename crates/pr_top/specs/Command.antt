@@ -129,13 +129,11 @@ pub record Uses : Type 0 where
 abbrev pub uses_nothing : Uses
 uses_nothing = record { input = false; files = false; store = false }
 
--- A script is answered over no store yet, and no script names files. `run --store`, `test rules`,
 -- `exercise` and `backfill` are not done yet: their words are answered as words that are none of the
 -- forms, and use nothing.
 abbrev pub uses_of : Command → Uses
-uses_of (runs []) = record { input = true; files = false; store = false }
-uses_of (runs (b ∷ path)) = uses_nothing
-uses_of (tests_rules names) = uses_nothing
+uses_of (runs path) = record { input = true; files = true; store = true }
+uses_of (tests_rules names) = record { input = false; files = true; store = false }
 uses_of (checks_rules names) = record { input = false; files = true; store = false }
 uses_of checks_metrics = record { input = true; files = false; store = false }
 uses_of (exercises rounds) = uses_nothing

@@ -1,13 +1,6 @@
-pub mod Told
-pub mod Rows
-pub mod Front
-pub mod Taken
-pub mod LineReading
-pub mod Reading
-pub mod Standing
-pub mod Keeping
-pub mod Asked
 pub mod Usage
 pub mod Command
 pub mod Words
 pub mod Means
+pub mod Engine
+pub mod EngineStops

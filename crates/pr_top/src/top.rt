@@ -7,16 +7,20 @@ ghost use Rattle.pr_check_loops.specs.InputChecks.{MeansInputCheck};
 ghost use Rattle.pr_checks.specs.Metrics.{metrics_told};
 ghost use Rattle.pr_checks.specs.RuleFiles.{rules_told};
 ghost use Rattle.pr_top.specs.Command.{command_of, uses, uses_of};
-ghost use Rattle.pr_top.specs.Means.{MeansCommand, MeansRun, MeansUsage};
+ghost use Rattle.pr_run.specs.Runs.{MeansRun};
+ghost use Rattle.pr_top.specs.Means.{HasBadRow, MeansCommand, MeansUsage};
 ghost use Rattle.pr_top.specs.Usage.{usage_text};
 ghost use Rattle.pr_top.specs.Words.{asked_by};
 
 use super::command::{Command, command_of};
-use super::run::run;
+use super::engine::RunEngine;
 use pr_check_loops::{check_files, check_input};
 use pr_checks::{Metrics, RuleFiles};
 use pr_outside::{Files, Keeper, Sink, Source};
+use pr_run::{Worlds, run};
+use pr_slide::SlidingRanges;
 use pr_status::{Status, send, status_of};
+use pr_test_command::test_rules;
 use std::alloc::Global;
 
 const USAGE: &[u8] =
@@ -29,12 +33,20 @@ fn usage() -> &'static [u8]
     USAGE
 }
 
-// Answers the script of the input, over no store.
-fn run_script<I: Source, O: Sink>(alloc: Global, input: &mut I, out: &mut O) -> Status
-    ensures { (others : Outside) → MeansRun false (record others { input = I.means input.old; out = O.means out.old })
-        (record others { input = I.means input.new; out = O.means out.new }) result }
+// Answers the script of the input, over the store of a path.
+fn run_script<E: Worlds + Drop, I: Source, F: Files, K: Keeper, O: Sink>(
+    alloc: Global,
+    path: &str,
+    input: &mut I,
+    files: &mut F,
+    keeper: &mut K,
+    out: &mut O,
+) -> Status
+    ensures means { MeansRun (record { input = I.means input.old; files = F.means files.old; store = K.means keeper.old; out = O.means out.old })
+        (record { input = I.means input.new; files = F.means files.new; store = K.means keeper.new; out = O.means out.new }) result }
+    ensures same { (name : List ℕ) → (F.means files.new).content name ≡ (F.means files.old).content name }
 {
-    status_of(run(alloc, input, out))
+    status_of(run::<E, I, F, K, O>(alloc, path, input, files, keeper, out))
 }
 
 // Checks the exposition of the input.
@@ -70,28 +82,26 @@ fn refuse_words<O: Sink>(out: &mut O) -> Status
 }
 
 // Does what the words ask for. What is not done yet is refused as words that are none of the forms.
-fn do_command<I: Source, F: Files, O: Sink>(
+fn do_command<E: Worlds + Drop, I: Source, F: Files, K: Keeper, O: Sink>(
     alloc: Global,
     command: Command<'_>,
     input: &mut I,
     files: &mut F,
+    keeper: &mut K,
     out: &mut O,
 ) -> Status
-    ensures means { (others : Outside) → MeansCommand (Some (asked_by command.entry)) (record others { input = I.means input.old; files = F.means files.old; out = O.means out.old })
-        (record others { input = I.means input.new; files = F.means files.new; out = O.means out.new }) result }
+    ensures means { MeansCommand (Some (asked_by command.entry)) (record { input = I.means input.old; files = F.means files.old; store = K.means keeper.old; out = O.means out.old })
+        (record { input = I.means input.new; files = F.means files.new; store = K.means keeper.new; out = O.means out.new }) result }
     ensures input { (uses_of (asked_by command.entry)).input ≡ false → input.new ≡ input.old }
     ensures files { (uses_of (asked_by command.entry)).files ≡ false → files.new ≡ files.old }
+    ensures keeper { (uses_of (asked_by command.entry)).store ≡ false → keeper.new ≡ keeper.old }
     ensures content { (name : List ℕ) → (F.means files.new).content name ≡ (F.means files.old).content name }
 {
     match command {
-        Command::Run { path } => {
-            if path.is_empty() {
-                run_script(alloc, input, out)
-            } else {
-                refuse_words(out)
-            }
-        }
-        Command::TestRules { .. } => refuse_words(out),
+        Command::Run { path } => run_script::<E, I, F, K, O>(
+            alloc, path, input, files, keeper, out,
+        ),
+        Command::TestRules { names } => test_rules(alloc, names, files, out),
         Command::CheckRules { names } => check_rules(alloc, names, files, out),
         Command::CheckMetrics => check_metrics(alloc, input, out),
         Command::Exercise { .. } => refuse_words(out),
@@ -99,11 +109,41 @@ fn do_command<I: Source, F: Files, O: Sink>(
     }
 }
 
-/// Does all that the program does. The words are those after the program's name, `out` is the
-/// standard output, and the status is what the process ends with. What is done so far is `run`,
-/// which reads a script from `input` and answers it; `check metrics`, which checks the exposition
-/// that `input` is; and `check rules FILE..`, which checks rule files, one after another. Want of
-/// memory alone may come at any time.
+/// Does all that the program does, over what keeps the world of a run. The words are those after the
+/// program's name, `out` is the standard output, and the status is what the process ends with. What is
+/// done so far is `run`, which reads a script from `input` and answers it over the rows of a store;
+/// `check metrics`, which checks the exposition that `input` is; `check rules FILE..`, which checks rule
+/// files, one after another; and `test rules FILE..`, which tests rules by test files, one after another.
+/// Want of memory alone may come at any time.
+pub fn promtool_over<E: Worlds + Drop, I: Source, F: Files, K: Keeper, O: Sink>(
+    alloc: Global,
+    words: &[String],
+    input: &mut I,
+    files: &mut F,
+    keeper: &mut K,
+    out: &mut O,
+) -> Status
+    // Words of a command that is not done yet are answered as words that are none of the forms.
+    ensures means { MeansCommand (command_of (map string_bytes words.now))
+        (record { input = I.means input.old; files = F.means files.old; store = K.means keeper.old; out = O.means out.old })
+        (record { input = I.means input.new; files = F.means files.new; store = K.means keeper.new; out = O.means out.new }) result }
+    // Each status has its cause.
+    ensures cause { HasCause (HasBadRow (command_of (map string_bytes words.now)) (K.means keeper.new))
+        (record { input = I.means input.old; files = F.means files.old; store = K.means keeper.old; out = O.means out.old })
+        (record { input = I.means input.new; files = F.means files.new; store = K.means keeper.new; out = O.means out.new }) result }
+    // What a command leaves unchanged.
+    ensures input { (uses (command_of (map string_bytes words.now))).input ≡ false → input.new ≡ input.old }
+    ensures files { (uses (command_of (map string_bytes words.now))).files ≡ false → files.new ≡ files.old }
+    ensures keeper { (uses (command_of (map string_bytes words.now))).store ≡ false → keeper.new ≡ keeper.old }
+    ensures content { (name : List ℕ) → (F.means files.new).content name ≡ (F.means files.old).content name }
+{
+    match command_of(words) {
+        Some(command) => do_command::<E, I, F, K, O>(alloc, command, input, files, keeper, out),
+        None => refuse_words(out),
+    }
+}
+
+/// Does all that the program does, with the engine and ranges that go on from one ask to the next.
 pub fn promtool<I: Source, F: Files, K: Keeper, O: Sink>(
     alloc: Global,
     words: &[String],
@@ -116,8 +156,8 @@ pub fn promtool<I: Source, F: Files, K: Keeper, O: Sink>(
     ensures means { MeansCommand (command_of (map string_bytes words.now))
         (record { input = I.means input.old; files = F.means files.old; store = K.means keeper.old; out = O.means out.old })
         (record { input = I.means input.new; files = F.means files.new; store = K.means keeper.new; out = O.means out.new }) result }
-    // Each status has its cause; so far no row is a bad one.
-    ensures cause { HasCause ⊥
+    // Each status has its cause.
+    ensures cause { HasCause (HasBadRow (command_of (map string_bytes words.now)) (K.means keeper.new))
         (record { input = I.means input.old; files = F.means files.old; store = K.means keeper.old; out = O.means out.old })
         (record { input = I.means input.new; files = F.means files.new; store = K.means keeper.new; out = O.means out.new }) result }
     // What a command leaves unchanged.
@@ -126,8 +166,5 @@ pub fn promtool<I: Source, F: Files, K: Keeper, O: Sink>(
     ensures keeper { (uses (command_of (map string_bytes words.now))).store ≡ false → keeper.new ≡ keeper.old }
     ensures content { (name : List ℕ) → (F.means files.new).content name ≡ (F.means files.old).content name }
 {
-    match command_of(words) {
-        Some(command) => do_command(alloc, command, input, files, out),
-        None => refuse_words(out),
-    }
+    promtool_over::<RunEngine<SlidingRanges>, I, F, K, O>(alloc, words, input, files, keeper, out)
 }

@@ -1,56 +1,77 @@
-use Rattle.std.proofs.Common.{Some, sym, ◌∙◌, subst}
+use Rattle.std.proofs.Common.{Some, sym, subst}
 use Rattle.pr_status.specs.Outside.{Outside}
 use Rattle.pr_top.specs.Means.{MeansCommand}
 use Rattle.pr_top.specs.Words.{asked_by}
 use Rattle.pr_top.specs.declared.command.Command as made
-use Rattle.pr_top.proofs.Commands.{run_in_memory, run_over}
 use Rattle.pr_top.proofs.top.do_command.Goals as goal
 
-pub returns-then-is_empty-clause-means : goal.returns-then-is_empty-clause-means
-returns-then-is_empty-clause-means g c =
-    λ others.
-    let before : Outside = record others { input = g.I.Source.means c.args.input.now; files = g.F.Files.means c.args.files.now; out = g.O.Sink.means c.args.out.now } in
-    let now : Outside = record before { input = g.I.Source.means c.run_script.new.input; out = g.O.Sink.means c.run_script.new.out } in
-    subst (λ (x : made.Command). MeansCommand (Some (asked_by x)) before now c.run_script.result) (sym c.in-Run.is) (run_in_memory c.in-Run.path.now before now c.run_script.result (sym c.is_empty.ensures ∙ c.if-is_empty.true) (c.run_script.ensures before))
-
-pub returns-else-is_empty-clause-means : goal.returns-else-is_empty-clause-means
-returns-else-is_empty-clause-means g c =
-    λ others.
-    let before : Outside = record others { input = g.I.Source.means c.args.input.now; files = g.F.Files.means c.args.files.now; out = g.O.Sink.means c.args.out.now } in
-    let now : Outside = record before { out = g.O.Sink.means c.refuse_words.new.out } in
-    subst (λ (x : made.Command). MeansCommand (Some (asked_by x)) before now c.refuse_words.result) (sym c.in-Run.is) (run_over c.in-Run.path.now before now c.refuse_words.result (sym c.is_empty.ensures ∙ c.if-is_empty.false) (c.refuse_words.ensures before))
+pub returns-in-Run-clause-means : goal.returns-in-Run-clause-means
+returns-in-Run-clause-means g c =
+    let before : Outside = record {
+      input = g.I.Source.means c.args.input.now;
+      files = g.F.Files.means c.args.files.now;
+      store = g.K.Keeper.means c.args.keeper.now;
+      out = g.O.Sink.means c.args.out.now;
+    } in
+    let now : Outside = record {
+      input = g.I.Source.means c.run_script.new.input;
+      files = g.F.Files.means c.run_script.new.files;
+      store = g.K.Keeper.means c.run_script.new.keeper;
+      out = g.O.Sink.means c.run_script.new.out;
+    } in
+    subst (λ (x : made.Command). MeansCommand (Some (asked_by x)) before now c.run_script.result) (sym c.in-Run.is) c.run_script.ensures.means
 
 pub returns-in-TestRules-clause-means : goal.returns-in-TestRules-clause-means
 returns-in-TestRules-clause-means g c =
-    λ others.
-    let before : Outside = record others { input = g.I.Source.means c.args.input.now; files = g.F.Files.means c.args.files.now; out = g.O.Sink.means c.args.out.now } in
-    let now : Outside = record before { out = g.O.Sink.means c.refuse_words-in-TestRules.new.out } in
-    subst (λ (x : made.Command). MeansCommand (Some (asked_by x)) before now c.refuse_words-in-TestRules.result) (sym c.in-TestRules.is) (c.refuse_words-in-TestRules.ensures before)
+    let before : Outside = record {
+      input = g.I.Source.means c.args.input.now;
+      files = g.F.Files.means c.args.files.now;
+      store = g.K.Keeper.means c.args.keeper.now;
+      out = g.O.Sink.means c.args.out.now;
+    } in
+    let now : Outside = record before { files = g.F.Files.means c.test_rules.new.files; out = g.O.Sink.means c.test_rules.new.out } in
+    subst (λ (x : made.Command). MeansCommand (Some (asked_by x)) before now c.test_rules.result) (sym c.in-TestRules.is) (c.test_rules.ensures.means before)
 
 pub returns-in-CheckRules-clause-means : goal.returns-in-CheckRules-clause-means
 returns-in-CheckRules-clause-means g c =
-    λ others.
-    let before : Outside = record others { input = g.I.Source.means c.args.input.now; files = g.F.Files.means c.args.files.now; out = g.O.Sink.means c.args.out.now } in
+    let before : Outside = record {
+      input = g.I.Source.means c.args.input.now;
+      files = g.F.Files.means c.args.files.now;
+      store = g.K.Keeper.means c.args.keeper.now;
+      out = g.O.Sink.means c.args.out.now;
+    } in
     let now : Outside = record before { files = g.F.Files.means c.check_rules.new.files; out = g.O.Sink.means c.check_rules.new.out } in
     subst (λ (x : made.Command). MeansCommand (Some (asked_by x)) before now c.check_rules.result) (sym c.in-CheckRules.is) (c.check_rules.ensures.means before)
 
 pub returns-in-CheckMetrics-clause-means : goal.returns-in-CheckMetrics-clause-means
 returns-in-CheckMetrics-clause-means g c =
-    λ others.
-    let before : Outside = record others { input = g.I.Source.means c.args.input.now; files = g.F.Files.means c.args.files.now; out = g.O.Sink.means c.args.out.now } in
+    let before : Outside = record {
+      input = g.I.Source.means c.args.input.now;
+      files = g.F.Files.means c.args.files.now;
+      store = g.K.Keeper.means c.args.keeper.now;
+      out = g.O.Sink.means c.args.out.now;
+    } in
     let now : Outside = record before { input = g.I.Source.means c.check_metrics.new.input; out = g.O.Sink.means c.check_metrics.new.out } in
     subst (λ (x : made.Command). MeansCommand (Some (asked_by x)) before now c.check_metrics.result) (sym c.in-CheckMetrics.is) (c.check_metrics.ensures before)
 
 pub returns-in-Exercise-clause-means : goal.returns-in-Exercise-clause-means
 returns-in-Exercise-clause-means g c =
-    λ others.
-    let before : Outside = record others { input = g.I.Source.means c.args.input.now; files = g.F.Files.means c.args.files.now; out = g.O.Sink.means c.args.out.now } in
-    let now : Outside = record before { out = g.O.Sink.means c.refuse_words-in-Exercise.new.out } in
-    subst (λ (x : made.Command). MeansCommand (Some (asked_by x)) before now c.refuse_words-in-Exercise.result) (sym c.in-Exercise.is) (c.refuse_words-in-Exercise.ensures before)
+    let before : Outside = record {
+      input = g.I.Source.means c.args.input.now;
+      files = g.F.Files.means c.args.files.now;
+      store = g.K.Keeper.means c.args.keeper.now;
+      out = g.O.Sink.means c.args.out.now;
+    } in
+    let now : Outside = record before { out = g.O.Sink.means c.refuse_words.new.out } in
+    subst (λ (x : made.Command). MeansCommand (Some (asked_by x)) before now c.refuse_words.result) (sym c.in-Exercise.is) (c.refuse_words.ensures before)
 
 pub returns-in-Backfill-clause-means : goal.returns-in-Backfill-clause-means
 returns-in-Backfill-clause-means g c =
-    λ others.
-    let before : Outside = record others { input = g.I.Source.means c.args.input.now; files = g.F.Files.means c.args.files.now; out = g.O.Sink.means c.args.out.now } in
+    let before : Outside = record {
+      input = g.I.Source.means c.args.input.now;
+      files = g.F.Files.means c.args.files.now;
+      store = g.K.Keeper.means c.args.keeper.now;
+      out = g.O.Sink.means c.args.out.now;
+    } in
     let now : Outside = record before { out = g.O.Sink.means c.refuse_words-in-Backfill.new.out } in
     subst (λ (x : made.Command). MeansCommand (Some (asked_by x)) before now c.refuse_words-in-Backfill.result) (sym c.in-Backfill.is) (c.refuse_words-in-Backfill.ensures before)

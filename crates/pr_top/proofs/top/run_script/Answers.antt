@@ -1,11 +1,19 @@
-use Rattle.std.proofs.Common.{refl}
+use Rattle.pr_status.specs.Outside.{Outside}
 use Rattle.pr_top.proofs.Commands.{means_run}
 use Rattle.pr_top.proofs.top.run_script.Goals as goal
 
-pub returns : goal.returns
-returns g c =
-    let input = g.I.Source.means in
-    let out = g.O.Sink.means in
-    λ others. means_run (record others { input = input c.args.input.now; out = out c.args.out.now })
-    (record others { input = input c.run.new.input; out = out c.run.new.out }) c.run.result c.status_of.result refl c.status_of.ensures
-    (c.run.ensures.ends others) c.run.ensures.long (λ held. c.run.ensures.told held) (λ held. c.run.ensures.front held others)
+pub returns-clause-means : goal.returns-clause-means
+returns-clause-means g c =
+    let before : Outside = record {
+      input = g.I.Source.means c.args.input.now;
+      files = g.F.Files.means c.args.files.now;
+      store = g.K.Keeper.means c.args.keeper.now;
+      out = g.O.Sink.means c.args.out.now;
+    } in
+    let now : Outside = record {
+      input = g.I.Source.means c.run.new.input;
+      files = g.F.Files.means c.run.new.files;
+      store = g.K.Keeper.means c.run.new.keeper;
+      out = g.O.Sink.means c.run.new.out;
+    } in
+    means_run before now c.run.result c.status_of.result c.status_of.ensures c.run.ensures.ends c.run.ensures.long c.run.ensures.over

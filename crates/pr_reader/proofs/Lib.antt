@@ -1,0 +1,4 @@
+pub mod Feeds
+pub mod Whole
+pub mod Orders
+pub mod Ahead

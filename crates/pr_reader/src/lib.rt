@@ -1,0 +1,7 @@
+//! The input of a run, asked for one order after another.
+#![tactic(auto)]
+
+mod lines;
+mod reader;
+
+pub use reader::Reader;

@@ -1,0 +1,11 @@
+pub mod ExpressionExamples
+pub mod Loads
+pub mod Turns
+pub mod Rows
+pub mod Endings
+pub mod Fronts
+pub mod Goings
+pub mod Stops
+pub mod Answering
+pub mod Begins
+pub mod Starts

@@ -1,0 +1,86 @@
+use Rattle.std.proofs.Common.{◌≡◌, ◌∙◌, ℕ, List, [], Option, Some, Result, Ok, Err, IfSome, IsSome, refl, sym, ap, subst}
+use Rattle.std.specs.Prelude.{is_some}
+use Rattle.pr_outside.specs.declared.keeping.Row.{Row}
+use Rattle.pr_outside.specs.Kept.{StartsRows}
+use Rattle.pr_row.specs.Histories.{history_of}
+use Rattle.pr_status.specs.Outside.{Outside}
+use Rattle.pr_status.specs.Status.{IsLong}
+use Rattle.pr_status.specs.declared.status.Stop.{Stop}
+use Rattle.pr_status.proofs.Ended.{ends_on, in_time_same, quiet}
+use Rattle.pr_status.proofs.Telling.{at_told, on_told}
+use Rattle.pr_world.specs.World.{start}
+use Rattle.pr_run.specs.Rows.{IsBadIn, OverRows}
+use Rattle.pr_run.specs.Runs.{EndsBy, EndsOver}
+use Rattle.pr_run.proofs.Answering.{ends_behind}
+use Rattle.pr_run.proofs.Endings.{bad_of, ends_wider, known_answer}
+use Rattle.pr_run.proofs.Rows.{over_history}
+use Rattle.pr_run.proofs.Starts.{at_rows, begin_stop, on_rows, over_begun}
+use Rattle.pr_run.proofs.running.run.Goals as goal
+
+pub returns-in_err-session-clause-over : goal.returns-in_err-session-clause-over
+returns-in_err-session-clause-over g c =
+    let keeper = g.K.Keeper.means in
+    let out = g.O.Sink.means in
+    let before : Outside = record { input = g.I.Source.means c.args.input.now; files = g.F.Files.means c.args.files.now; store = keeper c.args.keeper.now; out = out c.args.out.now } in
+    let now : Outside = record before { store = keeper c.begin.new.keeper; out = out c.begin.new.out } in
+    let b = c.in_err-session.ensures in
+    let e = c.in_err-session.field-0.0 in
+    on_rows now.store.rows _ (λ all is. on_told before.input.left _ (λ bytes here.
+    over_begun c.rows_decode_as_their_entries.ensures.only before now bytes all is refl c.from_residual.result e c.from_residual.ensures.1
+    (subst (StartsRows before.store.rows) is b.rows) (at_rows now.store.rows _ all is b.front)
+    (begin_stop _ _ (record quiet { store = before.store; out = before.out }) (record quiet { store = now.store; out = now.out }) e refl refl refl refl (b.ends quiet))
+    (λ at row. at_rows now.store.rows _ all is (bad_of _ (IsBadIn now.store) ⊥ (record quiet { store = before.store; out = before.out }) (record quiet { store = now.store; out = now.out }) e at row (b.ends quiet)))
+    (λ at row. b.bad at (ap (λ (s : Stop). Err s) row))))
+
+pub returns-in_err-session-clause-long : goal.returns-in_err-session-clause-long
+returns-in_err-session-clause-long g c =
+    known_answer _ _ _ (g.I.Source.means c.args.input.now).left _ _ c.from_residual.result c.in_err-session.field-0.0 c.from_residual.ensures.1 (c.in_err-session.ensures.ends quiet)
+
+pub returns-in_err-session-clause-ends : goal.returns-in_err-session-clause-ends
+returns-in_err-session-clause-ends g c =
+    let keeper = g.K.Keeper.means in
+    let out = g.O.Sink.means in
+    let before : Outside = record { input = g.I.Source.means c.args.input.now; files = g.F.Files.means c.args.files.now; store = keeper c.args.keeper.now; out = out c.args.out.now } in
+    let now : Outside = record before { store = keeper c.begin.new.keeper; out = out c.begin.new.out } in
+    ends_on _ _ (IsBadIn now.store) (IsLong before.input.left) before before now c.from_residual.result c.in_err-session.field-0.0 c.from_residual.ensures.1 (refl, refl, refl, refl)
+    (in_time_same before.input.course) (λ e. e) (λ e. e)
+    (ends_wider _ (IsBadIn now.store) (IsBadIn now.store) ⊥ (IsLong before.input.left) before now (Err c.in_err-session.field-0.0) (λ i bad. bad) (λ never. absurd never) (c.in_err-session.ensures.ends before))
+
+pub returns-clause-over : goal.returns-clause-over
+returns-clause-over g c =
+    let keeper = g.K.Keeper.means in
+    let out = g.O.Sink.means in
+    let before : Outside = record { input = g.I.Source.means c.args.input.now; files = g.F.Files.means c.args.files.now; store = keeper c.args.keeper.now; out = out c.args.out.now } in
+    let now : Outside = record {
+      input = g.I.Source.means c.answer_all.new.input;
+      files = g.F.Files.means c.answer_all.new.files;
+      store = keeper c.answer_all.new.keeper;
+      out = out c.answer_all.new.out;
+    } in
+    let opened = keeper c.begin.new.keeper in
+    let b = c.in_ok-session.ensures.begins in
+    let all_of = c.answer_all.ensures in
+    on_rows now.store.rows _ (λ all is. on_told before.input.left _ (λ bytes here.
+    let some : IsSome now.store.rows = ap (λ (o : Option (List Row)). is_some o) is in
+    let grown = all_of.grows (start b.history) b.keeps.world some in
+    let over = at_told before.input.left (λ l. EndsOver b.history l before now c.answer_all.result) bytes here (all_of.over before b.history b.keeps b.told some) in
+    over_history c.rows_decode_as_their_entries.ensures.only before.store.rows opened.rows all b.history grown.more
+    (λ rows. EndsBy (history_of rows) rows bytes before now c.answer_all.result) c.in_ok-session.ensures.rows (all_of.told some)
+    (g.met.E.Worlds.tells c.in_ok-session.session.kept opened (start b.history) b.keeps.world)
+    (at_rows now.store.rows _ all is grown.tells)
+    (λ rows h. subst (λ (r : Result _ _). EndsBy r rows bytes before now c.answer_all.result) (sym h) over)))
+
+pub returns-clause-ends : goal.returns-clause-ends
+returns-clause-ends g c =
+    let keeper = g.K.Keeper.means in
+    let out = g.O.Sink.means in
+    let before : Outside = record { input = g.I.Source.means c.args.input.now; files = g.F.Files.means c.args.files.now; store = keeper c.args.keeper.now; out = out c.args.out.now } in
+    let mid : Outside = record before { store = keeper c.begin.new.keeper; out = out c.begin.new.out } in
+    let now : Outside = record {
+      input = g.I.Source.means c.answer_all.new.input;
+      files = g.F.Files.means c.answer_all.new.files;
+      store = keeper c.answer_all.new.keeper;
+      out = out c.answer_all.new.out;
+    } in
+    let l = c.in_ok-session.ensures.ends before in
+    ends_behind (IsBadIn now.store) (IsLong before.input.left) before mid now c.answer_all.result l.cause c.answer_all.ensures.ends.input l.files l.out c.answer_all.ensures.ends

@@ -1,0 +1,10 @@
+pub mod Told
+pub mod Rows
+pub mod Front
+pub mod Runs
+pub mod Events
+pub mod Times
+pub mod Files
+pub mod Keeping
+pub mod Standing
+pub mod Beginning

@@ -1,0 +1,103 @@
+-- Where a run stands between two orders, and where it is stopped within one.
+use Rattle.std.specs.Prelude.{◌≡◌, ◌⊎◌, ℕ, ◌≤◌, List, [], ◌∷◌, ◌++◌, length, take, Option, Result, Ok, Err}
+use Rattle.std.specs.Io.KnownBytes.{Appends}
+use Rattle.pr_history.specs.declared.entry.Entry.{Entry}
+use Rattle.pr_script.specs.declared.order.Numbered.{Numbered}
+use Rattle.pr_outside.specs.Meant.{Store}
+use Rattle.pr_reader.specs.Reading.{Takes}
+use Rattle.pr_status.specs.Asks.{Asks}
+use Rattle.pr_status.specs.Outside.{Held, Outside}
+use Rattle.pr_status.specs.declared.status.Stop.{Stop}
+use Rattle.pr_status.specs.declared.status.Stop.TheVariants as stop
+use Rattle.pr_world.specs.Step.{Step}
+use Rattle.pr_world.specs.World.{World}
+use Rattle.pr_world.specs.declared.report.Report.{Report}
+use Rattle.pr_run.specs.Keeping.{KeepsProgress, Progress, Run, TellsOf, unanswered, progress_after}
+use Rattle.pr_run.specs.Told.{Turn, answers, asks_of, begun, told_of, turn}
+
+-- orders were taken of the input, whose lines came before so many others
+pub record Reached (first now : Option (List ℕ)) (lines : ℕ) : Type 0 where
+  pub orders : List Numbered
+  pub taken : Takes first now 0 lines orders
+
+-- how far a run has come after orders
+abbrev pub progress_of : Held → Progress → List Numbered → Progress
+progress_of held p [] = p
+progress_of held p (o ∷ orders) = progress_of held (progress_after held p o) orders
+
+-- These orders are answered whole: what was written is what is told of them, the files were asked for
+-- that they ask for, and the world after them is kept.
+pub record Stands {E : Type 0} (stands_for : E → Store → World → Type 0) (held : Held) (history : List Entry) (orders : List Numbered) (run : Run E) (before now : Outside) : Type 0 where
+  pub keeps : KeepsProgress stands_for run now.store (progress_of held (unanswered history) orders)
+  pub told : Appends before.out.taken now.out.taken (told_of history (answers held (begun history) orders))
+  pub asked : Asks before.files.calls now.files.calls (length (asks_of (answers held (begun history) orders)))
+
+-- Nothing was kept of an order, but so many of its files were asked for, between two numbers.
+pub record Stays (history : List Entry) (least all : ℕ) (before now : Outside) : Type 0 where
+  pub rows : TellsOf now.store history
+  pub count : ℕ
+  pub asked : Asks before.files.calls now.files.calls count
+  pub some : least ≤ count
+  pub within : count ≤ all
+
+-- What comes of an order in a world, by its step, by how many files it asks for, and by how the call
+-- ended that was to answer it. No row is a bad one where rows are told.
+abbrev pub Gives : {E : Type 0} → (E → Store → World → Type 0) → World → Step → ℕ → Outside → Outside → E → Result Report Stop → Type 0
+Gives stands_for w step all before now kept (Ok report) =
+    (report ≡ step.report) × stands_for kept now.store step.world × Asks before.files.calls now.files.calls all
+Gives stands_for w step all before now kept (Err stop.Read) = ⊥
+Gives stands_for w step all before now kept (Err stop.Load) = Stays w.history 1 all before now
+Gives stands_for w step all before now kept (Err stop.Store) = Stays w.history 0 all before now
+Gives stands_for w step all before now kept (Err (stop.BadRow index)) = ⊥
+Gives stands_for w step all before now kept (Err stop.Write) = ⊥
+Gives stands_for w step all before now kept (Err stop.Memory) = Stays w.history 0 all before now
+Gives stands_for w step all before now kept (Err stop.TooLong) = ⊥
+
+-- An order was answered, and none of its text is written.
+pub record Answers {E : Type 0} (stands_for : E → Store → World → Type 0) (held : Held) (p : Progress) (o : Numbered) (before now : Outside) (run : Run E) (old new : List ℕ) : Type 0 where
+  pub text : new ≡ old ++ (turn held p.state o).answer.text
+  pub keeps : KeepsProgress stands_for run now.store (progress_after held p o)
+  pub asked : Asks before.files.calls now.files.calls (length (turn held p.state o).answer.asks)
+
+-- An order was answered, and its text is written.
+pub record Sends {E : Type 0} (stands_for : E → Store → World → Type 0) (held : Held) (p : Progress) (o : Numbered) (before now : Outside) (run : Run E) : Type 0 where
+  pub told : Appends before.out.taken now.out.taken (turn held p.state o).answer.text
+  pub keeps : KeepsProgress stands_for run now.store (progress_after held p o)
+  pub asked : Asks before.files.calls now.files.calls (length (turn held p.state o).answer.asks)
+
+-- An order was answered, and a part of its text is written, or nothing of it.
+pub record Writes (turn : Turn) (before now : Outside) : Type 0 where
+  pub count : ℕ
+  pub told : Appends before.out.taken now.out.taken (take count turn.answer.text)
+  pub rows : TellsOf now.store turn.state.world.history
+  pub asked : Asks before.files.calls now.files.calls (length turn.answer.asks)
+
+-- Nothing of it is written.
+pub record Waits (turn : Turn) (history : List Entry) (least : ℕ) (before now : Outside) : Type 0 where
+  pub told : Appends before.out.taken now.out.taken []
+  pub stays : Stays history least (length turn.answer.asks) before now
+
+-- what was done of an order where a call stopped it
+abbrev pub Leaves : Turn → List Entry → Outside → Outside → Stop → Type 0
+Leaves turn history before now stop.Read = ⊥
+Leaves turn history before now stop.Load = Waits turn history 1 before now
+Leaves turn history before now stop.Store = Waits turn history 0 before now
+Leaves turn history before now (stop.BadRow index) = ⊥
+Leaves turn history before now stop.Write = Writes turn before now
+Leaves turn history before now stop.Memory = Waits turn history 0 before now ⊎ Writes turn before now
+Leaves turn history before now stop.TooLong = ⊥
+
+-- Whatever files hold, the rows that are told afterwards are those of a history and of more.
+pub record IsGrown {E : Type 0} (stands_for : E → Store → World → Type 0) (history : List Entry) (store : Store) (kept : E) : Type 0 where
+  pub world : World
+  pub more : List Entry
+  pub stands : stands_for kept store world
+  pub grown : world.history ≡ history ++ more
+
+pub record HasGrown (history : List Entry) (store : Store) : Type 0 where
+  pub more : List Entry
+  pub tells : TellsOf store (history ++ more)
+
+abbrev pub Grows : {E T : Type 0} → (E → Store → World → Type 0) → List Entry → Store → E → Result T Stop → Type 0
+Grows stands_for history store kept (Ok done) = IsGrown stands_for history store kept
+Grows stands_for history store kept (Err s) = HasGrown history store

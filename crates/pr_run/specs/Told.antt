@@ -1,0 +1,145 @@
+-- What a run of the script writes, keeps and refuses, by what the files hold, the rows at the start
+-- and the bytes of its input.
+use Rattle.std.specs.Prelude.{ℕ, Bool, true, cond, nat_lt, List, [], ◌∷◌, ◌++◌, length, flat_map, codes, decimal, Option, Some, None, Result, Ok, Err}
+use Rattle.std.specs.List.{list_any}
+use Rattle.pr_words.specs.Lines.{lines_of}
+use Rattle.pr_history.specs.declared.entry.Entry.{Entry}
+use Rattle.pr_world.specs.declared.event.NamedFile.{NamedFile}
+use Rattle.pr_world.specs.declared.report.Report.{Report}
+use Rattle.pr_world.specs.declared.report.Report.TheVariants.{Opened}
+use Rattle.pr_world.specs.Loading.{FileToLoad, Holding, holds, is_missing, is_too_large, file_found, reload_asked}
+use Rattle.pr_world.specs.Settings.{of_a_run}
+use Rattle.pr_world.specs.Step.{Step, next}
+use Rattle.pr_world.specs.World.{World, start}
+use Rattle.pr_script.specs.declared.order.Order.{Order}
+use Rattle.pr_script.specs.declared.order.Order.TheVariants as order
+use Rattle.pr_script.specs.declared.order.Numbered.{Numbered}
+use Rattle.pr_script.specs.Orders.{orders_of}
+use Rattle.pr_text.specs.Printed.{shown_report, bad_line_text}
+use Rattle.pr_loading.specs.Loading as loading
+use Rattle.pr_loading.specs.Loading.{holding_by}
+use Rattle.pr_status.specs.Outside.{Held}
+
+-- somebody who is to be given notices, and those that were offered since it was known
+pub record Receiver : Type 0 where
+  pub name : List ℕ
+  pub notices : List (List ℕ)
+
+-- What is kept in mind between two orders: the world; and the receivers, which are no part of it. So
+-- far no order names one.
+pub record State : Type 0 where
+  pub world : World
+  pub receivers : List Receiver
+
+-- over these rows at the start
+abbrev pub begun : List Entry → State
+begun rows = record { world = start rows; receivers = [] }
+
+-- what is told of an order: its text, the rows that are kept for it, whether it is refused, and the
+-- files that are asked for
+pub record Answer : Type 0 where
+  pub text : List ℕ
+  pub rows : List Entry
+  pub refused : Bool
+  pub asks : List (List ℕ)
+
+-- an order's answer, and what is kept in mind after it
+pub record Turn : Type 0 where
+  pub answer : Answer
+  pub state : State
+
+-- Files
+
+-- what a name holds
+abbrev pub holding_of : loading.Holding → Holding
+holding_of (loading.holds bytes) = holds bytes
+holding_of loading.is_missing = is_missing
+holding_of loading.is_too_large = is_too_large
+
+abbrev pub content_by : Held → List ℕ → Holding
+content_by held file = holding_of (holding_by (held file))
+
+-- The files are asked for in order, each once, up to the first that is missing, too large or no rule
+-- file.
+abbrev pub asks_after : Result NamedFile Report → List (List ℕ) → List (List ℕ)
+asks_after (Ok f) more = more
+asks_after (Err refusal) more = []
+
+abbrev pub asks_for : (List ℕ → Holding) → List FileToLoad → List (List ℕ)
+asks_for content [] = []
+asks_for content (f ∷ files) = f.file ∷ asks_after (file_found f (content f.file)) (asks_for content files)
+
+-- none is asked for where the time is before that of the last event
+abbrev pub asks_in_time : Option ℕ → ℕ → List (List ℕ) → List (List ℕ)
+asks_in_time None time asks = asks
+asks_in_time (Some last) time asks = cond (nat_lt time last) [] asks
+
+-- Orders
+
+-- what an order comes to in the world, where it is one
+abbrev pub step_of : Held → World → Order → Option Step
+step_of held w (order.Event e) = Some (next of_a_run w e)
+step_of held w (order.Reload time files) = Some (reload_asked of_a_run w time (content_by held) files)
+step_of held w order.Bad = None
+
+-- the files that are asked for
+abbrev pub order_asks : Held → World → Order → List (List ℕ)
+order_asks held w (order.Event e) = []
+order_asks held w (order.Reload time files) = asks_in_time w.last time (asks_for (content_by held) files)
+order_asks held w order.Bad = []
+
+-- An order is answered by its report. What spells no order is refused with the number of its line,
+-- and changes nothing. So far no order sends notices.
+abbrev pub turn_by : State → ℕ → Option Step → List (List ℕ) → Turn
+turn_by s number None asks = record { answer = record { text = bad_line_text number; rows = []; refused = true; asks = asks }; state = s }
+turn_by s number (Some step) asks = record {
+  answer = record { text = shown_report step.report; rows = step.rows; refused = step.refused; asks = asks };
+  state = record { world = step.world; receivers = s.receivers };
+}
+
+unfoldable pub turn : Held → State → Numbered → Turn
+turn held s o = turn_by s o.number (step_of held s.world o.order) (order_asks held s.world o.order)
+
+-- the answers to orders, one after another
+abbrev pub answers : Held → State → List Numbered → List Answer
+answers held s [] = []
+answers held s (o ∷ orders) = (turn held s o).answer ∷ answers held (turn held s o).state orders
+
+-- the answers to all orders of an input, over these rows at the start
+abbrev pub answers_to : Held → List Entry → List ℕ → List Answer
+answers_to held rows bytes = answers held (begun rows) (orders_of (lines_of bytes))
+
+-- the files that are asked for
+abbrev pub asks_of : List Answer → List (List ℕ)
+asks_of answered = flat_map (λ (a : Answer). a.asks) answered
+
+-- the line that a run begins with, and then the texts of answers
+unfoldable pub told_of : List Entry → List Answer → List ℕ
+told_of rows answered = shown_report (Opened (length rows)) ++ flat_map (λ (a : Answer). a.text) answered
+
+-- The only line where a row at the start is bad, and the last one where a run that begins anew finds
+-- one.
+unfoldable pub bad_row_text : ℕ → List ℕ
+bad_row_text index = codes "bad row " ++ (decimal index ++ codes "\n")
+
+-- the entries that are kept after answers: those at the start, and those of the answers
+abbrev pub kept_after : List Entry → List Answer → List Entry
+kept_after rows answered = rows ++ flat_map (λ (a : Answer). a.rows) answered
+
+abbrev pub any_refused : List Answer → Bool
+any_refused answered = list_any (λ (a : Answer). a.refused) answered
+
+-- what a run writes that reads these bytes, the entries that it keeps, and whether it refuses an order
+abbrev pub told : Held → List Entry → List ℕ → List ℕ
+told held rows bytes = told_of rows (answers_to held rows bytes)
+
+abbrev pub kept : Held → List Entry → List ℕ → List Entry
+kept held rows bytes = kept_after rows (answers_to held rows bytes)
+
+abbrev pub refuses : Held → List Entry → List ℕ → Bool
+refuses held rows bytes = any_refused (answers_to held rows bytes)
+
+-- what is kept in mind after orders
+abbrev pub state_after : Held → State → List Numbered → State
+state_after held s [] = s
+state_after held s (o ∷ orders) = state_after held (turn held s o).state orders

@@ -1,0 +1,12 @@
+//! The command `run`: the orders of a script, answered one after another over the rows of a store.
+#![tactic(auto)]
+
+mod examples;
+mod files;
+mod running;
+mod session;
+mod worlds;
+
+pub use examples::a_value_is_told_for_five_minutes;
+pub use running::run;
+pub use worlds::Worlds;

@@ -1,0 +1,291 @@
+// A run of the script, order by order.
+ghost use Rattle.std.specs.Prelude.{◌≡◌, ◌++◌, ◌||◌, ℕ, List, length, nat_lt, false, true, Some, IfSome, IfNone, IsSome, OnOk, IfErr};
+ghost use Rattle.pr_status.specs.Ends.{Ends};
+ghost use Rattle.pr_status.specs.Outside.{AreTold, Held, Outside};
+ghost use Rattle.pr_world.specs.Outcome.{is_refusal};
+ghost use Rattle.pr_world.specs.Settings.{of_a_run};
+ghost use Rattle.pr_world.specs.Loading.{reload_asked};
+ghost use Rattle.pr_world.specs.Step.{next};
+ghost use Rattle.pr_world.specs.World.{World};
+ghost use Rattle.pr_text.specs.Printed.{bad_line_text, shown_report};
+ghost use Rattle.pr_script.specs.declared.order.Order.TheVariants as order;
+ghost use Rattle.pr_run.specs.Events.{HasDistinctFiles, has_files};
+ghost use Rattle.pr_run.specs.Keeping.{KeepsProgress, Progress};
+ghost use Rattle.pr_run.specs.Rows.{IsBadIn};
+ghost use Rattle.pr_run.specs.Standing.{Answers, Gives, Grows, Leaves};
+ghost use Rattle.pr_run.specs.Times.{IsNotBefore};
+ghost use Rattle.pr_run.specs.Told.{asks_for, asks_in_time, content_by, turn};
+
+use crate::files::load_files;
+use crate::worlds::Worlds;
+use pr_outside::{Files, Keeper};
+use pr_script::{FilesToLoad, Numbered, Order};
+use pr_status::Stop;
+use pr_text::{push_bad_line, push_report};
+use pr_time::Ms;
+use pr_world::{Event, Report};
+use std::alloc::{AllocError, Global};
+use std::marker::Model;
+
+fn is_refusal(report: &Report) -> bool
+    ensures { result ≡ is_refusal report.now }
+{
+    match report {
+        Report::NoGroup { .. }
+        | Report::NotLater { .. }
+        | Report::Missing { .. }
+        | Report::TooLarge { .. }
+        | Report::Refused { .. }
+        | Report::QueryRefused { .. }
+        | Report::Backwards { .. } => true,
+        Report::Opened { .. }
+        | Report::Added
+        | Report::Same
+        | Report::OutOfOrder { .. }
+        | Report::Conflict { .. }
+        | Report::Scraped { .. }
+        | Report::BadScrape { .. }
+        | Report::Failed { .. }
+        | Report::Gone { .. }
+        | Report::Evaluated { .. }
+        | Report::Reloaded { .. }
+        | Report::Restarted { .. }
+        | Report::Alerts { .. }
+        | Report::Scalar { .. }
+        | Report::Vector { .. }
+        | Report::QueryFault { .. } => false,
+    }
+}
+
+// Whether an event has files. Those of an order are only named.
+fn has_files(event: &Event) -> bool
+    ensures value { result ≡ has_files event.now }
+    ensures distinct { result ≡ false → HasDistinctFiles event.now }
+{
+    match event {
+        Event::Reload { .. } => true,
+        _ => false,
+    }
+}
+
+// The time of the last event, where another time is before it.
+fn last_behind(last: Option<Ms>, time: Ms) -> Option<Ms>
+    ensures some { IfSome result (λ l. (last ≡ Some l) × (nat_lt time l ≡ true)) }
+    ensures none { IfNone result (IsNotBefore last time) }
+{
+    match last {
+        Some(last) if time.get() < last.get() => Some(last),
+        _ => None,
+    }
+}
+
+/// A run of the script. Contracts see what it keeps.
+#[derive(Drop)]
+pub(crate) struct Session<E> {
+    kept: E,
+    refused: bool,
+}
+
+impl<E> Model for Session<E> {
+    ghost use Rattle.pr_run.specs.Keeping.{Run};
+
+    ghost Value = { Run E };
+
+    ghost view = { λ s. record { kept = s.kept; refused = s.refused } };
+}
+
+impl<E: Worlds + Drop> Session<E> {
+    /// No order has come yet.
+    pub(crate) fn new(kept: E) -> Session<E>
+        ensures { (result.kept ≡ kept) × (result.refused ≡ false) }
+    {
+        Session {
+            kept,
+            refused: false,
+        }
+    }
+
+    /// Whether an order was refused.
+    pub(crate) fn has_refused(&self) -> bool
+        ensures { result ≡ self.now.refused }
+    {
+        self.refused
+    }
+
+    // Takes an event.
+    fn take_event<K: Keeper>(
+        &mut self,
+        alloc: Global,
+        event: Event,
+        keeper: &mut K,
+    ) -> Result<Report, Stop>
+        requires { HasDistinctFiles event }
+        ensures gives { (others : Outside) (w : World) → E.stands_for self.old.kept (K.means keeper.old) w → IsSome (K.means keeper.new).rows
+            → Gives E.stands_for w (next of_a_run w event) 0 (record others { store = K.means keeper.old }) (record others { store = K.means keeper.new }) self.new.kept result }
+        ensures refused { self.new.refused ≡ self.old.refused }
+        ensures grows { (w : World) → E.stands_for self.old.kept (K.means keeper.old) w → IsSome (K.means keeper.new).rows → Grows E.stands_for w.history (K.means keeper.new) self.new.kept result }
+        ensures told { IsSome (K.means keeper.new).rows → IsSome (K.means keeper.old).rows }
+        ensures ends { (others : Outside) → Ends (IsBadIn (K.means keeper.new)) ⊥ (record others { store = K.means keeper.old }) (record others { store = K.means keeper.new }) result }
+    {
+        self.kept.answer(alloc, keeper, event)
+    }
+
+    // Loads files whose time is not before that of the last event, and takes them.
+    fn take_files<F: Files, K: Keeper>(
+        &mut self,
+        alloc: Global,
+        time: Ms,
+        names: &FilesToLoad,
+        files: &mut F,
+        keeper: &mut K,
+    ) -> Result<Report, Stop>
+        ensures gives { (others : Outside) (held : Held) (w : World) → E.stands_for self.old.kept (K.means keeper.old) w → IsNotBefore w.last time
+            → AreTold (F.means files.old).content held (asks_for (content_by held) names.now) → IsSome (K.means keeper.new).rows
+            → Gives E.stands_for w (reload_asked of_a_run w time (content_by held) names.now) (length (asks_for (content_by held) names.now))
+            (record others { files = F.means files.old; store = K.means keeper.old }) (record others { files = F.means files.new; store = K.means keeper.new }) self.new.kept result }
+        ensures refused { self.new.refused ≡ self.old.refused }
+        ensures grows { (w : World) → E.stands_for self.old.kept (K.means keeper.old) w → IsSome (K.means keeper.new).rows → Grows E.stands_for w.history (K.means keeper.new) self.new.kept result }
+        ensures told { IsSome (K.means keeper.new).rows → IsSome (K.means keeper.old).rows }
+        ensures same { (other : List ℕ) → (F.means files.new).content other ≡ (F.means files.old).content other }
+        ensures ends { (others : Outside) → Ends (IsBadIn (K.means keeper.new)) ⊥ (record others { files = F.means files.old; store = K.means keeper.old })
+            (record others { files = F.means files.new; store = K.means keeper.new }) result }
+    {
+        match load_files(alloc, names.as_slice(), files)? {
+            Ok(files) => self.take_event(alloc, Event::Reload { time, files }, keeper),
+            Err(refusal) => Ok(refusal),
+        }
+    }
+
+    // Takes a reload. Its time is looked at before its files are.
+    fn take_reload<F: Files, K: Keeper>(
+        &mut self,
+        alloc: Global,
+        time: Ms,
+        names: &FilesToLoad,
+        files: &mut F,
+        keeper: &mut K,
+    ) -> Result<Report, Stop>
+        ensures gives { (others : Outside) (held : Held) (w : World) → E.stands_for self.old.kept (K.means keeper.old) w
+            → AreTold (F.means files.old).content held (asks_in_time w.last time (asks_for (content_by held) names.now)) → IsSome (K.means keeper.new).rows
+            → Gives E.stands_for w (reload_asked of_a_run w time (content_by held) names.now) (length (asks_in_time w.last time (asks_for (content_by held) names.now)))
+            (record others { files = F.means files.old; store = K.means keeper.old }) (record others { files = F.means files.new; store = K.means keeper.new }) self.new.kept result }
+        ensures refused { self.new.refused ≡ self.old.refused }
+        ensures grows { (w : World) → E.stands_for self.old.kept (K.means keeper.old) w → IsSome (K.means keeper.new).rows → Grows E.stands_for w.history (K.means keeper.new) self.new.kept result }
+        ensures told { IsSome (K.means keeper.new).rows → IsSome (K.means keeper.old).rows }
+        ensures same { (other : List ℕ) → (F.means files.new).content other ≡ (F.means files.old).content other }
+        ensures ends { (others : Outside) → Ends (IsBadIn (K.means keeper.new)) ⊥ (record others { files = F.means files.old; store = K.means keeper.old })
+            (record others { files = F.means files.new; store = K.means keeper.new }) result }
+    {
+        match last_behind(self.kept.last(), time) {
+            Some(last) => Ok(Report::Backwards { last, given: time }),
+            None => self.take_files(alloc, time, names, files, keeper),
+        }
+    }
+
+    // Appends a report.
+    fn tell(&mut self, text: &mut Vec<u8>, report: &Report) -> Result<(), AllocError>
+        ensures text { OnOk result (text.new.items ≡ text.old.items ++ shown_report report.now) }
+        ensures refused { self.new.refused ≡ (self.old.refused || is_refusal report.now) }
+        ensures kept { self.new.kept ≡ self.old.kept }
+    {
+        self.refused = self.refused || is_refusal(report);
+        push_report(text, report)
+    }
+
+    // Takes an order that is an event, and appends the answer to it.
+    fn take_event_order<K: Keeper>(
+        &mut self,
+        alloc: Global,
+        text: &mut Vec<u8>,
+        event: Event,
+        keeper: &mut K,
+    ) -> Result<(), Stop>
+        ensures answers { (others : Outside) (held : Held) (p : Progress) (number : ℕ) → KeepsProgress E.stands_for self.old (K.means keeper.old) p
+            → IsSome (K.means keeper.new).rows
+            → OnOk result (Answers E.stands_for held p (record { number = number; order = order.Event event }) (record others { store = K.means keeper.old }) (record others { store = K.means keeper.new }) self.new text.old.items text.new.items) }
+        ensures leaves { (others : Outside) (held : Held) (p : Progress) (number : ℕ) → KeepsProgress E.stands_for self.old (K.means keeper.old) p
+            → IsSome (K.means keeper.new).rows
+            → IfErr result (Leaves (turn held p.state (record { number = number; order = order.Event event })) p.state.world.history (record others { store = K.means keeper.old }) (record others { store = K.means keeper.new })) }
+        ensures grows { (w : World) → E.stands_for self.old.kept (K.means keeper.old) w → IsSome (K.means keeper.new).rows → Grows E.stands_for w.history (K.means keeper.new) self.new.kept result }
+        ensures told { IsSome (K.means keeper.new).rows → IsSome (K.means keeper.old).rows }
+        ensures ends { (others : Outside) → Ends (IsBadIn (K.means keeper.new)) ⊥ (record others { store = K.means keeper.old }) (record others { store = K.means keeper.new }) result }
+    {
+        // The reader makes no such order.
+        if has_files(&event) {
+            return Err(Stop::Memory);
+        }
+        let report = self.take_event(alloc, event, keeper)?;
+        self.tell(text, &report)?;
+        Ok(())
+    }
+
+    // Takes an order that names files, and appends the answer to it.
+    fn take_files_order<F: Files, K: Keeper>(
+        &mut self,
+        alloc: Global,
+        text: &mut Vec<u8>,
+        time: Ms,
+        names: FilesToLoad,
+        files: &mut F,
+        keeper: &mut K,
+    ) -> Result<(), Stop>
+        ensures answers { (others : Outside) (held : Held) (p : Progress) (number : ℕ) → KeepsProgress E.stands_for self.old (K.means keeper.old) p
+            → AreTold (F.means files.old).content held (turn held p.state (record { number = number; order = order.Reload time names })).answer.asks → IsSome (K.means keeper.new).rows
+            → OnOk result (Answers E.stands_for held p (record { number = number; order = order.Reload time names }) (record others { files = F.means files.old; store = K.means keeper.old }) (record others { files = F.means files.new; store = K.means keeper.new }) self.new text.old.items text.new.items) }
+        ensures leaves { (others : Outside) (held : Held) (p : Progress) (number : ℕ) → KeepsProgress E.stands_for self.old (K.means keeper.old) p
+            → AreTold (F.means files.old).content held (turn held p.state (record { number = number; order = order.Reload time names })).answer.asks → IsSome (K.means keeper.new).rows
+            → IfErr result (Leaves (turn held p.state (record { number = number; order = order.Reload time names })) p.state.world.history (record others { files = F.means files.old; store = K.means keeper.old }) (record others { files = F.means files.new; store = K.means keeper.new })) }
+        ensures grows { (w : World) → E.stands_for self.old.kept (K.means keeper.old) w → IsSome (K.means keeper.new).rows → Grows E.stands_for w.history (K.means keeper.new) self.new.kept result }
+        ensures told { IsSome (K.means keeper.new).rows → IsSome (K.means keeper.old).rows }
+        ensures same { (other : List ℕ) → (F.means files.new).content other ≡ (F.means files.old).content other }
+        ensures ends { (others : Outside) → Ends (IsBadIn (K.means keeper.new)) ⊥ (record others { files = F.means files.old; store = K.means keeper.old })
+            (record others { files = F.means files.new; store = K.means keeper.new }) result }
+    {
+        let report = self.take_reload(alloc, time, &names, files, keeper)?;
+        self.tell(text, &report)?;
+        Ok(())
+    }
+
+    // Refuses a line that spells no order.
+    fn refuse_line(&mut self, text: &mut Vec<u8>, number: u64) -> Result<(), Stop>
+        ensures text { OnOk result (text.new.items ≡ text.old.items ++ bad_line_text number) }
+        ensures refused { OnOk result (self.new.refused ≡ true) }
+        ensures kept { self.new.kept ≡ self.old.kept }
+        ensures memory { IfErr result (λ s. s ≡ Stop.Memory) }
+    {
+        self.refused = true;
+        push_bad_line(text, number)?;
+        Ok(())
+    }
+
+    /// Takes an order, and appends the answer to it.
+    pub(crate) fn take_order<F: Files, K: Keeper>(
+        &mut self,
+        alloc: Global,
+        text: &mut Vec<u8>,
+        order: Numbered,
+        files: &mut F,
+        keeper: &mut K,
+    ) -> Result<(), Stop>
+        ensures answers { (others : Outside) (held : Held) (p : Progress) → KeepsProgress E.stands_for self.old (K.means keeper.old) p
+            → AreTold (F.means files.old).content held (turn held p.state order).answer.asks → IsSome (K.means keeper.new).rows
+            → OnOk result (Answers E.stands_for held p order (record others { files = F.means files.old; store = K.means keeper.old }) (record others { files = F.means files.new; store = K.means keeper.new }) self.new text.old.items text.new.items) }
+        ensures leaves { (others : Outside) (held : Held) (p : Progress) → KeepsProgress E.stands_for self.old (K.means keeper.old) p
+            → AreTold (F.means files.old).content held (turn held p.state order).answer.asks → IsSome (K.means keeper.new).rows
+            → IfErr result (Leaves (turn held p.state order) p.state.world.history (record others { files = F.means files.old; store = K.means keeper.old }) (record others { files = F.means files.new; store = K.means keeper.new })) }
+        ensures grows { (w : World) → E.stands_for self.old.kept (K.means keeper.old) w → IsSome (K.means keeper.new).rows → Grows E.stands_for w.history (K.means keeper.new) self.new.kept result }
+        ensures told { IsSome (K.means keeper.new).rows → IsSome (K.means keeper.old).rows }
+        ensures same { (other : List ℕ) → (F.means files.new).content other ≡ (F.means files.old).content other }
+        ensures ends { (others : Outside) → Ends (IsBadIn (K.means keeper.new)) ⊥ (record others { files = F.means files.old; store = K.means keeper.old })
+            (record others { files = F.means files.new; store = K.means keeper.new }) result }
+    {
+        let Numbered { number, order } = order;
+        match order {
+            Order::Event { event } => self.take_event_order(alloc, text, event, keeper),
+            Order::Reload { time, files: names } => {
+                self.take_files_order(alloc, text, time, names, files, keeper)
+            }
+            Order::Bad => self.refuse_line(text, number),
+        }
+    }
+}

@@ -1,0 +1,71 @@
+// Orders: what the lines of a script ask for.
+ghost use Rattle.std.specs.Prelude.{◌≡◌, IfOk};
+ghost use Rattle.pr_script.specs.Orders.{event_order};
+ghost use Rattle.pr_script.specs.Started.{Starts};
+
+use super::file_names::FilesToLoad;
+use super::reloads::reload_in;
+use super::script::{Occasion, occasion_of, whole_event};
+use pr_labels::Labels;
+use pr_time::Ms;
+use pr_words::{split_first, without_trailing};
+use pr_world::Event;
+use std::alloc::{AllocError, Global};
+
+/// What a line of a script asks for.
+#[derive(Debug, Drop)]
+pub enum Order {
+    /// Something happens in the world.
+    Event { event: Event },
+    /// The rule files of these names are to be loaded, and to take the place of all of before. No two
+    /// of them are known by one name.
+    Reload { time: Ms, files: FilesToLoad },
+    /// The line spells no order, and is refused.
+    Bad,
+}
+
+/// An order with the number of its line among the lines of the input, from 1.
+#[derive(Debug, Drop)]
+pub struct Numbered {
+    pub number: u64,
+    pub order: Order,
+}
+
+/// The order of a line, as far as the line alone tells it.
+#[derive(Debug, Drop)]
+pub enum Started {
+    /// The line is the whole order.
+    Whole { order: Order },
+    /// A scrape, whose body is what the body lines behind this line give.
+    Scrape { time: Ms, target: Labels },
+}
+
+fn whole_order(event: Option<Event>) -> Order
+    ensures { result ≡ event_order event }
+{
+    match event {
+        Some(event) => Order::Event { event },
+        None => Order::Bad,
+    }
+}
+
+/// Reads the order of a line, without its line feed, that is not passed over. Want of memory alone
+/// is an error.
+#[tactic(auto, unfolding(crate::specs::Script::takes_body))]
+pub fn read_order(alloc: Global, line: &[u8]) -> Result<Started, AllocError>
+    ensures { IfOk result (Starts line.now) }
+{
+    let (word, text) = split_first(without_trailing(line));
+    if word == b"scrape".as_slice() {
+        return match occasion_of(alloc, text)? {
+            Some(Occasion { time, target }) => Ok(Started::Scrape { time, target }),
+            None => Ok(Started::Whole { order: Order::Bad }),
+        };
+    }
+    if word == b"reload".as_slice() {
+        let order = reload_in(alloc, text)?;
+        return Ok(Started::Whole { order });
+    }
+    let order = whole_order(whole_event(alloc, word, text)?);
+    Ok(Started::Whole { order })
+}
