@@ -30,22 +30,25 @@ fn push_checking(text: &mut Vec<u8>, name: &str) -> Result<(), AllocError>
     text.extend_from_slice(b"\n")
 }
 
+/// Appends the line that says that a file is refused. Want of memory alone is an error.
 #[tactic(auto, unfolding(crate::specs::RuleFiles::failed_line))]
-fn push_failed(text: &mut Vec<u8>) -> Result<(), AllocError>
+pub fn push_failed(text: &mut Vec<u8>) -> Result<(), AllocError>
     ensures { OnOk result (text.new.items ≡ text.old.items ++ failed_line) }
 {
     text.extend_from_slice(b"  FAILED:\n")
 }
 
+/// What is told behind the name of a file that is not there.
 #[tactic(auto, unfolding(crate::specs::RuleFiles::missing))]
-fn missing() -> &'static [u8]
+pub fn missing() -> &'static [u8]
     ensures { result.now ≡ missing }
 {
     b": Missing\n"
 }
 
+/// What is told behind the name of a file that is too large.
 #[tactic(auto, unfolding(crate::specs::RuleFiles::too_large))]
-fn too_large() -> &'static [u8]
+pub fn too_large() -> &'static [u8]
     ensures { result.now ≡ too_large }
 {
     b": TooLarge\n"
@@ -82,7 +85,8 @@ fn push_success(text: &mut Vec<u8>, count: u64) -> Result<(), AllocError>
     text.extend_from_slice(rules_found())
 }
 
-fn push_lines(text: &mut Vec<u8>, name: &str, problems: &[Problem]) -> Result<(), AllocError>
+/// Appends the problems of a file with this name, each on a line. Want of memory alone is an error.
+pub fn push_lines(text: &mut Vec<u8>, name: &str, problems: &[Problem]) -> Result<(), AllocError>
     ensures { OnOk result (text.new.items ≡ text.old.items ++ flat_map (problem_line name.now) problems.now) }
 {
     for problem in problems {

@@ -8,8 +8,7 @@ use Rattle.pr_time.specs.SpanShown.{shown_span}
 use Rattle.pr_labels.specs.declared.item.Item.{Item}
 use Rattle.pr_labels.specs.SeriesText.{series_text, list_text}
 use Rattle.pr_lineage.specs.declared.found.Found.{Found}
-use Rattle.pr_text.specs.Faults.{fault_text}
-use Rattle.pr_text.specs.Values.{place_text}
+use Rattle.pr_text.specs.Printed.{query_fault_text}
 use Rattle.pr_testfile.specs.Tests.{PlainTest}
 use Rattle.pr_testfile.specs.File.{PlainFile}
 use Rattle.pr_verdict.specs.declared.failure.Shown.{Shown}
@@ -32,15 +31,16 @@ alert_line word f = line word (series_text f.labels ++ (codes " " ++ list_text f
 abbrev pub sample_line : List ℕ → Item Num → List ℕ
 sample_line word s = line word (series_text s.labels ++ (codes " " ++ shown s.value))
 
-abbrev pub lines_or_nothing : List ℕ → List ℕ → List ℕ
-lines_or_nothing word [] = line word (codes "nothing")
-lines_or_nothing word (b ∷ lines) = b ∷ lines
+-- a line for each, or one where there is none
+abbrev pub lines_or_nothing : {T : Type 0} → List ℕ → (T → List ℕ) → List T → List ℕ
+lines_or_nothing word shows [] = line word (codes "nothing")
+lines_or_nothing word shows (x ∷ list) = flat_map shows (x ∷ list)
 
 -- a line for each alert or sample, or for a fault
 abbrev pub shown_lines : List ℕ → Shown → List ℕ
-shown_lines word (Alerts list) = lines_or_nothing word (flat_map (alert_line word) list)
-shown_lines word (Samples list) = lines_or_nothing word (flat_map (sample_line word) list)
-shown_lines word (Fault place kind) = word ++ (codes "fault " ++ (fault_text kind ++ place_text place.start))
+shown_lines word (Alerts list) = lines_or_nothing word (alert_line word) list
+shown_lines word (Samples list) = lines_or_nothing word (sample_line word) list
+shown_lines word (Fault place kind) = word ++ query_fault_text place.start kind
 
 -- the kind of a check, and its time
 abbrev pub kind_of : Shown → List ℕ

@@ -1,5 +1,5 @@
 -- What `test rules` tells of a file.
-use Rattle.std.specs.Prelude.{ℕ, true, false, List, [], ◌∷◌, ◌++◌, codes, flat_map}
+use Rattle.std.specs.Prelude.{ℕ, Bool, true, false, List, [], ◌∷◌, ◌++◌, codes, flat_map}
 use Rattle.pr_status.specs.Outside.{Held}
 use Rattle.pr_check_loops.specs.FileChecks.{Told}
 use Rattle.pr_loading.specs.Loading.{Holding, holds, is_missing, is_too_large, holding_by}
@@ -12,6 +12,24 @@ use Rattle.pr_testfile.specs.Reading.{TestReading, gives_file as reads_file, giv
 use Rattle.pr_verdict.specs.RuleFiles.{rule_file_names}
 use Rattle.pr_verdict.specs.Verdict.{verdict}
 use Rattle.pr_test_texts.specs.FailureText.{failure_text}
+
+-- The test file
+
+-- what a name of a test file comes to: its tests, or the lines of what is wrong
+pub data TestsFound : Type 0 where
+  these_tests : PlainFile → TestsFound
+  no_tests : List ℕ → TestsFound
+
+abbrev pub tests_by : List ℕ → TestReading → TestsFound
+tests_by name (reads_file f) = these_tests f
+tests_by name (has_problems list) = no_tests (flat_map (problem_line name) list)
+
+abbrev pub tests_in : List ℕ → Holding → TestsFound
+tests_in name is_missing = no_tests (name ++ missing)
+tests_in name is_too_large = no_tests (name ++ too_large)
+tests_in name (holds bytes) = tests_by name (test_file_of bytes)
+
+-- The rule files
 
 -- the lines of what is wrong with rule files, and the groups of those with which nothing is
 pub record RulesLoaded : Type 0 where
@@ -38,6 +56,8 @@ abbrev pub all_rules : Held → List (List ℕ) → RulesLoaded
 all_rules held [] = none_loaded []
 all_rules held (name ∷ names) = and_rules (rules_held name (holding_by (held name))) (all_rules held names)
 
+-- Both
+
 -- No test is run where something is wrong with a rule file.
 abbrev pub lines_by : PlainFile → List LoadedFile → List ℕ → List ℕ
 lines_by f files [] = flat_map (failure_text f) (verdict f files)
@@ -47,34 +67,37 @@ abbrev pub lines_with : PlainFile → RulesLoaded → List ℕ
 lines_with f r = lines_by f r.files r.wrong
 
 -- the rule files that are asked for, and the lines that are told
-abbrev pub names_by : List ℕ → TestReading → List (List ℕ)
-names_by name (reads_file f) = rule_file_names name f.rule_files
-names_by name (has_problems list) = []
+abbrev pub rule_names : List ℕ → TestsFound → List (List ℕ)
+rule_names name (these_tests f) = rule_file_names name f.rule_files
+rule_names name (no_tests lines) = []
 
-abbrev pub reading_lines : Held → List ℕ → TestReading → List ℕ
-reading_lines held name (reads_file f) = lines_with f (all_rules held (rule_file_names name f.rule_files))
-reading_lines held name (has_problems list) = flat_map (problem_line name) list
+abbrev pub lines_of : Held → List ℕ → TestsFound → List ℕ
+lines_of held name (these_tests f) = lines_with f (all_rules held (rule_file_names name f.rule_files))
+lines_of held name (no_tests lines) = lines
 
 unfoldable pub success_line : List ℕ
 success_line = codes "  SUCCESS\n"
 
 -- Lines are a failure.
-abbrev pub told_by : List (List ℕ) → List ℕ → Told
-told_by asks [] = record { text = success_line; refused = false; asks = asks }
-told_by asks (b ∷ lines) = record { text = problems_text (b ∷ lines); refused = true; asks = asks }
+abbrev pub lines_text : List ℕ → List ℕ
+lines_text [] = success_line
+lines_text (b ∷ lines) = problems_text (b ∷ lines)
 
-abbrev pub tests_held : Held → List ℕ → Holding → Told
-tests_held held name is_missing = told_by [] (name ++ missing)
-tests_held held name is_too_large = told_by [] (name ++ too_large)
-tests_held held name (holds bytes) = told_by (names_by name (test_file_of bytes)) (reading_lines held name (test_file_of bytes))
+abbrev pub are_failures : List ℕ → Bool
+are_failures [] = false
+are_failures (b ∷ lines) = true
 
 unfoldable pub testing_text : List ℕ → List ℕ
 testing_text name = codes "Unit Testing:  " ++ (name ++ codes "\n")
 
-abbrev pub after_name : List ℕ → Told → Told
-after_name name t = record { text = testing_text name ++ t.text; refused = t.refused; asks = name ∷ t.asks }
+abbrev pub told_of : Held → List ℕ → TestsFound → Told
+told_of held name found = record {
+  text = testing_text name ++ lines_text (lines_of held name found);
+  refused = are_failures (lines_of held name found);
+  asks = name ∷ rule_names name found;
+}
 
 -- The name of the file on a line, and then that all expectations are met, or what is wrong. The file
 -- is asked for, and then its rule files, where it is a test file.
 abbrev pub tests_told : Held → List ℕ → Told
-tests_told held name = after_name name (tests_held held name (holding_by (held name)))
+tests_told held name = told_of held name (tests_in name (holding_by (held name)))

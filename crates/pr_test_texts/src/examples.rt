@@ -2,10 +2,9 @@
 ghost use Rattle.std.specs.Prelude.{◌≡◌, true, false, [], ◌∷◌, codes};
 ghost use Rattle.pr_num.specs.declared.value.Num.TheVariants.{NaN};
 ghost use Rattle.pr_history.specs.Examples.{number};
-ghost use Rattle.pr_testfile.specs.Reading.{gives_file};
 ghost use Rattle.pr_verdict.specs.Worked.{down_failure, down_file, down_tests, x_failure, x_file};
 ghost use Rattle.pr_test_texts.specs.FailureText.{failure_text};
-ghost use Rattle.pr_test_texts.specs.TestsTold.{lines_with, names_by, reading_lines, tests_told, told_by};
+ghost use Rattle.pr_test_texts.specs.TestsTold.{lines_with, tests_told, these_tests, told_of};
 ghost use Rattle.pr_test_texts.specs.Worked.{nothing_held};
 
 /// A check is told with its time, what is expected and what comes.
@@ -15,14 +14,14 @@ pub fn failures_are_printed_so()
     ensures alert { failure_text (down_tests 240000) down_failure ≡ codes "test 1 alert 1 at 4m\nexpected {alertname=\"InstanceDown\",instance=\"localhost:9090\",job=\"prometheus\",severity=\"page\"} {summary=\"Instance localhost:9090 down\"}\ngot nothing\n" }
 {}
 
-/// Checks that differ are told as they are, and else that all is well.
+/// Checks that differ are told as they are, and else that all is well. No test is run where a rule
+/// file is missing.
 #[tactic(auto, unfolding(crate::proofs::Computing::computing))]
 pub fn a_test_file_is_told()
-    ensures differs { told_by [] (reading_lines nothing_held (codes "t.yml") (gives_file (x_file (number 1) (number 2)))) ≡ record { text = codes "  FAILED:\ntest 1 promql 1 at 0s\nexpected x 2\ngot x 1\n"; refused = true; asks = [] } }
-    ensures same { told_by [] (reading_lines nothing_held (codes "t.yml") (gives_file (x_file NaN NaN))) ≡ record { text = codes "  SUCCESS\n"; refused = false; asks = [] } }
-    ensures fires { told_by [] (lines_with (down_tests 600000) (record { wrong = []; files = down_file ∷ [] })) ≡ record { text = codes "  SUCCESS\n"; refused = false; asks = [] } }
-    ensures asked { names_by (codes "a/t.yml") (gives_file (down_tests 600000)) ≡ codes "a/alerts.yml" ∷ [] }
-    ensures no_rules { told_by [] (reading_lines nothing_held (codes "a/t.yml") (gives_file (down_tests 600000))) ≡ record { text = codes "  FAILED:\na/alerts.yml: Missing\n"; refused = true; asks = [] } }
+    ensures differs { told_of nothing_held (codes "t.yml") (these_tests (x_file (number 1) (number 2))) ≡ record { text = codes "Unit Testing:  t.yml\n  FAILED:\ntest 1 promql 1 at 0s\nexpected x 2\ngot x 1\n"; refused = true; asks = codes "t.yml" ∷ [] } }
+    ensures same { told_of nothing_held (codes "t.yml") (these_tests (x_file NaN NaN)) ≡ record { text = codes "Unit Testing:  t.yml\n  SUCCESS\n"; refused = false; asks = codes "t.yml" ∷ [] } }
+    ensures fires { lines_with (down_tests 600000) (record { wrong = []; files = down_file ∷ [] }) ≡ [] }
+    ensures no_rules { told_of nothing_held (codes "a/t.yml") (these_tests (down_tests 600000)) ≡ record { text = codes "Unit Testing:  a/t.yml\n  FAILED:\na/alerts.yml: Missing\n"; refused = true; asks = codes "a/t.yml" ∷ codes "a/alerts.yml" ∷ [] } }
 {}
 
 /// A test file that is not there is told, and asks for no rule file.

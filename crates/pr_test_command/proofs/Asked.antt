@@ -1,0 +1,107 @@
+-- How many files were asked for, and how the asking ended.
+use Rattle.std.proofs.Common.{◌≡◌, ℕ, suc, ◌<◌, Result, Ok, Err, IsErrAnd, false, refl, ap, sym, ◌∙◌, subst, arith}
+use Rattle.pr_outside.specs.Courses.{GoesOn, course_after}
+use Rattle.pr_outside.specs.Meant.{Folder}
+use Rattle.pr_outside.specs.Schedule.{one_more}
+use Rattle.pr_outside.specs.declared.course.Course.{Course}
+use Rattle.pr_outside.specs.declared.files.FilesError.{FilesError}
+use Rattle.pr_outside.specs.declared.files.FilesError.TheVariants as files
+use Rattle.pr_status.specs.Asks.{Asks, AsksBy}
+use Rattle.pr_status.specs.Ends.{LoadEnds, no_row, stop_of_files}
+use Rattle.pr_status.specs.Outside.{Outside}
+use Rattle.pr_status.specs.declared.status.Stop.{Stop}
+use Rattle.pr_status.specs.declared.status.Stop.TheVariants.{Read, Load, Store, BadRow, Write, Memory, TooLong}
+use Rattle.pr_status.proofs.Ended.{ends_memory, ends_on, in_time_same}
+use Rattle.pr_test_command.specs.Taking.{AreAsked}
+
+one_then : (a b c n : ℕ) → b ≡ one_more a → Asks b c n → Asks a c (suc n)
+one_then a b c n e p = (omega (arith, e, p.0), omega (arith, e, p.0, p.1))
+
+then_one : (a b c n : ℕ) → Asks a b n → c ≡ one_more b → Asks a c (suc n)
+then_one a b c n p e = (omega (arith, e, p.0), omega (arith, e, p.0, p.1))
+
+pub none_asked : (a n : ℕ) → AreAsked a a n n
+none_asked a n = record { done = 0; asked = (omega arith, omega arith); count = omega arith }
+
+pub next_asked : (a b c all rest : ℕ) → AreAsked a b all (suc rest) → c ≡ one_more b → AreAsked a c all rest
+next_asked a b c all rest p e = record { done = suc p.done; asked = then_one a b c p.done p.asked e; count = omega (arith, p.count) }
+
+pub all_asked : (a b all rest : ℕ) → rest ≡ 0 → AreAsked a b all rest → Asks a b all
+all_asked a b all rest none p = let n : p.done ≡ all = omega (arith, none, p.count) in subst (Asks a b) n p.asked
+
+-- a load that failed, or had not the memory, was one of so many
+pub load_stopped : (T : Type 0) (a b all rest : ℕ) (r : Result T Stop) (e : FilesError) → IsErrAnd r (λ s. s ≡ stop_of_files e) → AreAsked a b all rest → rest < all
+    → AsksBy a b all r
+load_stopped T a b all rest (Ok x) e h p lt = absurd h
+load_stopped T a b all rest (Err s) e h p lt = subst (λ (z : Stop). AsksBy {T = T} a b all (Err z)) (sym h) (by e)
+  where
+    by : (e : FilesError) → AsksBy {T = T} a b all (Err (stop_of_files e))
+    by files.Failed = (p.done, p.asked, omega (arith, p.count, lt), omega (arith, p.count))
+    by files.Memory = (p.done, p.asked, omega (arith, p.count))
+
+pub memory_stopped : (T : Type 0) (a b all rest : ℕ) (r : Result T Stop) → IsErrAnd r (λ s. s ≡ Memory) → AreAsked a b all rest → AsksBy a b all r
+memory_stopped T a b all rest (Ok x) h p = absurd h
+memory_stopped T a b all rest (Err s) h p = subst (λ (z : Stop). AsksBy {T = T} a b all (Err z)) (sym h) (p.done, p.asked, omega (arith, p.count))
+
+-- want of memory behind all loads
+pub memory_behind : (T : Type 0) (a b all : ℕ) (r : Result T Stop) → IsErrAnd r (λ s. s ≡ Memory) → Asks a b all → AsksBy a b all r
+memory_behind T a b all (Ok x) h p = absurd h
+memory_behind T a b all (Err s) h p = subst (λ (z : Stop). AsksBy {T = T} a b all (Err z)) (sym h) (all, p, omega arith)
+
+-- what stopped the loading is handed on
+pub stop_asked : (T U : Type 0) (a b all : ℕ) (r : Result T Stop) (e : Stop) → IsErrAnd r (λ s. s ≡ e) → AsksBy {T = U} a b all (Err e) → AsksBy {T = T} a b all r
+stop_asked T U a b all (Ok x) e h p = absurd h
+stop_asked T U a b all (Err s) e h p = subst (λ (z : Stop). AsksBy {T = T} a b all (Err z)) (sym h) (by e p)
+  where
+    by : (e : Stop) → AsksBy {T = U} a b all (Err e) → AsksBy {T = T} a b all (Err e)
+    by Read p = p
+    by Load p = p
+    by Store p = p
+    by (BadRow index) p = p
+    by Write p = p
+    by Memory p = p
+    by TooLong p = p
+
+-- one file was asked for before
+pub asked_after : (T : Type 0) (a b c n : ℕ) (r : Result T Stop) → b ≡ one_more a → AsksBy b c n r → AsksBy a c (suc n) r
+asked_after T a b c n (Ok x) e p = one_then a b c n e p
+asked_after T a b c n (Err Read) e p = absurd p
+asked_after T a b c n (Err Load) e p = (suc p.0, one_then a b c p.0 e p.1, omega arith, omega (arith, p.3))
+asked_after T a b c n (Err Store) e p = absurd p
+asked_after T a b c n (Err (BadRow index)) e p = absurd p
+asked_after T a b c n (Err Write) e p = one_then a b c n e p
+asked_after T a b c n (Err Memory) e p = (suc p.0, one_then a b c p.0 e p.1, omega (arith, p.2))
+asked_after T a b c n (Err TooLong) e p = absurd p
+
+-- one more call of the files that was not refused
+pub still_going : (a b c : Course) → GoesOn a b → c ≡ course_after b false → GoesOn a c
+still_going a b c going next = λ e. next ∙ ap (λ (k : Course). course_after k false) (going e)
+
+-- the files were asked before, and that was not refused
+pub load_ends_on : (T : Type 0) (x y z : Folder) (r : Result T Stop) → y.faults ≡ x.faults → GoesOn x.course y.course → LoadEnds y z r → LoadEnds x z r
+load_ends_on T x y z (Ok v) calm going p = λ others.
+    let q = p others in
+    record { cause = (q.cause.0, q.cause.1 ∙ calm, q.cause.2, q.cause.3); input = q.input; files = λ e. q.files (going e); out = q.out }
+load_ends_on T x y z (Err s) calm going p = λ others.
+    let a : Outside = record others { files = x } in
+    let b : Outside = record others { files = y } in
+    let c : Outside = record others { files = z } in
+    ends_on T T no_row ⊥ a b c (Err s) s refl (refl, calm, refl, refl) (in_time_same others.input.course) going (λ e. e) (p others)
+
+-- and then memory ran out
+pub memory_ends : (T U : Type 0) (x y : Folder) (v : U) (r : Result T Stop) → IsErrAnd r (λ s. s ≡ Memory) → LoadEnds {T = U} x y (Ok v) → LoadEnds x y r
+memory_ends T U x y v r h first = λ others.
+    let a : Outside = record others { files = x } in
+    let b : Outside = record others { files = y } in
+    let p = first others in
+    ends_on T U no_row ⊥ a b b r Memory h p.cause (in_time_same others.input.course) p.files (λ e. e) (ends_memory U no_row ⊥ b)
+
+-- the end of a part is handed on
+pub stop_ends : (T U : Type 0) (x y : Folder) (r : Result T Stop) (e : Stop) → IsErrAnd r (λ s. s ≡ e) → LoadEnds {T = U} x y (Err e) → LoadEnds x y r
+stop_ends T U x y r e h last = λ others.
+    let a : Outside = record others { files = x } in
+    let b : Outside = record others { files = y } in
+    ends_on T U no_row ⊥ a a b r e h (refl, refl, refl, refl) (in_time_same others.input.course) (λ k. k) (λ k. k) (last others)
+
+pub done_ends : (T U : Type 0) (x y : Folder) (v : U) (w : T) → LoadEnds {T = U} x y (Ok v) → LoadEnds {T = T} x y (Ok w)
+done_ends T U x y v w first = λ others. let p = first others in record { cause = p.cause; input = p.input; files = p.files; out = p.out }

@@ -1,0 +1,4 @@
+pub mod Folders
+pub mod Apart
+pub mod Taken
+pub mod Asked

@@ -1,0 +1,9 @@
+//! The command `test rules`: what it tells of test files.
+#![tactic(auto)]
+
+mod check;
+mod names;
+mod reading;
+mod rules;
+
+pub use check::{RuleTests, test_rules};
