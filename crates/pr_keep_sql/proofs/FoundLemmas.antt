@@ -21,7 +21,8 @@ use Rattle.pr_outside.specs.declared.keeping.Row.{Row as Line}
 use Rattle.pr_keep_sql.specs.Tables.{Has, HasOurs, IsFree, column_of, is_named, kept, kept_schema, schema_of, stored, stored_from, version}
 use Rattle.pr_keep_sql.specs.Kept.{KeepsSo, number_in, text_in, versions}
 use Rattle.pr_keep_sql.specs.Found.{AreFound, IsFoundAt, IsTyped, shown_cells}
-use Rattle.pr_keep_sql.proofs.QueryLemmas.{rows_shown, rows_text}
+use Rattle.pr_keep_sql.specs.Texts.{rows_text}
+use Rattle.pr_keep_sql.proofs.QueryLemmas.{rows_shown}
 use Rattle.pr_keep_sql.proofs.StateLemmas.{told_by}
 
 never : (a b c d : Bool) → (a && (b && (c && (d && false)))) ≡ true → ⊥

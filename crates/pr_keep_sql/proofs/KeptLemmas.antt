@@ -1,5 +1,5 @@
 -- What calls do to the rows that are told.
-use Rattle.std.proofs.Common.{◌≡◌, ℕ, ◌+◌, ◌≤◌, ◌&&◌, Bool, true, false, cond, List, [], ◌++◌, length, Option, Some, None, IfSome, IsTrue, IsSome, refl, sym, ap, subst, ◌∙◌, arith, slice_get, length-append, OnErr, Result, Ok, Err}
+use Rattle.std.proofs.Common.{◌≡◌, ℕ, ◌+◌, ◌≤◌, ◌&&◌, Bool, true, false, cond, List, [], ◌++◌, length, Option, Some, None, IfSome, IsTrue, IsSome, refl, sym, ap, subst, ◌∙◌, arith, slice_get, length-append}
 use Rattle.sqlite.specs.Effect.{Database, IsDatabase}
 use Rattle.sqlite.specs.State.{HasCleanDisk, IsLive, State}
 use Rattle.sqlite.specs.View.{doubt}

@@ -6,5 +6,6 @@ mod QueryLemmas
 mod QueryTexts
 mod OrderLemmas
 mod FoundLemmas
+mod RefusalLemmas
 mod KeptLemmas
 mod OpenedLemmas

@@ -1,5 +1,5 @@
 -- What making the tables does to a database.
-use Rattle.std.proofs.Common.{◌≡◌, ℕ, pos, List, [], ◌∷◌, map, codes, None, Ok, Err, Result, OnOk, refl, sym, ap, subst, ◌∙◌, arith, false, IsTrue}
+use Rattle.std.proofs.Common.{◌≡◌, ℕ, pos, List, [], ◌∷◌, map, None, Ok, Err, Result, OnOk, refl, sym, ap, subst, ◌∙◌, arith, false, IsTrue}
 use Rattle.sqlite.specs.declared.types.Value.TheVariants.{Null, Int}
 use Rattle.sqlite.specs.Order.{Row, column}
 use Rattle.sqlite.specs.Term.{Term, lit}
@@ -25,16 +25,8 @@ use Rattle.pr_outside.specs.declared.keeping.Row.{Row as Line}
 use Rattle.pr_keep_sql.specs.Tables.{kept, version, kept_schema, schema_of, stored_from}
 use Rattle.pr_keep_sql.specs.Kept.{listed}
 use Rattle.pr_keep_sql.specs.Statements.{Commits, GoesOn, Makes, MakesKept, MakesVersion, Numbers}
+use Rattle.pr_keep_sql.specs.Texts.{kept_text, number_text, version_text}
 use Rattle.pr_keep_sql.proofs.TableLemmas.{went, same_value, cast_null, cast_int}
-
-abbrev pub kept_text : List ℕ
-kept_text = codes "CREATE TABLE kept(seq INTEGER PRIMARY KEY, series TEXT NOT NULL, time INTEGER NOT NULL, point TEXT NOT NULL)"
-
-abbrev pub version_text : List ℕ
-version_text = codes "CREATE TABLE version(n INTEGER PRIMARY KEY)"
-
-abbrev pub number_text : List ℕ
-number_text = codes "INSERT INTO version (n) VALUES (1)"
 
 abbrev none : Schema
 none = schema_of []
@@ -133,9 +125,9 @@ makes_all a b c d makes then numbers = λ bare.
     let table : IsPermutation (stored_from 0 []) (d.trees 0) = rw empty (IsPermutation-refl []) in
     (record { schema = three.0; version = three.1; table = subst (λ (rows : List Line). IsPermutation (stored_from 0 rows) (d.trees 0)) (sym none) table }, none)
 
-pub made : (a b c d : State) (e : State) → GoesOn MakesKept a b → GoesOn MakesVersion b c → GoesOn Numbers c d → IsTrue e.is_open → e.now ≡ d.now → Commits Makes a e
-made a b c d e makes then numbers up same = record {
-  was_open = makes.was_open;
-  is_open = up;
-  does = subst (Makes a.now) (sym same) (makes_all a.now b.now c.now d.now makes.does then.does numbers.does);
-}
+-- the statements in turn make them
+pub making : (a b c d : State) → GoesOn MakesKept a b → GoesOn MakesVersion b c → GoesOn Numbers c d → GoesOn Makes a d
+making a b c d makes then numbers = record { was_open = makes.was_open; is_open = numbers.is_open; inside = numbers.inside; does = makes_all a.now b.now c.now d.now makes.does then.does numbers.does }
+
+pub made : (a d e : State) → GoesOn Makes a d → IsTrue e.is_open → e.now ≡ d.now → Commits Makes a e
+made a d e makes up same = record { was_open = makes.was_open; is_open = up; does = subst (Makes a.now) (sym same) makes.does }

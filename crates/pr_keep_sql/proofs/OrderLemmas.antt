@@ -15,7 +15,8 @@ use Rattle.pr_outside.specs.declared.keeping.Row.{Row as Line}
 use Rattle.pr_keep_sql.specs.Tables.{kept_schema, stored, stored_from}
 use Rattle.pr_keep_sql.specs.Kept.{number_in}
 use Rattle.pr_keep_sql.specs.Found.{AreFound, IsFoundAt}
-use Rattle.pr_keep_sql.proofs.QueryLemmas.{env_of, rows_query, rows_sorted, rows_text}
+use Rattle.pr_keep_sql.specs.Texts.{rows_text}
+use Rattle.pr_keep_sql.proofs.QueryLemmas.{env_of, rows_query, rows_sorted}
 use Rattle.pr_keep_sql.proofs.TableLemmas.{less}
 
 -- what the query makes of an element of the list

@@ -19,12 +19,7 @@ use Rattle.sqlite.proofs.Callers.{IsPlain, command_of, reads_as, one_permutation
 use Rattle.pr_keep_sql.specs.Tables.{kept_schema}
 use Rattle.pr_keep_sql.specs.Kept.{versions}
 use Rattle.pr_keep_sql.specs.Found.{shown_cells}
-
-abbrev pub numbers_text : List ℕ
-numbers_text = codes "SELECT n FROM version"
-
-abbrev pub rows_text : List ℕ
-rows_text = codes "SELECT seq, series, time, point FROM kept ORDER BY seq"
+use Rattle.pr_keep_sql.specs.Texts.{numbers_text, rows_text}
 
 abbrev whole : ℕ → List Term → List (Term × Key) → Query
 whole tree project order = record {

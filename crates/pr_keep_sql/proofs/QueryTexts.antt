@@ -1,5 +1,5 @@
 -- The texts of the queries are queries over every schema: none of them has RETURNING.
-use Rattle.std.proofs.Common.{◌≡◌, ◌+◌, ℕ, List, codes, Bool, true, false, None, Some, Option, Ok, Err, Result, refl, sym, ap, if◌then◌else◌}
+use Rattle.std.proofs.Common.{◌≡◌, ◌+◌, ℕ, List, Bool, true, false, None, Option, Ok, Err, refl, sym, ap, if◌then◌else◌}
 use Rattle.sqlite_ast.specs.declared.Statement.{Statement}
 use Rattle.sqlite_ast.specs.declared.Statement.TheVariants as written
 use Rattle.sqlite_syntax.specs.declared.statement.Parsed.{Parsed}
@@ -12,8 +12,7 @@ use Rattle.sqlite_resolve.specs.declared.compiled.Compiled.{Compiled}
 use Rattle.sqlite_resolve.specs.declared.error.CompileError.{CompileError}
 use Rattle.sqlite_tied.specs.Compute.{everything}
 use Rattle.sqlite.specs.Listing.{if_select, is_select, listing_schema, reads_listing, understood}
-use Rattle.pr_keep_sql.proofs.QueryLemmas.{numbers_text, rows_text}
-use Rattle.pr_keep_sql.proofs.TableLemmas.{select_text}
+use Rattle.pr_keep_sql.specs.Texts.{numbers_text, rows_text, select_text}
 
 -- whatever it is understood as, it has no RETURNING
 abbrev pub OnlyReads : List ℕ → Type 0

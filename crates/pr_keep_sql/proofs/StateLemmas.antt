@@ -1,10 +1,10 @@
 -- What the statements do to a connection.
-use Rattle.std.proofs.Common.{◌≡◌, ◌⊎◌, inl, inr, ℕ, ℤ, ◌+◌, pos, List, [], ◌∷◌, ◌++◌, length, length-append, Ok, Err, Result, OnOk, IfOk, IsTrue, sym, ap, subst, ◌∙◌, arith, None, Some, Option, slice_get}
+use Rattle.std.proofs.Common.{◌≡◌, ◌⊎◌, inl, inr, ℕ, ◌+◌, pos, List, [], ◌∷◌, ◌++◌, length, length-append, Ok, Err, Result, OnOk, IfOk, IsTrue, sym, ap, subst, ◌∙◌, arith, None, Some, Option, slice_get}
 use Rattle.std.proofs.lemmas.List.{append_assoc}
 use Rattle.sqlite.specs.Effect.{Database}
 use Rattle.sqlite.specs.State.{State, ExecutesInside, Executes, IsUnchanged, IsRolledBack, KeepsCommit, QueriesRow, FailsToQuery, FailsToShow, IsNotRun, Shown, ShowsRows}
 use Rattle.sqlite.specs.Order.{Row}
-use Rattle.sqlite.specs.declared.types.Value.TheVariants.{Int, Text}
+use Rattle.sqlite.specs.declared.types.Value.TheVariants.{Int}
 use Rattle.sqlite.specs.declared.error.Error.{Error}
 use Rattle.pr_outside.specs.declared.keeping.Row.{Row as Line}
 use Rattle.pr_keep_sql.specs.Kept.{listed, Keeps}
@@ -13,7 +13,8 @@ use Rattle.sqlite_resolve.specs.declared.compiled.Compiled.{Compiled}
 use Rattle.sqlite_schema.specs.declared.command.Returning.{Returning}
 use Rattle.pr_keep_sql.proofs.Listing.{listed_rows}
 use Rattle.pr_keep_sql.proofs.QueryTexts.{OnlyReads, select_only_read}
-use Rattle.pr_keep_sql.proofs.TableLemmas.{adds, finds, insert_text, select_text}
+use Rattle.pr_keep_sql.specs.Texts.{given_params, insert_text, select_text}
+use Rattle.pr_keep_sql.proofs.TableLemmas.{adds, finds}
 
 -- the list of the relation is the one that the table tells
 pub told_by : (db : Database) (rows : List Line) → Keeps db rows → (listed db ≡ rows) × Keeps db (listed db)
@@ -21,10 +22,7 @@ told_by db rows h =
     let same : listed db ≡ rows = listed_rows rows (db.trees 0) h.table in
     (same, subst (λ xs. Keeps db xs) (sym same) h)
 
-abbrev pub insert_params : ℤ → Line → Row
-insert_params seq row = Int seq ∷ Text row.series ∷ Int (pos row.time) ∷ Text row.point ∷ []
-
-pub adds_inside : (old new : State) (seq : ℕ) (row : Line) (r : Result ℕ Error) → ExecutesInside 0 insert_text (insert_params (pos seq) row) old new r
+pub adds_inside : (old new : State) (seq : ℕ) (row : Line) (r : Result ℕ Error) → ExecutesInside 0 insert_text (given_params seq row) old new r
     → OnOk r (GoesOn (Adds seq (row ∷ [])) old new)
 adds_inside old new seq row (Err _) h = tt
 adds_inside old new seq row (Ok count) h = record {
@@ -32,7 +30,7 @@ adds_inside old new seq row (Ok count) h = record {
   is_open = h.1.is_open;
   inside = h.1.mode;
   does = λ keeps at.
-      let ran : Executes insert_text (insert_params (pos (length (listed old.now))) row) old new (Ok count) = subst (λ n. Executes insert_text (insert_params (pos n) row) old new (Ok count)) at h.0 in
+      let ran : Executes insert_text (given_params (length (listed old.now)) row) old new (Ok count) = subst (λ n. Executes insert_text (given_params n row) old new (Ok count)) at h.0 in
       let made = told_by new.now _ (adds old new (listed old.now) row (Ok count) keeps ran) in
       (made.1, made.0);
 }

@@ -47,12 +47,7 @@ use Rattle.pr_outside.specs.declared.keeping.Row.{Row as Entry}
 use Rattle.pr_keep_sql.specs.Tables.{kept, kept_schema, stored, stored_from}
 use Rattle.pr_keep_sql.specs.Kept.{Keeps}
 use Rattle.pr_keep_sql.specs.Statements.{ShowsAt}
-
-abbrev pub insert_text : List ℕ
-insert_text = codes "INSERT INTO kept (seq, series, time, point) VALUES (?1, ?2, ?3, ?4)"
-
-abbrev pub select_text : List ℕ
-select_text = codes "SELECT series, time, point FROM kept WHERE seq = ?1"
+use Rattle.pr_keep_sql.specs.Texts.{given_params, insert_text, select_text}
 
 abbrev pub terms : List Term
 terms = col 0 0 ∷ lit Null ∷ col 0 1 ∷ col 0 2 ∷ col 0 3 ∷ []
@@ -106,9 +101,6 @@ went (inr on) = on
 
 pub same_value : {B E : Type 0} {a b : B} → ◌≡◌ {A = Result B E} (Ok a) (Ok b) → a ≡ b
 same_value e = cc
-
-abbrev pub given_params : ℕ → Entry → Row
-given_params n e = Int (pos n) ∷ Text e.series ∷ Int (pos e.time) ∷ Text e.point ∷ []
 
 edit_is : (db : Trees) (rows : List Entry) (e : Entry) → IsPermutation (stored_from 0 rows) (db 0) →
     edited db (edit_of db kept [] Chosen 0 ((Int (pos (length rows)) ∷ Null ∷ Text e.series ∷ Int (pos e.time) ∷ Text e.point ∷ []) ∷ [])) ≡ db 0 ++ stored (length rows) e ∷ []

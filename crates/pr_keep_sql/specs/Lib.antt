@@ -2,6 +2,8 @@ pub mod Tables
 pub mod Kept
 pub mod Counts
 pub mod Statements
+pub mod Texts
+pub mod Refusals
 pub mod Store
 pub mod Found
 pub mod Opened

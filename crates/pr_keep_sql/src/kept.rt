@@ -1,5 +1,5 @@
 // Rows kept in the tables of a connection.
-ghost use Rattle.std.specs.Prelude.{◌≡◌, ◌↔◌, ◌⊎◌, List, [], ◌+◌, ◌<◌, ◌≤◌, length, IfOk, IfSome, OnOk, OnErr, IsTrue, IsSome, Some, Err, slice_get, true, false};
+ghost use Rattle.std.specs.Prelude.{◌≡◌, ◌≢◌, ◌↔◌, ◌⊎◌, List, [], ◌+◌, ◌<◌, ◌≤◌, length, IfOk, IfSome, OnOk, OnErr, IsTrue, IsSome, Some, Err, slice_get, true, false};
 ghost use Rattle.sqlite.specs.Held.{state};
 ghost use Rattle.sqlite.specs.State.{HasCleanDisk, IsLive};
 ghost use Rattle.sqlite.specs.View.{doubt};
@@ -9,8 +9,10 @@ ghost use Rattle.pr_outside.specs.declared.keeping.Row.{Row as Line};
 ghost use Rattle.pr_outside.specs.declared.keeping.KeepError.TheVariants.{Failed};
 ghost use Rattle.pr_keep_sql.specs.Counts.{AreWithin, one_more};
 ghost use Rattle.pr_keep_sql.specs.Kept.{Keeps, listed};
+ghost use Rattle.pr_keep_sql.specs.Refusals.{IsLoadRefused, IsReadingRefused, IsRefusal, IsTransactionRefused};
 ghost use Rattle.pr_keep_sql.specs.Store.{faults_in, rows_of};
 ghost use Rattle.pr_keep_sql.specs.Tables.{IsFree, IsOther, kept_schema, schema_of};
+ghost use Rattle.pr_keep_sql.specs.Texts.{inserts, makings};
 
 use crate::counts::{are_within, failed, faults_of, refusal};
 use crate::making::make;
@@ -111,6 +113,7 @@ impl<S: Alter> Kept<S> {
         ensures clean { doubt (state S.Store self.old.conn).is_clean ≤ doubt (state S.Store self.new.conn).is_clean }
         ensures cause { HasKeepCause (faults_in self.old) (faults_in self.new) result }
         ensures odd { self.new.odd ≡ self.old.odd }
+        ensures refused { HasCleanDisk (state S.Store self.new.conn) → self.new.refused ≢ self.old.refused → IsRefusal (λ e. IsTransactionRefused S.Store makings e self.old.conn self.new.conn) }
     {
         match make(&mut self.conn) {
             Ok(()) => {
@@ -136,6 +139,7 @@ impl<S: Alter> Kept<S> {
         ensures clean { doubt (state S.Store self.old.conn).is_clean ≤ doubt (state S.Store self.new.conn).is_clean }
         ensures cause { HasKeepCause (faults_in self.old) (faults_in self.new) result }
         ensures odd { HasCleanDisk (state S.Store self.new.conn) → (rows : List Line) → Keeps (state S.Store self.old.conn).now rows → self.new.odd ≡ self.old.odd }
+        ensures refused { HasCleanDisk (state S.Store self.new.conn) → self.new.refused ≢ self.old.refused → IsRefusal (λ e. IsReadingRefused S.Store e self.old.conn self.new.conn) }
     {
         match found(&mut self.conn) {
             Ok(Some(size)) => {
@@ -182,6 +186,8 @@ impl<S: Alter> Kept<S> {
         ensures odd { IsFree (state S.Store self.old.conn).now.schema → self.new.odd ≡ self.old.odd }
         // The tables of the store are no refusal of its own.
         ensures kept_odd { HasCleanDisk (state S.Store self.new.conn) → (rows : List Line) → Keeps (state S.Store self.old.conn).now rows → self.new.odd ≡ self.old.odd }
+        // What is counted as refused is a statement that makes the tables, or one that reads them.
+        ensures refused { HasCleanDisk (state S.Store self.new.conn) → self.new.refused ≢ self.old.refused → IsRefusal (λ e. IsTransactionRefused S.Store makings e self.old.conn self.new.conn ⊎ IsReadingRefused S.Store e self.old.conn self.new.conn) }
     {
         self.size = 0;
         self.is_ready = false;
@@ -203,6 +209,7 @@ impl<S: Alter> Kept<S> {
         ensures err_count { OnErr result (self.new.size ≡ self.old.size) }
         ensures cause { HasKeepCause (faults_in self.old) (faults_in self.new) result }
         ensures odd { IsTrue self.old.is_ready → AreWithin self.old.size added.now → self.new.odd ≡ self.old.odd }
+        ensures refused { HasCleanDisk (state S.Store self.new.conn) → self.new.refused ≢ self.old.refused → IsRefusal (λ e. IsTransactionRefused S.Store (inserts self.old.size added.now) e self.old.conn self.new.conn) }
         ensures ready { (self.new.is_ready ≡ self.old.is_ready) × (self.new.is_alone ≡ self.old.is_alone) }
     {
         if !self.is_ready || !are_within(self.size, added) {
@@ -227,6 +234,7 @@ impl<S: Alter> Kept<S> {
         ensures count { self.new.size ≡ self.old.size }
         ensures cause { HasKeepCause (faults_in self.old) (faults_in self.new) result }
         ensures odd { self.new.odd ≡ self.old.odd }
+        ensures refused { HasCleanDisk (state S.Store self.new.conn) → self.new.refused ≢ self.old.refused → IsRefusal (λ e. IsLoadRefused S.Store index e self.old.conn self.new.conn) }
         ensures ready { (self.new.is_ready ≡ self.old.is_ready) × (self.new.is_alone ≡ self.old.is_alone) }
     {
         match load(&mut self.conn, index) {

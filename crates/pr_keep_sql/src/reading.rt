@@ -1,17 +1,19 @@
 // Reading the tables as they are found.
-ghost use Rattle.std.specs.Prelude.{◌≡◌, ◌≢◌, ◌↔◌, ℕ, ◌<◌, ◌≤◌, ◌^◌, List, ◌∷◌, [], length, IfOk, IfSome, IsSome, IsTrue, None, OnOk, map, pos, false};
+ghost use Rattle.std.specs.Prelude.{◌≡◌, ◌≢◌, ◌↔◌, ℕ, ◌<◌, ◌≤◌, ◌^◌, List, ◌∷◌, [], length, IfErr, IfOk, IfSome, IsSome, IsTrue, None, OnOk, map, pos, false};
 ghost use Rattle.std.specs.List.Sorted.{IsPermutation};
 ghost use Rattle.sqlite.specs.declared.types.Value.TheVariants.{Int};
 ghost use Rattle.sqlite.specs.Effect.{IsDatabase};
 ghost use Rattle.sqlite.specs.Held.{state};
 ghost use Rattle.sqlite.specs.Order.{Row as Cells, column};
-ghost use Rattle.sqlite.specs.State.{HasCleanDisk};
+ghost use Rattle.sqlite.specs.State.{FailsToQuery, HasCleanDisk, Shown};
 ghost use Rattle.sqlite.specs.View.{doubt};
 ghost use Rattle.sqlite_value.specs.Value.{owned};
 ghost use Rattle.pr_outside.specs.declared.keeping.Row.{Row as Line};
 ghost use Rattle.pr_keep_sql.specs.Found.{AreFound, IsFoundAt, IsText, IsTime};
 ghost use Rattle.pr_keep_sql.specs.Kept.{Keeps, KeepsSo, versions};
+ghost use Rattle.pr_keep_sql.specs.Refusals.{IsReadingRefused};
 ghost use Rattle.pr_keep_sql.specs.Tables.{kept_schema, stored_from};
+ghost use Rattle.pr_keep_sql.specs.Texts.{numbers_text, rows_text};
 
 use sqlite::{Alter, Connection, Error};
 use sqlite_value::value::ValueRef;
@@ -95,6 +97,8 @@ fn is_numbered<S: Alter>(conn: &mut Connection<S>) -> Result<bool, Error>
     requires mode { conn.old.in_transaction ≡ false }
     ensures mode { conn.new.in_transaction ≡ false }
     ensures ok { HasCleanDisk (state S.Store conn.new) → (state S.Store conn.old).now.schema ≡ kept_schema → IfOk result (λ b. IsTrue b ↔ (versions (state S.Store conn.old).now ≡ Int (pos 1) ∷ [])) }
+    ensures shown { HasCleanDisk (state S.Store conn.new) → OnOk result ((rows : List Cells) × Shown numbers_text [] (state S.Store conn.old) (state S.Store conn.new) rows) }
+    ensures refused { HasCleanDisk (state S.Store conn.new) → IfErr result (FailsToQuery numbers_text [] (state S.Store conn.old) (state S.Store conn.new)) }
     ensures was_open { HasCleanDisk (state S.Store conn.new) → IsTrue (state S.Store conn.new).is_open → IsTrue (state S.Store conn.old).is_open }
     ensures same { HasCleanDisk (state S.Store conn.new) → IsTrue (state S.Store conn.new).is_open → (state S.Store conn.new).now ≡ (state S.Store conn.old).now }
     ensures open { HasCleanDisk (state S.Store conn.new) → OnOk result (IsTrue (state S.Store conn.new).is_open) }
@@ -124,6 +128,7 @@ fn count<S: Alter>(conn: &mut Connection<S>) -> Result<Option<u64>, Error>
     ensures mode { conn.new.in_transaction ≡ false }
     ensures ok { HasCleanDisk (state S.Store conn.new) → (state S.Store conn.old).now.schema ≡ kept_schema → versions (state S.Store conn.old).now ≡ Int (pos 1) ∷ [] → IsDatabase (state S.Store conn.old).now → IfOk result (λ o. IfSome o (λ n. KeepsSo (state S.Store conn.old).now n)) }
     ensures all { HasCleanDisk (state S.Store conn.new) → (state S.Store conn.old).now.schema ≡ kept_schema → (rows : List Line) → IsPermutation (stored_from 0 rows) ((state S.Store conn.old).now.trees 0) → IfOk result IsSome }
+    ensures refused { HasCleanDisk (state S.Store conn.new) → IfErr result (FailsToQuery rows_text [] (state S.Store conn.old) (state S.Store conn.new)) }
     ensures small { IfOk result (λ o. IfSome o (λ n. n ≤ 2 ^ 63)) }
     ensures was_open { HasCleanDisk (state S.Store conn.new) → IsTrue (state S.Store conn.new).is_open → IsTrue (state S.Store conn.old).is_open }
     ensures same { HasCleanDisk (state S.Store conn.new) → IsTrue (state S.Store conn.new).is_open → (state S.Store conn.new).now ≡ (state S.Store conn.old).now }
@@ -144,15 +149,16 @@ pub(crate) fn found<S: Alter>(conn: &mut Connection<S>) -> Result<Option<u64>, E
     ensures mode { conn.new.in_transaction ≡ false }
     ensures ok { HasCleanDisk (state S.Store conn.new) → (state S.Store conn.old).now.schema ≡ kept_schema → IsDatabase (state S.Store conn.old).now → IfOk result (λ o. IfSome o (λ n. KeepsSo (state S.Store conn.old).now n)) }
     ensures all { HasCleanDisk (state S.Store conn.new) → (rows : List Line) → Keeps (state S.Store conn.old).now rows → IfOk result IsSome }
+    ensures refused { HasCleanDisk (state S.Store conn.new) → IfErr result (λ e. IsReadingRefused S.Store e conn.old conn.new) }
     ensures small { IfOk result (λ o. IfSome o (λ n. n ≤ 2 ^ 63)) }
     ensures was_open { HasCleanDisk (state S.Store conn.new) → IsTrue (state S.Store conn.new).is_open → IsTrue (state S.Store conn.old).is_open }
     ensures same { HasCleanDisk (state S.Store conn.new) → IsTrue (state S.Store conn.new).is_open → (state S.Store conn.new).now ≡ (state S.Store conn.old).now }
     ensures open { HasCleanDisk (state S.Store conn.new) → OnOk result (IsTrue (state S.Store conn.new).is_open) }
     ensures clean { doubt (state S.Store conn.old).is_clean ≤ doubt (state S.Store conn.new).is_clean }
 {
-    if is_numbered(conn)? {
-        count(conn)
-    } else {
-        Ok(None)
+    match is_numbered(conn) {
+        Ok(true) => count(conn),
+        Ok(false) => Ok(None),
+        Err(error) => Err(error),
     }
 }

@@ -1,13 +1,17 @@
 // The statements over rows.
-ghost use Rattle.std.specs.Prelude.{◌≡◌, ◌+◌, ◌<◌, ◌^◌, ◌≤◌, ◌∷◌, [], pos, ◌≤ℤ◌, unsigned_abs, slice_get, IfOk, OnOk, OnErr, Some, IsTrue, false};
-ghost use Rattle.sqlite.specs.State.{HasCleanDisk, KeepsCommit};
+ghost use Rattle.std.specs.Prelude.{◌≡◌, ℕ, ◌+◌, ◌<◌, ◌^◌, ◌≤◌, List, ◌∷◌, [], length, IsUtf8, pos, ◌≤ℤ◌, unsigned_abs, slice_get, IfErr, IfOk, OnOk, OnErr, Some, IsTrue, false, true};
+ghost use Rattle.sqlite.specs.State.{ExecutesInside, HasCleanDisk, KeepsCommit, QueriesRow};
 ghost use Rattle.sqlite.specs.Held.{state};
 ghost use Rattle.sqlite.specs.View.{doubt};
 ghost use Rattle.pr_outside.specs.declared.keeping.Row.{Row as Line};
-ghost use Rattle.pr_keep_sql.specs.Counts.{AreWithin};
+ghost use Rattle.sqlite.specs.declared.types.Value.TheVariants.{Int, Text as Words};
+ghost use Rattle.sqlite.specs.Order.{column};
+ghost use Rattle.pr_keep_sql.specs.Counts.{AreWithin, is_want};
 ghost use Rattle.pr_keep_sql.specs.Kept.{Keeps, listed};
+ghost use Rattle.pr_keep_sql.specs.Refusals.{IsLoadRefused, IsStopped, IsTransactionRefused, RanInTurn};
 ghost use Rattle.pr_keep_sql.specs.Statements.{Adds, Commits, GoesOn, Leaves, ShowsAt, shown};
 ghost use Rattle.pr_keep_sql.specs.Tables.{kept_schema};
+ghost use Rattle.pr_keep_sql.specs.Texts.{given_params, insert_text, inserts, select_text};
 
 use pr_outside::Row;
 use pr_words::Text;
@@ -27,6 +31,7 @@ fn insert<S: Alter>(
     ensures reference { tx.new.conn.ghost_name ≡ tx.old.conn.ghost_name }
     ensures ok { HasCleanDisk (state S.Store tx.new.conn.now) → OnOk result (GoesOn (Adds (unsigned_abs seq) (record { series = series.now; time = unsigned_abs time; point = point.now } ∷ []))
         (state S.Store tx.old.conn.now) (state S.Store tx.new.conn.now)) }
+    ensures runs { HasCleanDisk (state S.Store tx.new.conn.now) → ExecutesInside 0 insert_text (given_params (unsigned_abs seq) (record { series = series.now; time = unsigned_abs time; point = point.now })) (state S.Store tx.old.conn.now) (state S.Store tx.new.conn.now) result }
     ensures kept { HasCleanDisk (state S.Store tx.new.conn.now) → KeepsCommit (state S.Store tx.old.conn.now) (state S.Store tx.new.conn.now) }
     ensures clean { doubt (state S.Store tx.old.conn.now).is_clean ≤ doubt (state S.Store tx.new.conn.now).is_clean }
 {
@@ -43,6 +48,7 @@ fn add<S: Alter>(tx: &mut Transaction<'_, S>, seq: u64, row: &Row) -> Result<usi
     requires time { row.now.time < 2 ^ 63 }
     ensures reference { tx.new.conn.ghost_name ≡ tx.old.conn.ghost_name }
     ensures ok { HasCleanDisk (state S.Store tx.new.conn.now) → OnOk result (GoesOn (Adds seq (row.now ∷ [])) (state S.Store tx.old.conn.now) (state S.Store tx.new.conn.now)) }
+    ensures runs { HasCleanDisk (state S.Store tx.new.conn.now) → ExecutesInside 0 insert_text (given_params seq row.now) (state S.Store tx.old.conn.now) (state S.Store tx.new.conn.now) result }
     ensures kept { HasCleanDisk (state S.Store tx.new.conn.now) → KeepsCommit (state S.Store tx.old.conn.now) (state S.Store tx.new.conn.now) }
     ensures clean { doubt (state S.Store tx.old.conn.now).is_clean ≤ doubt (state S.Store tx.new.conn.now).is_clean }
 {
@@ -53,6 +59,28 @@ fn add<S: Alter>(tx: &mut Transaction<'_, S>, seq: u64, row: &Row) -> Result<usi
         row.time as i64,
         row.point.as_str(),
     )
+}
+
+// Adds all rows inside a transaction.
+fn add_rows<S: Alter>(tx: &mut Transaction<'_, S>, size: u64, rows: &[Row]) -> Result<(), Error>
+    requires inside { HasCleanDisk (state S.Store tx.old.conn.now) → IsTrue (state S.Store tx.old.conn.now).in_transaction }
+    requires within { AreWithin size rows.now }
+    ensures reference { tx.new.conn.ghost_name ≡ tx.old.conn.ghost_name }
+    ensures inside { HasCleanDisk (state S.Store tx.new.conn.now) → OnOk result (IsTrue (state S.Store tx.new.conn.now).in_transaction) }
+    ensures ok { HasCleanDisk (state S.Store tx.new.conn.now) → OnOk result (IsTrue (state S.Store tx.new.conn.now).is_open → IsTrue (state S.Store tx.old.conn.now).is_open × Adds size rows.now (state S.Store tx.old.conn.now).now (state S.Store tx.new.conn.now).now) }
+    ensures ran { HasCleanDisk (state S.Store tx.new.conn.now) → OnOk result (RanInTurn S.Store (inserts size rows.now) tx.old.conn.now tx.new.conn.now) }
+    ensures stopped { HasCleanDisk (state S.Store tx.new.conn.now) → IfErr result (λ e. IsStopped S.Store (inserts size rows.now) e tx.old.conn.now tx.new.conn.now) }
+    ensures kept { HasCleanDisk (state S.Store tx.new.conn.now) → KeepsCommit (state S.Store tx.old.conn.now) (state S.Store tx.new.conn.now) }
+    ensures clean { doubt (state S.Store tx.old.conn.now).is_clean ≤ doubt (state S.Store tx.new.conn.now).is_clean }
+{
+    let mut seq = size;
+    'rows: for row in rows {
+        match add(tx, seq, row) {
+            Ok(_) => seq += 1,
+            Err(error) => return Err(error),
+        }
+    }
+    Ok(())
 }
 
 /// Adds all rows in one transaction, or none.
@@ -67,16 +95,18 @@ pub(crate) fn add_all<S: Alter>(
     ensures mode { conn.new.in_transaction ≡ false }
     ensures ok { HasCleanDisk (state S.Store conn.new) → OnOk result (Commits (Adds size rows.now) (state S.Store conn.old) (state S.Store conn.new)) }
     ensures err { HasCleanDisk (state S.Store conn.new) → OnErr result (Leaves (state S.Store conn.old) (state S.Store conn.new)) }
+    ensures refused { HasCleanDisk (state S.Store conn.new) → IfErr result (λ e. IsTransactionRefused S.Store (inserts size rows.now) e conn.old conn.new) }
     ensures clean { doubt (state S.Store conn.old).is_clean ≤ doubt (state S.Store conn.new).is_clean }
 {
     prove!(conn.is_autocommit());
     let mut tx = conn.transaction();
-    let mut seq = size;
-    'rows: for row in rows {
-        add(&mut tx, seq, row)?;
-        seq += 1;
+    match add_rows(&mut tx, size, rows) {
+        Ok(()) => match tx.commit() {
+            Ok(()) => Ok(()),
+            Err(error) => Err(error),
+        },
+        Err(error) => Err(error),
     }
-    tx.commit()
 }
 
 // Finds one row.
@@ -85,6 +115,7 @@ fn find<S: Alter>(conn: &mut Connection<S>, seq: i64) -> Result<sqlite::Row, Err
     requires seq { pos 0 ≤ℤ seq }
     ensures mode { conn.new.in_transaction ≡ false }
     ensures ok { HasCleanDisk (state S.Store conn.new) → Keeps (state S.Store conn.old).now (listed (state S.Store conn.old).now) → IfOk result (ShowsAt (listed (state S.Store conn.old).now) (unsigned_abs seq)) }
+    ensures runs { HasCleanDisk (state S.Store conn.new) → QueriesRow select_text (Int (pos (unsigned_abs seq)) ∷ []) (state S.Store conn.old) (state S.Store conn.new) result }
     ensures was_open { HasCleanDisk (state S.Store conn.new) → IsTrue (state S.Store conn.new).is_open → IsTrue (state S.Store conn.old).is_open }
     ensures same { HasCleanDisk (state S.Store conn.new) → IsTrue (state S.Store conn.new).is_open → (state S.Store conn.new).now ≡ (state S.Store conn.old).now }
     ensures open { HasCleanDisk (state S.Store conn.new) → OnOk result (IsTrue (state S.Store conn.old).is_open × IsTrue (state S.Store conn.new).is_open) }
@@ -97,14 +128,26 @@ fn find<S: Alter>(conn: &mut Connection<S>, seq: i64) -> Result<sqlite::Row, Err
     )
 }
 
+// The text in this place of a row.
+fn text_at(found: &sqlite::Row, at: usize) -> Result<Text, Error>
+    ensures ok { IfOk result (λ text. column found.now at ≡ Words text) }
+    ensures only { (text : List ℕ) → column found.now at ≡ Words text → at < length found.now → IsUtf8 text → IfErr result (λ e. IsTrue (is_want e)) }
+{
+    match found.get(at) {
+        Ok(text) => Ok(Text::new(text)),
+        Err(error) => Err(error),
+    }
+}
+
 // The row that was found.
 fn read_row(found: &sqlite::Row) -> Result<Row, Error>
     ensures ok { (row : Line) → found.now ≡ shown row → IfOk result (λ r. r ≡ row) }
+    ensures only { (row : Line) → found.now ≡ shown row → IsUtf8 row.series → IsUtf8 row.point → IfErr result (λ e. IsTrue (is_want e)) }
 {
     Ok(Row {
-        series: Text::new(found.get(0)?),
+        series: text_at(found, 0)?,
         time: found.get(1)?,
-        point: Text::new(found.get(2)?),
+        point: text_at(found, 2)?,
     })
 }
 
@@ -114,11 +157,14 @@ pub(crate) fn load<S: Alter>(conn: &mut Connection<S>, seq: u64) -> Result<Row, 
     requires seq { seq < 2 ^ 63 }
     ensures mode { conn.new.in_transaction ≡ false }
     ensures ok { HasCleanDisk (state S.Store conn.new) → Keeps (state S.Store conn.old).now (listed (state S.Store conn.old).now) → IfOk result (λ row. slice_get (listed (state S.Store conn.old).now) seq ≡ Some row) }
+    ensures refused { HasCleanDisk (state S.Store conn.new) → IfErr result (λ e. is_want e ≡ false → IsLoadRefused S.Store seq e conn.old conn.new) }
     ensures was_open { HasCleanDisk (state S.Store conn.new) → IsTrue (state S.Store conn.new).is_open → IsTrue (state S.Store conn.old).is_open }
     ensures same { HasCleanDisk (state S.Store conn.new) → IsTrue (state S.Store conn.new).is_open → (state S.Store conn.new).now ≡ (state S.Store conn.old).now }
     ensures open { HasCleanDisk (state S.Store conn.new) → OnOk result (IsTrue (state S.Store conn.old).is_open × IsTrue (state S.Store conn.new).is_open) }
     ensures clean { doubt (state S.Store conn.old).is_clean ≤ doubt (state S.Store conn.new).is_clean }
 {
-    let found = find(conn, seq as i64)?;
-    read_row(&found)
+    match find(conn, seq as i64) {
+        Ok(found) => read_row(&found),
+        Err(error) => Err(error),
+    }
 }

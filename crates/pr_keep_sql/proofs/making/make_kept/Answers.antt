@@ -2,7 +2,8 @@ use Rattle.std.proofs.Common.{arith}
 use Rattle.sqlite.specs.Held.{state}
 use Rattle.sqlite.specs.State.{HasCleanDisk}
 use Rattle.pr_keep_sql.specs.Statements.{MakesKept}
-use Rattle.pr_keep_sql.proofs.MakingLemmas.{goes_on, makes_kept, kept_text}
+use Rattle.pr_keep_sql.specs.Texts.{kept_text}
+use Rattle.pr_keep_sql.proofs.MakingLemmas.{goes_on, makes_kept}
 use Rattle.pr_keep_sql.proofs.StateLemmas.{keeps_inside}
 use Rattle.pr_keep_sql.proofs.making.make_kept.Goals as goal
 
@@ -19,3 +20,9 @@ returns-clause-kept g c clean =
     let new = state g.S.Store c.execute.new.self.conn.now in
     let early : HasCleanDisk old = omega (arith, c.execute.ensures.survives.clean, clean) in
     keeps_inside _ _ old new c.execute.result (c.execute.ensures.runs clean (c.requires early))
+
+pub returns-clause-runs : goal.returns-clause-runs
+returns-clause-runs g c clean =
+    let old = state g.S.Store c.args.tx.now.conn.now in
+    let early : HasCleanDisk old = omega (arith, c.execute.ensures.survives.clean, clean) in
+    c.execute.ensures.runs clean (c.requires early)

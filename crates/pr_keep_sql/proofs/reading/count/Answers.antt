@@ -4,7 +4,7 @@ use Rattle.sqlite.specs.Held.{state}
 use Rattle.pr_keep_sql.specs.Found.{AreFound}
 use Rattle.pr_keep_sql.proofs.FoundLemmas.{count_found}
 use Rattle.pr_keep_sql.proofs.OrderLemmas.{rows_in_order}
-use Rattle.pr_keep_sql.proofs.QueryLemmas.{rows_text}
+use Rattle.pr_keep_sql.specs.Texts.{rows_text}
 use Rattle.pr_keep_sql.proofs.QueryTexts.{rows_only_read}
 use Rattle.pr_keep_sql.proofs.StateLemmas.{fails_open, fails_same, shown_open, shown_same}
 use Rattle.pr_keep_sql.proofs.reading.count.Goals as goal

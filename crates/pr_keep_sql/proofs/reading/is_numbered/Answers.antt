@@ -1,6 +1,7 @@
 use Rattle.std.proofs.Common.{map, not, ap, sym, ◌∙◌}
 use Rattle.sqlite.specs.Held.{state}
-use Rattle.pr_keep_sql.proofs.QueryLemmas.{first_cell, numbers_found, numbers_shown, numbers_text}
+use Rattle.pr_keep_sql.specs.Texts.{numbers_text}
+use Rattle.pr_keep_sql.proofs.QueryLemmas.{first_cell, numbers_found, numbers_shown}
 use Rattle.pr_keep_sql.proofs.QueryTexts.{numbers_only_read}
 use Rattle.pr_keep_sql.proofs.StateLemmas.{fails_open, fails_same, shown_open, shown_same}
 use Rattle.pr_keep_sql.proofs.reading.is_numbered.Goals as goal
@@ -28,3 +29,6 @@ returns-clause-same g c clean up = (shown_same numbers_text _ (state g.S.Store c
 
 pub returns-clause-open : goal.returns-clause-open
 returns-clause-open g c clean = (shown_same numbers_text _ (state g.S.Store c.args.conn.now) (state g.S.Store c.query_all.new.self) _ numbers_only_read (c.in_ok-found.ensures.ok clean)).0.is_open
+
+pub returns-clause-shown : goal.returns-clause-shown
+returns-clause-shown g c clean = (c.in_ok-found.found.items, c.in_ok-found.ensures.ok clean)

@@ -22,3 +22,9 @@ returns-clause-same g c clean =
 
 pub returns-clause-open : goal.returns-clause-open
 returns-clause-open g c clean = row_shows _ (state g.S.Store c.args.conn.now) (state g.S.Store c.query_row.new.self) c.query_row.result (c.query_row.ensures.row clean)
+
+pub returns-clause-runs : goal.returns-clause-runs
+returns-clause-runs g c clean =
+    let seq : c.args.seq ≡ pos (unsigned_abs c.args.seq) = search (rules, c.requires.seq) in
+    let fits : FitsSigned w64 c.args.seq = c.ranges.seq in
+    rw (c.params-to_sql.ensures, to_z-of_z w64 c.args.seq fits, seq) at (c.query_row.ensures.row clean)

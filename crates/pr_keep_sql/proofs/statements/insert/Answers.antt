@@ -25,3 +25,15 @@ returns-clause-kept g c clean =
     let new = state g.S.Store c.execute.new.self.conn.now in
     let early : HasCleanDisk old = omega (arith, c.execute.ensures.survives.clean, clean) in
     keeps_inside _ _ old new c.execute.result (c.execute.ensures.runs clean (c.requires.inside early))
+
+pub returns-clause-runs : goal.returns-clause-runs
+returns-clause-runs g c clean =
+    let old = state g.S.Store c.args.tx.now.conn.now in
+    let new = state g.S.Store c.execute.new.self.conn.now in
+    let early : HasCleanDisk old = omega (arith, c.execute.ensures.survives.clean, clean) in
+    let seq : c.args.seq ≡ pos (unsigned_abs c.args.seq) = search (rules, c.requires.seq) in
+    let time : c.args.time ≡ pos (unsigned_abs c.args.time) = search (rules, c.requires.time) in
+    let seq_fits : FitsSigned w64 c.args.seq = c.ranges.seq in
+    let time_fits : FitsSigned w64 c.args.time = c.ranges.time in
+    let ran = rw (c.params-to_sql.ensures, c.params-to_sql-2.ensures, c.params-to_sql-3.ensures, c.params-to_sql-4.ensures, to_z-of_z w64 c.args.seq seq_fits, to_z-of_z w64 c.args.time time_fits) at (c.execute.ensures.runs clean (c.requires.inside early)) in
+    rw seq at (rw time at ran)

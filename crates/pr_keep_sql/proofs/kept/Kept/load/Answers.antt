@@ -1,4 +1,6 @@
 use Rattle.sqlite.specs.Held.{state}
+use Rattle.pr_keep_sql.specs.Refusals.{IsLoadRefused}
+use Rattle.pr_keep_sql.proofs.RefusalLemmas.{counted_refusal}
 use Rattle.pr_keep_sql.proofs.KeptLemmas.{keeps, some_told, told_row}
 use Rattle.pr_keep_sql.proofs.kept.Kept.load.Goals as goal
 
@@ -22,3 +24,8 @@ returns-in-Ok-clause-told g c clean alone =
     some_told c.self.inside.is_alone (state g.S.Store c.load.new.conn) clean
     (c.in-Ok.ensures.open clean).1
     (rw (← c.self.view_is) at alone)
+
+pub returns-in-Err-clause-refused : goal.returns-in-Err-clause-refused
+returns-in-Err-clause-refused g c clean =
+    rw (← c.self.view_is) (counted_refusal (λ e. IsLoadRefused g.S.Store c.args.index e c.self.inside.conn c.load.new.conn) c.in-Err.error c.refusal.result c.self.inside.refused c.refusal.new.refused c.refusal.ensures
+    (c.in-Err.ensures.refused clean))

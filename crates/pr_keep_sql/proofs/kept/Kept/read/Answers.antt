@@ -1,5 +1,7 @@
 use Rattle.std.proofs.Common.{ℕ, ◌^◌, ◌≤◌, IfSome, Option, subst, true≢false}
 use Rattle.sqlite.specs.Held.{state}
+use Rattle.pr_keep_sql.specs.Refusals.{IsReadingRefused}
+use Rattle.pr_keep_sql.proofs.RefusalLemmas.{counted_refusal}
 use Rattle.pr_keep_sql.proofs.KeptLemmas.{read_found, read_kept, read_still}
 use Rattle.pr_keep_sql.proofs.kept.Kept.read.Goals as goal
 
@@ -23,3 +25,8 @@ returns-in-Ok-Some-clause-found g c clean alone =
     rw (← c.self.view_is) (read_found c.args.is_alone (state g.S.Store c.self.inside.conn) (state g.S.Store c.found.new.conn) c.in-Ok-Some.size (rw (← c.self.view_is) at c.requires.alone)
     (rw (← c.self.view_is) at c.requires.live) c.found.ensures.was_open c.found.ensures.same
     (λ clean has sound. rw c.in-Ok-Some.field-0-is at (c.in-Ok-Some.ensures.ok clean has sound)) c.in-Ok-Some.ensures.open clean alone)
+
+pub returns-in-Err-clause-refused : goal.returns-in-Err-clause-refused
+returns-in-Err-clause-refused g c clean =
+    rw (← c.self.view_is) (counted_refusal (λ e. IsReadingRefused g.S.Store e c.self.inside.conn c.found.new.conn) c.in-Err.error c.refusal.result c.self.inside.refused c.refusal.new.refused c.refusal.ensures
+    (λ _. c.in-Err.ensures.refused clean))

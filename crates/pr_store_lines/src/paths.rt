@@ -1,0 +1,38 @@
+// A row over paths. Each of its sessions, with a line `then` between two, has a keeper of its own.
+use crate::lines::difference;
+use pr_keep_sql::{DiskFile, SqlKeeper};
+use sqlite::Start;
+use std::alloc::{AllocError, Global};
+use std::rt::HostRuntime;
+
+fn session<T: Start>(
+    alloc: Global,
+    rt: &HostRuntime,
+    lines: &str,
+    start: T,
+) -> Result<Option<String>, AllocError> {
+    let mut keeper = SqlKeeper::new(alloc, DiskFile::new(rt, start));
+    difference(alloc, &mut keeper, lines)
+}
+
+/// The first line of a row that is answered otherwise, with its answer. Each session takes one of
+/// the values that stand for what a file holds.
+///
+/// # Errors
+/// Where memory runs out.
+pub fn difference_at_paths<T: Start>(
+    rt: &HostRuntime,
+    lines: &str,
+    starts: &mut Vec<T>,
+) -> Result<Option<String>, AllocError> {
+    let alloc = rt.alloc();
+    for lines in lines.split("then\n") {
+        let Some(start) = starts.pop() else {
+            return Ok(Some(String::from_str(alloc, "too many sessions")?));
+        };
+        if let Some(text) = session(alloc, rt, lines, start)? {
+            return Ok(Some(text));
+        }
+    }
+    Ok(None)
+}
