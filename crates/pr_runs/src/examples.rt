@@ -1,11 +1,11 @@
-// The examples: scripts, an exposition and a rule file, with what the program answers to them.
+// The examples: scripts, an exposition, a rule file and test files, with what the program answers to them.
 use pr_outside::{Files, MemSink, MemSource, SureKeeper};
 use pr_top::promtool;
 use std::alloc::{AllocError, Global};
 use std::str;
 
 /// The words of an example, the file that is its input, and the file of its answers.
-pub(crate) const EXAMPLES: [(&str, &str, &str); 17] = [
+pub(crate) const EXAMPLES: [(&str, &str, &str); 18] = [
     (
         "run",
         "examples/aggregations.txt",
@@ -62,6 +62,11 @@ pub(crate) const EXAMPLES: [(&str, &str, &str); 17] = [
         "check rules examples/alerts.yml",
         "examples/alerts.yml",
         "examples/alerts.answers",
+    ),
+    (
+        "test rules examples/down.test.yml examples/early.test.yml",
+        "examples/down.test.yml",
+        "examples/tests.answers",
     ),
 ];
 

@@ -23,7 +23,7 @@ use pr_outside::{DiskFiles, Files, Found};
 use std::io;
 
 /// The tables of runs, each a file.
-const TABLES: [&str; 16] = [
+const TABLES: [&str; 17] = [
     "runs/aggregations",
     "runs/checks",
     "runs/expositions",
@@ -37,6 +37,7 @@ const TABLES: [&str; 16] = [
     "runs/rules",
     "runs/scrapes",
     "runs/scripts",
+    "runs/tests",
     "runs/texts",
     "runs/tokens",
     "runs/yaml",
