@@ -1,5 +1,5 @@
 -- What an event comes to.
-use Rattle.std.specs.Prelude.{ℕ, Bool, true, false, cond, nat_lt, List, ◌++◌, Option, Some, None}
+use Rattle.std.specs.Prelude.{◌≡◌, ℕ, Bool, true, false, cond, nat_lt, List, ◌++◌, Option, Some, None}
 use Rattle.pr_history.specs.declared.entry.Entry.{Entry}
 use Rattle.pr_rules.specs.Groups.{Group}
 use Rattle.pr_world.specs.declared.report.Report.{Report}
@@ -21,6 +21,11 @@ pub data Change : Type 0 where
 pub data Outcome : Type 0 where
   refuse : Report → Outcome
   accept : Report → List Entry → Change → Outcome
+
+-- a time is not before that of the last event
+abbrev pub IsNotBefore : Option ℕ → ℕ → Type 0
+IsNotBefore None time = Unit {0}
+IsNotBefore (Some last) time = nat_lt time last ≡ false
 
 -- what is at a time before the last event is refused
 abbrev pub unless_backwards : Option ℕ → ℕ → Outcome → Outcome

@@ -1,5 +1,7 @@
 -- One step of the world, and the fold of it.
-use Rattle.std.specs.Prelude.{ℕ, Bool, true, false, List, [], ◌∷◌, ◌++◌, length, Some, None, Option}
+use Rattle.std.specs.Prelude.{ℕ, Bool, true, false, List, [], ◌∷◌, ◌++◌, length, map, Some, None, Option}
+use Rattle.std.specs.List.{IsDistinct}
+use Rattle.std.specs.Str.{bytes_eq}
 use Rattle.pr_num.specs.declared.value.Point.{Point}
 use Rattle.pr_history.specs.declared.entry.Entry.{Entry}
 use Rattle.pr_history.specs.declared.append.Append.{Append}
@@ -8,6 +10,7 @@ use Rattle.pr_history.specs.Admission.{admit}
 use Rattle.pr_labels.specs.declared.pair.Pair.{Pair}
 use Rattle.pr_world.specs.declared.event.Event.{Event}
 use Rattle.pr_world.specs.declared.event.Event.TheVariants.{Add, Query, Scrape, Fail, Gone, Eval, Reload, Restart, Alerts}
+use Rattle.pr_world.specs.declared.event.NamedFile.{NamedFile}
 use Rattle.pr_world.specs.declared.report.Report.{Report}
 use Rattle.pr_world.specs.declared.report.Report.TheVariants as report
 use Rattle.pr_world.specs.declared.scraped.BodyFault.{BodyFault}
@@ -65,6 +68,18 @@ changes_groups (Eval time file group) = true
 changes_groups (Reload time files) = true
 changes_groups (Restart time) = true
 changes_groups (Alerts time) = false
+
+-- The files of a reload have names of their own.
+abbrev pub HasDistinctFiles : Event → Type 0
+HasDistinctFiles (Add time labels point) = Unit {0}
+HasDistinctFiles (Query time text) = Unit {0}
+HasDistinctFiles (Scrape time target body) = Unit {0}
+HasDistinctFiles (Fail time target) = Unit {0}
+HasDistinctFiles (Gone time target) = Unit {0}
+HasDistinctFiles (Eval time file group) = Unit {0}
+HasDistinctFiles (Reload time files) = IsDistinct bytes_eq (map (λ (f : NamedFile). f.name) files)
+HasDistinctFiles (Restart time) = Unit {0}
+HasDistinctFiles (Alerts time) = Unit {0}
 
 -- what is answered to a sample
 abbrev pub report_of : Append → Report

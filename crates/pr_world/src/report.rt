@@ -1,3 +1,7 @@
+// What is answered to events.
+ghost use Rattle.std.specs.Prelude.{◌≡◌};
+ghost use Rattle.pr_world.specs.Outcome.{is_refusal};
+
 use pr_expo::ExpoKind;
 use pr_fields::ProblemKind;
 use pr_kinds::QueryKind;
@@ -126,4 +130,38 @@ pub enum Report {
         last: Ms,
         given: Ms,
     },
+}
+
+impl Report {
+    /// Whether this tells that an event was refused. (Own choice: a refused event changes nothing, and
+    /// is told by the status of a run.)
+    pub fn is_refusal(&self) -> bool
+        ensures { result ≡ is_refusal self.now }
+    {
+        match self {
+            Report::NoGroup { .. }
+            | Report::NotLater { .. }
+            | Report::Missing { .. }
+            | Report::TooLarge { .. }
+            | Report::Refused { .. }
+            | Report::QueryRefused { .. }
+            | Report::Backwards { .. } => true,
+            Report::Opened { .. }
+            | Report::Added
+            | Report::Same
+            | Report::OutOfOrder { .. }
+            | Report::Conflict { .. }
+            | Report::Scraped { .. }
+            | Report::BadScrape { .. }
+            | Report::Failed { .. }
+            | Report::Gone { .. }
+            | Report::Evaluated { .. }
+            | Report::Reloaded { .. }
+            | Report::Restarted { .. }
+            | Report::Alerts { .. }
+            | Report::Scalar { .. }
+            | Report::Vector { .. }
+            | Report::QueryFault { .. } => false,
+        }
+    }
 }
