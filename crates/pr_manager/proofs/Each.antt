@@ -6,7 +6,7 @@ use Rattle.pr_range.specs.Asks.{LastAsks, Passed}
 use Rattle.pr_rules.specs.Groups.{Group}
 use Rattle.pr_rules.specs.Settings.{Settings}
 use Rattle.pr_group.specs.Keeping.{KeepsGroup, KeptGroup}
-use Rattle.pr_manager.specs.Keeping.{KeepEach, KeepsGroups, KeepsUnder, KeptManager, settings_in}
+use Rattle.pr_manager.specs.Keeping.{KeepEach, ManagesGroups, KeepsUnder, KeptManager, settings_in}
 use Rattle.pr_manager.proofs.Places.{zip_map}
 
 -- what is known of each kept group over a later history
@@ -19,6 +19,6 @@ each_stays fits last passed stays s history more lawful ks groups h =
     zip_map (KeepsUnder fits last passed s history) (KeepsUnder fits last passed s (history ++ more)) (λ k g u. record { keeps = stays k history more g u.keeps lawful; told = u.told }) ks groups h
 
 pub all_stay : {R : Type 0} (fits : R → List Entry → Type 0) (last : R → LastAsks) (passed : R → Passed) → StaysKept fits last passed → (k : KeptManager R) (history more : List Entry) (groups : List Group) (reloaded : Bool)
-    → KeepsGroups fits last passed k history groups reloaded → IsLawful (history ++ more) → KeepsGroups fits last passed k (history ++ more) groups reloaded
+    → ManagesGroups fits last passed k history groups reloaded → IsLawful (history ++ more) → ManagesGroups fits last passed k (history ++ more) groups reloaded
 all_stay fits last passed stays k history more groups reloaded h lawful =
     record { each = each_stays fits last passed stays (settings_in k) history more lawful k.groups groups h.each; since = h.since }

@@ -29,9 +29,9 @@ use Rattle.pr_world.specs.Outcome.{refuse}
 use Rattle.pr_world.specs.Rounds.{eval_after, eval_by, evaluation_outcome, with_group}
 use Rattle.pr_world.specs.Step.{Step, step_by}
 use Rattle.pr_world.specs.World.{World}
-use Rattle.pr_manager.specs.Coming.{Comes, ComesAt, IsEvaluated, IsNotLater, history_after, is_later, too_late}
+use Rattle.pr_manager.specs.Coming.{Comes, ComesAt, IsEvaluated, IsNotLater, history_with, is_later, too_late}
 use Rattle.pr_manager.specs.Finding.{place_of}
-use Rattle.pr_manager.specs.Keeping.{HasGoneOn, KeepEach, KeepsGroupsOf, KeepsUnder, KeptManager, settings_in}
+use Rattle.pr_manager.specs.Keeping.{HasGoneOn, KeepEach, ManagesGroupsOf, KeepsUnder, KeptManager, settings_in}
 use Rattle.pr_manager.specs.Naming.{is_kept_named, kept_named, passed_by_any, passed_by_named}
 use Rattle.pr_manager.specs.Rounds.{admitted_in, cost_after, cost_by, eval_cost, eval_step}
 use Rattle.pr_manager.proofs.Each.{StaysKept, each_stays}
@@ -47,7 +47,7 @@ later_is (Some at) time h = ltb-true at time h
 is_sooner : (a b : ℕ) → a < b → nat_lt a b ≡ true
 is_sooner a b h = grind (arith, common_steps)
 
-not_later_is : (last : Option ℕ) (time : ℕ) → is_later last time ≡ false → (at : ℕ) × (last ≡ Some at)
+pub not_later_is : (last : Option ℕ) (time : ℕ) → is_later last time ≡ false → (at : ℕ) × (last ≡ Some at)
 not_later_is None time h = absurd cc
 not_later_is (Some at) time h = (at, refl)
 
@@ -90,7 +90,7 @@ cost_later (Some at) s g history time u h = ap (λ b. cond b (group_cost s g his
 pub record HasStepped {R : Type 0} (fits : R → List Entry → Type 0) (last : R → LastAsks) (passed : R → Passed) (w : World) (k after : KeptManager R) (old new : Series) (step : Step) (r : Report) : Type 0 where
   pub report : r ≡ step.report
   pub rows : admitted_in r ≡ step.rows
-  pub keeps : KeepsGroupsOf fits last passed after step.world
+  pub keeps : ManagesGroupsOf fits last passed after step.world
   pub head : HasGoneOn old new w.history step.world.history
   pub refused : step.refused ≡ true → (after ≡ k) × (new ≡ old)
 
@@ -109,11 +109,11 @@ same_manager k after h =
 
 -- it was refused, and nothing has changed
 pub refused_stepped : {R : Type 0} (fits : R → List Entry → Type 0) (last : R → LastAsks) (passed : R → Passed) (w : World) (k after : KeptManager R) (old new : Series) (told r : Report)
-    → KeepsGroupsOf fits last passed k w → HasGoneOn old old w.history w.history → after ≡ k → new ≡ old → admitted_in told ≡ [] → r ≡ told → HasStepped fits last passed w k after old new (refused_step w told) r
+    → ManagesGroupsOf fits last passed k w → HasGoneOn old old w.history w.history → after ≡ k → new ≡ old → admitted_in told ≡ [] → r ≡ told → HasStepped fits last passed w k after old new (refused_step w told) r
 refused_stepped fits last passed w k after old new told r keeps whole same head none is = record {
   report = is;
   rows = ap admitted_in is ∙ none;
-  keeps = subst (λ m. KeepsGroupsOf fits last passed m w) (sym same) keeps;
+  keeps = subst (λ m. ManagesGroupsOf fits last passed m w) (sym same) keeps;
   head = subst (λ h. HasGoneOn old h w.history w.history) (sym head) whole;
   refused = λ e. (same, head);
 }
@@ -189,13 +189,13 @@ moved fits last passed s t history ks ms gs hs p q r h =
     subst (λ u. KeepEach fits last passed u history ms hs) p (subst (λ l. KeepEach fits last passed s history l hs) q (subst (λ l. KeepEach fits last passed s history ks l) r h))
 
 pub evaluated_stepped : {R : Type 0} (fits : R → List Entry → Type 0) (last : R → LastAsks) (passed : R → Passed) (remembers : Bool) → StaysKept fits last passed
-    → (w : World) (k after : KeptManager R) (kept : KeptGroup R) (old new : Series) (file name : List ℕ) (time i before now : ℕ) (r : Report) → KeepsGroupsOf fits last passed k w
+    → (w : World) (k after : KeptManager R) (kept : KeptGroup R) (old new : Series) (file name : List ℕ) (time i before now : ℕ) (r : Report) → ManagesGroupsOf fits last passed k w
     → (t : IsThere fits last passed (settings_in k) w.history file name k.groups w.groups i) → after.groups ≡ slice_set k.groups i kept → after.reloaded ≡ k.reloaded → settings_in after ≡ settings_in k
     → IsEvaluated fits last passed remembers (settings_in k) t.group t.kept kept w.history time old new before now r
     → HasStepped fits last passed w k after old new (evaluated_step w time (group_step (settings_in k) t.group w.history time)) r
 evaluated_stepped fits last passed remembers stays w k after kept old new file name time i before now r keeps t groups since settings e =
     let step = group_step (settings_in k) t.group w.history time in
-    let later = history_after w.history step in
+    let later = history_with w.history step in
     let named = still_named fits last passed later file name t.kept kept step.group t.named e.file e.def e.keeps.keeps in
     let placed : place_of (is_group_named step.group.file step.group.name) w.groups ≡ Some i = (λ j. place_of (is_group_named (named.0 j) (named.1 j)) w.groups) ∙ t.placed in
     let each = each_stays fits last passed stays (settings_in k) w.history step.report.admitted e.head.lawful k.groups w.groups keeps.each in
@@ -250,7 +250,7 @@ comes_evaluated fits last passed remembers s g k kept history time old new befor
     let it = too_late_none g.last time (ap (λ o. too_late o time) (sym under.keeps.until) ∙ none) in
     subst (λ b. MatchBool b (IsEvaluated fits last passed remembers s g k kept history time old new before now r) (IsNotLater g.last k kept old new before now r)) (sym it) (e (later_is g.last time it))
 
-pub step_adds : (s : Settings) (g : Group) (history : List Entry) (time : ℕ) → put_all history (group_step s g history time).entries ≡ history_after history (group_step s g history time)
+pub step_adds : (s : Settings) (g : Group) (history : List Entry) (time : ℕ) → put_all history (group_step s g history time).entries ≡ history_with history (group_step s g history time)
 step_adds s g history time =
     puts_admitted history (group_step s g history time).entries ∙ ap (λ (l : List Entry). history ++ l) (sym (evaluation_admits s g history time))
 
@@ -266,7 +266,7 @@ pub own_evaluated : {R : Type 0} (fits : R → List Entry → Type 0) (last : R 
 own_evaluated fits last passed remembers s g k kept history time old new before now told same lawful is taken keeps few passing def file settings =
     subst (λ (t : Settings). IsEvaluated fits last passed remembers t g k kept history time old new before now (report.Evaluated told)) same
     (let step = group_step (settings_of k) g history time in
-    let adds : put_all history step.entries ≡ history_after history step = step_adds (settings_of k) g history time in
+    let adds : put_all history step.entries ≡ history_with history step = step_adds (settings_of k) g history time in
     record {
       told = ap report.Evaluated is;
       head = record {
@@ -310,7 +310,7 @@ IsKnownAt {R} fits last passed remembers k after old new time i before now r =
 pub gone_nowhere : (head : Series) (history : List Entry) (time : ℕ) → MayEvaluateOver head history time → HasGoneOn head head history history
 gone_nowhere head history time may = record { holds = may.holds; whole = λ x h. h; lawful = may.lawful }
 
-set_same : {A : Type 0} (xs : List A) (i : ℕ) (x : A) → slice_get xs i ≡ Some x → slice_set xs i x ≡ xs
+pub set_same : {A : Type 0} (xs : List A) (i : ℕ) (x : A) → slice_get xs i ≡ Some x → slice_set xs i x ≡ xs
 set_same [] i x h = refl
 set_same (y ∷ xs) zero x h = let e : y ≡ x = cc in ap (λ v. v ∷ xs) (sym e)
 set_same (y ∷ xs) (suc i) x h = ap (λ l. y ∷ l) (set_same xs i x h)
@@ -318,7 +318,7 @@ set_same (y ∷ xs) (suc i) x h = ap (λ l. y ∷ l) (set_same xs i x h)
 pub came : {R : Type 0} (fits : R → List Entry → Type 0) (last : R → LastAsks) (passed : R → Passed) (remembers : Bool) → StaysKept fits last passed
     → (w : World) (k after : KeptManager R) (old new : Series) (file name : List ℕ) (time i before now : ℕ) (r : Report) → place_of (is_kept_named file name) k.groups ≡ Some i
     → IsKnownAt fits last passed remembers k after old new time i before now r → after.reloaded ≡ k.reloaded → settings_in after ≡ settings_in k
-    → KeepsGroupsOf fits last passed k w → MayEvaluateOver old w.history time → HasStepped fits last passed w k after old new (eval_step (settings_in k) w time file name) r
+    → ManagesGroupsOf fits last passed k w → MayEvaluateOver old w.history time → HasStepped fits last passed w k after old new (eval_step (settings_in k) w time file name) r
 came {R} fits last passed remembers stays w k after old new file name time i before now r at known since settings keeps may =
     let t = is_there fits last passed (settings_in k) w.history file name k.groups w.groups i keeps.each at in
     let c = known w.history t.kept t.group t.kept_at t.keeps may in
@@ -341,7 +341,7 @@ pub few_named : {R : Type 0} (fits : R → List Entry → Type 0) (last : R → 
     → place_of (is_kept_named file name) k.groups ≡ Some i
     → ((history : List Entry) (kept : KeptGroup R) (g : Group) → slice_get k.groups i ≡ Some kept → KeepsUnder fits last passed (settings_in k) history kept g → MayEvaluateOver old history time
     → now ≤ before + cost_after g.last (settings_in k) g history time (passed_by passed kept history))
-    → KeepsGroupsOf fits last passed k w → MayEvaluateOver old w.history time → now ≤ before + eval_cost (settings_in k) w time file name (passed_by_named passed k w.history file name)
+    → ManagesGroupsOf fits last passed k w → MayEvaluateOver old w.history time → now ≤ before + eval_cost (settings_in k) w time file name (passed_by_named passed k w.history file name)
 few_named fits last passed w k old file name time i before now at few keeps may =
     let t = is_there fits last passed (settings_in k) w.history file name k.groups w.groups i keeps.each at in
     subst (λ n. now ≤ before + n) (λ j. cost_by (settings_in k) w.history time (passed_by_any passed w.history (sym t.kept_found j)) (sym t.group_found j)) (few w.history t.kept t.group t.kept_at t.keeps may)
@@ -361,7 +361,7 @@ after_is (Some at) time h = is_sooner at time h
 
 pub came_passed : {R : Type 0} (fits : R → List Entry → Type 0) (last : R → LastAsks) (passed : R → Passed) (remembers : Bool)
     → (w : World) (g : Group) (k after : KeptManager R) (old new : Series) (file name : List ℕ) (time i before now : ℕ) (r : Report) → place_of (is_kept_named file name) k.groups ≡ Some i
-    → IsKnownAt fits last passed remembers k after old new time i before now r → KeepsGroupsOf fits last passed k w → MayEvaluateOver old w.history time
+    → IsKnownAt fits last passed remembers k after old new time i before now r → ManagesGroupsOf fits last passed k w → MayEvaluateOver old w.history time
     → find (is_group_named file name) w.groups ≡ Some g → IsAfter time g.last → remembers ≡ true
     → IsPassedAfter (settings_in k) g w.history time (passed_by_named passed k w.history file name) (passed_by_named passed after (eval_step (settings_in k) w time file name).world.history file name)
 came_passed {R} fits last passed remembers w g k after old new file name time i before now r at known keeps may found later does =
@@ -375,7 +375,7 @@ came_passed {R} fits last passed remembers w g k after old new file name time i 
     by kept groups t true e h =
         let same : t.group ≡ g = let both_found = sym t.group_found ∙ found in cc in
         let s = settings_in k in
-        let end = history_after w.history (group_step s t.group w.history time) in
+        let end = history_with w.history (group_step s t.group w.history time) in
         let ends : end ≡ (eval_step s w time file name).world.history = sym (ap (λ (x : Step). x.world.history) (step_later s w time file name t.group t.group_found e)) in
         let first : passed_by passed t.kept w.history ≡ passed_by_named passed k w.history file name = sym (ap (passed_by_any passed w.history) t.kept_found) in
         let second : passed_by passed kept end ≡ passed_by_named passed after end file name = sym (passed_after passed k after end file name i t.kept kept t.kept_placed groups t.named h.file h.def) in
@@ -415,16 +415,7 @@ KnownAt {R} fits last passed remembers k after old new time i before now result 
 pub answered : {R : Type 0} (fits : R → List Entry → Type 0) (last : R → LastAsks) (passed : R → Passed) (remembers : Bool) → StaysKept fits last passed
     → (w : World) (k after : KeptManager R) (old new : Series) (file name : List ℕ) (time i before now : ℕ) (result : Result Report AllocError) → place_of (is_kept_named file name) k.groups ≡ Some i
     → KnownAt fits last passed remembers k after old new time i before now result → OnOk result (after.reloaded ≡ k.reloaded) → OnOk result (settings_in after ≡ settings_in k)
-    → KeepsGroupsOf fits last passed k w → MayEvaluateOver old w.history time → IfOk result (HasStepped fits last passed w k after old new (eval_step (settings_in k) w time file name))
+    → ManagesGroupsOf fits last passed k w → MayEvaluateOver old w.history time → IfOk result (HasStepped fits last passed w k after old new (eval_step (settings_in k) w time file name))
 answered fits last passed remembers stays w k after old new file name time i before now (Err e) at known since settings keeps may = tt
 answered fits last passed remembers stays w k after old new file name time i before now (Ok r) at known since settings keeps may =
     came fits last passed remembers stays w k after old new file name time i before now r at known since settings keeps may
-
-pub answered_passed : {R : Type 0} (fits : R → List Entry → Type 0) (last : R → LastAsks) (passed : R → Passed) (remembers : Bool)
-    → (w : World) (g : Group) (k after : KeptManager R) (old new : Series) (file name : List ℕ) (time i before now : ℕ) (result : Result Report AllocError) → place_of (is_kept_named file name) k.groups ≡ Some i
-    → KnownAt fits last passed remembers k after old new time i before now result → KeepsGroupsOf fits last passed k w → MayEvaluateOver old w.history time
-    → find (is_group_named file name) w.groups ≡ Some g → IsAfter time g.last → remembers ≡ true
-    → OnOk result (IsPassedAfter (settings_in k) g w.history time (passed_by_named passed k w.history file name) (passed_by_named passed after (eval_step (settings_in k) w time file name).world.history file name))
-answered_passed fits last passed remembers w g k after old new file name time i before now (Err e) at known keeps may found later does = tt
-answered_passed fits last passed remembers w g k after old new file name time i before now (Ok r) at known keeps may found later does =
-    came_passed fits last passed remembers w g k after old new file name time i before now r at known keeps may found later does

@@ -2,6 +2,7 @@ pub mod Places
 pub mod Names
 pub mod Each
 pub mod Evaluated
+pub mod Passing
 pub mod Loaded
 pub mod Apart
 pub mod Parts

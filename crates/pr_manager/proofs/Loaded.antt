@@ -3,6 +3,7 @@ use Rattle.std.proofs.Common.{◌≡◌, ℕ, arith, length, Bool, true, false, 
 use Rattle.std.specs.Prelude.{not}
 use Rattle.std.specs.List.{AllZip}
 use Rattle.std.specs.declared.alloc.AllocError.{AllocError}
+use Rattle.pr_labels.specs.declared.pair.Pair.{Pair}
 use Rattle.pr_history.specs.declared.entry.Entry.{Entry}
 use Rattle.pr_query.specs.Answers.{go_on}
 use Rattle.pr_range.specs.Asks.{LastAsks, Passed}
@@ -11,12 +12,12 @@ use Rattle.pr_rulefile.specs.Groups.{Group as Definition}
 use Rattle.pr_rules.specs.Groups.{Group, fresh}
 use Rattle.pr_rules.specs.Reloads.{LoadedFile, fresh_groups, waits_at_first}
 use Rattle.pr_rules.specs.Settings.{Settings}
-use Rattle.pr_group.specs.Keeping.{KeepsGroup, KeptGroup, settings_of, waits_of}
+use Rattle.pr_group.specs.Keeping.{KeepsGroup, KeptGroup, passed_by, settings_of, waits_of}
 use Rattle.pr_world.specs.Rounds.{all_loaded, groups_by, with_groups}
 use Rattle.pr_world.specs.declared.event.NamedFile.{NamedFile}
 use Rattle.pr_world.specs.declared.report.Report.{Report}
 use Rattle.pr_manager.specs.Keeping.{KeepEach, KeepsUnder}
-use Rattle.pr_manager.specs.Loading.{fresh_by, loaded_files}
+use Rattle.pr_manager.specs.Loading.{HasPassedNothing, fresh_by, loaded_files}
 
 -- what is made of the files that are left, where so many groups are kept already
 pub record AreKeptSoFar {R : Type 0} (fits : R → List Entry → Type 0) (last : R → LastAsks) (passed : R → Passed) (s : Settings) (history : List Entry) (ks : List (KeptGroup R)) (left all : List Group) : Type 0 where
@@ -77,6 +78,11 @@ pub new_under : {R : Type 0} (fits : R → List Entry → Type 0) (last : R → 
     → t ≡ s → file ≡ name → IfOk result (λ k. KeepsGroup fits last passed k history (fresh waits file d)) → IfOk result (λ k. settings_of k ≡ t) → IfOk result (λ k. KeepsUnder fits last passed s history k (fresh waits name d))
 new_under fits last passed history (Err e) t s waits file name d p q keeps told = tt
 new_under fits last passed history (Ok k) t s waits file name d p q keeps told = record { keeps = subst (λ f. KeepsGroup fits last passed k history (fresh waits f d)) q keeps; told = told ∙ p }
+
+-- nothing was passed for it
+pub new_unpassed : {R : Type 0} (passed : R → Passed) (result : Result (KeptGroup R) AllocError) → ((history : List Entry) (i n : ℕ) (labels : List Pair) → IfOk result (λ k. passed_by passed k history i n labels ≡ 0)) → IfOk result (HasPassedNothing passed)
+new_unpassed passed (Err e) h = tt
+new_unpassed passed (Ok k) h = h
 
 pub kept_end : {R : Type 0} (fits : R → List Entry → Type 0) (last : R → LastAsks) (passed : R → Passed) (s : Settings) (history : List Entry) (ks : List (KeptGroup R)) (rest : List NamedFile) (waits : ℕ) (files : List NamedFile)
     → length rest ≡ 0 → AreKeptSoFar fits last passed s history ks (fresh_by waits (loaded_files rest)) (fresh_by waits (loaded_files files)) → KeepEach fits last passed s history ks (fresh_by waits (loaded_files files))

@@ -82,6 +82,14 @@ find_set {A} test (x ∷ xs) (suc i) y h t = by (test x) h (λ e. find_set test 
       let same : it.0 ≡ i = cc in
       again (it.1 ∙ ap Some same)
 
+-- another element takes the place of one, and neither passes
+pub find_other : {A : Type 0} (test : A → Bool) (xs : List A) (i : ℕ) (x y : A) → slice_get xs i ≡ Some x → test x ≡ false → test y ≡ false → find test (slice_set xs i y) ≡ find test xs
+find_other test [] i x y h p q = refl
+find_other test (v ∷ xs) zero x y h p q =
+    let same : v ≡ x = cc in
+    ap (λ b. cond b (Some y) (find test xs)) q ∙ sym (ap (λ b. cond b (Some v) (find test xs)) (ap test same ∙ p))
+find_other test (v ∷ xs) (suc i) x y h p q = ap (λ o. cond (test v) (Some v) o) (find_other test xs i x y h p q)
+
 -- so many elements before the others are none that pass
 pub one_more : {A : Type 0} (test : A → Bool) (n : ℕ) (x : A) (xs : List A) → test x ≡ false → option_map (λ m. n + m) (place_of test (x ∷ xs)) ≡ option_map (λ m. (n + 1) + m) (place_of test xs)
 one_more test n x xs t = ap (λ b. option_map (λ m. n + m) (cond b (Some 0) (option_map suc (place_of test xs)))) t ∙ by (place_of test xs) where

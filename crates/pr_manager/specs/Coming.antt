@@ -15,18 +15,18 @@ use Rattle.pr_world.specs.declared.report.Report.TheVariants as report
 use Rattle.pr_manager.specs.Keeping.{HasGoneOn, KeepsUnder}
 
 -- the history after a step
-abbrev pub history_after : List Entry → GroupStep → List Entry
-history_after history step = history ++ step.report.admitted
+abbrev pub history_with : List Entry → GroupStep → List Entry
+history_with history step = history ++ step.report.admitted
 
 -- it was evaluated
 pub record IsEvaluated {R : Type 0} (fits : R → List Entry → Type 0) (last : R → LastAsks) (passed : R → Passed) (remembers : Bool) (s : Settings) (g : Group) (k kept : KeptGroup R) (history : List Entry) (time : ℕ) (old new : Series) (before now : ℕ) (r : Report) : Type 0 where
   pub told : r ≡ report.Evaluated (group_step s g history time).report
-  pub head : HasGoneOn old new history (history_after history (group_step s g history time))
+  pub head : HasGoneOn old new history (history_with history (group_step s g history time))
   pub def : kept.def ≡ k.def
   pub file : kept.file ≡ k.file
-  pub keeps : KeepsUnder fits last passed s (history_after history (group_step s g history time)) kept (group_step s g history time).group
+  pub keeps : KeepsUnder fits last passed s (history_with history (group_step s g history time)) kept (group_step s g history time).group
   pub few : now ≤ before + group_cost s g history time (passed_by passed k history)
-  pub passing : remembers ≡ true → IsPassedAfter s g history time (passed_by passed k history) (passed_by passed kept (history_after history (group_step s g history time)))
+  pub passing : remembers ≡ true → IsPassedAfter s g history time (passed_by passed k history) (passed_by passed kept (history_with history (group_step s g history time)))
 
 -- it was refused, since it was evaluated so late, and nothing has changed
 pub record IsNotLater {R : Type 0} (since : Option ℕ) (k kept : KeptGroup R) (old new : Series) (before now : ℕ) (r : Report) : Type 0 where

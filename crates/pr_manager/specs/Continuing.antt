@@ -6,9 +6,11 @@ use Rattle.pr_range.specs.Asks.{LastAsks, Passed}
 use Rattle.pr_rulefile.specs.Groups.{Group as Definition}
 use Rattle.pr_rules.specs.Groups.{Group, fresh}
 use Rattle.pr_rules.specs.Reloads.{continued_by}
-use Rattle.pr_group.specs.Keeping.{KeepsGroup, KeptGroup, settings_of}
+use Rattle.pr_group.specs.Keeping.{KeepsGroup, KeptGroup, passed_by, settings_of}
 use Rattle.pr_manager.specs.declared.naming.GroupName.{GroupName}
-use Rattle.pr_manager.specs.Naming.{name_of}
+use Rattle.pr_manager.specs.Loading.{HasPassedNothing}
+use Rattle.pr_manager.specs.Naming.{name_of, passed_by_any}
+use Rattle.pr_manager.specs.Passing.{taken_over}
 
 -- a group that may be there is kept, and one that is not there is not
 abbrev pub KeepsAny : {R : Type 0} → (R → List Entry → Type 0) → (R → LastAsks) → (R → Passed) → List Entry → Option (KeptGroup R) → Option Group → Type 0
@@ -18,12 +20,17 @@ KeepsAny fits last passed history (Some k) None = ⊥
 KeepsAny fits last passed history (Some k) (Some g) = KeepsGroup fits last passed k history g
 
 -- What is kept of a new group, to which nothing has happened, has gone on from an old one, or from
--- none: of each group that the new one stands for and of each that the old one stands for.
-pub record GoesOn {R : Type 0} (fits : R → List Entry → Type 0) (last : R → LastAsks) (passed : R → Passed) (new : KeptGroup R) (old : Option (KeptGroup R)) (done : KeptGroup R) : Type 0 where
+-- none: of each group that the new one stands for and of each that the old one stands for. So has what
+-- was passed.
+pub record Continues {R : Type 0} (fits : R → List Entry → Type 0) (last : R → LastAsks) (passed : R → Passed) (new : KeptGroup R) (old : Option (KeptGroup R)) (done : KeptGroup R) : Type 0 where
   pub keeps : (history : List Entry) (waits : ℕ) (file : List ℕ) (d : Definition) (was : Option Group) → KeepsGroup fits last passed new history (fresh waits file d)
       → KeepsAny fits last passed history old was → KeepsGroup fits last passed done history (continued_by (fresh waits file d) was)
+  pub passing : HasPassedNothing passed new → (history : List Entry) (waits : ℕ) (file : List ℕ) (d : Definition) (was : Option Group) → KeepsGroup fits last passed new history (fresh waits file d)
+      → KeepsAny fits last passed history old was → passed_by passed done history ≡ taken_over was (fresh waits file d) (passed_by_any passed history old)
+  pub def : done.def ≡ new.def
+  pub file : done.file ≡ new.file
   pub settings : settings_of done ≡ settings_of new
 
 -- so of each, where the old ones are found by name
-abbrev pub GoOn : {R : Type 0} → (R → List Entry → Type 0) → (R → LastAsks) → (R → Passed) → (GroupName → Option (KeptGroup R)) → List (KeptGroup R) → List (KeptGroup R) → Type 0
-GoOn fits last passed old news dones = AllZip (λ new done. GoesOn fits last passed new (old (name_of new)) done) news dones
+abbrev pub EachContinues : {R : Type 0} → (R → List Entry → Type 0) → (R → LastAsks) → (R → Passed) → (GroupName → Option (KeptGroup R)) → List (KeptGroup R) → List (KeptGroup R) → Type 0
+EachContinues fits last passed old news dones = AllZip (λ new done. Continues fits last passed new (old (name_of new)) done) news dones

@@ -35,13 +35,13 @@ pub record KeepsUnder {R : Type 0} (fits : R → List Entry → Type 0) (last : 
 abbrev pub KeepEach : {R : Type 0} → (R → List Entry → Type 0) → (R → LastAsks) → (R → Passed) → Settings → List Entry → List (KeptGroup R) → List Group → Type 0
 KeepEach fits last passed s history ks groups = AllZip (KeepsUnder fits last passed s history) ks groups
 
-pub record KeepsGroups {R : Type 0} (fits : R → List Entry → Type 0) (last : R → LastAsks) (passed : R → Passed) (k : KeptManager R) (history : List Entry) (groups : List Group) (reloaded : Bool) : Type 0 where
+pub record ManagesGroups {R : Type 0} (fits : R → List Entry → Type 0) (last : R → LastAsks) (passed : R → Passed) (k : KeptManager R) (history : List Entry) (groups : List Group) (reloaded : Bool) : Type 0 where
   pub each : KeepEach fits last passed (settings_in k) history k.groups groups
   pub since : k.reloaded ≡ reloaded
 
 -- those of a world
-abbrev pub KeepsGroupsOf : {R : Type 0} → (R → List Entry → Type 0) → (R → LastAsks) → (R → Passed) → KeptManager R → World → Type 0
-KeepsGroupsOf fits last passed k w = KeepsGroups fits last passed k w.history w.groups w.reloaded
+abbrev pub ManagesGroupsOf : {R : Type 0} → (R → List Entry → Type 0) → (R → LastAsks) → (R → Passed) → KeptManager R → World → Type 0
+ManagesGroupsOf fits last passed k w = ManagesGroups fits last passed k w.history w.groups w.reloaded
 
 -- A head that stood for a history stands for a later one, and nothing more is forgotten.
 pub record HasGoneOn (old new : Series) (history later : List Entry) : Type 0 where

@@ -1,6 +1,7 @@
 pub mod Keeping
 pub mod Rounds
 pub mod Naming
+pub mod Passing
 pub mod Finding
 pub mod Loading
 pub mod Continuing

@@ -1,8 +1,12 @@
 -- Files that are read one after another. Private contracts cite this: a reader can pass it over.
 use Rattle.std.specs.Prelude.{◌≡◌, ℕ, List, flat_map, map, Result, Err}
+use Rattle.pr_labels.specs.declared.pair.Pair.{Pair}
+use Rattle.pr_history.specs.declared.entry.Entry.{Entry}
 use Rattle.pr_rulefile.specs.File.{groups_given, rule_file_of}
+use Rattle.pr_range.specs.Asks.{Passed}
 use Rattle.pr_rules.specs.Groups.{Group, fresh}
 use Rattle.pr_rules.specs.Reloads.{LoadedFile}
+use Rattle.pr_group.specs.Keeping.{KeptGroup, passed_by}
 use Rattle.pr_world.specs.declared.event.NamedFile.{NamedFile}
 use Rattle.pr_world.specs.declared.report.Report.{Report}
 use Rattle.pr_world.specs.declared.report.Report.TheVariants as report
@@ -20,6 +24,10 @@ loaded_files files = map loaded_file files
 -- the groups of files, to which nothing has happened
 abbrev pub fresh_by : ℕ → List LoadedFile → List Group
 fresh_by waits files = flat_map (λ f. map (fresh waits f.name) f.groups) files
+
+-- nothing was passed for a group
+abbrev pub HasPassedNothing : {R : Type 0} → (R → Passed) → KeptGroup R → Type 0
+HasPassedNothing passed k = (history : List Entry) (i n : ℕ) (labels : List Pair) → passed_by passed k history i n labels ≡ 0
 
 -- The error is what the files are refused by. Nothing is said where memory runs out.
 abbrev pub IsRefusalOf : {T : Type 0} → Result T Report → LoadError → Type 0

@@ -1,7 +1,7 @@
 // New groups that go on from old ones.
 ghost use Rattle.std.specs.Prelude.{◌≡◌, cond, Some, None, IfOk, OnOk};
 ghost use Rattle.pr_manager.specs.declared.naming.GroupName.{GroupName as Name};
-ghost use Rattle.pr_manager.specs.Continuing.{GoOn, GoesOn};
+ghost use Rattle.pr_manager.specs.Continuing.{EachContinues, Continues};
 ghost use Rattle.pr_manager.specs.Naming.{AreApart, name_of, names_of, same_name, value_of};
 
 use crate::naming::name_of;
@@ -16,7 +16,7 @@ fn carry<R: Ranges + Drop>(
     new: GroupOver<R>,
     old: GroupOver<R>,
 ) -> Result<GroupOver<R>, AllocError>
-    ensures { IfOk result (λ done. GoesOn R.fits R.last R.passed new (Some old) done) }
+    ensures { IfOk result (λ done. Continues R.fits R.last R.passed new (Some old) done) }
 {
     let mut done = new;
     done.carry(alloc, old)?;
@@ -29,7 +29,7 @@ fn carry_any<R: Ranges + Drop>(
     new: GroupOver<R>,
     old: Option<GroupOver<R>>,
 ) -> Result<GroupOver<R>, AllocError>
-    ensures { IfOk result (λ done. GoesOn R.fits R.last R.passed new old done) }
+    ensures { IfOk result (λ done. Continues R.fits R.last R.passed new old done) }
 {
     match old {
         Some(old) => carry(alloc, new, old),
@@ -43,7 +43,7 @@ fn go_on_one<R: Ranges + Drop>(
     new: GroupOver<R>,
     waiting: &mut Waiting<GroupOver<R>>,
 ) -> Result<GroupOver<R>, AllocError>
-    ensures goes { IfOk result (λ done. GoesOn R.fits R.last R.passed new (value_of waiting.old (name_of new)) done) }
+    ensures goes { IfOk result (λ done. Continues R.fits R.last R.passed new (value_of waiting.old (name_of new)) done) }
     ensures others { OnOk result ((q : Name) → value_of waiting.new q ≡ cond (same_name (name_of new) q) None (value_of waiting.old q)) }
 {
     let name = name_of(alloc, &new)?;
@@ -61,7 +61,7 @@ pub(crate) fn go_on<R: Ranges + Drop>(
     waiting: &mut Waiting<GroupOver<R>>,
 ) -> Result<Vec<GroupOver<R>>, AllocError>
     requires { AreApart (names_of news.items) }
-    ensures { IfOk result (λ v. GoOn R.fits R.last R.passed (value_of waiting.old) news.items v.items) }
+    ensures { IfOk result (λ v. EachContinues R.fits R.last R.passed (value_of waiting.old) news.items v.items) }
 {
     let mut done = Vec::new(alloc);
     for new in news {

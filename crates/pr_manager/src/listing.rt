@@ -6,7 +6,7 @@ ghost use Rattle.pr_rulefile.specs.declared.rules.RuleDef.{RuleDef as Code};
 ghost use Rattle.pr_lineage.specs.Records.{is_living, is_living_state};
 ghost use Rattle.pr_group.specs.Keeping.{KeepsGroup};
 ghost use Rattle.pr_world.specs.Rounds.{alert_line, alerts_of, group_alerts, rule_alerts};
-ghost use Rattle.pr_manager.specs.Keeping.{KeepsGroups};
+ghost use Rattle.pr_manager.specs.Keeping.{ManagesGroups};
 
 use crate::manager::Manager;
 use pr_alert::{Record, State, records_of_a_lineage_stand_for_it};
@@ -107,7 +107,7 @@ impl<R: Ranges + Drop> Manager<R> {
     /// # Errors
     /// Want of memory.
     pub fn alerts(&self, alloc: Global) -> Result<Items<AlertLine>, AllocError>
-        ensures { (history : List Entry) (groups : List Group) (reloaded : Bool) → KeepsGroups R.fits R.last R.passed self.now history groups reloaded
+        ensures { (history : List Entry) (groups : List Group) (reloaded : Bool) → ManagesGroups R.fits R.last R.passed self.now history groups reloaded
             → IfOk result (λ l. l ≡ alerts_of groups) }
     {
         let mut lines = Items::empty(alloc);

@@ -9,7 +9,7 @@ ghost use Rattle.pr_rules.specs.Groups.{Group, fresh};
 ghost use Rattle.pr_group.specs.Keeping.{waits_of};
 ghost use Rattle.pr_world.specs.Rounds.{all_loaded, first_problem, groups_by};
 ghost use Rattle.pr_manager.specs.Keeping.{KeepEach, KeepsUnder, settings_with};
-ghost use Rattle.pr_manager.specs.Loading.{IsRefusalOf, fresh_by, loaded_files};
+ghost use Rattle.pr_manager.specs.Loading.{HasPassedNothing, IsRefusalOf, fresh_by, loaded_files};
 
 use pr_fields::{Problem, ProblemKind};
 use pr_group::GroupOver;
@@ -80,7 +80,8 @@ fn fresh_group<R: Ranges + Drop>(
 ) -> Result<GroupOver<R>, AllocError>
     requires some { 0 < making.now.step }
     requires templates { HaveTemplates def }
-    ensures { (history : List Entry) → IfOk result (λ k. KeepsUnder R.fits R.last R.passed (settings_with making.now.step making.now.external.now) history k (fresh (waits_of making.now.waits) name.now (group_of_def def))) }
+    ensures unpassed { IfOk result (HasPassedNothing R.passed) }
+    ensures fresh { (history : List Entry) → IfOk result (λ k. KeepsUnder R.fits R.last R.passed (settings_with making.now.step making.now.external.now) history k (fresh (waits_of making.now.waits) name.now (group_of_def def))) }
 {
     let file = Text::from_str(alloc, name)?;
     let external = copied(alloc, making.external)?;
@@ -97,7 +98,8 @@ fn push_groups<R: Ranges + Drop>(
 ) -> Result<(), AllocError>
     requires some { 0 < making.now.step }
     requires templates { All HaveTemplates defs.items }
-    ensures { (history : List Entry) (groups : List Group) → KeepEach R.fits R.last R.passed (settings_with making.now.step making.now.external.now) history news.old.items groups
+    ensures unpassed { All (HasPassedNothing R.passed) news.old.items → OnOk result (All (HasPassedNothing R.passed) news.new.items) }
+    ensures fresh { (history : List Entry) (groups : List Group) → KeepEach R.fits R.last R.passed (settings_with making.now.step making.now.external.now) history news.old.items groups
         → OnOk result (KeepEach R.fits R.last R.passed (settings_with making.now.step making.now.external.now) history news.new.items (groups ++ map (fresh (waits_of making.now.waits) name.now) (map group_of_def defs.items))) }
 {
     for def in defs {
@@ -153,6 +155,7 @@ fn load_file<R: Ranges + Drop>(
 ) -> Result<(), LoadError>
     requires { 0 < making.now.step }
     ensures file { OnOk result (groups_by file.now.name (rule_file_of file.now.bytes) ≡ Ok (groups_given (rule_file_of file.now.bytes))) }
+    ensures unpassed { All (HasPassedNothing R.passed) news.old.items → OnOk result (All (HasPassedNothing R.passed) news.new.items) }
     ensures fresh { (history : List Entry) (groups : List Group) → KeepEach R.fits R.last R.passed (settings_with making.now.step making.now.external.now) history news.old.items groups
         → OnOk result (KeepEach R.fits R.last R.passed (settings_with making.now.step making.now.external.now) history news.new.items (groups ++ map (fresh (waits_of making.now.waits) file.now.name) (groups_given (rule_file_of file.now.bytes)))) }
     ensures refused { IfErr result (IsRefusalOf (groups_by file.now.name (rule_file_of file.now.bytes))) }
@@ -180,6 +183,7 @@ pub(crate) fn load<R: Ranges + Drop>(
 ) -> Result<Vec<GroupOver<R>>, LoadError>
     requires { 0 < making.now.step }
     ensures files { OnOk result (all_loaded files.now ≡ Ok (loaded_files files.now)) }
+    ensures unpassed { IfOk result (λ v. All (HasPassedNothing R.passed) v.items) }
     ensures fresh { (history : List Entry) → IfOk result (λ v. KeepEach R.fits R.last R.passed (settings_with making.now.step making.now.external.now) history v.items (fresh_by (waits_of making.now.waits) (loaded_files files.now))) }
     ensures refused { IfErr result (IsRefusalOf (all_loaded files.now)) }
 {

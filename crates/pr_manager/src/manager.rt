@@ -1,14 +1,13 @@
 // All groups, and the evaluation of one.
-ghost use Rattle.std.specs.Prelude.{◌≡◌, ◌+◌, ◌<◌, ◌≤◌, false, true, Bool, List, [], length, slice_get, IfOk, OnOk, Some, find};
+ghost use Rattle.std.specs.Prelude.{◌≡◌, ◌+◌, ◌<◌, ◌≤◌, false, true, Bool, List, [], length, slice_get, IfOk, OnOk, Some};
 ghost use Rattle.pr_history.specs.declared.entry.Entry.{Entry};
 ghost use Rattle.pr_group.specs.Keeping.{KeptGroup, MayEvaluateOver, passed_by};
-ghost use Rattle.pr_rules.specs.Groups.{Group, is_group_named};
-ghost use Rattle.pr_rules.specs.Passed.{IsPassedAfter};
-ghost use Rattle.pr_rules.specs.Times.{IsAfter};
+ghost use Rattle.pr_rules.specs.Groups.{Group};
 ghost use Rattle.pr_world.specs.World.{World};
-ghost use Rattle.pr_manager.specs.Keeping.{HasGoneOn, KeepsGroups, KeepsGroupsOf, KeepsUnder, settings_in};
+ghost use Rattle.pr_manager.specs.Keeping.{HasGoneOn, ManagesGroups, ManagesGroupsOf, KeepsUnder, settings_in};
 ghost use Rattle.pr_manager.specs.Coming.{ComesAt};
 ghost use Rattle.pr_manager.specs.Naming.{passed_by_named};
+ghost use Rattle.pr_manager.specs.Passing.{EvaluationPasses};
 ghost use Rattle.pr_manager.specs.Rounds.{admitted_in, cost_after, eval_cost, eval_step};
 
 use crate::coming::evaluate_group;
@@ -55,7 +54,7 @@ impl<R: Ranges + Drop> Manager<R> {
     /// 0; the external texts are what templates see.
     pub fn new(alloc: Global, step: Span, external: External) -> Manager<R>
         requires { 0 < step }
-        ensures keeps { (history : List Entry) → KeepsGroups R.fits R.last R.passed result history [] false }
+        ensures keeps { (history : List Entry) → ManagesGroups R.fits R.last R.passed result history [] false }
         ensures settings { settings_in result ≡ record { subquery_step = step; external = external } }
     {
         Manager {
@@ -103,21 +102,20 @@ impl<R: Ranges + Drop> Manager<R> {
         time: Ms,
         reads: &mut Steps<G>,
     ) -> Result<Report, AllocError>
-        ensures report { (w : World) → KeepsGroupsOf R.fits R.last R.passed self.old w → MayEvaluateOver head.old w.history time
+        ensures report { (w : World) → ManagesGroupsOf R.fits R.last R.passed self.old w → MayEvaluateOver head.old w.history time
             → IfOk result (λ r. r ≡ (eval_step (settings_in self.old) w time file group).report) }
-        ensures rows { (w : World) → KeepsGroupsOf R.fits R.last R.passed self.old w → MayEvaluateOver head.old w.history time
+        ensures rows { (w : World) → ManagesGroupsOf R.fits R.last R.passed self.old w → MayEvaluateOver head.old w.history time
             → IfOk result (λ r. admitted_in r ≡ (eval_step (settings_in self.old) w time file group).rows) }
-        ensures keeps { (w : World) → KeepsGroupsOf R.fits R.last R.passed self.old w → MayEvaluateOver head.old w.history time
-            → OnOk result (KeepsGroupsOf R.fits R.last R.passed self.new (eval_step (settings_in self.old) w time file group).world) }
-        ensures head { (w : World) → KeepsGroupsOf R.fits R.last R.passed self.old w → MayEvaluateOver head.old w.history time
+        ensures keeps { (w : World) → ManagesGroupsOf R.fits R.last R.passed self.old w → MayEvaluateOver head.old w.history time
+            → OnOk result (ManagesGroupsOf R.fits R.last R.passed self.new (eval_step (settings_in self.old) w time file group).world) }
+        ensures head { (w : World) → ManagesGroupsOf R.fits R.last R.passed self.old w → MayEvaluateOver head.old w.history time
             → OnOk result (HasGoneOn head.old head.new w.history (eval_step (settings_in self.old) w time file group).world.history) }
-        ensures reads { (w : World) → KeepsGroupsOf R.fits R.last R.passed self.old w → MayEvaluateOver head.old w.history time
+        ensures reads { (w : World) → ManagesGroupsOf R.fits R.last R.passed self.old w → MayEvaluateOver head.old w.history time
             → reads.new ≤ reads.old + eval_cost (settings_in self.old) w time file group (passed_by_named R.passed self.old w.history file group) }
-        ensures passed { (w : World) (g : Group) → KeepsGroupsOf R.fits R.last R.passed self.old w → MayEvaluateOver head.old w.history time
-            → find (is_group_named file group) w.groups ≡ Some g → IsAfter time g.last → R.keeps ≡ true
-            → OnOk result (IsPassedAfter (settings_in self.old) g w.history time (passed_by_named R.passed self.old w.history file group)
-            (passed_by_named R.passed self.new (eval_step (settings_in self.old) w time file group).world.history file group)) }
-        ensures refused { (w : World) → KeepsGroupsOf R.fits R.last R.passed self.old w → MayEvaluateOver head.old w.history time
+        ensures passed { (w : World) → ManagesGroupsOf R.fits R.last R.passed self.old w → MayEvaluateOver head.old w.history time
+            → OnOk result (EvaluationPasses R.keeps (settings_in self.old) w time file group (passed_by_named R.passed self.old w.history)
+            (passed_by_named R.passed self.new (eval_step (settings_in self.old) w time file group).world.history)) }
+        ensures refused { (w : World) → ManagesGroupsOf R.fits R.last R.passed self.old w → MayEvaluateOver head.old w.history time
             → (eval_step (settings_in self.old) w time file group).refused ≡ true → OnOk result ((self.new ≡ self.old) × (head.new ≡ head.old)) }
         ensures settings { OnOk result (settings_in self.new ≡ settings_in self.old) }
     {

@@ -1,6 +1,6 @@
 // A reload.
 ghost use Rattle.std.specs.Prelude.{◌≡◌, ℕ, true, List, [], Result, Err, length, map, sum_by, IfOk, OnOk};
-ghost use Rattle.std.specs.List.{IsDistinct};
+ghost use Rattle.std.specs.List.{All, IsDistinct};
 ghost use Rattle.std.specs.Str.{bytes_eq};
 ghost use Rattle.pr_history.specs.Admission.{IsLawful};
 ghost use Rattle.pr_history.specs.declared.entry.Entry.{Entry as Line};
@@ -11,9 +11,10 @@ ghost use Rattle.pr_world.specs.World.{World};
 ghost use Rattle.pr_world.specs.declared.event.NamedFile.{NamedFile};
 ghost use Rattle.pr_world.specs.declared.report.Report.{Report as Answer};
 ghost use Rattle.pr_world.specs.declared.report.Report.TheVariants.{Reloaded};
-ghost use Rattle.pr_manager.specs.Keeping.{HasGoneOn, KeepEach, KeepsGroupsOf, settings_in};
-ghost use Rattle.pr_manager.specs.Loading.{IsRefusalOf, fresh_by};
-ghost use Rattle.pr_manager.specs.Naming.{AreApart, names_of};
+ghost use Rattle.pr_manager.specs.Keeping.{HasGoneOn, KeepEach, ManagesGroupsOf, settings_in};
+ghost use Rattle.pr_manager.specs.Loading.{HasPassedNothing, IsRefusalOf, fresh_by};
+ghost use Rattle.pr_manager.specs.Naming.{AreApart, names_of, passed_by_named};
+ghost use Rattle.pr_manager.specs.Passing.{ReloadPasses};
 ghost use Rattle.pr_manager.specs.Replacing.{HasReplaced};
 ghost use Rattle.pr_manager.specs.Rounds.{files_step};
 
@@ -88,8 +89,8 @@ impl<R: Ranges + Drop> Manager<R> {
     ) -> Result<Answered, AllocError>
         requires { AreApart (names_of news.items) }
         ensures replaced { (history : List Line) (olds : List Group) (waits : ℕ) (files : List LoadedFile) → KeepEach R.fits R.last R.passed (settings_in self.old) history self.old.groups olds
-            → KeepEach R.fits R.last R.passed (settings_in self.old) history news.items (fresh_by waits files) → IsLawful history → Holds head.old history
-            → IfOk result (HasReplaced R.fits R.last R.passed (settings_in self.old) history (reload_by olds time (fresh_by waits files)) head.old head.new self.new.groups) }
+            → KeepEach R.fits R.last R.passed (settings_in self.old) history news.items (fresh_by waits files) → All (HasPassedNothing R.passed) news.items → IsLawful history → Holds head.old history
+            → IfOk result (HasReplaced R.fits R.last R.passed (settings_in self.old) history olds (reload_by olds time (fresh_by waits files)) head.old head.new self.old.groups self.new.groups) }
         ensures since { OnOk result (self.new.reloaded ≡ true) }
         ensures settings { OnOk result (settings_in self.new ≡ settings_in self.old) }
     {
@@ -122,15 +123,18 @@ impl<R: Ranges + Drop> Manager<R> {
         time: Ms,
     ) -> Result<Answered, AllocError>
         requires { IsDistinct bytes_eq (map (λ f. f.name) files) }
-        ensures report { (w : World) → KeepsGroupsOf R.fits R.last R.passed self.old w → IsLawful w.history → Holds head.old w.history
+        ensures report { (w : World) → ManagesGroupsOf R.fits R.last R.passed self.old w → IsLawful w.history → Holds head.old w.history
             → IfOk result (λ a. a.report ≡ (files_step w time files).report) }
-        ensures rows { (w : World) → KeepsGroupsOf R.fits R.last R.passed self.old w → IsLawful w.history → Holds head.old w.history
+        ensures rows { (w : World) → ManagesGroupsOf R.fits R.last R.passed self.old w → IsLawful w.history → Holds head.old w.history
             → IfOk result (λ a. a.added ≡ (files_step w time files).rows) }
-        ensures keeps { (w : World) → KeepsGroupsOf R.fits R.last R.passed self.old w → IsLawful w.history → Holds head.old w.history
-            → OnOk result (KeepsGroupsOf R.fits R.last R.passed self.new (files_step w time files).world) }
-        ensures head { (w : World) → KeepsGroupsOf R.fits R.last R.passed self.old w → IsLawful w.history → Holds head.old w.history
+        ensures keeps { (w : World) → ManagesGroupsOf R.fits R.last R.passed self.old w → IsLawful w.history → Holds head.old w.history
+            → OnOk result (ManagesGroupsOf R.fits R.last R.passed self.new (files_step w time files).world) }
+        ensures head { (w : World) → ManagesGroupsOf R.fits R.last R.passed self.old w → IsLawful w.history → Holds head.old w.history
             → OnOk result (HasGoneOn head.old head.new w.history (files_step w time files).world.history) }
-        ensures refused { (w : World) → KeepsGroupsOf R.fits R.last R.passed self.old w → IsLawful w.history → Holds head.old w.history
+        // Windows go on with the groups that go on.
+        ensures passed { (w : World) → ManagesGroupsOf R.fits R.last R.passed self.old w → IsLawful w.history → Holds head.old w.history
+            → OnOk result (ReloadPasses w time files (passed_by_named R.passed self.old w.history) (passed_by_named R.passed self.new (files_step w time files).world.history)) }
+        ensures refused { (w : World) → ManagesGroupsOf R.fits R.last R.passed self.old w → IsLawful w.history → Holds head.old w.history
             → (files_step w time files).refused ≡ true → OnOk result ((self.new ≡ self.old) × (head.new ≡ head.old)) }
         ensures settings { OnOk result (settings_in self.new ≡ settings_in self.old) }
     {

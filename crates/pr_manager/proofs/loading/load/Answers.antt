@@ -23,6 +23,7 @@ loading-preserved g c =
     record {
       files = λ h. at.invariant.files (subst (λ (l : List NamedFile). all_loaded l ≡ Ok (loaded_files l)) (sym rest) (loaded_then f after c.in_ok-load_file.ensures.file h));
       refused = λ e h. at.invariant.refused e (subst (λ (l : List NamedFile). all_loaded l ≡ Err e) (sym rest) (refused_then f after e c.in_ok-load_file.ensures.file h));
+      unpassed = c.in_ok-load_file.ensures.unpassed at.invariant.unpassed;
       fresh = λ history.
           kept_file fits last passed s history at.news.items c.load_file.new.news.items (map (fresh waits f.name) (groups_given (rule_file_of f.bytes))) (fresh_by waits (loaded_files after)) (fresh_by waits (loaded_files c.args.files.now))
           (λ groups each. c.in_ok-load_file.ensures.fresh history groups each)

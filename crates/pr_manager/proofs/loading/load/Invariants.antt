@@ -1,10 +1,11 @@
 use Rattle.std.proofs.Common.{◌≡◌, List, Ok, Err, length}
+use Rattle.std.specs.List.{All}
 use Rattle.pr_history.specs.declared.entry.Entry.{Entry}
 use Rattle.pr_group.specs.Keeping.{waits_of}
 use Rattle.pr_world.specs.Rounds.{all_loaded}
 use Rattle.pr_world.specs.declared.report.Report.{Report}
 use Rattle.pr_manager.specs.Keeping.{settings_with}
-use Rattle.pr_manager.specs.Loading.{fresh_by, loaded_files}
+use Rattle.pr_manager.specs.Loading.{HasPassedNothing, fresh_by, loaded_files}
 use Rattle.pr_manager.proofs.Loaded.{AreKeptSoFar}
 use Rattle.pr_manager.proofs.loading.load.Given as goal
 
@@ -12,6 +13,7 @@ abbrev pub invariant-loading : goal.invariant-loading
 invariant-loading g l = record {
   files : all_loaded l.rest ≡ Ok (loaded_files l.rest) → all_loaded l.files ≡ Ok (loaded_files l.files);
   refused : (e : Report) → all_loaded l.rest ≡ Err e → all_loaded l.files ≡ Err e;
+  unpassed : All (HasPassedNothing g.R.Ranges.passed) l.news.items;
   fresh : (history : List Entry)
       → AreKeptSoFar g.R.Ranges.fits g.R.Ranges.last g.R.Ranges.passed (settings_with l.making.step l.making.external.now) history l.news.items (fresh_by (waits_of l.making.waits) (loaded_files l.rest)) (fresh_by (waits_of l.making.waits) (loaded_files l.files));
 }

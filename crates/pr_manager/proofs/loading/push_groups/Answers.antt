@@ -1,12 +1,13 @@
-use Rattle.std.proofs.Common.{List, ◌≡◌, ◌++◌, [], map, arith, subst}
+use Rattle.std.proofs.Common.{List, ◌≡◌, ◌++◌, [], map, arith, subst, sym}
 use Rattle.std.specs.List.{All}
-use Rattle.std.proofs.lemmas.List.Elements.{All-tail}
+use Rattle.std.proofs.lemmas.List.Elements.{All-push, All-tail}
 use Rattle.pr_rule_result.specs.Templates.{HaveTemplates}
 use Rattle.pr_rulefile.specs.Groups.{group_of_def}
 use Rattle.pr_rulefile.specs.declared.rules.GroupDef.{GroupDef}
 use Rattle.pr_rules.specs.Groups.{fresh}
-use Rattle.pr_group.specs.Keeping.{waits_of}
+use Rattle.pr_group.specs.Keeping.{KeptGroup, waits_of}
 use Rattle.pr_manager.specs.Keeping.{settings_with}
+use Rattle.pr_manager.specs.Loading.{HasPassedNothing}
 use Rattle.pr_manager.proofs.Loaded.{AreKeptSoFar, empty, kept_all, kept_none, kept_one}
 use Rattle.pr_manager.proofs.loading.push_groups.Goals as goal
 
@@ -21,14 +22,17 @@ loop-def-preserved g c =
     let rest = c.in-Some.ensures.steps.0 in
     record {
       templates = All-tail HaveTemplates c.in-Some.def c.next.new.self.rest.items (subst (λ (l : List GroupDef). All HaveTemplates l) rest at.invariant.templates);
+      unpassed = λ h.
+          subst (λ (l : List (KeptGroup g.row.R.Denot)). All (HasPassedNothing passed) l) (sym c.in_ok-push.ensures.items)
+          (All-push (HasPassedNothing passed) at.news.items c.in_ok-fresh_group.field-0 (at.invariant.unpassed h) c.in_ok-fresh_group.ensures.unpassed);
       keeps = λ history all h.
           kept_one fits last passed s history at.news.items c.push.new.self.items c.in_ok-fresh_group.field-0 (make (group_of_def c.in-Some.def)) (map make (map group_of_def c.next.new.self.rest.items)) all
-          c.in_ok-push.ensures.items (c.in_ok-fresh_group.ensures history)
+          c.in_ok-push.ensures.items (c.in_ok-fresh_group.ensures.fresh history)
           (subst (λ (l : List GroupDef). AreKeptSoFar fits last passed s history at.news.items (map make (map group_of_def l)) all) rest (at.invariant.keeps history all h));
     }
 
-pub returns : goal.returns
-returns g c = λ history groups each.
+pub returns-clause-fresh : goal.returns-clause-fresh
+returns-clause-fresh g c = λ history groups each.
     let fits = g.R.Ranges.fits in
     let last = g.R.Ranges.last in
     let passed = g.R.Ranges.passed in

@@ -6,12 +6,14 @@ use Rattle.pr_rulefile.specs.Groups.{group_of_def}
 use Rattle.pr_rules.specs.Groups.{Group, fresh}
 use Rattle.pr_group.specs.Keeping.{waits_of}
 use Rattle.pr_manager.specs.Keeping.{settings_with}
+use Rattle.pr_manager.specs.Loading.{HasPassedNothing}
 use Rattle.pr_manager.proofs.Loaded.{AreKeptSoFar}
 use Rattle.pr_manager.proofs.loading.push_groups.Given as goal
 
 abbrev pub invariant-loop-def : goal.invariant-loop-def
 invariant-loop-def g l = record {
   templates : All HaveTemplates l.def-iterator.rest.items;
+  unpassed : All (HasPassedNothing g.R.Ranges.passed) l.initial.news.items → All (HasPassedNothing g.R.Ranges.passed) l.news.items;
   keeps : (history : List Entry) (all : List Group)
       → AreKeptSoFar g.R.Ranges.fits g.R.Ranges.last g.R.Ranges.passed (settings_with l.making.step l.making.external.now) history l.initial.news.items (map (fresh (waits_of l.making.waits) l.name) (map group_of_def l.fn.defs.items)) all
       → AreKeptSoFar g.R.Ranges.fits g.R.Ranges.last g.R.Ranges.passed (settings_with l.making.step l.making.external.now) history l.news.items (map (fresh (waits_of l.making.waits) l.name) (map group_of_def l.def-iterator.rest.items)) all;

@@ -1,9 +1,11 @@
 use Rattle.std.proofs.Common.{◌≡◌, Some, None, ap, subst, sym, ◌∙◌}
 use Rattle.pr_world.specs.Step.{Step}
 use Rattle.pr_world.specs.declared.report.Report.{Report}
-use Rattle.pr_manager.specs.Keeping.{HasGoneOn, KeepsGroupsOf, KeptManager, settings_in}
+use Rattle.pr_manager.specs.Keeping.{HasGoneOn, ManagesGroupsOf, KeptManager, settings_in}
+use Rattle.pr_manager.specs.Naming.{passed_by_named}
 use Rattle.pr_manager.specs.Rounds.{admitted_in, eval_step}
-use Rattle.pr_manager.proofs.Evaluated.{HasStepped, answered, few_named, answered_passed, found_place, gone_nowhere, if_ok, is_nowhere, on_ok, place_within, step_missing}
+use Rattle.pr_manager.proofs.Evaluated.{HasStepped, answered, few_named, found_place, gone_nowhere, if_ok, is_nowhere, on_ok, place_within, step_missing}
+use Rattle.pr_manager.proofs.Passing.{answered_passing, refused_passes}
 use Rattle.pr_manager.proofs.manager.Manager.evaluate.Goals as goal
 
 pub evaluate_at-requires : goal.evaluate_at-requires
@@ -63,7 +65,7 @@ returns-in-Some-clause-keeps g c = λ w keeps may.
     let new = c.evaluate_at.new.head in
     let step : Step = eval_step (settings_in m) w c.args.time c.args.file c.args.group in
     let Done : Report → Type 0 = HasStepped fits last passed w m after old new step in
-    on_ok Done (KeepsGroupsOf fits last passed after step.world) c.evaluate_at.result (λ r h. h.keeps)
+    on_ok Done (ManagesGroupsOf fits last passed after step.world) c.evaluate_at.result (λ r h. h.keeps)
     (answered fits last passed g.R.Ranges.keeps c.a_kept_group_stays.ensures.keeps w m after old new c.args.file c.args.group c.args.time c.in-Some.place c.args.reads.now c.evaluate_at.new.reads c.evaluate_at.result at
     c.evaluate_at.ensures.evaluated c.evaluate_at.ensures.since c.evaluate_at.ensures.settings keeps may)
 
@@ -118,7 +120,7 @@ returns-in-Some-clause-reads g c = λ w keeps may.
     few_named fits last passed w m old c.args.file c.args.group c.args.time c.in-Some.place c.args.reads.now c.evaluate_at.new.reads at c.evaluate_at.ensures.reads keeps may
 
 pub returns-in-Some-clause-passed : goal.returns-in-Some-clause-passed
-returns-in-Some-clause-passed g c = λ w it keeps may found later does.
+returns-in-Some-clause-passed g c = λ w keeps may.
     let groups = ap (λ (x : KeptManager g.row.R.Denot). x.groups) c.self.view_is in
     let at = found_place c.args.file c.args.group c.as_str.result.now c.as_str-2.result.now c.args.self.now.groups c.deref.result.now c.place_of.result (Some c.in-Some.place) c.as_str.ensures c.as_str-2.ensures
     (c.deref.ensures.value ∙ groups) c.place_of.ensures c.in-Some.is in
@@ -129,8 +131,8 @@ returns-in-Some-clause-passed g c = λ w it keeps may found later does.
     let after = c.evaluate_at.new.self in
     let old = c.args.head.now in
     let new = c.evaluate_at.new.head in
-    answered_passed fits last passed g.R.Ranges.keeps w it m after old new c.args.file c.args.group c.args.time c.in-Some.place c.args.reads.now c.evaluate_at.new.reads c.evaluate_at.result at c.evaluate_at.ensures.evaluated keeps may
-    found later does
+    answered_passing fits last passed g.R.Ranges.keeps c.a_kept_group_stays.ensures.passed w m after old new c.args.file c.args.group c.args.time c.in-Some.place c.args.reads.now c.evaluate_at.new.reads c.evaluate_at.result at
+    c.evaluate_at.ensures.evaluated c.evaluate_at.ensures.since c.evaluate_at.ensures.settings keeps may
 
 pub returns-in-None-clause-report : goal.returns-in-None-clause-report
 returns-in-None-clause-report g c = λ w keeps may.
@@ -172,7 +174,7 @@ returns-in-None-clause-keeps g c = λ w keeps may.
     let s = settings_in m in
     let missing = is_nowhere fits last passed s w.history c.args.file c.args.group m.groups w.groups keeps.each at in
     let is = step_missing s w c.args.time c.args.file c.args.group missing in
-    subst (λ (x : Step). KeepsGroupsOf fits last passed m x.world) (sym is) keeps
+    subst (λ (x : Step). ManagesGroupsOf fits last passed m x.world) (sym is) keeps
 
 pub returns-in-None-clause-head : goal.returns-in-None-clause-head
 returns-in-None-clause-head g c = λ w keeps may.
@@ -189,7 +191,7 @@ returns-in-None-clause-head g c = λ w keeps may.
     subst (λ (x : Step). HasGoneOn c.args.head.now c.args.head.now w.history x.world.history) (sym is) (gone_nowhere c.args.head.now w.history c.args.time may)
 
 pub returns-in-None-clause-passed : goal.returns-in-None-clause-passed
-returns-in-None-clause-passed g c = λ w it keeps may found later does.
+returns-in-None-clause-passed g c = λ w keeps may.
     let groups = ap (λ (x : KeptManager g.row.R.Denot). x.groups) c.self.view_is in
     let at = found_place c.args.file c.args.group c.as_str.result.now c.as_str-2.result.now c.args.self.now.groups c.deref.result.now c.place_of.result None c.as_str.ensures c.as_str-2.ensures
     (c.deref.ensures.value ∙ groups) c.place_of.ensures c.in-None.is in
@@ -200,4 +202,5 @@ returns-in-None-clause-passed g c = λ w it keeps may found later does.
     let s = settings_in m in
     let missing = is_nowhere fits last passed s w.history c.args.file c.args.group m.groups w.groups keeps.each at in
     let is = step_missing s w c.args.time c.args.file c.args.group missing in
-    absurd (let both_found = sym missing ∙ found in cc)
+    refused_passes g.R.Ranges.keeps s w c.args.time c.args.file c.args.group (passed_by_named passed m w.history) (passed_by_named passed m (eval_step s w c.args.time c.args.file c.args.group).world.history)
+    (ap (λ (x : Step). x.refused) is) (ap (λ (x : Step). passed_by_named passed m x.world.history) is)
