@@ -1,5 +1,5 @@
 -- The windows of one range selector among those of all.
-use Rattle.std.proofs.Common.{◌≡◌, ℕ, zero, suc, ◌+◌, ◌<◌, Bool, true, false, cond, ◌&&◌, nat_eq, List, [], ◌∷◌, ◌++◌, length, get_or, set, Some, None, option_and_then, refl, sym, ap, subst, ◌∙◌, arith}
+use Rattle.std.proofs.Common.{◌≡◌, ℕ, zero, suc, ◌<◌, Bool, true, false, cond, ◌&&◌, nat_eq, List, [], ◌∷◌, ◌++◌, length, get_or, set, Some, None, option_and_then, refl, sym, ap, subst, ◌∙◌, arith}
 use Rattle.std.specs.Map.{lookup}
 use Rattle.std.proofs.lemmas.Grind.{common_steps}
 use borrow.Author.Tests.{eqb-true}
@@ -7,60 +7,12 @@ use Rattle.pr_head.specs.Stored.{Stored}
 use Rattle.pr_vectors.specs.declared.range.Ask.{Ask}
 use Rattle.pr_slide.specs.declared.window.Window.{Window}
 use Rattle.pr_slide.specs.Windows.{IsPut, IsPutIn, IsSlid, Nodes, found}
-use Rattle.pr_slide.specs.Places.{IsAway, IsNodePlace}
+use Rattle.pr_slide.specs.Places.{IsNodePlace}
 
 abbrev pub Row : Type 0
 Row = ℕ × List (ℕ × Window)
 
-pub nothing_first : (node : ℕ) (nodes : Nodes) → IsAway node 0 nodes
-nothing_first node [] = tt
-nothing_first node (n ∷ nodes) = tt
-
--- one more that are not those
-away_next : (node i : ℕ) (nodes : Nodes) (d : Row) → i < length nodes → IsAway node i nodes → nat_eq node (get_or nodes i d).0 ≡ false → IsAway node (suc i) nodes
-away_next node i [] d h away e = tt
-away_next node zero (n ∷ nodes) d h away e = (e, nothing_first node nodes)
-away_next node (suc i) (n ∷ nodes) d h away e = (away.0, away_next node i nodes d (omega arith) away.1 e)
-
-pub away_more : (node i : ℕ) (nodes : Nodes) (d : Row) → i < length nodes → IsAway node i nodes → nat_eq node (get_or nodes i d).0 ≡ false → IsAway node (i + 1) nodes
-away_more node i nodes d h away e = let more : suc i ≡ i + 1 = omega arith in subst (λ k. IsAway node k nodes) more (away_next node i nodes d h away e)
-
-pub apart_is : (a b c : ℕ) → (a ≡ b → ⊥) → b ≡ c → nat_eq a c ≡ false
-apart_is a b c h e = by (nat_eq a c) refl where
-  by : (t : Bool) → nat_eq a c ≡ t → t ≡ false
-  by true k = absurd (h (eqb-true a c k ∙ sym e))
-  by false k = refl
-
-pub same_is : (a b c : ℕ) → a ≡ b → b ≡ c → nat_eq a c ≡ true
-same_is a b c h e = grind (arith, common_steps)
-
--- those that are
-pub place_there : (node i : ℕ) (nodes : Nodes) (d : Row) → i < length nodes → IsAway node i nodes → nat_eq node (get_or nodes i d).0 ≡ true → IsNodePlace node i nodes
-place_there node i [] d h away e = absurd (omega arith)
-place_there node zero (n ∷ nodes) d h away e = e
-place_there node (suc i) (n ∷ nodes) d h away e = (away.0, place_there node i nodes d (omega arith) away.1 e)
-
--- or there are none
-pub none_there : (node i : ℕ) (nodes : Nodes) → length nodes ≡ i → IsAway node i nodes → lookup (nat_eq node) nodes ≡ None
-none_there node i [] h away = refl
-none_there node zero (n ∷ nodes) h away = absurd (omega arith)
-none_there node (suc i) (n ∷ nodes) h away = ap (λ b. cond b (Some n.1) (lookup (nat_eq node) nodes)) away.0 ∙ none_there node i nodes (omega arith) away.1
-
-eq_same : (n : ℕ) → nat_eq n n ≡ true
-eq_same n = grind (arith, common_steps)
-
--- new ones stand at the end
-pub place_last : (node i : ℕ) (nodes : Nodes) → lookup (nat_eq node) nodes ≡ None → length nodes ≡ i → IsNodePlace node i (nodes ++ (node, []) ∷ [])
-place_last node zero [] h e = eq_same node
-place_last node (suc i) [] h e = absurd (omega arith)
-place_last node zero (n ∷ nodes) h e = absurd (omega arith)
-place_last node (suc i) (n ∷ nodes) h e = by (nat_eq node n.0) refl h (λ k. place_last node i nodes k (omega arith)) where
-  by : (b : Bool) → nat_eq node n.0 ≡ b → cond b (Some n.1) (lookup (nat_eq node) nodes) ≡ None → (lookup (nat_eq node) nodes ≡ None → IsNodePlace node i (nodes ++ (node, []) ∷ []))
-      → (nat_eq node n.0 ≡ false) × IsNodePlace node i (nodes ++ (node, []) ∷ [])
-  by true f k more = absurd (cc)
-  by false f k more = (f, more k)
-
--- and have no windows
+-- new ones have no windows
 abbrev no_windows : List (ℕ × Window)
 no_windows = []
 

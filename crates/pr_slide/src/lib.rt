@@ -6,6 +6,7 @@ mod kept;
 mod laws;
 mod listed;
 mod node;
+mod places;
 mod sliding;
 mod spots;
 mod window;

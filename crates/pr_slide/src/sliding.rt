@@ -1,5 +1,5 @@
 // Ranges that go on.
-ghost use Rattle.std.specs.Prelude.{◌≡◌, ◌≢◌, ◌+◌, ◌-◌, ◌<◌, ◌≤◌, ◌≤ℤ◌, ◌++◌, ◌∷◌, [], ℕ, List, Option, Some, None, Err, IfOk, IfSome, IfNone, OnOk, length, max, nat_eq, slice_get, take, drop};
+ghost use Rattle.std.specs.Prelude.{◌≡◌, ◌≢◌, ◌+◌, ◌-◌, ◌<◌, ◌≤◌, ◌≤ℤ◌, ◌++◌, ◌∷◌, [], ℕ, List, Option, Some, None, Err, IfOk, OnOk, length, max, slice_get, take, drop};
 ghost use Rattle.pr_labels.specs.declared.pair.Pair.{Pair};
 ghost use Rattle.pr_history.specs.declared.entry.Entry.{Entry};
 ghost use Rattle.pr_head.specs.Stored.{Stored, count_of, position_of};
@@ -8,12 +8,12 @@ ghost use Rattle.pr_range.specs.declared.fault.RangeFault.TheVariants.{Memory};
 ghost use Rattle.pr_range.specs.Answers.{AnswersAsk};
 ghost use Rattle.pr_range.specs.Asks.{HasArgument};
 ghost use Rattle.pr_range.specs.Spots.{AreWithin};
-ghost use Rattle.std.specs.Map.{lookup};
 ghost use Rattle.pr_slide.specs.Places.{IsNodePlace};
 ghost use Rattle.pr_slide.specs.Carried.{carried, number_from};
 ghost use Rattle.pr_slide.specs.Windows.{AreWindowsOf, IsPut, found, last_asks, passed_in, passed_of, slid_spots, spots_in};
 
 use crate::node::Node;
+use crate::places::Places;
 use pr_head::Head;
 use pr_num::Num;
 use pr_range::{Ask, PlainRanges, RangeFault, Ranges};
@@ -30,15 +30,19 @@ use std::sync::ledger::Ledger;
 #[derive(Drop)]
 pub struct SlidingRanges {
     nodes: Vec<Node>,
+    places: Places,
     alloc: Global,
 }
 
 impl Model for SlidingRanges {
     ghost use Rattle.pr_slide.specs.Windows.{Nodes};
+    ghost use Rattle.pr_slide.specs.Places.{ArePlacesOf, numbers_of};
 
     ghost Value = { Nodes };
 
     ghost view = { λ r. r.nodes.items };
+
+    ghost invariant = { λ r. ArePlacesOf r.places (numbers_of r.nodes.items) };
 }
 
 // The number of the range selector that goes on from an older one.
@@ -90,29 +94,18 @@ impl SlidingRanges {
     {
         SlidingRanges {
             nodes: Vec::new(alloc),
+            places: Places::new(alloc),
             alloc,
         }
     }
 
-    // Where the windows of a range selector stand.
-    fn place_of(&self, node: usize) -> Option<usize>
-        ensures some { IfSome result (λ i. IsNodePlace node i self.now) }
-        ensures none { IfNone result (lookup (nat_eq node) self.now ≡ None) }
-    {
-        for (i, n) in self.nodes.iter().enumerate() {
-            if node == n.number() {
-                return Some(i);
-            }
-        }
-        None
-    }
-
-    // Where they stand, be it that there are none yet.
+    // Where the windows of a range selector stand, be it that there are none yet.
     fn place_for(&mut self, node: usize) -> Result<usize, AllocError>
         ensures place { IfOk result (λ i. IsNodePlace node i self.new) }
         ensures same { OnOk result ((k q : ℕ) → found self.new k q ≡ found self.old k q) }
     {
-        match self.place_of(node) {
+        self.places.note_all(&self.nodes)?;
+        match self.places.place_of(node) {
             Some(place) => Ok(place),
             None => {
                 self.nodes.push(Node::new(self.alloc, node))?;
@@ -206,6 +199,7 @@ impl Ranges for SlidingRanges {
         let mut nodes = old.nodes;
         renumber_all(&mut nodes, from);
         self.nodes = nodes;
+        self.places = Places::new(self.alloc);
     }
 
     ghost stays = { λ r history e lawful h. fits_more r history e h };

@@ -191,6 +191,28 @@ impl Spots {
         }
     }
 
+    // How many values there are.
+    fn len(&self) -> usize
+        ensures { result ≡ length self.now }
+    {
+        match &self.kind {
+            Kind::Listed { spots } => spots.as_slice().len(),
+            Kind::Totals { spots } => spots.len(),
+            Kind::Greatest { spots } => spots.len(),
+            Kind::Least { spots } => spots.len(),
+            Kind::Sequence { spots } => spots.len(),
+        }
+    }
+
+    /// Gives the room back that no value needs any more, where there are none.
+    pub(crate) fn give_back(&mut self, alloc: Global, func: RangeFn)
+        ensures { self.new ≡ self.old }
+    {
+        if self.len() == 0 {
+            *self = Spots::new(alloc, func);
+        }
+    }
+
     /// One more value.
     pub(crate) fn push(&mut self, spot: Spot) -> Result<(), AllocError>
         ensures { OnOk result (self.new ≡ self.old ++ spot ∷ []) }

@@ -175,7 +175,10 @@ impl Window {
             → reads.new ≤ reads.old + (position_of e.1 ask.now.to - max (position_of e.1 ask.now.from) self.old.passed) }
     {
         match self.slide(head, series, ask, reads) {
-            Ok(()) => self.spots.answer(alloc, ask),
+            Ok(()) => {
+                self.spots.give_back(alloc, ask.func);
+                self.spots.answer(alloc, ask)
+            }
             Err(_) => {
                 self.forget(alloc);
                 Err(RangeFault::Memory)

@@ -4,9 +4,10 @@ use Rattle.pr_head.specs.Stored.{position_of}
 use Rattle.pr_vectors.specs.Ranges.{over}
 use Rattle.pr_range.specs.Answers.{AnswersAsk}
 use Rattle.pr_range.specs.Spots.{AreWithin}
-use Rattle.pr_slide.specs.Places.{IsNodePlace}
+use Rattle.pr_slide.specs.Places.{ArePlacesOf, IsNodePlace, numbers_of}
 use Rattle.pr_slide.specs.Windows.{IsPut, IsPutIn, found, passed_in, slid_spots, spots_in}
 use Rattle.pr_slide.proofs.Nodes.{Row, found_there, place_within, put_at}
+use Rattle.pr_slide.proofs.Placing.{numbers_kept}
 use Rattle.pr_slide.proofs.sliding.SlidingRanges.ask_at.Goals as goal
 
 pub index_mut-requires : goal.index_mut-requires
@@ -36,3 +37,10 @@ returns-clause-reads g c = λ e at.
     found_there c.args.node c.args.place c.args.series c.args.self.now c.index_mut.result.now c.requires.place
     ∙ (λ i. lookup (nat_eq c.args.series) (get_or (sym c.self.view_is i) c.args.place c.index_mut.result.now).1) ∙ ap (λ (r : Row). lookup (nat_eq c.args.series) r.1) (sym c.index_mut.ensures.value) in
     subst (λ w. c.ask.new.reads ≤ c.args.reads.now + (position_of e.1 c.args.ask.now.to - max (position_of e.1 c.args.ask.now.from) (passed_in w))) (sym there) (c.ask.ensures.reads e at)
+
+pub invariant_of-self : goal.invariant_of-self
+invariant_of-self g c =
+    let number : c.ask.new.self.0 ≡ (get_or c.self.inside.nodes.items c.args.place c.index_mut.result.now).0 = c.ask.ensures.number ∙ ap (λ (r : Row). r.0) c.index_mut.ensures.value in
+    let same : numbers_of (set c.self.inside.nodes.items c.args.place c.ask.new.self) ≡ numbers_of c.self.inside.nodes.items =
+    numbers_kept c.self.inside.nodes.items c.args.place c.ask.new.self c.index_mut.result.now number in
+    subst (ArePlacesOf c.self.inside.places) (sym same) c.self.invariant

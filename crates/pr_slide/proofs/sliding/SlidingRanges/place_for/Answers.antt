@@ -1,14 +1,21 @@
-use Rattle.std.proofs.Common.{◌≡◌, ◌-◌, ◌++◌, ◌∷◌, [], length, length-append, ap, sym, subst, ◌∙◌, arith}
-use Rattle.pr_slide.specs.Places.{IsNodePlace}
+use Rattle.std.proofs.Common.{◌≡◌, ◌-◌, ◌++◌, ◌∷◌, [], length, length-append, nat_eq, None, ap, sym, subst, ◌∙◌, arith}
+use Rattle.std.specs.Map.{lookup}
+use Rattle.pr_slide.specs.Places.{ArePlacesOf, IsAbsent, IsFoundIn, IsNodePlace, numbers_of}
 use Rattle.pr_slide.specs.Windows.{found}
-use Rattle.pr_slide.proofs.Nodes.{Row, found_pushed, place_last}
+use Rattle.pr_slide.proofs.Nodes.{Row, found_pushed}
+use Rattle.pr_slide.proofs.Placing.{all_found, node_last}
 use Rattle.pr_slide.proofs.sliding.SlidingRanges.place_for.Goals as goal
 
 pub returns-in_ok-push-in-None-clause-place : goal.returns-in_ok-push-in-None-clause-place
 returns-in_ok-push-in-None-clause-place c =
     let items : c.push.new.self.items ≡ c.args.self.now ++ (c.args.node, []) ∷ [] = c.in_ok-push-in-None.ensures.items ∙ (λ i. c.self.view_is i ++ c.new.ensures i ∷ []) in
     let size : length c.args.self.now ≡ c.len.result - 1 = omega (arith, c.len.ensures, ap length items, length-append {A = Row}) in
-    subst (IsNodePlace c.args.node (c.len.result - 1)) (sym items) (place_last c.args.node (c.len.result - 1) c.args.self.now c.in-None.ensures.none size)
+    let nodes : c.deref.result.now ≡ c.args.self.now = c.deref.ensures.value ∙ c.self.view_is in
+    let none : lookup (nat_eq c.args.node) c.note_all.new.self.1 ≡ None = cc in
+    let places : ArePlacesOf c.note_all.new.self (numbers_of c.args.self.now) = subst (λ l. ArePlacesOf c.note_all.new.self (numbers_of l)) nodes c.in_ok-note_all.ensures.places in
+    let all : c.note_all.new.self.0 ≡ length c.args.self.now = c.in_ok-note_all.ensures.all ∙ ap length nodes in
+    let absent : IsAbsent (numbers_of c.args.self.now) c.args.node = subst (IsFoundIn (numbers_of c.args.self.now) c.args.node) none (all_found c.note_all.new.self c.args.self.now c.args.node places all) in
+    subst (IsNodePlace c.args.node (c.len.result - 1)) (sym items) (node_last c.args.self.now c.args.node (c.len.result - 1) [] absent size)
 
 pub returns-in_ok-push-in-None-clause-same : goal.returns-in_ok-push-in-None-clause-same
 returns-in_ok-push-in-None-clause-same c = λ k q.

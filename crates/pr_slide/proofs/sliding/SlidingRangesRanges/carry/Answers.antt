@@ -1,6 +1,7 @@
 use Rattle.std.proofs.Common.{◌≡◌, ap, sym, subst, ◌∙◌}
 use Rattle.pr_range.specs.Carried.{IsCarried}
 use Rattle.pr_slide.specs.Carried.{carried}
+use Rattle.pr_slide.specs.Places.{numbers_of}
 use Rattle.pr_slide.specs.Windows.{AreWindowsOf, last_asks, passed_of}
 use Rattle.pr_slide.proofs.Carrying.{fits_carried, is_carried}
 use Rattle.pr_slide.proofs.sliding.SlidingRangesRanges.carry.Goals as goal
@@ -14,3 +15,6 @@ pub returns-clause-fits : goal.returns-clause-fits
 returns-clause-fits c = λ history fits.
     let is : c.renumber_all.new.nodes.items ≡ carried c.args.from.now c.args.old = c.renumber_all.ensures ∙ ap (carried c.args.from.now) c.old.view_is in
     subst (λ l. AreWindowsOf l history) (sym is) (fits_carried c.args.from.now c.args.old history c.requires.once fits)
+
+pub invariant_of-self : goal.invariant_of-self
+invariant_of-self c = c.new.ensures (numbers_of c.renumber_all.new.nodes.items)
