@@ -18,7 +18,8 @@ use Rattle.sqlite_schema.specs.Names.{same_name}
 use Rattle.sqlite_schema.specs.Rules.{are_typed, suits, Keeps as Holds}
 use Rattle.sqlite_schema.specs.declared.schema.Constraint.TheVariants.{Datatype}
 use Rattle.pr_outside.specs.declared.keeping.Row.{Row as Line}
-use Rattle.pr_keep_sql.specs.Tables.{Has, HasOurs, IsFree, column_of, is_named, kept, kept_schema, schema_of, stored, stored_from, version}
+use Rattle.pr_keep_sql.specs.Tables.{Has, HasOurs, HasOursFirst, IsFree, column_of, is_named, kept, schema_of, stored, stored_from, version}
+use Rattle.pr_keep_sql.proofs.FirstTables.{is_ours}
 use Rattle.pr_keep_sql.specs.Kept.{KeepsSo, number_in, text_in, versions}
 use Rattle.pr_keep_sql.specs.Found.{AreFound, IsFoundAt, IsTyped, shown_cells}
 use Rattle.pr_keep_sql.specs.Texts.{rows_text}
@@ -125,11 +126,11 @@ typed_by : (table : List Row) → AllByRecursion (λ (cells : Row). (are_typed (
 typed_by [] h = All-nil IsTyped
 typed_by (cells ∷ table) h = All-cons IsTyped cells table (and_left _ h.0) (typed_by table h.1)
 
-pub typed_rows : (db : Database) → db.schema ≡ kept_schema → IsDatabase db → All IsTyped (db.trees 0)
-typed_rows db has sound = typed_by (db.trees 0) (subst (λ (s : Schema). Holds Datatype s db.trees) has (sound.obeys.rules Datatype)).0
+pub typed_rows : (db : Database) → HasOursFirst db.schema → IsDatabase db → All IsTyped (db.trees 0)
+typed_rows db has sound = typed_by (db.trees 0) (subst (λ (s : Schema). Holds Datatype s db.trees) (is_ours db.schema has) (sound.obeys.rules Datatype)).0
 
 -- the tables keep as many rows as are found in order
-pub count_found : (old new : State) (found rows : List Row) (n : ℕ) → old.now.schema ≡ kept_schema → versions old.now ≡ Int (pos 1) ∷ [] → IsDatabase old.now → Shown rows_text [] old new rows → found ≡ rows
+pub count_found : (old new : State) (found rows : List Row) (n : ℕ) → HasOursFirst old.now.schema → versions old.now ≡ Int (pos 1) ∷ [] → IsDatabase old.now → Shown rows_text [] old new rows → found ≡ rows
     → AreFound 0 found → n ≡ length found → KeepsSo old.now n
 count_found old new found rows n has number sound h same f count =
     let table = table_kept (old.now.trees 0) rows (typed_rows old.now has sound) (rows_shown old new rows has h) (subst (AreFound 0) same f) in
@@ -141,16 +142,19 @@ pub bare_is_free : (schema : Schema) → schema ≡ schema_of [] → IsFree sche
 bare_is_free schema is = subst IsFree (sym is) (All-nil (λ table. is_named table ≡ false))
 
 -- the tables of the store are both there
-pub ours_are_there : (schema : Schema) → schema ≡ kept_schema → HasOurs schema
-ours_are_there schema is = subst HasOurs (sym is) (here, there)
+pub ours_are_there : (schema : Schema) → HasOursFirst schema → HasOurs schema
+ours_are_there schema has = (subst (Has kept) (sym has) here, subst (Has version) (sym has) there)
   where
-    here : Has kept kept_schema.tables
-    here = (0, kept, lit< tt, refl, refl)
+    here : Has kept (kept ∷ version ∷ drop 2 schema.tables)
+    here = (0, kept, omega arith, refl, refl)
 
-    there : Has version kept_schema.tables
-    there = (1, version, lit< tt, refl, refl)
+    there : Has version (kept ∷ version ∷ drop 2 schema.tables)
+    there = (1, version, omega arith, refl, refl)
+
+taken : is_named kept ≡ false → ⊥
+unfolding same_name
+taken h = true≢false h
 
 -- the tables of the store are not free of its names
-pub not_free : IsFree kept_schema → ⊥
-unfolding same_name
-not_free h = true≢false (h 0 kept (lit< tt))
+pub not_free : (schema : Schema) → HasOursFirst schema → IsFree schema → ⊥
+not_free schema has free = taken (subst (All (λ table. is_named table ≡ false)) has free 0 kept (omega arith))

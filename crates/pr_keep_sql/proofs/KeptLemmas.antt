@@ -7,7 +7,7 @@ use Rattle.pr_outside.specs.declared.keeping.Row.{Row as Line}
 use Rattle.pr_outside.specs.Kept.{KeepsRows, AppendsRows}
 use Rattle.pr_keep_sql.specs.Kept.{Keeps, KeepsSo, WhileOpen, listed, told}
 use Rattle.pr_keep_sql.specs.Statements.{Adds, Commits, Makes}
-use Rattle.pr_keep_sql.specs.Tables.{kept_schema, schema_of}
+use Rattle.pr_keep_sql.specs.Tables.{HasOursFirst, schema_of}
 use Rattle.pr_keep_sql.proofs.StateLemmas.{told_by}
 
 pub clean_disk : (b : Bool) → IsTrue b → doubt b ≡ 0
@@ -64,20 +64,20 @@ keeps_by true o c true false a b h = untold_keeps (cond (o && c) (Some a) None)
 keeps_by true o c false clean a b h = untold_keeps (cond (o && c) (Some a) None)
 
 -- the tables stay those of the store while the connection is open
-module _ (alone : Bool) (old new : State) (size : ℕ) (still : IsTrue alone → WhileOpen old (KeepsSo old.now size)) (less : doubt old.is_clean ≤ doubt new.is_clean) where
+module _ (first : Bool) (old new : State) (size : ℕ) (still : IsTrue first → WhileOpen old (KeepsSo old.now size)) (less : doubt old.is_clean ≤ doubt new.is_clean) where
   early : HasCleanDisk new → HasCleanDisk old
   early clean = omega (arith, less, clean)
 
   -- a commit appends to the rows that are told
-  pub appends : (added : List Line) → (HasCleanDisk new → Commits (Adds size added) old new) → AppendsRows (told alone old) (told alone new) added
+  pub appends : (added : List Line) → (HasCleanDisk new → Commits (Adds size added) old new) → AppendsRows (told first old) (told first new) added
   appends added h =
-      appends_by alone old.is_open old.is_clean new.is_open new.is_clean (listed old.now) (listed new.now) added
+      appends_by first old.is_open old.is_clean new.is_open new.is_clean (listed old.now) (listed new.now) added
       (λ a up clean. let done = h (clean_disk new.is_clean clean) in
       let before = still a (early (clean_disk new.is_clean clean)) done.was_open in
       (done.was_open, clean_before old.is_clean new.is_clean less clean, (done.does before.keeps before.counted).1))
 
   -- and the tables keep so many
-  pub appended : (added : List Line) → (HasCleanDisk new → Commits (Adds size added) old new) → IsTrue alone → WhileOpen new (KeepsSo new.now (size + length added))
+  pub appended : (added : List Line) → (HasCleanDisk new → Commits (Adds size added) old new) → IsTrue first → WhileOpen new (KeepsSo new.now (size + length added))
   appended added h = λ a clean up.
       let done = h clean in
       let before = still a (early clean) done.was_open in
@@ -85,23 +85,23 @@ module _ (alone : Bool) (old new : State) (size : ℕ) (still : IsTrue alone →
       record { keeps = after.0; counted = (let len = ap length after.1 ∙ length-append (listed old.now) added in omega (arith, len, before.counted)) }
 
   module _ (was_open : HasCleanDisk new → IsTrue new.is_open → IsTrue old.is_open) (same : HasCleanDisk new → IsTrue new.is_open → new.now ≡ old.now) where
-    before_by : IsTrue alone → (clean : HasCleanDisk new) → IsTrue new.is_open → KeepsSo old.now size
+    before_by : IsTrue first → (clean : HasCleanDisk new) → IsTrue new.is_open → KeepsSo old.now size
     before_by a clean up = still a (early clean) (was_open clean up)
 
     -- what leaves the database keeps the rows that are told
-    pub keeps : KeepsRows (told alone old) (told alone new)
+    pub keeps : KeepsRows (told first old) (told first new)
     keeps =
-        keeps_by alone old.is_open old.is_clean new.is_open new.is_clean (listed old.now) (listed new.now)
+        keeps_by first old.is_open old.is_clean new.is_open new.is_clean (listed old.now) (listed new.now)
         (λ a up clean. let disk = clean_disk new.is_clean clean in
         (was_open disk up, clean_before old.is_clean new.is_clean less clean, ap listed (same disk up)))
 
-    pub stays : IsTrue alone → WhileOpen new (KeepsSo new.now size)
+    pub stays : IsTrue first → WhileOpen new (KeepsSo new.now size)
     stays = λ a clean up. subst (λ db. KeepsSo db size) (sym (same clean up)) (before_by a clean up)
 
     -- what is found is what the list has, where it is told afterwards
-    pub told_row : (at : ℕ) (row : Line) → (HasCleanDisk new → Keeps old.now (listed old.now) → slice_get (listed old.now) at ≡ Some row) → IfSome (told alone new) (λ rows. slice_get rows at ≡ Some row)
+    pub told_row : (at : ℕ) (row : Line) → (HasCleanDisk new → Keeps old.now (listed old.now) → slice_get (listed old.now) at ≡ Some row) → IfSome (told first new) (λ rows. slice_get rows at ≡ Some row)
     told_row at row found =
-        by_told alone new.is_open new.is_clean (listed new.now) (λ rows. slice_get rows at ≡ Some row)
+        by_told first new.is_open new.is_clean (listed new.now) (λ rows. slice_get rows at ≡ Some row)
         (λ a up c. let clean = clean_disk new.is_clean c in
         let before = before_by a clean up in
         ap (λ db. slice_get (listed db) at) (same clean up) ∙ found clean before.keeps)
@@ -116,42 +116,42 @@ unfolding doubt
 disk_clean true h = refl
 disk_clean false h = absurd (omega (arith, h))
 
--- tables that are alone tell what they keep
-pub told_all : (alone : Bool) (s : State) → HasCleanDisk s → IsTrue s.is_open → IsTrue alone → told alone s ≡ Some (listed s.now)
+-- tables that stand first tell what they keep
+pub told_all : (first : Bool) (s : State) → HasCleanDisk s → IsTrue s.is_open → IsTrue first → told first s ≡ Some (listed s.now)
 told_all true s clean up a = told_is s.is_open s.is_clean (listed s.now) up (disk_clean s.is_clean clean)
 told_all false s clean up a = absurd cc
 
-pub some_told : (alone : Bool) (s : State) → HasCleanDisk s → IsTrue s.is_open → IsTrue alone → IsSome (told alone s)
-some_told alone s clean up a = rw (told_all alone s clean up a) refl
+pub some_told : (first : Bool) (s : State) → HasCleanDisk s → IsTrue s.is_open → IsTrue first → IsSome (told first s)
+some_told first s clean up a = rw (told_all first s clean up a) refl
 
 -- tables that were made keep no rows
 pub made_so : (old new : State) → Commits Makes old new → old.now.schema ≡ schema_of [] → KeepsSo new.now 0
 made_so old new done bare = let all = done.does bare in record { keeps = all.0; counted = sym (ap length all.1) }
 
-pub made_told : (alone : Bool) (old new : State) → HasCleanDisk new → Commits Makes old new → old.now.schema ≡ schema_of [] → IsTrue alone → told alone new ≡ Some []
-made_told alone old new clean done bare a = told_all alone new clean done.is_open a ∙ ap (λ (rows : List Line). Some rows) (done.does bare).1
+pub made_told : (first : Bool) (old new : State) → HasCleanDisk new → Commits Makes old new → old.now.schema ≡ schema_of [] → IsTrue first → told first new ≡ Some []
+made_told first old new clean done bare a = told_all first new clean done.is_open a ∙ ap (λ (rows : List Line). Some rows) (done.does bare).1
 
 -- what is told of the list of the tables is told of each list that they keep
-pub told_rows : (db : Database) (told_now : Option (List Line)) → (db.schema ≡ kept_schema → Keeps db (listed db) × (told_now ≡ Some (listed db))) → (rows : List Line) → Keeps db rows → told_now ≡ Some rows
+pub told_rows : (db : Database) (told_now : Option (List Line)) → (HasOursFirst db.schema → Keeps db (listed db) × (told_now ≡ Some (listed db))) → (rows : List Line) → Keeps db rows → told_now ≡ Some rows
 told_rows db told_now h rows keeps = (h keeps.schema).1 ∙ ap (λ (xs : List Line). Some xs) (told_by db rows keeps).0
 
-pub has_schema : (db : Database) (rows : List Line) → Keeps db rows → db.schema ≡ kept_schema
+pub has_schema : (db : Database) (rows : List Line) → Keeps db rows → HasOursFirst db.schema
 has_schema db rows keeps = keeps.schema
 
 -- tables that were read, and left
-module _ (alone : Bool) (old new : State) (size : ℕ) (plain : IsTrue alone → old.now.schema ≡ kept_schema) (live : IsLive old) (was_open : HasCleanDisk new → IsTrue new.is_open → IsTrue old.is_open)
-    (same : HasCleanDisk new → IsTrue new.is_open → new.now ≡ old.now) (ok : HasCleanDisk new → old.now.schema ≡ kept_schema → IsDatabase old.now → KeepsSo old.now size) where
-  kept_so : HasCleanDisk new → IsTrue new.is_open → IsTrue alone → KeepsSo old.now size
+module _ (first : Bool) (old new : State) (size : ℕ) (plain : IsTrue first → HasOursFirst old.now.schema) (live : IsLive old) (was_open : HasCleanDisk new → IsTrue new.is_open → IsTrue old.is_open)
+    (same : HasCleanDisk new → IsTrue new.is_open → new.now ≡ old.now) (ok : HasCleanDisk new → HasOursFirst old.now.schema → IsDatabase old.now → KeepsSo old.now size) where
+  kept_so : HasCleanDisk new → IsTrue new.is_open → IsTrue first → KeepsSo old.now size
   kept_so clean up a = ok clean (plain a) (live (was_open clean up)).0
 
-  pub read_still : IsTrue alone → WhileOpen new (KeepsSo new.now size)
+  pub read_still : IsTrue first → WhileOpen new (KeepsSo new.now size)
   read_still = λ a clean up. subst (λ db. KeepsSo db size) (sym (same clean up)) (kept_so clean up a)
 
   -- keep what they kept, and tell it
-  pub read_kept : (HasCleanDisk new → IsTrue new.is_open) → HasCleanDisk new → IsTrue alone → Keeps old.now (listed old.now) × (told alone new ≡ Some (listed old.now))
+  pub read_kept : (HasCleanDisk new → IsTrue new.is_open) → HasCleanDisk new → IsTrue first → Keeps old.now (listed old.now) × (told first new ≡ Some (listed old.now))
   read_kept opened clean a =
       let up = opened clean in
-      ((kept_so clean up a).keeps, told_all alone new clean up a ∙ ap (λ db. Some (listed db)) (same clean up))
+      ((kept_so clean up a).keeps, told_all first new clean up a ∙ ap (λ db. Some (listed db)) (same clean up))
 
-  pub read_found : (HasCleanDisk new → IsTrue new.is_open) → HasCleanDisk new → IsTrue alone → (rows : List Line) → Keeps old.now rows → told alone new ≡ Some rows
-  read_found opened clean a = told_rows old.now (told alone new) (λ _. read_kept opened clean a)
+  pub read_found : (HasCleanDisk new → IsTrue new.is_open) → HasCleanDisk new → IsTrue first → (rows : List Line) → Keeps old.now rows → told first new ≡ Some rows
+  read_found opened clean a = told_rows old.now (told first new) (λ _. read_kept opened clean a)

@@ -1,3 +1,4 @@
+mod FirstTables
 mod Listing
 mod TableLemmas
 mod StateLemmas
@@ -7,5 +8,6 @@ mod QueryTexts
 mod OrderLemmas
 mod FoundLemmas
 mod RefusalLemmas
+mod RanLemmas
 mod KeptLemmas
 mod OpenedLemmas

@@ -22,7 +22,7 @@ use Rattle.sqlite.specs.State.{State, mode_of, Executes, ExecutesInside, Writes}
 use Rattle.std.specs.List.Sorted.{IsPermutation}
 use Rattle.std.proofs.lemmas.List.Sorted.{IsPermutation-refl}
 use Rattle.pr_outside.specs.declared.keeping.Row.{Row as Line}
-use Rattle.pr_keep_sql.specs.Tables.{kept, version, kept_schema, schema_of, stored_from}
+use Rattle.pr_keep_sql.specs.Tables.{HasOursFirst, kept, version, kept_schema, schema_of, stored_from}
 use Rattle.pr_keep_sql.specs.Kept.{listed}
 use Rattle.pr_keep_sql.specs.Statements.{Commits, GoesOn, Makes, MakesKept, MakesVersion, Numbers}
 use Rattle.pr_keep_sql.specs.Texts.{kept_text, number_text, version_text}
@@ -123,7 +123,7 @@ makes_all a b c d makes then numbers = λ bare.
     let empty : d.trees 0 ≡ [] = three.2 ∙ two.2 ∙ one.1 in
     let none : listed d ≡ [] = rw empty refl in
     let table : IsPermutation (stored_from 0 []) (d.trees 0) = rw empty (IsPermutation-refl []) in
-    (record { schema = three.0; version = three.1; table = subst (λ (rows : List Line). IsPermutation (stored_from 0 rows) (d.trees 0)) (sym none) table }, none)
+    (record { schema = subst HasOursFirst (sym three.0) refl; version = three.1; table = subst (λ (rows : List Line). IsPermutation (stored_from 0 rows) (d.trees 0)) (sym none) table }, none)
 
 -- the statements in turn make them
 pub making : (a b c d : State) → GoesOn MakesKept a b → GoesOn MakesVersion b c → GoesOn Numbers c d → GoesOn Makes a d

@@ -19,7 +19,7 @@ use Rattle.pr_keep_sql.specs.Counts.{faults_of}
 use Rattle.pr_keep_sql.specs.Kept.{Keeps, listed}
 use Rattle.pr_keep_sql.specs.Opened.{IsFoundIn, TellsOf, rows_in}
 use Rattle.pr_keep_sql.specs.Store.{KeptStore, rows_of}
-use Rattle.pr_keep_sql.specs.Tables.{kept_schema, schema_of}
+use Rattle.pr_keep_sql.specs.Tables.{HasOursFirst, schema_of}
 use Rattle.pr_keep_sql.specs.declared.opened.Opened.{Opened}
 use Rattle.pr_keep_sql.specs.declared.opened.Opened.TheVariants.{Nothing}
 
@@ -50,7 +50,7 @@ module _ {S X E : Type 0} (g : Ghosts S) (old new : Opened S) where
 pub tells_of : {S E : Type 0} (g : Ghosts S) (Finds : Database → Type 0) (c : Held S) (r : Result (KeptStore S) E) → (HasCleanDisk (state g c) → IsDatabase (state g c).now) → (HasCleanDisk (state g c) → Finds (state g c).now)
     → IfOk r (λ k. doubt (state g c).is_clean ≤ doubt (state g k.conn).is_clean)
     → IfOk r (λ k. HasCleanDisk (state g k.conn) → (state g c).now.schema ≡ schema_of [] → rows_of g k ≡ Some [])
-    → IfOk r (λ k. HasCleanDisk (state g k.conn) → (state g c).now.schema ≡ kept_schema → Keeps (state g c).now (listed (state g c).now) × (rows_of g k ≡ Some (listed (state g c).now)))
+    → IfOk r (λ k. HasCleanDisk (state g k.conn) → HasOursFirst (state g c).now.schema → Keeps (state g c).now (listed (state g c).now) × (rows_of g k ≡ Some (listed (state g c).now)))
     → IfOk r (λ k. HasCleanDisk (state g k.conn) → TellsOf Finds (rows_of g k))
 tells_of g Finds c (Err e) is_sound is_found less over_nothing over_tables = tt
 tells_of g Finds c (Ok k) is_sound is_found less over_nothing over_tables = λ clean.

@@ -12,7 +12,7 @@ use Rattle.sqlite.specs.Order.{Row, column, value_cmp}
 use Rattle.sqlite.specs.Query.{Output, output, output_cmp}
 use Rattle.sqlite.specs.State.{Shown, State}
 use Rattle.pr_outside.specs.declared.keeping.Row.{Row as Line}
-use Rattle.pr_keep_sql.specs.Tables.{kept_schema, stored, stored_from}
+use Rattle.pr_keep_sql.specs.Tables.{HasOursFirst, stored, stored_from}
 use Rattle.pr_keep_sql.specs.Kept.{number_in}
 use Rattle.pr_keep_sql.specs.Found.{AreFound, IsFoundAt}
 use Rattle.pr_keep_sql.specs.Texts.{rows_text}
@@ -159,7 +159,7 @@ module _ (lines : List Line) (out : List Output) (same : IsPermutation (map show
           (first, all_from xs (k + 1) (λ i low d. let next : k + 1 + i ≡ k + suc i = omega arith in rw next (h (suc i) (omega (arith, low)) d)))
 
 -- the rows of a table that keeps lines are found in order
-pub rows_in_order : (old new : State) (lines : List Line) (rows : List Row) → old.now.schema ≡ kept_schema → Shown rows_text [] old new rows → IsPermutation (stored_from 0 lines) (old.now.trees 0) → AreFound 0 rows
+pub rows_in_order : (old new : State) (lines : List Line) (rows : List Row) → HasOursFirst old.now.schema → Shown rows_text [] old new rows → IsPermutation (stored_from 0 lines) (old.now.trees 0) → AreFound 0 rows
 rows_in_order old new lines rows has h table =
     let it = rows_sorted old new rows has h in
     let same = IsPermutation-trans (map shows_row (stored_from 0 lines)) (map shows_row (old.now.trees 0)) it.ordered (IsPermutation-map shows_row (stored_from 0 lines) (old.now.trees 0) table) it.same in

@@ -1,5 +1,5 @@
 -- What the statements of the store do to its tables.
-use Rattle.std.proofs.Common.{◌≡◌, ◌⊎◌, inl, inr, ℕ, pos, negsuc, List, [], ◌∷◌, map, codes, Bool, true, false, cond, None, Some, Ok, Err, Result, IfOk, OnOk, refl, sym, ap, subst, ◌∙◌}
+use Rattle.std.proofs.Common.{◌≡◌, ◌⊎◌, inl, inr, ℕ, pos, negsuc, List, [], ◌∷◌, map, codes, Bool, true, false, cond, None, Some, Ok, Err, Result, IfOk, OnOk, drop, refl, sym, ap, subst, ◌∙◌}
 use Rattle.sqlite.specs.declared.types.Value.{Value}
 use Rattle.sqlite.specs.declared.types.Value.TheVariants.{Null, Int, Text}
 use Rattle.sqlite.specs.Order.{Row, column}
@@ -44,7 +44,12 @@ use Rattle.sqlite.specs.Term.{Env, eval_all}
 use Rattle.sqlite.specs.Query.{matches_as}
 use Rattle.sqlite.specs.Program.{overlay}
 use Rattle.pr_outside.specs.declared.keeping.Row.{Row as Entry}
-use Rattle.pr_keep_sql.specs.Tables.{kept, kept_schema, stored, stored_from}
+use Rattle.sqlite.specs.Schema.{Schema}
+use Rattle.sqlite.specs.Table.{Table}
+use Rattle.sqlite_schema.specs.declared.schema.Index.{Index}
+use Rattle.sqlite_schema.specs.declared.schema.View.{View}
+use Rattle.pr_keep_sql.proofs.FirstTables.{is_ours, no_works, ours}
+use Rattle.pr_keep_sql.specs.Tables.{HasOursFirst, kept, stored, stored_from}
 use Rattle.pr_keep_sql.specs.Kept.{Keeps}
 use Rattle.pr_keep_sql.specs.Statements.{ShowsAt}
 use Rattle.pr_keep_sql.specs.Texts.{given_params, insert_text, select_text}
@@ -52,21 +57,22 @@ use Rattle.pr_keep_sql.specs.Texts.{given_params, insert_text, select_text}
 abbrev pub terms : List Term
 terms = col 0 0 ∷ lit Null ∷ col 0 1 ∷ col 0 2 ∷ col 0 3 ∷ []
 
-pub insert_is : command_of (understood kept_schema insert_text) ≡ Insert 0 (Values terms 5)
-unfolding understood everything
-insert_is = refl
+module _ (others : List Table) (indexes : List Index) (views : List View) where
+  insert_is : command_of (understood (ours others indexes views) insert_text) ≡ Insert 0 (Values terms 5)
+  unfolding understood everything
+  insert_is = refl
 
-insert_plain : IsPlain (understood kept_schema insert_text)
-unfolding understood everything
-insert_plain = (refl, refl)
+  insert_plain : IsPlain (understood (ours others indexes views) insert_text)
+  unfolding understood everything
+  insert_plain = (refl, refl)
 
-pub select_plain : IsPlain (understood kept_schema select_text)
-unfolding understood everything
-select_plain = (refl, refl)
+  select_plain : IsPlain (understood (ours others indexes views) select_text)
+  unfolding understood everything
+  select_plain = (refl, refl)
 
-unlisted : reads_listing kept_schema select_text ≡ false
-unfolding understood everything
-unlisted = refl
+  unlisted : reads_listing (ours others indexes views) select_text ≡ false
+  unfolding understood everything
+  unlisted = refl
 
 either : (b : Bool) (x : Value) → cond b x x ≡ x
 either true x = refl
@@ -112,20 +118,27 @@ adds old new rows e (Err _) has h = tt
 adds old new rows e (Ok count) has h =
     let params = given_params (length rows) e in
     let db = old.now.trees in
+    let others = drop 2 old.now.schema.tables in
+    let indexes = old.now.schema.indexes in
+    let views = old.now.schema.views in
+    let schema = ours others indexes views in
+    let is = is_ours old.now.schema has.schema in
     let command = Insert 0 (Values terms 5) in
-    let w = runs_as insert_text params old new kept_schema has.schema command insert_is insert_plain count h in
-    let text = statement_of insert_text (understood kept_schema insert_text) in
-    let done = went (subst (λ s. Does old.step_limit (mode_of old) params (record old.now { schema = s }) text None command (Ok (w.tally, new.now))) has.schema w.changed) in
+    let w = runs_as insert_text params old new schema is command (insert_is others indexes views) (insert_plain others indexes views) count h in
+    let text = statement_of insert_text (understood schema insert_text) in
+    let done = went (subst (λ s. Does old.step_limit (mode_of old) params (record old.now { schema = s }) text None command (Ok (w.tally, new.now))) is w.changed) in
     let now = ap (λ (p : Tally × Database). p.1) (same_value (went (went done.2).2).2) in
     let given = went done.1 in
     let written = went (went given.2).2 in
     let counted = went written.2 in
     let trees : done.0.trees ≡ written.0 = ap (λ (it : Written). it.trees) (same_value counted.2) ∙ same_value counted.1 in
-    let applied = one_step kept_schema _ db written.0 (edit_of db kept [] Chosen 0 given.0) refl written.1 in
+    let edit = edit_of db kept [] Chosen 0 given.0 in
+    let keys = (mode_of old).keys in
+    let applied = one_step schema keys db written.0 edit (no_works schema keys 0 edit.news) written.1 in
     let step = applied.rows in
-    let other : done.0.trees 1 ≡ db 1 = ap (λ (t : Trees). t 1) trees ∙ applied.others 1 (λ e. omega arith) tt in
-    let edit = ap (λ all. edited db (edit_of db kept [] Chosen 0 all)) given.1.1 ∙ edit_is db rows e has.table in
-    record { schema = ap (λ (d : Database). d.schema) now; version = ap (map (λ (cells : Row). column cells 0)) (ap (λ (d : Database). d.trees 1) now ∙ other) ∙ has.version; table = subst (λ (t : List Row). IsPermutation (stored_from 0 (rows ++ e ∷ [])) t) (sym (ap (λ (d : Database). d.trees 0) now ∙ ap (λ (t : Trees). t 0) trees ∙ step ∙ edit)) (one_more rows (db 0) e has.table) }
+    let other : done.0.trees 1 ≡ db 1 = ap (λ (t : Trees). t 1) trees ∙ applied.tables.1.0 (λ e. omega arith) in
+    let edits = ap (λ all. edited db (edit_of db kept [] Chosen 0 all)) given.1.1 ∙ edit_is db rows e has.table in
+    record { schema = subst HasOursFirst (sym (ap (λ (d : Database). d.schema) now)) refl; version = ap (map (λ (cells : Row). column cells 0)) (ap (λ (d : Database). d.trees 1) now ∙ other) ∙ has.version; table = subst (λ (t : List Row). IsPermutation (stored_from 0 (rows ++ e ∷ [])) t) (sym (ap (λ (d : Database). d.trees 0) now ∙ ap (λ (t : Trees). t 0) trees ∙ step ∙ edits)) (one_more rows (db 0) e has.table) }
 
 abbrev pub query : Query
 query = record {
@@ -140,9 +153,9 @@ query = record {
   offset = lit (Int (pos 0));
 }
 
-select_is : command_of (understood kept_schema select_text) ≡ Select (record { lets = []; body = query }) (codes "series" ∷ codes "time" ∷ codes "point" ∷ [])
+select_is : (others : List Table) (indexes : List Index) (views : List View) → command_of (understood (ours others indexes views) select_text) ≡ Select (record { lets = []; body = query }) (codes "series" ∷ codes "time" ∷ codes "point" ∷ [])
 unfolding understood everything
-select_is = refl
+select_is others indexes views = refl
 
 go_equal : (k at : ℕ) (o : Ordering) → MatchOrdering o (pos k <ℤ pos at) (pos k ≡ pos at) (pos at <ℤ pos k) → is_true (from_truth (Some (is_eq o))) ≡ true → k ≡ at
 go_equal k at Less m h = absurd (true≢false (sym h))
@@ -186,7 +199,10 @@ unfolding QueriesRow
 finds old new rows at (Err _) has h = tt
 finds old new rows at (Ok row) has h =
     let params = Int (pos at) ∷ [] in
-    let got = (first_as select_text params old new kept_schema has.schema _ select_is select_plain unlisted row h).1 in
+    let others = drop 2 old.now.schema.tables in
+    let indexes = old.now.schema.indexes in
+    let views = old.now.schema.views in
+    let got = (first_as select_text params old new (ours others indexes views) (is_ours old.now.schema has.schema) _ (select_is others indexes views) (select_plain others indexes views) (unlisted others indexes views) row h).1 in
     let a : IsAnswer query (overlay old.now.trees []) params (row ∷ got.0) = got.1 Null in
     let Q : Output → Type 0 = λ o. ShowsAt rows at o.1 in
     let scanned = scan rows at (old.now.trees 0) (elements rows (old.now.trees 0) has.table) in

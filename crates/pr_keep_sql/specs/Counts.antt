@@ -1,8 +1,10 @@
 -- Which refusals are counted.
-use Rattle.std.specs.Prelude.{ℕ, ◌+◌, ◌-◌, ◌^◌, ◌<◌, ◌≤◌, min, Bool, true, false, List, length, All}
+use Rattle.std.specs.Prelude.{◌≡◌, ◌⊎◌, ℕ, ◌+◌, ◌-◌, ◌^◌, ◌<◌, ◌≤◌, min, Bool, true, false, List, length, All, Result, Ok, Err}
 use Rattle.sqlite.specs.declared.error.ErrorCode.TheVariants as code
 use Rattle.sqlite.specs.declared.error.Error.{Error}
 use Rattle.sqlite.specs.declared.error.Error.TheVariants.{SqliteFailure}
+use Rattle.pr_outside.specs.declared.keeping.KeepError.{KeepError}
+use Rattle.pr_outside.specs.declared.keeping.KeepError.TheVariants.{Failed, Memory}
 use Rattle.pr_outside.specs.declared.keeping.Row.{Row}
 
 -- one more, up to the end of the count
@@ -13,6 +15,12 @@ one_more n = min (n + 1) (2 ^ 64 - 1)
 abbrev pub is_want : Error → Bool
 is_want (SqliteFailure code.OutOfMemory) = true
 is_want _ = false
+
+-- a refused call counts one refusal, of a statement or of its own, and any other call none
+abbrev pub CountsOnce : {T : Type 0} → (refused odd now_refused now_odd : ℕ) → Result T KeepError → Type 0
+CountsOnce refused odd now_refused now_odd (Ok x) = (now_refused ≡ refused) × (now_odd ≡ odd)
+CountsOnce refused odd now_refused now_odd (Err Memory) = (now_refused ≡ refused) × (now_odd ≡ odd)
+CountsOnce refused odd now_refused now_odd (Err Failed) = ((now_refused ≡ one_more refused) × (now_odd ≡ odd)) ⊎ ((now_refused ≡ refused) × (now_odd ≡ one_more odd))
 
 -- the faults: the statements that were refused, and the store's own refusals
 abbrev pub faults_of : ℕ → ℕ → ℕ

@@ -7,7 +7,7 @@ use Rattle.sqlite.specs.Order.{Row as Cells, column}
 use Rattle.sqlite.specs.Effect.{Database}
 use Rattle.sqlite.specs.State.{State, HasCleanDisk}
 use Rattle.pr_outside.specs.declared.keeping.Row.{Row}
-use Rattle.pr_keep_sql.specs.Tables.{kept_schema, stored_from}
+use Rattle.pr_keep_sql.specs.Tables.{HasOursFirst, stored_from}
 
 abbrev pub text_in : Value → List ℕ
 text_in Null = []
@@ -44,11 +44,11 @@ listed db = rows_from (db.trees 0) 0 (length (db.trees 0))
 abbrev pub versions : Database → List Value
 versions db = map (λ (cells : Cells). column cells 0) (db.trees 1)
 
--- The relation between the tables and a list of rows: they are the two tables, `version` holds the
--- number 1, the row of `kept` with the `seq` i is the element i of the list, and it has no other
--- rows. In which order a table has its rows is not said.
+-- The relation between the tables and a list of rows: the two tables stand first, `version` holds
+-- the number 1, the row of `kept` with the `seq` i is the element i of the list, and it has no other
+-- rows. In which order a table has its rows is not said, nor what stands behind the tables.
 pub record Keeps (db : Database) (rows : List Row) : Type 0 where
-  pub schema : db.schema ≡ kept_schema
+  pub schema : HasOursFirst db.schema
   pub version : versions db ≡ Int (pos 1) ∷ []
   pub table : IsPermutation (stored_from 0 rows) (db.trees 0)
 
@@ -61,7 +61,7 @@ pub record KeepsSo (db : Database) (size : ℕ) : Type 0 where
 abbrev pub WhileOpen : State → Type 0 → Type 0
 WhileOpen s P = HasCleanDisk s → IsTrue s.is_open → P
 
--- The rows, where they are told: the tables are ready, nothing stands beside them, and the
--- connection is open, which it is not after a fault that shuts it.
+-- The rows, where they are told: the tables are ready, they stand first, and the connection is open,
+-- which it is not after a fault that shuts it.
 abbrev pub told : Bool → State → Option (List Row)
-told is_alone s = cond (is_alone && (s.is_open && s.is_clean)) (Some (listed s.now)) None
+told is_first s = cond (is_first && (s.is_open && s.is_clean)) (Some (listed s.now)) None

@@ -4,6 +4,7 @@ pub mod Counts
 pub mod Statements
 pub mod Texts
 pub mod Refusals
+pub mod Ran
 pub mod Store
 pub mod Found
 pub mod Opened

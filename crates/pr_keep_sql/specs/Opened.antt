@@ -12,7 +12,7 @@ use Rattle.pr_outside.specs.declared.keeping.Row.{Row}
 use Rattle.pr_keep_sql.specs.Counts.{faults_of}
 use Rattle.pr_keep_sql.specs.Kept.{Keeps, listed}
 use Rattle.pr_keep_sql.specs.Store.{faults_in, rows_of}
-use Rattle.pr_keep_sql.specs.Tables.{kept_schema, schema_of}
+use Rattle.pr_keep_sql.specs.Tables.{HasOursFirst, schema_of}
 use Rattle.pr_keep_sql.specs.declared.opened.Opened.{Opened}
 use Rattle.pr_keep_sql.specs.declared.opened.Opened.TheVariants.{Nothing, Memory, File}
 
@@ -28,8 +28,8 @@ pub record TellsOf (Finds : Database → Type 0) (told : Option (List Row)) : Ty
   pub found : Finds db
   -- over nothing the tables are made, and there is no row
   pub made : db.schema ≡ schema_of [] → told ≡ Some []
-  -- over the tables alone, the rows that they keep
-  pub kept : db.schema ≡ kept_schema → Keeps db (listed db) × (told ≡ Some (listed db))
+  -- where the tables stand first, the rows that they keep
+  pub kept : HasOursFirst db.schema → Keeps db (listed db) × (told ≡ Some (listed db))
 
 module _ {S : Type 0} (g : Ghosts S) where
   -- the rows, where they are told

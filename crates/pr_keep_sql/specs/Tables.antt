@@ -1,5 +1,5 @@
 -- The tables of the store: their definitions, and the rows in them.
-use Rattle.std.specs.Prelude.{◌≡◌, ℕ, ◌+◌, pos, Bool, true, false, ◌||◌, List, [], ◌∷◌, All, Any, Some, codes}
+use Rattle.std.specs.Prelude.{◌≡◌, ℕ, ◌+◌, pos, Bool, true, false, ◌||◌, List, [], ◌∷◌, All, Any, Some, codes, drop}
 use Rattle.sqlite.specs.Collation.TheVariants.{Binary}
 use Rattle.sqlite.specs.declared.types.Value.TheVariants.{Null, Int, Text as Words}
 use Rattle.sqlite.specs.Order.{Row as Cells}
@@ -46,6 +46,10 @@ schema_of tables = record { tables = tables; indexes = []; views = [] }
 
 abbrev pub kept_schema : Schema
 kept_schema = schema_of (kept ∷ version ∷ [])
+
+-- the two tables stand there, before whatever else does
+abbrev pub HasOursFirst : Schema → Type 0
+HasOursFirst schema = schema.tables ≡ kept ∷ version ∷ drop 2 schema.tables
 
 -- whether the table has a name of the store
 abbrev pub is_named : Table → Bool

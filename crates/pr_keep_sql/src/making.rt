@@ -3,6 +3,7 @@ ghost use Rattle.std.specs.Prelude.{◌≡◌, ◌≤◌, [], IfErr, OnOk, OnErr
 ghost use Rattle.sqlite.specs.State.{ExecutesInside, HasCleanDisk, KeepsCommit};
 ghost use Rattle.sqlite.specs.Held.{state};
 ghost use Rattle.sqlite.specs.View.{doubt};
+ghost use Rattle.pr_keep_sql.specs.Ran.{HasRun};
 ghost use Rattle.pr_keep_sql.specs.Refusals.{IsStopped, IsTransactionRefused, RanInTurn};
 ghost use Rattle.pr_keep_sql.specs.Statements.{Commits, GoesOn, Leaves, Makes, MakesKept, MakesVersion, Numbers};
 ghost use Rattle.pr_keep_sql.specs.Texts.{kept_text, makings, number_text, version_text};
@@ -77,6 +78,7 @@ pub(crate) fn make<S: Alter>(conn: &mut Connection<S>) -> Result<(), Error>
     ensures mode { conn.new.in_transaction ≡ false }
     ensures ok { HasCleanDisk (state S.Store conn.new) → OnOk result (Commits Makes (state S.Store conn.old) (state S.Store conn.new)) }
     ensures err { HasCleanDisk (state S.Store conn.new) → OnErr result (Leaves (state S.Store conn.old) (state S.Store conn.new)) }
+    ensures ran { HasCleanDisk (state S.Store conn.new) → OnOk result (HasRun S.Store makings conn.old conn.new) }
     ensures refused { HasCleanDisk (state S.Store conn.new) → IfErr result (λ e. IsTransactionRefused S.Store makings e conn.old conn.new) }
     ensures clean { doubt (state S.Store conn.old).is_clean ≤ doubt (state S.Store conn.new).is_clean }
 {

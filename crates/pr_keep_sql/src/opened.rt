@@ -9,7 +9,7 @@ ghost use Rattle.pr_keep_sql.specs.Counts.{faults_of};
 ghost use Rattle.pr_keep_sql.specs.Kept.{Keeps, listed};
 ghost use Rattle.pr_keep_sql.specs.Opened.{TellsOf};
 ghost use Rattle.pr_keep_sql.specs.Store.{faults_in, rows_of};
-ghost use Rattle.pr_keep_sql.specs.Tables.{kept_schema, schema_of};
+ghost use Rattle.pr_keep_sql.specs.Tables.{HasOursFirst, schema_of};
 ghost use Rattle.pr_keep_sql.specs.declared.opened.Opened.TheVariants.{Nothing};
 
 use crate::counts::{faults_of, refusal};
@@ -45,7 +45,7 @@ fn readied<S: Alter + Drop>(conn: Connection<S>, own: &mut u64) -> Result<Kept<S
     requires { conn.in_transaction ≡ false }
     ensures counts { IfOk result (λ k. faults_of own.new (faults_in k) ≡ own.old) }
     ensures made { IfOk result (λ k. HasCleanDisk (state S.Store k.conn) → (state S.Store conn).now.schema ≡ schema_of [] → rows_of S.Store k ≡ Some []) }
-    ensures kept { IfOk result (λ k. HasCleanDisk (state S.Store k.conn) → (state S.Store conn).now.schema ≡ kept_schema → Keeps (state S.Store conn).now (listed (state S.Store conn).now) × (rows_of S.Store k ≡ Some (listed (state S.Store conn).now))) }
+    ensures kept { IfOk result (λ k. HasCleanDisk (state S.Store k.conn) → HasOursFirst (state S.Store conn).now.schema → Keeps (state S.Store conn).now (listed (state S.Store conn).now) × (rows_of S.Store k ≡ Some (listed (state S.Store conn).now))) }
     ensures clean { IfOk result (λ k. doubt (state S.Store conn).is_clean ≤ doubt (state S.Store k.conn).is_clean) }
     ensures cause { HasKeepCause own.old own.new result }
 {

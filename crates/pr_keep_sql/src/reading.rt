@@ -11,8 +11,9 @@ ghost use Rattle.sqlite_value.specs.Value.{owned};
 ghost use Rattle.pr_outside.specs.declared.keeping.Row.{Row as Line};
 ghost use Rattle.pr_keep_sql.specs.Found.{AreFound, IsFoundAt, IsText, IsTime};
 ghost use Rattle.pr_keep_sql.specs.Kept.{Keeps, KeepsSo, versions};
+ghost use Rattle.pr_keep_sql.specs.Ran.{HasRead, IsCount, numbers_in};
 ghost use Rattle.pr_keep_sql.specs.Refusals.{IsReadingRefused};
-ghost use Rattle.pr_keep_sql.specs.Tables.{kept_schema, stored_from};
+ghost use Rattle.pr_keep_sql.specs.Tables.{HasOursFirst, stored_from};
 ghost use Rattle.pr_keep_sql.specs.Texts.{numbers_text, rows_text};
 
 use sqlite::{Alter, Connection, Error};
@@ -96,8 +97,8 @@ fn are_one(rows: &[sqlite::Row]) -> bool
 fn is_numbered<S: Alter>(conn: &mut Connection<S>) -> Result<bool, Error>
     requires mode { conn.old.in_transaction ≡ false }
     ensures mode { conn.new.in_transaction ≡ false }
-    ensures ok { HasCleanDisk (state S.Store conn.new) → (state S.Store conn.old).now.schema ≡ kept_schema → IfOk result (λ b. IsTrue b ↔ (versions (state S.Store conn.old).now ≡ Int (pos 1) ∷ [])) }
-    ensures shown { HasCleanDisk (state S.Store conn.new) → OnOk result ((rows : List Cells) × Shown numbers_text [] (state S.Store conn.old) (state S.Store conn.new) rows) }
+    ensures ok { HasCleanDisk (state S.Store conn.new) → HasOursFirst (state S.Store conn.old).now.schema → IfOk result (λ b. IsTrue b ↔ (versions (state S.Store conn.old).now ≡ Int (pos 1) ∷ [])) }
+    ensures shown { HasCleanDisk (state S.Store conn.new) → IfOk result (λ b. (rows : List Cells) × Shown numbers_text [] (state S.Store conn.old) (state S.Store conn.new) rows × (IsTrue b ↔ (numbers_in rows ≡ Int (pos 1) ∷ []))) }
     ensures refused { HasCleanDisk (state S.Store conn.new) → IfErr result (FailsToQuery numbers_text [] (state S.Store conn.old) (state S.Store conn.new)) }
     ensures was_open { HasCleanDisk (state S.Store conn.new) → IsTrue (state S.Store conn.new).is_open → IsTrue (state S.Store conn.old).is_open }
     ensures same { HasCleanDisk (state S.Store conn.new) → IsTrue (state S.Store conn.new).is_open → (state S.Store conn.new).now ≡ (state S.Store conn.old).now }
@@ -111,9 +112,8 @@ fn is_numbered<S: Alter>(conn: &mut Connection<S>) -> Result<bool, Error>
 
 // How many the rows are, where they have the numbers from 0 on.
 fn counted(rows: &[sqlite::Row]) -> Option<u64>
-    ensures found { IfSome result (λ n. AreFound 0 rows.now × (n ≡ length rows.now)) }
+    ensures count { IsCount rows.now result }
     ensures small { IfSome result (λ n. n ≤ 2 ^ 63) }
-    ensures all { AreFound 0 rows.now → IsSome result }
 {
     if are_found(rows) {
         Some(rows.len() as u64)
@@ -126,8 +126,9 @@ fn counted(rows: &[sqlite::Row]) -> Option<u64>
 fn count<S: Alter>(conn: &mut Connection<S>) -> Result<Option<u64>, Error>
     requires mode { conn.old.in_transaction ≡ false }
     ensures mode { conn.new.in_transaction ≡ false }
-    ensures ok { HasCleanDisk (state S.Store conn.new) → (state S.Store conn.old).now.schema ≡ kept_schema → versions (state S.Store conn.old).now ≡ Int (pos 1) ∷ [] → IsDatabase (state S.Store conn.old).now → IfOk result (λ o. IfSome o (λ n. KeepsSo (state S.Store conn.old).now n)) }
-    ensures all { HasCleanDisk (state S.Store conn.new) → (state S.Store conn.old).now.schema ≡ kept_schema → (rows : List Line) → IsPermutation (stored_from 0 rows) ((state S.Store conn.old).now.trees 0) → IfOk result IsSome }
+    ensures ok { HasCleanDisk (state S.Store conn.new) → HasOursFirst (state S.Store conn.old).now.schema → versions (state S.Store conn.old).now ≡ Int (pos 1) ∷ [] → IsDatabase (state S.Store conn.old).now → IfOk result (λ o. IfSome o (λ n. KeepsSo (state S.Store conn.old).now n)) }
+    ensures all { HasCleanDisk (state S.Store conn.new) → HasOursFirst (state S.Store conn.old).now.schema → (rows : List Line) → IsPermutation (stored_from 0 rows) ((state S.Store conn.old).now.trees 0) → IfOk result IsSome }
+    ensures shown { HasCleanDisk (state S.Store conn.new) → IfOk result (λ o. (rows : List Cells) × Shown rows_text [] (state S.Store conn.old) (state S.Store conn.new) rows × IsCount rows o) }
     ensures refused { HasCleanDisk (state S.Store conn.new) → IfErr result (FailsToQuery rows_text [] (state S.Store conn.old) (state S.Store conn.new)) }
     ensures small { IfOk result (λ o. IfSome o (λ n. n ≤ 2 ^ 63)) }
     ensures was_open { HasCleanDisk (state S.Store conn.new) → IsTrue (state S.Store conn.new).is_open → IsTrue (state S.Store conn.old).is_open }
@@ -147,8 +148,9 @@ fn count<S: Alter>(conn: &mut Connection<S>) -> Result<Option<u64>, Error>
 pub(crate) fn found<S: Alter>(conn: &mut Connection<S>) -> Result<Option<u64>, Error>
     requires mode { conn.old.in_transaction ≡ false }
     ensures mode { conn.new.in_transaction ≡ false }
-    ensures ok { HasCleanDisk (state S.Store conn.new) → (state S.Store conn.old).now.schema ≡ kept_schema → IsDatabase (state S.Store conn.old).now → IfOk result (λ o. IfSome o (λ n. KeepsSo (state S.Store conn.old).now n)) }
+    ensures ok { HasCleanDisk (state S.Store conn.new) → HasOursFirst (state S.Store conn.old).now.schema → IsDatabase (state S.Store conn.old).now → IfOk result (λ o. IfSome o (λ n. KeepsSo (state S.Store conn.old).now n)) }
     ensures all { HasCleanDisk (state S.Store conn.new) → (rows : List Line) → Keeps (state S.Store conn.old).now rows → IfOk result IsSome }
+    ensures ran { HasCleanDisk (state S.Store conn.new) → IfOk result (λ o. HasRead S.Store o conn.old conn.new) }
     ensures refused { HasCleanDisk (state S.Store conn.new) → IfErr result (λ e. IsReadingRefused S.Store e conn.old conn.new) }
     ensures small { IfOk result (λ o. IfSome o (λ n. n ≤ 2 ^ 63)) }
     ensures was_open { HasCleanDisk (state S.Store conn.new) → IsTrue (state S.Store conn.new).is_open → IsTrue (state S.Store conn.old).is_open }

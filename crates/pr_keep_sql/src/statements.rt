@@ -8,9 +8,9 @@ ghost use Rattle.sqlite.specs.declared.types.Value.TheVariants.{Int, Text as Wor
 ghost use Rattle.sqlite.specs.Order.{column};
 ghost use Rattle.pr_keep_sql.specs.Counts.{AreWithin, is_want};
 ghost use Rattle.pr_keep_sql.specs.Kept.{Keeps, listed};
+ghost use Rattle.pr_keep_sql.specs.Ran.{HasLoaded, HasRun, IsShownAs};
 ghost use Rattle.pr_keep_sql.specs.Refusals.{IsLoadRefused, IsStopped, IsTransactionRefused, RanInTurn};
 ghost use Rattle.pr_keep_sql.specs.Statements.{Adds, Commits, GoesOn, Leaves, ShowsAt, shown};
-ghost use Rattle.pr_keep_sql.specs.Tables.{kept_schema};
 ghost use Rattle.pr_keep_sql.specs.Texts.{given_params, insert_text, inserts, select_text};
 
 use pr_outside::Row;
@@ -95,6 +95,7 @@ pub(crate) fn add_all<S: Alter>(
     ensures mode { conn.new.in_transaction ≡ false }
     ensures ok { HasCleanDisk (state S.Store conn.new) → OnOk result (Commits (Adds size rows.now) (state S.Store conn.old) (state S.Store conn.new)) }
     ensures err { HasCleanDisk (state S.Store conn.new) → OnErr result (Leaves (state S.Store conn.old) (state S.Store conn.new)) }
+    ensures ran { HasCleanDisk (state S.Store conn.new) → OnOk result (HasRun S.Store (inserts size rows.now) conn.old conn.new) }
     ensures refused { HasCleanDisk (state S.Store conn.new) → IfErr result (λ e. IsTransactionRefused S.Store (inserts size rows.now) e conn.old conn.new) }
     ensures clean { doubt (state S.Store conn.old).is_clean ≤ doubt (state S.Store conn.new).is_clean }
 {
@@ -142,6 +143,7 @@ fn text_at(found: &sqlite::Row, at: usize) -> Result<Text, Error>
 // The row that was found.
 fn read_row(found: &sqlite::Row) -> Result<Row, Error>
     ensures ok { (row : Line) → found.now ≡ shown row → IfOk result (λ r. r ≡ row) }
+    ensures as_shown { IfOk result (IsShownAs found.now) }
     ensures only { (row : Line) → found.now ≡ shown row → IsUtf8 row.series → IsUtf8 row.point → IfErr result (λ e. IsTrue (is_want e)) }
 {
     Ok(Row {
@@ -157,6 +159,7 @@ pub(crate) fn load<S: Alter>(conn: &mut Connection<S>, seq: u64) -> Result<Row, 
     requires seq { seq < 2 ^ 63 }
     ensures mode { conn.new.in_transaction ≡ false }
     ensures ok { HasCleanDisk (state S.Store conn.new) → Keeps (state S.Store conn.old).now (listed (state S.Store conn.old).now) → IfOk result (λ row. slice_get (listed (state S.Store conn.old).now) seq ≡ Some row) }
+    ensures ran { HasCleanDisk (state S.Store conn.new) → IfOk result (λ row. HasLoaded S.Store seq row conn.old conn.new) }
     ensures refused { HasCleanDisk (state S.Store conn.new) → IfErr result (λ e. is_want e ≡ false → IsLoadRefused S.Store seq e conn.old conn.new) }
     ensures was_open { HasCleanDisk (state S.Store conn.new) → IsTrue (state S.Store conn.new).is_open → IsTrue (state S.Store conn.old).is_open }
     ensures same { HasCleanDisk (state S.Store conn.new) → IsTrue (state S.Store conn.new).is_open → (state S.Store conn.new).now ≡ (state S.Store conn.old).now }

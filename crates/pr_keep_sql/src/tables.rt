@@ -1,7 +1,7 @@
 // Whether the tables of a database are those of the store.
-ghost use Rattle.std.specs.Prelude.{◌≡◌, ◌↔◌, ◌⊎◌, ◌∷◌, [], All, Any, Bool, IsTrue, Some, false, true};
+ghost use Rattle.std.specs.Prelude.{◌≡◌, ◌↔◌, ◌⊎◌, ◌∷◌, [], All, Any, Bool, IsTrue, Some, drop, false, true};
 ghost use Rattle.sqlite.specs.declared.types.Value.TheVariants.{Null};
-ghost use Rattle.pr_keep_sql.specs.Tables.{column_of, table_of, Has, HasOurs, IsFree, IsOther, is_named, kept, version, kept_schema, schema_of};
+ghost use Rattle.pr_keep_sql.specs.Tables.{column_of, table_of, Has, HasOurs, IsFree, IsOther, is_named, kept, version, HasOursFirst, schema_of};
 ghost use Rattle.pr_keep_sql.specs.declared.tables.Standing.TheVariants.{Free, Ours, Others};
 
 use sqlite_schema::code::Terms;
@@ -98,20 +98,20 @@ fn is_version(table: &Table, tree: u32) -> bool
     is_plain(table, b"version", tree) && are_version(table.columns.as_slice())
 }
 
-fn are_ours(tables: &[Table]) -> bool
-    ensures { IsTrue result ↔ (tables.now ≡ kept ∷ version ∷ []) }
+fn are_first(tables: &[Table]) -> bool
+    ensures { IsTrue result ↔ (tables.now ≡ kept ∷ version ∷ drop 2 tables.now) }
 {
     match tables {
-        [kept, version] => is_kept(kept, 0) && is_version(version, 1),
+        [kept, version, ..] => is_kept(kept, 0) && is_version(version, 1),
         _ => false,
     }
 }
 
-// Whether the tables of the store are there, as the store makes them, and nothing else.
-fn is_ours(schema: &Schema) -> bool
-    ensures { IsTrue result ↔ (schema.now ≡ kept_schema) }
+// Whether the tables of the store stand first, as the store makes them.
+fn has_ours_first(schema: &Schema) -> bool
+    ensures { IsTrue result ↔ HasOursFirst schema.now }
 {
-    are_ours(schema.tables.as_slice()) && schema.indexes.is_empty() && schema.views.is_empty()
+    are_first(schema.tables.as_slice())
 }
 
 // Whether nothing is there.
@@ -162,33 +162,33 @@ fn has_ours(schema: &Schema) -> bool
 #[derive(Clone, Copy, Debug, PartialEq, Eq)]
 pub(crate) enum Standing {
     /// No table has a name of the store.
-    Free { is_alone: bool },
+    Free { is_first: bool },
     /// The tables of the store are there.
-    Ours { is_alone: bool },
+    Ours { is_first: bool },
     /// Tables with a name of the store are there, and they are not both of the store.
     Others,
 }
 
-/// What this database has. Nothing else stands there where the tables of the store are alone.
+/// What this database has. Tables that are to be made will stand first where nothing is there.
 #[tactic(auto, using(crate::proofs::FoundLemmas::not_free, crate::proofs::FoundLemmas::bare_is_free))]
 pub(crate) fn standing_of(schema: &Schema) -> Standing
     ensures bare { (result ≡ Free true) ↔ (schema.now ≡ schema_of []) }
-    ensures alone { (result ≡ Ours true) ↔ (schema.now ≡ kept_schema) }
+    ensures first { (result ≡ Ours true) ↔ HasOursFirst schema.now }
     ensures free { IsFree schema.now → (result ≡ Free true) ⊎ (result ≡ Free false) }
-    ensures frees { (is_alone : Bool) → result ≡ Free is_alone → IsFree schema.now }
+    ensures frees { (is_first : Bool) → result ≡ Free is_first → IsFree schema.now }
     ensures others { (result ≡ Others) ↔ IsOther schema.now }
 {
     if is_bare(schema) {
-        return Standing::Free { is_alone: true };
+        return Standing::Free { is_first: true };
     }
     if is_free(schema) {
-        return Standing::Free { is_alone: false };
+        return Standing::Free { is_first: false };
     }
-    if is_ours(schema) {
-        return Standing::Ours { is_alone: true };
+    if has_ours_first(schema) {
+        return Standing::Ours { is_first: true };
     }
     if has_ours(schema) {
-        Standing::Ours { is_alone: false }
+        Standing::Ours { is_first: false }
     } else {
         Standing::Others
     }

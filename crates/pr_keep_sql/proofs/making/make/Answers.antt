@@ -3,6 +3,8 @@ use Rattle.sqlite.specs.Held.{state}
 use Rattle.sqlite.specs.State.{HasCleanDisk}
 use Rattle.pr_keep_sql.specs.Refusals.{IsTransactionRefused}
 use Rattle.pr_keep_sql.specs.Texts.{makings}
+use Rattle.pr_keep_sql.specs.Ran.{HasRun}
+use Rattle.pr_keep_sql.proofs.RanLemmas.{has_run}
 use Rattle.pr_keep_sql.proofs.RefusalLemmas.{commit_stopped, stopped_back}
 use Rattle.pr_keep_sql.proofs.making.make.Goals as goal
 
@@ -25,3 +27,13 @@ returns-in-Err-commit-clause-refused g c clean =
     subst (λ h. IsTransactionRefused g.S.Store orders c.in-Err-commit.error c.args.conn.now h) (sym same)
     (commit_stopped g.S.Store orders c.in-Err-commit.error c.args.conn.now c.transaction-tx.result.conn.now c.make_all.new.tx.conn.now c.commit.new.self.0 c.transaction-tx.ensures.begun
     (c.in-Ok.ensures.ran last) (c.in-Err-commit.ensures.err new))
+
+pub returns-in-Ok-commit-clause-ran : goal.returns-in-Ok-commit-clause-ran
+returns-in-Ok-commit-clause-ran g c clean =
+    let orders = makings in
+    let same : c.conn-1.given.0 ≡ c.commit.new.self.0 = c.conn-1.given.1 (sym (c.make_all.ensures.reference ∙ c.transaction-tx.ensures.same_reference)) in
+    let new : HasCleanDisk (state g.S.Store c.commit.new.self.0) = subst (λ h. HasCleanDisk (state g.S.Store h)) same clean in
+    let last : HasCleanDisk (state g.S.Store c.make_all.new.tx.conn.now) = omega (arith, c.commit.ensures.survives.clean, new) in
+    subst (λ h. HasRun g.S.Store orders c.args.conn.now h) (sym same)
+    (has_run g.S.Store orders c.args.conn.now c.transaction-tx.result.conn.now c.make_all.new.tx.conn.now c.commit.new.self.0 c.transaction-tx.ensures.begun
+    (c.in-Ok.ensures.ran last) ((c.in-Ok-commit.ensures.ok new).1, (c.in-Ok-commit.ensures.ok new).2, (c.in-Ok-commit.ensures.ok new).3))

@@ -31,4 +31,8 @@ pub returns-clause-open : goal.returns-clause-open
 returns-clause-open g c clean = (shown_same numbers_text _ (state g.S.Store c.args.conn.now) (state g.S.Store c.query_all.new.self) _ numbers_only_read (c.in_ok-found.ensures.ok clean)).0.is_open
 
 pub returns-clause-shown : goal.returns-clause-shown
-returns-clause-shown g c clean = (c.in_ok-found.found.items, c.in_ok-found.ensures.ok clean)
+returns-clause-shown g c clean = (
+  c.in_ok-found.found.items,
+  c.in_ok-found.ensures.ok clean,
+  (λ is. ap (map first_cell) (sym c.as_slice.ensures.value) ∙ c.are_one.ensures.0 is, λ is. c.are_one.ensures.1 (ap (map first_cell) c.as_slice.ensures.value ∙ is)),
+)

@@ -6,24 +6,24 @@ use Rattle.pr_keep_sql.proofs.kept.Kept.load.Goals as goal
 
 pub returns-in-Ok-clause-row : goal.returns-in-Ok-clause-row
 returns-in-Ok-clause-row g c =
-    told_row c.self.inside.is_alone (state g.S.Store c.self.inside.conn) (state g.S.Store c.load.new.conn) c.self.inside.size c.self.invariant.still c.load.ensures.clean
+    told_row c.self.inside.is_first (state g.S.Store c.self.inside.conn) (state g.S.Store c.load.new.conn) c.self.inside.size c.self.invariant.still c.load.ensures.clean
     c.load.ensures.was_open c.load.ensures.same c.args.index c.in-Ok.row c.in-Ok.ensures.ok
 
 pub returns-in-Ok-clause-same : goal.returns-in-Ok-clause-same
 returns-in-Ok-clause-same g c =
-    rw (← c.self.view_is) (keeps c.self.inside.is_alone (state g.S.Store c.self.inside.conn) (state g.S.Store c.load.new.conn) c.self.inside.size c.self.invariant.still c.load.ensures.clean
+    rw (← c.self.view_is) (keeps c.self.inside.is_first (state g.S.Store c.self.inside.conn) (state g.S.Store c.load.new.conn) c.self.inside.size c.self.invariant.still c.load.ensures.clean
     c.load.ensures.was_open c.load.ensures.same)
 
 pub returns-in-Err-clause-same : goal.returns-in-Err-clause-same
 returns-in-Err-clause-same g c =
-    rw (← c.self.view_is) (keeps c.self.inside.is_alone (state g.S.Store c.self.inside.conn) (state g.S.Store c.load.new.conn) c.self.inside.size c.self.invariant.still c.load.ensures.clean
+    rw (← c.self.view_is) (keeps c.self.inside.is_first (state g.S.Store c.self.inside.conn) (state g.S.Store c.load.new.conn) c.self.inside.size c.self.invariant.still c.load.ensures.clean
     c.load.ensures.was_open c.load.ensures.same)
 
 pub returns-in-Ok-clause-told : goal.returns-in-Ok-clause-told
-returns-in-Ok-clause-told g c clean alone =
-    some_told c.self.inside.is_alone (state g.S.Store c.load.new.conn) clean
+returns-in-Ok-clause-told g c clean first =
+    some_told c.self.inside.is_first (state g.S.Store c.load.new.conn) clean
     (c.in-Ok.ensures.open clean).1
-    (rw (← c.self.view_is) at alone)
+    (rw (← c.self.view_is) at first)
 
 pub returns-in-Err-clause-refused : goal.returns-in-Err-clause-refused
 returns-in-Err-clause-refused g c clean =
