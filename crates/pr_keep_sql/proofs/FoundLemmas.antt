@@ -1,5 +1,5 @@
 -- Rows of the table as a query shows them, and the lines that they are.
-use Rattle.std.proofs.Common.{◌≡◌, ℕ, suc, ◌+◌, ◌<◌, ◌≤◌, ◌&&◌, pos, List, [], ◌∷◌, map, length, drop, codes, slice_index_or, Bool, true, false, All, Some, refl, sym, ap, subst, ◌∙◌, arith, lit<, true≢false}
+use Rattle.std.proofs.Common.{◌≡◌, ℕ, suc, ◌+◌, ◌<◌, ◌≤◌, ◌&&◌, pos, List, [], ◌∷◌, map, length, drop, codes, slice_index_or, Bool, true, false, All, Some, refl, sym, ap, subst, ◌∙◌, arith, true≢false}
 use Rattle.std.specs.List.{AllByRecursion}
 use Rattle.std.specs.List.Sorted.{IsPermutation}
 use Rattle.std.proofs.Math.Seq.{drop-cons, drop-length}

@@ -44,7 +44,6 @@ use Rattle.sqlite.specs.Term.{Env, eval_all}
 use Rattle.sqlite.specs.Query.{matches_as}
 use Rattle.sqlite.specs.Program.{overlay}
 use Rattle.pr_outside.specs.declared.keeping.Row.{Row as Entry}
-use Rattle.sqlite.specs.Schema.{Schema}
 use Rattle.sqlite.specs.Table.{Table}
 use Rattle.sqlite_schema.specs.declared.schema.Index.{Index}
 use Rattle.sqlite_schema.specs.declared.schema.View.{View}
