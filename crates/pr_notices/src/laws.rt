@@ -1,8 +1,9 @@
 // Laws of what receivers are given.
-ghost use Rattle.std.specs.Prelude.{◌≡◌, ℕ, List, [], false};
+ghost use Rattle.std.specs.Prelude.{◌≡◌, ◌++◌, ℕ, List, [], false};
+ghost use Rattle.pr_lineage.specs.declared.sending.Sending.{Sending};
 ghost use Rattle.pr_notices.specs.Accounts.{IsAccounted};
 ghost use Rattle.pr_notices.specs.Calls.{Call, after, after_all, batches, forgets};
-ghost use Rattle.pr_notices.specs.Receivers.{AreReceivers, Receiver, after_add, joins};
+ghost use Rattle.pr_notices.specs.Receivers.{AreReceivers, Receiver, after_add, after_offer, joins};
 ghost use Rattle.pr_notices.specs.declared.joined.Joined.TheVariants.{New};
 
 /// At first and after each call the place of each receiver lies in its stream, with at most 10,000
@@ -20,4 +21,12 @@ pub fn receivers_stay_within_their_bounds()
 pub fn a_receiver_is_given_its_stream_in_order()
     ensures { (name : List ℕ) (rs : List Receiver) (calls : List Call) → joins name rs ≡ New → forgets calls ≡ false
         → IsAccounted name calls (after_all (after_add name rs) calls) (batches name (after_add name rs) calls) }
+{}
+
+/// Notices that are offered one list after another are offered as one list. A list without notices
+/// changes nothing.
+#[tactic(auto, using(crate::proofs::Offers::all_offered_on, crate::proofs::Offers::none_offered))]
+pub fn notices_may_be_offered_in_parts()
+    ensures parts { (first later : List Sending) (rs : List Receiver) → after_offer later (after_offer first rs) ≡ after_offer (first ++ later) rs }
+    ensures none { (rs : List Receiver) → AreReceivers rs → after_offer [] rs ≡ rs }
 {}

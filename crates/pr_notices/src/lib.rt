@@ -14,4 +14,7 @@ pub use examples::{
     the_oldest_notices_are_passed_over,
 };
 pub use joined::Joined;
-pub use laws::{a_receiver_is_given_its_stream_in_order, receivers_stay_within_their_bounds};
+pub use laws::{
+    a_receiver_is_given_its_stream_in_order, notices_may_be_offered_in_parts,
+    receivers_stay_within_their_bounds,
+};
