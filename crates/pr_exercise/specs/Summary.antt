@@ -6,19 +6,28 @@ use Rattle.pr_words.specs.Lines.{lines_of}
 use Rattle.pr_history.specs.declared.entry.Entry.{Entry}
 use Rattle.pr_text.specs.Printed.{shown_report}
 use Rattle.pr_world.specs.declared.event.Event.{Event}
+use Rattle.pr_world.specs.declared.report.Report.{Report}
 use Rattle.pr_world.specs.declared.report.Report.TheVariants.{Opened}
 use Rattle.pr_rules.specs.Settings.{of_a_run}
 use Rattle.pr_world.specs.Step.{next, rows_of}
 use Rattle.pr_world.specs.World.{World, start}
 use Rattle.pr_exercise.specs.Exercise.{exercise_events}
 
--- the texts of the reports of events, one after another
-abbrev pub reports_text : World → List Event → List ℕ
-reports_text w [] = []
-reports_text w (e ∷ events) = shown_report (next of_a_run w e).report ++ reports_text (next of_a_run w e).world events
+-- the lines of a report
+abbrev pub report_lines : Report → List (List ℕ)
+report_lines report = lines_of (shown_report report)
+
+-- the lines of what is answered to events, one after another
+abbrev pub lines_after : World → List Event → List (List ℕ)
+lines_after w [] = []
+lines_after w (e ∷ events) = report_lines (next of_a_run w e).report ++ lines_after (next of_a_run w e).world events
+
+-- the lines of a run that has answered these events
+abbrev pub lines_told : List Entry → List Event → List (List ℕ)
+lines_told history events = report_lines (Opened (length history)) ++ lines_after (start history) events
 
 unfoldable pub exercise_lines : List Entry → ℕ → List (List ℕ)
-exercise_lines history n = lines_of (shown_report (Opened (length history)) ++ reports_text (start history) (exercise_events n))
+exercise_lines history n = lines_told history (exercise_events n)
 
 abbrev pub begins_with : List ℕ → List ℕ → Bool
 begins_with word line = bytes_eq (first_field line) word

@@ -8,5 +8,5 @@ mod session;
 mod worlds;
 
 pub use examples::a_value_is_told_for_five_minutes;
-pub use running::run;
+pub use running::{bad_row_of, run, tell_bad_row, tell_opened};
 pub use worlds::Worlds;

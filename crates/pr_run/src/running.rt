@@ -30,8 +30,8 @@ use pr_text::push_report;
 use pr_world::Report;
 use std::alloc::{AllocError, Global};
 
-// Writes the line that a run begins with.
-fn tell_opened<O: Sink>(alloc: Global, rows: u64, out: &mut O) -> Result<(), Stop>
+/// Writes the line that a command begins with which opened a store of so many rows.
+pub fn tell_opened<O: Sink>(alloc: Global, rows: u64, out: &mut O) -> Result<(), Stop>
     ensures text { OnOk result (Appends (O.means out.old).taken (O.means out.new).taken (shown_report (Opened rows))) }
     ensures front { (n : ℕ) × Appends (O.means out.old).taken (O.means out.new).taken (take n (shown_report (Opened rows))) }
     ensures ends { WriteEnds (O.means out.old) (O.means out.new) result }
@@ -51,8 +51,8 @@ fn push_bad_row(text: &mut Vec<u8>, index: u64) -> Result<(), AllocError>
     text.extend_from_slice(b"\n")
 }
 
-// The index of the bad row that stopped a call, where one did.
-fn bad_row_of(stop: Stop) -> Option<u64>
+/// The index of the bad row that stopped a call, where one did.
+pub fn bad_row_of(stop: Stop) -> Option<u64>
     ensures some { IfSome result (λ index. stop ≡ Stop.BadRow index) }
     ensures none { IfNone result ((index : ℕ) → stop ≢ Stop.BadRow index) }
 {
@@ -62,8 +62,8 @@ fn bad_row_of(stop: Stop) -> Option<u64>
     }
 }
 
-// Writes the line of a bad row.
-fn tell_bad_row<O: Sink>(alloc: Global, index: u64, out: &mut O) -> Result<(), Stop>
+/// Writes the line of a bad row.
+pub fn tell_bad_row<O: Sink>(alloc: Global, index: u64, out: &mut O) -> Result<(), Stop>
     ensures text { OnOk result (Appends (O.means out.old).taken (O.means out.new).taken (bad_row_text index)) }
     ensures front { (n : ℕ) × Appends (O.means out.old).taken (O.means out.new).taken (take n (bad_row_text index)) }
     ensures ends { WriteEnds (O.means out.old) (O.means out.new) result }

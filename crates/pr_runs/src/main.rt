@@ -23,9 +23,10 @@ use pr_outside::{DiskFiles, Files, Found};
 use std::io;
 
 /// The tables of runs, each a file.
-const TABLES: [&str; 17] = [
+const TABLES: [&str; 18] = [
     "runs/aggregations",
     "runs/checks",
+    "runs/exercises",
     "runs/expositions",
     "runs/failing",
     "runs/functions",

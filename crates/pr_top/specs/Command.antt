@@ -129,14 +129,14 @@ pub record Uses : Type 0 where
 abbrev pub uses_nothing : Uses
 uses_nothing = record { input = false; files = false; store = false }
 
--- `exercise` and `backfill` are not done yet: their words are answered as words that are none of the
--- forms, and use nothing.
+-- `backfill` is not done yet: its words are answered as words that are none of the forms, and use
+-- nothing.
 abbrev pub uses_of : Command → Uses
 uses_of (runs path) = record { input = true; files = true; store = true }
 uses_of (tests_rules names) = record { input = false; files = true; store = false }
 uses_of (checks_rules names) = record { input = false; files = true; store = false }
 uses_of checks_metrics = record { input = true; files = false; store = false }
-uses_of (exercises rounds) = uses_nothing
+uses_of (exercises rounds) = record { input = false; files = false; store = true }
 uses_of (backfills path times names) = uses_nothing
 
 -- words that are none of the forms use nothing

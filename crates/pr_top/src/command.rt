@@ -4,7 +4,9 @@ ghost use Rattle.std.specs.List.{list_all};
 ghost use Rattle.pr_top.specs.Command.{are_names, are_times, backfill_by, backfill_of, check_of, command_of, exercise_of, is_file_word, run_of, step_of, test_of, time_of, times_by, times_of};
 ghost use Rattle.pr_top.specs.Words.{asks_for, times_for};
 
+use pr_exercise_command::Rounds;
 use pr_time::{Ms, Span, read_span};
+use pr_words::laws::plain_decimals_are_printed_numbers;
 use pr_words::plain_decimal;
 
 // There are at most so many times.
@@ -38,7 +40,7 @@ pub(crate) enum Command<'a> {
     CheckMetrics,
     /// Answers a script of so many rounds that is made up.
     Exercise {
-        rounds: u64,
+        rounds: Rounds,
     },
     /// Evaluates the recording rules of these files at these times, over the store of this path.
     Backfill {
@@ -118,12 +120,15 @@ fn check_of(words: &[String]) -> Option<Command<'_>>
 fn exercise_of(words: &[String]) -> Option<Command<'_>>
     ensures { asks_for result ≡ exercise_of (map string_bytes words.now) }
 {
+    plain_decimals_are_printed_numbers();
     let [rounds] = words else {
         return None;
     };
     match plain_decimal(rounds.as_bytes(), 100_001) {
         None | Some(0) => None,
-        Some(rounds) => Some(Command::Exercise { rounds }),
+        Some(count) => Some(Command::Exercise {
+            rounds: Rounds::new(count),
+        }),
     }
 }
 

@@ -16,6 +16,7 @@ use super::command::{Command, command_of};
 use super::engine::RunEngine;
 use pr_check_loops::{check_files, check_input};
 use pr_checks::{Metrics, RuleFiles};
+use pr_exercise_command::exercise;
 use pr_outside::{Files, Keeper, Sink, Source};
 use pr_run::{Worlds, run};
 use pr_slide::SlidingRanges;
@@ -104,7 +105,7 @@ fn do_command<E: Worlds + Drop, I: Source, F: Files, K: Keeper, O: Sink>(
         Command::TestRules { names } => test_rules(alloc, names, files, out),
         Command::CheckRules { names } => check_rules(alloc, names, files, out),
         Command::CheckMetrics => check_metrics(alloc, input, out),
-        Command::Exercise { .. } => refuse_words(out),
+        Command::Exercise { rounds } => exercise::<E, K, O>(alloc, rounds, keeper, out),
         Command::Backfill { .. } => refuse_words(out),
     }
 }
@@ -113,7 +114,8 @@ fn do_command<E: Worlds + Drop, I: Source, F: Files, K: Keeper, O: Sink>(
 /// program's name, `out` is the standard output, and the status is what the process ends with. What is
 /// done so far is `run`, which reads a script from `input` and answers it over the rows of a store;
 /// `check metrics`, which checks the exposition that `input` is; `check rules FILE..`, which checks rule
-/// files, one after another; and `test rules FILE..`, which tests rules by test files, one after another.
+/// files, one after another; `test rules FILE..`, which tests rules by test files, one after another; and
+/// `exercise N`, which answers a script that is made up, and sums up what it tells.
 /// Want of memory alone may come at any time.
 pub fn promtool_over<E: Worlds + Drop, I: Source, F: Files, K: Keeper, O: Sink>(
     alloc: Global,

@@ -62,8 +62,8 @@ returns-in-Exercise-clause-means g c =
       store = g.K.Keeper.means c.args.keeper.now;
       out = g.O.Sink.means c.args.out.now;
     } in
-    let now : Outside = record before { out = g.O.Sink.means c.refuse_words.new.out } in
-    subst (λ (x : made.Command). MeansCommand (Some (asked_by x)) before now c.refuse_words.result) (sym c.in-Exercise.is) (c.refuse_words.ensures before)
+    let now : Outside = record before { store = g.K.Keeper.means c.exercise.new.keeper; out = g.O.Sink.means c.exercise.new.out } in
+    subst (λ (x : made.Command). MeansCommand (Some (asked_by x)) before now c.exercise.result) (sym c.in-Exercise.is) (c.exercise.ensures before)
 
 pub returns-in-Backfill-clause-means : goal.returns-in-Backfill-clause-means
 returns-in-Backfill-clause-means g c =
@@ -73,5 +73,5 @@ returns-in-Backfill-clause-means g c =
       store = g.K.Keeper.means c.args.keeper.now;
       out = g.O.Sink.means c.args.out.now;
     } in
-    let now : Outside = record before { out = g.O.Sink.means c.refuse_words-in-Backfill.new.out } in
-    subst (λ (x : made.Command). MeansCommand (Some (asked_by x)) before now c.refuse_words-in-Backfill.result) (sym c.in-Backfill.is) (c.refuse_words-in-Backfill.ensures before)
+    let now : Outside = record before { out = g.O.Sink.means c.refuse_words.new.out } in
+    subst (λ (x : made.Command). MeansCommand (Some (asked_by x)) before now c.refuse_words.result) (sym c.in-Backfill.is) (c.refuse_words.ensures before)

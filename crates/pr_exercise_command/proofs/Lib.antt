@@ -1,0 +1,8 @@
+pub mod Lines
+pub mod Tallies
+pub mod Turns
+pub mod Progress
+pub mod Meaning
+pub mod Ended
+pub mod Opening
+pub mod Over

@@ -1,0 +1,17 @@
+use Rattle.std.proofs.Common.{◌≡◌, List, IsSome}
+use Rattle.pr_history.specs.declared.entry.Entry.{Entry}
+use Rattle.pr_world.specs.declared.event.Event.{Event}
+use Rattle.pr_exercise_command.specs.Turns.{HaveDistinctFiles}
+use Rattle.pr_exercise_command.specs.Standing.{Stands}
+use Rattle.pr_exercise_command.proofs.Progress.{Answered}
+use Rattle.pr_exercise_command.proofs.session.Session.take_all.Given as goal
+
+-- the events so far are answered
+abbrev pub invariant-loop-event : goal.invariant-loop-event
+invariant-loop-event g l = record {
+  going : (history : List Entry) (done : List Event) → Stands g.E.Worlds.stands_for history done l.fn.self (g.K.Keeper.means l.fn.keeper) → IsSome (g.K.Keeper.means l.keeper).rows
+      → Answered g.E.Worlds.stands_for history done l.fn.events.items l.event-iterator.rest.items l.self (g.K.Keeper.means l.keeper);
+  files : HaveDistinctFiles l.event-iterator.rest.items;
+  told : IsSome (g.K.Keeper.means l.keeper).rows → IsSome (g.K.Keeper.means l.fn.keeper).rows;
+  calm : (g.K.Keeper.means l.keeper).faults ≡ (g.K.Keeper.means l.fn.keeper).faults;
+}

@@ -1,0 +1,4 @@
+pub mod Means
+pub mod Turns
+pub mod Tallies
+pub mod Standing

@@ -1,0 +1,45 @@
+-- How far an exercise has come. Private contracts cite this: a reader can pass it over.
+use Rattle.std.specs.Prelude.{◌≡◌, ℕ, ◌≤◌, List, ◌++◌, [], length, take, Result, Ok, Err}
+use Rattle.pr_history.specs.declared.entry.Entry.{Entry}
+use Rattle.pr_outside.specs.Meant.{Store}
+use Rattle.pr_status.specs.declared.status.Stop.{Stop}
+use Rattle.pr_rules.specs.Settings.{of_a_run}
+use Rattle.pr_world.specs.Step.{rows_of, world_after}
+use Rattle.pr_world.specs.World.{World, start}
+use Rattle.pr_world.specs.declared.event.Event.{Event}
+use Rattle.pr_exercise.specs.Summary.{lines_told}
+use Rattle.pr_run.specs.Keeping.{TellsOf}
+use Rattle.pr_run.specs.Told.{bad_row_text}
+use Rattle.pr_exercise_command.specs.Tallies.{tally_of}
+use Rattle.pr_exercise_command.specs.declared.session.Session.{Session}
+use Rattle.pr_exercise_command.specs.declared.tally.Tally.{Tally}
+
+-- These events are answered: the world after them is kept, and the lines are counted that tell of them.
+pub record Stands {E : Type 0} (stands_for : E → Store → World → Type 0) (history : List Entry) (done : List Event) (s : Session E) (store : Store) : Type 0 where
+  pub world : stands_for s.kept store (world_after of_a_run (start history) done)
+  pub tally : s.tally ≡ tally_of (lines_told history done)
+
+-- So many of these events are answered: the store tells the history after them.
+pub record Halts (history : List Entry) (events : List Event) (store : Store) : Type 0 where
+  pub answered : ℕ
+  pub within : answered ≤ length events
+  pub tells : TellsOf store (history ++ rows_of of_a_run (start history) (take answered events))
+
+-- what becomes of events, by how the call ended that was to answer the last of them
+abbrev pub Comes : {E T : Type 0} → (E → Store → World → Type 0) → List Entry → List Event → Session E → Store → Result T Stop → Type 0
+Comes stands_for history events s store (Ok done) = Stands stands_for history events s store
+Comes stands_for history events s store (Err stop) = Halts history events store
+
+-- what becomes of all events: the lines that tell of them are counted, and their rows are kept
+pub record IsCounted (history : List Entry) (events : List Event) (store : Store) (t : Tally) : Type 0 where
+  pub tally : t ≡ tally_of (lines_told history events)
+  pub tells : TellsOf store (history ++ rows_of of_a_run (start history) events)
+
+abbrev pub Counts : List Entry → List Event → Store → Result Tally Stop → Type 0
+Counts history events store (Ok t) = IsCounted history events store t
+Counts history events store (Err stop) = Halts history events store
+
+-- the line of a bad row, by what the rows tell
+abbrev pub bad_text : Result (List Entry) ℕ → List ℕ
+bad_text (Ok history) = []
+bad_text (Err index) = bad_row_text index

@@ -1,0 +1,11 @@
+//! The command `exercise`: the events of a run that is made up, and counts of what it would write.
+#![tactic(auto)]
+
+mod rounds;
+mod running;
+mod session;
+mod tally;
+mod targets;
+
+pub use rounds::Rounds;
+pub use running::exercise;
