@@ -11,6 +11,7 @@ use Rattle.pr_outside.specs.Meant.{Folder, Store}
 use Rattle.pr_script.specs.FileNames.{have_distinct_names, is_name_of}
 use Rattle.pr_script.specs.declared.order.Numbered.{Numbered}
 use Rattle.pr_script.specs.declared.order.Order.{Order}
+use Rattle.pr_script.specs.declared.order.Order.TheVariants as order
 use Rattle.pr_status.specs.Asks.{Asks, AsksBy}
 use Rattle.pr_status.specs.Ends.{Ends, LoadEnds, StopsBy, no_row}
 use Rattle.pr_status.specs.Outside.{AreTold, Held, NoneRose, Outside}
@@ -18,7 +19,10 @@ use Rattle.pr_status.specs.declared.status.Stop.{Stop}
 use Rattle.pr_status.specs.declared.status.Stop.TheVariants as stop
 use Rattle.pr_status.proofs.Ended.{ends_memory, ends_on, in_time_on, quiet, stops_on}
 use Rattle.pr_status.proofs.Streams.{appends_none}
-use Rattle.pr_text.specs.Printed.{bad_line_text, shown_report}
+use Rattle.pr_notices.specs.Receivers.{Receiver}
+use Rattle.pr_queue.specs.Queues.{Waiting}
+use Rattle.pr_queue.specs.Standing as waiting
+use Rattle.pr_text.specs.Printed.{shown_report}
 use Rattle.pr_world.proofs.Refusals.{reload_of_found}
 use Rattle.pr_world.specs.Loading.{FileToLoad, all_found, found_outcome, reload_asked}
 use Rattle.pr_world.specs.Outcome.{is_refusal, refuse, unless_backwards}
@@ -34,9 +38,10 @@ use Rattle.pr_run.specs.Events.{KeepEnds}
 use Rattle.pr_run.specs.Files.{HasNames}
 use Rattle.pr_run.specs.Keeping.{KeepsProgress, Progress, Run, TellsOf, progress_after}
 use Rattle.pr_run.specs.Rows.{IsBadIn}
-use Rattle.pr_run.specs.Standing.{Answers, Gives, Grows, HasGrown, IsGrown, Leaves, Stays, Waits, Writes}
+use Rattle.pr_run.specs.Replies.{Reply, receivers_after}
+use Rattle.pr_run.specs.Standing.{Answers, Gives, Grows, HasGrown, IsGrown, Leaves, Replies, Stays, Waits, Writes}
 use Rattle.pr_run.specs.Times.{IsNotBefore}
-use Rattle.pr_run.specs.Told.{State, Turn, asks_for, asks_in_time, content_by, order_asks, step_of, turn, turn_by}
+use Rattle.pr_run.specs.Told.{State, Turn, asks_for, asks_in_time, content_by, reply_turn, step_turn, turn, turn_of}
 use Rattle.pr_run.proofs.Loads.{asks_none, asks_on}
 use Rattle.pr_run.proofs.Stops.{no_bad}
 use Rattle.pr_run.proofs.Turns.{event_grows}
@@ -205,73 +210,80 @@ ends_behind {T} bad long a b c (Err s) n ti gf go p = record {
 abbrev pub made : ℕ → Order → Numbered
 made number o = record { number = number; order = o }
 
-turn_asks : (s : State) (number : ℕ) (step : Option Step) (asks : List (List ℕ)) → (turn_by s number step asks).answer.asks ≡ asks
-turn_asks s number None asks = refl
-turn_asks s number (Some step) asks = refl
-
-pub asks_turn : (held : Held) (p : Progress) (o : Numbered) (content : _) → AreTold content held (turn held p.state o).answer.asks
-    → AreTold content held (order_asks held p.state.world o.order)
+pub order_turn : (held : Held) (s : State) (o : Numbered) (kind : Order) → o.order ≡ kind → turn held s o ≡ turn_of held s o.number kind
 unfolding turn
-asks_turn held p o content t =
-    subst (AreTold content held) (turn_asks p.state o.number (step_of held p.state.world o.order) (order_asks held p.state.world o.order)) t
+order_turn held s o kind is = ap (turn_of held s o.number) is
 
-bad_turn : (held : Held) (p : Progress) (o : Numbered) → step_of held p.state.world o.order ≡ None → order_asks held p.state.world o.order ≡ []
-    → turn held p.state o ≡ turn_by p.state o.number None []
+-- an event, and files that are to be loaded
+
+pub event_turn : (held : Held) (s : State) (number : ℕ) (e : Event) → turn held s (made number (order.Event e)) ≡ step_turn s (next of_a_run s.world e) []
 unfolding turn
-bad_turn held p o is none =
-    ap (λ (s : Option Step). turn_by p.state o.number s (order_asks held p.state.world o.order)) is ∙ ap (turn_by p.state o.number None) none
+event_turn held s number e = refl
 
--- a line that spells no order
-pub bad_answers : {E : Type 0} (stands_for : E → Store → World → Type 0) (held : Held) (p : Progress) (o : Numbered) (before now : Outside) (first run : Run E) (old new : List ℕ)
-    → step_of held p.state.world o.order ≡ None → order_asks held p.state.world o.order ≡ [] → new ≡ old ++ bad_line_text o.number → run.refused ≡ true → run.kept ≡ first.kept
-    → KeepsProgress stands_for first before.store p → now.store ≡ before.store → now.files ≡ before.files → Answers stands_for held p o before now run old new
-bad_answers stands_for held p o before now first run old new is none text refused kept keeps store files =
-    let t : turn held p.state o ≡ turn_by p.state o.number None [] = bad_turn held p o is none in
-    record {
-      text = text ∙ ap (λ (x : Turn). old ++ x.answer.text) (sym t);
-      keeps = record {
-        world = subst (λ (x : Turn). stands_for run.kept now.store x.state.world) (sym t)
-            (subst (λ (x : Store). stands_for run.kept x p.state.world) (sym store) (subst (λ (k : _). stands_for k before.store p.state.world) (sym kept) keeps.world));
-        refused = refused ∙ sym (or_true p.refused) ∙ ap (λ (x : Turn). p.refused || x.answer.refused) (sym t);
-      };
-      asked = subst (λ (x : Turn). Asks before.files.calls now.files.calls (length x.answer.asks)) (sym t)
-          (subst (λ (f : Folder). Asks before.files.calls f.calls 0) (sym files) (asks_none before.files.calls));
-    }
-  where
-    or_true : (b : Bool) → (b || true) ≡ true
-    or_true true = refl
-    or_true false = refl
+pub files_turn : (held : Held) (s : State) (number time : ℕ) (files : List FileToLoad)
+    → turn held s (made number (order.Reload time files))
+    ≡ step_turn s (reload_asked of_a_run s.world time (content_by held) files) (asks_in_time s.world.last time (asks_for (content_by held) files))
+unfolding turn
+files_turn held s number time files = refl
 
-module _ {E : Type 0} (stands_for : E → Store → World → Type 0) (held : Held) (p : Progress) (o : Numbered) (step : Step) (before now : Outside)
-    (is : step_of held p.state.world o.order ≡ Some step) where
-  abbrev asks : List (List ℕ)
-  asks = order_asks held p.state.world o.order
+pub files_told : (held : Held) (s : State) (number time : ℕ) (files : List FileToLoad) (content : _) → AreTold content held (turn held s (made number (order.Reload time files))).answer.asks
+    → AreTold content held (asks_in_time s.world.last time (asks_for (content_by held) files))
+files_told held s number time files content t = subst (λ (x : Turn). AreTold content held x.answer.asks) (files_turn held s number time files) t
 
-  turn_is : turn held p.state o ≡ turn_by p.state o.number (Some step) asks
-  unfolding turn
-  turn_is = ap (λ (s : Option Step). turn_by p.state o.number s asks) is
+-- an order that leaves the world as it is
+pub reply_answers : {E : Type 0} (stands_for : E → Store → World → Type 0) (held : Held) (p : Progress) (o : Numbered) (before now : Outside) (first run : Run E) (old new : List ℕ)
+    (reply : Reply) → turn held p.state o ≡ reply_turn p.state reply → Replies reply first run old new → KeepsProgress stands_for first before.store p
+    → now.store ≡ before.store → now.files ≡ before.files → Answers stands_for held p o before now run old new
+reply_answers stands_for held p o before now first run old new reply is given keeps store files = record {
+  text = given.text ∙ ap (λ (x : Turn). old ++ x.answer.text) (sym is);
+  keeps = record {
+    world = subst (λ (x : Turn). stands_for run.kept now.store x.state.world) (sym is)
+        (subst (λ (x : Store). stands_for run.kept x p.state.world) (sym store) (subst (λ (k : _). stands_for k before.store p.state.world) (sym given.kept) keeps.world));
+    receivers = subst (λ (x : Turn). waiting.StandsFor run.queues x.state.receivers) (sym is) given.receivers;
+    refused = given.refused ∙ ap (λ (b : Bool). b || reply.refused) keeps.refused ∙ ap (λ (x : Turn). p.refused || x.answer.refused) (sym is);
+  };
+  asked = subst (λ (x : Turn). Asks before.files.calls now.files.calls (length x.answer.asks)) (sym is)
+      (subst (λ (f : Folder). Asks before.files.calls f.calls 0) (sym files) (asks_none before.files.calls));
+}
 
+-- it could not be answered
+pub reply_leaves : {E : Type 0} (stands_for : E → Store → World → Type 0) (held : Held) (p : Progress) (o : Numbered) (now : Outside) (first : Run E) (r : Result Unit Stop)
+    (reply : Reply) → turn held p.state o ≡ reply_turn p.state reply → KeepsProgress stands_for first now.store p
+    → ((e : E) (store : Store) (w : World) → stands_for e store w → TellsOf store w.history) → IfErr r (λ y. y ≡ stop.Memory)
+    → IfErr r (Leaves (turn held p.state o) p.state.world.history now now)
+reply_leaves stands_for held p o now first (Ok x) reply is keeps tells h = tt
+reply_leaves stands_for held p o now first (Err y) reply is keeps tells h =
+    subst (Leaves (turn held p.state o) p.state.world.history now now) (sym h)
+    (subst (λ (t : Turn). Leaves t p.state.world.history now now stop.Memory) (sym is) (inl (record {
+      told = appends_none now.out.taken;
+      stays = record { rows = tells first.kept now.store p.state.world keeps.world; count = 0; asked = asks_none now.files.calls; some = omega arith; within = omega arith };
+    })))
+
+module _ {E : Type 0} (stands_for : E → Store → World → Type 0) (held : Held) (p : Progress) (o : Numbered) (step : Step) (asks : List (List ℕ)) (before now : Outside)
+    (is : turn held p.state o ≡ step_turn p.state step asks) where
   -- its report is told
   pub answers_so : (run : Run E) (old new : List ℕ) (report : Report) (first : Bool) → Gives stands_for p.state.world step (length asks) before now run.kept (Ok report)
       → is_refusal step.report ≡ step.refused → new ≡ old ++ shown_report report → run.refused ≡ (first || is_refusal report) → first ≡ p.refused
-      → Answers stands_for held p o before now run old new
-  answers_so run old new report first g told text refused started = record {
-    text = text ∙ ap (λ (r : Report). old ++ shown_report r) g.0 ∙ ap (λ (t : _). old ++ t.answer.text) (sym turn_is);
+      → waiting.StandsFor run.queues (receivers_after report p.state.receivers) → Answers stands_for held p o before now run old new
+  answers_so run old new report first g told text refused started receivers = record {
+    text = text ∙ ap (λ (r : Report). old ++ shown_report r) g.0 ∙ ap (λ (t : _). old ++ t.answer.text) (sym is);
     keeps = record {
-      world = subst (λ (t : _). stands_for run.kept now.store t.state.world) (sym turn_is) g.1;
+      world = subst (λ (t : _). stands_for run.kept now.store t.state.world) (sym is) g.1;
+      receivers = subst (λ (t : _). waiting.StandsFor run.queues t.state.receivers) (sym is)
+          (subst (λ (r : Report). waiting.StandsFor run.queues (receivers_after r p.state.receivers)) g.0 receivers);
       refused = refused ∙ ap (λ (r : Report). first || is_refusal r) g.0 ∙ ap (λ (b : Bool). first || b) told ∙ ap (λ (b : Bool). b || step.refused) started
-          ∙ ap (λ (t : _). p.refused || t.answer.refused) (sym turn_is);
+          ∙ ap (λ (t : _). p.refused || t.answer.refused) (sym is);
     };
-    asked = subst (λ (t : _). Asks before.files.calls now.files.calls (length t.answer.asks)) (sym turn_is) g.2;
+    asked = subst (λ (t : _). Asks before.files.calls now.files.calls (length t.answer.asks)) (sym is) g.2;
   }
 
   -- it could not be answered
   pub leaves_so : (kept : E) (s : Stop) → Appends before.out.taken now.out.taken [] → Gives stands_for p.state.world step (length asks) before now kept (Err s)
       → Leaves (turn held p.state o) p.state.world.history before now s
-  leaves_so kept s none g = subst (λ (t : _). Leaves t p.state.world.history before now s) (sym turn_is) (by s g)
+  leaves_so kept s none g = subst (λ (t : _). Leaves t p.state.world.history before now s) (sym is) (by s g)
     where
       by : (s : Stop) → Gives stands_for p.state.world step (length asks) before now kept (Err s)
-          → Leaves (turn_by p.state o.number (Some step) asks) p.state.world.history before now s
+          → Leaves (step_turn p.state step asks) p.state.world.history before now s
       by stop.Read g = g
       by stop.Load g = record { told = none; stays = g }
       by stop.Store g = record { told = none; stays = g }
@@ -284,7 +296,7 @@ module _ {E : Type 0} (stands_for : E → Store → World → Type 0) (held : He
   pub leaves_told : (kept : E) (report : Report) (tells : TellsOf now.store step.world.history) → Appends before.out.taken now.out.taken []
       → Gives stands_for p.state.world step (length asks) before now kept (Ok report) → Leaves (turn held p.state o) p.state.world.history before now stop.Memory
   leaves_told kept report tells none g =
-      subst (λ (t : _). Leaves t p.state.world.history before now stop.Memory) (sym turn_is)
+      subst (λ (t : _). Leaves t p.state.world.history before now stop.Memory) (sym is)
       (inr (record { count = 0; told = none; rows = tells; asked = g.2 }))
 
   pub leaves_by : (kept : E) (r : Result Unit Stop) (s : Stop) → IsErrAnd r (λ y. y ≡ s) → Appends before.out.taken now.out.taken []
@@ -304,6 +316,6 @@ pub memory_on : {T : Type 0} (bad : ℕ → Type 0) (long : Type 0) (a b : Outsi
     → IsInTime a.input.course b.input.course → GoesOn a.files.course b.files.course → GoesOn a.out.course b.out.course → Ends bad long a b r
 memory_on {T} bad long a b r h n ti gf go = ends_on T T bad long a b b r stop.Memory h n ti gf go (ends_memory T bad long b)
 
-pub on_both : {T : Type 0} (r : Result T Stop) (A B C : Type 0) → OnOk r A → OnOk r B → (A → B → C) → OnOk r C
-on_both (Ok x) A B C a b f = f a b
-on_both (Err s) A B C a b f = tt
+pub on_one : {T : Type 0} (r : Result T Stop) (A C : Type 0) → OnOk r A → (A → C) → OnOk r C
+on_one (Ok x) A C a f = f a
+on_one (Err s) A C a f = tt

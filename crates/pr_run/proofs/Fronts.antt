@@ -10,7 +10,7 @@ use Rattle.pr_status.specs.Asks.{Asks, AsksAt, asked_by}
 use Rattle.pr_status.specs.Ends.{Place, at_input, at_file, at_store, at_row, at_output, anywhere}
 use Rattle.pr_status.specs.Outside.{Outside}
 use Rattle.pr_status.proofs.Streams.{appends_on}
-use Rattle.pr_run.specs.Front.{IsFront, IsPromptAt, is_between, last_line}
+use Rattle.pr_run.specs.Front.{IsFront, IsPromptAt, is_between}
 use Rattle.pr_run.specs.Rows.{AreKept}
 use Rattle.pr_run.specs.Told.{Answer, asks_of, kept_after, told_of}
 use Rattle.pr_run.proofs.Turns.{asked_front, asked_more, asked_next, steps_of, told_more}
@@ -44,21 +44,16 @@ told_shorter history k done =
 no_order : (P : ℕ → Type 0) (k : ℕ) → k + 1 ≡ 0 → P k
 no_order P k h = absurd (omega arith)
 
--- a place that is no row, so that no line follows the answers
-alone : (place : Place) (old new : Option (List ℕ)) (text : List ℕ) → last_line place ≡ [] → Appends old new text → Appends old new (text ++ last_line place)
-alone place old new text none p =
-    subst (λ (l : List ℕ). Appends old new (text ++ l)) (sym none) (subst (Appends old new) (sym (append-nil text)) p)
-
 -- a part of the first line was written, or nothing
 pub front_opening : (bytes : List ℕ) (history : List Entry) (all : List Answer) (place : Place) (before now : Outside) (n : ℕ)
     → Appends before.out.taken now.out.taken (take n (told_of history [])) → (is_between place 0 ≡ true → ⊥) → IsPromptAt place bytes now.input.left 0
-    → last_line place ≡ [] → AreKept history now.store → Asks before.files.calls now.files.calls 0 → AsksAt place (steps_of all) 0 0
+    → AreKept history now.store → Asks before.files.calls now.files.calls 0 → AsksAt place (steps_of all) 0 0
     → IsFront bytes place history all before now
-front_opening bytes history all place before now n p within prompt other kept asks at = record {
+front_opening bytes history all place before now n p within prompt kept asks at = record {
   answered = 0;
   within = omega arith;
   count = n;
-  text = alone place before.out.taken now.out.taken (take n (told_of history [])) other p;
+  text = p;
   whole = λ k h. no_order (λ k. length (told_of history (take k all)) ≤ n) k h;
   between = λ is. absurd (within is);
   kept = subst (λ (h : List Entry). AreKept h now.store) (sym (append-nil history)) kept;
@@ -70,10 +65,10 @@ front_opening bytes history all place before now n p within prompt other kept as
 
 -- these answers were written whole, and so many files were asked for
 pub front_at : (bytes : List ℕ) (history : List Entry) (done rest : List Answer) (place : Place) (before now : Outside) (asked : ℕ)
-    → Appends before.out.taken now.out.taken (told_of history done) → IsPromptAt place bytes now.input.left (length done) → last_line place ≡ []
+    → Appends before.out.taken now.out.taken (told_of history done) → IsPromptAt place bytes now.input.left (length done)
     → AreKept (kept_after history done) now.store → Asks before.files.calls now.files.calls asked → AsksAt place (steps_of (done ++ rest)) (length done) asked
     → IsFront bytes place history (done ++ rest) before now
-front_at bytes history done rest place before now asked p prompt other kept asks at =
+front_at bytes history done rest place before now asked p prompt kept asks at =
     let text : List ℕ = told_of history done in
     let e : text ≡ take (length text) (told_of history (take (length done) (done ++ rest))) =
     sym (take_all (length text) text (omega arith)) ∙ ap (λ (ys : List Answer). take (length text) (told_of history ys)) (sym (front_of done rest)) in
@@ -81,8 +76,7 @@ front_at bytes history done rest place before now asked p prompt other kept asks
       answered = length done;
       within = omega (arith, length-append done rest);
       count = length text;
-      text = alone place before.out.taken now.out.taken (take (length text) (told_of history (take (length done) (done ++ rest)))) other
-          (subst (Appends before.out.taken now.out.taken) e p);
+      text = subst (Appends before.out.taken now.out.taken) e p;
       whole = λ k h. let le : k ≤ length done = omega arith in
           subst (λ (ys : List Answer). length (told_of history ys) ≤ length text) (sym (take-append-le k done rest le)) (told_shorter history k done);
       between = λ is. omega (arith, ap (λ (ys : List Answer). length (told_of history ys)) (front_of done rest));
@@ -96,10 +90,10 @@ front_at bytes history done rest place before now asked p prompt other kept asks
 -- and of one more a part
 pub front_in : (bytes : List ℕ) (history : List Entry) (done rest : List Answer) (a : Answer) (place : Place) (mid : Option (List ℕ)) (before now : Outside) (n asked : ℕ)
     → Appends before.out.taken mid (told_of history done) → Appends mid now.out.taken (take n a.text) → (is_between place (length done + 1) ≡ true → ⊥)
-    → IsPromptAt place bytes now.input.left (length done + 1) → last_line place ≡ [] → AreKept (kept_after history (done ++ a ∷ [])) now.store
+    → IsPromptAt place bytes now.input.left (length done + 1) → AreKept (kept_after history (done ++ a ∷ [])) now.store
     → Asks before.files.calls now.files.calls asked → AsksAt place (steps_of (done ++ a ∷ rest)) (length done + 1) asked
     → IsFront bytes place history (done ++ a ∷ rest) before now
-front_in bytes history done rest a place mid before now n asked p q within prompt other kept asks at =
+front_in bytes history done rest a place mid before now n asked p q within prompt kept asks at =
     let text : List ℕ = told_of history done in
     let here : take (length done + 1) (done ++ a ∷ rest) ≡ done ++ a ∷ [] = take-append-add done (a ∷ rest) 1 in
     let e : text ++ take n a.text ≡ take (length text + n) (told_of history (take (length done + 1) (done ++ a ∷ rest))) =
@@ -109,8 +103,7 @@ front_in bytes history done rest a place mid before now n asked p q within promp
       answered = length done + 1;
       within = omega (arith, length-append done (a ∷ rest));
       count = length text + n;
-      text = alone place before.out.taken now.out.taken (take (length text + n) (told_of history (take (length done + 1) (done ++ a ∷ rest)))) other
-          (subst (Appends before.out.taken now.out.taken) e (appends_on before.out.taken mid now.out.taken text (take n a.text) p q));
+      text = subst (Appends before.out.taken now.out.taken) e (appends_on before.out.taken mid now.out.taken text (take n a.text) p q);
       whole = λ k h. let le : k ≤ length done = omega arith in
           let short : length (told_of history (take k done)) ≤ length text + n = omega (arith, told_shorter history k done) in
           subst (λ (ys : List Answer). length (told_of history ys) ≤ length text + n) (sym (take-append-le k done (a ∷ rest) le)) short;

@@ -21,7 +21,7 @@ use Rattle.pr_reader.specs.Taken.{IsPrompt}
 use Rattle.pr_reader.proofs.Whole.{prompt_all, prompt_on}
 use Rattle.pr_reader.proofs.Orders.{takes_none, takes_on, follow}
 use Rattle.pr_world.specs.World.{World, start}
-use Rattle.pr_run.specs.Front.{IsFront, IsPromptAt, last_line}
+use Rattle.pr_run.specs.Front.{IsFront, IsPromptAt}
 use Rattle.pr_run.specs.Keeping.{KeepsProgress, Progress, Run, TellsOf, progress_after, unanswered}
 use Rattle.pr_run.specs.Rows.{AreKept}
 use Rattle.pr_run.specs.Runs.{EndsOver, IsWholeRun}

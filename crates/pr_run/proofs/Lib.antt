@@ -9,3 +9,4 @@ pub mod Stops
 pub mod Answering
 pub mod Begins
 pub mod Starts
+pub mod Offering

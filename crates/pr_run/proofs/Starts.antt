@@ -75,12 +75,12 @@ module _ (only : IsDecoding) (before now : Outside) (bytes : List ℕ) (all : Li
       by stop.Read may bad held = absurd may
       by stop.Load may bad held = absurd may
       by stop.Store may bad held =
-          front_opening bytes history (answers_to held history bytes) (place_of {T = Bool} (Err stop.Store)) before now p.0 p.1 (λ e. absurd (cc)) tt refl (kept_of history good) asks (omega arith, omega arith)
+          front_opening bytes history (answers_to held history bytes) (place_of {T = Bool} (Err stop.Store)) before now p.0 p.1 (λ e. absurd (cc)) tt (kept_of history good) asks (omega arith, omega arith)
       by (stop.BadRow index) may bad held = let worse = bad index refl in absurd (cc)
       by stop.Write may bad held =
-          front_opening bytes history (answers_to held history bytes) (place_of {T = Bool} (Err stop.Write)) before now p.0 p.1 (λ e. absurd (cc)) tt refl (kept_of history good) asks refl
+          front_opening bytes history (answers_to held history bytes) (place_of {T = Bool} (Err stop.Write)) before now p.0 p.1 (λ e. absurd (cc)) tt (kept_of history good) asks refl
       by stop.Memory may bad held =
-          front_opening bytes history (answers_to held history bytes) (place_of {T = Bool} (Err stop.Memory)) before now p.0 p.1 (λ e. absurd (cc)) tt refl (kept_of history good) asks (omega arith)
+          front_opening bytes history (answers_to held history bytes) (place_of {T = Bool} (Err stop.Memory)) before now p.0 p.1 (λ e. absurd (cc)) tt (kept_of history good) asks (omega arith)
       by stop.TooLong may bad held = absurd may
 
   same_rows : IfSome now.store.rows (λ rows. rows ≡ all)

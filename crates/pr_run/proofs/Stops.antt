@@ -1,5 +1,5 @@
 -- How a run ends: at its input, within an order, or when all is answered.
-use Rattle.std.proofs.Common.{◌≡◌, ◌≢◌, ℕ, ◌+◌, ◌≤◌, Bool, true, false, List, [], ◌∷◌, ◌++◌, None, Some, IfSome, IsSome, Result, Ok, Err, IsErrAnd, IfOk, refl, sym, ap, ◌∙◌, subst, append-nil, length, take, arith, ◌⊎◌, inl, inr}
+use Rattle.std.proofs.Common.{◌≡◌, ◌≢◌, ℕ, ◌+◌, ◌≤◌, Bool, true, false, List, [], ◌∷◌, ◌++◌, None, Some, IfSome, IsSome, Result, Ok, Err, IsErrAnd, IfOk, refl, sym, ap, ◌∙◌, subst, append_assoc, append-nil, length, take, arith, ◌⊎◌, inl, inr}
 use Rattle.std.specs.Prelude.{flat_map}
 use Rattle.std.specs.declared.option.Option.{Option}
 use Rattle.std.specs.Io.KnownBytes.{Appends}
@@ -24,12 +24,12 @@ use Rattle.pr_reader.specs.Reading.{HandsOrder, Takes, TakesOrders, IsCutAt}
 use Rattle.pr_reader.specs.Taken.{IsPrompt}
 use Rattle.pr_reader.proofs.Whole.{prompt_all, prompt_on}
 use Rattle.pr_world.specs.World.{World}
-use Rattle.pr_run.specs.Front.{IsFront, IsPromptAt, is_between, last_line}
+use Rattle.pr_run.specs.Front.{IsFront, IsPromptAt, TellsRow, is_between}
 use Rattle.pr_run.specs.Keeping.{KeepsProgress, Progress, Run, TellsOf, unanswered}
 use Rattle.pr_run.specs.Rows.{AreKept, IsBadIn}
 use Rattle.pr_run.specs.Runs.{EndsOver, IsWholeRun}
 use Rattle.pr_run.specs.Standing.{Leaves, Stands, Waits, Writes}
-use Rattle.pr_run.specs.Told.{Answer, Turn, answers, answers_to, any_refused, asks_of, begun, kept, kept_after, refuses, told, told_of, turn}
+use Rattle.pr_run.specs.Told.{Answer, Turn, answers, answers_to, any_refused, asks_of, bad_row_text, begun, kept, kept_after, refuses, told, told_of, turn}
 use Rattle.pr_run.proofs.Fronts.{asks_anywhere, asks_between, asks_file, asks_output, asks_store, asks_written, front_at, front_in}
 use Rattle.pr_run.proofs.Goings.{Going, answered, come, last_orders, next_orders, split_orders}
 use Rattle.pr_run.proofs.Loads.{asks_on}
@@ -58,7 +58,7 @@ IsReadStop stop.Write = ⊥
 IsReadStop stop.Memory = Unit {0}
 IsReadStop stop.TooLong = Unit {0}
 
-not_row : (s : Stop) (index : ℕ) → IsReadStop s → s ≡ stop.BadRow index → ⊥
+pub not_row : (s : Stop) (index : ℕ) → IsReadStop s → s ≡ stop.BadRow index → ⊥
 not_row s index may e = subst IsReadStop e may
 
 abbrev stopped_by : Stop → Result Bool Stop
@@ -117,10 +117,10 @@ module _ {E : Type 0} (stands_for : E → Store → World → Type 0) (only : Is
   count_is held = sym (answer_count held (begun history) here.orders)
 
   -- the next order could not be had
-  pub front_between : (input : Input) (place : Place) → place ≢ at_file → last_line place ≡ [] → IsPromptAt place bytes input.left (length here.orders) → IsSome mid.store.rows
+  pub front_between : (input : Input) (place : Place) → place ≢ at_file → IsPromptAt place bytes input.left (length here.orders) → IsSome mid.store.rows
       → (held : Held) → AreTold entry.files.content held (asks_of (answers_to held history bytes))
       → IsFront bytes place history (answers_to held history bytes) before (record mid { input = input })
-  front_between input place other none prompt some held told =
+  front_between input place other prompt some held told =
       let t = split_orders bytes b m here.orders taken_of in
       let rest = answers held (come held history here.orders).state t.0 in
       let all : answers_to held history bytes ≡ done held ++ rest = all_of held t.0 t.1 in
@@ -129,11 +129,11 @@ module _ {E : Type 0} (stands_for : E → Store → World → Type 0) (only : Is
       kept_by only mid.store (kept_after history (done held)) (subst (TellsOf mid.store) (history_is held) (tells run.kept mid.store (come held history here.orders).state.world s.keeps.world)) in
       subst (λ (l : List Answer). IsFront bytes place history l before (record mid { input = input })) (sym all)
       (front_at bytes history (done held) rest place before (record mid { input = input }) (length (asks_of (done held))) s.told
-      (subst (IsPromptAt place bytes input.left) (count_is held) prompt) none rows s.asked (asks_between place (done held) rest other))
+      (subst (IsPromptAt place bytes input.left) (count_is held) prompt) rows s.asked (asks_between place (done held) rest other))
 
   pub front_cut : (input : Input) → IsCutAt b input.left m → IsSome mid.store.rows → (held : Held) → AreTold entry.files.content held (asks_of (answers_to held history bytes))
       → IsFront bytes at_input history (answers_to held history bytes) before (record mid { input = input })
-  front_cut input cut some held told = front_between input at_input (λ e. absurd (cc)) refl (prompt_by bytes b input.left here.orders m taken_of cut) some held told
+  front_cut input cut some held told = front_between input at_input (λ e. absurd (cc)) (prompt_by bytes b input.left here.orders m taken_of cut) some held told
 
   -- all is answered
   pub ended : (input : Input) (unread : List ℕ) (n : ℕ) → HandsOrder b (ahead unread input.left) m n None → IsSome mid.store.rows
@@ -153,7 +153,7 @@ module _ {E : Type 0} (stands_for : E → Store → World → Type 0) (only : Is
                   (kept_by only mid.store (kept_after history (done held)) (subst (TellsOf mid.store) (history_is held) (tells run.kept mid.store (come held history here.orders).state.world s.keeps.world)));
               read = last.1;
             };
-        front = λ held told. front_between input at_input (λ e. absurd (cc)) refl (prompt_ended bytes input.left here.orders last.1 last.0) some held told;
+        front = λ held told. front_between input at_input (λ e. absurd (cc)) (prompt_ended bytes input.left here.orders last.1 last.0) some held told;
         fine = λ index e. absurd (cc);
       }
 
@@ -176,7 +176,7 @@ module _ {E : Type 0} (stands_for : E → Store → World → Type 0) (only : Is
       by stop.Store cut may = absurd may
       by (stop.BadRow index) cut may = absurd may
       by stop.Write cut may = absurd may
-      by stop.Memory cut may = at_end stop.Memory tt (front_between input anywhere (λ e. absurd (cc)) refl tt some)
+      by stop.Memory cut may = at_end stop.Memory tt (front_between input anywhere (λ e. absurd (cc)) tt some)
       by stop.TooLong cut may = at_end stop.TooLong tt (front_cut input (cut refl) some)
 
   -- Within the next order
@@ -201,14 +201,14 @@ module _ {E : Type 0} (stands_for : E → Store → World → Type 0) (only : Is
     stood : Stands stands_for held history here.orders run before mid
     stood = stands_of held (the.answer ∷ rest) all told some
 
-    front_waits : (place : Place) (least : ℕ) → last_line place ≡ [] → ((k : ℕ) → IsPromptAt place bytes now.input.left k)
+    front_waits : (place : Place) (least : ℕ) → ((k : ℕ) → IsPromptAt place bytes now.input.left k)
         → ((k : ℕ) → least ≤ k → k ≤ length the.answer.asks → AsksAt place (steps_of (done held ++ the.answer ∷ rest)) (length (done held)) (length (asks_of (done held)) + k))
         → Waits the (come held history here.orders).state.world.history least middle now → IsFront bytes place history (answers_to held history bytes) before now
-    front_waits place least none prompt at w =
+    front_waits place least prompt at w =
         let text : Appends others.out.taken now.out.taken (told_of history (done held)) =
         subst (Appends others.out.taken now.out.taken) (append-nil (told_of history (done held))) (appends_on others.out.taken mid.out.taken now.out.taken (told_of history (done held)) [] stood.told w.told) in
         subst (λ (l : List Answer). IsFront bytes place history l before now) (sym all)
-        (front_at bytes history (done held) (the.answer ∷ rest) place before now (length (asks_of (done held)) + w.stays.count) text (prompt (length (done held))) none
+        (front_at bytes history (done held) (the.answer ∷ rest) place before now (length (asks_of (done held)) + w.stays.count) text (prompt (length (done held)))
         (kept_by only now.store (kept_after history (done held)) (subst (TellsOf now.store) (history_is held) w.stays.rows))
         (asks_on entry.files.calls mid.files.calls now.files.calls (length (asks_of (done held))) w.stays.count stood.asked w.stays.asked) (at w.stays.count w.stays.some w.stays.within))
 
@@ -218,25 +218,25 @@ module _ {E : Type 0} (stands_for : E → Store → World → Type 0) (only : Is
         ∙ orders_grow held (unanswered history) (here.orders ++ o ∷ [])
         ∙ ap (kept_after history) (answers_append held (unanswered history) here.orders (o ∷ []))
 
-    front_writes : (place : Place) → last_line place ≡ [] → ((k : ℕ) → IsPromptAt place bytes now.input.left k) → (is_between place (length (done held) + 1) ≡ true → ⊥)
+    front_writes : (place : Place) → ((k : ℕ) → IsPromptAt place bytes now.input.left k) → (is_between place (length (done held) + 1) ≡ true → ⊥)
         → AsksAt place (steps_of (done held ++ the.answer ∷ rest)) (length (done held) + 1) (length (asks_of (done held)) + length the.answer.asks)
         → Writes the middle now → IsFront bytes place history (answers_to held history bytes) before now
-    front_writes place none prompt within at w =
+    front_writes place prompt within at w =
         subst (λ (l : List Answer). IsFront bytes place history l before now) (sym all)
         (front_in bytes history (done held) rest the.answer place mid.out.taken before now w.count (length (asks_of (done held)) + length the.answer.asks) stood.told w.told within
-        (prompt (length (done held) + 1)) none
+        (prompt (length (done held) + 1))
         (kept_by only now.store (kept_after history (done held ++ the.answer ∷ [])) (subst (TellsOf now.store) grown_is w.rows))
         (asks_on entry.files.calls mid.files.calls now.files.calls (length (asks_of (done held))) (length the.answer.asks) stood.asked w.asked) at)
 
     pub front_left : (s : Stop) → Leaves the (come held history here.orders).state.world.history middle now s
         → IsFront bytes (place_of {T = Bool} (Err s)) history (answers_to held history bytes) before now
     front_left stop.Read w = absurd w
-    front_left stop.Load w = front_waits at_file 1 refl (λ k. tt) (λ k some le. asks_file (done held) rest the.answer k some le) w
-    front_left stop.Store w = front_waits at_store 0 refl (λ k. tt) (λ k some le. asks_store (done held) rest the.answer k le) w
+    front_left stop.Load w = front_waits at_file 1 (λ k. tt) (λ k some le. asks_file (done held) rest the.answer k some le) w
+    front_left stop.Store w = front_waits at_store 0 (λ k. tt) (λ k some le. asks_store (done held) rest the.answer k le) w
     front_left (stop.BadRow index) w = absurd w
-    front_left stop.Write w = front_writes at_output refl (λ k. tt) (λ e. absurd (cc)) (asks_output (done held) rest the.answer) w
-    front_left stop.Memory (inl w) = front_waits anywhere 0 refl (λ k. tt) (λ k some le. asks_anywhere (done held) rest the.answer k le) w
-    front_left stop.Memory (inr w) = front_writes anywhere refl (λ k. tt) (λ e. absurd (cc)) (asks_written (done held) rest the.answer) w
+    front_left stop.Write w = front_writes at_output (λ k. tt) (λ e. absurd (cc)) (asks_output (done held) rest the.answer) w
+    front_left stop.Memory (inl w) = front_waits anywhere 0 (λ k. tt) (λ k some le. asks_anywhere (done held) rest the.answer k le) w
+    front_left stop.Memory (inr w) = front_writes anywhere (λ k. tt) (λ e. absurd (cc)) (asks_written (done held) rest the.answer) w
     front_left stop.TooLong w = absurd w
 
     leaves : (r : Result Bool Stop) (s : Stop) → IsErrAnd r (λ y. y ≡ s) → Leaves the (come held history here.orders).state.world.history middle now s
@@ -264,3 +264,17 @@ row_of_stop (Err y) s index h e = sym h ∙ err_is y (stop.BadRow index) e
 pub no_whole : (r : Result Bool Stop) (s : Stop) (P : Bool → Type 0) → IsErrAnd r (λ y. y ≡ s) → IfOk r P
 no_whole (Ok x) s P h = absurd h
 no_whole (Err y) s P h = tt
+
+-- the line of a row that is written behind other texts
+pub row_behind : (a b c : Option (List ℕ)) (at : ℕ) (text : List ℕ) → Appends a b text → Appends b c (bad_row_text at) → TellsRow at a c
+row_behind a b c at text p q = record { front = text; text = appends_on a b c text (bad_row_text at) p q }
+
+pub row_after : (a b c : Option (List ℕ)) (at : ℕ) (text : List ℕ) → Appends a b text → TellsRow at b c → TellsRow at a c
+row_after a b c at text p t = record {
+  front = text ++ t.front;
+  text = subst (Appends a c) (sym (append_assoc text t.front (bad_row_text at))) (appends_on a b c text (t.front ++ bad_row_text at) p t.text);
+}
+
+-- or alone
+pub row_alone : (a b : Option (List ℕ)) (at : ℕ) → Appends a b (bad_row_text at) → TellsRow at a b
+row_alone a b at p = record { front = []; text = p }

@@ -20,7 +20,7 @@ use Rattle.pr_status.specs.Asks.{asked_by}
 use Rattle.pr_status.specs.Outside.{AreTold, Held}
 use Rattle.pr_run.specs.Keeping.{Progress, progress_after}
 use Rattle.pr_run.specs.Standing.{progress_of}
-use Rattle.pr_run.specs.Told.{Answer, State, answers, any_refused, asks_of, content_by, order_asks, step_of, told_of, turn, turn_by}
+use Rattle.pr_run.specs.Told.{Answer, State, answers, any_refused, asks_of, content_by, told_of, turn, turn_of}
 
 -- Texts
 
@@ -88,15 +88,16 @@ unfolding reload_asked
 reload_grows held w time files =
     step_grows w time (unless_backwards w.last time (found_outcome of_a_run w time (all_found (content_by held) files)))
 
-by_order : (held : Held) (s : State) (number : ℕ) (o : Order) (asks : List (List ℕ))
-    → (turn_by s number (step_of held s.world o) asks).state.world.history ≡ s.world.history ++ (turn_by s number (step_of held s.world o) asks).answer.rows
-by_order held s number (order.Event e) asks = event_grows s.world e
-by_order held s number (order.Reload time files) asks = reload_grows held s.world time files
-by_order held s number order.Bad asks = sym (append-nil s.world.history)
+by_order : (held : Held) (s : State) (number : ℕ) (o : Order) → (turn_of held s number o).state.world.history ≡ s.world.history ++ (turn_of held s number o).answer.rows
+by_order held s number (order.Event e) = event_grows s.world e
+by_order held s number (order.Reload time files) = reload_grows held s.world time files
+by_order held s number (order.Receiver name) = sym (append-nil s.world.history)
+by_order held s number (order.Flush name) = sym (append-nil s.world.history)
+by_order held s number order.Bad = sym (append-nil s.world.history)
 
 pub turn_grows : (held : Held) (s : State) (o : Numbered) → (turn held s o).state.world.history ≡ s.world.history ++ (turn held s o).answer.rows
 unfolding turn
-turn_grows held s o = by_order held s o.number o.order (order_asks held s.world o.order)
+turn_grows held s o = by_order held s o.number o.order
 
 pub orders_grow : (held : Held) (p : Progress) (orders : List Numbered)
     → (progress_of held p orders).state.world.history ≡ p.state.world.history ++ flat_map (λ (a : Answer). a.rows) (answers held p.state orders)

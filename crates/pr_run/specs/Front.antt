@@ -12,24 +12,16 @@ use Rattle.pr_reader.specs.Taken.{IsPrompt}
 use Rattle.pr_run.specs.Told.{Answer, bad_row_text, told_of, kept_after}
 
 -- Whether a run stopped between two orders, so that none is answered in part, by how many are
--- answered. A store may stop it before the first line is written.
+-- answered. A store may stop it before the first line is written. No row stops a run over rows that
+-- tell a history.
 abbrev pub is_between : Place → ℕ → Bool
 is_between at_input answered = true
 is_between at_file answered = true
 is_between at_store zero = false
 is_between at_store (suc answered) = true
-is_between (at_row index) answered = true
+is_between (at_row index) answered = false
 is_between at_output answered = false
 is_between anywhere answered = false
-
--- the line that follows all others where a run that begins anew finds a bad row
-abbrev pub last_line : Place → List ℕ
-last_line at_input = []
-last_line at_file = []
-last_line at_store = []
-last_line (at_row index) = bad_row_text index
-last_line at_output = []
-last_line anywhere = []
 
 -- Where a run stopped at its input, all orders are answered whose lines ended with a line feed in
 -- what was taken of it, but for the last of them where its body may go on. Elsewhere more lines may
@@ -43,15 +35,14 @@ IsPromptAt at_output bytes left answered = Unit {0}
 IsPromptAt anywhere bytes left answered = Unit {0}
 
 -- A number of orders was answered, the last of them maybe in part. What was written is a front of
--- what is told of them, and holds all that is told of those before the last; a bad row that a run
--- found which begins anew is told behind it. The rows that are kept, where they are told, are those
--- of the entries at the start and then of the same orders. Between two orders nothing lacks. Where a
--- load stopped the run, it is one of the next order's.
+-- what is told of them, and holds all that is told of those before the last. The rows that are kept,
+-- where they are told, are those of the entries at the start and then of the same orders. Between two
+-- orders nothing lacks. Where a load stopped the run, it is one of the next order's.
 pub record IsFront (bytes : List ℕ) (place : Place) (rows : List Entry) (answers : List Answer) (before now : Outside) : Type 0 where
   pub answered : ℕ
   pub within : answered ≤ length answers
   pub count : ℕ
-  pub text : Appends before.out.taken now.out.taken (take count (told_of rows (take answered answers)) ++ last_line place)
+  pub text : Appends before.out.taken now.out.taken (take count (told_of rows (take answered answers)))
   pub whole : (fewer : ℕ) → fewer + 1 ≡ answered → length (told_of rows (take fewer answers)) ≤ count
   pub between : is_between place answered ≡ true → length (told_of rows (take answered answers)) ≤ count
   pub kept : AreKept (kept_after rows (take answered answers)) now.store
@@ -59,6 +50,12 @@ pub record IsFront (bytes : List ℕ) (place : Place) (rows : List Entry) (answe
   pub asked : ℕ
   pub asks : Asks before.files.calls now.files.calls asked
   pub asks_at : AsksAt place (map (λ (a : Answer). a.asks) answers) answered asked
+
+-- A row that stops a run, at its start or where it begins anew, is told by the last line that was
+-- written. That holds over any store, also where it does not tell its rows.
+pub record TellsRow (index : ℕ) (old new : Option (List ℕ)) : Type 0 where
+  pub front : List ℕ
+  pub text : Appends old new (front ++ bad_row_text index)
 
 -- Over rows of which one is bad no order is answered: a front of the line that tells its index was
 -- written, and the rows, where they are told, are as they were. Where the run stopped for a row it is

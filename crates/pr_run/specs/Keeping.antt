@@ -2,6 +2,8 @@
 use Rattle.std.specs.Prelude.{◌≡◌, ℕ, Bool, false, ◌||◌, List, length, IfSome, Ok}
 use Rattle.pr_history.specs.declared.entry.Entry.{Entry}
 use Rattle.pr_outside.specs.Meant.{Store}
+use Rattle.pr_queue.specs.Queues.{Waiting}
+use Rattle.pr_queue.specs.Standing as waiting
 use Rattle.pr_row.specs.Histories.{history_of}
 use Rattle.pr_world.specs.World.{World, start}
 use Rattle.pr_script.specs.declared.order.Numbered.{Numbered}
@@ -30,11 +32,13 @@ unanswered history = record { state = begun history; refused = false }
 abbrev pub progress_after : Held → Progress → Numbered → Progress
 progress_after held p o = record { state = (turn held p.state o).state; refused = p.refused || (turn held p.state o).answer.refused }
 
--- what a session has
+-- what a session has: what keeps the world, and the queues of the receivers
 pub record Run (E : Type 0) : Type 0 where
   pub kept : E
+  pub queues : List Waiting
   pub refused : Bool
 
 pub record KeepsProgress {E : Type 0} (stands_for : E → Store → World → Type 0) (run : Run E) (store : Store) (p : Progress) : Type 0 where
   pub world : stands_for run.kept store p.state.world
+  pub receivers : waiting.StandsFor run.queues p.state.receivers
   pub refused : run.refused ≡ p.refused

@@ -1,3 +1,4 @@
+pub mod Replies
 pub mod Told
 pub mod Rows
 pub mod Front

@@ -11,7 +11,7 @@ use Rattle.pr_status.specs.declared.status.Status.{Status}
 use Rattle.pr_status.specs.declared.status.Status.TheVariants as status
 use Rattle.pr_status.specs.declared.status.Stop.{Stop}
 use Rattle.pr_status.specs.declared.status.Stop.TheVariants.{Read, Load, Store, BadRow, Write, Memory, TooLong}
-use Rattle.pr_run.specs.Front.{IsBadStart, IsFront}
+use Rattle.pr_run.specs.Front.{IsBadStart, IsFront, TellsRow}
 use Rattle.pr_run.specs.Rows.{AreKept, IsBadIn, OverRows}
 use Rattle.pr_run.specs.Told.{answers_to, asks_of, bad_row_text, told, kept, refuses}
 
@@ -78,6 +78,8 @@ pub record MeansRun (before now : Outside) (result : Status) : Type 0 where
   pub ends : Ends (IsBadIn now.store) (IsLong before.input.left) before now ending
   -- an input that was read to its end is short, and one that is too long is long
   pub known : KnowsLength before.input.left ending
+  -- over any store
+  pub row : (index : ℕ) → ending ≡ Err (BadRow index) → TellsRow index before.out.taken now.out.taken
   -- What is written and kept, over the rows at the start, where the store tells its rows at the end.
   pub over : IfSome now.store.rows (λ all. IfSome before.input.left (λ bytes.
       OverRows before.store.rows all (λ rows. RunsBy (history_of rows) rows bytes before now ending result)))

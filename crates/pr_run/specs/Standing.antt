@@ -1,9 +1,10 @@
 -- Where a run stands between two orders, and where it is stopped within one.
-use Rattle.std.specs.Prelude.{◌≡◌, ◌⊎◌, ℕ, ◌≤◌, List, [], ◌∷◌, ◌++◌, length, take, Option, Result, Ok, Err}
+use Rattle.std.specs.Prelude.{◌≡◌, ◌⊎◌, ℕ, ◌≤◌, ◌||◌, List, [], ◌∷◌, ◌++◌, length, take, Option, Result, Ok, Err}
 use Rattle.std.specs.Io.KnownBytes.{Appends}
 use Rattle.pr_history.specs.declared.entry.Entry.{Entry}
 use Rattle.pr_script.specs.declared.order.Numbered.{Numbered}
 use Rattle.pr_outside.specs.Meant.{Store}
+use Rattle.pr_queue.specs.Standing as waiting
 use Rattle.pr_reader.specs.Reading.{Takes}
 use Rattle.pr_status.specs.Asks.{Asks}
 use Rattle.pr_status.specs.Outside.{Held, Outside}
@@ -13,6 +14,7 @@ use Rattle.pr_world.specs.Step.{Step}
 use Rattle.pr_world.specs.World.{World}
 use Rattle.pr_world.specs.declared.report.Report.{Report}
 use Rattle.pr_run.specs.Keeping.{KeepsProgress, Progress, Run, TellsOf, unanswered, progress_after}
+use Rattle.pr_run.specs.Replies.{Reply}
 use Rattle.pr_run.specs.Told.{Turn, answers, asks_of, begun, told_of, turn}
 
 -- orders were taken of the input, whose lines came before so many others
@@ -52,6 +54,13 @@ Gives stands_for w step all before now kept (Err (stop.BadRow index)) = ⊥
 Gives stands_for w step all before now kept (Err stop.Write) = ⊥
 Gives stands_for w step all before now kept (Err stop.Memory) = Stays w.history 0 all before now
 Gives stands_for w step all before now kept (Err stop.TooLong) = ⊥
+
+-- A reply was given, and none of its text is written.
+pub record Replies {E : Type 0} (reply : Reply) (first run : Run E) (old new : List ℕ) : Type 0 where
+  pub text : new ≡ old ++ reply.text
+  pub receivers : waiting.StandsFor run.queues reply.receivers
+  pub refused : run.refused ≡ (first.refused || reply.refused)
+  pub kept : run.kept ≡ first.kept
 
 -- An order was answered, and none of its text is written.
 pub record Answers {E : Type 0} (stands_for : E → Store → World → Type 0) (held : Held) (p : Progress) (o : Numbered) (before now : Outside) (run : Run E) (old new : List ℕ) : Type 0 where

@@ -1,9 +1,10 @@
 -- What a run of the script writes, keeps and refuses, by what the files hold, the rows at the start
 -- and the bytes of its input.
-use Rattle.std.specs.Prelude.{ℕ, Bool, true, cond, nat_lt, List, [], ◌∷◌, ◌++◌, length, flat_map, codes, decimal, Option, Some, None, Result, Ok, Err}
+use Rattle.std.specs.Prelude.{ℕ, Bool, cond, nat_lt, List, [], ◌∷◌, ◌++◌, length, flat_map, codes, decimal, Option, Some, None, Result, Ok, Err}
 use Rattle.std.specs.List.{list_any}
 use Rattle.pr_words.specs.Lines.{lines_of}
 use Rattle.pr_history.specs.declared.entry.Entry.{Entry}
+use Rattle.pr_notices.specs.Receivers.{Receiver}
 use Rattle.pr_world.specs.declared.event.NamedFile.{NamedFile}
 use Rattle.pr_world.specs.declared.report.Report.{Report}
 use Rattle.pr_world.specs.declared.report.Report.TheVariants.{Opened}
@@ -15,23 +16,19 @@ use Rattle.pr_script.specs.declared.order.Order.{Order}
 use Rattle.pr_script.specs.declared.order.Order.TheVariants as order
 use Rattle.pr_script.specs.declared.order.Numbered.{Numbered}
 use Rattle.pr_script.specs.Orders.{orders_of}
-use Rattle.pr_text.specs.Printed.{shown_report, bad_line_text}
+use Rattle.pr_text.specs.Printed.{shown_report}
 use Rattle.pr_loading.specs.Loading as loading
 use Rattle.pr_loading.specs.Loading.{holding_by}
 use Rattle.pr_status.specs.Outside.{Held}
+use Rattle.pr_run.specs.Replies.{Reply, bad_line_reply, flush_reply, receiver_reply, receivers_after}
 
--- somebody who is to be given notices, and those that were offered since it was known
-pub record Receiver : Type 0 where
-  pub name : List ℕ
-  pub notices : List (List ℕ)
-
--- What is kept in mind between two orders: the world; and the receivers, which are no part of it. So
--- far no order names one.
+-- What is kept in mind between two orders: the world; and the receivers of notices, which are no part
+-- of it.
 pub record State : Type 0 where
   pub world : World
   pub receivers : List Receiver
 
--- over these rows at the start
+-- over these rows at the start, without receivers
 abbrev pub begun : List Entry → State
 begun rows = record { world = start rows; receivers = [] }
 
@@ -76,29 +73,30 @@ asks_in_time (Some last) time asks = cond (nat_lt time last) [] asks
 
 -- Orders
 
--- what an order comes to in the world, where it is one
-abbrev pub step_of : Held → World → Order → Option Step
-step_of held w (order.Event e) = Some (next of_a_run w e)
-step_of held w (order.Reload time files) = Some (reload_asked of_a_run w time (content_by held) files)
-step_of held w order.Bad = None
-
--- the files that are asked for
-abbrev pub order_asks : Held → World → Order → List (List ℕ)
-order_asks held w (order.Event e) = []
-order_asks held w (order.Reload time files) = asks_in_time w.last time (asks_for (content_by held) files)
-order_asks held w order.Bad = []
-
--- An order is answered by its report. What spells no order is refused with the number of its line,
--- and changes nothing. So far no order sends notices.
-abbrev pub turn_by : State → ℕ → Option Step → List (List ℕ) → Turn
-turn_by s number None asks = record { answer = record { text = bad_line_text number; rows = []; refused = true; asks = asks }; state = s }
-turn_by s number (Some step) asks = record {
+-- an order is answered by the report of its step in the world
+abbrev pub step_turn : State → Step → List (List ℕ) → Turn
+step_turn s step asks = record {
   answer = record { text = shown_report step.report; rows = step.rows; refused = step.refused; asks = asks };
-  state = record { world = step.world; receivers = s.receivers };
+  state = record { world = step.world; receivers = receivers_after step.report s.receivers };
 }
 
+-- or it leaves the world as it is
+abbrev pub reply_turn : State → Reply → Turn
+reply_turn s reply = record {
+  answer = record { text = reply.text; rows = []; refused = reply.refused; asks = [] };
+  state = record { world = s.world; receivers = reply.receivers };
+}
+
+abbrev pub turn_of : Held → State → ℕ → Order → Turn
+turn_of held s number (order.Event e) = step_turn s (next of_a_run s.world e) []
+turn_of held s number (order.Reload time files) =
+    step_turn s (reload_asked of_a_run s.world time (content_by held) files) (asks_in_time s.world.last time (asks_for (content_by held) files))
+turn_of held s number (order.Receiver name) = reply_turn s (receiver_reply name s.receivers)
+turn_of held s number (order.Flush name) = reply_turn s (flush_reply name s.receivers)
+turn_of held s number order.Bad = reply_turn s (bad_line_reply number s.receivers)
+
 unfoldable pub turn : Held → State → Numbered → Turn
-turn held s o = turn_by s o.number (step_of held s.world o.order) (order_asks held s.world o.order)
+turn held s o = turn_of held s o.number o.order
 
 -- the answers to orders, one after another
 abbrev pub answers : Held → State → List Numbered → List Answer

@@ -10,6 +10,7 @@ ghost use Rattle.pr_status.specs.Status.{IsLong};
 ghost use Rattle.pr_status.specs.declared.status.Stop.TheVariants as stop;
 ghost use Rattle.pr_world.specs.World.{World};
 ghost use Rattle.pr_run.specs.Beginning.{Begins, first_text};
+ghost use Rattle.pr_run.specs.Front.{TellsRow};
 ghost use Rattle.pr_run.specs.Keeping.{KeepsProgress, Progress, unanswered};
 ghost use Rattle.pr_run.specs.Rows.{IsBadIn, OverRows};
 ghost use Rattle.pr_run.specs.Runs.{EndsBy, EndsOver};
@@ -92,7 +93,7 @@ fn begin<E: Worlds + Drop, K: Keeper, O: Sink>(
     match E::start(alloc, keeper, path) {
         Ok(kept) => {
             tell_opened(alloc, keeper.size(), out)?;
-            Ok(Session::new(kept))
+            Ok(Session::new(alloc, kept))
         }
         Err(stop) => match bad_row_of(stop) {
             Some(index) => {
@@ -121,6 +122,8 @@ fn answer_order<E: Worlds + Drop, F: Files, K: Keeper, O: Sink>(
         → AreTold (F.means files.old).content held (turn held p.state order).answer.asks → IsSome (K.means keeper.new).rows
         → IfErr result (Leaves (turn held p.state order) p.state.world.history (record others { files = F.means files.old; store = K.means keeper.old; out = O.means out.old })
         (record others { files = F.means files.new; store = K.means keeper.new; out = O.means out.new })) }
+    ensures written { OnOk result ((text : List ℕ) × Appends (O.means out.old).taken (O.means out.new).taken text) }
+    ensures row { (at : ℕ) → result ≡ Err (stop.BadRow at) → Appends (O.means out.old).taken (O.means out.new).taken (bad_row_text at) }
     ensures grows { (w : World) → E.stands_for session.old.kept (K.means keeper.old) w → IsSome (K.means keeper.new).rows → Grows E.stands_for w.history (K.means keeper.new) session.new.kept result }
     ensures told { IsSome (K.means keeper.new).rows → IsSome (K.means keeper.old).rows }
     ensures same { (other : List ℕ) → (F.means files.new).content other ≡ (F.means files.old).content other }
@@ -157,6 +160,7 @@ fn answer_all<E: Worlds + Drop, I: Source, F: Files, K: Keeper, O: Sink>(
         → Appends others.out.taken (O.means out.old).taken (told_of history []) → IsSome (K.means keeper.new).rows
         → IfSome (I.means input.old).left (λ bytes. EndsOver history bytes (record others { input = I.means input.old; files = F.means files.old })
         (record { input = I.means input.new; files = F.means files.new; store = K.means keeper.new; out = O.means out.new }) result) }
+    ensures row { (at : ℕ) → result ≡ Err (stop.BadRow at) → TellsRow at (O.means out.old).taken (O.means out.new).taken }
     ensures grows { (w : World) → E.stands_for session.old.kept (K.means keeper.old) w → IsSome (K.means keeper.new).rows → HasGrown w.history (K.means keeper.new) }
     ensures told { IsSome (K.means keeper.new).rows → IsSome (K.means keeper.old).rows }
     ensures same { (other : List ℕ) → (F.means files.new).content other ≡ (F.means files.old).content other }
@@ -186,6 +190,8 @@ pub fn run<E: Worlds + Drop, I: Source, F: Files, K: Keeper, O: Sink>(
     ensures over { IfSome (K.means keeper.new).rows (λ all. IfSome (I.means input.old).left (λ bytes. OverRows (K.means keeper.old).rows all (λ rows. EndsBy (history_of rows) rows bytes
         (record { input = I.means input.old; files = F.means files.old; store = K.means keeper.old; out = O.means out.old })
         (record { input = I.means input.new; files = F.means files.new; store = K.means keeper.new; out = O.means out.new }) result))) }
+    // Where a row stopped it, its line is the last that was written, over any store.
+    ensures row { (at : ℕ) → result ≡ Err (stop.BadRow at) → TellsRow at (O.means out.old).taken (O.means out.new).taken }
     ensures same { (other : List ℕ) → (F.means files.new).content other ≡ (F.means files.old).content other }
     ensures long { KnowsLength (I.means input.old).left result }
     ensures ends { Ends (IsBadIn (K.means keeper.new)) (IsLong (I.means input.old).left)

@@ -1,5 +1,7 @@
 // A run of the script, order by order.
-ghost use Rattle.std.specs.Prelude.{◌≡◌, ◌++◌, ◌||◌, ℕ, List, length, nat_lt, false, true, Some, IfSome, IfNone, IsSome, OnOk, IfErr};
+ghost use Rattle.std.specs.Prelude.{◌≡◌, ◌++◌, ◌||◌, ℕ, List, [], length, nat_lt, false, true, Some, IfSome, IfNone, IsSome, OnOk, IfErr};
+ghost use Rattle.pr_notices.specs.Receivers.{Receiver};
+ghost use Rattle.pr_queue.specs.Standing as waiting;
 ghost use Rattle.pr_status.specs.Ends.{Ends};
 ghost use Rattle.pr_status.specs.Outside.{AreTold, Held, Outside};
 ghost use Rattle.pr_world.specs.Outcome.{is_refusal};
@@ -7,21 +9,24 @@ ghost use Rattle.pr_world.specs.Settings.{of_a_run};
 ghost use Rattle.pr_world.specs.Loading.{reload_asked};
 ghost use Rattle.pr_world.specs.Step.{next};
 ghost use Rattle.pr_world.specs.World.{World};
-ghost use Rattle.pr_text.specs.Printed.{bad_line_text, shown_report};
+ghost use Rattle.pr_text.specs.Printed.{shown_report};
 ghost use Rattle.pr_script.specs.declared.order.Order.TheVariants as order;
 ghost use Rattle.pr_run.specs.Events.{HasDistinctFiles, has_files};
 ghost use Rattle.pr_run.specs.Keeping.{KeepsProgress, Progress};
+ghost use Rattle.pr_run.specs.Replies.{bad_line_reply, flush_reply, receiver_reply, receivers_after};
 ghost use Rattle.pr_run.specs.Rows.{IsBadIn};
-ghost use Rattle.pr_run.specs.Standing.{Answers, Gives, Grows, Leaves};
+ghost use Rattle.pr_run.specs.Standing.{Answers, Gives, Grows, Leaves, Replies};
 ghost use Rattle.pr_run.specs.Times.{IsNotBefore};
 ghost use Rattle.pr_run.specs.Told.{asks_for, asks_in_time, content_by, turn};
 
 use crate::files::load_files;
+use crate::receivers::{is_not_new, notify};
 use crate::worlds::Worlds;
 use pr_outside::{Files, Keeper};
+use pr_queue::Notifier;
 use pr_script::{FilesToLoad, Numbered, Order};
 use pr_status::Stop;
-use pr_text::{push_bad_line, push_report};
+use pr_text::{push_bad_line, push_batch, push_joined, push_no_receiver, push_report};
 use pr_time::Ms;
 use pr_world::{Event, Report};
 use std::alloc::{AllocError, Global};
@@ -83,6 +88,7 @@ fn last_behind(last: Option<Ms>, time: Ms) -> Option<Ms>
 #[derive(Drop)]
 pub(crate) struct Session<E> {
     kept: E,
+    notifier: Notifier,
     refused: bool,
 }
 
@@ -91,16 +97,19 @@ impl<E> Model for Session<E> {
 
     ghost Value = { Run E };
 
-    ghost view = { λ s. record { kept = s.kept; refused = s.refused } };
+    ghost view = { λ s. record { kept = s.kept; queues = s.notifier; refused = s.refused } };
 }
 
 impl<E: Worlds + Drop> Session<E> {
     /// No order has come yet.
-    pub(crate) fn new(kept: E) -> Session<E>
-        ensures { (result.kept ≡ kept) × (result.refused ≡ false) }
+    pub(crate) fn new(alloc: Global, kept: E) -> Session<E>
+        ensures kept { result.kept ≡ kept }
+        ensures refused { result.refused ≡ false }
+        ensures receivers { waiting.StandsFor result.queues [] }
     {
         Session {
             kept,
+            notifier: Notifier::new(alloc),
             refused: false,
         }
     }
@@ -123,6 +132,7 @@ impl<E: Worlds + Drop> Session<E> {
         ensures gives { (others : Outside) (w : World) → E.stands_for self.old.kept (K.means keeper.old) w → IsSome (K.means keeper.new).rows
             → Gives E.stands_for w (next of_a_run w event) 0 (record others { store = K.means keeper.old }) (record others { store = K.means keeper.new }) self.new.kept result }
         ensures refused { self.new.refused ≡ self.old.refused }
+        ensures queues { self.new.queues ≡ self.old.queues }
         ensures grows { (w : World) → E.stands_for self.old.kept (K.means keeper.old) w → IsSome (K.means keeper.new).rows → Grows E.stands_for w.history (K.means keeper.new) self.new.kept result }
         ensures told { IsSome (K.means keeper.new).rows → IsSome (K.means keeper.old).rows }
         ensures ends { (others : Outside) → Ends (IsBadIn (K.means keeper.new)) ⊥ (record others { store = K.means keeper.old }) (record others { store = K.means keeper.new }) result }
@@ -144,6 +154,7 @@ impl<E: Worlds + Drop> Session<E> {
             → Gives E.stands_for w (reload_asked of_a_run w time (content_by held) names.now) (length (asks_for (content_by held) names.now))
             (record others { files = F.means files.old; store = K.means keeper.old }) (record others { files = F.means files.new; store = K.means keeper.new }) self.new.kept result }
         ensures refused { self.new.refused ≡ self.old.refused }
+        ensures queues { self.new.queues ≡ self.old.queues }
         ensures grows { (w : World) → E.stands_for self.old.kept (K.means keeper.old) w → IsSome (K.means keeper.new).rows → Grows E.stands_for w.history (K.means keeper.new) self.new.kept result }
         ensures told { IsSome (K.means keeper.new).rows → IsSome (K.means keeper.old).rows }
         ensures same { (other : List ℕ) → (F.means files.new).content other ≡ (F.means files.old).content other }
@@ -170,6 +181,7 @@ impl<E: Worlds + Drop> Session<E> {
             → Gives E.stands_for w (reload_asked of_a_run w time (content_by held) names.now) (length (asks_in_time w.last time (asks_for (content_by held) names.now)))
             (record others { files = F.means files.old; store = K.means keeper.old }) (record others { files = F.means files.new; store = K.means keeper.new }) self.new.kept result }
         ensures refused { self.new.refused ≡ self.old.refused }
+        ensures queues { self.new.queues ≡ self.old.queues }
         ensures grows { (w : World) → E.stands_for self.old.kept (K.means keeper.old) w → IsSome (K.means keeper.new).rows → Grows E.stands_for w.history (K.means keeper.new) self.new.kept result }
         ensures told { IsSome (K.means keeper.new).rows → IsSome (K.means keeper.old).rows }
         ensures same { (other : List ℕ) → (F.means files.new).content other ≡ (F.means files.old).content other }
@@ -182,13 +194,15 @@ impl<E: Worlds + Drop> Session<E> {
         }
     }
 
-    // Appends a report.
+    // Appends a report, and offers what it sent to the receivers.
     fn tell(&mut self, text: &mut Vec<u8>, report: &Report) -> Result<(), AllocError>
         ensures text { OnOk result (text.new.items ≡ text.old.items ++ shown_report report.now) }
+        ensures receivers { OnOk result ((rs : List Receiver) → waiting.StandsFor self.old.queues rs → waiting.StandsFor self.new.queues (receivers_after report.now rs)) }
         ensures refused { self.new.refused ≡ (self.old.refused || is_refusal report.now) }
         ensures kept { self.new.kept ≡ self.old.kept }
     {
         self.refused = self.refused || is_refusal(report);
+        notify(&mut self.notifier, report)?;
         push_report(text, report)
     }
 
@@ -246,10 +260,40 @@ impl<E: Worlds + Drop> Session<E> {
         Ok(())
     }
 
+    // Adds a receiver, and appends what became of its name.
+    fn add_receiver(&mut self, text: &mut Vec<u8>, name: &str) -> Result<(), Stop>
+        ensures replies { OnOk result ((rs : List Receiver) → waiting.StandsFor self.old.queues rs → Replies (receiver_reply name.now rs) self.old self.new text.old.items text.new.items) }
+        ensures kept { self.new.kept ≡ self.old.kept }
+        ensures memory { IfErr result (λ s. s ≡ Stop.Memory) }
+    {
+        let joined = self.notifier.add(name)?;
+        self.refused = self.refused || is_not_new(joined);
+        push_joined(text, name, joined)?;
+        Ok(())
+    }
+
+    // Appends what waits for a receiver, which takes it out; or that no receiver has the name.
+    fn flush_receiver(&mut self, text: &mut Vec<u8>, name: &str) -> Result<(), Stop>
+        ensures replies { OnOk result ((rs : List Receiver) → waiting.StandsFor self.old.queues rs → Replies (flush_reply name.now rs) self.old self.new text.old.items text.new.items) }
+        ensures kept { self.new.kept ≡ self.old.kept }
+        ensures memory { IfErr result (λ s. s ≡ Stop.Memory) }
+    {
+        match self.notifier.flush(name)? {
+            Some(batch) => {
+                push_batch(text, name, &batch)?;
+                Ok(())
+            }
+            None => {
+                self.refused = true;
+                push_no_receiver(text, name)?;
+                Ok(())
+            }
+        }
+    }
+
     // Refuses a line that spells no order.
     fn refuse_line(&mut self, text: &mut Vec<u8>, number: u64) -> Result<(), Stop>
-        ensures text { OnOk result (text.new.items ≡ text.old.items ++ bad_line_text number) }
-        ensures refused { OnOk result (self.new.refused ≡ true) }
+        ensures replies { OnOk result ((rs : List Receiver) → waiting.StandsFor self.old.queues rs → Replies (bad_line_reply number rs) self.old self.new text.old.items text.new.items) }
         ensures kept { self.new.kept ≡ self.old.kept }
         ensures memory { IfErr result (λ s. s ≡ Stop.Memory) }
     {
@@ -285,6 +329,8 @@ impl<E: Worlds + Drop> Session<E> {
             Order::Reload { time, files: names } => {
                 self.take_files_order(alloc, text, time, names, files, keeper)
             }
+            Order::Receiver { name } => self.add_receiver(text, name.as_str()),
+            Order::Flush { name } => self.flush_receiver(text, name.as_str()),
             Order::Bad => self.refuse_line(text, number),
         }
     }

@@ -8,7 +8,8 @@ use Rattle.pr_row.specs.Rows.{encoded}
 use Rattle.pr_text.specs.Printed.{shown_report}
 use Rattle.pr_status.specs.Asks.{Asks, AsksAt, asked_by}
 use Rattle.pr_status.specs.Ends.{at_file}
-use Rattle.pr_run.specs.Told.{kept_after, told_of}
+use Rattle.pr_run.specs.Front.{TellsRow}
+use Rattle.pr_run.specs.Told.{bad_row_text, kept_after, told_of}
 use Rattle.pr_run_laws.specs.Examples.{added, reloaded}
 
 pub none : decimal 0 ≡ 48 ∷ []
@@ -53,3 +54,10 @@ answered_unloaded e file (suc zero) count asked few text asks at =
 answered_unloaded e file (suc (suc zero)) count asked few text asks at =
     let here : asked_by 2 ((file ∷ []) ∷ [] ∷ []) ≡ 1 = refl in absurd (omega (arith, asks.1, at.0, here))
 answered_unloaded e file (suc (suc (suc n))) count asked few text asks at = absurd (omega (arith, few))
+
+-- a line that is shorter than that of the row
+pub not_told_so : TellsRow 7 (Some []) (Some (codes "opened 0\n")) → ⊥
+unfolding bad_row_text
+not_told_so t =
+    let line : length (bad_row_text 7) ≡ 10 = ap (λ (d : List ℕ). length (codes "bad row " ++ (d ++ codes "\n"))) seven in
+    omega (arith, ap length t.text, length-append t.front (bad_row_text 7), line)

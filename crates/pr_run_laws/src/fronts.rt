@@ -1,12 +1,12 @@
 //! Small runs that are cut short, one for each place where they may stop, and some that are no
 //! such runs.
-ghost use Rattle.std.specs.Prelude.{◌≡◌, codes, [], ◌∷◌, ℕ, List, true};
+ghost use Rattle.std.specs.Prelude.{◌≡◌, codes, [], ◌∷◌, ℕ, List, Some, true};
 ghost use Rattle.pr_history.specs.declared.entry.Entry.{Entry};
 ghost use Rattle.pr_outside.specs.declared.keeping.Row.{Row};
 ghost use Rattle.pr_row.specs.Rows.{encoded};
 ghost use Rattle.pr_status.specs.Ends.{at_file, at_output, at_row, at_store, anywhere};
-ghost use Rattle.pr_run.specs.Front.{IsBadStart, IsFront};
-ghost use Rattle.pr_run_laws.specs.Examples.{added, outside_of, reloaded, untold_of};
+ghost use Rattle.pr_run.specs.Front.{IsBadStart, IsFront, TellsRow};
+ghost use Rattle.pr_run_laws.specs.Examples.{added, outside_of, reloaded};
 
 /// A store that refuses the third order's rows leaves the rows and the texts of the two before.
 pub fn a_run_stops_at_its_store()
@@ -26,10 +26,12 @@ pub fn a_run_stops_at_its_output()
         (outside_of (codes "opened 0\nadded\nad") (encoded e ∷ encoded f ∷ []) 0) }
 {}
 
-/// A run that begins anew and finds a bad row tells so behind the orders before it; a store that
-/// told its rows would have none.
-pub fn a_run_stops_at_a_row()
-    ensures { (e f : Entry) → IsFront [] (at_row 7) [] (added e ∷ added f ∷ []) (untold_of [] 0) (untold_of (codes "opened 0\nadded\nbad row 7\n") 0) }
+/// A row that stops a run is told by the last line, behind the answers before it; no other line tells
+/// it.
+pub fn a_row_is_told_by_the_last_line()
+    ensures behind { TellsRow 7 (Some []) (Some (codes "opened 0\nadded\nbad row 7\n")) }
+    ensures alone { TellsRow 7 (Some []) (Some (codes "bad row 7\n")) }
+    ensures not_told { TellsRow 7 (Some []) (Some (codes "opened 0\n")) → ⊥ }
 {}
 
 /// Want of memory may come when an order's rows are kept and none of its text is written.

@@ -19,7 +19,8 @@ use Rattle.pr_labels.specs.declared.pair.Pair.{Pair}
 use Rattle.pr_words.specs.Fields.{without_trailing, first_field, after_field, last_field, before_last_field}
 use Rattle.pr_words.proofs.Decimals.{printed_of_read}
 use Rattle.pr_series.specs.SeriesReading.{series_labels}
-use Rattle.pr_script.specs.Script.{is_comment_line, is_passed_over, written_time, point_read, point_of, series_of, some_text, add_of, query_of, add_in, query_in, target_by, target_of, occasion_by, occasion_of, scrape_in, eval_of, eval_in, restart_in, alerts_in, fail_in, gone_in, group_event, whole_event, takes_body, is_body_line}
+use Rattle.pr_row.specs.Points.{point_read, point_of}
+use Rattle.pr_script.specs.Script.{is_comment_line, is_passed_over, written_time, series_of, some_text, add_of, query_of, add_in, query_in, target_by, target_of, occasion_by, occasion_of, scrape_in, eval_of, eval_in, restart_in, alerts_in, fail_in, gone_in, group_event, whole_event, takes_body, is_body_line}
 use Rattle.pr_script.specs.declared.script.Occasion.{Occasion}
 use Rattle.pr_script.proofs.Blocks.{both_left, both_right}
 use Rattle.pr_script.proofs.FieldTexts.{trailing_text, first_text, last_text}
@@ -29,8 +30,9 @@ use Rattle.pr_kinds.proofs.PlainTexts.{plain_text}
 use Rattle.pr_world.specs.declared.event.Event.{Event}
 use Rattle.pr_world.specs.declared.event.Event.TheVariants.{Scrape, Fail, Gone, Restart, Alerts}
 use Rattle.pr_world.specs.Loading.{FileToLoad}
-use Rattle.pr_script.specs.Orders.{event_order, order_by, order_of}
+use Rattle.pr_script.specs.Orders.{event_order, whole_order, order_by, order_of}
 use Rattle.pr_script.specs.Reloads.{is_equals_sign, file_by, file_at, file_of, files_in, files_within, with_file, some_files, reload_of, reload_in}
+use Rattle.pr_script.specs.Naming.{name_in, receiver_of, receiver_in, flush_of, flush_in}
 use Rattle.pr_script.specs.declared.order.Order.{Order}
 use Rattle.pr_script.specs.declared.order.Order.TheVariants as order
 
@@ -66,6 +68,10 @@ series_text text labels h = given text (is_utf8 text) (series_labels text) label
 some_is_text : (text e : List ℕ) → some_text text ≡ Some e → IsUtf8 text
 some_is_text [] e h = absurd (cc)
 some_is_text (b ∷ bytes) e h = given (b ∷ bytes) (is_utf8 (b ∷ bytes)) (Some (b ∷ bytes)) e refl h
+
+no_bytes : (bytes : List ℕ) → (length bytes == 0) ≡ true → IsUtf8 bytes
+no_bytes [] h = IsUtf8-nil
+no_bytes (b ∷ bytes) h = absurd (grind (arith, nat_tests))
 
 -- Events
 
@@ -160,6 +166,8 @@ files_text (b ∷ text) (suc most) files h =
 abbrev IsGood : Order → Type 0
 IsGood (order.Event e) = Unit {0}
 IsGood (order.Reload time files) = Unit {0}
+IsGood (order.Receiver name) = Unit {0}
+IsGood (order.Flush name) = Unit {0}
 IsGood order.Bad = ⊥
 
 reload_by : (text : List ℕ) (time : Option ℕ) (files : Option (List FileToLoad))
@@ -169,6 +177,23 @@ reload_by text None files t f h = absurd h
 reload_by text (Some time) None t f h = absurd h
 reload_by text (Some time) (Some files) t f h =
     first_text text (time_text (first_field text) time t) (files_text (after_field text) (length (after_field text)) files f)
+
+-- Receivers
+
+name_by : (text : List ℕ) (alone : Bool) (name : List ℕ) → (length (after_field text) == 0) ≡ alone → cond alone (some_text (first_field text)) None ≡ Some name → IsUtf8 text
+name_by text true name is h = first_text text (some_is_text (first_field text) name h) (no_bytes (after_field text) is)
+name_by text false name is h = absurd (cc)
+
+name_text : (text name : List ℕ) → name_in text ≡ Some name → IsUtf8 text
+name_text text name h = name_by text (length (after_field text) == 0) name refl h
+
+receiver_by : (text : List ℕ) (name : Option (List ℕ)) → name_in text ≡ name → IsGood (receiver_of name) → IsUtf8 text
+receiver_by text None is h = absurd h
+receiver_by text (Some name) is h = name_text text name is
+
+flush_by : (text : List ℕ) (name : Option (List ℕ)) → name_in text ≡ name → IsGood (flush_of name) → IsUtf8 text
+flush_by text None is h = absurd h
+flush_by text (Some name) is h = name_text text name is
 
 -- A line is told by its first word, and what stands after it.
 module _ (word text : List ℕ) where
@@ -246,12 +271,31 @@ module _ (word text : List ℕ) where
   scrape_good body None is h = absurd h
   scrape_good body (Some e) is h = mapped text (λ a. Scrape a.time a.target body) (occasion_of text) e refl is
 
+  abbrev flush_on : Order
+  flush_on = cond (bytes_eq word (codes "flush")) (flush_in text) (event_order (whole_event word text))
+
+  abbrev receiver_on : Order
+  receiver_on = cond (bytes_eq word (codes "receiver")) (receiver_in text) flush_on
+
+  flush_told : IsGood flush_on → IsUtf8 word × IsUtf8 text
+  flush_told =
+      named_order (codes "flush") (bytes_eq word (codes "flush")) (flush_in text) (event_order (whole_event word text)) refl refl
+      (flush_by text (name_in text) refl) (good_event (whole_event word text) whole_told)
+
+  receiver_told : IsGood receiver_on → IsUtf8 word × IsUtf8 text
+  receiver_told =
+      named_order (codes "receiver") (bytes_eq word (codes "receiver")) (receiver_in text) flush_on refl refl
+      (receiver_by text (name_in text) refl) flush_told
+
+  reload_told : IsGood (whole_order word text) → IsUtf8 word × IsUtf8 text
+  reload_told =
+      named_order (codes "reload") (bytes_eq word (codes "reload")) (reload_in text) receiver_on refl refl
+      (reload_by text (written_time (first_field text)) (files_in (after_field text)) refl refl) receiver_told
+
   order_told : (body : List ℕ) → IsGood (order_by word text body) → IsUtf8 word × IsUtf8 text
   order_told body h =
-      named_order (codes "scrape") (bytes_eq word (codes "scrape")) (event_order (scrape_in body text))
-      (cond (bytes_eq word (codes "reload")) (reload_in text) (event_order (whole_event word text))) refl refl (scrape_good body (scrape_in body text) refl)
-      (named_order (codes "reload") (bytes_eq word (codes "reload")) (reload_in text) (event_order (whole_event word text)) refl refl
-      (reload_by text (written_time (first_field text)) (files_in (after_field text)) refl refl) (good_event (whole_event word text) whole_told)) h
+      named_order (codes "scrape") (bytes_eq word (codes "scrape")) (event_order (scrape_in body text)) (whole_order word text) refl refl
+      (scrape_good body (scrape_in body text) refl) reload_told h
 
 good_text : (line body : List ℕ) → IsGood (order_of line body) → IsUtf8 line
 good_text line body h =
@@ -261,6 +305,8 @@ good_text line body h =
 bad_by : (line : List ℕ) (o : Order) → (IsGood o → IsUtf8 line) → (IsUtf8 line → ⊥) → o ≡ order.Bad
 bad_by line (order.Event e) good bad = absurd (bad (good tt))
 bad_by line (order.Reload time files) good bad = absurd (bad (good tt))
+bad_by line (order.Receiver name) good bad = absurd (bad (good tt))
+bad_by line (order.Flush name) good bad = absurd (bad (good tt))
 bad_by line order.Bad good bad = refl
 
 pub no_text_is_bad : (line body : List ℕ) → (IsUtf8 line → ⊥) → order_of line body ≡ order.Bad
@@ -283,10 +329,6 @@ body_line_text [] h = IsUtf8-nil
 body_line_text (b ∷ text) h =
     let bar : b ≡ 124 = eqb-true b 124 (both_left (b == 124) (is_utf8 text) h) in
     IsUtf8-append (b ∷ []) text (IsUtf8-from_ascii (b ∷ []) (IsAscii-cons b [] (omega (arith, bar)) IsAscii-nil)) (IsUtf8-from_is_utf8 text (both_right (b == 124) (is_utf8 text) h))
-
-no_bytes : (bytes : List ℕ) → (length bytes == 0) ≡ true → IsUtf8 bytes
-no_bytes [] h = IsUtf8-nil
-no_bytes (b ∷ bytes) h = absurd (grind (arith, nat_tests))
 
 passed_by_text : (line : List ℕ) (blank : Bool) → (length (without_trailing line) == 0) ≡ blank → (blank || (is_comment_line line && is_utf8 line)) ≡ true → IsUtf8 line
 passed_by_text line true is h = trailing_text line (no_bytes (without_trailing line) is)

@@ -1,5 +1,6 @@
 pub mod FileNames
 pub mod Script
 pub mod Reloads
+pub mod Naming
 pub mod Orders
 pub mod Started

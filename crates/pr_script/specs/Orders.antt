@@ -4,6 +4,7 @@ use Rattle.std.specs.Str.{bytes_eq}
 use Rattle.pr_words.specs.Fields.{without_trailing, first_field, after_field}
 use Rattle.pr_script.specs.Script.{is_passed_over, scrape_in, whole_event, takes_body, is_body_line, body_of}
 use Rattle.pr_script.specs.Reloads.{reload_in}
+use Rattle.pr_script.specs.Naming.{receiver_in, flush_in}
 use Rattle.pr_script.specs.declared.order.Order.{Order}
 use Rattle.pr_script.specs.declared.order.Order.TheVariants as order
 use Rattle.pr_script.specs.declared.order.Numbered.{Numbered}
@@ -39,11 +40,16 @@ abbrev pub event_order : Option Event → Order
 event_order None = order.Bad
 event_order (Some e) = order.Event e
 
--- The order that a word, what stands after it, and a body spell: a scrape takes a body; a reload names
--- files; what else there is, is an event.
+-- The order that a word and what stands after it spell, where it takes no body: a reload names files,
+-- and two orders name a receiver; what else there is, is an event.
+abbrev pub whole_order : List ℕ → List ℕ → Order
+whole_order word text =
+    cond (bytes_eq word (codes "reload")) (reload_in text) (cond (bytes_eq word (codes "receiver")) (receiver_in text)
+    (cond (bytes_eq word (codes "flush")) (flush_in text) (event_order (whole_event word text))))
+
+-- the order that a word, what stands after it, and a body spell: a scrape takes a body
 abbrev pub order_by : List ℕ → List ℕ → List ℕ → Order
-order_by word text body =
-    cond (bytes_eq word (codes "scrape")) (event_order (scrape_in body text)) (cond (bytes_eq word (codes "reload")) (reload_in text) (event_order (whole_event word text)))
+order_by word text body = cond (bytes_eq word (codes "scrape")) (event_order (scrape_in body text)) (whole_order word text)
 
 -- the order that a line and a body spell; the blanks at the line's end say nothing
 abbrev pub order_of : List ℕ → List ℕ → Order

@@ -1,18 +1,15 @@
 -- The lines of a script, and the events that they spell.
-use Rattle.std.specs.Prelude.{ℕ, ◌^◌, Bool, false, ◌&&◌, ◌||◌, cond, ◌==◌, List, [], ◌∷◌, ◌++◌, length, flat_map, codes, Option, Some, None, is_some, Result, Ok, Err}
+use Rattle.std.specs.Prelude.{ℕ, ◌^◌, Bool, false, ◌&&◌, ◌||◌, cond, ◌==◌, List, [], ◌∷◌, ◌++◌, length, flat_map, codes, Option, Some, None, is_some}
 use Prim.Native.Char.{code}
 use Rattle.std.specs.Option.{option_map}
 use Rattle.std.specs.Str.{bytes_eq, is_utf8}
-use Rattle.pr_num.specs.declared.value.Num.{Num}
 use Rattle.pr_num.specs.declared.value.Point.{Point}
-use Rattle.pr_num.specs.declared.value.Point.TheVariants.{Value, Stale}
-use Rattle.pr_num.specs.declared.text.NumFault.{NumFault}
-use Rattle.pr_num.specs.Reads.{reads}
 use Rattle.pr_labels.specs.declared.pair.Pair.{Pair}
 use Rattle.pr_labels.specs.LabelSet.{metric_label, value_of}
 use Rattle.pr_series.specs.SeriesReading.{series_labels}
 use Rattle.pr_words.specs.Decimals.{plain_decimal}
 use Rattle.pr_words.specs.Fields.{without_trailing, first_field, after_field, last_field, before_last_field}
+use Rattle.pr_row.specs.Points.{point_of}
 use Rattle.pr_script.specs.declared.script.Occasion.{Occasion}
 use Rattle.pr_world.specs.declared.event.Event.{Event}
 use Rattle.pr_world.specs.declared.event.Event.TheVariants.{Add, Query, Scrape, Fail, Gone, Eval, Restart, Alerts}
@@ -29,14 +26,6 @@ is_passed_over line = length (without_trailing line) == 0 || (is_comment_line li
 -- a time in milliseconds: a plain decimal below 2^42
 abbrev pub written_time : List ℕ → Option ℕ
 written_time text = plain_decimal (2 ^ 42) text
-
--- a point: the word for a marker, or the text of a number
-abbrev pub point_read : Result Num NumFault → Option Point
-point_read (Ok v) = Some (Value v)
-point_read (Err fault) = None
-
-abbrev pub point_of : List ℕ → Option Point
-point_of text = cond (bytes_eq text (codes "stale")) (Some Stale) (point_read (reads text))
 
 -- a series: any series text
 abbrev pub series_of : List ℕ → Option (List Pair)

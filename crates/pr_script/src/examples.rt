@@ -5,7 +5,7 @@ ghost use Rattle.pr_labels.specs.LabelSet.{pair_of};
 ghost use Rattle.pr_world.specs.declared.event.Event.TheVariants as event;
 ghost use Rattle.pr_script.specs.Orders.{blocks_by, order_of, orders_of};
 ghost use Rattle.pr_script.specs.Reloads.{file_of};
-ghost use Rattle.pr_script.specs.declared.order.Order.TheVariants.{Event, Reload, Bad};
+ghost use Rattle.pr_script.specs.declared.order.Order.TheVariants.{Event, Reload, Receiver, Flush, Bad};
 
 /// The body lines that directly follow a line that takes a body are one order with it. Any other
 /// line ends the body, also an empty one, and a body line after that stands alone. Lines keep their
@@ -63,4 +63,13 @@ pub fn a_reload_names_files()
     ensures unnamed { file_of (codes "=b") ≡ None }
     ensures unfiled { file_of (codes "b=") ≡ None }
     ensures twice { order_of (codes "reload 7 b b=c") [] ≡ Bad }
+{}
+
+/// A receiver is named by one field, in both orders.
+pub fn receivers_are_named_so()
+    ensures receiver { order_of (codes "receiver a ") [] ≡ Receiver (codes "a") }
+    ensures flush { order_of (codes "flush \ta") [] ≡ Flush (codes "a") }
+    ensures no_name { order_of (codes "receiver") [] ≡ Bad }
+    ensures two { order_of (codes "flush a b") [] ≡ Bad }
+    ensures time { order_of (codes "receiver 7 a") [] ≡ Bad }
 {}

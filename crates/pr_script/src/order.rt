@@ -1,14 +1,15 @@
 // Orders: what the lines of a script ask for.
 ghost use Rattle.std.specs.Prelude.{◌≡◌, IfOk};
-ghost use Rattle.pr_script.specs.Orders.{event_order};
+ghost use Rattle.pr_script.specs.Orders.{event_order, whole_order};
 ghost use Rattle.pr_script.specs.Started.{Starts};
 
 use super::file_names::FilesToLoad;
+use super::naming::{flush_in, receiver_in};
 use super::reloads::reload_in;
 use super::script::{Occasion, occasion_of, whole_event};
 use pr_labels::Labels;
 use pr_time::Ms;
-use pr_words::{split_first, without_trailing};
+use pr_words::{Text, split_first, without_trailing};
 use pr_world::Event;
 use std::alloc::{AllocError, Global};
 
@@ -20,6 +21,10 @@ pub enum Order {
     /// The rule files of these names are to be loaded, and to take the place of all of before. No two
     /// of them are known by one name.
     Reload { time: Ms, files: FilesToLoad },
+    /// Notices are to wait for the receiver of this name from now on. (Own choice.)
+    Receiver { name: Text },
+    /// The receiver of this name is to be given the notices that wait for it. (Own choice.)
+    Flush { name: Text },
     /// The line spells no order, and is refused.
     Bad,
 }
@@ -40,12 +45,27 @@ pub enum Started {
     Scrape { time: Ms, target: Labels },
 }
 
-fn whole_order(event: Option<Event>) -> Order
+fn event_order(event: Option<Event>) -> Order
     ensures { result ≡ event_order event }
 {
     match event {
         Some(event) => Order::Event { event },
         None => Order::Bad,
+    }
+}
+
+// The order that a word and what stands after it spell, where it is none that takes a body.
+fn whole_order(alloc: Global, word: &[u8], text: &[u8]) -> Result<Order, AllocError>
+    ensures { IfOk result (λ order. order ≡ whole_order word.now text.now) }
+{
+    if word == b"reload".as_slice() {
+        reload_in(alloc, text)
+    } else if word == b"receiver".as_slice() {
+        receiver_in(alloc, text)
+    } else if word == b"flush".as_slice() {
+        flush_in(alloc, text)
+    } else {
+        Ok(event_order(whole_event(alloc, word, text)?))
     }
 }
 
@@ -62,10 +82,6 @@ pub fn read_order(alloc: Global, line: &[u8]) -> Result<Started, AllocError>
             None => Ok(Started::Whole { order: Order::Bad }),
         };
     }
-    if word == b"reload".as_slice() {
-        let order = reload_in(alloc, text)?;
-        return Ok(Started::Whole { order });
-    }
-    let order = whole_order(whole_event(alloc, word, text)?);
+    let order = whole_order(alloc, word, text)?;
     Ok(Started::Whole { order })
 }

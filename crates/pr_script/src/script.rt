@@ -2,10 +2,10 @@
 ghost use Rattle.std.specs.Prelude.{◌≡◌, ◌++◌, IfOk, OnErr, MatchOption, codes, string_bytes, true, false};
 ghost use Rattle.std.specs.Str.{bytes_eq, is_utf8};
 ghost use Rattle.pr_series.specs.SeriesReading.{series_labels};
-ghost use Rattle.pr_script.specs.Script.{is_comment_line, is_passed_over, written_time, point_of, series_of, some_text, add_of, query_of, add_in, query_in, target_by, target_of, occasion_of, eval_in, restart_in, alerts_in, fail_in, gone_in, group_event, whole_event, is_body_line, body_text};
+ghost use Rattle.pr_script.specs.Script.{is_comment_line, is_passed_over, written_time, series_of, some_text, add_of, query_of, add_in, query_in, target_by, target_of, occasion_of, eval_in, restart_in, alerts_in, fail_in, gone_in, group_event, whole_event, is_body_line, body_text};
 
 use pr_labels::{Labels, METRIC_LABEL};
-use pr_num::Point;
+use pr_row::read_point;
 use pr_series::{TextFault, read_series_text};
 use pr_time::Ms;
 use pr_words::{Text, plain_decimal, split_first, split_last, without_trailing};
@@ -40,18 +40,6 @@ pub(crate) fn written_time(text: &[u8]) -> Option<Ms>
     ensures { result ≡ written_time text.now }
 {
     Ms::new(plain_decimal(text, 1 << 42)?)
-}
-
-fn point_of(text: &[u8]) -> Option<Point>
-    ensures { result ≡ point_of text.now }
-{
-    if text == b"stale".as_slice() {
-        return Some(Point::Stale);
-    }
-    match pr_num::read(text) {
-        Ok(v) => Some(Point::Value(v)),
-        Err(_) => None,
-    }
 }
 
 // The label set of a series text.
@@ -100,7 +88,7 @@ fn add_in(alloc: Global, text: &[u8]) -> Result<Option<Event>, AllocError>
     let Some(labels) = series_of(alloc, series)? else {
         return Ok(None);
     };
-    match point_of(value) {
+    match read_point(value) {
         Some(point) => Ok(Some(Event::Add {
             time,
             labels,

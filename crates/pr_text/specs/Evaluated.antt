@@ -3,14 +3,13 @@ use Rattle.std.specs.Prelude.{ℕ, ◌+◌, Bool, true, false, List, [], ◌∷�
 use Rattle.pr_num.specs.declared.value.Num.{Num}
 use Rattle.pr_num.specs.declared.value.Point.{Point}
 use Rattle.pr_num.specs.Shown.{shown}
-use Rattle.pr_strings.specs.Quoted.{quoted_text}
 use Rattle.pr_labels.specs.declared.pair.Pair.{Pair}
 use Rattle.pr_labels.specs.SeriesText.{series_text}
 use Rattle.pr_kinds.specs.Kinds.{number_text}
 use Rattle.pr_history.specs.declared.append.Append.{Append}
 use Rattle.pr_history.specs.declared.append.Append.TheVariants.{Added, Same, OutOfOrder, Conflict}
+use Rattle.pr_row.specs.Points.{shown_point}
 use Rattle.pr_lineage.specs.declared.restored.Restored.{Restored}
-use Rattle.pr_lineage.specs.declared.sending.Sending.{Sending}
 use Rattle.pr_lineage.specs.Records.{state_text}
 use Rattle.pr_rules.specs.declared.fault.RuleFault.{RuleFault}
 use Rattle.pr_rules.specs.declared.fault.RuleFault.TheVariants.{Eval, SameAfterRule, LimitExceeded}
@@ -20,9 +19,10 @@ use Rattle.pr_rules.specs.declared.report.RuleOutcome.{RuleOutcome}
 use Rattle.pr_rules.specs.declared.report.RuleOutcome.TheVariants.{Fine, Fault}
 use Rattle.pr_rules.specs.declared.report.RuleReport.{RuleReport}
 use Rattle.pr_world.specs.declared.report.AlertLine.{AlertLine}
-use Rattle.pr_text.specs.Answers.{evaluated_rules, limit_exceeded, late_after, same_after_rule, send_firing, send_resolved}
+use Rattle.pr_text.specs.Answers.{evaluated_rules, limit_exceeded, late_after, same_after_rule}
 use Rattle.pr_text.specs.Faults.{fault_text}
-use Rattle.pr_text.specs.Values.{place_text, shown_point}
+use Rattle.pr_text.specs.Notices.{sending_lines}
+use Rattle.pr_text.specs.Values.{place_text}
 
 -- Samples
 
@@ -48,24 +48,6 @@ put_line p = put_line_by p.append p.labels p.value
 -- a series that goes stale
 abbrev pub stale_line : List Pair → List ℕ
 stale_line labels = codes "stale " ++ series_text labels ++ codes "\n"
-
--- Notifications
-
-abbrev pub note_line : Pair → List ℕ
-note_line p = codes "note " ++ p.name ++ codes " " ++ quoted_text p.value ++ codes "\n"
-
-abbrev pub sending_word : Bool → List ℕ
-sending_word true = send_firing
-sending_word false = send_resolved
-
-abbrev pub sending_line : Sending → List ℕ
-sending_line s =
-    sending_word s.firing ++ series_text s.labels ++ codes " value " ++ shown s.value ++ codes " starts " ++ decimal s.starts ++ codes " ends "
-    ++ decimal s.ends ++ codes "\n"
-
--- a notification, and its annotations
-abbrev pub sending_lines : Sending → List ℕ
-sending_lines s = sending_line s ++ flat_map note_line s.notes
 
 -- Rules
 

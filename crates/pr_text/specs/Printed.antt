@@ -10,6 +10,7 @@ use Rattle.pr_kinds.specs.declared.kind.QueryKind.{QueryKind}
 use Rattle.pr_kinds.specs.Kinds.{expo_word, kind_text}
 use Rattle.pr_fields.specs.declared.problem.ProblemKind.{ProblemKind}
 use Rattle.pr_fields.specs.Printed.{problem_text}
+use Rattle.pr_row.specs.Points.{shown_point}
 use Rattle.pr_text.specs.Answers.{dropped_conflict, dropped_out_of_order, backwards_last, scraped_added, bad_scrape_line, not_later_last, reloaded_groups}
 use Rattle.pr_text.specs.Evaluated.{alerts_text, evaluated_text}
 use Rattle.pr_world.specs.declared.report.Report.{Report}
@@ -17,7 +18,7 @@ use Rattle.pr_world.specs.declared.report.Report.TheVariants.{Opened, Added, Sam
 use Rattle.pr_expo_line.specs.declared.place.ExpoKind.{ExpoKind}
 use Rattle.pr_query.specs.declared.fault.FaultKind.{FaultKind}
 use Rattle.pr_text.specs.Faults.{fault_text}
-use Rattle.pr_text.specs.Values.{place_text, shown_point}
+use Rattle.pr_text.specs.Values.{place_text}
 
 abbrev pub opened_text : ℕ → List ℕ
 opened_text rows = codes "opened " ++ decimal rows ++ codes "\n"

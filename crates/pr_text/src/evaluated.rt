@@ -5,20 +5,22 @@ ghost use Rattle.std.specs.Prelude.{◌≡◌, ◌++◌, ◌+◌, OnOk, codes, d
 ghost use Rattle.pr_num.specs.Shown.{shown};
 ghost use Rattle.pr_labels.specs.SeriesText.{series_text};
 ghost use Rattle.pr_kinds.specs.Kinds.{number_text};
+ghost use Rattle.pr_row.specs.Points.{shown_point};
 ghost use Rattle.pr_lineage.specs.Records.{state_text};
-ghost use Rattle.pr_text.specs.Answers.{evaluated_rules, limit_exceeded, late_after, same_after_rule, send_firing, send_resolved};
-ghost use Rattle.pr_text.specs.Evaluated.{alert_text, alerts_text, conflict_line, counts_text, evaluated_text, fault_count, has_failed, late_line, note_line, outcome_text, put_line, put_line_by, restored_line, rule_fault_text, rule_lines, rules_text, sample_line, sending_line, sending_lines, sending_word, stale_line};
-ghost use Rattle.pr_text.specs.Values.{place_text, shown_point};
+ghost use Rattle.pr_text.specs.Answers.{evaluated_rules, limit_exceeded, late_after, same_after_rule};
+ghost use Rattle.pr_text.specs.Evaluated.{alert_text, alerts_text, conflict_line, counts_text, evaluated_text, fault_count, has_failed, late_line, outcome_text, put_line, put_line_by, restored_line, rule_fault_text, rule_lines, rules_text, sample_line, stale_line};
+ghost use Rattle.pr_text.specs.Notices.{sending_lines};
+ghost use Rattle.pr_text.specs.Values.{place_text};
 
 use crate::faults::push_fault_kind;
+use crate::notices::push_sendings;
 use crate::values::{push_place, push_point, push_value};
 use pr_history::Append;
 use pr_kinds::{push_number, push_number_after};
-use pr_labels::{Labels, Pair};
-use pr_lineage::{Restored, Sending, State};
+use pr_labels::Labels;
+use pr_lineage::{Restored, State};
 use pr_num::{Num, Point};
 use pr_rules::{GroupReport, Put, RuleFault, RuleOutcome, RuleReport};
-use pr_strings::write_string;
 use pr_time::Ms;
 use pr_world::AlertLine;
 use std::alloc::AllocError;
@@ -53,22 +55,6 @@ fn push_same_after_rule(text: &mut Vec<u8>) -> Result<(), AllocError>
     ensures front { take (length text.old.items) text.new.items ≡ text.old.items }
 {
     text.extend_from_slice(b"SameAfterRule ")
-}
-
-#[tactic(auto, unfolding(crate::specs::Answers::send_firing))]
-fn push_send_firing(text: &mut Vec<u8>) -> Result<(), AllocError>
-    ensures ok { OnOk result (text.new.items ≡ text.old.items ++ send_firing) }
-    ensures front { take (length text.old.items) text.new.items ≡ text.old.items }
-{
-    text.extend_from_slice(b"send firing ")
-}
-
-#[tactic(auto, unfolding(crate::specs::Answers::send_resolved))]
-fn push_send_resolved(text: &mut Vec<u8>) -> Result<(), AllocError>
-    ensures ok { OnOk result (text.new.items ≡ text.old.items ++ send_resolved) }
-    ensures front { take (length text.old.items) text.new.items ≡ text.old.items }
-{
-    text.extend_from_slice(b"send resolved ")
 }
 
 // Samples
@@ -176,94 +162,6 @@ fn push_stale_lines(text: &mut Vec<u8>, sets: &[Labels]) -> Result<(), AllocErro
 {
     for labels in sets {
         push_stale_line(text, labels)?;
-    }
-    Ok(())
-}
-
-// Notifications
-
-fn push_note(text: &mut Vec<u8>, note: &Pair) -> Result<(), AllocError>
-    ensures ok { OnOk result (text.new.items ≡ text.old.items ++ note_line note.now) }
-    ensures front { take (length text.old.items) text.new.items ≡ text.old.items }
-{
-    text.extend_from_slice(b"note ")?;
-    text.extend_from_slice(note.name.as_str().as_bytes())?;
-    text.extend_from_slice(b" ")?;
-    write_string(note.value.as_str().as_bytes(), text)?;
-    text.extend_from_slice(b"\n")
-}
-
-fn push_notes(text: &mut Vec<u8>, notes: &[Pair]) -> Result<(), AllocError>
-    ensures ok { OnOk result (text.new.items ≡ text.old.items ++ flat_map note_line notes.now) }
-    ensures front { take (length text.old.items) text.new.items ≡ text.old.items }
-{
-    for note in notes {
-        push_note(text, note)?;
-    }
-    Ok(())
-}
-
-fn push_sending_word(text: &mut Vec<u8>, firing: bool) -> Result<(), AllocError>
-    ensures ok { OnOk result (text.new.items ≡ text.old.items ++ sending_word firing) }
-    ensures front { take (length text.old.items) text.new.items ≡ text.old.items }
-{
-    if firing {
-        push_send_firing(text)
-    } else {
-        push_send_resolved(text)
-    }
-}
-
-fn push_sent(text: &mut Vec<u8>, firing: bool, labels: &Labels) -> Result<(), AllocError>
-    ensures ok { OnOk result (text.new.items ≡ text.old.items ++ (sending_word firing ++ series_text labels.now)) }
-    ensures front { take (length text.old.items) text.new.items ≡ text.old.items }
-{
-    push_sending_word(text, firing)?;
-    labels.write(text)
-}
-
-fn push_sent_value(text: &mut Vec<u8>, value: Num) -> Result<(), AllocError>
-    ensures ok { OnOk result (text.new.items ≡ text.old.items ++ (codes " value " ++ shown value)) }
-    ensures front { take (length text.old.items) text.new.items ≡ text.old.items }
-{
-    text.extend_from_slice(b" value ")?;
-    push_value(text, value)
-}
-
-fn push_times(text: &mut Vec<u8>, starts: Ms, ends: u64) -> Result<(), AllocError>
-    ensures ok { OnOk result (text.new.items ≡ text.old.items ++ (codes " starts " ++ decimal starts ++ codes " ends " ++ decimal ends ++ codes "\n")) }
-    ensures front { take (length text.old.items) text.new.items ≡ text.old.items }
-{
-    text.extend_from_slice(b" starts ")?;
-    push_number(text, starts.get())?;
-    text.extend_from_slice(b" ends ")?;
-    push_number(text, ends)?;
-    text.extend_from_slice(b"\n")
-}
-
-fn push_sending(text: &mut Vec<u8>, sending: &Sending) -> Result<(), AllocError>
-    ensures ok { OnOk result (text.new.items ≡ text.old.items ++ sending_line sending.now) }
-    ensures front { take (length text.old.items) text.new.items ≡ text.old.items }
-{
-    push_sent(text, sending.firing, &sending.labels)?;
-    push_sent_value(text, sending.value)?;
-    push_times(text, sending.starts, sending.ends)
-}
-
-fn push_noted(text: &mut Vec<u8>, sending: &Sending) -> Result<(), AllocError>
-    ensures ok { OnOk result (text.new.items ≡ text.old.items ++ sending_lines sending.now) }
-    ensures front { take (length text.old.items) text.new.items ≡ text.old.items }
-{
-    push_sending(text, sending)?;
-    push_notes(text, sending.notes.as_slice())
-}
-
-fn push_sendings(text: &mut Vec<u8>, sendings: &[Sending]) -> Result<(), AllocError>
-    ensures ok { OnOk result (text.new.items ≡ text.old.items ++ flat_map sending_lines sendings.now) }
-    ensures front { take (length text.old.items) text.new.items ≡ text.old.items }
-{
-    for sending in sendings {
-        push_noted(text, sending)?;
     }
     Ok(())
 }

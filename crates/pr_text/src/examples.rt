@@ -1,5 +1,5 @@
 // What the definitions say of small inputs.
-ghost use Rattle.std.specs.Prelude.{◌≡◌, codes, [], ◌∷◌};
+ghost use Rattle.std.specs.Prelude.{◌≡◌, codes, [], ◌∷◌, None, Some};
 ghost use Rattle.pr_labels.specs.LabelSet.{named, pair_of};
 ghost use Rattle.pr_num.specs.declared.value.Point.TheVariants.{Stale};
 ghost use Rattle.pr_history.specs.Examples.{m, job, number, whole};
@@ -7,6 +7,7 @@ ghost use Rattle.pr_history.specs.declared.append.Append.TheVariants as append;
 ghost use Rattle.pr_history.specs.Series.{item_of};
 ghost use Rattle.pr_fields.specs.declared.problem.ProblemKind.TheVariants.{NotForRecording};
 ghost use Rattle.pr_lineage.specs.declared.record.State.TheVariants.{Pending};
+ghost use Rattle.pr_notices.specs.declared.joined.Joined.TheVariants.{New, Known, Full};
 ghost use Rattle.pr_rules.specs.declared.fault.RuleFault.TheVariants.{LimitExceeded, SameAfterRule};
 ghost use Rattle.pr_world.specs.GroupExamples.{alerts_series, big_fails, fine, firing, for_state_series, moved_to, of_alert, over};
 ghost use Rattle.pr_world.specs.declared.report.Report.TheVariants.{Opened, Added, Same, OutOfOrder, Conflict, Scraped, BadScrape, Failed, Gone, Evaluated, NoGroup, NotLater, Reloaded, Missing, TooLarge, Refused, Restarted, Alerts, Scalar, Vector, QueryFault, QueryRefused, Backwards};
@@ -14,8 +15,9 @@ ghost use Rattle.pr_kinds.specs.declared.kind.QueryKind.TheVariants.{Parse};
 ghost use Rattle.pr_expo_line.specs.declared.place.ExpoKind.TheVariants.{BadLabels};
 ghost use Rattle.pr_parse.specs.declared.fault.ParseKind.TheVariants as parse;
 ghost use Rattle.pr_query.specs.declared.fault.FaultKind.TheVariants as fault;
-ghost use Rattle.pr_text.specs.Evaluated.{alert_text, note_line, put_line_by, restored_line, rule_fault_text, rule_lines, sending_lines};
+ghost use Rattle.pr_text.specs.Evaluated.{alert_text, put_line_by, restored_line, rule_fault_text, rule_lines};
 ghost use Rattle.pr_text.specs.Faults.{fault_text};
+ghost use Rattle.pr_text.specs.Notices.{flush_text, joined_text, note_line, sending_lines};
 ghost use Rattle.pr_text.specs.Printed.{shown_report, bad_line_text};
 
 /// What is written for each report, and for a line that spells no order.
@@ -78,4 +80,16 @@ pub fn faults_are_written_so()
     ensures labels { fault_text (fault.SameLabels m) ≡ codes "SameLabels m" }
     ensures empty { fault_text (fault.NotUnique []) ≡ codes "NotUnique {}" }
     ensures range { fault_text (fault.RangeTooLong 1048577) ≡ codes "RangeTooLong 1048577" }
+{}
+
+/// What receivers are told: what becomes of a name, what one is given, and that there is none.
+#[tactic(auto, unfolding(crate::proofs::Computing::computing))]
+pub fn receivers_are_told_so()
+    ensures new { joined_text (codes "a") New ≡ codes "receiver a\n" }
+    ensures known { joined_text (codes "a") Known ≡ codes "known a\n" }
+    ensures full { joined_text (codes "a") Full ≡ codes "too many receivers\n" }
+    ensures batch { flush_text (codes "a") (Some (record { notices = firing (codes "D") 0 240000 ∷ over (codes "D") 0 270000 ∷ []; dropped = 3 }))
+        ≡ codes "batch a notices 2 dropped 3\ndeliver firing {alertname=\"D\"} value 0 starts 0 ends 240000\ndeliver resolved {alertname=\"D\"} value 0 starts 0 ends 270000\n" }
+    ensures empty { flush_text (codes "a") (Some (record { notices = []; dropped = 0 })) ≡ codes "batch a notices 0 dropped 0\n" }
+    ensures nobody { flush_text (codes "b") None ≡ codes "no receiver b\n" }
 {}

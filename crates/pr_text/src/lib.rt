@@ -4,11 +4,14 @@
 mod evaluated;
 mod examples;
 mod faults;
+mod notices;
 mod printed;
 mod values;
 
 pub use examples::{
-    faults_are_written_so, groups_are_written_so, reports_are_written_so, rules_are_written_so,
+    faults_are_written_so, groups_are_written_so, receivers_are_told_so, reports_are_written_so,
+    rules_are_written_so,
 };
+pub use notices::{push_batch, push_joined, push_no_receiver};
 pub use printed::{push_bad_line, push_query_fault, push_report};
 pub use values::push_value;

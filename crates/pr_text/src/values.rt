@@ -3,10 +3,12 @@
 
 ghost use Rattle.std.specs.Prelude.{◌≡◌, ◌++◌, OnOk, length, take};
 ghost use Rattle.pr_num.specs.Shown.{shown};
-ghost use Rattle.pr_text.specs.Values.{place_text, shown_point};
+ghost use Rattle.pr_row.specs.Points.{shown_point};
+ghost use Rattle.pr_text.specs.Values.{place_text};
 
 use pr_kinds::push_number;
 use pr_num::{Num, Point};
+use pr_row::write_point;
 use std::alloc::AllocError;
 
 /// Appends a number. Want of memory alone is an error, and then what stood there stays.
@@ -23,10 +25,9 @@ pub(crate) fn push_point(text: &mut Vec<u8>, p: Point) -> Result<(), AllocError>
     ensures ok { OnOk result (text.new.items ≡ text.old.items ++ shown_point p) }
     ensures front { take (length text.old.items) text.new.items ≡ text.old.items }
 {
-    match p {
-        Point::Value(v) => push_value(text, v),
-        Point::Stale => text.extend_from_slice(b"stale"),
-    }
+    let mut buffer = [0u8; 40];
+    let count = write_point(p, &mut buffer);
+    text.extend_from_slice(&buffer[..count])
 }
 
 pub(crate) fn push_place(text: &mut Vec<u8>, place: usize) -> Result<(), AllocError>

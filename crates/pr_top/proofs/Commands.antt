@@ -23,6 +23,7 @@ use Rattle.pr_check_loops.specs.declared.verdict.Verdict.TheVariants.{Good, Comp
 use Rattle.pr_checks.specs.Metrics.{metrics_told}
 use Rattle.pr_checks.specs.RuleFiles.{rules_told}
 use Rattle.pr_test_texts.specs.TestsTold.{tests_told}
+use Rattle.pr_run.specs.Front.{TellsRow}
 use Rattle.pr_run.specs.Rows.{IsBadIn, OverRows}
 use Rattle.pr_run.specs.Runs.{EndsBy, EndsInto, EndsOver, IsStopped, IsWholeRun, MeansRun, RunsBy}
 use Rattle.pr_run.specs.Told.{answers_to, asks_of, bad_row_text, refuses}
@@ -108,14 +109,15 @@ if_bytes None P Q f p = tt
 if_bytes (Some bytes) P Q f p = f bytes refl p
 
 pub means_run : (before now : Outside) (r : Result Bool Stop) (result : Status) → result ≡ status_of r → Ends (IsBadIn now.store) (IsLong before.input.left) before now r
-    → KnowsLength before.input.left r
+    → KnowsLength before.input.left r → ((index : ℕ) → r ≡ Err (stop.BadRow index) → TellsRow index before.out.taken now.out.taken)
     → IfSome now.store.rows (λ all. IfSome before.input.left (λ bytes. OverRows before.store.rows all (λ rows. EndsBy (history_of rows) rows bytes before now r)))
     → MeansRun before now result
-means_run before now r result answer e k over = record {
+means_run before now r result answer e k row over = record {
   ending = r;
   answer = answer;
   ends = e;
   known = k;
+  row = row;
   over = if_rows now.store.rows
       (λ all. IfSome before.input.left (λ bytes. OverRows before.store.rows all (λ rows. EndsBy (history_of rows) rows bytes before now r)))
       (λ all. IfSome before.input.left (λ bytes. OverRows before.store.rows all (λ rows. RunsBy (history_of rows) rows bytes before now r result)))

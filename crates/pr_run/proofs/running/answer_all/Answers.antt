@@ -6,6 +6,7 @@ use Rattle.pr_status.specs.Outside.{Held, Outside}
 use Rattle.pr_status.specs.Status.{IsLong}
 use Rattle.pr_status.specs.declared.status.Stop.{Stop}
 use Rattle.pr_status.proofs.Ended.{ends_on, in_time_same, known_stop, quiet, read_on}
+use Rattle.pr_status.proofs.Streams.{appends_none, appends_on}
 use Rattle.pr_status.proofs.Telling.{on_told}
 use Rattle.pr_reader.specs.LineReading.{ahead, Counts, IsBeyond}
 use Rattle.pr_reader.specs.Reading.{unread, HandsOrder, IsCutAt}
@@ -16,7 +17,7 @@ use Rattle.pr_run.specs.Rows.{IsBadIn}
 use Rattle.pr_run.specs.Runs.{EndsOver}
 use Rattle.pr_run.proofs.Endings.{bad_of, cut_of, ends_wider, known_answer}
 use Rattle.pr_run.proofs.Goings.{going_none, going_on, grown_more, has_grown, known_long, known_short, no_more}
-use Rattle.pr_run.proofs.Stops.{ended, left_over, no_bad, no_whole, read_stop, row_of_stop, stopped}
+use Rattle.pr_run.proofs.Stops.{ended, left_over, no_bad, no_whole, not_row, read_stop, row_behind, row_of_stop, stopped}
 use Rattle.pr_run.proofs.running.answer_all.Goals as goal
 
 -- the next order could not be had
@@ -36,6 +37,12 @@ returns-in_err-order-clause-over g c =
     (ahead (unread r) mid.input.left) r.number c.answering.invariant.going (input c.next_order.new.input) c.from_residual.result c.in_err-order.field-0.0 c.from_residual.ensures.1
     (cut_of (Option Numbered) (IsCutAt (ahead (unread r) mid.input.left) (input c.next_order.new.input).left r.number) c.in_err-order.field-0.0 c.in_err-order.ensures.cut)
     (read_stop (Option Numbered) (IsBeyond mid.input.left r.lines.count) mid.input (input c.next_order.new.input) c.in_err-order.field-0.0 c.in_err-order.ensures.ends) some)
+
+pub returns-in_err-order-clause-row : goal.returns-in_err-order-clause-row
+returns-in_err-order-clause-row g c = λ at is.
+    absurd (not_row c.in_err-order.field-0.0 at
+    (read_stop (Option Numbered) (IsBeyond (g.I.Source.means c.answering.input).left c.answering.reader.lines.count) (g.I.Source.means c.answering.input) (g.I.Source.means c.next_order.new.input) c.in_err-order.field-0.0 c.in_err-order.ensures.ends)
+    (row_of_stop c.from_residual.result c.in_err-order.field-0.0 at c.from_residual.ensures.1 is))
 
 pub returns-in_err-order-clause-grows : goal.returns-in_err-order-clause-grows
 returns-in_err-order-clause-grows g c = λ w s some.
@@ -83,6 +90,7 @@ answering-init g c =
     let entry : Outside = record { input = input c.args.input.now; files = g.F.Files.means c.args.files.now; store = g.K.Keeper.means c.args.keeper.now; out = g.O.Sink.means c.args.out.now } in
     record {
       going = going_none g.E.Worlds.stands_for c.args.session.now entry entry (ahead (unread reader) left) reader.number refl refl refl (sym (ahead_none (unread reader) left new.empty)) new.counts.1;
+      written = ([], appends_none (g.O.Sink.means c.args.out.now).taken);
       ready = record {
         within = new.within;
         number = omega (arith, new.counts.0, new.counts.1, ap length new.empty);
@@ -123,6 +131,10 @@ answering-preserved g c =
     record {
       going = going_on g.E.Worlds.stands_for c.args.session.now entry c.answering.session c.answer_order.new.session mid now before after r.number next.number c.in-Some.order here.going hands
           told.told here.same (λ held p. told.sends now held p) told.grows;
+      written = (
+        here.written.0 ++ told.written.0,
+        appends_on (out c.args.out.now).taken (out c.answering.out).taken (out c.answer_order.new.out).taken here.written.0 told.written.0 here.written.1 told.written.1,
+      );
       ready = read.ready;
       counts = counts_on (input c.args.input.now).left (input c.answering.input).left (input c.next_order.new.input).left 0 r.lines.count next.lines.count here.counts read.counts;
       told = λ some. here.told (told.told some);
@@ -169,6 +181,15 @@ returns-in_err-answer_order-clause-over g c =
           let g2 = told.grows g1.world g1.stands some in
           no_bad now.store (g1.world.history ++ g2.more) index some g2.tells (bad_of _ (IsBadIn now.store) ⊥ (record mid { input = now.input }) now e index (row_of_stop result e index is_err bad) (told.ends now));
     })
+
+pub returns-in_err-answer_order-clause-row : goal.returns-in_err-answer_order-clause-row
+returns-in_err-answer_order-clause-row g c = λ at is.
+    let out = g.O.Sink.means in
+    let here = c.answering.invariant.written in
+    let e = c.in_err-answer_order.field-0.0 in
+    let row = row_of_stop c.from_residual-in_err-answer_order.result e at c.from_residual-in_err-answer_order.ensures.1 is in
+    row_behind (out c.args.out.now).taken (out c.answering.out).taken (out c.answer_order.new.out).taken at here.0 here.1
+    (c.in_err-answer_order.ensures.row at (ap (λ (s : Stop). Err s) row))
 
 pub returns-in_err-answer_order-clause-grows : goal.returns-in_err-answer_order-clause-grows
 returns-in_err-answer_order-clause-grows g c = λ w s some.

@@ -1,4 +1,5 @@
 use Rattle.std.proofs.Common.{◌≡◌, ◌+◌, ◌-◌, ◌^◌, ℕ, List, IsSome}
+use Rattle.std.specs.Io.KnownBytes.{Appends}
 use Rattle.pr_outside.specs.Courses.{GoesOn}
 use Rattle.pr_reader.specs.LineReading.{ahead, Counts, IsReadOn}
 use Rattle.pr_reader.specs.Reading.{unread, IsReady}
@@ -11,6 +12,7 @@ invariant-answering g l = record {
       (record { input = g.I.Source.means l.fn.input; files = g.F.Files.means l.fn.files; store = g.K.Keeper.means l.fn.keeper; out = g.O.Sink.means l.fn.out }) l.session
       (record { input = g.I.Source.means l.input; files = g.F.Files.means l.files; store = g.K.Keeper.means l.keeper; out = g.O.Sink.means l.out })
       (ahead (unread l.reader) (g.I.Source.means l.input).left) l.reader.number;
+  written : (text : List ℕ) × Appends (g.O.Sink.means l.fn.out).taken (g.O.Sink.means l.out).taken text;
   ready : IsReady 0 l.reader (g.I.Source.means l.input).left;
   counts : Counts (g.I.Source.means l.fn.input).left (g.I.Source.means l.input).left 0 l.reader.lines.count;
   told : IsSome (g.K.Keeper.means l.keeper).rows → IsSome (g.K.Keeper.means l.fn.keeper).rows;

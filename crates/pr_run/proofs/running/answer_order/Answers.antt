@@ -7,6 +7,7 @@ use Rattle.pr_status.proofs.Ended.{ends_on, in_time_on, in_time_same, written_by
 use Rattle.pr_run.specs.Rows.{IsBadIn}
 use Rattle.pr_run.specs.Standing.{Leaves, Writes}
 use Rattle.pr_run.specs.Told.{turn}
+use Rattle.pr_run.proofs.Begins.{write_row}
 use Rattle.pr_run.proofs.Endings.{bad_of, calm_of, ends_late, ends_wider, row_ends}
 use Rattle.pr_run.proofs.running.answer_order.Goals as goal
 
@@ -25,6 +26,18 @@ returns-in-Ok-clause-sends g c = λ others held p keeps told some.
       keeps = ans.keeps;
       asked = ans.asked;
     }
+
+pub returns-in-Ok-clause-written : goal.returns-in-Ok-clause-written
+returns-in-Ok-clause-written g c = (c.deref.result.now, c.in_ok-send-in-Ok.ensures.whole)
+
+pub returns-in_err-send-in-Ok-clause-row : goal.returns-in_err-send-in-Ok-clause-row
+returns-in_err-send-in-Ok-clause-row g c = λ at is.
+    absurd (write_row _ _ (g.O.Sink.means c.args.out.now) (g.O.Sink.means c.send.new.out) c.from_residual.result c.in_err-send-in-Ok.field-0.0 at c.from_residual.ensures.1 c.in_err-send-in-Ok.ensures.ends is)
+
+pub returns-in_err-tell_bad_row-in-Some-clause-row : goal.returns-in_err-tell_bad_row-in-Some-clause-row
+returns-in_err-tell_bad_row-in-Some-clause-row g c = λ at is.
+    absurd (write_row _ _ (g.O.Sink.means c.args.out.now) (g.O.Sink.means c.tell_bad_row.new.out) c.from_residual-in_err-tell_bad_row-in-Some.result c.in_err-tell_bad_row-in-Some.field-0.0 at
+    c.from_residual-in_err-tell_bad_row-in-Some.ensures.1 c.in_err-tell_bad_row-in-Some.ensures.ends is)
 
 pub returns-in_err-send-in-Ok-clause-leaves : goal.returns-in_err-send-in-Ok-clause-leaves
 returns-in_err-send-in-Ok-clause-leaves g c = λ others held p keeps told some.

@@ -48,8 +48,9 @@ returns-in_ok-tell_opened-in-Ok-clause-begins g c =
     record {
       history = s.history;
       keeps = record {
-        world = subst (λ (k : _). g.E.Worlds.stands_for k store (start s.history)) (sym c.new.ensures.0) s.stands;
-        refused = c.new.ensures.1;
+        world = subst (λ (k : _). g.E.Worlds.stands_for k store (start s.history)) (sym c.new.ensures.kept) s.stands;
+        receivers = c.new.ensures.receivers;
+        refused = c.new.ensures.refused;
       };
       told = opened_whole (out c.args.out.now).taken (out c.tell_opened.new.out).taken s.history c.size.result (c.size.ensures.count ∙ s.count) c.in_ok-tell_opened-in-Ok.ensures.text;
     }

@@ -15,6 +15,8 @@ use Rattle.pr_run.proofs.Answering.{ends_behind}
 use Rattle.pr_run.proofs.Endings.{bad_of, ends_wider, known_answer}
 use Rattle.pr_run.proofs.Rows.{over_history}
 use Rattle.pr_run.proofs.Starts.{at_rows, begin_stop, on_rows, over_begun}
+use Rattle.pr_run.proofs.Stops.{row_after, row_alone, row_of_stop}
+use Rattle.pr_run.specs.Told.{told_of}
 use Rattle.pr_run.proofs.running.run.Goals as goal
 
 pub returns-in_err-session-clause-over : goal.returns-in_err-session-clause-over
@@ -31,6 +33,18 @@ returns-in_err-session-clause-over g c =
     (begin_stop _ _ (record quiet { store = before.store; out = before.out }) (record quiet { store = now.store; out = now.out }) e refl refl refl refl (b.ends quiet))
     (λ at row. at_rows now.store.rows _ all is (bad_of _ (IsBadIn now.store) ⊥ (record quiet { store = before.store; out = before.out }) (record quiet { store = now.store; out = now.out }) e at row (b.ends quiet)))
     (λ at row. b.bad at (ap (λ (s : Stop). Err s) row))))
+
+pub returns-in_err-session-clause-row : goal.returns-in_err-session-clause-row
+returns-in_err-session-clause-row g c = λ at is.
+    let out = g.O.Sink.means in
+    row_alone (out c.args.out.now).taken (out c.begin.new.out).taken at
+    (c.in_err-session.ensures.bad at (ap (λ (s : Stop). Err s) (row_of_stop c.from_residual.result c.in_err-session.field-0.0 at c.from_residual.ensures.1 is)))
+
+pub returns-clause-row : goal.returns-clause-row
+returns-clause-row g c = λ at is.
+    let out = g.O.Sink.means in
+    let begun = c.in_ok-session.ensures.begins in
+    row_after (out c.args.out.now).taken (out c.begin.new.out).taken (out c.answer_all.new.out).taken at (told_of begun.history []) begun.told (c.answer_all.ensures.row at is)
 
 pub returns-in_err-session-clause-long : goal.returns-in_err-session-clause-long
 returns-in_err-session-clause-long g c =

@@ -1,16 +1,15 @@
-use Rattle.std.proofs.Common.{◌≡◌, ◌∙◌, ℕ, List, Ok, Err, length, refl, sym, ap, subst}
+use Rattle.std.proofs.Common.{◌≡◌, ◌∙◌, [], Ok, Err, refl, sym, subst}
 use Rattle.pr_script.specs.declared.order.Order.TheVariants as order
+use Rattle.pr_queue.specs.Standing as waiting
 use Rattle.pr_status.specs.Outside.{Outside}
 use Rattle.pr_status.proofs.Ended.{ends_on, in_time_same}
 use Rattle.pr_status.proofs.Streams.{appends_none}
-use Rattle.pr_world.proofs.Refusals.{refusal_is_told, refused_files_are_told}
-use Rattle.pr_world.specs.Loading.{reload_asked}
+use Rattle.pr_world.proofs.Refusals.{refusal_is_told}
 use Rattle.pr_world.specs.Settings.{of_a_run}
 use Rattle.pr_world.specs.Step.{next}
 use Rattle.pr_run.specs.Rows.{IsBadIn}
 use Rattle.pr_run.specs.Standing.{Gives}
-use Rattle.pr_run.specs.Told.{content_by, order_asks, turn}
-use Rattle.pr_run.proofs.Answering.{answers_so, asks_turn, leaves_by, leaves_memory, memory_on}
+use Rattle.pr_run.proofs.Answering.{answers_so, event_turn, leaves_by, leaves_memory, made, memory_on}
 use Rattle.pr_run.proofs.session.Session.take_event_order.Goals as goal
 
 pub returns-in_err-report-clause-leaves : goal.returns-in_err-report-clause-leaves
@@ -18,7 +17,7 @@ returns-in_err-report-clause-leaves g c = λ others held p number keeps some.
     let keeper = g.K.Keeper.means in
     let a : Outside = record others { store = keeper c.args.keeper.now } in
     let d : Outside = record others { store = keeper c.take_event.new.keeper } in
-    leaves_by g.E.Worlds.stands_for held p (record { number = number; order = order.Event c.args.event }) (next of_a_run p.state.world c.args.event) a d refl c.take_event.new.self.kept
+    leaves_by g.E.Worlds.stands_for held p (made number (order.Event c.args.event)) (next of_a_run p.state.world c.args.event) [] a d (event_turn held p.state number c.args.event) c.take_event.new.self.kept
     c.from_residual.result c.in_err-report.field-0.0 c.from_residual.ensures.1 (appends_none others.out.taken) (c.in_err-report.ensures.gives others p.state.world keeps.world some)
 
 pub returns-in_err-tell-clause-leaves : goal.returns-in_err-tell-clause-leaves
@@ -26,7 +25,7 @@ returns-in_err-tell-clause-leaves g c = λ others held p number keeps some.
     let keeper = g.K.Keeper.means in
     let a : Outside = record others { store = keeper c.args.keeper.now } in
     let d : Outside = record others { store = keeper c.take_event.new.keeper } in
-    leaves_memory g.E.Worlds.stands_for held p (record { number = number; order = order.Event c.args.event }) (next of_a_run p.state.world c.args.event) a d refl g.met.E.Worlds.tells
+    leaves_memory g.E.Worlds.stands_for held p (made number (order.Event c.args.event)) (next of_a_run p.state.world c.args.event) [] a d (event_turn held p.state number c.args.event) g.met.E.Worlds.tells
     c.take_event.new.self.kept c.in_ok-report.report c.from_residual-in_err-tell.result c.from_residual-in_err-tell.ensures.1 (appends_none others.out.taken)
     (c.in_ok-report.ensures.gives others p.state.world keeps.world some)
 
@@ -37,9 +36,10 @@ returns-clause-answers g c = λ others held p number keeps some.
     let d : Outside = record others { store = keeper c.take_event.new.keeper } in
     let gives = c.in_ok-report.ensures.gives others p.state.world keeps.world some in
     let tell = c.in_ok-tell.ensures in
-    answers_so g.E.Worlds.stands_for held p (record { number = number; order = order.Event c.args.event }) (next of_a_run p.state.world c.args.event) a d refl c.tell.new.self c.args.text.now.items c.tell.new.text.items c.in_ok-report.report c.take_event.new.self.refused
-    (subst (λ (k : _). Gives g.E.Worlds.stands_for p.state.world (next of_a_run p.state.world c.args.event) (length (order_asks held p.state.world (order.Event c.args.event))) a d k (Ok c.in_ok-report.report)) (sym tell.kept) gives)
+    answers_so g.E.Worlds.stands_for held p (made number (order.Event c.args.event)) (next of_a_run p.state.world c.args.event) [] a d (event_turn held p.state number c.args.event) c.tell.new.self c.args.text.now.items c.tell.new.text.items c.in_ok-report.report c.take_event.new.self.refused
+    (subst (λ (k : _). Gives g.E.Worlds.stands_for p.state.world (next of_a_run p.state.world c.args.event) 0 a d k (Ok c.in_ok-report.report)) (sym tell.kept) gives)
     (refusal_is_told of_a_run p.state.world c.args.event) tell.text tell.refused (c.in_ok-report.ensures.refused ∙ keeps.refused)
+    (tell.receivers p.state.receivers (subst (λ (q : _). waiting.StandsFor q p.state.receivers) (sym c.in_ok-report.ensures.queues) keeps.receivers))
 
 pub returns-in_err-report-clause-ends : goal.returns-in_err-report-clause-ends
 returns-in_err-report-clause-ends g c = λ others.

@@ -1,16 +1,16 @@
-use Rattle.std.proofs.Common.{◌≡◌, ◌∙◌, ℕ, List, Ok, Err, length, refl, sym, ap, subst}
+use Rattle.std.proofs.Common.{◌≡◌, ◌∙◌, Ok, Err, length, refl, sym, subst}
 use Rattle.pr_script.specs.declared.order.Order.TheVariants as order
+use Rattle.pr_queue.specs.Standing as waiting
 use Rattle.pr_status.specs.Outside.{Outside}
 use Rattle.pr_status.proofs.Ended.{ends_on, in_time_same}
 use Rattle.pr_status.proofs.Streams.{appends_none}
-use Rattle.pr_world.proofs.Refusals.{refusal_is_told, refused_files_are_told}
+use Rattle.pr_world.proofs.Refusals.{refused_files_are_told}
 use Rattle.pr_world.specs.Loading.{reload_asked}
 use Rattle.pr_world.specs.Settings.{of_a_run}
-use Rattle.pr_world.specs.Step.{next}
 use Rattle.pr_run.specs.Rows.{IsBadIn}
 use Rattle.pr_run.specs.Standing.{Gives}
-use Rattle.pr_run.specs.Told.{content_by, order_asks, turn}
-use Rattle.pr_run.proofs.Answering.{answers_so, asks_turn, leaves_by, leaves_memory, memory_on}
+use Rattle.pr_run.specs.Told.{asks_for, asks_in_time, content_by}
+use Rattle.pr_run.proofs.Answering.{answers_so, files_told, files_turn, leaves_by, leaves_memory, made, memory_on}
 use Rattle.pr_run.proofs.session.Session.take_files_order.Goals as goal
 
 pub returns-in_err-report-clause-leaves : goal.returns-in_err-report-clause-leaves
@@ -18,28 +18,32 @@ returns-in_err-report-clause-leaves g c = λ others held p number keeps told som
     let keeper = g.K.Keeper.means in
     let a : Outside = record others { files = g.F.Files.means c.args.files.now; store = keeper c.args.keeper.now } in
     let d : Outside = record others { files = g.F.Files.means c.take_reload.new.files; store = keeper c.take_reload.new.keeper } in
-    leaves_by g.E.Worlds.stands_for held p (record { number = number; order = order.Reload c.args.time c.args.names }) (reload_asked of_a_run p.state.world c.args.time (content_by held) c.args.names) a d refl c.take_reload.new.self.kept
-    c.from_residual.result c.in_err-report.field-0.0 c.from_residual.ensures.1 (appends_none others.out.taken) (c.in_err-report.ensures.gives others held p.state.world keeps.world (asks_turn held p (record { number = number; order = order.Reload c.args.time c.args.names }) (g.F.Files.means c.args.files.now).content told) some)
+    leaves_by g.E.Worlds.stands_for held p (made number (order.Reload c.args.time c.args.names)) (reload_asked of_a_run p.state.world c.args.time (content_by held) c.args.names)
+    (asks_in_time p.state.world.last c.args.time (asks_for (content_by held) c.args.names)) a d (files_turn held p.state number c.args.time c.args.names) c.take_reload.new.self.kept
+    c.from_residual.result c.in_err-report.field-0.0 c.from_residual.ensures.1 (appends_none others.out.taken) (c.in_err-report.ensures.gives others held p.state.world keeps.world (files_told held p.state number c.args.time c.args.names (g.F.Files.means c.args.files.now).content told) some)
 
 pub returns-in_err-tell-clause-leaves : goal.returns-in_err-tell-clause-leaves
 returns-in_err-tell-clause-leaves g c = λ others held p number keeps told some.
     let keeper = g.K.Keeper.means in
     let a : Outside = record others { files = g.F.Files.means c.args.files.now; store = keeper c.args.keeper.now } in
     let d : Outside = record others { files = g.F.Files.means c.take_reload.new.files; store = keeper c.take_reload.new.keeper } in
-    leaves_memory g.E.Worlds.stands_for held p (record { number = number; order = order.Reload c.args.time c.args.names }) (reload_asked of_a_run p.state.world c.args.time (content_by held) c.args.names) a d refl g.met.E.Worlds.tells
+    leaves_memory g.E.Worlds.stands_for held p (made number (order.Reload c.args.time c.args.names)) (reload_asked of_a_run p.state.world c.args.time (content_by held) c.args.names)
+    (asks_in_time p.state.world.last c.args.time (asks_for (content_by held) c.args.names)) a d (files_turn held p.state number c.args.time c.args.names) g.met.E.Worlds.tells
     c.take_reload.new.self.kept c.in_ok-report.report c.from_residual-in_err-tell.result c.from_residual-in_err-tell.ensures.1 (appends_none others.out.taken)
-    (c.in_ok-report.ensures.gives others held p.state.world keeps.world (asks_turn held p (record { number = number; order = order.Reload c.args.time c.args.names }) (g.F.Files.means c.args.files.now).content told) some)
+    (c.in_ok-report.ensures.gives others held p.state.world keeps.world (files_told held p.state number c.args.time c.args.names (g.F.Files.means c.args.files.now).content told) some)
 
 pub returns-clause-answers : goal.returns-clause-answers
 returns-clause-answers g c = λ others held p number keeps told some.
     let keeper = g.K.Keeper.means in
     let a : Outside = record others { files = g.F.Files.means c.args.files.now; store = keeper c.args.keeper.now } in
     let d : Outside = record others { files = g.F.Files.means c.take_reload.new.files; store = keeper c.take_reload.new.keeper } in
-    let gives = c.in_ok-report.ensures.gives others held p.state.world keeps.world (asks_turn held p (record { number = number; order = order.Reload c.args.time c.args.names }) (g.F.Files.means c.args.files.now).content told) some in
+    let gives = c.in_ok-report.ensures.gives others held p.state.world keeps.world (files_told held p.state number c.args.time c.args.names (g.F.Files.means c.args.files.now).content told) some in
     let tell = c.in_ok-tell.ensures in
-    answers_so g.E.Worlds.stands_for held p (record { number = number; order = order.Reload c.args.time c.args.names }) (reload_asked of_a_run p.state.world c.args.time (content_by held) c.args.names) a d refl c.tell.new.self c.args.text.now.items c.tell.new.text.items c.in_ok-report.report c.take_reload.new.self.refused
-    (subst (λ (k : _). Gives g.E.Worlds.stands_for p.state.world (reload_asked of_a_run p.state.world c.args.time (content_by held) c.args.names) (length (order_asks held p.state.world (order.Reload c.args.time c.args.names))) a d k (Ok c.in_ok-report.report)) (sym tell.kept) gives)
+    answers_so g.E.Worlds.stands_for held p (made number (order.Reload c.args.time c.args.names)) (reload_asked of_a_run p.state.world c.args.time (content_by held) c.args.names)
+    (asks_in_time p.state.world.last c.args.time (asks_for (content_by held) c.args.names)) a d (files_turn held p.state number c.args.time c.args.names) c.tell.new.self c.args.text.now.items c.tell.new.text.items c.in_ok-report.report c.take_reload.new.self.refused
+    (subst (λ (k : _). Gives g.E.Worlds.stands_for p.state.world (reload_asked of_a_run p.state.world c.args.time (content_by held) c.args.names) (length (asks_in_time p.state.world.last c.args.time (asks_for (content_by held) c.args.names))) a d k (Ok c.in_ok-report.report)) (sym tell.kept) gives)
     (refused_files_are_told of_a_run p.state.world c.args.time (content_by held) c.args.names) tell.text tell.refused (c.in_ok-report.ensures.refused ∙ keeps.refused)
+    (tell.receivers p.state.receivers (subst (λ (q : _). waiting.StandsFor q p.state.receivers) (sym c.in_ok-report.ensures.queues) keeps.receivers))
 
 pub returns-in_err-report-clause-ends : goal.returns-in_err-report-clause-ends
 returns-in_err-report-clause-ends g c = λ others.

@@ -4,8 +4,9 @@ use Rattle.pr_script.specs.declared.order.Order.{Order}
 use Rattle.pr_script.specs.declared.order.Order.TheVariants as order
 use Rattle.pr_status.specs.Outside.{AreTold, Outside}
 use Rattle.pr_run.specs.Standing.{Answers, Leaves}
-use Rattle.pr_run.specs.Told.{order_asks, step_of, turn}
-use Rattle.pr_run.proofs.Answering.{bad_answers, made, on_both}
+use Rattle.pr_run.specs.Replies.{bad_line_reply, flush_reply, receiver_reply}
+use Rattle.pr_run.specs.Told.{Turn, reply_turn, turn}
+use Rattle.pr_run.proofs.Answering.{made, on_one, order_turn, reply_answers, reply_leaves}
 use Rattle.pr_run.proofs.session.Session.take_order.Goals as goal
 
 pub returns-in-Event-clause-answers : goal.returns-in-Event-clause-answers
@@ -51,12 +52,50 @@ returns-in-Reload-clause-leaves g c = λ others held p keeps told some.
     subst (λ (o : Numbered). IfErr c.take_files_order.result (Leaves (turn held p.state o) p.state.world.history a d)) same
     (c.take_files_order.ensures.leaves others held p c.args.order.number keeps (subst (λ (o : Numbered). AreTold (files c.args.files.now).content held (turn held p.state o).answer.asks) (sym same) told) some)
 
+pub returns-in-Receiver-clause-answers : goal.returns-in-Receiver-clause-answers
+returns-in-Receiver-clause-answers g c = λ others held p keeps told some.
+    let a : Outside = record others { files = g.F.Files.means c.args.files.now; store = g.K.Keeper.means c.args.keeper.now } in
+    let is : turn held p.state c.args.order ≡ reply_turn p.state (receiver_reply c.as_str.result.now p.state.receivers) =
+    order_turn held p.state c.args.order (order.Receiver c.in-Receiver.name) c.in-Receiver.is ∙ ap (λ (n : List ℕ). reply_turn p.state (receiver_reply n p.state.receivers)) (sym c.as_str.ensures) in
+    on_one c.add_receiver.result _ (Answers g.E.Worlds.stands_for held p c.args.order a a c.add_receiver.new.self c.args.text.now.items c.add_receiver.new.text.items) c.add_receiver.ensures.replies
+    (λ given. reply_answers g.E.Worlds.stands_for held p c.args.order a a c.args.self.now c.add_receiver.new.self c.args.text.now.items c.add_receiver.new.text.items
+    (receiver_reply c.as_str.result.now p.state.receivers) is (given p.state.receivers keeps.receivers) keeps refl refl)
+
+pub returns-in-Receiver-clause-leaves : goal.returns-in-Receiver-clause-leaves
+returns-in-Receiver-clause-leaves g c = λ others held p keeps told some.
+    let a : Outside = record others { files = g.F.Files.means c.args.files.now; store = g.K.Keeper.means c.args.keeper.now } in
+    let is : turn held p.state c.args.order ≡ reply_turn p.state (receiver_reply c.as_str.result.now p.state.receivers) =
+    order_turn held p.state c.args.order (order.Receiver c.in-Receiver.name) c.in-Receiver.is ∙ ap (λ (n : List ℕ). reply_turn p.state (receiver_reply n p.state.receivers)) (sym c.as_str.ensures) in
+    reply_leaves g.E.Worlds.stands_for held p c.args.order a c.args.self.now c.add_receiver.result (receiver_reply c.as_str.result.now p.state.receivers) is keeps g.met.E.Worlds.tells c.add_receiver.ensures.memory
+
+pub returns-in-Flush-clause-answers : goal.returns-in-Flush-clause-answers
+returns-in-Flush-clause-answers g c = λ others held p keeps told some.
+    let a : Outside = record others { files = g.F.Files.means c.args.files.now; store = g.K.Keeper.means c.args.keeper.now } in
+    let is : turn held p.state c.args.order ≡ reply_turn p.state (flush_reply c.as_str-in-Flush.result.now p.state.receivers) =
+    order_turn held p.state c.args.order (order.Flush c.in-Flush.name) c.in-Flush.is ∙ ap (λ (n : List ℕ). reply_turn p.state (flush_reply n p.state.receivers)) (sym c.as_str-in-Flush.ensures) in
+    on_one c.flush_receiver.result _ (Answers g.E.Worlds.stands_for held p c.args.order a a c.flush_receiver.new.self c.args.text.now.items c.flush_receiver.new.text.items) c.flush_receiver.ensures.replies
+    (λ given. reply_answers g.E.Worlds.stands_for held p c.args.order a a c.args.self.now c.flush_receiver.new.self c.args.text.now.items c.flush_receiver.new.text.items
+    (flush_reply c.as_str-in-Flush.result.now p.state.receivers) is (given p.state.receivers keeps.receivers) keeps refl refl)
+
+pub returns-in-Flush-clause-leaves : goal.returns-in-Flush-clause-leaves
+returns-in-Flush-clause-leaves g c = λ others held p keeps told some.
+    let a : Outside = record others { files = g.F.Files.means c.args.files.now; store = g.K.Keeper.means c.args.keeper.now } in
+    let is : turn held p.state c.args.order ≡ reply_turn p.state (flush_reply c.as_str-in-Flush.result.now p.state.receivers) =
+    order_turn held p.state c.args.order (order.Flush c.in-Flush.name) c.in-Flush.is ∙ ap (λ (n : List ℕ). reply_turn p.state (flush_reply n p.state.receivers)) (sym c.as_str-in-Flush.ensures) in
+    reply_leaves g.E.Worlds.stands_for held p c.args.order a c.args.self.now c.flush_receiver.result (flush_reply c.as_str-in-Flush.result.now p.state.receivers) is keeps g.met.E.Worlds.tells c.flush_receiver.ensures.memory
+
 pub returns-in-Bad-clause-answers : goal.returns-in-Bad-clause-answers
 returns-in-Bad-clause-answers g c = λ others held p keeps told some.
-    let files = g.F.Files.means in
-    let keeper = g.K.Keeper.means in
-    let a : Outside = record others { files = files c.args.files.now; store = keeper c.args.keeper.now } in
-    on_both c.refuse_line.result _ _ (Answers g.E.Worlds.stands_for held p c.args.order a a c.refuse_line.new.self c.args.text.now.items c.refuse_line.new.text.items)
-    c.refuse_line.ensures.text c.refuse_line.ensures.refused
-    (λ text refused. bad_answers g.E.Worlds.stands_for held p c.args.order a a c.args.self.now c.refuse_line.new.self c.args.text.now.items c.refuse_line.new.text.items
-    (ap (step_of held p.state.world) c.in-Bad.is) (ap (order_asks held p.state.world) c.in-Bad.is) text refused c.refuse_line.ensures.kept keeps refl refl)
+    let a : Outside = record others { files = g.F.Files.means c.args.files.now; store = g.K.Keeper.means c.args.keeper.now } in
+    let is : turn held p.state c.args.order ≡ reply_turn p.state (bad_line_reply c.args.order.number p.state.receivers) =
+    order_turn held p.state c.args.order order.Bad c.in-Bad.is in
+    on_one c.refuse_line.result _ (Answers g.E.Worlds.stands_for held p c.args.order a a c.refuse_line.new.self c.args.text.now.items c.refuse_line.new.text.items) c.refuse_line.ensures.replies
+    (λ given. reply_answers g.E.Worlds.stands_for held p c.args.order a a c.args.self.now c.refuse_line.new.self c.args.text.now.items c.refuse_line.new.text.items
+    (bad_line_reply c.args.order.number p.state.receivers) is (given p.state.receivers keeps.receivers) keeps refl refl)
+
+pub returns-in-Bad-clause-leaves : goal.returns-in-Bad-clause-leaves
+returns-in-Bad-clause-leaves g c = λ others held p keeps told some.
+    let a : Outside = record others { files = g.F.Files.means c.args.files.now; store = g.K.Keeper.means c.args.keeper.now } in
+    let is : turn held p.state c.args.order ≡ reply_turn p.state (bad_line_reply c.args.order.number p.state.receivers) =
+    order_turn held p.state c.args.order order.Bad c.in-Bad.is in
+    reply_leaves g.E.Worlds.stands_for held p c.args.order a c.args.self.now c.refuse_line.result (bad_line_reply c.args.order.number p.state.receivers) is keeps g.met.E.Worlds.tells c.refuse_line.ensures.memory

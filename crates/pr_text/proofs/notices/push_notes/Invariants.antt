@@ -1,6 +1,6 @@
 use Rattle.std.proofs.Common.{◌≡◌, ◌++◌, drop, flat_map, length, take}
-use Rattle.pr_text.specs.Evaluated.{note_line}
-use Rattle.pr_text.proofs.evaluated.push_notes.Given as goal
+use Rattle.pr_text.specs.Notices.{note_line}
+use Rattle.pr_text.proofs.notices.push_notes.Given as goal
 
 -- what is written, and what is to come
 abbrev pub invariant-loop-note : goal.invariant-loop-note

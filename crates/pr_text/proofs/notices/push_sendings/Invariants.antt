@@ -1,6 +1,6 @@
 use Rattle.std.proofs.Common.{◌≡◌, ◌++◌, drop, flat_map, length, take}
-use Rattle.pr_text.specs.Evaluated.{sending_lines}
-use Rattle.pr_text.proofs.evaluated.push_sendings.Given as goal
+use Rattle.pr_text.specs.Notices.{sending_lines}
+use Rattle.pr_text.proofs.notices.push_sendings.Given as goal
 
 -- what is written, and what is to come
 abbrev pub invariant-loop-sending : goal.invariant-loop-sending
