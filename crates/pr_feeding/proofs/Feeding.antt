@@ -1,5 +1,5 @@
 -- The series of a test, one after another.
-use Rattle.std.proofs.Common.{◌≡◌, ◌≢◌, ℕ, zero, suc, ◌+◌, ◌*◌, ◌<◌, ◌≤◌, List, [], ◌∷◌, ◌++◌, take, length, slice_get, Option, Some, None, ◌⊎◌, inl, inr, refl, sym, ap, subst, ◌∙◌, arith}
+use Rattle.std.proofs.Common.{◌≡◌, ◌≢◌, ℕ, zero, suc, ◌+◌, ◌*◌, ◌<◌, ◌≤◌, List, [], ◌∷◌, ◌++◌, map, take, length, slice_get, Option, Some, None, ◌⊎◌, inl, inr, refl, sym, ap, subst, ◌∙◌, arith}
 use Rattle.std.specs.Prelude.{slice_set, replicate}
 use Rattle.std.specs.List.{filter_map, cons_option}
 use Rattle.pr_num.specs.declared.value.Point.{Point}
@@ -100,6 +100,15 @@ set_other (z ∷ xs) zero zero y h = absurd (h refl)
 set_other (z ∷ xs) zero (suc j) y h = refl
 set_other (z ∷ xs) (suc i) zero y h = refl
 set_other (z ∷ xs) (suc i) (suc j) y h = set_other xs i j y (λ e. h (ap suc e))
+
+pub mapped_all : {X Y : Type 0} (f : X → Y) (n : ℕ) (x : X) → map f (replicate n x) ≡ replicate n (f x)
+mapped_all f zero x = refl
+mapped_all f (suc n) x = ap (λ l. f x ∷ l) (mapped_all f n x)
+
+pub mapped_set : {X Y : Type 0} (f : X → Y) (xs : List X) (i : ℕ) (y : X) → map f (slice_set xs i y) ≡ slice_set (map f xs) i (f y)
+mapped_set f [] i y = refl
+mapped_set f (x ∷ xs) zero y = refl
+mapped_set f (x ∷ xs) (suc i) y = ap (λ l. f x ∷ l) (mapped_set f xs i y)
 
 set_length : {X : Type 0} (xs : List X) (i : ℕ) (y : X) → length (slice_set xs i y) ≡ length xs
 set_length [] i y = refl

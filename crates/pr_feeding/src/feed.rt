@@ -1,42 +1,77 @@
 // The samples of a test, put into a head place by place.
-ghost use Rattle.std.specs.Prelude.{◌≡◌, ℕ, ◌+◌, ◌*◌, ◌<◌, ◌∷◌, [], List, length, slice_get, Some, IfOk, OnOk};
+ghost use Rattle.std.specs.Prelude.{◌≡◌, ℕ, ◌+◌, ◌*◌, ◌<◌, ◌∷◌, [], List, length, slice_get, Some, IfOk, IfSome, OnOk};
 ghost use Rattle.std.specs.List.{filter_map};
 ghost use Rattle.pr_inputs.specs.declared.input.InputSeries.{InputSeries};
 ghost use Rattle.pr_history.specs.declared.entry.Entry.{Entry};
-ghost use Rattle.pr_head.specs.Holds.{Holds};
+ghost use Rattle.pr_head.specs.Holds.{Holds, sets_of};
 ghost use Rattle.pr_intake.specs.Intake.{HasTaken};
 ghost use Rattle.pr_testfile.specs.Series.{entries_at, entry_at};
 ghost use Rattle.pr_feeding.specs.Feeding.{HasFed, IsAt, IsFeeding};
 
+use crate::numbers::number_of;
 use crate::progress::{Progress, next_point};
-use pr_head::Head;
+use pr_head::{Append, Head};
 use pr_inputs::InputSeries;
+use pr_labels::Labels;
 use pr_num::Point;
 use pr_time::Ms;
 use std::alloc::{AllocError, Global};
 use std::marker::Model;
 
-/// How far the series of a test have come. Contracts see that of each.
+// How far a series has come, and its number in the head, which it has from its first sample on.
+#[derive(Clone, Copy, Drop)]
+struct SeriesFeed {
+    progress: Progress,
+    number: Option<usize>,
+}
+
+/// How far the series of a test have come. Contracts see that of each. A series is found in the
+/// head by its number, without a search.
 #[derive(Drop)]
 pub struct Feed {
-    each: Vec<Progress>,
+    each: Vec<SeriesFeed>,
 }
 
 impl Model for Feed {
-    ghost use Rattle.std.specs.Prelude.{List};
+    ghost use Rattle.std.specs.Prelude.{List, map};
     ghost use Rattle.pr_feeding.specs.declared.progress.Progress.{Progress};
 
     ghost Value = { List Progress };
 
-    ghost view = { λ f. f.each.items };
+    ghost view = { λ f. map (λ s. s.progress) f.each.items };
 }
 
-// Puts a sample into the head, whatever is answered to it.
-fn put(head: &mut Head, series: &InputSeries, time: Ms, point: Point) -> Result<(), AllocError>
+// Appends a sample by the number of its series, where that is known.
+fn append_by(
+    head: &mut Head,
+    labels: &Labels,
+    number: Option<usize>,
+    time: Ms,
+    point: Point,
+) -> Result<Append, AllocError>
+    requires { IfSome number (λ n. slice_get (sets_of head.old) n ≡ Some labels.now) }
     ensures { (history : List Entry) → Holds head.old history
-        → OnOk result (HasTaken head.old head.new history ((record { labels = series.now.labels; time = time; point = point }) ∷ [])) }
+        → OnOk result (HasTaken head.old head.new history ((record { labels = labels.now; time = time; point = point }) ∷ [])) }
 {
-    match head.append(&series.labels, time, point) {
+    match number {
+        Some(known) => head.append_at(known, time, point),
+        None => head.append(labels, time, point),
+    }
+}
+
+// Puts a sample into the head, whatever is answered to it, and notes the number of its series.
+fn put(
+    head: &mut Head,
+    labels: &Labels,
+    number: &mut Option<usize>,
+    time: Ms,
+    point: Point,
+) -> Result<(), AllocError>
+    ensures { (history : List Entry) → Holds head.old history
+        → OnOk result (HasTaken head.old head.new history ((record { labels = labels.now; time = time; point = point }) ∷ [])) }
+{
+    *number = number_of(head, labels, *number);
+    match append_by(head, labels, *number, time, point) {
         Ok(_answer) => Ok(()),
         Err(error) => Err(error),
     }
@@ -46,15 +81,15 @@ fn put(head: &mut Head, series: &InputSeries, time: Ms, point: Point) -> Result<
 fn put_next(
     head: &mut Head,
     series: &InputSeries,
-    progress: &mut Progress,
+    one: &mut SeriesFeed,
     time: Ms,
 ) -> Result<(), AllocError>
-    ensures taken { (interval place : ℕ) (history : List Entry) → IsAt series.now.values place progress.old → time ≡ place * interval → Holds head.old history
+    ensures taken { (interval place : ℕ) (history : List Entry) → IsAt series.now.values place one.old.progress → time ≡ place * interval → Holds head.old history
         → OnOk result (HasTaken head.old head.new history (filter_map (entry_at interval place) (series.now ∷ []))) }
-    ensures at { (place : ℕ) → IsAt series.now.values place progress.old → IsAt series.now.values (place + 1) progress.new }
+    ensures at { (place : ℕ) → IsAt series.now.values place one.old.progress → IsAt series.now.values (place + 1) one.new.progress }
 {
-    match next_point(series.values.as_slice(), progress) {
-        Some(point) => put(head, series, time, point),
+    match next_point(series.values.as_slice(), &mut one.progress) {
+        Some(point) => put(head, &series.labels, &mut one.number, time, point),
         None => Ok(()),
     }
 }
@@ -66,9 +101,12 @@ impl Feed {
     {
         let mut each = Vec::new(alloc);
         for _one in series {
-            each.push(Progress {
-                stretch: 0,
-                within: 0,
+            each.push(SeriesFeed {
+                progress: Progress {
+                    stretch: 0,
+                    within: 0,
+                },
+                number: None,
             })?;
         }
         Ok(Feed { each })
@@ -90,9 +128,9 @@ impl Feed {
         if number >= self.each.len() {
             return Ok(());
         }
-        let mut progress = self.each[number];
-        put_next(head, &series[number], &mut progress, time)?;
-        self.each[number] = progress;
+        let mut one = self.each[number];
+        put_next(head, &series[number], &mut one, time)?;
+        self.each[number] = one;
         Ok(())
     }
 

@@ -4,6 +4,7 @@
 
 mod feed;
 mod longest;
+mod numbers;
 mod point;
 mod progress;
 
