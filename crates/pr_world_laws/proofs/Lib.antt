@@ -2,3 +2,4 @@ pub mod Outcomes
 pub mod Selectors
 pub mod Reloaded
 pub mod AllGroups
+pub mod KeptRows

@@ -5,6 +5,7 @@
 mod alert_rows;
 mod cost_rows;
 mod laws;
+mod row_laws;
 mod world_rows;
 
 pub use alert_rows::{
@@ -15,4 +16,5 @@ pub use laws::{
     a_reload_is_remembered, alerts_have_one_outcome, an_evaluation_keeps_all_groups,
     range_selectors_are_passed,
 };
+pub use row_laws::{a_sample_adds_an_entry, kept_rows_tell_the_history};
 pub use world_rows::groups_stand_in_their_order;
