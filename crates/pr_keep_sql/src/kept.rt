@@ -164,8 +164,8 @@ impl<S: Alter> Kept<S> {
     /// Makes the tables where the database has none with their names, in one transaction, or reads
     /// those that are there: the number 1, and rows numbered from 0 on without a gap. Tables with
     /// other names are passed over, but where one stands before those of the store, or anything was
-    /// there when they were made, the rows are not told. Until this has succeeded nothing is kept. A further call
-    /// reads the tables anew.
+    /// there when they were made, the rows are not told. Until this has succeeded nothing is kept. A
+    /// further call reads the tables anew.
     ///
     /// # Errors
     /// `Failed` where the tables, the number or the rows are others, and where a statement is
