@@ -46,9 +46,11 @@ fn shown(answer: Result<Report, ApplyError>) -> &'static str {
         Ok(Report::Restarted { rows: 2 }) => "restarted over 2 rows",
         Ok(_) => "another report",
         Err(ApplyError::StoreFailed) => "the store failed",
-        Err(ApplyError::Broken {
-            first: Cause::StoreFailed,
-        }) => "broken since the store failed",
+        Err(
+            ApplyError::Broken {
+                first: Cause::StoreFailed,
+            },
+        ) => "broken since the store failed",
         Err(_) => "another error",
     }
 }

@@ -98,7 +98,10 @@ fn tell_examples<F: Files>(rt: &HostRuntime, files: &mut F) -> io::Result<()> {
     if told.rows == wanted {
         println!(rt; "rows of {words} < {input}: as in {rows}")?;
     } else {
-        println!(rt; "rows of {words} < {input}: not as in {rows}:\n{}", told.rows)?;
+        println!(rt;
+            "rows of {words} < {input}: not as in {rows}:\n{}",
+            told.rows
+        )?;
     }
     Ok(())
 }
@@ -140,7 +143,10 @@ fn tell(rt: &HostRuntime) -> io::Result<()> {
         char::from(first),
         char::from(last)
     )?;
-    println!(rt; "an engine whose third commit is refused: {}", answers_of_a_broken_engine(alloc)?)?;
+    println!(rt;
+        "an engine whose third commit is refused: {}",
+        answers_of_a_broken_engine(alloc)?
+    )?;
     println!(rt; "an input without end: {}", endless_input(alloc)?)
 }
 

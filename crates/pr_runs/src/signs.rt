@@ -35,12 +35,7 @@ pub(crate) fn numbered(alloc: Global, text: &str, number: u64) -> Result<String,
 }
 
 // Appends so often a text.
-fn push_often(
-    alloc: Global,
-    out: &mut String,
-    count: u64,
-    text: &str,
-) -> Result<(), AllocError> {
+fn push_often(alloc: Global, out: &mut String, count: u64, text: &str) -> Result<(), AllocError> {
     if !text.contains('№') {
         return out.push_str(&text.repeat(alloc, count as usize)?);
     }
