@@ -4,7 +4,7 @@ use Rattle.std.specs.Prelude.{IfSome, IsSome}
 use Rattle.pr_history.specs.Admission.{IsLawful}
 use Rattle.pr_history.specs.declared.entry.Entry.{Entry}
 use Rattle.pr_intake.specs.Intake.{Series}
-use Rattle.pr_manager.specs.Keeping.{KeepsGroups, KeptManager, settings_in}
+use Rattle.pr_manager.specs.Keeping.{ManagesGroups, KeptManager, settings_in}
 use Rattle.pr_outside.specs.Causes.{HasKeepCause}
 use Rattle.pr_outside.specs.Kept.{AppendsRows, KeepsRows}
 use Rattle.pr_outside.specs.Meant.{Store}
@@ -93,7 +93,7 @@ some_before None (Some now) same some = absurd same
 some_before (Some rows) (Some now) same some = refl
 
 pub begins : {R : Type 0} (fits : R → List Entry → Type 0) (asked : R → LastAsks) (passed : R → Passed) (step : ℕ) (head : Series) (tracked : Tracked) (manager : KeptManager R) (store : Store) → IsLoaded head store → Knows tracked []
-    → settings_in manager ≡ settings_of step → ((history : List Entry) → KeepsGroups fits asked passed manager history [] false)
+    → settings_in manager ≡ settings_of step → ((history : List Entry) → ManagesGroups fits asked passed manager history [] false)
     → Begins fits asked passed step (record { head = head; targets = tracked; manager = manager }) store
 begins fits asked passed step head tracked manager store l k told none = record {
   history = l.history;

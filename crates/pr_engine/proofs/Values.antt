@@ -14,7 +14,7 @@ use Rattle.pr_history.specs.Lookback.{is_after}
 use Rattle.pr_history.specs.declared.entry.Entry.{Entry}
 use Rattle.pr_history.proofs.Lawful.{put_all_lawful}
 use Rattle.pr_intake.specs.Intake.{HasTaken, Series}
-use Rattle.pr_manager.specs.Keeping.{HasGoneOn, KeepsGroups, KeepsGroupsOf, KeptManager, settings_in}
+use Rattle.pr_manager.specs.Keeping.{HasGoneOn, ManagesGroups, ManagesGroupsOf, KeptManager, settings_in}
 use Rattle.pr_range.specs.Asks.{LastAsks, Passed}
 use Rattle.pr_scrape.specs.Knowing.{Knows, Tracked}
 use Rattle.pr_world.specs.Outcome.{Outcome, refuse, accept, nothing_else, changed_by, is_refusal}
@@ -59,7 +59,7 @@ still_keeps fits last passed step k w time b =
       head = subst (λ (l : List Entry). IsHeadOf k.head (Some time) l) same (head_later k.head w.last time w.history b.in_time b.keeps.head);
       targets = b.keeps.targets;
       settings = b.keeps.settings;
-      groups = subst (λ (l : List Entry). KeepsGroups fits last passed k.manager l w.groups w.reloaded) same b.keeps.groups;
+      groups = subst (λ (l : List Entry). ManagesGroups fits last passed k.manager l w.groups w.reloaded) same b.keeps.groups;
     }
 
 keeps_asked : {R : Type 0} (fits : R → List Entry → Type 0) (last : R → LastAsks) (passed : R → Passed) (step : ℕ) (k : KeptParts R) (w : World) (time : ℕ) (o : Outcome) (t : Taken) → KeepsBefore fits last passed step k w time → HasOutcome o t
@@ -76,7 +76,7 @@ asked_keeps fits last passed step (Err e) k w time o b h = tt
 
 -- what is kept of groups stands for them over each later history
 abbrev pub Stays : {R : Type 0} → (R → List Entry → Type 0) → (R → LastAsks) → (R → Passed) → KeptManager R → World → Type 0
-Stays fits last passed k w = (more : List Entry) → IsLawful (w.history ++ more) → KeepsGroups fits last passed k (w.history ++ more) w.groups w.reloaded
+Stays fits last passed k w = (more : List Entry) → IsLawful (w.history ++ more) → ManagesGroups fits last passed k (w.history ++ more) w.groups w.reloaded
 
 -- a head holds what was added, and a map knows the targets after it
 pub grown_keeps : {R : Type 0} (fits : R → List Entry → Type 0) (last : R → LastAsks) (passed : R → Passed) (step : ℕ) (k : KeptParts R) (head : Series) (tracked : Tracked) (w : World) (time : ℕ) (targets : List Target) (added : List Entry)
@@ -121,7 +121,7 @@ above_before before after time false x late is above = kept_later before time x 
 -- after an order about rules
 pub ruled_keeps : {R : Type 0} (fits : R → List Entry → Type 0) (last : R → LastAsks) (passed : R → Passed) (step : ℕ) (k : KeptParts R) (head : Series) (manager : KeptManager R) (w : World) (e : Event) → changes_targets e ≡ false
     → KeepsBefore fits last passed step k w (time_of e) → settings_in manager ≡ settings_in k.manager → HasGoneOn k.head head w.history (step_in_time step w e).world.history
-    → KeepsGroupsOf fits last passed manager (step_in_time step w e).world
+    → ManagesGroupsOf fits last passed manager (step_in_time step w e).world
     → KeepsWorld fits last passed step (record { head = head; targets = k.targets; manager = manager }) (step_in_time step w e).world
 ruled_keeps fits last passed step k head manager w e changes b same gone groups =
     let v : World = (step_in_time step w e).world in
@@ -155,7 +155,7 @@ forgotten_keeps fits last passed step k head w e keeps accepted forgets =
 -- so unless it was refused
 pub evaluated_keeps : {R : Type 0} (fits : R → List Entry → Type 0) (last : R → LastAsks) (passed : R → Passed) (step : ℕ) (k : KeptParts R) (middle head : Series) (manager : KeptManager R) (w : World) (e : Event) (refused : Bool)
     → changes_targets e ≡ false → KeepsBefore fits last passed step k w (time_of e) → settings_in manager ≡ settings_in k.manager
-    → HasGoneOn k.head middle w.history (step_in_time step w e).world.history → KeepsGroupsOf fits last passed manager (step_in_time step w e).world
+    → HasGoneOn k.head middle w.history (step_in_time step w e).world.history → ManagesGroupsOf fits last passed manager (step_in_time step w e).world
     → refused ≡ (step_in_time step w e).refused
     → (refused ≡ false → (last : Option ℕ) (history : List Entry) → IsHeadOf middle last history → IsNotBefore last (time_of e) → IsHeadOf head (Some (time_of e)) history)
     → (refused ≡ true → head ≡ middle)

@@ -10,7 +10,7 @@ use Rattle.pr_history.specs.Lookback.{is_after}
 use Rattle.pr_history.specs.declared.entry.Entry.{Entry}
 use Rattle.pr_intake.specs.Intake.{Series}
 use Rattle.pr_labels.specs.declared.pair.Pair.{Pair}
-use Rattle.pr_manager.specs.Keeping.{KeepsGroupsOf, KeptManager, settings_in}
+use Rattle.pr_manager.specs.Keeping.{ManagesGroupsOf, KeptManager, settings_in}
 use Rattle.pr_outside.specs.Meant.{Store}
 use Rattle.pr_range.specs.Asks.{LastAsks, Passed}
 use Rattle.pr_scrape.specs.Knowing.{Knows, Tracked}
@@ -71,7 +71,7 @@ pub record KeepsWorld {R : Type 0} (fits : R → List Entry → Type 0) (last : 
   pub head : IsHeadOf k.head w.last w.history
   pub targets : Knows k.targets w.targets
   pub settings : settings_in k.manager ≡ settings_of step
-  pub groups : KeepsGroupsOf fits last passed k.manager w
+  pub groups : ManagesGroupsOf fits last passed k.manager w
 
 -- a world is kept in which a time is not before the last event
 pub record KeepsBefore {R : Type 0} (fits : R → List Entry → Type 0) (last : R → LastAsks) (passed : R → Passed) (step : ℕ) (k : KeptParts R) (w : World) (time : ℕ) : Type 0 where

@@ -6,7 +6,7 @@ use Rattle.pr_world.specs.Settings.{Settings}
 use Rattle.pr_world.specs.declared.event.Event.{Event}
 use Rattle.pr_world.specs.declared.event.Event.TheVariants.{Eval}
 use Rattle.pr_manager.specs.Rounds.{admitted_in}
-use Rattle.pr_manager.specs.Keeping.{HasGoneOn, KeepsGroupsOf}
+use Rattle.pr_manager.specs.Keeping.{HasGoneOn, ManagesGroupsOf}
 use Rattle.pr_engine.specs.Events.{settings_of}
 use Rattle.pr_engine.specs.Standing.{KeepsBefore, KeptParts}
 use Rattle.pr_engine.proofs.Values.{evaluated_keeps, may_evaluate, told_in_time}
@@ -39,7 +39,7 @@ returns-clause-world g c = λ step w before.
     evaluated_keeps R.fits R.last R.passed step kept c.evaluate.new.head c.forget_unless.new.head c.evaluate.new.self w e c.is_refusal-refused.result refl b c.in_ok-report.ensures.settings
     (subst (λ (s : Settings). HasGoneOn kept.head c.evaluate.new.head w.history (eval_step s w c.args.time c.args.file c.args.group).world.history) b.keeps.settings
     (c.in_ok-report.ensures.head w b.keeps.groups may))
-    (subst (λ (s : Settings). KeepsGroupsOf R.fits R.last R.passed c.evaluate.new.self (eval_step s w c.args.time c.args.file c.args.group).world) b.keeps.settings
+    (subst (λ (s : Settings). ManagesGroupsOf R.fits R.last R.passed c.evaluate.new.self (eval_step s w c.args.time c.args.file c.args.group).world) b.keeps.settings
     (c.in_ok-report.ensures.keeps w b.keeps.groups may))
     (told_in_time step w e c.in_ok-report.report c.is_refusal-refused.result b.in_time told c.is_refusal-refused.ensures)
     c.forget_unless.ensures.keeps c.forget_unless.ensures.still

@@ -26,5 +26,5 @@ returns-clause-world g c = λ step w before.
     let b : KeepsBefore R.fits R.last R.passed step kept w c.args.time = subst (λ (k : KeptParts g.row.R.Denot). KeepsBefore R.fits R.last R.passed step k w c.args.time) (sym c.self.view_is) before in
     grown_keeps R.fits R.last R.passed step kept c.put.new.head kept.targets w c.args.time w.targets
     (rows_by (admit w.history c.args.labels c.args.time c.args.point) (entry_of c.args.time c.args.labels c.args.point)) b
-    (λ more lawful. c.kept_groups_stay.ensures kept.manager w.history more w.groups w.reloaded b.keeps.groups lawful)
+    (λ more lawful. c.kept_groups_stay.ensures.keeps kept.manager w.history more w.groups w.reloaded b.keeps.groups lawful)
     (c.in_ok-answer.ensures.head w.last w.history b.keeps.head) b.keeps.targets

@@ -11,7 +11,7 @@ returns-clause-world g c = λ step w before.
     let kept : KeptParts g.row.R.Denot = record { head = c.self.inside.head; targets = c.self.inside.targets; manager = c.self.inside.manager } in
     let b : KeepsBefore R.fits R.last R.passed step kept w c.args.time = subst (λ (k : KeptParts g.row.R.Denot). KeepsBefore R.fits R.last R.passed step k w c.args.time) (sym c.self.view_is) before in
     taken_keeps R.fits R.last R.passed step kept c.scrape.new.head c.scrape.new.self w c.args.time (scrape_step w.targets w.history c.args.target c.args.time c.args.body.now) b
-    (λ more lawful. c.kept_groups_stay.ensures kept.manager w.history more w.groups w.reloaded b.keeps.groups lawful)
+    (λ more lawful. c.kept_groups_stay.ensures.keeps kept.manager w.history more w.groups w.reloaded b.keeps.groups lawful)
     (scrape_puts w.targets w.history c.args.target c.args.time c.args.body.now)
     (c.in_ok-scraped.ensures.taken w.targets w.history b.keeps.targets b.keeps.head.holds)
     (c.in_ok-scraped.ensures.targets w.targets w.history b.keeps.targets b.keeps.head.holds)
