@@ -26,7 +26,7 @@ seven = decimal_digit 7 (lit< tt)
 
 -- The rows of two orders are kept, and no text of theirs is written: no number of orders has both.
 pub kept_in_part : (e f : Entry) (n count : ℕ) → n ≤ 2
-    → codes "opened 0\n" ≡ [] ++ (take count (told_of [] (take n (added e ∷ added f ∷ []))) ++ [])
+    → codes "opened 0\n" ≡ [] ++ take count (told_of [] (take n (added e ∷ added f ∷ [])))
     → ((fewer : ℕ) → fewer + 1 ≡ n → length (told_of [] (take fewer (added e ∷ added f ∷ []))) ≤ count)
     → encoded e ∷ encoded f ∷ [] ≡ map encoded (kept_after [] (take n (added e ∷ added f ∷ []))) → ⊥
 unfolding shown_report told_of
@@ -37,18 +37,18 @@ kept_in_part e f (suc (suc zero)) count few text whole kept =
     let first : length (told_of [] (added e ∷ [])) ≤ count = whole 1 refl in
     let long : length (told_of [] (added e ∷ [])) ≡ 15 = ap (λ (d : List ℕ). length ((codes "opened " ++ d ++ codes "\n") ++ codes "added\n")) none in
     let most : length all ≡ 21 = ap (λ (d : List ℕ). length ((codes "opened " ++ d ++ codes "\n") ++ codes "added\nadded\n")) none in
-    absurd (omega (arith, ap length text, length-append (take count all) [], length-take count all, first, long, most))
+    absurd (omega (arith, ap length text, length-take count all, first, long, most))
 kept_in_part e f (suc (suc (suc n))) count few text whole kept = absurd (omega (arith, few))
 
 -- An order is answered whose file could not be loaded: no number of orders has both.
 pub answered_unloaded : (e : Entry) (file : List ℕ) (n count asked : ℕ) → n ≤ 2
-    → codes "opened 0\nreloaded\n" ≡ [] ++ (take count (told_of [] (take n (reloaded file ∷ added e ∷ []))) ++ [])
+    → codes "opened 0\nreloaded\n" ≡ [] ++ take count (told_of [] (take n (reloaded file ∷ added e ∷ [])))
     → Asks 0 1 asked → AsksAt at_file ((file ∷ []) ∷ [] ∷ []) n asked → ⊥
 unfolding shown_report told_of
 answered_unloaded e file zero count asked few text asks at =
     let all : List ℕ = told_of [] [] in
     let most : length all ≡ 9 = ap (λ (d : List ℕ). length ((codes "opened " ++ d ++ codes "\n") ++ [])) none in
-    absurd (omega (arith, ap length text, length-append (take count all) [], length-take count all, most))
+    absurd (omega (arith, ap length text, length-take count all, most))
 answered_unloaded e file (suc zero) count asked few text asks at =
     let here : asked_by 1 ((file ∷ []) ∷ [] ∷ []) ≡ 1 = refl in absurd (omega (arith, asks.1, at.0, here))
 answered_unloaded e file (suc (suc zero)) count asked few text asks at =
