@@ -1,11 +1,11 @@
 // The examples: scripts, an exposition, a rule file and test files, with what the program answers to them.
-use pr_outside::{Files, MemSink, MemSource, Row, SureKeeper};
+use pr_outside::{Files, MemSink, MemSource, SureKeeper};
 use pr_top::promtool;
 use std::alloc::{AllocError, Global};
 use std::str;
 
 /// The words of an example, the file that is its input, and the file of its answers.
-pub(crate) const EXAMPLES: [(&str, &str, &str); 22] = [
+pub(crate) const EXAMPLES: [(&str, &str, &str); 21] = [
     (
         "run",
         "examples/aggregations.txt",
@@ -13,6 +13,8 @@ pub(crate) const EXAMPLES: [(&str, &str, &str); 22] = [
     ),
     ("run", "examples/firing.txt", "examples/firing.answers"),
     ("run", "examples/first.txt", "examples/first.answers"),
+    ("run", "examples/reload.txt", "examples/reload.answers"),
+    ("run", "examples/restart.txt", "examples/restart.answers"),
     (
         "run",
         "examples/functions.txt",
@@ -37,8 +39,6 @@ pub(crate) const EXAMPLES: [(&str, &str, &str); 22] = [
     ),
     ("run", "examples/ranges.txt", "examples/ranges.answers"),
     ("run", "examples/refused.txt", "examples/refused.answers"),
-    ("run", "examples/reload.txt", "examples/reload.answers"),
-    ("run", "examples/restart.txt", "examples/restart.answers"),
     ("run", "examples/scrapes.txt", "examples/scrapes.answers"),
     (
         "run",
@@ -50,11 +50,6 @@ pub(crate) const EXAMPLES: [(&str, &str, &str); 22] = [
         "run",
         "examples/staleness.txt",
         "examples/staleness.answers",
-    ),
-    (
-        "run --store kept.db",
-        "examples/store.txt",
-        "examples/store.answers",
     ),
     (
         "run",
@@ -78,36 +73,13 @@ pub(crate) const EXAMPLES: [(&str, &str, &str); 22] = [
     ),
 ];
 
-/// The example whose rows are looked at, and the file in which they stand.
-pub(crate) const STORED: (&str, &str, &str) = (
-    "run --store kept.db",
-    "examples/store.txt",
-    "examples/store.rows",
-);
-
-/// What the program answers to an example, and the rows that are kept then, as sqlite3 shows them.
-#[derive(Drop)]
-pub(crate) struct Told {
-    pub(crate) answers: String,
-    pub(crate) rows: String,
-}
-
-fn rows_shown(alloc: Global, rows: &[Row]) -> Result<String, AllocError> {
-    let mut shown = String::new(alloc);
-    for (number, row) in rows.iter().enumerate() {
-        let (series, point) = (row.series.as_str(), row.point.as_str());
-        shown.push_str(&format!(in alloc; "{number}|{series}|{}|{point}\n", row.time)?)?;
-    }
-    Ok(shown)
-}
-
 /// What the program answers to these words and this input.
-pub(crate) fn told_of<F: Files>(
+pub(crate) fn answers_of<F: Files>(
     alloc: Global,
     files: &mut F,
     words: &str,
     input: String,
-) -> Result<Told, AllocError> {
+) -> Result<String, AllocError> {
     let mut owned = Vec::new(alloc);
     for word in words.split_whitespace() {
         owned.push(String::from_str(alloc, word)?)?;
@@ -116,8 +88,5 @@ pub(crate) fn told_of<F: Files>(
     let mut out = MemSink::new(alloc, Vec::new(alloc));
     let mut keeper = SureKeeper::new(Vec::new(alloc));
     let _status = promtool(alloc, &owned, &mut input, files, &mut keeper, &mut out);
-    Ok(Told {
-        answers: String::from_str(alloc, str::from_utf8(out.bytes()).unwrap_or("no text"))?,
-        rows: rows_shown(alloc, keeper.kept())?,
-    })
+    String::from_str(alloc, str::from_utf8(out.bytes()).unwrap_or("no text"))
 }

@@ -2,64 +2,58 @@
 // STATUS`. Below it stand lines that begin with a mark and a blank:
 //
 // - `$` and the words of the command line. Where there are none it is `run`, whose first line,
-//   `opened N`, is not told.
+//   `opened 0`, is not told.
 // - `@` and the name of a file, and maybe its first line; `|` and a further line of that file.
 // - `>` and a line of the input, and maybe ` => ` and what is written then, its lines apart by
 //   ` / `.
 // - `+`, a time, and samples of that time, apart by `; `, each of which is added.
 // - `<` and a line that is written.
-// - `had` and a row of the store at the start, SERIES|TIME|POINT; `kept` and a row that is there at
-//   the end, or `kept` alone where there is to be none. Without such a line rows are not looked at.
-// - `read`, `write`, `load`, or of the store `start`, `commit` or `fetch`, and the number of a call
-//   that is refused; `spoil` and the number of a row handed out that no program writes.
-// - `each` and `cut`: further runs, that end early (`runs.rt`).
+// - `read`, `write` or `load` and the number of a call that is refused.
 // - `--` and a comment.
-// - `*`, a number, and one of these lines, which stands there so often, with `№` for the time.
+// - `*`, a number, and one of these lines, which stands there so often.
 //
-// The signs of its texts stand in `signs.rt`.
-use crate::ended::Ended;
-use crate::signs::{counted, numbered, push_text, spelled};
-use crate::store::{Failing, Store};
-use pr_outside::{HeldFile, MemFiles, MemSink, MemSource, Row as KeptRow};
+// In lines of files and of the input `·` stands for a blank, `→` for a tab, `¶` for a line feed, `␍`
+// for a carriage return, `□` for a byte order mark, `�` for a byte that is no text, and `∎` for the
+// end, without a line feed.
+use pr_outside::{HeldFile, MemFiles, MemSink, MemSource, SureKeeper};
 use pr_top::promtool;
-use pr_words::Text;
 use std::alloc::{AllocError, Global};
+use std::str;
 
-// The row of a text SERIES|TIME|POINT.
-fn kept_row(alloc: Global, text: &str) -> Result<KeptRow, AllocError> {
-    let (text, point) = text.rsplit_once('|').unwrap_or((text, ""));
-    let (series, time) = text.rsplit_once('|').unwrap_or((text, ""));
-    Ok(KeptRow {
-        series: Text::from_str(alloc, series)?,
-        time: time.parse::<u64>().unwrap_or(0),
-        point: Text::from_str(alloc, point)?,
-    })
-}
-
-// So many of the first lines of a text.
-fn first_lines(alloc: Global, text: &str, count: u64) -> Result<String, AllocError> {
-    let mut front = String::new(alloc);
-    for line in text.lines().take(count as usize) {
-        front.push_str(line)?;
-        front.push('\n')?;
+/// Appends a line of a table.
+pub(crate) fn push_text(bytes: &mut Vec<u8>, text: &str) -> Result<(), AllocError> {
+    for sign in text.chars() {
+        match sign {
+            '·' => bytes.push(b' ')?,
+            '→' => bytes.push(b'\t')?,
+            '¶' => bytes.push(b'\n')?,
+            '␍' => bytes.push(b'\r')?,
+            '□' => bytes.extend_from_slice(b"\xef\xbb\xbf")?,
+            '�' => bytes.push(0xff)?,
+            '∎' => return Ok(()),
+            other => bytes.extend_from_slice(other.encode_utf8(&mut [0; 4]).as_bytes())?,
+        }
     }
-    Ok(front)
+    bytes.push(b'\n')?;
+    Ok(())
 }
 
-/// What a run is given, and what it is to write and to keep.
+// The number at the front of a text, and what stands behind it.
+fn counted(text: &str) -> (u64, &str) {
+    let (number, rest) = text.split_once(' ').unwrap_or((text, ""));
+    (number.parse::<u64>().unwrap_or(0), rest)
+}
+
+/// What a run is given, and what it is to write.
 #[derive(Drop)]
-pub(crate) struct Row {
+struct Row {
     words: Vec<String>,
     files: Vec<HeldFile>,
     input: Vec<u8>,
-    rows: Vec<KeptRow>,
     reads: Vec<u64>,
     writes: Vec<u64>,
     loads: Vec<u64>,
-    failing: Failing,
-    opens: bool,
     wanted: String,
-    kept: Option<Vec<KeptRow>>,
 }
 
 impl Row {
@@ -69,48 +63,19 @@ impl Row {
             words: Vec::new(alloc),
             files: Vec::new(alloc),
             input: Vec::new(alloc),
-            rows: Vec::new(alloc),
             reads: Vec::new(alloc),
             writes: Vec::new(alloc),
             loads: Vec::new(alloc),
-            failing: Failing {
-                starts: Vec::new(alloc),
-                commits: Vec::new(alloc),
-                loads: Vec::new(alloc),
-                spoilt: Vec::new(alloc),
-            },
-            opens: true,
-            wanted: String::new(alloc),
-            kept: None,
+            wanted: String::from_str(alloc, "opened 0\n")?,
         };
         row.words.push(String::from_str(alloc, "run")?)?;
-        Ok(row)
-    }
-
-    /// The row of these lines.
-    pub(crate) fn read(alloc: Global, lines: &str) -> Result<Row, AllocError> {
-        let mut row = Row::new(alloc)?;
-        for line in lines.lines() {
-            match line.strip_prefix("* ") {
-                Some(often) => {
-                    let (count, line) = counted(often);
-                    for number in 0..count {
-                        row.take(alloc, &numbered(alloc, line, number)?)?;
-                    }
-                }
-                None => row.take(alloc, line)?,
-            }
-        }
-        if row.opens {
-            row.wanted = format!(in alloc; "opened {}\n{}", row.rows.len(), row.wanted)?;
-        }
         Ok(row)
     }
 
     // Other words, behind which nothing is told yet.
     fn take_words(&mut self, alloc: Global, words: &str) -> Result<(), AllocError> {
         self.words.clear();
-        self.opens = false;
+        self.wanted.clear();
         for word in words.split_whitespace() {
             self.words
                 .push(String::from_str(alloc, word.trim_matches('"'))?)?;
@@ -168,34 +133,9 @@ impl Row {
         }
     }
 
-    // A row that is there at the end, or that there is none.
-    fn take_kept(&mut self, alloc: Global, row: &str) -> Result<(), AllocError> {
-        let kept = self.kept.get_or_insert(Vec::new(alloc));
-        if !row.is_empty() {
-            kept.push(kept_row(alloc, row)?)?;
-        }
-        Ok(())
-    }
-
-    /// Has a call refused, or a row spoilt, by its mark.
-    pub(crate) fn refuse(&mut self, mark: &str, number: u64) -> Result<(), AllocError> {
-        match mark {
-            "read" => self.reads.push(number)?,
-            "write" => self.writes.push(number)?,
-            "load" => self.loads.push(number)?,
-            "start" => self.failing.starts.push(number)?,
-            "commit" => self.failing.commits.push(number)?,
-            "fetch" => self.failing.loads.push(number)?,
-            "spoil" => self.failing.spoilt.push(number)?,
-            _ => self.want("a line of no kind")?,
-        }
-        Ok(())
-    }
-
     // Takes over a line.
     fn take(&mut self, alloc: Global, line: &str) -> Result<(), AllocError> {
-        let line = spelled(alloc, line)?;
-        let (mark, rest) = line.split_once(' ').unwrap_or((line.as_str(), ""));
+        let (mark, rest) = line.split_once(' ').unwrap_or((line, ""));
         match mark {
             "$" => self.take_words(alloc, rest)?,
             "@" => self.take_file(alloc, rest)?,
@@ -203,72 +143,57 @@ impl Row {
             ">" => self.take_order(rest)?,
             "+" => self.take_samples(alloc, rest)?,
             "<" => self.want(rest)?,
-            "had" => self.rows.push(kept_row(alloc, rest)?)?,
-            "kept" => self.take_kept(alloc, rest)?,
-            "each" | "cut" | "--" => {}
-            _ => self.refuse(mark, counted(rest).0)?,
+            "read" => self.reads.push(counted(rest).0)?,
+            "write" => self.writes.push(counted(rest).0)?,
+            "load" => self.loads.push(counted(rest).0)?,
+            "--" => {}
+            _ => self.want("a line of no kind")?,
         }
         Ok(())
     }
 
-    /// Wants only so many of the first lines, and where rows are looked at, behind a colon, so many of
-    /// the first of them.
-    pub(crate) fn want_front(&mut self, alloc: Global, front: &str) -> Result<(), AllocError> {
-        let (lines, rows) = front.split_once(':').unwrap_or((front, "0"));
-        self.wanted = first_lines(alloc, &self.wanted, counted(lines).0)?;
-        if let Some(kept) = &mut self.kept {
-            kept.truncate(counted(rows).0 as usize);
-        }
-        Ok(())
-    }
-
-    /// Wants these lines in place of all others.
-    pub(crate) fn want_only(&mut self, lines: &str) -> Result<(), AllocError> {
-        self.wanted.clear();
-        if lines.is_empty() {
-            return Ok(());
-        }
-        self.want(lines)
-    }
-
-    // The bytes of its last file, or of its input where there is none.
-    fn content(&mut self) -> &mut Vec<u8> {
-        match self.files.last_mut() {
-            Some(file) => &mut file.bytes,
-            None => &mut self.input,
-        }
-    }
-
-    /// How many bytes its last file has, or its input where there is none.
-    pub(crate) fn size(&mut self) -> usize {
-        self.content().len()
-    }
-
-    /// Leaves only the first bytes of its last file, or of its input where there is none.
-    pub(crate) fn cut(&mut self, length: usize) {
-        self.content().truncate(length);
-    }
-
-    /// Runs the program.
-    pub(crate) fn run(self, alloc: Global) -> Ended {
+    // What is written, and with which status.
+    fn told(self, alloc: Global, name: &str) -> Result<String, AllocError> {
         let mut input = MemSource::new(self.input, self.reads);
         let mut files = MemFiles::new(self.files, self.loads);
-        let mut store = Store::new(self.rows, self.failing);
+        let mut keeper = SureKeeper::new(Vec::new(alloc));
         let mut out = MemSink::new(alloc, self.writes);
         let status = promtool(
             alloc,
             &self.words,
             &mut input,
             &mut files,
-            &mut store,
+            &mut keeper,
             &mut out,
         );
-        Ended {
-            status: status.number(),
-            out,
-            store,
-            wanted: self.wanted,
-            kept: self.kept,
+        let written = str::from_utf8(out.bytes()).unwrap_or("no text");
+        format!(in alloc; "{name}: {}\n{written}", status.number())
+    }
+}
+
+/// The first line of a row that is told otherwise, as it is told and as it should be.
+pub(crate) fn difference(alloc: Global, text: &str) -> Result<Option<String>, AllocError> {
+    let (head, lines) = text.split_once('\n').unwrap_or((text, ""));
+    let mut row = Row::new(alloc)?;
+    for line in lines.lines() {
+        let (count, line) = match line.strip_prefix("* ") {
+            Some(often) => counted(often),
+            None => (1, line),
+        };
+        for _ in 0..count {
+            row.take(alloc, line)?;
         }
     }
+    let (name, _) = head.rsplit_once(": ").unwrap_or((head, ""));
+    let wanted = format!(in alloc; "{head}\n{}", row.wanted)?;
+    let told = row.told(alloc, name)?;
+    if told == wanted {
+        return Ok(None);
+    }
+    let mut others = told
+        .lines()
+        .zip(wanted.lines())
+        .skip_while(|(one, other)| one == other);
+    let (one, other) = others.next().unwrap_or(("more or less", "so much"));
+    Ok(Some(format!(in alloc; "{name}: told {one}, wanted {other}")?))
 }
