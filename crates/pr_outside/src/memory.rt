@@ -18,9 +18,6 @@ use super::{
 use std::alloc::Global;
 use std::marker::Model;
 
-#[cfg(test)]
-mod tests;
-
 /// A source of bytes in memory, some of whose reads fail. Contracts see the bytes that are left,
 /// and the schedule: the numbers of the calls that are to fail, and the counts of calls and of
 /// faults.

@@ -1,10 +1,11 @@
 //! Runs each row of the tables over stores in memory and on the disk, and stops a store at each call
-//! of its files. It tells where what is answered is not what stands there. With the words PATH,
-//! COMMITS and ROWS it makes so many commits of so many rows at a path, or with 0 commits loads each
-//! row that is there, to be measured from outside, and tells how many calls were answered.
+//! of its files. It tells where what is answered is not what stands there, and what is loaded of some
+//! paths. With the words PATH, COMMITS and ROWS it makes so many commits of so many rows at a path, or
+//! with 0 commits loads each row that is there, to be measured from outside, and tells how many calls
+//! were answered.
 #![tactic(auto)]
 
-use pr_outside::{DiskFiles, Files, Found};
+use pr_outside::{DiskFiles, Files, FilesError, Found};
 use pr_status::{RuntimeLine, words_of};
 use pr_store_lines::{difference_after_stops, difference_at_paths, difference_in_tables, work};
 use sqlite::{Start, Unknown};
@@ -96,8 +97,25 @@ fn measure<T: Start>(rt: &HostRuntime, words: &[String], start: T) -> io::Result
     println!(rt; "{done}")
 }
 
+// Tells what is loaded of each path.
+fn tell_files(rt: &HostRuntime) -> io::Result<()> {
+    let mut files = DiskFiles::new(rt.alloc(), rt);
+    let paths = text_of(&mut files, "files")?;
+    for path in paths.lines() {
+        match files.load(path) {
+            Ok(Found::Bytes { bytes }) => println!(rt; "{path}: {} bytes", bytes.len())?,
+            Ok(Found::Missing) => println!(rt; "{path}: missing")?,
+            Ok(Found::TooLarge) => println!(rt; "{path}: too large")?,
+            Err(FilesError::Failed) => println!(rt; "{path}: refused")?,
+            Err(FilesError::Memory) => println!(rt; "{path}: no memory")?,
+        }
+    }
+    Ok(())
+}
+
 // Goes over all rows.
 fn tell(rt: &HostRuntime) -> io::Result<()> {
+    tell_files(rt)?;
     tell_tables(rt)?;
     tell_paths(rt, unknowns(rt.alloc(), 64)?)?;
     tell_stops(rt)
