@@ -159,14 +159,21 @@ struct RuleText {
     refused: bool,
 }
 
-impl Taker for RuleText {
+impl Taker<String> for RuleText {
+    ghost use Rattle.std.specs.Prelude.{string_bytes};
     ghost use Rattle.pr_checks.specs.RuleFiles.{with_file};
 
-    ghost make = { with_file };
+    ghost file = { string_bytes };
 
-    fn take(&mut self, alloc: Global, name: &str, found: &Found) -> Result<bool, AllocError> {
+    ghost make = { λ name. with_file (string_bytes name) };
+
+    fn file(name: &String) -> &str {
+        name.as_str()
+    }
+
+    fn take(&mut self, alloc: Global, name: &String, found: Found) -> Result<bool, AllocError> {
         let mut text = replace(&mut self.text, Items::empty(alloc)).into_vec();
-        self.refused = push_found(alloc, &mut text, name, found)?;
+        self.refused = push_found(alloc, &mut text, name.as_str(), &found)?;
         self.text = Items::new(text);
         Ok(true)
     }
