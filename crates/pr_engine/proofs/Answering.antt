@@ -15,7 +15,7 @@ use Rattle.pr_range.specs.Asks.{LastAsks, Passed}
 use Rattle.pr_row.specs.Histories.{history_of}
 use Rattle.pr_row.specs.Rows.{encoded}
 use Rattle.pr_scrape.specs.Knowing.{Knows, Tracked}
-use Rattle.pr_world.specs.Outcome.{Outcome, is_refusal}
+use Rattle.pr_world.specs.Outcome.{IsNotBefore, Outcome, is_refusal}
 use Rattle.pr_world.specs.Settings.{Settings}
 use Rattle.pr_world.specs.Step.{Step, next, outcome, step_by, time_of}
 use Rattle.pr_world.specs.World.{World, begin}
@@ -29,7 +29,6 @@ use Rattle.pr_engine.specs.Events.{IsKnownAfter, is_restart, settings_of, step_i
 use Rattle.pr_engine.specs.Loading.{IsLoaded}
 use Rattle.pr_engine.specs.Rows.{AreRead, TellsOf}
 use Rattle.pr_engine.specs.Standing.{Begins, Forgets, Kept, KeptParts, KeepsBefore, KeepsUnless, KeepsWorld, StandsFor, StandsForSome, Starts}
-use Rattle.pr_engine.specs.Times.{IsNotBefore}
 use Rattle.pr_engine.specs.declared.fault.ApplyError.{ApplyError}
 use Rattle.pr_engine.specs.declared.fault.ApplyError.TheVariants as apply
 use Rattle.pr_engine.specs.declared.fault.Cause.{Cause}

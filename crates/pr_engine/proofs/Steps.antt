@@ -12,14 +12,13 @@ use Rattle.pr_outside.specs.Meant.{Store}
 use Rattle.pr_outside.specs.declared.keeping.Row.{Row}
 use Rattle.pr_row.specs.Histories.{history_after, history_of, taken_by}
 use Rattle.pr_row.specs.Rows.{decoded, encoded}
-use Rattle.pr_world.specs.Outcome.{Outcome, refuse, accept, Change, nothing_else, targets_become, groups_become, reloads, begins_anew, changed_by, unless_backwards}
+use Rattle.pr_world.specs.Outcome.{IsNotBefore, Outcome, refuse, accept, Change, nothing_else, targets_become, groups_become, reloads, begins_anew, changed_by, unless_backwards}
 use Rattle.pr_world.specs.Step.{next, outcome_in_time, step_by, time_of}
 use Rattle.pr_world.specs.World.{World}
 use Rattle.pr_world.specs.declared.event.Event.{Event}
 use Rattle.pr_world.specs.declared.report.Report.TheVariants as report
 use Rattle.pr_engine.specs.Events.{settings_of, step_in_time}
 use Rattle.pr_engine.specs.Rows.{AreRead, TellsOf}
-use Rattle.pr_engine.specs.Times.{IsNotBefore}
 
 -- the entries of a step come behind the history
 changed_history : (c : Change) (w : World) (time : ℕ) (entries : List Entry) → (changed_by c w time entries).history ≡ w.history ++ entries

@@ -5,8 +5,9 @@ use Rattle.std.proofs.lemmas.Grind.{common_steps}
 use Rattle.std.proofs.lemmas.Int.{ints}
 use Rattle.pr_history.specs.declared.entry.Entry.{Entry}
 use Rattle.pr_intake.specs.Intake.{Series}
+use Rattle.pr_world.specs.Outcome.{IsNotBefore}
 use Rattle.pr_engine.specs.Standing.{HoldsAll, IsHeadOf}
-use Rattle.pr_engine.specs.Times.{IsKeptAbove, IsNotBefore}
+use Rattle.pr_engine.specs.Times.{IsKeptAbove}
 
 not_before : (time last : ℕ) → nat_lt time last ≡ false → last ≤ time
 not_before time last h = grind (arith, common_steps)

@@ -17,7 +17,7 @@ use Rattle.pr_intake.specs.Intake.{HasTaken, Series}
 use Rattle.pr_manager.specs.Keeping.{HasGoneOn, ManagesGroups, ManagesGroupsOf, KeptManager, settings_in}
 use Rattle.pr_range.specs.Asks.{LastAsks, Passed}
 use Rattle.pr_scrape.specs.Knowing.{Knows, Tracked}
-use Rattle.pr_world.specs.Outcome.{Outcome, refuse, accept, nothing_else, changed_by, is_refusal}
+use Rattle.pr_world.specs.Outcome.{IsNotBefore, Outcome, refuse, accept, nothing_else, changed_by, is_refusal}
 use Rattle.pr_world.specs.Step.{Step, changes_targets, step_by, time_of}
 use Rattle.pr_world.specs.Targets.{Target, TargetStep}
 use Rattle.pr_world.specs.World.{World}
@@ -28,7 +28,7 @@ use Rattle.pr_world.proofs.Steps.{targets_stay}
 use Rattle.pr_engine.specs.Events.{settings_of, step_in_time}
 use Rattle.pr_engine.specs.Standing.{HoldsNoneUntil, IsHeadOf, KeepsBefore, KeepsWorld, KeptParts}
 use Rattle.pr_engine.specs.Taken.{HasOutcome, added_in, report_in}
-use Rattle.pr_engine.specs.Times.{IsKeptAbove, IsNotBefore, forgotten_at}
+use Rattle.pr_engine.specs.Times.{IsKeptAbove, forgotten_at}
 use Rattle.pr_engine.specs.declared.taken.Taken.{Taken}
 use Rattle.pr_engine.proofs.Steps.{in_time, last_in_time}
 use Rattle.pr_engine.proofs.Times.{head_later, kept_later, not_before_itself}

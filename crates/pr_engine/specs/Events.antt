@@ -1,7 +1,5 @@
 -- Events, and what they may read.
-use Rattle.std.specs.Prelude.{ℕ, Bool, true, false, List, map, IsSome, Result, Ok, Err}
-use Rattle.std.specs.List.{IsDistinct}
-use Rattle.std.specs.Str.{bytes_eq}
+use Rattle.std.specs.Prelude.{ℕ, Bool, true, false, List, IsSome, Result, Ok, Err}
 use Rattle.pr_ast.specs.Tree.{Tree}
 use Rattle.pr_history.specs.declared.entry.Entry.{Entry}
 use Rattle.pr_outside.specs.Meant.{Store}
@@ -32,18 +30,6 @@ is_restart (event.Eval time file group) = false
 is_restart (event.Reload time files) = false
 is_restart (event.Restart time) = true
 is_restart (event.Alerts time) = false
-
--- The files of a reload have names of their own.
-abbrev pub HasDistinctFiles : Event → Type 0
-HasDistinctFiles (event.Add time labels point) = Unit {0}
-HasDistinctFiles (event.Query time text) = Unit {0}
-HasDistinctFiles (event.Scrape time target body) = Unit {0}
-HasDistinctFiles (event.Fail time target) = Unit {0}
-HasDistinctFiles (event.Gone time target) = Unit {0}
-HasDistinctFiles (event.Eval time file group) = Unit {0}
-HasDistinctFiles (event.Reload time files) = IsDistinct bytes_eq (map (λ f. f.name) files)
-HasDistinctFiles (event.Restart time) = Unit {0}
-HasDistinctFiles (event.Alerts time) = Unit {0}
 
 -- What an event comes to that is not before the last one.
 abbrev pub step_in_time : ℕ → World → Event → Step

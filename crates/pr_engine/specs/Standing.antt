@@ -14,14 +14,14 @@ use Rattle.pr_manager.specs.Keeping.{ManagesGroupsOf, KeptManager, settings_in}
 use Rattle.pr_outside.specs.Meant.{Store}
 use Rattle.pr_range.specs.Asks.{LastAsks, Passed}
 use Rattle.pr_scrape.specs.Knowing.{Knows, Tracked}
-use Rattle.pr_world.specs.Outcome.{is_refusal}
+use Rattle.pr_world.specs.Outcome.{IsNotBefore, is_refusal}
 use Rattle.pr_world.specs.World.{World, begin, start}
 use Rattle.pr_world.specs.declared.event.Event.{Event}
 use Rattle.pr_world.specs.declared.event.Event.TheVariants as event
 use Rattle.pr_world.specs.declared.report.Report.{Report}
 use Rattle.pr_engine.specs.Events.{settings_of}
 use Rattle.pr_engine.specs.Rows.{TellsOf}
-use Rattle.pr_engine.specs.Times.{IsKeptAbove, IsNotBefore, forgotten_at}
+use Rattle.pr_engine.specs.Times.{IsKeptAbove, forgotten_at}
 use Rattle.pr_engine.specs.declared.fault.Cause.{Cause}
 
 -- what is kept of a world: the series that are held, the targets with what is tracked of each, and the

@@ -1,11 +1,6 @@
 -- Times and moments, beside that of the last event.
-use Rattle.std.specs.Prelude.{◌≡◌, ℕ, ℤ, pos, ◌-ℤ◌, ◌≤ℤ◌, nat_lt, false, Option, Some, None}
+use Rattle.std.specs.Prelude.{ℕ, ℤ, pos, ◌-ℤ◌, ◌≤ℤ◌, Option, Some, None}
 use Rattle.pr_types.specs.Typed.{kept}
-
--- a time is not before that of the last event
-abbrev pub IsNotBefore : Option ℕ → ℕ → Type 0
-IsNotBefore None time = Unit {0}
-IsNotBefore (Some last) time = nat_lt time last ≡ false
 
 -- the moment up to which samples may be forgotten at a time: they are kept for 45 days
 abbrev pub forgotten_at : ℕ → ℤ

@@ -3,18 +3,17 @@ ghost use Rattle.std.specs.Prelude.{◌≡◌, ◌≢◌, ℕ, ◌+◌, ◌<◌,
 ghost use Rattle.pr_outside.specs.Kept.{KeepsRows, StartsRows};
 ghost use Rattle.pr_manager.specs.Naming.{passed_by_named};
 ghost use Rattle.pr_row.specs.Histories.{history_of};
-ghost use Rattle.pr_world.specs.Outcome.{is_refusal};
-ghost use Rattle.pr_world.specs.Step.{next, time_of};
+ghost use Rattle.pr_world.specs.Outcome.{IsNotBefore};
+ghost use Rattle.pr_world.specs.Step.{HasDistinctFiles, next, time_of};
 ghost use Rattle.pr_world.specs.World.{World};
 ghost use Rattle.pr_engine.specs.declared.fault.Cause.{Cause};
 ghost use Rattle.pr_engine.specs.Causes.{HasApplyCause, HasStartCause, broken_after, cause_of, last_after};
-ghost use Rattle.pr_engine.specs.Events.{HasDistinctFiles, IsKnownAfter, event_cost, is_restart, settings_of};
+ghost use Rattle.pr_engine.specs.Events.{IsKnownAfter, event_cost, is_restart, settings_of};
 ghost use Rattle.pr_engine.specs.Standing.{Forgets, StandsFor, StandsForSome, Starts};
-ghost use Rattle.pr_engine.specs.Times.{IsNotBefore};
 
 use crate::fault::{ApplyError, Cause, StartError};
 use crate::standing::Standing;
-use crate::telling::{is_refusal, is_restart, time_of};
+use crate::telling::{is_restart, time_of};
 use pr_outside::Keeper;
 use pr_range::Ranges;
 use pr_time::{Ms, Span};
@@ -67,7 +66,7 @@ fn broken_after(before: Option<Cause>, answer: &Result<Report, ApplyError>) -> O
     ensures { result ≡ broken_after before answer.now }
 {
     match answer {
-        Ok(report) => { if is_refusal(report) { before } else { None } }
+        Ok(report) => { if report.is_refusal() { before } else { None } }
         Err(error) => Some(before.unwrap_or(cause_of(error))),
     }
 }
@@ -77,7 +76,7 @@ fn last_after(before: Option<Ms>, time: Ms, answer: &Result<Report, ApplyError>)
     ensures { result ≡ last_after before time answer.now }
 {
     match answer {
-        Ok(report) if !is_refusal(report) => Some(time),
+        Ok(report) if !report.is_refusal() => Some(time),
         _ => before,
     }
 }

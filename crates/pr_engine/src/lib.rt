@@ -13,4 +13,3 @@ mod telling;
 
 pub use engine::Engine;
 pub use fault::{ApplyError, Cause, StartError};
-pub use telling::is_refusal;

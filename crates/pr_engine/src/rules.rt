@@ -5,17 +5,16 @@ ghost use Rattle.std.specs.Str.{bytes_eq};
 ghost use Rattle.pr_history.specs.declared.entry.Entry.{Entry};
 ghost use Rattle.pr_manager.specs.Naming.{passed_by_named};
 ghost use Rattle.pr_manager.specs.Rounds.{eval_cost};
-ghost use Rattle.pr_world.specs.Outcome.{is_refusal};
+ghost use Rattle.pr_world.specs.Outcome.{IsNotBefore, is_refusal};
 ghost use Rattle.pr_world.specs.World.{World};
 ghost use Rattle.pr_world.specs.declared.event.Event.TheVariants.{Alerts, Eval, Reload};
 ghost use Rattle.pr_engine.specs.Events.{settings_of, step_in_time};
 ghost use Rattle.pr_engine.specs.Standing.{HoldsNoneUntil, IsHeadOf, KeepsBefore, KeepsWorld};
 ghost use Rattle.pr_engine.specs.Taken.{added_in, report_in};
-ghost use Rattle.pr_engine.specs.Times.{IsNotBefore, forgotten_at};
+ghost use Rattle.pr_engine.specs.Times.{forgotten_at};
 
 use crate::standing::Standing;
 use crate::taken::Taken;
-use crate::telling::is_refusal;
 use pr_head::Head;
 use pr_range::Ranges;
 use pr_time::Ms;
@@ -77,7 +76,7 @@ impl<R: Ranges + Drop> Standing<R> {
         let report = self
             .manager
             .evaluate(alloc, &mut self.head, file, group, time, reads)?;
-        let refused = is_refusal(&report);
+        let refused = report.is_refusal();
         forget_unless(refused, &mut self.head, time);
         Ok(Taken::Evaluated { report })
     }

@@ -1,6 +1,5 @@
-// What is told of events and of reports.
+// What is told of events, and the reports of answers.
 ghost use Rattle.std.specs.Prelude.{◌≡◌};
-ghost use Rattle.pr_world.specs.Outcome.{is_refusal};
 ghost use Rattle.pr_world.specs.Step.{report_of, scrape_report, time_of};
 ghost use Rattle.pr_engine.specs.Events.{is_restart};
 
@@ -38,38 +37,6 @@ pub(crate) fn is_restart(event: &Event) -> bool
         | Event::Eval { .. }
         | Event::Reload { .. }
         | Event::Alerts { .. } => false,
-    }
-}
-
-/// Whether an event was refused that is answered so. (Own choice: a refused event changes nothing,
-/// and is told by the status of a run.)
-pub fn is_refusal(report: &Report) -> bool
-    ensures { result ≡ is_refusal report.now }
-{
-    match report {
-        Report::NoGroup { .. }
-        | Report::NotLater { .. }
-        | Report::Missing { .. }
-        | Report::TooLarge { .. }
-        | Report::Refused { .. }
-        | Report::QueryRefused { .. }
-        | Report::Backwards { .. } => true,
-        Report::Opened { .. }
-        | Report::Added
-        | Report::Same
-        | Report::OutOfOrder { .. }
-        | Report::Conflict { .. }
-        | Report::Scraped { .. }
-        | Report::BadScrape { .. }
-        | Report::Failed { .. }
-        | Report::Gone { .. }
-        | Report::Evaluated { .. }
-        | Report::Reloaded { .. }
-        | Report::Restarted { .. }
-        | Report::Alerts { .. }
-        | Report::Scalar { .. }
-        | Report::Vector { .. }
-        | Report::QueryFault { .. } => false,
     }
 }
 

@@ -8,7 +8,7 @@ use Rattle.pr_labels.specs.Edits.{labels_of}
 use Rattle.pr_labels.specs.LabelSet.{pair_of}
 use Rattle.pr_world.specs.declared.event.Event.{Event}
 use Rattle.pr_world.specs.declared.event.Event.TheVariants.{Scrape, Fail, Restart}
-use Rattle.pr_run.specs.Events.{HasDistinctFiles}
+use Rattle.pr_world.specs.Step.{HasDistinctFiles}
 use Rattle.pr_exercise.specs.Exercise.{count_after, divides, drawn, eval_at, exercise_events, next_number, opening, reload_at, target, targets_from, turn_at, turn_events, turns_from}
 use Rattle.pr_exercise_command.specs.Turns.{AreWithin, HaveDistinctFiles}
 

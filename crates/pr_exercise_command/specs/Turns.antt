@@ -2,7 +2,7 @@
 -- over.
 use Rattle.std.specs.Prelude.{ℕ, ◌*◌, ◌≤◌, List}
 use Rattle.std.specs.List.{AllByRecursion}
-use Rattle.pr_run.specs.Events.{HasDistinctFiles}
+use Rattle.pr_world.specs.Step.{HasDistinctFiles}
 use Rattle.pr_world.specs.declared.event.Event.{Event}
 
 -- each target counts less than a hundred requests a round

@@ -1,9 +1,10 @@
 // What keeps the world of an exercise, and the lines that a run would have written.
 ghost use Rattle.std.specs.Prelude.{◌≡◌, ◌++◌, ◌∷◌, [], List, IfOk, IsSome, OnOk};
 ghost use Rattle.pr_history.specs.declared.entry.Entry.{Entry};
+ghost use Rattle.pr_world.specs.Step.{HasDistinctFiles};
 ghost use Rattle.pr_world.specs.declared.event.Event.{Event};
 ghost use Rattle.pr_exercise.specs.Summary.{report_lines};
-ghost use Rattle.pr_run.specs.Events.{HasDistinctFiles, KeepEnds};
+ghost use Rattle.pr_run.specs.Events.{KeepEnds};
 ghost use Rattle.pr_world.specs.declared.report.Report.TheVariants.{Opened};
 ghost use Rattle.pr_exercise_command.specs.Tallies.{counted_all, tally_of};
 ghost use Rattle.pr_exercise_command.specs.Turns.{HaveDistinctFiles};

@@ -25,7 +25,7 @@ use Rattle.pr_queue.specs.Standing as waiting
 use Rattle.pr_text.specs.Printed.{shown_report}
 use Rattle.pr_world.proofs.Refusals.{reload_of_found}
 use Rattle.pr_world.specs.Loading.{FileToLoad, all_found, found_outcome, reload_asked}
-use Rattle.pr_world.specs.Outcome.{is_refusal, refuse, unless_backwards}
+use Rattle.pr_world.specs.Outcome.{IsNotBefore, is_refusal, refuse, unless_backwards}
 use Rattle.pr_world.specs.Settings.{of_a_run}
 use Rattle.pr_world.specs.Step.{Step, next, step_by}
 use Rattle.pr_world.specs.World.{World}
@@ -40,7 +40,6 @@ use Rattle.pr_run.specs.Keeping.{KeepsProgress, Progress, Run, TellsOf, progress
 use Rattle.pr_run.specs.Rows.{IsBadIn}
 use Rattle.pr_run.specs.Replies.{Reply, receivers_after}
 use Rattle.pr_run.specs.Standing.{Answers, Gives, Grows, HasGrown, IsGrown, Leaves, Replies, Stays, Waits, Writes}
-use Rattle.pr_run.specs.Times.{IsNotBefore}
 use Rattle.pr_run.specs.Told.{State, Turn, asks_for, asks_in_time, content_by, reply_turn, step_turn, turn, turn_of}
 use Rattle.pr_run.proofs.Loads.{asks_none, asks_on}
 use Rattle.pr_run.proofs.Stops.{no_bad}

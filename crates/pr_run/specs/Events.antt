@@ -1,27 +1,12 @@
--- What an event must have that a world is handed, and how calls of a store end.
-use Rattle.std.specs.Prelude.{◌≡◌, ℕ, Bool, true, false, List, map, Result}
-use Rattle.std.specs.List.{IsDistinct}
-use Rattle.std.specs.Str.{bytes_eq}
+-- Which events name files, and how calls of a store end.
+use Rattle.std.specs.Prelude.{Bool, true, false, Result}
 use Rattle.pr_outside.specs.Meant.{Store}
 use Rattle.pr_status.specs.Ends.{Ends}
 use Rattle.pr_status.specs.Outside.{Outside}
 use Rattle.pr_status.specs.declared.status.Stop.{Stop}
 use Rattle.pr_world.specs.declared.event.Event.{Event}
 use Rattle.pr_world.specs.declared.event.Event.TheVariants as event
-use Rattle.pr_world.specs.declared.event.NamedFile.{NamedFile}
 use Rattle.pr_run.specs.Rows.{IsBadIn}
-
--- The files of a reload have names of their own.
-abbrev pub HasDistinctFiles : Event → Type 0
-HasDistinctFiles (event.Add time labels point) = Unit {0}
-HasDistinctFiles (event.Query time text) = Unit {0}
-HasDistinctFiles (event.Scrape time target body) = Unit {0}
-HasDistinctFiles (event.Fail time target) = Unit {0}
-HasDistinctFiles (event.Gone time target) = Unit {0}
-HasDistinctFiles (event.Eval time file group) = Unit {0}
-HasDistinctFiles (event.Reload time files) = IsDistinct bytes_eq (map (λ (f : NamedFile). f.name) files)
-HasDistinctFiles (event.Restart time) = Unit {0}
-HasDistinctFiles (event.Alerts time) = Unit {0}
 
 -- whether it names files
 abbrev pub has_files : Event → Bool

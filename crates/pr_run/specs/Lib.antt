@@ -4,7 +4,6 @@ pub mod Rows
 pub mod Front
 pub mod Runs
 pub mod Events
-pub mod Times
 pub mod Files
 pub mod Keeping
 pub mod Standing

@@ -4,19 +4,18 @@ ghost use Rattle.pr_notices.specs.Receivers.{Receiver};
 ghost use Rattle.pr_queue.specs.Standing as waiting;
 ghost use Rattle.pr_status.specs.Ends.{Ends};
 ghost use Rattle.pr_status.specs.Outside.{AreTold, Held, Outside};
-ghost use Rattle.pr_world.specs.Outcome.{is_refusal};
+ghost use Rattle.pr_world.specs.Outcome.{IsNotBefore, is_refusal};
 ghost use Rattle.pr_world.specs.Settings.{of_a_run};
 ghost use Rattle.pr_world.specs.Loading.{reload_asked};
-ghost use Rattle.pr_world.specs.Step.{next};
+ghost use Rattle.pr_world.specs.Step.{HasDistinctFiles, next};
 ghost use Rattle.pr_world.specs.World.{World};
 ghost use Rattle.pr_text.specs.Printed.{shown_report};
 ghost use Rattle.pr_script.specs.declared.order.Order.TheVariants as order;
-ghost use Rattle.pr_run.specs.Events.{HasDistinctFiles, has_files};
+ghost use Rattle.pr_run.specs.Events.{has_files};
 ghost use Rattle.pr_run.specs.Keeping.{KeepsProgress, Progress};
 ghost use Rattle.pr_run.specs.Replies.{bad_line_reply, flush_reply, receiver_reply, receivers_after};
 ghost use Rattle.pr_run.specs.Rows.{IsBadIn};
 ghost use Rattle.pr_run.specs.Standing.{Answers, Gives, Grows, Leaves, Replies};
-ghost use Rattle.pr_run.specs.Times.{IsNotBefore};
 ghost use Rattle.pr_run.specs.Told.{asks_for, asks_in_time, content_by, turn};
 
 use crate::files::load_files;
@@ -31,36 +30,6 @@ use pr_time::Ms;
 use pr_world::{Event, Report};
 use std::alloc::{AllocError, Global};
 use std::marker::Model;
-
-fn is_refusal(report: &Report) -> bool
-    ensures { result ≡ is_refusal report.now }
-{
-    match report {
-        Report::NoGroup { .. }
-        | Report::NotLater { .. }
-        | Report::Missing { .. }
-        | Report::TooLarge { .. }
-        | Report::Refused { .. }
-        | Report::QueryRefused { .. }
-        | Report::Backwards { .. } => true,
-        Report::Opened { .. }
-        | Report::Added
-        | Report::Same
-        | Report::OutOfOrder { .. }
-        | Report::Conflict { .. }
-        | Report::Scraped { .. }
-        | Report::BadScrape { .. }
-        | Report::Failed { .. }
-        | Report::Gone { .. }
-        | Report::Evaluated { .. }
-        | Report::Reloaded { .. }
-        | Report::Restarted { .. }
-        | Report::Alerts { .. }
-        | Report::Scalar { .. }
-        | Report::Vector { .. }
-        | Report::QueryFault { .. } => false,
-    }
-}
 
 // Whether an event has files. Those of an order are only named.
 fn has_files(event: &Event) -> bool
@@ -201,7 +170,7 @@ impl<E: Worlds + Drop> Session<E> {
         ensures refused { self.new.refused ≡ (self.old.refused || is_refusal report.now) }
         ensures kept { self.new.kept ≡ self.old.kept }
     {
-        self.refused = self.refused || is_refusal(report);
+        self.refused = self.refused || report.is_refusal();
         notify(&mut self.notifier, report)?;
         push_report(text, report)
     }

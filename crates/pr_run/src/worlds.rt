@@ -6,9 +6,9 @@ ghost use Rattle.pr_outside.specs.Kept.{StartsRows};
 ghost use Rattle.pr_outside.specs.Meant.{Store};
 ghost use Rattle.pr_row.specs.Histories.{history_of};
 ghost use Rattle.pr_world.specs.Settings.{of_a_run};
-ghost use Rattle.pr_world.specs.Step.{next};
+ghost use Rattle.pr_world.specs.Step.{HasDistinctFiles, next};
 ghost use Rattle.pr_world.specs.World.{World};
-ghost use Rattle.pr_run.specs.Events.{HasDistinctFiles, KeepEnds};
+ghost use Rattle.pr_run.specs.Events.{KeepEnds};
 ghost use Rattle.pr_run.specs.Keeping.{Starts, TellsOf};
 
 use pr_outside::Keeper;

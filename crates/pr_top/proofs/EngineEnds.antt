@@ -1,7 +1,7 @@
 -- How calls of the engine end, as stops of a run.
 use Rattle.std.proofs.Common.{◌≡◌, ◌≢◌, ℕ, Bool, true, false, cond, List, Option, Some, None, Result, Ok, Err, IfSome, IsSome, IfOk, OnOk, OnErr, refl, sym, ap, ◌∙◌, subst}
 use Rattle.pr_engine.specs.Causes.{HasApplyCause, HasStartCause, broken_after}
-use Rattle.pr_engine.specs.Events.{IsKnownAfter, settings_of, HasDistinctFiles as EngineDistinct}
+use Rattle.pr_engine.specs.Events.{IsKnownAfter, settings_of}
 use Rattle.pr_engine.specs.Standing.{Kept, StandsFor}
 use Rattle.pr_history.specs.declared.entry.Entry.{Entry}
 use Rattle.pr_range.specs.Asks.{LastAsks, Passed}
@@ -11,7 +11,7 @@ use Rattle.pr_engine.specs.declared.fault.StartError.{StartError}
 use Rattle.pr_engine.specs.declared.fault.StartError.TheVariants as start
 use Rattle.pr_outside.specs.Meant.{Store}
 use Rattle.pr_row.specs.Histories.{history_of}
-use Rattle.pr_run.specs.Events.{HasDistinctFiles, KeepEnds}
+use Rattle.pr_run.specs.Events.{KeepEnds}
 use Rattle.pr_run.specs.Keeping.{TellsOf}
 use Rattle.pr_status.proofs.Ended.{in_time_same}
 use Rattle.pr_status.specs.declared.status.Stop.{Stop}
@@ -70,18 +70,6 @@ apply_ends T U a b (apply.BadRow at) cause bad = λ others. record {
   out = in_time_same others.out.course;
 }
 apply_ends T U a b (apply.Broken first) cause bad = λ others. record { cause = (refl, refl, cause, refl); input = in_time_same others.input.course; files = in_time_same others.files.course; out = in_time_same others.out.course }
-
--- files that are distinct for a run are so for the engine
-pub distinct_files : (e : Event) → HasDistinctFiles e → EngineDistinct e
-distinct_files (event.Add time labels point) distinct = tt
-distinct_files (event.Query time text) distinct = tt
-distinct_files (event.Scrape time target body) distinct = tt
-distinct_files (event.Fail time target) distinct = tt
-distinct_files (event.Gone time target) distinct = tt
-distinct_files (event.Eval time file group) distinct = tt
-distinct_files (event.Reload time files) distinct = distinct
-distinct_files (event.Restart time) distinct = tt
-distinct_files (event.Alerts time) distinct = tt
 
 pub ok_ends : (T : Type 0) (a b : Store) (x : T) → b.faults ≡ a.faults → KeepEnds {T = T} a b (Ok x)
 ok_ends T a b x same = λ others. record { cause = (refl, refl, same, refl); input = in_time_same others.input.course; files = λ e. e; out = λ e. e }

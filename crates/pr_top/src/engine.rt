@@ -1,9 +1,9 @@
 // The engine, as what keeps the world of a run.
 ghost use Rattle.std.specs.Prelude.{◌≡◌, ◌<◌, IfOk, IsSome, OnErr, OnOk};
 ghost use Rattle.pr_world.specs.Settings.{of_a_run};
-ghost use Rattle.pr_world.specs.Step.{next};
+ghost use Rattle.pr_world.specs.Step.{HasDistinctFiles, next};
 ghost use Rattle.pr_world.specs.World.{World};
-ghost use Rattle.pr_run.specs.Events.{HasDistinctFiles, KeepEnds};
+ghost use Rattle.pr_run.specs.Events.{KeepEnds};
 ghost use Rattle.pr_run.specs.Keeping.{TellsOf};
 ghost use Rattle.pr_top.specs.Engine.{IsRunning};
 ghost use Rattle.pr_top.specs.EngineStops.{apply_stop, start_stop};

@@ -1,8 +1,8 @@
 use Rattle.std.proofs.Common.{◌∷◌, ◌∙◌, ℕ, ◌+◌, ◌-◌, [], ◌++◌, refl, sym, subst, arith}
 use Rattle.pr_status.proofs.Ended.{quiet}
+use Rattle.pr_world.specs.Step.{HasDistinctFiles}
 use Rattle.pr_world.specs.World.{start}
 use Rattle.pr_exercise.specs.Exercise.{exercise_events, turns_from}
-use Rattle.pr_run.specs.Events.{HasDistinctFiles}
 use Rattle.pr_exercise_command.specs.Turns.{AreWithin, HaveDistinctFiles}
 use Rattle.pr_exercise_command.proofs.Ended.{calm_keep, keep_done, keep_memory, keep_on}
 use Rattle.pr_exercise_command.proofs.Progress.{answered_all, answered_halts, answered_on, answered_stays, come_halts, counted_in, counts_err, halts_as, halts_at, halts_more, stands_first}

@@ -1,10 +1,10 @@
 use Rattle.std.proofs.Common.{◌≡◌, ◌∙◌, ◌+◌, ◌≤◌, OnOk, false, ap, sym, subst}
 use Rattle.pr_manager.specs.Naming.{passed_by_named}
+use Rattle.pr_world.specs.Outcome.{IsNotBefore}
 use Rattle.pr_world.specs.Step.{next, time_of}
 use Rattle.pr_engine.specs.Causes.{last_after}
 use Rattle.pr_engine.specs.Events.{event_cost, is_restart, settings_of}
 use Rattle.pr_engine.specs.Standing.{Kept, KeepsBefore, StandsFor}
-use Rattle.pr_engine.specs.Times.{IsNotBefore}
 use Rattle.pr_engine.proofs.Answering.{keeps_before, some_stands, stands_answered}
 use Rattle.pr_engine.proofs.engine.Engine.answer.Goals as goal
 

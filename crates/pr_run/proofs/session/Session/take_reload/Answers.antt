@@ -2,11 +2,11 @@ use Rattle.std.proofs.Common.{◌≡◌, ◌∙◌, ℕ, List, Option, Some, len
 use Rattle.pr_status.specs.Asks.{Asks}
 use Rattle.pr_status.specs.Outside.{AreTold, Outside}
 use Rattle.pr_world.specs.Loading.{reload_asked}
+use Rattle.pr_world.specs.Outcome.{IsNotBefore}
 use Rattle.pr_world.specs.Settings.{of_a_run}
 use Rattle.pr_world.specs.Step.{Step}
 use Rattle.pr_run.specs.Keeping.{Run}
 use Rattle.pr_run.specs.Standing.{Gives}
-use Rattle.pr_run.specs.Times.{IsNotBefore}
 use Rattle.pr_run.specs.Told.{asks_for, content_by}
 use Rattle.pr_run.proofs.Answering.{backwards_files, in_time_asks}
 use Rattle.pr_run.proofs.Loads.{asks_none}
