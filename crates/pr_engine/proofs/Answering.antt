@@ -24,7 +24,7 @@ use Rattle.pr_world.specs.declared.event.Event.TheVariants as event
 use Rattle.pr_world.specs.declared.report.Report.{Report}
 use Rattle.pr_world.specs.declared.report.Report.TheVariants as report
 use Rattle.pr_world.proofs.Refusals.{refusal_is_told}
-use Rattle.pr_engine.specs.Causes.{HasApplyCause, HasStartCause, apply_error, last_after, restart_error, start_error}
+use Rattle.pr_engine.specs.Causes.{HasApplyCause, HasStartCause, apply_error, broken_after, last_after, restart_error, start_error}
 use Rattle.pr_engine.specs.Events.{IsKnownAfter, is_restart, settings_of, step_in_time}
 use Rattle.pr_engine.specs.Loading.{IsLoaded}
 use Rattle.pr_engine.specs.Rows.{AreRead, TellsOf}
@@ -37,6 +37,7 @@ use Rattle.pr_engine.specs.declared.fault.StartError.TheVariants as start
 use Rattle.pr_engine.proofs.Steps.{in_time, stepped_history, stepped_last, tells_more}
 use Rattle.pr_engine.proofs.Times.{head_of_all}
 use Rattle.pr_engine.proofs.Told.{told_on}
+use Rattle.pr_engine.proofs.Values.{told_in_time}
 
 -- Errors
 
@@ -256,3 +257,35 @@ some_stands fits asked passed (Ok x) e k now v anew stands = by (is_restart e) r
   by : (b : Bool) → is_restart e ≡ b → StandsForSome fits asked passed k now
   by true is = stands_anew fits asked passed k.parts now k.step k.last k.broken (anew is)
   by false is = record { world = v; stands = stands (known_else e now is) }
+
+-- A refused event
+
+pub refused_goes_on : (step : ℕ) (w : World) (e : Event) → (step_in_time step w e).refused ≡ true → is_restart e ≡ false
+refused_goes_on step w (event.Add time labels point) is = refl
+refused_goes_on step w (event.Query time text) is = refl
+refused_goes_on step w (event.Scrape time target body) is = refl
+refused_goes_on step w (event.Fail time target) is = refl
+refused_goes_on step w (event.Gone time target) is = refl
+refused_goes_on step w (event.Eval time file group) is = refl
+refused_goes_on step w (event.Reload time files) is = refl
+refused_goes_on step w (event.Restart time) is = absurd (true≢false (sym is))
+refused_goes_on step w (event.Alerts time) is = refl
+
+-- leaves an engine as it was
+unmoved : {R : Type 0} (k : Kept R) (parts : KeptParts R) (time : ℕ) (r : Report) → is_refusal r ≡ true → parts ≡ k.parts
+    → record { parts = parts; step = k.step; last = last_after k.last time (Ok r); broken = broken_after k.broken (Ok r) } ≡ k
+unmoved {R} k parts time r is same =
+    ap (λ (p : KeptParts R). record { parts = p; step = k.step; last = last_after k.last time (Ok r); broken = broken_after k.broken (Ok r) }) same
+    ∙ ap (λ (b : Bool). record { parts = k.parts; step = k.step; last = cond b k.last (Some time); broken = cond b k.broken None }) is
+
+-- and standing for the same world
+pub refused_stays : {R : Type 0} (fits : R → List Entry → Type 0) (asked : R → LastAsks) (passed : R → Passed) (result : Result Report ApplyError) (k : Kept R) (parts : KeptParts R) (before now : Store) (w : World) (e : Event) (last : Option ℕ) (broken : Option Cause)
+    → StandsFor fits asked passed k before w → now ≡ before → IsNotBefore w.last (time_of e) → IfOk result (λ r. r ≡ (step_in_time k.step w e).report) → (step_in_time k.step w e).refused ≡ true
+    → OnOk result (parts ≡ k.parts) → last ≡ last_after k.last (time_of e) result → broken ≡ broken_after k.broken result
+    → OnOk result ((record { parts = parts; step = k.step; last = last; broken = broken } ≡ k) × StandsFor fits asked passed (record { parts = parts; step = k.step; last = last; broken = broken }) now w)
+refused_stays {R} fits asked passed (Ok r) k parts before now w e last broken stands same late told refused kept lasts breaks =
+    let is : is_refusal r ≡ true = told_in_time k.step w e r (is_refusal r) late told refl ∙ refused in
+    let all : record { parts = parts; step = k.step; last = last; broken = broken } ≡ k =
+    (λ i. record { parts = parts; step = k.step; last = lasts i; broken = breaks i }) ∙ unmoved k parts (time_of e) r is kept in
+    (all, subst (λ (x : Kept R). StandsFor fits asked passed x now w) (sym all) (subst (λ (s : Store). StandsFor fits asked passed k s w) (sym same) stands))
+refused_stays fits asked passed (Err x) k parts before now w e last broken stands same late told refused kept lasts breaks = tt

@@ -4,4 +4,5 @@ pub mod Loaded
 pub mod Queries
 pub mod Values
 pub mod Steps
+pub mod Passing
 pub mod Answering

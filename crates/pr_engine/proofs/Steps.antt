@@ -1,5 +1,5 @@
 -- Histories and rows, one event further.
-use Rattle.std.proofs.Common.{◌≡◌, ℕ, ◌+◌, Bool, false, cond, List, [], ◌∷◌, ◌++◌, length, map, Option, Some, None, Ok, refl, sym, ap, ◌∙◌, append_assoc, append-nil, arith, true≢false}
+use Rattle.std.proofs.Common.{◌≡◌, ℕ, ◌+◌, Bool, true, false, cond, List, [], ◌∷◌, ◌++◌, length, map, Option, Some, None, Ok, refl, sym, ap, ◌∙◌, append_assoc, append-nil, arith, true≢false}
 use Rattle.std.specs.Prelude.{IfSome, IsSome, nat_lt}
 use Rattle.std.proofs.lemmas.List.{length-append, map-append}
 use Rattle.pr_history.specs.Admission.{IsLawful, IsLawfulAfter, admit}
@@ -13,7 +13,8 @@ use Rattle.pr_outside.specs.declared.keeping.Row.{Row}
 use Rattle.pr_row.specs.Histories.{history_after, history_of, taken_by}
 use Rattle.pr_row.specs.Rows.{decoded, encoded}
 use Rattle.pr_world.specs.Outcome.{IsNotBefore, Outcome, refuse, accept, Change, nothing_else, targets_become, groups_become, reloads, begins_anew, changed_by, unless_backwards}
-use Rattle.pr_world.specs.Step.{next, outcome_in_time, step_by, time_of}
+use Rattle.pr_world.specs.Settings.{Settings}
+use Rattle.pr_world.specs.Step.{Step, next, outcome_in_time, step_by, time_of}
 use Rattle.pr_world.specs.World.{World}
 use Rattle.pr_world.specs.declared.event.Event.{Event}
 use Rattle.pr_world.specs.declared.report.Report.TheVariants as report
@@ -46,6 +47,14 @@ stepped_last w time (accept report entries change) = changed_last change w time 
 
 pub last_in_time : (step : ℕ) (w : World) (e : Event) → (step_in_time step w e).world.last ≡ cond (step_in_time step w e).refused w.last (Some (time_of e))
 last_in_time step w e = stepped_last w (time_of e) (outcome_in_time (settings_of step) w e)
+
+-- what is refused adds nothing
+refused_adds : (w : World) (time : ℕ) (o : Outcome) → (step_by w time o).refused ≡ true → (step_by w time o).rows ≡ []
+refused_adds w time (refuse report) is = refl
+refused_adds w time (accept report entries change) is = absurd (true≢false (sym is))
+
+pub refused_rows : (step : ℕ) (w : World) (e : Event) → (step_in_time step w e).refused ≡ true → (step_in_time step w e).rows ≡ []
+refused_rows step w e is = refused_adds w (time_of e) (outcome_in_time (settings_of step) w e) is
 
 -- rows that tell a history, and then the rows of entries that are added to it
 told_more : (index : ℕ) (before history : List Entry) (rows more : List (Option Entry)) → history_after index before rows ≡ Ok history
@@ -119,3 +128,13 @@ in_time step w e h = by w.last refl h where
   by : (last : Option ℕ) → w.last ≡ last → IsNotBefore last (time_of e) → next (settings_of step) w e ≡ step_in_time step w e
   by None is h = first_in_time step w e is
   by (Some last) is h = later_in_time step w e last is h
+
+pub refused_in_time : (step : ℕ) (w : World) (e : Event) → IsNotBefore w.last (time_of e) → (next (settings_of step) w e).refused ≡ true → (step_in_time step w e).refused ≡ true
+refused_in_time step w e late is = sym (ap (λ (s : Step). s.refused) (in_time step w e late)) ∙ is
+
+-- an event that is before the last one
+pub backwards_refused : (s : Settings) (w : World) (e : Event) (last : ℕ) → w.last ≡ Some last → nat_lt (time_of e) last ≡ true → (next s w e).refused ≡ true
+unfolding next
+backwards_refused s w e last is early =
+    ap (λ (l : Option ℕ). (step_by w (time_of e) (unless_backwards l (time_of e) (outcome_in_time s w e))).refused) is
+    ∙ ap (λ (b : Bool). (step_by w (time_of e) (cond b (refuse (report.Backwards last (time_of e))) (outcome_in_time s w e))).refused) early

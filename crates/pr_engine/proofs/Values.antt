@@ -174,6 +174,10 @@ told_in_time step w e r refused late told is =
     let same = in_time step w e late in
     is ∙ ap is_refusal told ∙ sym (ap (λ (s : Step). is_refusal s.report) same) ∙ refusal_is_told (settings_of step) w e ∙ ap (λ (s : Step). s.refused) same
 
+-- what is kept is as it was, where the head and the groups are
+pub same_parts : {R : Type 0} (k : KeptParts R) (head : Series) (manager : KeptManager R) → head ≡ k.head → manager ≡ k.manager → record { head = head; targets = k.targets; manager = manager } ≡ k
+same_parts k head manager h m = λ i. record { head = h i; targets = k.targets; manager = m i }
+
 -- A head of which samples are forgotten
 
 pub none_until : (head : Series) (x : ℤ) → HoldsNoneUntil (trimmed x head) x

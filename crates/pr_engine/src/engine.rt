@@ -9,6 +9,7 @@ ghost use Rattle.pr_world.specs.World.{World};
 ghost use Rattle.pr_engine.specs.declared.fault.Cause.{Cause};
 ghost use Rattle.pr_engine.specs.Causes.{HasApplyCause, HasStartCause, broken_after, cause_of, last_after};
 ghost use Rattle.pr_engine.specs.Events.{IsKnownAfter, event_cost, is_restart, settings_of};
+ghost use Rattle.pr_engine.specs.Passing.{EventPasses};
 ghost use Rattle.pr_engine.specs.Standing.{Forgets, StandsFor, StandsForSome, Starts};
 
 use crate::fault::{ApplyError, Cause, StartError};
@@ -147,8 +148,14 @@ impl<R: Ranges + Drop> Engine<R> {
         ensures world { (w : World) → StandsFor R.fits R.last R.passed self.old (K.means keeper.old) w → IsKnownAfter event (K.means keeper.new)
             → OnOk result (StandsFor R.fits R.last R.passed self.new (K.means keeper.new) (next (settings_of self.old.step) w event).world) }
         ensures some { (w : World) → StandsFor R.fits R.last R.passed self.old (K.means keeper.old) w → OnOk result (StandsForSome R.fits R.last R.passed self.new (K.means keeper.new)) }
+        ensures passed { (w : World) → StandsFor R.fits R.last R.passed self.old (K.means keeper.old) w
+            → OnOk result (EventPasses R.keeps self.old.step w event (passed_by_named R.passed self.old.parts.manager w.history) (passed_by_named R.passed self.new.parts.manager (next (settings_of self.old.step) w event).world.history)) }
+        ensures refused { (w : World) → StandsFor R.fits R.last R.passed self.old (K.means keeper.old) w → (next (settings_of self.old.step) w event).refused ≡ true
+            → (keeper.new ≡ keeper.old) × OnOk result ((self.new ≡ self.old) × StandsFor R.fits R.last R.passed self.new (K.means keeper.new) w) }
         ensures forgets { IfOk result (λ r. Forgets event r self.new.parts.head) }
         ensures err { (w : World) → StandsFor R.fits R.last R.passed self.old (K.means keeper.old) w → OnErr result (StandsFor R.fits R.last R.passed self.new (K.means keeper.new) w) }
+        ensures rows { OnErr result (KeepsRows (K.means keeper.old).rows (K.means keeper.new).rows) }
+        ensures count { OnErr result ((K.means keeper.new).count ≡ (K.means keeper.old).count) }
         ensures broken { self.new.broken ≡ broken_after self.old.broken result }
         ensures step { self.new.step ≡ self.old.step }
         ensures none { (w : World) → StandsFor R.fits R.last R.passed self.old (K.means keeper.old) w → is_restart event ≡ false → (next (settings_of self.old.step) w event).rows ≡ []
@@ -175,7 +182,7 @@ impl<R: Ranges + Drop> Engine<R> {
     /// of the first row that is the row of no entry, or is not added to those before it. Then the
     /// store has the rows from before the event, and all but restarts are answered by `Broken`, with
     /// the first cause, until one succeeds.
-    #[tactic(auto, unfolding(pr_world::specs::Step::next))]
+    #[tactic(auto, unfolding(pr_world::specs::Step::next), using(crate::proofs::Told::keeps_same))]
     pub fn apply<K: Keeper, G: Ledger>(
         &mut self,
         alloc: Global,
@@ -189,16 +196,25 @@ impl<R: Ranges + Drop> Engine<R> {
             → OnOk result (StandsFor R.fits R.last R.passed self.new (K.means keeper.new) (next (settings_of self.old.step) w event).world) }
         // Also after a restart over a store that does not tell its rows.
         ensures some { (w : World) → StandsFor R.fits R.last R.passed self.old (K.means keeper.old) w → OnOk result (StandsForSome R.fits R.last R.passed self.new (K.means keeper.new)) }
+        // What was passed of the groups goes on from event to event, also over reloads.
+        ensures passed { (w : World) → StandsFor R.fits R.last R.passed self.old (K.means keeper.old) w → (next (settings_of self.old.step) w event).refused ≡ false
+            → OnOk result (EventPasses R.keeps self.old.step w event (passed_by_named R.passed self.old.parts.manager w.history) (passed_by_named R.passed self.new.parts.manager (next (settings_of self.old.step) w event).world.history)) }
+        // A refused event leaves the engine as it was, standing for the same world, and makes no commit.
+        ensures refused { (w : World) → StandsFor R.fits R.last R.passed self.old (K.means keeper.old) w → (next (settings_of self.old.step) w event).refused ≡ true
+            → (keeper.new ≡ keeper.old) × OnOk result ((self.new ≡ self.old) × StandsFor R.fits R.last R.passed self.new (K.means keeper.new) w) }
         // After an accepted evaluation no sample is held that is 45 days old.
         ensures forgets { IfOk result (λ r. Forgets event r self.new.parts.head) }
-        // After an error the store has the rows of before, and the time is that of the last event.
+        // After an error the store has the rows of before.
+        ensures rows { OnErr result (KeepsRows (K.means keeper.old).rows (K.means keeper.new).rows) }
+        ensures count { OnErr result ((K.means keeper.new).count ≡ (K.means keeper.old).count) }
+        // They tell the history of the same world, and the time is that of the last event.
         ensures err { (w : World) → StandsFor R.fits R.last R.passed self.old (K.means keeper.old) w → OnErr result (StandsFor R.fits R.last R.passed self.new (K.means keeper.new) w) }
         // What breaks the engine first is kept until a restart succeeds.
         ensures broken { self.new.broken ≡ broken_after self.old.broken result }
         ensures refuses { (first : Cause) → self.old.broken ≡ Some first → is_restart event ≡ false → result ≡ Err (ApplyError.Broken first) }
         ensures only { (first : Cause) → result ≡ Err (ApplyError.Broken first) → (self.old.broken ≡ Some first) × (is_restart event ≡ false) }
         ensures step { self.new.step ≡ self.old.step }
-        // No commit is made for an event that adds nothing, a refused one among them.
+        // No commit is made for an event that adds nothing.
         ensures none { (w : World) → StandsFor R.fits R.last R.passed self.old (K.means keeper.old) w → is_restart event ≡ false → (next (settings_of self.old.step) w event).rows ≡ []
             → keeper.new ≡ keeper.old }
         ensures told { IsSome (K.means keeper.new).rows → IsSome (K.means keeper.old).rows }

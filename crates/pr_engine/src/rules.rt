@@ -4,6 +4,7 @@ ghost use Rattle.std.specs.List.{IsDistinct};
 ghost use Rattle.std.specs.Str.{bytes_eq};
 ghost use Rattle.pr_history.specs.declared.entry.Entry.{Entry};
 ghost use Rattle.pr_manager.specs.Naming.{passed_by_named};
+ghost use Rattle.pr_manager.specs.Passing.{EvaluationPasses, ReloadPasses};
 ghost use Rattle.pr_manager.specs.Rounds.{eval_cost};
 ghost use Rattle.pr_world.specs.Outcome.{IsNotBefore, is_refusal};
 ghost use Rattle.pr_world.specs.World.{World};
@@ -69,6 +70,9 @@ impl<R: Ranges + Drop> Standing<R> {
         ensures rows { (step : ℕ) (w : World) → KeepsBefore R.fits R.last R.passed step self.old w time → IfOk result (λ t. added_in t ≡ (step_in_time step w (Eval time file group)).rows) }
         ensures world { (step : ℕ) (w : World) → KeepsBefore R.fits R.last R.passed step self.old w time
             → OnOk result (KeepsWorld R.fits R.last R.passed step self.new (step_in_time step w (Eval time file group)).world) }
+        ensures passed { (step : ℕ) (w : World) → KeepsBefore R.fits R.last R.passed step self.old w time
+            → OnOk result (EvaluationPasses R.keeps (settings_of step) w time file group (passed_by_named R.passed self.old.manager w.history) (passed_by_named R.passed self.new.manager (step_in_time step w (Eval time file group)).world.history)) }
+        ensures refused { (step : ℕ) (w : World) → KeepsBefore R.fits R.last R.passed step self.old w time → (step_in_time step w (Eval time file group)).refused ≡ true → OnOk result (self.new ≡ self.old) }
         ensures forgets { IfOk result (λ t. is_refusal (report_in t) ≡ false → HoldsNoneUntil self.new.head (forgotten_at time)) }
         ensures reads { (step : ℕ) (w : World) → KeepsBefore R.fits R.last R.passed step self.old w time
             → reads.new ≤ reads.old + eval_cost (settings_of step) w time file group (passed_by_named R.passed self.old.manager w.history file group) }
@@ -93,6 +97,9 @@ impl<R: Ranges + Drop> Standing<R> {
         ensures rows { (step : ℕ) (w : World) → KeepsBefore R.fits R.last R.passed step self.old w time → IfOk result (λ t. added_in t ≡ (step_in_time step w (Reload time files)).rows) }
         ensures world { (step : ℕ) (w : World) → KeepsBefore R.fits R.last R.passed step self.old w time
             → OnOk result (KeepsWorld R.fits R.last R.passed step self.new (step_in_time step w (Reload time files)).world) }
+        ensures passed { (step : ℕ) (w : World) → KeepsBefore R.fits R.last R.passed step self.old w time
+            → OnOk result (ReloadPasses w time files (passed_by_named R.passed self.old.manager w.history) (passed_by_named R.passed self.new.manager (step_in_time step w (Reload time files)).world.history)) }
+        ensures refused { (step : ℕ) (w : World) → KeepsBefore R.fits R.last R.passed step self.old w time → (step_in_time step w (Reload time files)).refused ≡ true → OnOk result (self.new ≡ self.old) }
     {
         let answered = self.manager.reload(alloc, &mut self.head, files, time)?;
         Ok(Taken::Told {

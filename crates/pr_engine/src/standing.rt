@@ -14,6 +14,7 @@ ghost use Rattle.pr_world.specs.declared.report.Report.TheVariants.{Restarted};
 ghost use Rattle.pr_engine.specs.Causes.{HasApplyCause, HasStartCause};
 ghost use Rattle.pr_engine.specs.declared.fault.Cause.{Cause};
 ghost use Rattle.pr_engine.specs.Events.{IsKnownAfter, event_cost, is_restart, step_in_time};
+ghost use Rattle.pr_engine.specs.Passing.{EventPasses};
 ghost use Rattle.pr_engine.specs.Rows.{TellsOf};
 ghost use Rattle.pr_engine.specs.Standing.{Begins, Forgets, IsHeadOf, KeepsBefore, KeepsWorld};
 ghost use Rattle.pr_engine.specs.Taken.{added_in, report_in};
@@ -108,6 +109,8 @@ impl<R: Ranges + Drop> Standing<R> {
         ensures rows { (step : ℕ) (w : World) → KeepsBefore R.fits R.last R.passed step self.old w time → IfOk result (λ t. added_in t ≡ rows_by (admit w.history labels time point) (entry_of time labels point)) }
         ensures world { (step : ℕ) (w : World) → KeepsBefore R.fits R.last R.passed step self.old w time
             → OnOk result (KeepsWorld R.fits R.last R.passed step self.new (step_by w time (outcome_by (admit w.history labels time point) (entry_of time labels point))).world) }
+        ensures passed { (step : ℕ) (w : World) → KeepsBefore R.fits R.last R.passed step self.old w time
+            → OnOk result (passed_by_named R.passed self.new.manager (step_by w time (outcome_by (admit w.history labels time point) (entry_of time labels point))).world.history ≡ passed_by_named R.passed self.old.manager w.history) }
     {
         kept_groups_stay::<R>();
         let answer = put(&mut self.head, &labels, time, point)?;
@@ -136,6 +139,8 @@ impl<R: Ranges + Drop> Standing<R> {
         ensures rows { (step : ℕ) (w : World) → KeepsBefore R.fits R.last R.passed step self.old w time → IfOk result (λ t. added_in t ≡ (scrape_step w.targets w.history target time body.now).answer.admitted) }
         ensures world { (step : ℕ) (w : World) → KeepsBefore R.fits R.last R.passed step self.old w time
             → OnOk result (KeepsWorld R.fits R.last R.passed step self.new (step_by w time (scrape_outcome (scrape_step w.targets w.history target time body.now))).world) }
+        ensures passed { (step : ℕ) (w : World) → KeepsBefore R.fits R.last R.passed step self.old w time
+            → OnOk result (passed_by_named R.passed self.new.manager (step_by w time (scrape_outcome (scrape_step w.targets w.history target time body.now))).world.history ≡ passed_by_named R.passed self.old.manager w.history) }
     {
         if body.len() >= BODY_LIMIT {
             return Err(AllocError);
@@ -156,6 +161,8 @@ impl<R: Ranges + Drop> Standing<R> {
         ensures rows { (step : ℕ) (w : World) → KeepsBefore R.fits R.last R.passed step self.old w time → IfOk result (λ t. added_in t ≡ (fail_step w.targets w.history target time).answer.admitted) }
         ensures world { (step : ℕ) (w : World) → KeepsBefore R.fits R.last R.passed step self.old w time
             → OnOk result (KeepsWorld R.fits R.last R.passed step self.new (step_by w time (fail_outcome (fail_step w.targets w.history target time))).world) }
+        ensures passed { (step : ℕ) (w : World) → KeepsBefore R.fits R.last R.passed step self.old w time
+            → OnOk result (passed_by_named R.passed self.new.manager (step_by w time (fail_outcome (fail_step w.targets w.history target time))).world.history ≡ passed_by_named R.passed self.old.manager w.history) }
     {
         kept_groups_stay::<R>();
         let scraped = self.targets.fail(alloc, &mut self.head, target, time)?;
@@ -173,6 +180,8 @@ impl<R: Ranges + Drop> Standing<R> {
         ensures rows { (step : ℕ) (w : World) → KeepsBefore R.fits R.last R.passed step self.old w time → IfOk result (λ t. added_in t ≡ (gone_step w.targets w.history target.now time).answer.admitted) }
         ensures world { (step : ℕ) (w : World) → KeepsBefore R.fits R.last R.passed step self.old w time
             → OnOk result (KeepsWorld R.fits R.last R.passed step self.new (step_by w time (gone_outcome (gone_step w.targets w.history target.now time))).world) }
+        ensures passed { (step : ℕ) (w : World) → KeepsBefore R.fits R.last R.passed step self.old w time
+            → OnOk result (passed_by_named R.passed self.new.manager (step_by w time (gone_outcome (gone_step w.targets w.history target.now time))).world.history ≡ passed_by_named R.passed self.old.manager w.history) }
     {
         kept_groups_stay::<R>();
         let ended = self.targets.gone(alloc, &mut self.head, target, time)?;
@@ -183,7 +192,7 @@ impl<R: Ranges + Drop> Standing<R> {
     }
 
     // Changes what is kept by an event that is not before the last one, and is no restart.
-    #[tactic(auto, using(crate::proofs::Values::asked_report, crate::proofs::Values::asked_rows, crate::proofs::Values::asked_keeps, crate::proofs::Values::still_keeps, crate::proofs::Values::may_evaluate, crate::proofs::Queries::no_reads))]
+    #[tactic(auto, using(crate::proofs::Values::asked_report, crate::proofs::Values::asked_rows, crate::proofs::Values::asked_keeps, crate::proofs::Values::still_keeps, crate::proofs::Values::may_evaluate, crate::proofs::Queries::no_reads, crate::proofs::Passing::asked_passes, crate::proofs::Passing::listed_passes))]
     fn change<G: Ledger>(
         &mut self,
         alloc: Global,
@@ -198,6 +207,9 @@ impl<R: Ranges + Drop> Standing<R> {
         ensures rows { (w : World) → KeepsBefore R.fits R.last R.passed step self.old w (time_of event) → IfOk result (λ t. added_in t ≡ (step_in_time step w event).rows) }
         ensures world { (w : World) → KeepsBefore R.fits R.last R.passed step self.old w (time_of event)
             → OnOk result (KeepsWorld R.fits R.last R.passed step self.new (step_in_time step w event).world) }
+        ensures passed { (w : World) → KeepsBefore R.fits R.last R.passed step self.old w (time_of event)
+            → OnOk result (EventPasses R.keeps step w event (passed_by_named R.passed self.old.manager w.history) (passed_by_named R.passed self.new.manager (step_in_time step w event).world.history)) }
+        ensures refused { (w : World) → KeepsBefore R.fits R.last R.passed step self.old w (time_of event) → (step_in_time step w event).refused ≡ true → OnOk result (self.new ≡ self.old) }
         ensures forgets { IfOk result (λ t. Forgets event (report_in t) self.new.head) }
         ensures reads { (w : World) → KeepsBefore R.fits R.last R.passed step self.old w (time_of event)
             → reads.new ≤ reads.old + event_cost step (passed_by_named R.passed self.old.manager w.history) w event }
@@ -226,7 +238,7 @@ impl<R: Ranges + Drop> Standing<R> {
     // Takes an event that is not before the last one, and is no restart: changes what is kept, and
     // then keeps the rows of what was added. After an error nothing is known of what is kept, and the
     // store has the rows of before.
-    #[tactic(auto, using(crate::proofs::Answering::kept_tells, crate::proofs::Answering::tells_still, crate::proofs::Answering::some_before, crate::proofs::Steps::told_before))]
+    #[tactic(auto, using(crate::proofs::Answering::kept_tells, crate::proofs::Answering::tells_still, crate::proofs::Answering::some_before, crate::proofs::Steps::told_before, crate::proofs::Told::keeps_same))]
     fn take<K: Keeper, G: Ledger>(
         &mut self,
         alloc: Global,
@@ -241,11 +253,16 @@ impl<R: Ranges + Drop> Standing<R> {
         ensures report { (w : World) → KeepsBefore R.fits R.last R.passed step self.old w (time_of event) → IfOk result (λ r. r ≡ (step_in_time step w event).report) }
         ensures world { (w : World) → KeepsBefore R.fits R.last R.passed step self.old w (time_of event)
             → OnOk result (KeepsWorld R.fits R.last R.passed step self.new (step_in_time step w event).world) }
+        ensures passed { (w : World) → KeepsBefore R.fits R.last R.passed step self.old w (time_of event)
+            → OnOk result (EventPasses R.keeps step w event (passed_by_named R.passed self.old.manager w.history) (passed_by_named R.passed self.new.manager (step_in_time step w event).world.history)) }
+        ensures refused { (w : World) → KeepsBefore R.fits R.last R.passed step self.old w (time_of event) → (step_in_time step w event).refused ≡ true → OnOk result (self.new ≡ self.old) }
         ensures forgets { IfOk result (λ r. Forgets event r self.new.head) }
         ensures tells { (w : World) → KeepsBefore R.fits R.last R.passed step self.old w (time_of event) → TellsOf (K.means keeper.old) w.history
             → OnOk result (TellsOf (K.means keeper.new) (step_in_time step w event).world.history) }
         ensures none { (w : World) → KeepsBefore R.fits R.last R.passed step self.old w (time_of event) → (step_in_time step w event).rows ≡ [] → keeper.new ≡ keeper.old }
         ensures err { (w : World) → TellsOf (K.means keeper.old) w.history → OnErr result (TellsOf (K.means keeper.new) w.history) }
+        ensures rows { OnErr result (KeepsRows (K.means keeper.old).rows (K.means keeper.new).rows) }
+        ensures count { OnErr result ((K.means keeper.new).count ≡ (K.means keeper.old).count) }
         ensures told { IsSome (K.means keeper.new).rows → IsSome (K.means keeper.old).rows }
         ensures cause { HasKeepCause (K.means keeper.old).faults (K.means keeper.new).faults result }
         ensures reads { (w : World) → KeepsBefore R.fits R.last R.passed step self.old w (time_of event)
@@ -299,6 +316,7 @@ impl<R: Ranges + Drop> Standing<R> {
         ensures tells { (w : World) → TellsOf (K.means keeper.old) w.history → TellsOf (K.means keeper.new) w.history }
         ensures bad { (at : ℕ) → result ≡ Err (StartError.BadRow at) → IfSome (K.means keeper.new).rows (λ rows. history_of rows ≡ Err at) }
         ensures same { KeepsRows (K.means keeper.old).rows (K.means keeper.new).rows }
+        ensures count { (K.means keeper.new).count ≡ (K.means keeper.old).count }
         ensures cause { HasStartCause (K.means keeper.old).faults (K.means keeper.new).faults result }
     {
         match Standing::<R>::begin(alloc, keeper, step) {
@@ -331,9 +349,14 @@ impl<R: Ranges + Drop> Standing<R> {
             → OnOk result (KeepsWorld R.fits R.last R.passed step self.new (step_in_time step w event).world) }
         ensures tells { (w : World) → TellsOf (K.means keeper.old) w.history → (is_restart event ≡ false → KeepsBefore R.fits R.last R.passed step self.old w (time_of event))
             → OnOk result (TellsOf (K.means keeper.new) (step_in_time step w event).world.history) }
+        ensures passed { (w : World) → (is_restart event ≡ false → KeepsBefore R.fits R.last R.passed step self.old w (time_of event))
+            → OnOk result (EventPasses R.keeps step w event (passed_by_named R.passed self.old.manager w.history) (passed_by_named R.passed self.new.manager (step_in_time step w event).world.history)) }
+        ensures refused { (w : World) → KeepsBefore R.fits R.last R.passed step self.old w (time_of event) → is_restart event ≡ false → (step_in_time step w event).refused ≡ true → OnOk result (self.new ≡ self.old) }
         ensures anew { is_restart event ≡ true → OnOk result (Begins R.fits R.last R.passed step self.new (K.means keeper.new)) }
         ensures forgets { IfOk result (λ r. Forgets event r self.new.head) }
         ensures err { (w : World) → TellsOf (K.means keeper.old) w.history → OnErr result (TellsOf (K.means keeper.new) w.history) }
+        ensures rows { OnErr result (KeepsRows (K.means keeper.old).rows (K.means keeper.new).rows) }
+        ensures count { OnErr result ((K.means keeper.new).count ≡ (K.means keeper.old).count) }
         ensures none { (w : World) → KeepsBefore R.fits R.last R.passed step self.old w (time_of event) → is_restart event ≡ false → (step_in_time step w event).rows ≡ [] → keeper.new ≡ keeper.old }
         ensures told { IsSome (K.means keeper.new).rows → IsSome (K.means keeper.old).rows }
         ensures bad { (at : ℕ) → result ≡ Err (ApplyError.BadRow at) → (is_restart event ≡ true) × IfSome (K.means keeper.new).rows (λ rows. history_of rows ≡ Err at) }

@@ -1,9 +1,10 @@
-use Rattle.std.proofs.Common.{◌≡◌, ◌+◌, ◌≤◌, ℕ, List, IfOk, sym, subst}
+use Rattle.std.proofs.Common.{◌≡◌, ◌∙◌, ◌+◌, ◌≤◌, ℕ, true, List, IfOk, OnOk, ap, sym, subst, true≢false}
 use Rattle.pr_manager.specs.Naming.{passed_by_named}
 use Rattle.pr_world.specs.Step.{time_of}
 use Rattle.pr_world.specs.declared.event.Event.{Event}
 use Rattle.pr_world.specs.declared.event.Event.TheVariants.{Scrape}
 use Rattle.pr_engine.specs.Events.{event_cost, step_in_time}
+use Rattle.pr_engine.specs.Passing.{EventPasses}
 use Rattle.pr_engine.specs.Standing.{KeepsBefore}
 use Rattle.pr_engine.specs.Taken.{added_in, report_in}
 use Rattle.pr_engine.proofs.standing.Standing.change.Goals as goal
@@ -105,3 +106,69 @@ returns-in-Eval-clause-reads g c = λ w before.
     let b = subst (λ (e : Event). KeepsBefore R.fits R.last R.passed c.args.step c.args.self.now w (time_of e)) c.in-Eval.is before in
     subst (λ (e : Event). c.take_evaluation.new.reads ≤ c.args.reads.now + event_cost c.args.step (passed_by_named R.passed c.args.self.now.manager w.history) w e) (sym c.in-Eval.is)
     (c.take_evaluation.ensures.reads c.args.step w b)
+
+pub returns-in-Add-clause-passed : goal.returns-in-Add-clause-passed
+returns-in-Add-clause-passed g c = λ w before.
+    let R = g.R.Ranges in
+    let b = subst (λ (e : Event). KeepsBefore R.fits R.last R.passed c.args.step c.args.self.now w (time_of e)) c.in-Add.is before in
+    subst (λ (e : Event). OnOk c.take_sample.result (EventPasses R.keeps c.args.step w e (passed_by_named R.passed c.args.self.now.manager w.history) (passed_by_named R.passed c.take_sample.new.self.manager (step_in_time c.args.step w e).world.history))) (sym c.in-Add.is)
+    (c.take_sample.ensures.passed c.args.step w b)
+
+pub returns-in-Scrape-clause-passed : goal.returns-in-Scrape-clause-passed
+returns-in-Scrape-clause-passed g c = λ w before.
+    let R = g.R.Ranges in
+    let b = subst (λ (e : Event). KeepsBefore R.fits R.last R.passed c.args.step c.args.self.now w (time_of e)) c.in-Scrape.is before in
+    subst (λ (e : Event). OnOk c.take_scrape.result (EventPasses R.keeps c.args.step w e (passed_by_named R.passed c.args.self.now.manager w.history) (passed_by_named R.passed c.take_scrape.new.self.manager (step_in_time c.args.step w e).world.history))) (sym c.in-Scrape.is)
+    (subst (λ (body : List ℕ). OnOk c.take_scrape.result (EventPasses R.keeps c.args.step w (Scrape c.in-Scrape.time c.in-Scrape.target body) (passed_by_named R.passed c.args.self.now.manager w.history) (passed_by_named R.passed c.take_scrape.new.self.manager (step_in_time c.args.step w (Scrape c.in-Scrape.time c.in-Scrape.target body)).world.history))) c.as_slice.ensures (c.take_scrape.ensures.passed c.args.step w b))
+
+pub returns-in-Fail-clause-passed : goal.returns-in-Fail-clause-passed
+returns-in-Fail-clause-passed g c = λ w before.
+    let R = g.R.Ranges in
+    let b = subst (λ (e : Event). KeepsBefore R.fits R.last R.passed c.args.step c.args.self.now w (time_of e)) c.in-Fail.is before in
+    subst (λ (e : Event). OnOk c.take_failure.result (EventPasses R.keeps c.args.step w e (passed_by_named R.passed c.args.self.now.manager w.history) (passed_by_named R.passed c.take_failure.new.self.manager (step_in_time c.args.step w e).world.history))) (sym c.in-Fail.is)
+    (c.take_failure.ensures.passed c.args.step w b)
+
+pub returns-in-Gone-clause-passed : goal.returns-in-Gone-clause-passed
+returns-in-Gone-clause-passed g c = λ w before.
+    let R = g.R.Ranges in
+    let b = subst (λ (e : Event). KeepsBefore R.fits R.last R.passed c.args.step c.args.self.now w (time_of e)) c.in-Gone.is before in
+    subst (λ (e : Event). OnOk c.take_end.result (EventPasses R.keeps c.args.step w e (passed_by_named R.passed c.args.self.now.manager w.history) (passed_by_named R.passed c.take_end.new.self.manager (step_in_time c.args.step w e).world.history))) (sym c.in-Gone.is)
+    (c.take_end.ensures.passed c.args.step w b)
+
+pub returns-in-Eval-clause-passed : goal.returns-in-Eval-clause-passed
+returns-in-Eval-clause-passed g c = λ w before.
+    let R = g.R.Ranges in
+    let b = subst (λ (e : Event). KeepsBefore R.fits R.last R.passed c.args.step c.args.self.now w (time_of e)) c.in-Eval.is before in
+    subst (λ (e : Event). OnOk c.take_evaluation.result (EventPasses R.keeps c.args.step w e (passed_by_named R.passed c.args.self.now.manager w.history) (passed_by_named R.passed c.take_evaluation.new.self.manager (step_in_time c.args.step w e).world.history))) (sym c.in-Eval.is)
+    (c.take_evaluation.ensures.passed c.args.step w b)
+
+pub returns-in-Reload-clause-passed : goal.returns-in-Reload-clause-passed
+returns-in-Reload-clause-passed g c = λ w before.
+    let R = g.R.Ranges in
+    let b = subst (λ (e : Event). KeepsBefore R.fits R.last R.passed c.args.step c.args.self.now w (time_of e)) c.in-Reload.is before in
+    subst (λ (e : Event). OnOk c.take_reload.result (EventPasses R.keeps c.args.step w e (passed_by_named R.passed c.args.self.now.manager w.history) (passed_by_named R.passed c.take_reload.new.self.manager (step_in_time c.args.step w e).world.history))) (sym c.in-Reload.is)
+    (c.take_reload.ensures.passed c.args.step w b)
+
+pub returns-in-Add-clause-refused : goal.returns-in-Add-clause-refused
+returns-in-Add-clause-refused g c = λ w before refused. absurd (true≢false (sym refused ∙ ap (λ (e : Event). (step_in_time c.args.step w e).refused) c.in-Add.is))
+
+pub returns-in-Scrape-clause-refused : goal.returns-in-Scrape-clause-refused
+returns-in-Scrape-clause-refused g c = λ w before refused. absurd (true≢false (sym refused ∙ ap (λ (e : Event). (step_in_time c.args.step w e).refused) c.in-Scrape.is))
+
+pub returns-in-Fail-clause-refused : goal.returns-in-Fail-clause-refused
+returns-in-Fail-clause-refused g c = λ w before refused. absurd (true≢false (sym refused ∙ ap (λ (e : Event). (step_in_time c.args.step w e).refused) c.in-Fail.is))
+
+pub returns-in-Gone-clause-refused : goal.returns-in-Gone-clause-refused
+returns-in-Gone-clause-refused g c = λ w before refused. absurd (true≢false (sym refused ∙ ap (λ (e : Event). (step_in_time c.args.step w e).refused) c.in-Gone.is))
+
+pub returns-in-Eval-clause-refused : goal.returns-in-Eval-clause-refused
+returns-in-Eval-clause-refused g c = λ w before refused.
+    let R = g.R.Ranges in
+    let b = subst (λ (e : Event). KeepsBefore R.fits R.last R.passed c.args.step c.args.self.now w (time_of e)) c.in-Eval.is before in
+    c.take_evaluation.ensures.refused c.args.step w b (subst (λ (e : Event). (step_in_time c.args.step w e).refused ≡ true) c.in-Eval.is refused)
+
+pub returns-in-Reload-clause-refused : goal.returns-in-Reload-clause-refused
+returns-in-Reload-clause-refused g c = λ w before refused.
+    let R = g.R.Ranges in
+    let b = subst (λ (e : Event). KeepsBefore R.fits R.last R.passed c.args.step c.args.self.now w (time_of e)) c.in-Reload.is before in
+    c.take_reload.ensures.refused c.args.step w b (subst (λ (e : Event). (step_in_time c.args.step w e).refused ≡ true) c.in-Reload.is refused)

@@ -1,6 +1,8 @@
-use Rattle.std.proofs.Common.{◌∙◌, ap, sym, subst}
+use Rattle.std.proofs.Common.{◌≡◌, ◌++◌, List, ◌∙◌, ap, sym, subst}
 use Rattle.pr_history.specs.Admission.{admit}
 use Rattle.pr_world.specs.Step.{entry_of, report_of, rows_by}
+use Rattle.pr_history.specs.declared.entry.Entry.{Entry}
+use Rattle.pr_manager.specs.Naming.{passed_by_named}
 use Rattle.pr_engine.specs.Standing.{KeepsBefore, KeptParts}
 use Rattle.pr_engine.proofs.Values.{grown_keeps}
 use Rattle.pr_engine.proofs.standing.Standing.take_sample.Goals as goal
@@ -28,3 +30,12 @@ returns-clause-world g c = λ step w before.
     (rows_by (admit w.history c.args.labels c.args.time c.args.point) (entry_of c.args.time c.args.labels c.args.point)) b
     (λ more lawful. c.kept_groups_stay.ensures.keeps kept.manager w.history more w.groups w.reloaded b.keeps.groups lawful)
     (c.in_ok-answer.ensures.head w.last w.history b.keeps.head) b.keeps.targets
+
+pub returns-clause-passed : goal.returns-clause-passed
+returns-clause-passed g c = λ step w before.
+    let R = g.R.Ranges in
+    let kept : KeptParts g.row.R.Denot = record { head = c.self.inside.head; targets = c.self.inside.targets; manager = c.self.inside.manager } in
+    let b : KeepsBefore R.fits R.last R.passed step kept w c.args.time = subst (λ (k : KeptParts g.row.R.Denot). KeepsBefore R.fits R.last R.passed step k w c.args.time) (sym c.self.view_is) before in
+    let added : List Entry = rows_by (admit w.history c.args.labels c.args.time c.args.point) (entry_of c.args.time c.args.labels c.args.point) in
+    subst (λ (k : KeptParts g.row.R.Denot). passed_by_named R.passed kept.manager (w.history ++ added) ≡ passed_by_named R.passed k.manager w.history) c.self.view_is
+    (c.kept_groups_stay.ensures.passed kept.manager w.history added w.groups w.reloaded b.keeps.groups)

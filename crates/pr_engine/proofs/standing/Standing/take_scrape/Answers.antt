@@ -1,4 +1,6 @@
-use Rattle.std.proofs.Common.{sym, subst}
+use Rattle.std.proofs.Common.{◌≡◌, ◌++◌, List, sym, subst}
+use Rattle.pr_history.specs.declared.entry.Entry.{Entry}
+use Rattle.pr_manager.specs.Naming.{passed_by_named}
 use Rattle.pr_engine.specs.Standing.{KeepsBefore, KeptParts}
 use Rattle.pr_engine.proofs.Values.{taken_keeps}
 use Rattle.pr_world.specs.Targets.{scrape_step}
@@ -15,3 +17,12 @@ returns-clause-world g c = λ step w before.
     (scrape_puts w.targets w.history c.args.target c.args.time c.args.body.now)
     (c.in_ok-scraped.ensures.taken w.targets w.history b.keeps.targets b.keeps.head.holds)
     (c.in_ok-scraped.ensures.targets w.targets w.history b.keeps.targets b.keeps.head.holds)
+
+pub returns-clause-passed : goal.returns-clause-passed
+returns-clause-passed g c = λ step w before.
+    let R = g.R.Ranges in
+    let kept : KeptParts g.row.R.Denot = record { head = c.self.inside.head; targets = c.self.inside.targets; manager = c.self.inside.manager } in
+    let b : KeepsBefore R.fits R.last R.passed step kept w c.args.time = subst (λ (k : KeptParts g.row.R.Denot). KeepsBefore R.fits R.last R.passed step k w c.args.time) (sym c.self.view_is) before in
+    let added : List Entry = (scrape_step w.targets w.history c.args.target c.args.time c.args.body.now).answer.admitted in
+    subst (λ (k : KeptParts g.row.R.Denot). passed_by_named R.passed kept.manager (w.history ++ added) ≡ passed_by_named R.passed k.manager w.history) c.self.view_is
+    (c.kept_groups_stay.ensures.passed kept.manager w.history added w.groups w.reloaded b.keeps.groups)
