@@ -1,10 +1,7 @@
 // What keeps a world, and answers events.
-ghost use Rattle.std.specs.Prelude.{◌≡◌, ℕ, List, IfOk, IfSome, IsSome, OnErr, OnOk, Ok, Err, map};
-ghost use Rattle.std.specs.List.{IsDistinct};
-ghost use Rattle.std.specs.Str.{bytes_eq};
+ghost use Rattle.std.specs.Prelude.{◌≡◌, IfOk, IsSome, OnErr, OnOk};
 ghost use Rattle.pr_outside.specs.Kept.{StartsRows};
 ghost use Rattle.pr_outside.specs.Meant.{Store};
-ghost use Rattle.pr_row.specs.Histories.{history_of};
 ghost use Rattle.pr_world.specs.Settings.{of_a_run};
 ghost use Rattle.pr_world.specs.Step.{HasDistinctFiles, next};
 ghost use Rattle.pr_world.specs.World.{World};
