@@ -274,9 +274,7 @@ refused_goes_on step w (event.Alerts time) is = refl
 -- leaves an engine as it was
 unmoved : {R : Type 0} (k : Kept R) (parts : KeptParts R) (time : ℕ) (r : Report) → is_refusal r ≡ true → parts ≡ k.parts
     → record { parts = parts; step = k.step; last = last_after k.last time (Ok r); broken = broken_after k.broken (Ok r) } ≡ k
-unmoved {R} k parts time r is same =
-    ap (λ (p : KeptParts R). record { parts = p; step = k.step; last = last_after k.last time (Ok r); broken = broken_after k.broken (Ok r) }) same
-    ∙ ap (λ (b : Bool). record { parts = k.parts; step = k.step; last = cond b k.last (Some time); broken = cond b k.broken None }) is
+unmoved k parts time r is same = λ i. record { parts = same i; step = k.step; last = cond (is i) k.last (Some time); broken = cond (is i) k.broken None }
 
 -- and standing for the same world
 pub refused_stays : {R : Type 0} (fits : R → List Entry → Type 0) (asked : R → LastAsks) (passed : R → Passed) (result : Result Report ApplyError) (k : Kept R) (parts : KeptParts R) (before now : Store) (w : World) (e : Event) (last : Option ℕ) (broken : Option Cause)
