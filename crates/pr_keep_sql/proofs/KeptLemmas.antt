@@ -1,12 +1,12 @@
 -- What calls do to the rows that are told.
-use Rattle.std.proofs.Common.{◌≡◌, ℕ, ◌+◌, ◌≤◌, ◌&&◌, Bool, true, false, cond, List, [], ◌++◌, length, Option, Some, None, IfSome, IsTrue, IsSome, refl, sym, ap, subst, ◌∙◌, arith, slice_get, length-append}
+use Rattle.std.proofs.Common.{◌≡◌, inl, inr, ℕ, ◌+◌, ◌≤◌, ◌&&◌, Bool, true, false, cond, List, [], ◌++◌, length, Option, Some, None, IfSome, IsTrue, IsSome, refl, sym, ap, subst, ◌∙◌, arith, slice_get, length-append}
 use Rattle.sqlite.specs.Effect.{Database, IsDatabase}
 use Rattle.sqlite.specs.State.{HasCleanDisk, IsLive, State}
 use Rattle.sqlite.specs.View.{doubt}
 use Rattle.pr_outside.specs.declared.keeping.Row.{Row as Line}
 use Rattle.pr_outside.specs.Kept.{KeepsRows, AppendsRows}
-use Rattle.pr_keep_sql.specs.Kept.{Keeps, KeepsSo, WhileOpen, listed, told}
-use Rattle.pr_keep_sql.specs.Statements.{Adds, Commits, Makes}
+use Rattle.pr_keep_sql.specs.Kept.{Keeps, KeepsSo, StaysTold, WhileOpen, listed, told}
+use Rattle.pr_keep_sql.specs.Statements.{Adds, Commits, Lasts, Makes}
 use Rattle.pr_keep_sql.specs.Tables.{HasOursFirst, schema_of}
 use Rattle.pr_keep_sql.proofs.StateLemmas.{told_by}
 
@@ -155,3 +155,18 @@ module _ (first : Bool) (old new : State) (size : ℕ) (plain : IsTrue first →
 
   pub read_found : (HasCleanDisk new → IsTrue new.is_open) → HasCleanDisk new → IsTrue first → (rows : List Line) → Keeps old.now rows → told first new ≡ Some rows
   read_found opened clean a = told_rows old.now (told first new) (λ _. read_kept opened clean a)
+
+was_told : (first up clean : Bool) (rows : List Line) → IsSome (cond (first && (up && clean)) (Some rows) None) → IsTrue first × IsTrue up
+was_told true true true rows h = (refl, refl)
+was_told true true false rows h = absurd cc
+was_told true false clean rows h = absurd cc
+was_told false up clean rows h = absurd cc
+
+-- told rows stay told, unless the disk fails
+pub stays_told : (first : Bool) (old new : State) → Lasts old new → HasCleanDisk new → StaysTold (told first old) (told first new) old.faults new.faults
+stays_told first old new lasts clean before =
+    let was = was_told first old.is_open old.is_clean (listed old.now) before in
+    elim (lasts.closes clean was.1) [ inl up ↦ inl (some_told first new clean up was.0) | inr fault ↦ inr fault ]
+
+pub still_told : (first : Bool) (s : State) → StaysTold (told first s) (told first s) s.faults s.faults
+still_told first s = λ before. inl before

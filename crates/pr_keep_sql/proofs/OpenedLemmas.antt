@@ -1,5 +1,5 @@
 -- What a store of a path tells and counts.
-use Rattle.std.proofs.Common.{◌≡◌, ℕ, ◌^◌, ◌<◌, ◌≤◌, Result, Ok, Err, Option, Some, None, List, [], IfOk, OnOk, OnErr, refl, sym, ap, subst, ◌∙◌, arith}
+use Rattle.std.proofs.Common.{◌≡◌, inl, inr, Bool, true, false, MatchBool, ℕ, ◌^◌, ◌<◌, ◌≤◌, Result, Ok, Err, Option, Some, None, List, [], IfOk, OnOk, OnErr, refl, sym, ap, subst, ◌∙◌, arith}
 use Rattle.sqlite.specs.Effect.{Database, IsDatabase}
 use Rattle.sqlite.specs.Files.{AreFoundIn}
 use Rattle.sqlite.specs.Held.{Held, state}
@@ -15,7 +15,7 @@ use Rattle.pr_outside.specs.Kept.{KeepsRows, StartsRows}
 use Rattle.pr_outside.specs.declared.keeping.KeepError.{KeepError}
 use Rattle.pr_outside.specs.declared.keeping.KeepError.TheVariants.{Failed, Memory}
 use Rattle.pr_outside.specs.declared.keeping.Row.{Row as Line}
-use Rattle.pr_keep_sql.specs.Counts.{faults_of}
+use Rattle.pr_keep_sql.specs.Counts.{CountsOnce, CountsOne, faults_of, one_more}
 use Rattle.pr_keep_sql.specs.Kept.{Keeps, listed}
 use Rattle.pr_keep_sql.specs.Opened.{IsFoundIn, TellsOf, rows_in}
 use Rattle.pr_keep_sql.specs.Store.{KeptStore, rows_of}
@@ -70,6 +70,17 @@ counts_first own now small none = omega (arith, none)
 pub counts_refusal : (X : Type 0) (own before now : ℕ) (e : KeepError) → own < 2 ^ 64 → before ≡ 0 → HasKeepCause {T = X} before now (Err e) → HasKeepCause {T = X} own (faults_of own now) (Err e)
 counts_refusal X own before now Failed small none h = (omega (arith, h.0, none), omega arith)
 counts_refusal X own before now Memory small none h = omega (arith, h, none)
+
+-- once
+pub counts_one : (X : Type 0) (own refused odd now_refused now_odd : ℕ) (e : KeepError) → own < 2 ^ 64 → refused ≡ 0 → odd ≡ 0 → CountsOnce {T = X} refused odd now_refused now_odd (Err e)
+    → CountsOne {T = X} own (faults_of own (faults_of now_refused now_odd)) (Err e)
+counts_one X own refused odd now_refused now_odd Memory small none none_odd h = omega (arith, h.0, h.1, none, none_odd, small)
+counts_one X own refused odd now_refused now_odd Failed small none none_odd (inl h) = omega (arith, h.0, h.1, none, none_odd, small)
+counts_one X own refused odd now_refused now_odd Failed small none none_odd (inr h) = omega (arith, h.0, h.1, none, none_odd, small)
+
+pub opening_counts : (X : Type 0) (want : Bool) (answer : KeepError) (own now : ℕ) → MatchBool want ((answer ≡ Memory) × (now ≡ own)) ((answer ≡ Failed) × (now ≡ one_more own)) → CountsOne {T = X} own now (Err answer)
+opening_counts X true answer own now h = rw h.0 h.1
+opening_counts X false answer own now h = rw h.0 h.1
 
 -- an open by what the files held
 pub found_in : (image : Image) (s : State) → Opens s → FindsIn image s → IsFoundIn image s.now

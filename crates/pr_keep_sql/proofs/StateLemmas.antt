@@ -1,14 +1,18 @@
 -- What the statements do to a connection.
-use Rattle.std.proofs.Common.{◌≡◌, ◌⊎◌, inl, inr, ℕ, ◌+◌, pos, List, [], ◌∷◌, ◌++◌, length, length-append, Ok, Err, Result, OnOk, IfOk, IsTrue, sym, ap, subst, ◌∙◌, arith, None, Some, Option, slice_get}
+use Rattle.std.proofs.Common.{◌≡◌, ◌⊎◌, inl, inr, ℕ, ◌+◌, ◌≤◌, pos, true, refl, List, [], ◌∷◌, ◌++◌, length, length-append, Ok, Err, Result, OnOk, IfOk, IsTrue, sym, ap, subst, ◌∙◌, arith, None, Some, Option, slice_get}
 use Rattle.std.proofs.lemmas.List.{append_assoc}
 use Rattle.sqlite.specs.Effect.{Database}
-use Rattle.sqlite.specs.State.{State, ExecutesInside, Executes, IsUnchanged, IsRolledBack, KeepsCommit, QueriesRow, FailsToQuery, FailsToShow, IsNotRun, Shown, ShowsRows}
+use Rattle.sqlite.specs.Held.{Held, state}
+use Rattle.sqlite.specs.State.{State, ExecutesInside, Executes, IsUnchanged, IsRolledBack, KeepsCommit, QueriesRow, FailsToQuery, FailsToShow, IsNotRun, Shown, ShowsRows, Survives}
+use Rattle.sqlite.specs.Store.{Ghosts}
+use Rattle.sqlite.specs.Tree.{Trees}
+use Rattle.sqlite.specs.View.{doubt}
 use Rattle.sqlite.specs.Order.{Row}
 use Rattle.sqlite.specs.declared.types.Value.TheVariants.{Int}
 use Rattle.sqlite.specs.declared.error.Error.{Error}
 use Rattle.pr_outside.specs.declared.keeping.Row.{Row as Line}
 use Rattle.pr_keep_sql.specs.Kept.{listed, Keeps}
-use Rattle.pr_keep_sql.specs.Statements.{Adds, GoesOn, Leaves, ShowsAt, shown}
+use Rattle.pr_keep_sql.specs.Statements.{Adds, GoesOn, Lasts, Leaves, ShowsAt, shown}
 use Rattle.sqlite_resolve.specs.declared.compiled.Compiled.{Compiled}
 use Rattle.sqlite_schema.specs.declared.command.Returning.{Returning}
 use Rattle.pr_keep_sql.proofs.Listing.{listed_rows}
@@ -52,6 +56,31 @@ adds_then a b c size seq front row is first then = λ keeps at.
     let count : seq ≡ length (listed b) = (let len = ap length before.1 ∙ length-append (listed a) front in omega (arith, is, at, len)) in
     let after = then before.0 count in
     (after.0, after.1 ∙ ap (λ (rows : List Line). rows ++ row ∷ []) before.1 ∙ append_assoc (listed a) front (row ∷ []))
+
+-- what survives a call lasts
+pub lasts_by : (a b : State) (P : Trees → Type 0) → Survives a b P → Lasts a b
+lasts_by a b P s = record { counts = s.counts; closes = s.closes }
+
+pub lasts_still : (a : State) → Lasts a a
+lasts_still a = record { counts = omega arith; closes = λ _ up. inl up }
+
+pub lasts_then : (a b c : State) → doubt b.is_clean ≤ doubt c.is_clean → Lasts a b → Lasts b c → Lasts a c
+lasts_then a b c clean one two = record {
+  counts = omega (arith, one.counts, two.counts);
+  closes = λ disk up. elim (one.closes (omega (arith, clean, disk)) up) [
+    | inl still ↦ elim (two.closes disk still) [ inl last ↦ inl last | inr fault ↦ inr (omega (arith, one.counts, fault)) ]
+    | inr fault ↦ inr (omega (arith, two.counts, fault))
+  ];
+}
+
+-- a transaction was begun, which changes no count and shuts nothing
+pub lasts_begun : {S : Type 0} (g : Ghosts S) (old begun : Held S) (last : State) → begun ≡ record old { in_transaction = true } → Lasts (state g begun) last → Lasts (state g old) last
+lasts_begun g old begun last is h =
+    let same = subst (λ (b : Held _). Lasts (state g b) last) is h in
+    record { counts = same.counts; closes = same.closes }
+
+pub leaves_still : (a : State) → Leaves a a
+leaves_still a = record { was_open = λ up. up; now = λ _. refl }
 
 -- after a rollback the last commit stands again
 pub undone : (a b c : State) → (IsTrue a.is_open → a.now ≡ a.committed) → KeepsCommit a b → IsRolledBack b c → Leaves a c

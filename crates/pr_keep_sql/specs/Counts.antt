@@ -22,6 +22,12 @@ CountsOnce refused odd now_refused now_odd (Ok x) = (now_refused ≡ refused) ×
 CountsOnce refused odd now_refused now_odd (Err Memory) = (now_refused ≡ refused) × (now_odd ≡ odd)
 CountsOnce refused odd now_refused now_odd (Err Failed) = ((now_refused ≡ one_more refused) × (now_odd ≡ odd)) ⊎ ((now_refused ≡ refused) × (now_odd ≡ one_more odd))
 
+-- a refused call counts one, and any other call none
+abbrev pub CountsOne : {T : Type 0} → (count now : ℕ) → Result T KeepError → Type 0
+CountsOne count now (Ok x) = now ≡ count
+CountsOne count now (Err Memory) = now ≡ count
+CountsOne count now (Err Failed) = now ≡ one_more count
+
 -- the faults: the statements that were refused, and the store's own refusals
 abbrev pub faults_of : ℕ → ℕ → ℕ
 faults_of refused odd = min (refused + odd) (2 ^ 64 - 1)

@@ -1,11 +1,12 @@
 -- What the tables keep, as a list of rows, and when a store tells it.
-use Rattle.std.specs.Prelude.{◌≡◌, ℕ, zero, suc, ◌+◌, ◌==◌, ◌&&◌, Bool, List, [], ◌∷◌, map, length, pos, unsigned_abs, Option, Some, None, cond, IsTrue, if◌then◌else◌}
+use Rattle.std.specs.Prelude.{◌≡◌, ◌⊎◌, ℕ, zero, suc, ◌+◌, ◌==◌, ◌&&◌, Bool, List, [], ◌∷◌, map, length, pos, unsigned_abs, Option, Some, None, IsSome, cond, IsTrue, if◌then◌else◌}
 use Rattle.std.specs.List.Sorted.{IsPermutation}
 use Rattle.sqlite.specs.declared.types.Value.{Value}
 use Rattle.sqlite.specs.declared.types.Value.TheVariants.{Null, Int, Real, Text, Blob}
 use Rattle.sqlite.specs.Order.{Row as Cells, column}
 use Rattle.sqlite.specs.Effect.{Database}
 use Rattle.sqlite.specs.State.{State, HasCleanDisk}
+use Rattle.sqlite_disk.specs.Disk.{MoreFaults}
 use Rattle.pr_outside.specs.declared.keeping.Row.{Row}
 use Rattle.pr_keep_sql.specs.Tables.{HasOursFirst, stored_from}
 
@@ -65,3 +66,7 @@ WhileOpen s P = HasCleanDisk s → IsTrue s.is_open → P
 -- which it is not after a fault that shuts it.
 abbrev pub told : Bool → State → Option (List Row)
 told is_first s = cond (is_first && (s.is_open && s.is_clean)) (Some (listed s.now)) None
+
+-- Told rows stay told, unless the disk has failed once more.
+abbrev pub StaysTold : (old new : Option (List Row)) → (faults new_faults : ℕ) → Type 0
+StaysTold old new faults new_faults = IsSome old → IsSome new ⊎ MoreFaults faults new_faults

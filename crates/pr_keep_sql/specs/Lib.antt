@@ -6,5 +6,6 @@ pub mod Texts
 pub mod Refusals
 pub mod Ran
 pub mod Store
+pub mod Calls
 pub mod Found
 pub mod Opened

@@ -1,5 +1,5 @@
 -- What a store of a path has opened, and what it tells.
-use Rattle.std.specs.Prelude.{◌≡◌, ℕ, List, [], Option, Some, None}
+use Rattle.std.specs.Prelude.{◌≡◌, ℕ, List, [], Option, Some, None, Result}
 use Rattle.sqlite.specs.Effect.{Database, IsDatabase}
 use Rattle.sqlite.specs.Files.{AreFoundIn, HoldsDatabase}
 use Rattle.sqlite.specs.Held.{state}
@@ -8,7 +8,9 @@ use Rattle.sqlite.specs.State.{HasCleanDisk}
 use Rattle.sqlite.specs.Steps.{over_memory}
 use Rattle.sqlite.specs.Store.{Ghosts}
 use Rattle.sqlite.specs.Tree.{Trees}
+use Rattle.pr_outside.specs.declared.keeping.KeepError.{KeepError}
 use Rattle.pr_outside.specs.declared.keeping.Row.{Row}
+use Rattle.pr_keep_sql.specs.Calls.{HasCommitted, HasQueried}
 use Rattle.pr_keep_sql.specs.Counts.{faults_of}
 use Rattle.pr_keep_sql.specs.Kept.{Keeps, listed}
 use Rattle.pr_keep_sql.specs.Store.{faults_in, rows_of}
@@ -43,6 +45,26 @@ module _ {S : Type 0} (g : Ghosts S) where
   IsTrusted Nothing = Unit {0}
   IsTrusted (Memory kept) = Unit {0}
   IsTrusted (File kept) = HasCleanDisk (state g kept.conn)
+
+  -- how often the disk has failed, which memory does not
+  abbrev pub disk_faults : Opened S → ℕ
+  disk_faults Nothing = 0
+  disk_faults (Memory kept) = 0
+  disk_faults (File kept) = (state g kept.conn).faults
+
+  -- what is open has committed these rows, and no other store is open
+  abbrev pub CommitsIn : {T : Type 0} → List Row → Result T KeepError → Opened S → Opened S → Type 0
+  CommitsIn added result Nothing Nothing = Unit {0}
+  CommitsIn added result (Memory old) (Memory new) = HasCommitted over_memory added result old new
+  CommitsIn added result (File old) (File new) = HasCommitted g added result old new
+  CommitsIn added result _ _ = ⊥
+
+  -- what is open has loaded the row with this number, and no other store is open
+  abbrev pub LoadsIn : ℕ → Result Row KeepError → Opened S → Opened S → Type 0
+  LoadsIn index result Nothing Nothing = Unit {0}
+  LoadsIn index result (Memory old) (Memory new) = HasQueried over_memory index result old new
+  LoadsIn index result (File old) (File new) = HasQueried g index result old new
+  LoadsIn index result _ _ = ⊥
 
 -- how many rows there are
 abbrev pub size_in : {S : Type 0} → Opened S → ℕ

@@ -1,9 +1,10 @@
 -- What statements and transactions do to the tables.
-use Rattle.std.specs.Prelude.{◌≡◌, ℕ, pos, List, [], ◌∷◌, ◌++◌, length, slice_get, Some, IsTrue}
+use Rattle.std.specs.Prelude.{◌≡◌, ◌⊎◌, ℕ, ◌≤◌, pos, List, [], ◌∷◌, ◌++◌, length, slice_get, Some, IsTrue}
 use Rattle.sqlite.specs.declared.types.Value.TheVariants.{Int, Text as Words}
 use Rattle.sqlite.specs.Order.{Row as Cells}
 use Rattle.sqlite.specs.Effect.{Database}
-use Rattle.sqlite.specs.State.{State}
+use Rattle.sqlite.specs.State.{State, HasCleanDisk}
+use Rattle.sqlite_disk.specs.Disk.{MoreFaults}
 use Rattle.pr_outside.specs.declared.keeping.Row.{Row}
 use Rattle.pr_keep_sql.specs.Tables.{kept, kept_schema, schema_of}
 use Rattle.pr_keep_sql.specs.Kept.{Keeps, versions, listed}
@@ -25,6 +26,11 @@ pub record Commits (Does : Database → Database → Type 0) (old new : State) :
 pub record Leaves (old new : State) : Type 0 where
   pub was_open : IsTrue new.is_open → IsTrue old.is_open
   pub now : IsTrue new.is_open → new.now ≡ old.now
+
+-- No fault of the disk is forgotten, and only a fault shuts the connection.
+pub record Lasts (old new : State) : Type 0 where
+  pub counts : old.faults ≤ new.faults
+  pub closes : HasCleanDisk new → IsTrue old.is_open → IsTrue new.is_open ⊎ MoreFaults old.faults new.faults
 
 -- tables that keep a list keep these rows more, numbered from its length on
 abbrev pub Adds : ℕ → List Row → Database → Database → Type 0

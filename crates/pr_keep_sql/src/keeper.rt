@@ -1,7 +1,10 @@
-ghost use Rattle.std.specs.Prelude.{◌≡◌, ◌≢◌, ◌+◌, ◌<◌, [], length, Some, IfOk, IfSome, IsSome, OnOk, OnErr, slice_get};
+ghost use Rattle.std.specs.Prelude.{◌≡◌, ◌≢◌, ◌+◌, ◌<◌, [], length, Some, Err, IfOk, IfSome, IsSome, OnOk, OnErr, slice_get};
 ghost use Rattle.pr_outside.specs.Causes.{HasKeepCause};
 ghost use Rattle.pr_outside.specs.Kept.{AppendsRows, KeepsRows};
-ghost use Rattle.pr_keep_sql.specs.Opened.{IsTrusted, TellsOf, faults_with, rows_in, size_in};
+ghost use Rattle.pr_outside.specs.declared.keeping.KeepError.TheVariants.{Failed};
+ghost use Rattle.pr_keep_sql.specs.Counts.{CountsOne, one_more};
+ghost use Rattle.pr_keep_sql.specs.Kept.{StaysTold};
+ghost use Rattle.pr_keep_sql.specs.Opened.{CommitsIn, IsTrusted, LoadsIn, TellsOf, disk_faults, faults_with, rows_in, size_in};
 ghost use Rattle.pr_keep_sql.specs.declared.opened.Opened.TheVariants.{Nothing};
 
 use crate::counts::{failed, faults_of};
@@ -41,6 +44,7 @@ impl<S: Alter + Drop, O: Open<S>> SqlKeeper<S, O> {
         ensures empty { OnOk result (rows_in S.Store self.new.opened ≡ Some []) }
         ensures err { OnErr result (self.new.opened ≡ self.old.opened) }
         ensures cause { HasKeepCause self.old.own (faults_with self.new.own self.new.opened) result }
+        ensures own { CountsOne self.old.own self.new.own result }
     {
         match in_memory(self.alloc, &mut self.own) {
             Ok(kept) => {
@@ -57,6 +61,7 @@ impl<S: Alter + Drop, O: Open<S>> SqlKeeper<S, O> {
         ensures told { IsTrusted S.Store self.new.opened → OnOk result (TellsOf O.finds (rows_in S.Store self.new.opened)) }
         ensures err { OnErr result (self.new.opened ≡ self.old.opened) }
         ensures cause { HasKeepCause self.old.own (faults_with self.new.own self.new.opened) result }
+        ensures own { CountsOne self.old.own self.new.own result }
     {
         match in_file(&mut self.files, path, &mut self.own) {
             Ok(kept) => {
@@ -68,7 +73,7 @@ impl<S: Alter + Drop, O: Open<S>> SqlKeeper<S, O> {
     }
 
     /// Opens the file at this path, or tables in memory where the path is empty. What stands in the
-    /// tables of a file stays, and is told where nothing stands beside them.
+    /// tables of a file stays, and is told where they come first in it.
     ///
     /// # Errors
     /// `Failed` where something is open already, where the file cannot be opened, where it has
@@ -80,6 +85,8 @@ impl<S: Alter + Drop, O: Open<S>> SqlKeeper<S, O> {
         ensures told { IsTrusted S.Store self.new.opened → OnOk result (path.now ≢ [] → TellsOf O.finds (rows_in S.Store self.new.opened)) }
         ensures err { OnErr result (self.new.opened ≡ self.old.opened) }
         ensures cause { HasKeepCause (faults_with self.old.own self.old.opened) (faults_with self.new.own self.new.opened) result }
+        // A refusal adds one to its own count, and a start that succeeds leaves it.
+        ensures own { CountsOne self.old.own self.new.own result }
     {
         if !self.opened.is_nothing() {
             return Err(failed(&mut self.own));
@@ -115,6 +122,12 @@ impl<S: Alter + Drop, O: Open<S>> SqlKeeper<S, O> {
         ensures err { OnErr result (KeepsRows (rows_in S.Store self.old.opened) (rows_in S.Store self.new.opened)) }
         ensures err_count { OnErr result (size_in self.new.opened ≡ size_in self.old.opened) }
         ensures cause { HasKeepCause (faults_with self.old.own self.old.opened) (faults_with self.new.own self.new.opened) result }
+        // Told rows stay told, also after a refused call, unless the disk has failed.
+        ensures stays { IsTrusted S.Store self.new.opened → StaysTold (rows_in S.Store self.old.opened) (rows_in S.Store self.new.opened) (disk_faults S.Store self.old.opened) (disk_faults S.Store self.new.opened) }
+        // It commits to what is open, whose count is the one that may rise.
+        ensures done { CommitsIn S.Store added.now result self.old.opened self.new.opened }
+        ensures own { self.old.opened ≢ Nothing → self.new.own ≡ self.old.own }
+        ensures idle { self.old.opened ≡ Nothing → (result ≡ Err Failed) × (self.new.own ≡ one_more self.old.own) }
     {
         match &mut self.opened {
             Opened::Nothing => Err(failed(&mut self.own)),
@@ -134,6 +147,11 @@ impl<S: Alter + Drop, O: Open<S>> SqlKeeper<S, O> {
         ensures same { KeepsRows (rows_in S.Store self.old.opened) (rows_in S.Store self.new.opened) }
         ensures count { size_in self.new.opened ≡ size_in self.old.opened }
         ensures cause { HasKeepCause (faults_with self.old.own self.old.opened) (faults_with self.new.own self.new.opened) result }
+        // Told rows stay told, also after a refused call, unless the disk has failed.
+        ensures stays { IsTrusted S.Store self.new.opened → StaysTold (rows_in S.Store self.old.opened) (rows_in S.Store self.new.opened) (disk_faults S.Store self.old.opened) (disk_faults S.Store self.new.opened) }
+        // It loads from what is open, whose count is the one that may rise.
+        ensures done { LoadsIn S.Store index result self.old.opened self.new.opened }
+        ensures own { self.new.own ≡ self.old.own }
     {
         match &mut self.opened {
             Opened::Nothing => Err(failed(&mut self.own)),

@@ -8,9 +8,10 @@ ghost use Rattle.pr_outside.specs.Kept.{KeepsRows, AppendsRows};
 ghost use Rattle.pr_outside.specs.declared.keeping.Row.{Row as Line};
 ghost use Rattle.pr_outside.specs.declared.keeping.KeepError.TheVariants.{Failed};
 ghost use Rattle.pr_keep_sql.specs.Counts.{AreWithin, CountsOnce, one_more};
-ghost use Rattle.pr_keep_sql.specs.Kept.{Keeps, listed};
+ghost use Rattle.pr_keep_sql.specs.Kept.{Keeps, StaysTold, listed};
 ghost use Rattle.pr_keep_sql.specs.Ran.{HasLoaded, HasRead, HasRun};
 ghost use Rattle.pr_keep_sql.specs.Refusals.{IsLoadRefused, IsReadingRefused, IsRefusal, IsTransactionRefused};
+ghost use Rattle.pr_keep_sql.specs.Statements.{Leaves};
 ghost use Rattle.pr_keep_sql.specs.Store.{faults_in, rows_of};
 ghost use Rattle.pr_keep_sql.specs.Tables.{HasOurs, HasOursFirst, IsFree, IsOther, schema_of};
 ghost use Rattle.pr_keep_sql.specs.Texts.{inserts, makings};
@@ -215,7 +216,7 @@ impl<S: Alter> Kept<S> {
     }
 
     /// Appends all rows in one transaction. A refused call appends none.
-    #[tactic(auto, using(crate::proofs::KeptLemmas::appended, crate::proofs::KeptLemmas::stays, crate::proofs::KeptLemmas::some_told, crate::proofs::RanLemmas::counts_once))]
+    #[tactic(auto, using(crate::proofs::KeptLemmas::appended, crate::proofs::KeptLemmas::stays, crate::proofs::KeptLemmas::some_told, crate::proofs::KeptLemmas::still_told, crate::proofs::StateLemmas::leaves_still, crate::proofs::RanLemmas::counts_once))]
     pub fn commit(&mut self, added: &[Row]) -> Result<(), KeepError>
         ensures ok { OnOk result (AppendsRows (rows_of S.Store self.old) (rows_of S.Store self.new) added.now) }
         ensures ok_count { OnOk result (self.new.size ≡ self.old.size + length added.now) }
@@ -226,6 +227,10 @@ impl<S: Alter> Kept<S> {
         ensures odd { IsTrue self.old.is_ready → AreWithin self.old.size added.now → self.new.odd ≡ self.old.odd }
         // It is one transaction, whatever stands beside the tables: each row is inserted with the next number.
         ensures ran { HasCleanDisk (state S.Store self.new.conn) → OnOk result (HasRun S.Store (inserts self.old.size added.now) self.old.conn self.new.conn) }
+        // A refused call leaves the database, whatever stands beside the tables.
+        ensures left { HasCleanDisk (state S.Store self.new.conn) → OnErr result (Leaves (state S.Store self.old.conn) (state S.Store self.new.conn)) }
+        // Told rows stay told, also after a refused call, unless the disk has failed.
+        ensures stays { HasCleanDisk (state S.Store self.new.conn) → StaysTold (rows_of S.Store self.old) (rows_of S.Store self.new) (state S.Store self.old.conn).faults (state S.Store self.new.conn).faults }
         ensures once { CountsOnce self.old.refused self.old.odd self.new.refused self.new.odd result }
         ensures refused { HasCleanDisk (state S.Store self.new.conn) → self.new.refused ≢ self.old.refused → IsRefusal (λ e. IsTransactionRefused S.Store (inserts self.old.size added.now) e self.old.conn self.new.conn) }
         ensures ready { (self.new.is_ready ≡ self.old.is_ready) × (self.new.is_first ≡ self.old.is_first) }
@@ -254,6 +259,10 @@ impl<S: Alter> Kept<S> {
         ensures odd { self.new.odd ≡ self.old.odd }
         // It is one query by the number, whatever stands beside the tables, which shows the row.
         ensures ran { HasCleanDisk (state S.Store self.new.conn) → IfOk result (λ row. HasLoaded S.Store index row self.old.conn self.new.conn) }
+        // It leaves the database, whatever stands beside the tables.
+        ensures left { HasCleanDisk (state S.Store self.new.conn) → Leaves (state S.Store self.old.conn) (state S.Store self.new.conn) }
+        // Told rows stay told, also after a refused call, unless the disk has failed.
+        ensures stays { HasCleanDisk (state S.Store self.new.conn) → StaysTold (rows_of S.Store self.old) (rows_of S.Store self.new) (state S.Store self.old.conn).faults (state S.Store self.new.conn).faults }
         ensures once { CountsOnce self.old.refused self.old.odd self.new.refused self.new.odd result }
         ensures refused { HasCleanDisk (state S.Store self.new.conn) → self.new.refused ≢ self.old.refused → IsRefusal (λ e. IsLoadRefused S.Store index e self.old.conn self.new.conn) }
         ensures ready { (self.new.is_ready ≡ self.old.is_ready) × (self.new.is_first ≡ self.old.is_first) }

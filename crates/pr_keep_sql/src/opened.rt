@@ -5,7 +5,7 @@ ghost use Rattle.sqlite.specs.State.{HasCleanDisk};
 ghost use Rattle.sqlite.specs.Steps.{over_memory};
 ghost use Rattle.sqlite.specs.View.{doubt};
 ghost use Rattle.pr_outside.specs.Causes.{HasKeepCause};
-ghost use Rattle.pr_keep_sql.specs.Counts.{faults_of};
+ghost use Rattle.pr_keep_sql.specs.Counts.{CountsOne, faults_of};
 ghost use Rattle.pr_keep_sql.specs.Kept.{Keeps, listed};
 ghost use Rattle.pr_keep_sql.specs.Opened.{TellsOf};
 ghost use Rattle.pr_keep_sql.specs.Store.{faults_in, rows_of};
@@ -40,7 +40,7 @@ impl<S: Alter> Opened<S> {
 }
 
 // The rows of a connection, once its tables are ready. A refusal is counted.
-#[tactic(auto, using(crate::proofs::OpenedLemmas::counts_first, crate::proofs::OpenedLemmas::counts_refusal))]
+#[tactic(auto, using(crate::proofs::OpenedLemmas::counts_first, crate::proofs::OpenedLemmas::counts_refusal, crate::proofs::OpenedLemmas::counts_one))]
 fn readied<S: Alter + Drop>(conn: Connection<S>, own: &mut u64) -> Result<Kept<S>, KeepError>
     requires { conn.in_transaction ≡ false }
     ensures counts { IfOk result (λ k. faults_of own.new (faults_in k) ≡ own.old) }
@@ -48,6 +48,7 @@ fn readied<S: Alter + Drop>(conn: Connection<S>, own: &mut u64) -> Result<Kept<S
     ensures kept { IfOk result (λ k. HasCleanDisk (state S.Store k.conn) → HasOursFirst (state S.Store conn).now.schema → Keeps (state S.Store conn).now (listed (state S.Store conn).now) × (rows_of S.Store k ≡ Some (listed (state S.Store conn).now))) }
     ensures clean { IfOk result (λ k. doubt (state S.Store conn).is_clean ≤ doubt (state S.Store k.conn).is_clean) }
     ensures cause { HasKeepCause own.old own.new result }
+    ensures once { CountsOne own.old own.new result }
 {
     let before = *own;
     let mut kept = Kept::of(conn);
@@ -65,6 +66,7 @@ pub(crate) fn in_memory(alloc: Global, own: &mut u64) -> Result<Kept<MemStore>, 
     ensures counts { IfOk result (λ k. faults_of own.new (faults_in k) ≡ own.old) }
     ensures empty { IfOk result (λ k. rows_of over_memory k ≡ Some []) }
     ensures cause { HasKeepCause own.old own.new result }
+    ensures once { CountsOne own.old own.new result }
 {
     match Connection::open_in_memory(alloc) {
         Ok(conn) => readied(conn, own),
@@ -73,6 +75,7 @@ pub(crate) fn in_memory(alloc: Global, own: &mut u64) -> Result<Kept<MemStore>, 
 }
 
 /// The tables of the file at a path. A refused opening is counted.
+#[tactic(auto, using(crate::proofs::OpenedLemmas::opening_counts))]
 pub(crate) fn in_file<S: Alter + Drop, O: Open<S>>(
     files: &mut O,
     path: &str,
@@ -81,6 +84,7 @@ pub(crate) fn in_file<S: Alter + Drop, O: Open<S>>(
     ensures counts { IfOk result (λ k. faults_of own.new (faults_in k) ≡ own.old) }
     ensures told { IfOk result (λ k. HasCleanDisk (state S.Store k.conn) → TellsOf O.finds (rows_of S.Store k)) }
     ensures cause { HasKeepCause own.old own.new result }
+    ensures once { CountsOne own.old own.new result }
 {
     match files.open(path) {
         Ok(conn) => readied(conn, own),

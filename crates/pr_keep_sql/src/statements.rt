@@ -10,7 +10,7 @@ ghost use Rattle.pr_keep_sql.specs.Counts.{AreWithin, is_want};
 ghost use Rattle.pr_keep_sql.specs.Kept.{Keeps, listed};
 ghost use Rattle.pr_keep_sql.specs.Ran.{HasLoaded, HasRun, IsShownAs};
 ghost use Rattle.pr_keep_sql.specs.Refusals.{IsLoadRefused, IsStopped, IsTransactionRefused, RanInTurn};
-ghost use Rattle.pr_keep_sql.specs.Statements.{Adds, Commits, GoesOn, Leaves, ShowsAt, shown};
+ghost use Rattle.pr_keep_sql.specs.Statements.{Adds, Commits, GoesOn, Lasts, Leaves, ShowsAt, shown};
 ghost use Rattle.pr_keep_sql.specs.Texts.{given_params, insert_text, inserts, select_text};
 
 use pr_outside::Row;
@@ -34,6 +34,7 @@ fn insert<S: Alter>(
     ensures runs { HasCleanDisk (state S.Store tx.new.conn.now) → ExecutesInside 0 insert_text (given_params (unsigned_abs seq) (record { series = series.now; time = unsigned_abs time; point = point.now })) (state S.Store tx.old.conn.now) (state S.Store tx.new.conn.now) result }
     ensures kept { HasCleanDisk (state S.Store tx.new.conn.now) → KeepsCommit (state S.Store tx.old.conn.now) (state S.Store tx.new.conn.now) }
     ensures clean { doubt (state S.Store tx.old.conn.now).is_clean ≤ doubt (state S.Store tx.new.conn.now).is_clean }
+    ensures lasts { Lasts (state S.Store tx.old.conn.now) (state S.Store tx.new.conn.now) }
 {
     tx.execute(
         "INSERT INTO kept (seq, series, time, point) VALUES (?1, ?2, ?3, ?4)",
@@ -51,6 +52,7 @@ fn add<S: Alter>(tx: &mut Transaction<'_, S>, seq: u64, row: &Row) -> Result<usi
     ensures runs { HasCleanDisk (state S.Store tx.new.conn.now) → ExecutesInside 0 insert_text (given_params seq row.now) (state S.Store tx.old.conn.now) (state S.Store tx.new.conn.now) result }
     ensures kept { HasCleanDisk (state S.Store tx.new.conn.now) → KeepsCommit (state S.Store tx.old.conn.now) (state S.Store tx.new.conn.now) }
     ensures clean { doubt (state S.Store tx.old.conn.now).is_clean ≤ doubt (state S.Store tx.new.conn.now).is_clean }
+    ensures lasts { Lasts (state S.Store tx.old.conn.now) (state S.Store tx.new.conn.now) }
 {
     insert(
         tx,
@@ -62,6 +64,7 @@ fn add<S: Alter>(tx: &mut Transaction<'_, S>, seq: u64, row: &Row) -> Result<usi
 }
 
 // Adds all rows inside a transaction.
+#[tactic(auto, using(crate::proofs::StateLemmas::lasts_still, crate::proofs::StateLemmas::lasts_then))]
 fn add_rows<S: Alter>(tx: &mut Transaction<'_, S>, size: u64, rows: &[Row]) -> Result<(), Error>
     requires inside { HasCleanDisk (state S.Store tx.old.conn.now) → IsTrue (state S.Store tx.old.conn.now).in_transaction }
     requires within { AreWithin size rows.now }
@@ -72,6 +75,7 @@ fn add_rows<S: Alter>(tx: &mut Transaction<'_, S>, size: u64, rows: &[Row]) -> R
     ensures stopped { HasCleanDisk (state S.Store tx.new.conn.now) → IfErr result (λ e. IsStopped S.Store (inserts size rows.now) e tx.old.conn.now tx.new.conn.now) }
     ensures kept { HasCleanDisk (state S.Store tx.new.conn.now) → KeepsCommit (state S.Store tx.old.conn.now) (state S.Store tx.new.conn.now) }
     ensures clean { doubt (state S.Store tx.old.conn.now).is_clean ≤ doubt (state S.Store tx.new.conn.now).is_clean }
+    ensures lasts { Lasts (state S.Store tx.old.conn.now) (state S.Store tx.new.conn.now) }
 {
     let mut seq = size;
     'rows: for row in rows {
@@ -98,6 +102,7 @@ pub(crate) fn add_all<S: Alter>(
     ensures ran { HasCleanDisk (state S.Store conn.new) → OnOk result (HasRun S.Store (inserts size rows.now) conn.old conn.new) }
     ensures refused { HasCleanDisk (state S.Store conn.new) → IfErr result (λ e. IsTransactionRefused S.Store (inserts size rows.now) e conn.old conn.new) }
     ensures clean { doubt (state S.Store conn.old).is_clean ≤ doubt (state S.Store conn.new).is_clean }
+    ensures lasts { Lasts (state S.Store conn.old) (state S.Store conn.new) }
 {
     prove!(conn.is_autocommit());
     let mut tx = conn.transaction();
@@ -121,6 +126,7 @@ fn find<S: Alter>(conn: &mut Connection<S>, seq: i64) -> Result<sqlite::Row, Err
     ensures same { HasCleanDisk (state S.Store conn.new) → IsTrue (state S.Store conn.new).is_open → (state S.Store conn.new).now ≡ (state S.Store conn.old).now }
     ensures open { HasCleanDisk (state S.Store conn.new) → OnOk result (IsTrue (state S.Store conn.old).is_open × IsTrue (state S.Store conn.new).is_open) }
     ensures clean { doubt (state S.Store conn.old).is_clean ≤ doubt (state S.Store conn.new).is_clean }
+    ensures lasts { Lasts (state S.Store conn.old) (state S.Store conn.new) }
 {
     prove!(conn.is_autocommit());
     conn.query_row(
@@ -165,6 +171,7 @@ pub(crate) fn load<S: Alter>(conn: &mut Connection<S>, seq: u64) -> Result<Row, 
     ensures same { HasCleanDisk (state S.Store conn.new) → IsTrue (state S.Store conn.new).is_open → (state S.Store conn.new).now ≡ (state S.Store conn.old).now }
     ensures open { HasCleanDisk (state S.Store conn.new) → OnOk result (IsTrue (state S.Store conn.old).is_open × IsTrue (state S.Store conn.new).is_open) }
     ensures clean { doubt (state S.Store conn.old).is_clean ≤ doubt (state S.Store conn.new).is_clean }
+    ensures lasts { Lasts (state S.Store conn.old) (state S.Store conn.new) }
 {
     match find(conn, seq as i64) {
         Ok(found) => read_row(&found),

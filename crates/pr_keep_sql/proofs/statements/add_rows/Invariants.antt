@@ -4,7 +4,7 @@ use Rattle.sqlite.specs.Held.{state}
 use Rattle.sqlite.specs.View.{doubt}
 use Rattle.pr_keep_sql.specs.Kept.{WhileOpen}
 use Rattle.pr_keep_sql.specs.Refusals.{RanInTurn}
-use Rattle.pr_keep_sql.specs.Statements.{Adds}
+use Rattle.pr_keep_sql.specs.Statements.{Adds, Lasts}
 use Rattle.pr_keep_sql.specs.Texts.{inserts}
 use Rattle.pr_keep_sql.proofs.statements.add_rows.Given as goal
 
@@ -14,4 +14,4 @@ invariant-rows g l =
     let now = state g.S.Store l.tx.conn.now in
     (l.tx.conn.ghost_name ≡ l.fn.tx.conn.ghost_name) × (l.seq ≡ l.size + l.row-index) × (doubt old.is_clean ≤ doubt now.is_clean) × (HasCleanDisk now → IsTrue now.in_transaction)
     × (HasCleanDisk now → RanInTurn g.S.Store (inserts l.size (take l.row-index l.rows)) l.fn.tx.conn.now l.tx.conn.now)
-    × (HasCleanDisk now → KeepsCommit old now) × WhileOpen now (IsTrue old.is_open × Adds l.size (take l.row-index l.rows) old.now now.now)
+    × Lasts old now × (HasCleanDisk now → KeepsCommit old now) × WhileOpen now (IsTrue old.is_open × Adds l.size (take l.row-index l.rows) old.now now.now)

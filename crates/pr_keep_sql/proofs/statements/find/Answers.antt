@@ -1,7 +1,7 @@
 use Rattle.std.proofs.Common.{◌≡◌, pos, not, unsigned_abs, rules, FitsSigned, w64, ap, ◌∙◌}
 use Rattle.std.proofs.lemmas.Int.{to_z-of_z}
 use Rattle.sqlite.specs.Held.{state}
-use Rattle.pr_keep_sql.proofs.StateLemmas.{found_at, row_open, row_same, row_shows}
+use Rattle.pr_keep_sql.proofs.StateLemmas.{found_at, lasts_by, row_open, row_same, row_shows}
 use Rattle.pr_keep_sql.proofs.statements.find.Goals as goal
 
 pub returns-clause-ok : goal.returns-clause-ok
@@ -28,3 +28,6 @@ returns-clause-runs g c clean =
     let seq : c.args.seq ≡ pos (unsigned_abs c.args.seq) = search (rules, c.requires.seq) in
     let fits : FitsSigned w64 c.args.seq = c.ranges.seq in
     rw (c.params-to_sql.ensures, to_z-of_z w64 c.args.seq fits, seq) at (c.query_row.ensures.row clean)
+
+pub returns-clause-lasts : goal.returns-clause-lasts
+returns-clause-lasts g c = lasts_by (state g.S.Store c.args.conn.now) (state g.S.Store c.query_row.new.self) _ c.query_row.ensures.survives

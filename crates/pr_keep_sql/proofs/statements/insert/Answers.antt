@@ -3,7 +3,7 @@ use Rattle.std.proofs.lemmas.Int.{to_z-of_z}
 use Rattle.sqlite.specs.Held.{state}
 use Rattle.sqlite.specs.State.{HasCleanDisk}
 use Rattle.pr_outside.specs.declared.keeping.Row.{Row}
-use Rattle.pr_keep_sql.proofs.StateLemmas.{adds_inside, keeps_inside}
+use Rattle.pr_keep_sql.proofs.StateLemmas.{adds_inside, keeps_inside, lasts_by}
 use Rattle.pr_keep_sql.proofs.statements.insert.Goals as goal
 
 pub returns-clause-ok : goal.returns-clause-ok
@@ -37,3 +37,6 @@ returns-clause-runs g c clean =
     let time_fits : FitsSigned w64 c.args.time = c.ranges.time in
     let ran = rw (c.params-to_sql.ensures, c.params-to_sql-2.ensures, c.params-to_sql-3.ensures, c.params-to_sql-4.ensures, to_z-of_z w64 c.args.seq seq_fits, to_z-of_z w64 c.args.time time_fits) at (c.execute.ensures.runs clean (c.requires.inside early)) in
     rw seq at (rw time at ran)
+
+pub returns-clause-lasts : goal.returns-clause-lasts
+returns-clause-lasts g c = lasts_by (state g.S.Store c.args.tx.now.conn.now) (state g.S.Store c.execute.new.self.conn.now) _ c.execute.ensures.survives
