@@ -1,12 +1,12 @@
--- How far the files of a reload were loaded. Private contracts cite this: a reader can pass it over.
-use Rattle.std.specs.Prelude.{◌≡◌, ℕ, ◌+◌, List, ◌++◌, length, map, Option, Some, None, Result, Ok, Err}
-use Rattle.pr_outside.specs.Meant.{Content}
-use Rattle.pr_status.specs.Asks.{Asks}
-use Rattle.pr_status.specs.Outside.{AreTold, Held}
-use Rattle.pr_world.specs.Loading.{FileToLoad, all_found}
+-- What becomes of the files of a reload, one after another. Private contracts cite this: a reader can
+-- pass it over.
+use Rattle.std.specs.Prelude.{◌≡◌, List, [], ◌∷◌, ◌++◌, map, Option, Some, None, Result, Ok, Err}
+use Rattle.pr_loading.specs.Loading.{Holding, Made, goes_on, stops_at}
+use Rattle.pr_world.specs.Loading.{FileToLoad, file_found}
 use Rattle.pr_world.specs.declared.event.NamedFile.{NamedFile}
 use Rattle.pr_world.specs.declared.report.Report.{Report}
-use Rattle.pr_run.specs.Told.{asks_for, content_by}
+use Rattle.pr_run.specs.Told.{holding_of}
+use Rattle.pr_run.specs.declared.files.Loaded.{Loaded}
 
 -- a file, or its refusal
 abbrev pub read_as : NamedFile → Option Report → Result NamedFile Report
@@ -17,19 +17,29 @@ read_as f (Some refusal) = Err refusal
 abbrev pub HasNames : List FileToLoad → List NamedFile → Type 0
 HasNames files loaded = map (λ (f : NamedFile). f.name) loaded ≡ map (λ (f : FileToLoad). f.name) files
 
--- files were loaded before others
-abbrev pub found_behind : List NamedFile → Result (List NamedFile) Report → Result (List NamedFile) Report
-found_behind loaded (Ok more) = Ok (loaded ++ more)
-found_behind loaded (Err refusal) = Err refusal
-
--- Some files were loaded, and what all come to is what the rest comes to.
-pub record IsLoading (held : Held) (files rest : List FileToLoad) (loaded : List NamedFile) (content : Content) (before calls : ℕ) : Type 0 where
-  pub done : ℕ
-  pub asked : Asks before calls done
-  pub found : found_behind loaded (all_found (content_by held) rest) ≡ all_found (content_by held) files
-  pub count : length (asks_for (content_by held) files) ≡ done + length (asks_for (content_by held) rest)
-  pub told : AreTold content held (asks_for (content_by held) rest)
-
 -- the names of those that were loaded, and of the rest
 abbrev pub AreNamed : List FileToLoad → List FileToLoad → List NamedFile → Type 0
 AreNamed files rest loaded = map (λ (f : NamedFile). f.name) loaded ++ map (λ (f : FileToLoad). f.name) rest ≡ map (λ (f : FileToLoad). f.name) files
+
+-- What holds of those that were loaded and the rest, unless one was refused.
+abbrev pub fits_by : Option Report → List FileToLoad → List FileToLoad → List NamedFile → Type 0
+fits_by None files rest loaded = AreNamed files rest loaded
+fits_by (Some refusal) files rest loaded = Unit {0}
+
+abbrev pub FitsLoaded : List FileToLoad → List FileToLoad → Loaded → Type 0
+FitsLoaded files rest l = fits_by l.refusal files rest l.files
+
+-- A file comes behind those that were loaded before it, and a refusal ends the loading.
+abbrev pub with_found : Loaded → Result NamedFile Report → Made Loaded
+with_found before (Ok f) = goes_on (record { files = before.files ++ f ∷ []; refusal = before.refusal })
+with_found before (Err refusal) = stops_at (record { files = before.files; refusal = Some refusal })
+
+abbrev pub with_file : FileToLoad → Loaded → Holding → Made Loaded
+with_file n before holding = with_found before (file_found n (holding_of holding))
+
+abbrev pub found_by : Option Report → List NamedFile → Result (List NamedFile) Report
+found_by None loaded = Ok loaded
+found_by (Some refusal) loaded = Err refusal
+
+abbrev pub found_of : Loaded → Result (List NamedFile) Report
+found_of l = found_by l.refusal l.files

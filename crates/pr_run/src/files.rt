@@ -10,10 +10,11 @@ ghost use Rattle.pr_status.specs.Outside.{AreTold, Held};
 ghost use Rattle.pr_world.specs.Loading.{all_found, file_found, read_first, with_bytes};
 ghost use Rattle.pr_world.specs.Rounds.{first_problem, groups_by};
 ghost use Rattle.pr_world.specs.declared.event.NamedFile as named;
-ghost use Rattle.pr_run.specs.Files.{HasNames, read_as};
+ghost use Rattle.pr_run.specs.Files.{HasNames, found_of, read_as};
 ghost use Rattle.pr_run.specs.Told.{asks_for, content_by, holding_of};
 
 use pr_fields::Problem;
+use pr_loading::{Taker, load_each};
 use pr_outside::{Files, Found};
 use pr_rulefile::{RuleError, read};
 use pr_script::FileToLoad;
@@ -92,6 +93,54 @@ fn read_found(
     }
 }
 
+/// The files of a reload that were loaded, and the refusal of the first that is not to be had.
+#[derive(Drop)]
+struct Loaded {
+    files: Items<NamedFile>,
+    refusal: Option<Report>,
+}
+
+impl Loaded {
+    // The files, or the refusal.
+    fn into_found(self) -> Result<Items<NamedFile>, Report>
+        ensures { result ≡ found_of self }
+    {
+        let Loaded { files, refusal } = self;
+        match refusal {
+            Some(refusal) => Err(refusal),
+            None => Ok(files),
+        }
+    }
+}
+
+impl Taker<FileToLoad> for Loaded {
+    ghost use Rattle.pr_world.specs.Loading.{FileToLoad};
+    ghost use Rattle.pr_run.specs.Files.{FitsLoaded, with_file};
+
+    ghost file = { λ (f : FileToLoad). f.file };
+
+    ghost make = { with_file };
+
+    ghost fits = { FitsLoaded };
+
+    fn file(name: &FileToLoad) -> &str {
+        name.file.as_str()
+    }
+
+    fn take(&mut self, alloc: Global, name: &FileToLoad, found: Found) -> Result<bool, AllocError> {
+        match read_found(alloc, name, found)? {
+            Ok(named) => {
+                self.files.push(named)?;
+                Ok(true)
+            }
+            Err(refusal) => {
+                self.refusal = Some(refusal);
+                Ok(false)
+            }
+        }
+    }
+}
+
 /// Loads the files of a reload, one after another, each once, and reads each before the next one is
 /// loaded; up to the first that is missing, too large or no rule file, by which they are refused.
 pub(crate) fn load_files<F: Files>(
@@ -106,15 +155,10 @@ pub(crate) fn load_files<F: Files>(
     ensures same { (other : List ℕ) → (F.means from.new).content other ≡ (F.means from.old).content other }
     ensures ends { LoadEnds (F.means from.old) (F.means from.new) result }
 {
-    let mut loaded = Items::empty(alloc);
-    let mut rest = files;
-    'loading: while let Some((file, after)) = rest.split_first() {
-        let found = from.load(file.file.as_str())?;
-        match read_found(alloc, file, found)? {
-            Ok(named) => loaded.push(named)?,
-            Err(refusal) => return Ok(Err(refusal)),
-        }
-        rest = after;
-    }
-    Ok(Ok(loaded))
+    let mut loaded = Loaded {
+        files: Items::empty(alloc),
+        refusal: None,
+    };
+    load_each(alloc, &mut loaded, files, from)?;
+    Ok(loaded.into_found())
 }
