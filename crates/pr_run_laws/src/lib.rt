@@ -1,7 +1,8 @@
-//! Worked lines of the definitions of a run: the words, the rows at its start, and where it is cut
-//! short.
+//! Worked lines of the definitions of a run: the words, small runs, the rows at their start, and
+//! where one is cut short.
 #![tactic(auto)]
 
 pub mod fronts;
 pub mod rows;
+pub mod runs;
 pub mod words;
