@@ -9,7 +9,8 @@ use Rattle.pr_words.specs.Names.{is_among}
 use Rattle.pr_world.specs.declared.event.NamedFile.{NamedFile}
 use Rattle.pr_verdict.specs.RuleFiles.{beside, rule_file_names, with_name}
 use Rattle.pr_test_command.specs.Running.{IsRuleFile}
-use Rattle.pr_test_command.specs.Taking.{AreKept}
+use Rattle.pr_test_command.specs.Taking.{AreKept, with_wrong}
+use Rattle.pr_test_command.specs.declared.rules.Rules.{Rules}
 
 both_false : (a b : Bool) → (a || b) ≡ false → (a ≡ false) × (b ≡ false)
 both_false true b h = absurd (false≢true (sym h))
@@ -65,12 +66,8 @@ keeps_one files f rest good k =
 pub keeps_none : (files : List NamedFile) (name : List ℕ) (rest : List (List ℕ)) → AreKept files (name ∷ rest) → AreKept files rest
 keeps_none files name rest k = record { rules = k.rules; apart = apart_but (map (λ (g : NamedFile). g.name) files) name rest k.apart }
 
--- also where it is not known whether memory sufficed
-pub none_kept : (T E : Type 0) (r : Result T E) (files : List NamedFile) (name : List ℕ) → OnOk r ((rest : List (List ℕ)) → AreKept files (name ∷ rest) → AreKept files rest)
-none_kept T E (Ok x) files name = λ rest. keeps_none files name rest
-none_kept T E (Err e) files name = tt
-
-pub same_kept : (T E : Type 0) (r : Result T E) (old new : List NamedFile) (name : List ℕ) → OnOk r (new ≡ old)
-    → OnOk r ((rest : List (List ℕ)) → AreKept old (name ∷ rest) → AreKept new rest)
-same_kept T E (Ok x) old new name e = λ rest k. subst (λ (l : List NamedFile). AreKept l rest) (sym e) (keeps_none old name rest k)
-same_kept T E (Err s) old new name e = tt
+-- what is wrong adds no file, also where it is not known whether memory sufficed
+pub wrong_kept : (T E : Type 0) (r : Result T E) (old new : Rules) (lines name : List ℕ) → OnOk r (new ≡ with_wrong old lines)
+    → OnOk r ((rest : List (List ℕ)) → AreKept old.files (name ∷ rest) → AreKept new.files rest)
+wrong_kept T E (Ok x) old new lines name e = λ rest k. subst (λ (now : Rules). AreKept now.files rest) (sym e) (keeps_none old.files name rest k)
+wrong_kept T E (Err s) old new lines name e = tt

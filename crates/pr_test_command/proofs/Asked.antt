@@ -4,44 +4,15 @@ use Rattle.pr_outside.specs.Courses.{GoesOn, course_after}
 use Rattle.pr_outside.specs.Meant.{Folder}
 use Rattle.pr_outside.specs.Schedule.{one_more}
 use Rattle.pr_outside.specs.declared.course.Course.{Course}
-use Rattle.pr_outside.specs.declared.files.FilesError.{FilesError}
-use Rattle.pr_outside.specs.declared.files.FilesError.TheVariants as files
 use Rattle.pr_status.specs.Asks.{Asks, AsksBy}
-use Rattle.pr_status.specs.Ends.{LoadEnds, no_row, stop_of_files}
+use Rattle.pr_status.specs.Ends.{LoadEnds, no_row}
 use Rattle.pr_status.specs.Outside.{Outside}
 use Rattle.pr_status.specs.declared.status.Stop.{Stop}
 use Rattle.pr_status.specs.declared.status.Stop.TheVariants.{Read, Load, Store, BadRow, Write, Memory, TooLong}
 use Rattle.pr_status.proofs.Ended.{ends_memory, ends_on, in_time_same}
-use Rattle.pr_test_command.specs.Taking.{AreAsked}
 
 one_then : (a b c n : ℕ) → b ≡ one_more a → Asks b c n → Asks a c (suc n)
 one_then a b c n e p = (omega (arith, e, p.0), omega (arith, e, p.0, p.1))
-
-then_one : (a b c n : ℕ) → Asks a b n → c ≡ one_more b → Asks a c (suc n)
-then_one a b c n p e = (omega (arith, e, p.0), omega (arith, e, p.0, p.1))
-
-pub none_asked : (a n : ℕ) → AreAsked a a n n
-none_asked a n = record { done = 0; asked = (omega arith, omega arith); count = omega arith }
-
-pub next_asked : (a b c all rest : ℕ) → AreAsked a b all (suc rest) → c ≡ one_more b → AreAsked a c all rest
-next_asked a b c all rest p e = record { done = suc p.done; asked = then_one a b c p.done p.asked e; count = omega (arith, p.count) }
-
-pub all_asked : (a b all rest : ℕ) → rest ≡ 0 → AreAsked a b all rest → Asks a b all
-all_asked a b all rest none p = let n : p.done ≡ all = omega (arith, none, p.count) in subst (Asks a b) n p.asked
-
--- a load that failed, or had not the memory, was one of so many
-pub load_stopped : (T : Type 0) (a b all rest : ℕ) (r : Result T Stop) (e : FilesError) → IsErrAnd r (λ s. s ≡ stop_of_files e) → AreAsked a b all rest → rest < all
-    → AsksBy a b all r
-load_stopped T a b all rest (Ok x) e h p lt = absurd h
-load_stopped T a b all rest (Err s) e h p lt = subst (λ (z : Stop). AsksBy {T = T} a b all (Err z)) (sym h) (by e)
-  where
-    by : (e : FilesError) → AsksBy {T = T} a b all (Err (stop_of_files e))
-    by files.Failed = (p.done, p.asked, omega (arith, p.count, lt), omega (arith, p.count))
-    by files.Memory = (p.done, p.asked, omega (arith, p.count))
-
-pub memory_stopped : (T : Type 0) (a b all rest : ℕ) (r : Result T Stop) → IsErrAnd r (λ s. s ≡ Memory) → AreAsked a b all rest → AsksBy a b all r
-memory_stopped T a b all rest (Ok x) h p = absurd h
-memory_stopped T a b all rest (Err s) h p = subst (λ (z : Stop). AsksBy {T = T} a b all (Err z)) (sym h) (p.done, p.asked, omega (arith, p.count))
 
 -- want of memory behind all loads
 pub memory_behind : (T : Type 0) (a b all : ℕ) (r : Result T Stop) → IsErrAnd r (λ s. s ≡ Memory) → Asks a b all → AsksBy a b all r

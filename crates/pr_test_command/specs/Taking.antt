@@ -1,13 +1,14 @@
--- What was made of the files that were loaded, and where the loading of rule files stands.
-use Rattle.std.specs.Prelude.{◌≡◌, ℕ, ◌+◌, ◌<◌, List, ◌++◌, map}
+-- What is made of the files that are loaded.
+use Rattle.std.specs.Prelude.{ℕ, ◌<◌, List, [], ◌∷◌, ◌++◌, flat_map, map}
 use Rattle.std.specs.List.{AllByRecursion, IsDistinct}
 use Rattle.std.specs.Str.{bytes_eq}
-use Rattle.pr_outside.specs.Meant.{Content}
-use Rattle.pr_status.specs.Asks.{Asks}
-use Rattle.pr_status.specs.Outside.{AreTold, Held}
+use Rattle.pr_loading.specs.Loading.{Holding, holds, is_missing, is_too_large, Made, goes_on}
+use Rattle.pr_rulefile.specs.File.{RuleReading, gives_file, gives_problems, rule_file_of}
+use Rattle.pr_checks.specs.Problems.{problem_line}
+use Rattle.pr_checks.specs.RuleFiles.{missing, too_large}
 use Rattle.pr_testfile.specs.File.{plain_file}
 use Rattle.pr_world.specs.declared.event.NamedFile.{NamedFile}
-use Rattle.pr_test_texts.specs.TestsTold.{RulesLoaded, TestsFound, these_tests, no_tests, and_rules, all_rules}
+use Rattle.pr_test_texts.specs.TestsTold.{RulesLoaded, TestsFound, these_tests, no_tests}
 use Rattle.pr_test_command.specs.Running.{IsRuleFile, loaded_of}
 use Rattle.pr_test_command.specs.declared.reading.Tests.{Tests}
 use Rattle.pr_test_command.specs.declared.reading.Tests.TheVariants.{These, Wrong}
@@ -23,21 +24,27 @@ HasInterval (These file) = 0 < file.interval
 HasInterval (Wrong lines) = Unit {0}
 
 abbrev pub rules_of : Rules → RulesLoaded
-rules_of r = record { wrong = r.wrong.items; files = map loaded_of r.files.items }
+rules_of r = record { wrong = r.wrong; files = map loaded_of r.files }
+
+-- What is wrong with a rule file, or the file, comes behind what was taken before it.
+abbrev pub with_wrong : Rules → List ℕ → Rules
+with_wrong r lines = record { wrong = r.wrong ++ lines; files = r.files }
+
+abbrev pub with_reading : Rules → List ℕ → List ℕ → RuleReading → Rules
+with_reading r name bytes (gives_file groups) = record { wrong = r.wrong; files = r.files ++ record { name = name; bytes = bytes } ∷ [] }
+with_reading r name bytes (gives_problems list) = with_wrong r (flat_map (problem_line name) list)
+
+abbrev pub with_held : List ℕ → Rules → Holding → Rules
+with_held name r is_missing = with_wrong r (name ++ missing)
+with_held name r is_too_large = with_wrong r (name ++ too_large)
+with_held name r (holds bytes) = with_reading r name bytes (rule_file_of bytes)
+
+-- The next file is asked for, whatever a name holds.
+abbrev pub with_file : List ℕ → Rules → Holding → Made Rules
+with_file name r holding = goes_on (with_held name r holding)
 
 -- Nothing is wrong with the rule files that are kept, and their names differ from each other and from
 -- those that are still to be loaded.
 pub record AreKept (files : List NamedFile) (rest : List (List ℕ)) : Type 0 where
   pub rules : AllByRecursion IsRuleFile files
   pub apart : IsDistinct bytes_eq (map (λ f. f.name) files ++ rest)
-
--- All but so many of the files were asked for.
-pub record AreAsked (before now all rest : ℕ) : Type 0 where
-  pub done : ℕ
-  pub asked : Asks before now done
-  pub count : done + rest ≡ all
-
--- What is to be made of the names that are left comes behind what was made.
-pub record IsLoading (content : Content) (held : Held) (names rest : List (List ℕ)) (rules : RulesLoaded) : Type 0 where
-  pub told : AreTold content held rest
-  pub made : and_rules rules (all_rules held rest) ≡ all_rules held names

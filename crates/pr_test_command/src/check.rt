@@ -99,13 +99,13 @@ fn failures_over(
 // What is told of a test file over its rule files: no test is run where something is wrong with
 // one.
 fn lines_with(alloc: Global, test: &TestFile, rules: Rules) -> Result<Vec<u8>, AllocError>
-    requires { CanRun test.now rules.files.items }
+    requires { CanRun test.now rules.files }
     ensures { IfOk result (λ lines. lines.items ≡ lines_with (plain_file test.now) (rules_of rules)) }
 {
-    if !rules.wrong.is_empty() {
-        return Ok(rules.wrong);
+    if !rules.wrong.as_slice().is_empty() {
+        return Ok(rules.wrong.into_vec());
     }
-    let failures = failures_over(alloc, test, &rules.files)?;
+    let failures = failures_over(alloc, test, rules.files.as_slice())?;
     failure_lines(alloc, test, &failures)
 }
 

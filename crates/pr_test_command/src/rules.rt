@@ -1,36 +1,56 @@
 // The rule files of a test file: each is read, and what is wrong is told of all of them.
-ghost use Rattle.std.specs.Prelude.{◌≡◌, ◌++◌, ◌∷◌, ◌<◌, ◌^◌, [], ℕ, List, Option, Some, IfOk, OnOk, length, map, string_bytes};
+ghost use Rattle.std.specs.Prelude.{◌≡◌, ◌++◌, ◌∷◌, ◌<◌, ◌^◌, [], ℕ, List, Option, Some, IfOk, OnOk, flat_map, length, map, string_bytes};
 ghost use Rattle.pr_outside.specs.Contents.{IsFound, IsWithinLimit};
+ghost use Rattle.pr_checks.specs.Problems.{problem_line};
 ghost use Rattle.pr_loading.specs.Loading.{holding_by};
 ghost use Rattle.pr_rulefile.specs.File.{rule_file_of};
 ghost use Rattle.pr_status.specs.Asks.{AsksBy};
 ghost use Rattle.pr_status.specs.Ends.{LoadEnds};
 ghost use Rattle.pr_status.specs.Outside.{AreTold, Held};
-ghost use Rattle.pr_test_texts.specs.TestsTold.{all_rules, and_rules, none_loaded, rules_by, rules_held};
-ghost use Rattle.pr_test_command.specs.Taking.{AreKept, rules_of};
+ghost use Rattle.pr_test_texts.specs.TestsTold.{all_rules};
+ghost use Rattle.pr_test_command.specs.Taking.{AreKept, rules_of, with_held, with_reading, with_wrong};
 
 use pr_checks::{missing, push_lines, too_large};
+use pr_loading::{Taker, load_each};
 use pr_outside::{Files, Found};
-use pr_rulefile::{RuleError, check};
+use pr_rulefile::{Problem, RuleError, check};
 use pr_status::Stop;
 use pr_words::{Items, Text};
 use pr_world::NamedFile;
 use std::alloc::{AllocError, Global};
+use std::mem::replace;
 
 /// The lines of what is wrong with rule files, and those with which nothing is.
 #[derive(Drop)]
 pub(crate) struct Rules {
-    pub(crate) wrong: Vec<u8>,
-    pub(crate) files: Vec<NamedFile>,
+    pub(crate) wrong: Items<u8>,
+    pub(crate) files: Items<NamedFile>,
 }
 
 // A file that is not read, and why.
-fn take_unread(rules: &mut Rules, name: &str, why: &[u8]) -> Result<(), AllocError>
-    ensures taken { OnOk result (rules_of rules.new ≡ and_rules (rules_of rules.old) (none_loaded (name.now ++ why.now))) }
-    ensures kept { OnOk result (rules.new.files.items ≡ rules.old.files.items) }
+fn take_unread(alloc: Global, rules: &mut Rules, name: &str, why: &[u8]) -> Result<(), AllocError>
+    ensures { OnOk result (rules.new ≡ with_wrong rules.old (name.now ++ why.now)) }
 {
-    rules.wrong.extend_from_slice(name.as_bytes())?;
-    rules.wrong.extend_from_slice(why)
+    let mut wrong = replace(&mut rules.wrong, Items::empty(alloc)).into_vec();
+    wrong.extend_from_slice(name.as_bytes())?;
+    wrong.extend_from_slice(why)?;
+    rules.wrong = Items::new(wrong);
+    Ok(())
+}
+
+// A file that is refused, and its problems.
+fn take_problems(
+    alloc: Global,
+    rules: &mut Rules,
+    name: &str,
+    problems: &[Problem],
+) -> Result<(), AllocError>
+    ensures { OnOk result (rules.new ≡ with_wrong rules.old (flat_map (problem_line name.now) problems.now)) }
+{
+    let mut wrong = replace(&mut rules.wrong, Items::empty(alloc)).into_vec();
+    push_lines(&mut wrong, name, problems)?;
+    rules.wrong = Items::new(wrong);
+    Ok(())
 }
 
 fn take_bytes(
@@ -40,8 +60,8 @@ fn take_bytes(
     bytes: Vec<u8>,
 ) -> Result<(), AllocError>
     requires { length bytes.items < 2 ^ 32 }
-    ensures taken { OnOk result (rules_of rules.new ≡ and_rules (rules_of rules.old) (rules_by name.now (rule_file_of bytes.items))) }
-    ensures kept { OnOk result ((rest : List (List ℕ)) → AreKept rules.old.files.items (name.now ∷ rest) → AreKept rules.new.files.items rest) }
+    ensures taken { OnOk result (rules.new ≡ with_reading rules.old name.now bytes.items (rule_file_of bytes.items)) }
+    ensures kept { OnOk result ((rest : List (List ℕ)) → AreKept rules.old.files (name.now ∷ rest) → AreKept rules.new.files rest) }
 {
     match check(alloc, &bytes) {
         Ok(_) => {
@@ -52,20 +72,42 @@ fn take_bytes(
             })?;
             Ok(())
         }
-        Err(RuleError::Problems { list }) => push_lines(&mut rules.wrong, name, list.as_slice()),
+        Err(RuleError::Problems { list }) => take_problems(alloc, rules, name, list.as_slice()),
         Err(RuleError::Memory) => Err(AllocError),
     }
 }
 
 fn take_file(alloc: Global, rules: &mut Rules, name: &str, found: Found) -> Result<(), AllocError>
     requires { IsWithinLimit found }
-    ensures taken { (content : Option (List ℕ)) → IsFound (Some content) found → OnOk result (rules_of rules.new ≡ and_rules (rules_of rules.old) (rules_held name.now (holding_by content))) }
-    ensures kept { OnOk result ((rest : List (List ℕ)) → AreKept rules.old.files.items (name.now ∷ rest) → AreKept rules.new.files.items rest) }
+    ensures taken { (content : Option (List ℕ)) → IsFound (Some content) found → OnOk result (rules.new ≡ with_held name.now rules.old (holding_by content)) }
+    ensures kept { OnOk result ((rest : List (List ℕ)) → AreKept rules.old.files (name.now ∷ rest) → AreKept rules.new.files rest) }
 {
     match found {
         Found::Bytes { bytes } => take_bytes(alloc, rules, name, bytes),
-        Found::Missing => take_unread(rules, name, missing()),
-        Found::TooLarge => take_unread(rules, name, too_large()),
+        Found::Missing => take_unread(alloc, rules, name, missing()),
+        Found::TooLarge => take_unread(alloc, rules, name, too_large()),
+    }
+}
+
+impl Taker<String> for Rules {
+    ghost use Rattle.std.specs.Prelude.{map, string_bytes, true};
+    ghost use Rattle.pr_test_command.specs.Taking.{AreKept, with_file};
+
+    ghost file = { string_bytes };
+
+    ghost make = { λ name. with_file (string_bytes name) };
+
+    ghost asks_all = { true };
+
+    ghost fits = { λ all rest rules. AreKept rules.files (map string_bytes rest) };
+
+    fn file(name: &String) -> &str {
+        name.as_str()
+    }
+
+    fn take(&mut self, alloc: Global, name: &String, found: Found) -> Result<bool, AllocError> {
+        take_file(alloc, self, name.as_str(), found)?;
+        Ok(true)
     }
 }
 
@@ -76,20 +118,15 @@ pub(crate) fn load_rules<F: Files>(
     files: &mut F,
 ) -> Result<Rules, Stop>
     ensures loaded { (held : Held) → AreTold (F.means files.old).content held (map string_bytes names.now) → IfOk result (λ rules. rules_of rules ≡ all_rules held (map string_bytes names.now)) }
-    ensures kept { AreKept [] (map string_bytes names.now) → IfOk result (λ rules. AreKept rules.files.items []) }
+    ensures kept { AreKept [] (map string_bytes names.now) → IfOk result (λ rules. AreKept rules.files []) }
     ensures asked { AsksBy (F.means files.old).calls (F.means files.new).calls (length names.now) result }
     ensures same { (other : List ℕ) → (F.means files.new).content other ≡ (F.means files.old).content other }
     ensures ends { LoadEnds (F.means files.old) (F.means files.new) result }
 {
     let mut rules = Rules {
-        wrong: Vec::new(alloc),
-        files: Vec::new(alloc),
+        wrong: Items::empty(alloc),
+        files: Items::empty(alloc),
     };
-    let mut rest = names;
-    'loading: while let Some((name, after)) = rest.split_first() {
-        let found = files.load(name.as_str())?;
-        take_file(alloc, &mut rules, name.as_str(), found)?;
-        rest = after;
-    }
+    load_each(alloc, &mut rules, names, files)?;
     Ok(rules)
 }

@@ -1,52 +1,38 @@
-use Rattle.std.proofs.Common.{◌∙◌, ℕ, List, Option, ◌∷◌, map, string_bytes, length, sym, subst, arith}
-use Rattle.pr_outside.specs.Contents.{IsFound}
-use Rattle.pr_test_command.specs.Taking.{AreAsked, AreKept, IsLoading, rules_of}
-use Rattle.pr_test_command.proofs.Asked.{load_stopped, memory_stopped, next_asked, still_going}
-use Rattle.pr_test_command.proofs.Taken.{goes, told_by}
+use Rattle.std.proofs.Common.{◌≡◌, [], Ok, Err, string_bytes, refl, sym, subst, map}
+use Rattle.pr_loading.proofs.Walks.{asked_on, done_on, stop_on}
+use Rattle.pr_test_texts.specs.TestsTold.{none_loaded}
+use Rattle.pr_test_command.specs.Taking.{AreKept, rules_of}
+use Rattle.pr_test_command.specs.declared.rules.Rules.{Rules}
+use Rattle.pr_test_command.proofs.Taken.{loaded_with, walk_made, walk_told}
 use Rattle.pr_test_command.proofs.rules.load_rules.Goals as goal
 
-pub returns-in_err-found-clause-asked : goal.returns-in_err-found-clause-asked
-returns-in_err-found-clause-asked g c =
+pub returns-in_err-load_each-clause-asked : goal.returns-in_err-load_each-clause-asked
+returns-in_err-load_each-clause-asked g c =
     let files = g.F.Files.means in
-    let before = (files c.args.files.now).calls in
-    let here = subst (λ (l : List _). AreAsked before (files c.loading.files).calls (length c.args.names.now) (length l)) c.in-Some.ensures.cases.0 c.loading.invariant.asked in
-    let n = next_asked before (files c.loading.files).calls (files c.load.new.self).calls (length c.args.names.now) (length c.in-Some.after.now) here c.in_err-found.ensures.calls in
-    load_stopped _ before (files c.load.new.self).calls (length c.args.names.now) (length c.in-Some.after.now) c.from_residual.result c.in_err-found.field-0.0
-    c.from_residual.ensures.1 n (omega (arith, n.count))
+    asked_on _ Unit (files c.args.files.now).calls (files c.load_each.new.files).calls _ c.from_residual.result c.in_err-load_each.field-0.0 c.from_residual.ensures.1
+    (c.in_err-load_each.ensures.all refl)
 
-pub returns-in_err-take_file-clause-asked : goal.returns-in_err-take_file-clause-asked
-returns-in_err-take_file-clause-asked g c =
-    let files = g.F.Files.means in
-    let before = (files c.args.files.now).calls in
-    let here = subst (λ (l : List _). AreAsked before (files c.loading.files).calls (length c.args.names.now) (length l)) c.in-Some.ensures.cases.0 c.loading.invariant.asked in
-    let n = next_asked before (files c.loading.files).calls (files c.load.new.self).calls (length c.args.names.now) (length c.in-Some.after.now) here c.in_ok-found.ensures.calls in
-    memory_stopped _ before (files c.load.new.self).calls (length c.args.names.now) (length c.in-Some.after.now) c.from_residual-in_err-take_file.result
-    c.from_residual-in_err-take_file.ensures.1 n
+pub returns-in_err-load_each-clause-ends : goal.returns-in_err-load_each-clause-ends
+returns-in_err-load_each-clause-ends g c =
+    stop_on _ Unit (g.F.Files.means c.args.files.now) (g.F.Files.means c.load_each.new.files) c.from_residual.result c.in_err-load_each.field-0.0 c.from_residual.ensures.1
+    c.in_err-load_each.ensures.ends
 
-pub loading-preserved : goal.loading-preserved
-loading-preserved g c =
+pub returns-clause-loaded : goal.returns-clause-loaded
+returns-clause-loaded g c =
     let files = g.F.Files.means in
-    let here = c.loading.invariant in
-    let load = c.in_ok-found.ensures in
-    let names = map string_bytes c.args.names.now in
-    let after = map string_bytes c.in-Some.after.now in
-    let name = string_bytes c.in-Some.name.now in
-    let before = (files c.args.files.now).calls in
-    record {
-      loading = λ held told.
-          let content = (files c.args.files.now).content in
-          let l = subst (λ (r : List _). IsLoading content held names (map string_bytes r) (rules_of c.loading.rules)) c.in-Some.ensures.cases.0 (here.loading held told) in
-          let is = told_by content (files c.loading.files).content held name c.as_str.result.now here.same c.as_str.ensures.value l.told.0 in
-          let found = subst (λ (o : Option (Option (List ℕ))). IsFound o c.in_ok-found.found) is load.found in
-          let taken = c.in_ok-take_file.ensures.taken (held name) found in
-          goes content held names after name c.as_str-in-Some.result.now (rules_of c.loading.rules) (rules_of c.take_file.new.rules) l c.as_str-in-Some.ensures.value taken;
-      kept = λ none.
-          let k = subst (λ (r : List _). AreKept c.loading.rules.files.items (map string_bytes r)) c.in-Some.ensures.cases.0 (here.kept none) in
-          c.in_ok-take_file.ensures.kept after (subst (λ (x : List ℕ). AreKept c.loading.rules.files.items (x ∷ after)) (sym c.as_str-in-Some.ensures.value) k);
-      asked =
-          let asked = subst (λ (l : List _). AreAsked before (files c.loading.files).calls (length c.args.names.now) (length l)) c.in-Some.ensures.cases.0 here.asked in
-          next_asked before (files c.loading.files).calls (files c.load.new.self).calls (length c.args.names.now) (length c.in-Some.after.now) asked load.calls;
-      same = λ other. load.same other ∙ here.same other;
-      calm = load.cause ∙ here.calm;
-      course = still_going (files c.args.files.now).course (files c.loading.files).course (files c.load.new.self).course here.course load.course;
-    }
+    λ held told.
+    let none : Rules = record { wrong = c.empty.result; files = c.empty-2.result } in
+    let is_none : rules_of none ≡ none_loaded [] = let wrong = c.empty.ensures in let kept = c.empty-2.ensures in cc in
+    walk_made string_bytes held c.args.names.now c.load_each.new.taker none is_none
+    (c.in_ok-load_each.ensures.made held (walk_told string_bytes held (files c.args.files.now).content c.args.names.now none told))
+
+pub returns-clause-kept : goal.returns-clause-kept
+returns-clause-kept g c = λ none.
+    c.in_ok-load_each.ensures.fits (subst (λ (l : _). AreKept l (map string_bytes c.args.names.now)) (sym c.empty-2.ensures) none)
+
+pub returns-clause-asked : goal.returns-clause-asked
+returns-clause-asked g c = c.in_ok-load_each.ensures.all refl
+
+pub returns-clause-ends : goal.returns-clause-ends
+returns-clause-ends g c =
+    done_on _ Unit (g.F.Files.means c.args.files.now) (g.F.Files.means c.load_each.new.files) c.in_ok-load_each.field-0 _ c.in_ok-load_each.ensures.ends
