@@ -1,0 +1,4 @@
+pub mod Counting
+pub mod Lists
+pub mod Recording
+pub mod Filling

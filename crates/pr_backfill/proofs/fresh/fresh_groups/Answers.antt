@@ -1,0 +1,10 @@
+use Rattle.std.proofs.Common.{List, [], sym, subst}
+use Rattle.pr_rules.specs.Settings.{of_a_run}
+use Rattle.pr_group.specs.Keeping.{KeptGroup}
+use Rattle.pr_manager.specs.Keeping.{KeepEach}
+use Rattle.pr_backfill.proofs.fresh.fresh_groups.Goals as goal
+
+pub returns : goal.returns
+returns g c = λ history.
+    c.in_ok-push_groups.ensures history []
+    (subst (λ (ks : List (KeptGroup g.row.R.Denot)). KeepEach g.R.Ranges.fits g.R.Ranges.last g.R.Ranges.passed of_a_run history ks []) (sym c.new-kept.ensures.items) tt)

@@ -1,0 +1,14 @@
+use Rattle.std.proofs.Common.{List, sym, subst}
+use Rattle.std.specs.List.{All}
+use Rattle.pr_rule_result.specs.Templates.{HasTemplates}
+use Rattle.pr_rulefile.specs.declared.rules.RuleDef.{RuleDef}
+use Rattle.pr_rulefile.specs.Rules.{rule_of_def}
+use Rattle.pr_backfill.proofs.Recording.{group_recorded, have_templates}
+use Rattle.pr_backfill.proofs.fresh.recording_group.Goals as goal
+
+pub returns-clause-group : goal.returns-clause-group
+returns-clause-group c = group_recorded c.args.def c.in_ok-recording_rules.field-0 c.in_ok-recording_rules.ensures
+
+pub returns-clause-templates : goal.returns-clause-templates
+returns-clause-templates c =
+    subst (λ (l : List RuleDef). All (λ r. HasTemplates (rule_of_def r)) l) (sym c.in_ok-recording_rules.ensures) (have_templates c.args.def.rules)

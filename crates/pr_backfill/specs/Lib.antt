@@ -1,0 +1,5 @@
+pub mod Times
+pub mod Filled
+pub mod Keeping
+pub mod Rounds
+pub mod Examples
