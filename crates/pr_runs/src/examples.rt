@@ -1,92 +1,65 @@
-// The examples: scripts, an exposition, a rule file and test files, with what the program answers to them.
-use pr_outside::{Files, MemSink, MemSource, SureKeeper};
-use pr_top::promtool;
-use std::alloc::{AllocError, Global};
-use std::str;
+// The examples: scripts, an exposition, a rule file and test files, with what the program answers to
+// them. A line of `data/answers` has the words, the input behind ` < `, the file of the answers behind
+// ` > `, and maybe behind ` & ` the files that are loaded.
+use crate::program::Promtool;
+use crate::texts::{bytes_of, text_of};
+use pr_outside::{Files, HeldFile};
+use pr_run_rows::answers;
+use std::alloc::Global;
+use std::io;
+use std::rt::HostRuntime;
 
-/// The words of an example, the file that is its input, and the file of its answers.
-pub(crate) const EXAMPLES: [(&str, &str, &str); 21] = [
-    (
-        "run",
-        "examples/aggregations.txt",
-        "examples/aggregations.answers",
-    ),
-    ("run", "examples/firing.txt", "examples/firing.answers"),
-    ("run", "examples/first.txt", "examples/first.answers"),
-    ("run", "examples/reload.txt", "examples/reload.answers"),
-    ("run", "examples/restart.txt", "examples/restart.answers"),
-    (
-        "run",
-        "examples/functions.txt",
-        "examples/functions.answers",
-    ),
-    (
-        "run",
-        "examples/histogram.txt",
-        "examples/histogram.answers",
-    ),
-    ("run", "examples/matching.txt", "examples/matching.answers"),
-    ("run", "examples/numbers.txt", "examples/numbers.answers"),
-    (
-        "run",
-        "examples/operators.txt",
-        "examples/operators.answers",
-    ),
-    (
-        "run",
-        "examples/questions.txt",
-        "examples/questions.answers",
-    ),
-    ("run", "examples/ranges.txt", "examples/ranges.answers"),
-    ("run", "examples/refused.txt", "examples/refused.answers"),
-    ("run", "examples/scrapes.txt", "examples/scrapes.answers"),
-    (
-        "run",
-        "examples/selectors.txt",
-        "examples/selectors.answers",
-    ),
-    ("run", "examples/sets.txt", "examples/sets.answers"),
-    (
-        "run",
-        "examples/staleness.txt",
-        "examples/staleness.answers",
-    ),
-    (
-        "run",
-        "examples/subqueries.txt",
-        "examples/subqueries.answers",
-    ),
-    (
-        "check metrics",
-        "examples/metrics.txt",
-        "examples/metrics.answers",
-    ),
-    (
-        "check rules examples/alerts.yml",
-        "examples/alerts.yml",
-        "examples/alerts.answers",
-    ),
-    (
-        "test rules examples/down.test.yml examples/early.test.yml",
-        "examples/down.test.yml",
-        "examples/tests.answers",
-    ),
-];
+/// The examples, a line each.
+const EXAMPLES: &str = "answers";
 
-/// What the program answers to these words and this input.
-pub(crate) fn answers_of<F: Files>(
+fn held<F: Files>(alloc: Global, files: &mut F, name: &str) -> io::Result<HeldFile> {
+    let bytes = bytes_of(files, name)?;
+    Ok(HeldFile {
+        name: String::from_str(alloc, name)?,
+        bytes,
+    })
+}
+
+fn all_held<F: Files>(alloc: Global, files: &mut F, names: &str) -> io::Result<Vec<HeldFile>> {
+    let mut all = Vec::new(alloc);
+    for name in names.split_whitespace() {
+        all.push(held(alloc, files, name)?)?;
+    }
+    Ok(all)
+}
+
+// What is answered to these words, where this is the input and these files are loaded.
+fn told<F: Files>(
     alloc: Global,
     files: &mut F,
     words: &str,
-    input: String,
-) -> Result<String, AllocError> {
-    let mut owned = Vec::new(alloc);
-    for word in words.split_whitespace() {
-        owned.push(String::from_str(alloc, word)?)?;
+    input: &str,
+    names: &str,
+) -> io::Result<String> {
+    let input = bytes_of(files, input)?;
+    let loaded = all_held(alloc, files, names)?;
+    let text = answers(alloc, &mut Promtool, words, input, loaded)?;
+    Ok(text)
+}
+
+// Tells whether an example is answered as in its file.
+fn tell_example<F: Files>(rt: &HostRuntime, files: &mut F, line: &str) -> io::Result<()> {
+    let (example, names) = line.split_once(" & ").unwrap_or((line, ""));
+    let (run, wanted) = example.split_once(" > ").unwrap_or((example, ""));
+    let (words, input) = run.split_once(" < ").unwrap_or((run, ""));
+    let told = told(rt.alloc(), files, words, input, names)?;
+    if told == text_of(files, wanted)? {
+        println!(rt; "{run}: as in {wanted}")
+    } else {
+        println!(rt; "{run}: not as in {wanted}:\n{told}")
     }
-    let mut input = MemSource::new(input.into_bytes(), Vec::new(alloc));
-    let mut out = MemSink::new(alloc, Vec::new(alloc));
-    let mut keeper = SureKeeper::new(Vec::new(alloc));
-    let _status = promtool(alloc, &owned, &mut input, files, &mut keeper, &mut out);
-    String::from_str(alloc, str::from_utf8(out.bytes()).unwrap_or("no text"))
+}
+
+/// Goes over the examples.
+pub(crate) fn tell_examples<F: Files>(rt: &HostRuntime, files: &mut F) -> io::Result<()> {
+    let examples = text_of(files, EXAMPLES)?;
+    for line in examples.lines() {
+        tell_example(rt, files, line)?;
+    }
+    Ok(())
 }

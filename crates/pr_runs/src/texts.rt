@@ -1,0 +1,19 @@
+// The files of data.
+use pr_outside::{Files, Found};
+use std::io;
+
+/// The bytes of a file.
+pub(crate) fn bytes_of<F: Files>(files: &mut F, name: &str) -> io::Result<Vec<u8>> {
+    match files.load(name) {
+        Ok(Found::Bytes { bytes }) => Ok(bytes),
+        _ => Err(io::Error::from(io::ErrorKind::NotFound)),
+    }
+}
+
+/// The text of a file.
+pub(crate) fn text_of<F: Files>(files: &mut F, name: &str) -> io::Result<String> {
+    match String::from_utf8(bytes_of(files, name)?) {
+        Ok(text) => Ok(text),
+        Err(_) => Err(io::Error::from(io::ErrorKind::InvalidData)),
+    }
+}
