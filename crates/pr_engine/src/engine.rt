@@ -174,14 +174,14 @@ impl<R: Ranges + Drop> Engine<R> {
         answer
     }
 
-    /// Takes an event, and answers it. What it adds is kept by one commit before it is answered, and
-    /// nothing after the commit takes memory.
+    /// Takes an event, and answers it. What it adds is kept, all or none, before it is answered, and
+    /// nothing after that takes memory.
     ///
     /// # Errors
     /// `Memory`; `StoreFailed` where the store refused a call; `BadRow` of a restart, with the index
     /// of the first row that is the row of no entry, or is not added to those before it. Then the
-    /// store has the rows from before the event, and all but restarts are answered by `Broken`, with
-    /// the first cause, until one succeeds.
+    /// store has as many rows as before the event, and the same where it tells them, and all but
+    /// restarts are answered by `Broken`, with the first cause, until one succeeds.
     #[tactic(auto, unfolding(pr_world::specs::Step::next), using(crate::proofs::Told::keeps_same))]
     pub fn apply<K: Keeper, G: Ledger>(
         &mut self,

@@ -111,8 +111,8 @@ fn do_command<E: Worlds + Drop, I: Source, F: Files, K: Keeper, O: Sink>(
 }
 
 /// Does all that the program does, over what keeps the world of a run. The words are those after the
-/// program's name, `out` is the standard output, and the status is what the process ends with. What is
-/// done so far is `run`, which reads a script from `input` and answers it over the rows of a store;
+/// program's name, `out` is the standard output, and the status is what the process ends with. It does
+/// `run`, which reads a script from `input` and answers it over the rows of a store;
 /// `check metrics`, which checks the exposition that `input` is; `check rules FILE..`, which checks rule
 /// files, one after another; `test rules FILE..`, which tests rules by test files, one after another; and
 /// `exercise N`, which answers a script that is made up, and sums up what it tells.

@@ -21,7 +21,7 @@ use pr_verdict::Failure;
 use pr_words::Items;
 use std::alloc::{AllocError, Global};
 
-// The number of a check or a test, counted from 1. More than 2^32 of them take all memory.
+// The number of a check or a test, counted from 1. So many as 2^32 of them count as want of memory.
 pub(crate) fn number_of(index: usize) -> Result<u32, AllocError>
     ensures { IfOk result (λ n. n ≡ index + 1) }
 {
