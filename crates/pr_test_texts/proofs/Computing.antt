@@ -20,10 +20,10 @@ use Rattle.pr_world.specs.Step.{next}
 use Rattle.pr_testfile.specs.Series.{point_at, entries_at, places, entries_of}
 use Rattle.pr_verdict.specs.Events.{events_of, world_at}
 use Rattle.pr_verdict.specs.Verdict.{test_verdict, verdict}
-use Rattle.pr_checks.specs.RuleFiles.{failed_line, missing}
+use Rattle.pr_checks.specs.RuleFiles.{failed_line, missing, too_large}
 use Rattle.pr_test_texts.specs.FailureText.{expected_word, got_word, failure_text}
 use Rattle.pr_test_texts.specs.TestsTold.{success_line, testing_text}
 
 unfoldable pub computing : ⊤
-unfolding digits encode bad_place reading sum_of product_of half half_abs compared fraction_text shown bad_string_place string_of series_text meets meets_all expansion through pieces template_parts points_in points rule_result rule_outcome rule_step group_step next point_at entries_at places entries_of events_of world_at test_verdict verdict failed_line missing expected_word got_word failure_text success_line testing_text
+unfolding digits encode bad_place reading sum_of product_of half half_abs compared fraction_text shown bad_string_place string_of series_text meets meets_all expansion through pieces template_parts points_in points rule_result rule_outcome rule_step group_step next point_at entries_at places entries_of events_of world_at test_verdict verdict failed_line missing too_large expected_word got_word failure_text success_line testing_text
 computing = tt

@@ -1,1 +1,2 @@
 mod Computing
+mod Met

@@ -1,10 +1,13 @@
 //! What is told of small test files.
 ghost use Rattle.std.specs.Prelude.{◌≡◌, true, false, [], ◌∷◌, codes};
+ghost use Rattle.pr_loading.specs.Loading.{is_too_large};
 ghost use Rattle.pr_num.specs.declared.value.Num.TheVariants.{NaN};
 ghost use Rattle.pr_history.specs.Examples.{number};
+ghost use Rattle.pr_testfile.specs.File.{PlainFile};
+ghost use Rattle.pr_verdict.specs.Verdict.{verdict};
 ghost use Rattle.pr_verdict.specs.Worked.{down_failure, down_file, down_tests, x_failure, x_file};
 ghost use Rattle.pr_test_texts.specs.FailureText.{failure_text};
-ghost use Rattle.pr_test_texts.specs.TestsTold.{lines_with, tests_told, these_tests, told_of};
+ghost use Rattle.pr_test_texts.specs.TestsTold.{RulesLoaded, all_rules, are_failures, lines_with, rules_held, tests_told, these_tests, told_of};
 ghost use Rattle.pr_test_texts.specs.Worked.{nothing_held};
 
 /// A check is told with its time, what is expected and what comes.
@@ -28,4 +31,19 @@ pub fn a_test_file_is_told()
 #[tactic(auto, unfolding(crate::proofs::Computing::computing))]
 pub fn a_file_that_is_missing_is_told()
     ensures { tests_told nothing_held (codes "t.yml") ≡ record { text = codes "Unit Testing:  t.yml\n  FAILED:\nt.yml: Missing\n"; refused = true; asks = codes "t.yml" ∷ [] } }
+{}
+
+/// Of each rule file that does not load there is a line.
+#[tactic(auto, unfolding(crate::proofs::Computing::computing))]
+pub fn each_bad_rule_file_is_told()
+    ensures missing { (all_rules nothing_held (codes "a.yml" ∷ codes "b.yml" ∷ [])).wrong ≡ codes "a.yml: Missing\nb.yml: Missing\n" }
+    ensures too_large { (rules_held (codes "a.yml") is_too_large).wrong ≡ codes "a.yml: TooLarge\n" }
+{}
+
+/// Of a test file that reads SUCCESS is told exactly where nothing is wrong with its rule files and
+/// each check is as expected.
+#[tactic(auto, using(crate::proofs::Met::all_met, crate::proofs::Met::none_told))]
+pub fn success_is_told_where_all_is_met()
+    ensures met { (f : PlainFile) (r : RulesLoaded) → are_failures (lines_with f r) ≡ false → (r.wrong ≡ []) × (verdict f r.files ≡ []) }
+    ensures told { (f : PlainFile) (r : RulesLoaded) → r.wrong ≡ [] → verdict f r.files ≡ [] → are_failures (lines_with f r) ≡ false }
 {}

@@ -149,3 +149,29 @@ bare_test times = record {
 
 abbrev pub noted : List ℕ → Found
 noted summary = record { labels = pair_of (codes "alertname") (codes "A") ∷ []; notes = pair_of (codes "summary") summary ∷ []; value = NaN }
+
+-- Alerts of two rules of one name, of which the first one has a label more
+
+abbrev pub worse : List Pair
+worse = pair_of (codes "severity") (codes "worse") ∷ []
+
+abbrev pub now_rule : List Pair → Rule
+now_rule labels = record { name = codes "Now"; alert = true; expr = metric (codes "x"); labels = labels; hold = 0; keep = 0; notes = [] }
+
+abbrev pub now_file : LoadedFile
+now_file = record { name = codes "now.yml"; groups = record { name = codes "g"; interval = None; limit = 0; rules = now_rule worse ∷ now_rule [] ∷ [] } ∷ [] }
+
+abbrev pub now_found : List Pair → Found
+now_found more = record { labels = pair_of (codes "alertname") (codes "Now") ∷ more; notes = []; value = NaN }
+
+abbrev pub now_test : PlainTest
+now_test = record {
+  input = x_entry (number 1) ∷ [];
+  alerts = record { time = 0; name = codes "Now"; expected = now_found [] ∷ now_found worse ∷ [] } ∷ [];
+  exprs = [];
+  external_labels = [];
+  external_url = [];
+}
+
+abbrev pub now_tests : PlainFile
+now_tests = record { rule_files = codes "now.yml" ∷ []; interval = 60000; order = []; tests = now_test ∷ [] }

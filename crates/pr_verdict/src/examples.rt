@@ -1,14 +1,19 @@
 //! What the definitions say of small tests.
-ghost use Rattle.std.specs.Prelude.{◌≡◌, [], ◌∷◌, None, Some, codes};
+ghost use Rattle.std.specs.Prelude.{◌≡◌, List, [], ◌∷◌, None, Some, codes, map};
+ghost use Rattle.pr_num.specs.declared.value.Num.{Num};
 ghost use Rattle.pr_num.specs.declared.value.Num.TheVariants.{NaN};
+ghost use Rattle.pr_labels.specs.declared.item.Item.{Item};
 ghost use Rattle.pr_labels.specs.LabelSet.{named, pair_of};
 ghost use Rattle.pr_history.specs.Examples.{number, whole};
+ghost use Rattle.pr_ast.specs.declared.place.Place.{Place};
+ghost use Rattle.pr_query.specs.declared.fault.FaultKind.{FaultKind};
+ghost use Rattle.pr_rules.specs.Groups.{RuleState};
 ghost use Rattle.pr_world.specs.declared.event.Event.TheVariants.{Add, Eval};
-ghost use Rattle.pr_verdict.specs.declared.failure.Shown.TheVariants.{Alerts};
+ghost use Rattle.pr_verdict.specs.declared.failure.Shown.TheVariants.{Alerts, Fault, Samples};
 ghost use Rattle.pr_verdict.specs.RuleFiles.{folder, rule_file_names};
 ghost use Rattle.pr_verdict.specs.Events.{by_names, events_of, groups_of, last_check, settings_of};
-ghost use Rattle.pr_verdict.specs.Verdict.{alert_failure, failure, verdict};
-ghost use Rattle.pr_verdict.specs.Worked.{bare_test, down_failure, down_file, down_tests, names_of, noted, three_groups, x_failure, x_file, x_test};
+ghost use Rattle.pr_verdict.specs.Verdict.{alert_failure, expr_failure, failure, firing_by, verdict};
+ghost use Rattle.pr_verdict.specs.Worked.{bare_test, down_failure, down_file, down_tests, names_of, noted, now_file, now_tests, three_groups, x_failure, x_file, x_test};
 
 /// A rule file is looked for beside its test file, where its name does not begin with a slash; and
 /// a name that comes again is passed over.
@@ -66,4 +71,22 @@ pub fn alerts_are_compared_with_their_annotations()
 pub fn an_alert_is_as_expected_or_not()
     ensures early { verdict (down_tests 240000) (down_file ∷ []) ≡ down_failure ∷ [] }
     ensures fires { verdict (down_tests 600000) (down_file ∷ []) ≡ [] }
+{}
+
+/// A fault differs from all that can be expected, also from nothing.
+pub fn a_fault_is_never_as_expected()
+    ensures { (expected : List (Item Num)) (place : Place) (kind : FaultKind) → expr_failure 1 2 expected (Fault place kind) ≡ failure 1 2 (Samples expected) (Fault place kind) ∷ [] }
+{}
+
+/// No group waits in a test until its alerts are restored.
+pub fn no_group_waits()
+    ensures { map (λ g. g.waits) (groups_of (three_groups ∷ [])) ≡ 0 ∷ 0 ∷ 0 ∷ [] }
+{}
+
+/// Alerts of two rules of one name are told in label order, whichever rule comes first. A rule that
+/// records fires no alert, whatever its name.
+#[tactic(auto, unfolding(crate::proofs::Computing::computing))]
+pub fn alerts_of_all_rules_of_a_name_are_told()
+    ensures order { verdict now_tests (now_file ∷ []) ≡ [] }
+    ensures recorded { (r : RuleState) → firing_by false r ≡ [] }
 {}
