@@ -112,14 +112,10 @@ fn rows_of(alloc: Global, entries: &[Entry]) -> Result<Vec<Row>, AllocError>
     Ok(rows)
 }
 
-/// Keeps the rows of entries by one commit, or by none where there are no entries. After a refusal no
-/// row is kept.
+/// Keeps the rows of entries, all by one commit, or by none where there are no entries. After a
+/// refusal no row is kept.
 #[tactic(auto, using(crate::proofs::Told::appends_nothing, crate::proofs::Told::keeps_same))]
-pub(crate) fn keep<K: Keeper>(
-    alloc: Global,
-    keeper: &mut K,
-    entries: &[Entry],
-) -> Result<(), KeepError>
+pub fn keep<K: Keeper>(alloc: Global, keeper: &mut K, entries: &[Entry]) -> Result<(), KeepError>
     ensures ok { OnOk result (AppendsRows (K.means keeper.old).rows (K.means keeper.new).rows (map encoded entries.now)) }
     ensures ok_count { OnOk result ((K.means keeper.new).count ≡ (K.means keeper.old).count + length entries.now) }
     ensures back { OnOk result (AreRead entries.now) }

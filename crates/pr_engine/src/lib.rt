@@ -5,6 +5,7 @@ mod engine;
 mod fault;
 mod keeping;
 mod loading;
+mod opening;
 mod query;
 mod rules;
 mod standing;
@@ -13,3 +14,5 @@ mod telling;
 
 pub use engine::Engine;
 pub use fault::{ApplyError, Cause, StartError};
+pub use keeping::keep;
+pub use opening::history;
