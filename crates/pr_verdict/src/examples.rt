@@ -1,5 +1,5 @@
 //! What the definitions say of small tests.
-ghost use Rattle.std.specs.Prelude.{◌≡◌, List, [], ◌∷◌, None, Some, codes, map};
+ghost use Rattle.std.specs.Prelude.{◌≡◌, List, [], ◌∷◌, None, Some, codes, false, map};
 ghost use Rattle.pr_num.specs.declared.value.Num.{Num};
 ghost use Rattle.pr_num.specs.declared.value.Num.TheVariants.{NaN};
 ghost use Rattle.pr_labels.specs.declared.item.Item.{Item};
