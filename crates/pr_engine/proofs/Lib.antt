@@ -6,3 +6,4 @@ pub mod Values
 pub mod Steps
 pub mod Passing
 pub mod Answering
+pub mod Free

@@ -133,7 +133,7 @@ impl<R: Ranges + Drop> Engine<R> {
     }
 
     // Answers an event that is not before the last one. Of a broken engine it is a restart.
-    #[tactic(auto, using(crate::proofs::Answering::stands_after, crate::proofs::Answering::stands_broken, crate::proofs::Answering::stands_anew, crate::proofs::Answering::report_in_time, crate::proofs::Answering::rows_in_time, crate::proofs::Answering::keeps_whole, crate::proofs::Answering::known_else))]
+    #[tactic(auto, using(crate::proofs::Answering::stands_after, crate::proofs::Answering::stands_broken, crate::proofs::Answering::stands_anew, crate::proofs::Answering::report_in_time, crate::proofs::Answering::rows_in_time, crate::proofs::Answering::keeps_whole, crate::proofs::Answering::known_else, crate::proofs::Free::refused_free))]
     fn answer<K: Keeper, G: Ledger>(
         &mut self,
         alloc: Global,
@@ -166,6 +166,7 @@ impl<R: Ranges + Drop> Engine<R> {
         ensures cause { HasApplyCause (K.means keeper.old).faults (K.means keeper.new).faults result }
         ensures reads { (w : World) → StandsFor R.fits R.last R.passed self.old (K.means keeper.old) w
             → reads.new ≤ reads.old + event_cost self.old.step (passed_by_named R.passed self.old.parts.manager w.history) w event }
+        ensures free { (w : World) → StandsFor R.fits R.last R.passed self.old (K.means keeper.old) w → (next (settings_of self.old.step) w event).refused ≡ true → reads.new ≤ reads.old }
     {
         let time = time_of(&event);
         let answer = self.standing.answer(alloc, keeper, self.step, event, reads);
@@ -223,6 +224,9 @@ impl<R: Ranges + Drop> Engine<R> {
         // A query and an evaluation alone read samples.
         ensures reads { (w : World) → StandsFor R.fits R.last R.passed self.old (K.means keeper.old) w
             → reads.new ≤ reads.old + event_cost self.old.step (passed_by_named R.passed self.old.parts.manager w.history) w event }
+        // Nothing is read for one that is refused, or that meets a broken engine.
+        ensures free { (w : World) → StandsFor R.fits R.last R.passed self.old (K.means keeper.old) w → (next (settings_of self.old.step) w event).refused ≡ true → reads.new ≤ reads.old }
+        ensures unread { (first : Cause) → result ≡ Err (ApplyError.Broken first) → reads.new ≤ reads.old }
     {
         match self.broken {
             Some(first) if !is_restart(&event) => return Err(ApplyError::Broken { first }),

@@ -1,2 +1,2 @@
 mod Computing
-mod Met
+mod Successes

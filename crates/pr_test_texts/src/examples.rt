@@ -42,7 +42,7 @@ pub fn each_bad_rule_file_is_told()
 
 /// Of a test file that reads SUCCESS is told exactly where nothing is wrong with its rule files and
 /// each check is as expected.
-#[tactic(auto, using(crate::proofs::Met::all_met, crate::proofs::Met::none_told))]
+#[tactic(auto, using(crate::proofs::Successes::all_met, crate::proofs::Successes::none_told))]
 pub fn success_is_told_where_all_is_met()
     ensures met { (f : PlainFile) (r : RulesLoaded) → are_failures (lines_with f r) ≡ false → (r.wrong ≡ []) × (verdict f r.files ≡ []) }
     ensures told { (f : PlainFile) (r : RulesLoaded) → r.wrong ≡ [] → verdict f r.files ≡ [] → are_failures (lines_with f r) ≡ false }
