@@ -133,7 +133,7 @@ impl<R: Ranges + Drop> Engine<R> {
     }
 
     // Answers an event that is not before the last one. Of a broken engine it is a restart.
-    #[tactic(auto, using(crate::proofs::Answering::stands_after, crate::proofs::Answering::stands_broken, crate::proofs::Answering::stands_anew, crate::proofs::Answering::report_in_time, crate::proofs::Answering::rows_in_time, crate::proofs::Answering::keeps_whole, crate::proofs::Answering::known_else, crate::proofs::Free::refused_free))]
+    #[tactic(auto, using(crate::proofs::Answering::stands_after, crate::proofs::Answering::stands_broken, crate::proofs::Answering::stands_anew, crate::proofs::Answering::report_in_time, crate::proofs::Answering::rows_in_time, crate::proofs::Answering::keeps_whole, crate::proofs::Answering::known_else))]
     fn answer<K: Keeper, G: Ledger>(
         &mut self,
         alloc: Global,

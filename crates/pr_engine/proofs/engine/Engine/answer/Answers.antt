@@ -7,6 +7,7 @@ use Rattle.pr_engine.specs.Events.{event_cost, is_restart, settings_of}
 use Rattle.pr_engine.specs.Passing.{EventPasses}
 use Rattle.pr_engine.specs.Standing.{Kept, KeepsBefore, StandsFor}
 use Rattle.pr_engine.proofs.Answering.{keeps_before, refused_goes_on, refused_stays, some_stands, stands_answered}
+use Rattle.pr_engine.proofs.Free.{refused_free}
 use Rattle.pr_engine.proofs.Steps.{in_time, refused_in_time, refused_rows}
 use Rattle.pr_engine.proofs.engine.Engine.answer.Goals as goal
 
@@ -40,6 +41,21 @@ returns-clause-reads g c = λ w stands.
     let before : is_restart e ≡ false → KeepsBefore R.fits R.last R.passed k.step k.standing w (time_of e) =
     λ goes_on. keeps_before R.fits R.last R.passed kept (means c.args.keeper.now) w (time_of e) here (ap (λ (x : Kept g.row.R.Denot). x.broken) c.self.view_is ∙ c.requires.whole goes_on) late in
     subst (λ (x : Kept g.row.R.Denot). c.answer-answer.new.reads ≤ c.args.reads.now + event_cost x.step (passed_by_named R.passed x.parts.manager w.history) w e) c.self.view_is
+    (c.answer-answer.ensures.reads w before)
+
+pub returns-clause-free : goal.returns-clause-free
+returns-clause-free g c = λ w stands refused.
+    let R = g.R.Ranges in
+    let means = g.K.Keeper.means in
+    let k = c.self.inside in
+    let e = c.args.event in
+    let kept : Kept g.row.R.Denot = record { parts = k.standing; step = k.step; last = k.last; broken = k.broken } in
+    let here : StandsFor R.fits R.last R.passed kept (means c.args.keeper.now) w = subst (λ (x : Kept g.row.R.Denot). StandsFor R.fits R.last R.passed x (means c.args.keeper.now) w) (sym c.self.view_is) stands in
+    let late : IsNotBefore k.last (time_of e) = subst (λ (x : Kept g.row.R.Denot). IsNotBefore x.last (time_of e)) (sym c.self.view_is) c.requires.in_time in
+    let before : is_restart e ≡ false → KeepsBefore R.fits R.last R.passed k.step k.standing w (time_of e) =
+    λ goes_on. keeps_before R.fits R.last R.passed kept (means c.args.keeper.now) w (time_of e) here (ap (λ (x : Kept g.row.R.Denot). x.broken) c.self.view_is ∙ c.requires.whole goes_on) late in
+    let same = subst (λ (x : Kept g.row.R.Denot). (next (settings_of x.step) w e).refused ≡ true) (sym c.self.view_is) refused in
+    refused_free R.fits R.last R.passed kept (means c.args.keeper.now) w e c.args.reads.now c.answer-answer.new.reads here late same
     (c.answer-answer.ensures.reads w before)
 
 pub returns-clause-passed : goal.returns-clause-passed
