@@ -1,0 +1,6 @@
+//! What `backfill` writes and promises: the model, of definitions without bodies.
+#![tactic(auto)]
+
+mod examples;
+
+pub use examples::a_backfill_is_told_so;
