@@ -55,8 +55,10 @@ pub trait Keeper {
         ensures count { result ≡ (means self.now).count }
         ensures rows { IfSome (means self.now).rows (λ rows. result ≡ length rows) };
 
-    /// Appends all the rows. A refused call appends none.
+    /// Appends all the rows, of which there is one at least: nothing is committed that adds none. A
+    /// refused call appends none.
     fn commit(&mut self, added: &[Row]) -> Result<(), KeepError>
+        requires { 0 < length added.now }
         ensures ok { OnOk result (AppendsRows (means self.old).rows (means self.new).rows added.now) }
         ensures ok_count { OnOk result ((means self.new).count ≡ (means self.old).count + length added.now) }
         ensures err { OnErr result (KeepsRows (means self.old).rows (means self.new).rows) }
