@@ -105,23 +105,24 @@ impl<S: Alter> Kept<S> {
     // Makes the tables.
     #[tactic(auto, using(crate::proofs::KeptLemmas::made_so, crate::proofs::KeptLemmas::made_told, crate::proofs::RanLemmas::counts_once))]
     fn make(&mut self, is_first: bool) -> Result<(), KeepError>
-        requires fresh { self.old.is_ready ≡ false }
+        requires untold { self.old.is_first ≡ false }
         requires first { IsTrue is_first → (state S.Store self.old.conn).now.schema ≡ schema_of [] }
         ensures ok { OnOk result (IsTrue self.new.is_ready × (self.new.is_first ≡ is_first)) }
         ensures made { HasCleanDisk (state S.Store self.new.conn) → OnOk result (IsTrue is_first → rows_of S.Store self.new ≡ Some []) }
         ensures err { HasCleanDisk (state S.Store self.new.conn) → OnErr result (IsTrue (state S.Store self.new.conn).is_open → (state S.Store self.new.conn).now ≡ (state S.Store self.old.conn).now) }
-        ensures unready { OnErr result ((self.new.is_ready ≡ false) × (self.new.size ≡ 0)) }
+        ensures keeps { OnErr result ((self.new.is_ready ≡ self.old.is_ready) × (self.new.size ≡ self.old.size)) }
         ensures untold { OnErr result (self.new.is_first ≡ false) }
         ensures clean { doubt (state S.Store self.old.conn).is_clean ≤ doubt (state S.Store self.new.conn).is_clean }
         ensures cause { HasKeepCause (faults_in self.old) (faults_in self.new) result }
         ensures odd { self.new.odd ≡ self.old.odd }
         ensures ran { HasCleanDisk (state S.Store self.new.conn) → OnOk result (HasRun S.Store makings self.old.conn self.new.conn) }
-        ensures size { self.new.size ≡ 0 }
+        ensures size { OnOk result (self.new.size ≡ 0) }
         ensures once { CountsOnce self.old.refused self.old.odd self.new.refused self.new.odd result }
         ensures refused { HasCleanDisk (state S.Store self.new.conn) → self.new.refused ≢ self.old.refused → IsRefusal (λ e. IsTransactionRefused S.Store makings e self.old.conn self.new.conn) }
     {
         match make(&mut self.conn) {
             Ok(()) => {
+                self.size = 0;
                 self.is_ready = true;
                 self.is_first = is_first;
                 Ok(())
@@ -133,14 +134,14 @@ impl<S: Alter> Kept<S> {
     // Reads the tables that are there.
     #[tactic(auto, using(crate::proofs::RanLemmas::counts_once))]
     fn read(&mut self, is_first: bool) -> Result<(), KeepError>
-        requires fresh { self.old.is_ready ≡ false }
+        requires untold { self.old.is_first ≡ false }
         requires first { IsTrue is_first → HasOursFirst (state S.Store self.old.conn).now.schema }
         requires live { IsLive (state S.Store self.old.conn) }
         ensures ok { OnOk result (IsTrue self.new.is_ready × (self.new.is_first ≡ is_first)) }
         ensures kept { HasCleanDisk (state S.Store self.new.conn) → OnOk result (IsTrue is_first → Keeps (state S.Store self.old.conn).now (listed (state S.Store self.old.conn).now) × (rows_of S.Store self.new ≡ Some (listed (state S.Store self.old.conn).now))) }
         ensures found { HasCleanDisk (state S.Store self.new.conn) → OnOk result (IsTrue is_first → (rows : List Line) → Keeps (state S.Store self.old.conn).now rows → rows_of S.Store self.new ≡ Some rows) }
         ensures same { HasCleanDisk (state S.Store self.new.conn) → IsTrue (state S.Store self.new.conn).is_open → (state S.Store self.new.conn).now ≡ (state S.Store self.old.conn).now }
-        ensures unready { OnErr result ((self.new.is_ready ≡ false) × (self.new.size ≡ 0)) }
+        ensures keeps { OnErr result ((self.new.is_ready ≡ self.old.is_ready) × (self.new.size ≡ self.old.size)) }
         ensures untold { OnErr result (self.new.is_first ≡ false) }
         ensures clean { doubt (state S.Store self.old.conn).is_clean ≤ doubt (state S.Store self.new.conn).is_clean }
         ensures cause { HasKeepCause (faults_in self.old) (faults_in self.new) result }
@@ -170,7 +171,8 @@ impl<S: Alter> Kept<S> {
     ///
     /// # Errors
     /// `Failed` where the tables, the number or the rows are others, and where a statement is
-    /// refused. What is in the database then stays as it was.
+    /// refused. What is in the database then stays as it was, and so does the number of rows, which
+    /// are told no more; a store that was ready stays ready.
     #[tactic(auto, using(crate::proofs::KeptLemmas::has_schema, crate::proofs::FoundLemmas::bare_is_free, crate::proofs::FoundLemmas::not_free))]
     pub fn ready(&mut self) -> Result<(), KeepError>
         ensures ok { OnOk result (IsTrue self.new.is_ready) }
@@ -188,7 +190,8 @@ impl<S: Alter> Kept<S> {
         ensures err { HasCleanDisk (state S.Store self.new.conn) → OnErr result (IsTrue (state S.Store self.new.conn).is_open → (state S.Store self.new.conn).now ≡ (state S.Store self.old.conn).now) }
         // Other tables with a name of the store are refused, and looked into no further.
         ensures others { IsOther (state S.Store self.old.conn).now.schema → (result ≡ Err Failed) × (self.new.odd ≡ one_more self.old.odd) × (self.new.refused ≡ self.old.refused) × (self.new.conn ≡ self.old.conn) }
-        ensures unready { OnErr result ((self.new.is_ready ≡ false) × (self.new.size ≡ 0)) }
+        // So a store of which this has succeeded once stays ready.
+        ensures keeps { OnErr result ((self.new.is_ready ≡ self.old.is_ready) × (self.new.size ≡ self.old.size)) }
         ensures untold { OnErr result (self.new.is_first ≡ false) }
         ensures clean { doubt (state S.Store self.old.conn).is_clean ≤ doubt (state S.Store self.new.conn).is_clean }
         ensures cause { HasKeepCause (faults_in self.old) (faults_in self.new) result }
@@ -205,8 +208,6 @@ impl<S: Alter> Kept<S> {
         // What is counted as refused is a statement that makes the tables, or one that reads them.
         ensures refused { HasCleanDisk (state S.Store self.new.conn) → self.new.refused ≢ self.old.refused → IsRefusal (λ e. IsTransactionRefused S.Store makings e self.old.conn self.new.conn ⊎ IsReadingRefused S.Store e self.old.conn self.new.conn) }
     {
-        self.size = 0;
-        self.is_ready = false;
         self.is_first = false;
         match standing_of(self.conn.schema()) {
             Standing::Free { is_first } => self.make(is_first),
