@@ -47,27 +47,32 @@ all_apart : (more names : List (List ℕ)) → IsDistinct bytes_eq names → IsD
 all_apart [] names d = d
 all_apart (name ∷ more) names d = all_apart more (with_name names name) (with_apart names name d)
 
--- none is kept yet, and each name of a rule file is there once
-pub rule_names_apart : (name : List ℕ) (files : List (List ℕ)) → AreKept [] (rule_file_names name files)
+-- each name of a rule file is there once
+pub rule_names_apart : (name : List ℕ) (files : List (List ℕ)) → IsDistinct bytes_eq (rule_file_names name files)
 unfolding IsDistinct
-rule_names_apart name files = record { rules = tt; apart = all_apart (map (beside name) files) [] tt }
+rule_names_apart name files = all_apart (map (beside name) files) [] tt
+
+-- none is kept yet
+pub none_kept : (names : List (List ℕ)) → AreKept names [] names
+none_kept names = record { rules = tt; apart = λ d. d }
 
 -- the next file is kept, or is not
-pub keeps_one : (files : List NamedFile) (f : NamedFile) (rest : List (List ℕ)) → IsRuleFile f → AreKept files (f.name ∷ rest) → AreKept (files ++ f ∷ []) rest
-keeps_one files f rest good k =
-    let names : map (λ (g : NamedFile). g.name) files ++ f.name ∷ rest ≡ map (λ (g : NamedFile). g.name) (files ++ f ∷ []) ++ rest =
+pub keeps_one : (names : List (List ℕ)) (files : List NamedFile) (f : NamedFile) (rest : List (List ℕ)) → IsRuleFile f → AreKept names files (f.name ∷ rest)
+    → AreKept names (files ++ f ∷ []) rest
+keeps_one names files f rest good k =
+    let same : map (λ (g : NamedFile). g.name) files ++ f.name ∷ rest ≡ map (λ (g : NamedFile). g.name) (files ++ f ∷ []) ++ rest =
     sym (ap (λ (l : List (List ℕ)). l ++ rest) (map-append (λ (g : NamedFile). g.name) files (f ∷ []))
     ∙ append_assoc (map (λ (g : NamedFile). g.name) files) (f.name ∷ []) rest) in
     record {
       rules = all_snoc IsRuleFile files f k.rules good;
-      apart = subst (IsDistinct bytes_eq) names k.apart;
+      apart = λ d. subst (IsDistinct bytes_eq) same (k.apart d);
     }
 
-pub keeps_none : (files : List NamedFile) (name : List ℕ) (rest : List (List ℕ)) → AreKept files (name ∷ rest) → AreKept files rest
-keeps_none files name rest k = record { rules = k.rules; apart = apart_but (map (λ (g : NamedFile). g.name) files) name rest k.apart }
+pub keeps_none : (names : List (List ℕ)) (files : List NamedFile) (name : List ℕ) (rest : List (List ℕ)) → AreKept names files (name ∷ rest) → AreKept names files rest
+keeps_none names files name rest k = record { rules = k.rules; apart = λ d. apart_but (map (λ (g : NamedFile). g.name) files) name rest (k.apart d) }
 
 -- what is wrong adds no file, also where it is not known whether memory sufficed
 pub wrong_kept : (T E : Type 0) (r : Result T E) (old new : Rules) (lines name : List ℕ) → OnOk r (new ≡ with_wrong old lines)
-    → OnOk r ((rest : List (List ℕ)) → AreKept old.files (name ∷ rest) → AreKept new.files rest)
-wrong_kept T E (Ok x) old new lines name e = λ rest k. subst (λ (now : Rules). AreKept now.files rest) (sym e) (keeps_none old.files name rest k)
+    → OnOk r ((names rest : List (List ℕ)) → AreKept names old.files (name ∷ rest) → AreKept names new.files rest)
+wrong_kept T E (Ok x) old new lines name e = λ names rest k. subst (λ (now : Rules). AreKept names now.files rest) (sym e) (keeps_none names old.files name rest k)
 wrong_kept T E (Err s) old new lines name e = tt

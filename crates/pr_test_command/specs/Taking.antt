@@ -43,8 +43,8 @@ with_held name r (holds bytes) = with_reading r name bytes (rule_file_of bytes)
 abbrev pub with_file : List ℕ → Rules → Holding → Made Rules
 with_file name r holding = goes_on (with_held name r holding)
 
--- Nothing is wrong with the rule files that are kept, and their names differ from each other and from
--- those that are still to be loaded.
-pub record AreKept (files : List NamedFile) (rest : List (List ℕ)) : Type 0 where
+-- Nothing is wrong with the rule files that are kept of these names. Where all names differ, theirs
+-- differ from each other and from those that are still to be loaded.
+pub record AreKept (names : List (List ℕ)) (files : List NamedFile) (rest : List (List ℕ)) : Type 0 where
   pub rules : AllByRecursion IsRuleFile files
-  pub apart : IsDistinct bytes_eq (map (λ f. f.name) files ++ rest)
+  pub apart : IsDistinct bytes_eq names → IsDistinct bytes_eq (map (λ f. f.name) files ++ rest)

@@ -7,3 +7,4 @@ mod reading;
 mod rules;
 
 pub use check::{RuleTests, test_rules};
+pub use rules::{Rules, load_rules};

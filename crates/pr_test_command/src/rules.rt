@@ -1,4 +1,4 @@
-// The rule files of a test file: each is read, and what is wrong is told of all of them.
+// The rule files of names: each is read, and what is wrong is told of all of them.
 ghost use Rattle.std.specs.Prelude.{◌≡◌, ◌++◌, ◌∷◌, ◌<◌, ◌^◌, [], ℕ, List, Option, Some, IfOk, OnOk, flat_map, length, map, string_bytes};
 ghost use Rattle.pr_outside.specs.Contents.{IsFound, IsWithinLimit};
 ghost use Rattle.pr_checks.specs.Problems.{problem_line};
@@ -20,11 +20,13 @@ use pr_world::NamedFile;
 use std::alloc::{AllocError, Global};
 use std::mem::replace;
 
-/// The lines of what is wrong with rule files, and those with which nothing is.
+/// The lines of what is wrong with rule files, and those with which nothing is, in their order.
 #[derive(Drop)]
-pub(crate) struct Rules {
-    pub(crate) wrong: Items<u8>,
-    pub(crate) files: Items<NamedFile>,
+pub struct Rules {
+    /// The lines, which `check rules` writes after `FAILED`.
+    pub wrong: Items<u8>,
+    /// The files, as they were loaded.
+    pub files: Items<NamedFile>,
 }
 
 // A file that is not read, and why.
@@ -61,7 +63,7 @@ fn take_bytes(
 ) -> Result<(), AllocError>
     requires { length bytes.items < 2 ^ 32 }
     ensures taken { OnOk result (rules.new ≡ with_reading rules.old name.now bytes.items (rule_file_of bytes.items)) }
-    ensures kept { OnOk result ((rest : List (List ℕ)) → AreKept rules.old.files (name.now ∷ rest) → AreKept rules.new.files rest) }
+    ensures kept { OnOk result ((names rest : List (List ℕ)) → AreKept names rules.old.files (name.now ∷ rest) → AreKept names rules.new.files rest) }
 {
     match check(alloc, &bytes) {
         Ok(_) => {
@@ -80,7 +82,7 @@ fn take_bytes(
 fn take_file(alloc: Global, rules: &mut Rules, name: &str, found: Found) -> Result<(), AllocError>
     requires { IsWithinLimit found }
     ensures taken { (content : Option (List ℕ)) → IsFound (Some content) found → OnOk result (rules.new ≡ with_held name.now rules.old (holding_by content)) }
-    ensures kept { OnOk result ((rest : List (List ℕ)) → AreKept rules.old.files (name.now ∷ rest) → AreKept rules.new.files rest) }
+    ensures kept { OnOk result ((names rest : List (List ℕ)) → AreKept names rules.old.files (name.now ∷ rest) → AreKept names rules.new.files rest) }
 {
     match found {
         Found::Bytes { bytes } => take_bytes(alloc, rules, name, bytes),
@@ -99,7 +101,7 @@ impl Taker<String> for Rules {
 
     ghost asks_all = { true };
 
-    ghost fits = { λ all rest rules. AreKept rules.files (map string_bytes rest) };
+    ghost fits = { λ all rest rules. AreKept (map string_bytes all) rules.files (map string_bytes rest) };
 
     fn file(name: &String) -> &str {
         name.as_str()
@@ -111,14 +113,14 @@ impl Taker<String> for Rules {
     }
 }
 
-/// Loads the rule files of these names, one after another, each once, and reads them.
-pub(crate) fn load_rules<F: Files>(
-    alloc: Global,
-    names: &[String],
-    files: &mut F,
-) -> Result<Rules, Stop>
+/// Loads the rule files of these names, one after another, each once, and reads them: what is wrong is
+/// told of all of them.
+///
+/// # Errors
+/// A load that was refused, or want of memory.
+pub fn load_rules<F: Files>(alloc: Global, names: &[String], files: &mut F) -> Result<Rules, Stop>
     ensures loaded { (held : Held) → AreTold (F.means files.old).content held (map string_bytes names.now) → IfOk result (λ rules. rules_of rules ≡ all_rules held (map string_bytes names.now)) }
-    ensures kept { AreKept [] (map string_bytes names.now) → IfOk result (λ rules. AreKept rules.files []) }
+    ensures kept { IfOk result (λ rules. AreKept (map string_bytes names.now) rules.files []) }
     ensures asked { AsksBy (F.means files.old).calls (F.means files.new).calls (length names.now) result }
     ensures same { (other : List ℕ) → (F.means files.new).content other ≡ (F.means files.old).content other }
     ensures ends { LoadEnds (F.means files.old) (F.means files.new) result }

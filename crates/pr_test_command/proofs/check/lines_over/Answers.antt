@@ -1,17 +1,16 @@
-use Rattle.std.proofs.Common.{ℕ, List, [], map, string_bytes, sym, subst, append-nil}
+use Rattle.std.proofs.Common.{ℕ, List, map, string_bytes, sym, subst, append-nil}
 use Rattle.std.specs.List.{IsDistinct}
 use Rattle.std.specs.Str.{bytes_eq}
-use Rattle.pr_test_command.specs.Taking.{AreKept}
 use Rattle.pr_test_command.proofs.Apart.{rule_names_apart}
 use Rattle.pr_test_command.proofs.Asked.{done_ends, memory_ends, stop_ends}
 use Rattle.pr_test_command.proofs.check.lines_over.Goals as goal
 
 pub lines_with-requires : goal.lines_with-requires
 lines_with-requires g c =
-    let none = subst (λ (l : List _). AreKept [] (map string_bytes l)) (sym c.deref.ensures.value)
-    (subst (λ (l : List (List ℕ)). AreKept [] l) (sym c.in_ok-names.ensures) (rule_names_apart c.args.name.now c.as_slice.result.now)) in
-    let kept = c.in_ok-rules.ensures.kept none in
-    record { interval = c.requires; rules = kept.rules; apart = subst (λ (l : List (List ℕ)). IsDistinct bytes_eq l) (append-nil _) kept.apart }
+    let apart = subst (λ (l : List _). IsDistinct bytes_eq (map string_bytes l)) (sym c.deref.ensures.value)
+    (subst (λ (l : List (List ℕ)). IsDistinct bytes_eq l) (sym c.in_ok-names.ensures) (rule_names_apart c.args.name.now c.as_slice.result.now)) in
+    let kept = c.in_ok-rules.ensures.kept in
+    record { interval = c.requires; rules = kept.rules; apart = subst (λ (l : List (List ℕ)). IsDistinct bytes_eq l) (append-nil _) (kept.apart apart) }
 
 pub returns-in_err-rules-clause-ends : goal.returns-in_err-rules-clause-ends
 returns-in_err-rules-clause-ends g c =

@@ -3,6 +3,7 @@ use Rattle.pr_loading.proofs.Walks.{asked_on, done_on, stop_on}
 use Rattle.pr_test_texts.specs.TestsTold.{none_loaded}
 use Rattle.pr_test_command.specs.Taking.{AreKept, rules_of}
 use Rattle.pr_test_command.specs.declared.rules.Rules.{Rules}
+use Rattle.pr_test_command.proofs.Apart.{none_kept}
 use Rattle.pr_test_command.proofs.Taken.{loaded_with, walk_made, walk_told}
 use Rattle.pr_test_command.proofs.rules.load_rules.Goals as goal
 
@@ -27,8 +28,9 @@ returns-clause-loaded g c =
     (c.in_ok-load_each.ensures.made held (walk_told string_bytes held (files c.args.files.now).content c.args.names.now none told))
 
 pub returns-clause-kept : goal.returns-clause-kept
-returns-clause-kept g c = λ none.
-    c.in_ok-load_each.ensures.fits (subst (λ (l : _). AreKept l (map string_bytes c.args.names.now)) (sym c.empty-2.ensures) none)
+returns-clause-kept g c =
+    let names = map string_bytes c.args.names.now in
+    c.in_ok-load_each.ensures.fits (subst (λ (l : _). AreKept names l names) (sym c.empty-2.ensures) (none_kept names))
 
 pub returns-clause-asked : goal.returns-clause-asked
 returns-clause-asked g c = c.in_ok-load_each.ensures.all refl
