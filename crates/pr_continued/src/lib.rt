@@ -9,3 +9,4 @@ mod waiting;
 
 pub use choosing::carried;
 pub use laws::equal_texts_have_equal_ranges;
+pub use waiting::Waiting;

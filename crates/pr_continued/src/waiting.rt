@@ -49,7 +49,7 @@ impl Queue {
 
 /// Numbers by keys. Contracts see each key with its numbers, in order.
 #[derive(Drop)]
-pub(crate) struct Waiting {
+pub struct Waiting {
     queues: IndexMap<Text, Queue>,
 }
 
@@ -63,7 +63,7 @@ impl Model for Waiting {
 
 impl Waiting {
     /// None yet.
-    pub(crate) fn new(alloc: Global) -> Waiting
+    pub fn new(alloc: Global) -> Waiting
         ensures { result ≡ [] }
     {
         Waiting {
@@ -72,7 +72,10 @@ impl Waiting {
     }
 
     /// One more number waits, behind the others of its key.
-    pub(crate) fn push(&mut self, alloc: Global, key: Text, number: usize) -> Result<(), AllocError>
+    ///
+    /// # Errors
+    /// Where memory runs out.
+    pub fn push(&mut self, alloc: Global, key: Text, number: usize) -> Result<(), AllocError>
         ensures { OnOk result ((q : List ℕ) → waiting_for self.new q ≡ cond (bytes_eq key q) (waiting_for self.old q ++ number ∷ []) (waiting_for self.old q)) }
     {
         match self.queues.get_mut(&key) {
@@ -85,7 +88,7 @@ impl Waiting {
     }
 
     /// The first number that waits under a key, which waits no more.
-    pub(crate) fn take(&mut self, key: &Text) -> Option<usize>
+    pub fn take(&mut self, key: &Text) -> Option<usize>
         ensures first { result ≡ first_of_queue (waiting_for self.old key.now) }
         ensures rest { (q : List ℕ) → waiting_for self.new q ≡ cond (bytes_eq key.now q) (drop 1 (waiting_for self.old q)) (waiting_for self.old q) }
     {

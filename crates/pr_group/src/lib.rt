@@ -11,7 +11,6 @@ mod matching;
 mod remaining;
 mod restoring;
 mod rules;
-mod waiting;
 mod written;
 
 pub use group::GroupOver;

@@ -7,7 +7,7 @@ ghost use Rattle.pr_continued.specs.Waiting.{AreWaiting};
 ghost use Rattle.pr_group.specs.Matching.{continues_def, key_of};
 
 use crate::key::key;
-use crate::waiting::Waiting;
+use pr_continued::Waiting;
 use pr_rulefile::RuleDef;
 use std::alloc::{AllocError, Global};
 
