@@ -5,7 +5,6 @@
 mod feed;
 mod longest;
 mod numbers;
-mod point;
 mod progress;
 
 pub use feed::Feed;

@@ -3,8 +3,7 @@ ghost use Rattle.std.specs.Prelude.{◌≡◌, ◌*◌, ◌^◌, ◌≤◌, leng
 ghost use Rattle.pr_inputs.specs.Points.{total};
 ghost use Rattle.pr_testfile.specs.Series.{places};
 
-use crate::point::size;
-use pr_inputs::{InputSeries, Stretch};
+use pr_inputs::{InputSeries, Stretch, size};
 
 fn total(stretches: &[Stretch]) -> u128
     ensures value { result ≡ total stretches.now }

@@ -5,8 +5,7 @@ ghost use Rattle.pr_inputs.specs.Points.{size};
 ghost use Rattle.pr_testfile.specs.Series.{point_at};
 ghost use Rattle.pr_feeding.specs.Feeding.{IsAt};
 
-use crate::point::{point_in, size};
-use pr_inputs::Stretch;
+use pr_inputs::{Stretch, point_in, size};
 use pr_num::Point;
 
 /// So many stretches of a series lie behind, and so many places of the one after them.

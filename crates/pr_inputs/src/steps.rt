@@ -52,7 +52,8 @@ fn stepped(first: &Num, by: &Num, steps: u128) -> Result<Num, TooWide>
     }
 }
 
-fn value_at(first: &Num, by: &Num, steps: u128) -> Result<Num, TooWide>
+/// The value after so many steps.
+pub(crate) fn value_at(first: &Num, by: &Num, steps: u128) -> Result<Num, TooWide>
     requires { steps ≤ 2 ^ 100 }
     ensures { result ≡ value_at first.now by.now steps }
 {

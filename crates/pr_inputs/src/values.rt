@@ -8,6 +8,7 @@ ghost use Rattle.pr_inputs.specs.Values.{stretches_in, is_late, are_too_many, va
 ghost use Rattle.pr_inputs.specs.Kept.{parts_after, kept_with, answered};
 
 use crate::item::stretch_of;
+use crate::point::size;
 use crate::stretch::Stretch;
 use pr_time::Span;
 use pr_words::{Items, is_blank};
@@ -50,18 +51,6 @@ fn cut(text: &[u8]) -> (&[u8], Option<&[u8]>)
     match rest.split_first() {
         Some((_blank, after)) => (part, Some(after)),
         None => (part, None),
-    }
-}
-
-// How many places a stretch takes.
-fn size(stretch: &Stretch) -> u64
-    ensures value { result ≡ size stretch.now }
-    ensures small { result ≤ 2 ^ 32 }
-{
-    match stretch {
-        Stretch::Steps { more, .. } => u64::from(*more) + 1,
-        Stretch::Missing { count } => u64::from(*count),
-        Stretch::Marker => 1,
     }
 }
 
