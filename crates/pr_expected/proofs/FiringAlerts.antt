@@ -2,7 +2,8 @@
 use Rattle.std.proofs.Common.{◌≡◌, Bool, true, false, cond, List, [], ◌∷◌, ◌++◌, filter, map, refl, ap, ◌∙◌, append_assoc}
 use Rattle.pr_lineage.specs.declared.found.Found.{Found}
 use Rattle.pr_lineage.specs.declared.record.Record.{Record}
-use Rattle.pr_verdict.specs.Verdict.{found_of, is_firing}
+use Rattle.pr_lineage.specs.Records.{is_firing}
+use Rattle.pr_verdict.specs.Verdict.{found_of}
 
 firing_parts : (r : Record) (rs : List Record) → map found_of (filter (λ x. is_firing x.state) (r ∷ [])) ++ map found_of (filter (λ x. is_firing x.state) rs) ≡ map found_of (filter (λ x. is_firing x.state) (r ∷ rs))
 firing_parts r rs = by (is_firing r.state) where

@@ -1,6 +1,7 @@
 // The alerts of a rule that fire.
 ghost use Rattle.std.specs.Prelude.{◌≡◌, ◌++◌, ◌∷◌, [], OnOk, IfOk, filter, map};
-ghost use Rattle.pr_verdict.specs.Verdict.{found_of, is_firing};
+ghost use Rattle.pr_lineage.specs.Records.{is_firing};
+ghost use Rattle.pr_verdict.specs.Verdict.{found_of};
 
 use pr_labels::Pair;
 use pr_lineage::{Found, Record, State};

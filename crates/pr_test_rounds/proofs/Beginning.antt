@@ -7,7 +7,8 @@ use Rattle.std.proofs.lemmas.Slice.Eq.{bytes_eq-Decides}
 use Rattle.pr_rulefile.specs.Groups.{Group as Definition}
 use Rattle.pr_rules.specs.Groups.{Group, fresh, is_group_named}
 use Rattle.pr_rules.specs.Reloads.{LoadedFile}
-use Rattle.pr_verdict.specs.Events.{by_names, groups_of, is_called}
+use Rattle.pr_rules.specs.Replays.{unwaiting_groups}
+use Rattle.pr_verdict.specs.Events.{by_names, is_called}
 use Rattle.pr_test_rounds.specs.Rounds.{AreApart, AreNew, AreToldApart}
 use Rattle.pr_test_rounds.proofs.Merging.{all_joined}
 use Rattle.pr_test_rounds.proofs.Named.{how_many, so_many}
@@ -107,11 +108,11 @@ file_names : (file : List ℕ) (fs : List LoadedFile) → how_many (λ (f : Load
 file_names file [] = refl
 file_names file (f ∷ fs) = ap (λ (n : ℕ). cond (bytes_eq f.name file) (1 + n) n) (file_names file fs)
 
-pub apart_at_first : (names : List (List ℕ)) (fs : List LoadedFile) → AreToldApart fs → AreApart (by_names names (groups_of fs))
+pub apart_at_first : (names : List (List ℕ)) (fs : List LoadedFile) → AreToldApart fs → AreApart (by_names names (unwaiting_groups fs))
 apart_at_first names fs h file name =
-    let counted : how_many (is_group_named file name) (by_names names (groups_of fs)) ≡ count_by (is_group_named file name) (by_names names (groups_of fs)) = so_many (is_group_named file name) (by_names names (groups_of fs)) in
-    let same : how_many (is_group_named file name) (by_names names (groups_of fs)) ≡ how_many (is_group_named file name) (groups_of fs) = many_by_names (is_group_named file name) names (groups_of fs) in
-    let few : how_many (is_group_named file name) (groups_of fs) ≤ how_many (λ (f : LoadedFile). bytes_eq f.name file) fs = many_in_files file name fs h.1 in
+    let counted : how_many (is_group_named file name) (by_names names (unwaiting_groups fs)) ≡ count_by (is_group_named file name) (by_names names (unwaiting_groups fs)) = so_many (is_group_named file name) (by_names names (unwaiting_groups fs)) in
+    let same : how_many (is_group_named file name) (by_names names (unwaiting_groups fs)) ≡ how_many (is_group_named file name) (unwaiting_groups fs) = many_by_names (is_group_named file name) names (unwaiting_groups fs) in
+    let few : how_many (is_group_named file name) (unwaiting_groups fs) ≤ how_many (λ (f : LoadedFile). bytes_eq f.name file) fs = many_in_files file name fs h.1 in
     let files : how_many (λ (f : LoadedFile). bytes_eq f.name file) fs ≤ 1 = subst (λ (n : ℕ). n ≤ 1) (sym (file_names file fs)) (distinct_few file (map (λ (f : LoadedFile). f.name) fs) h.0) in
     omega arith
 
@@ -138,5 +139,5 @@ new_of_files : (fs : List LoadedFile) → AreNew (flat_map from_file fs)
 new_of_files [] = tt
 new_of_files (f ∷ fs) = all_joined (λ (g : Group). g.last ≡ None) (from_file f) (flat_map from_file fs) (new_of_file f.name f.groups) (new_of_files fs)
 
-pub new_at_first : (names : List (List ℕ)) (fs : List LoadedFile) → AreNew (by_names names (groups_of fs))
-new_at_first names fs = new_by_names names (groups_of fs) (new_of_files fs)
+pub new_at_first : (names : List (List ℕ)) (fs : List LoadedFile) → AreNew (by_names names (unwaiting_groups fs))
+new_at_first names fs = new_by_names names (unwaiting_groups fs) (new_of_files fs)

@@ -4,11 +4,12 @@ ghost use Rattle.pr_inputs.specs.declared.input.Input.{Input};
 ghost use Rattle.pr_rules.specs.Groups.{Group};
 ghost use Rattle.pr_rules.specs.Reloads.{LoadedFile};
 ghost use Rattle.pr_rules.specs.Settings.{Settings};
+ghost use Rattle.pr_rules.specs.Replays.{unwaiting_groups};
 ghost use Rattle.pr_world.specs.Step.{world_after};
 ghost use Rattle.pr_world.specs.World.{World};
 ghost use Rattle.pr_testfile.specs.Series.{entries_of, places};
 ghost use Rattle.pr_testfile.specs.Tests.{PlainTest};
-ghost use Rattle.pr_verdict.specs.Events.{begun, by_names, groups_of, last_check, settings_of, world_at};
+ghost use Rattle.pr_verdict.specs.Events.{begun, by_names, last_check, settings_of, world_at};
 ghost use Rattle.pr_test_rounds.specs.Rounds.{AreApart, AreNew, AreToldApart, HasCome, place_events};
 
 /// A test begins with nothing. The samples of the next place come next, where they stand before the
@@ -28,6 +29,6 @@ pub fn what_has_come_is_what_happens()
 /// Where files have names that differ, and so have the groups of each, the groups that a test begins
 /// with are told apart by file and name, in whatever order; and none of them was evaluated.
 pub fn groups_are_told_apart()
-    ensures apart { (names : List (List ℕ)) (files : List LoadedFile) → AreToldApart files → AreApart (by_names names (groups_of files)) }
-    ensures new { (names : List (List ℕ)) (files : List LoadedFile) → AreNew (by_names names (groups_of files)) }
+    ensures apart { (names : List (List ℕ)) (files : List LoadedFile) → AreToldApart files → AreApart (by_names names (unwaiting_groups files)) }
+    ensures new { (names : List (List ℕ)) (files : List LoadedFile) → AreNew (by_names names (unwaiting_groups files)) }
 {}

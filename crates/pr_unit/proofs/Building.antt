@@ -7,8 +7,8 @@ use Rattle.pr_rulefile.specs.Groups.{group_of_def}
 use Rattle.pr_rules.specs.Groups.{Group, fresh}
 use Rattle.pr_rules.specs.Reloads.{LoadedFile}
 use Rattle.pr_rules.specs.Settings.{Settings}
+use Rattle.pr_rules.specs.Replays.{unwaiting_groups}
 use Rattle.pr_world.specs.declared.event.NamedFile.{NamedFile}
-use Rattle.pr_verdict.specs.Events.{groups_of}
 use Rattle.pr_group.specs.Keeping.{KeepsGroup, KeptGroup, settings_of}
 use Rattle.pr_unit.specs.Kept.{KeepsGroups}
 use Rattle.pr_unit.specs.Loaded.{LoadAs, LoadsAs}
@@ -45,10 +45,10 @@ pub record KeepsFiles {R : Type 0} (fits : R → List Entry → Type 0) (last : 
   pub left : List LoadedFile
   pub load : LoadAs rest left
   pub keeps : KeepsGroups fits last passed kept history s part
-  pub whole : part ++ groups_of left ≡ all
+  pub whole : part ++ unwaiting_groups left ≡ all
 
 pub begins_files : {R : Type 0} (fits : R → List Entry → Type 0) (last : R → LastAsks) (passed : R → Passed) (history : List Entry) (s : Settings) (files : List NamedFile) (loaded : List LoadedFile)
-    → LoadAs files loaded → KeepsFiles fits last passed [] history s files (groups_of loaded)
+    → LoadAs files loaded → KeepsFiles fits last passed [] history s files (unwaiting_groups loaded)
 begins_files fits last passed history s files loaded h = record { part = []; left = loaded; load = h; keeps = none_kept fits last passed history s; whole = refl }
 
 -- the groups of one more file are kept, whatever it loads as
@@ -57,19 +57,19 @@ pub next_files : {R : Type 0} (fits : R → List Entry → Type 0) (last : R →
     → ((gs : List Group) (l : LoadedFile) → LoadsAs f l → KeepsGroups fits last passed kept history s gs → KeepsGroups fits last passed new history s (gs ++ map (fresh 0 l.name) l.groups))
     → KeepsFiles fits last passed new history s rest all
 next_files {R} fits last passed kept new history s f rest all h puts = by h.left h.load h.whole where
-  by : (left : List LoadedFile) → LoadAs (f ∷ rest) left → h.part ++ groups_of left ≡ all → KeepsFiles fits last passed new history s rest all
+  by : (left : List LoadedFile) → LoadAs (f ∷ rest) left → h.part ++ unwaiting_groups left ≡ all → KeepsFiles fits last passed new history s rest all
   by [] load whole = absurd load
   by (l ∷ ls) load whole = record {
     part = h.part ++ map (fresh 0 l.name) l.groups;
     left = ls;
     load = load.1;
     keeps = puts h.part l load.0 h.keeps;
-    whole = append_assoc h.part (map (fresh 0 l.name) l.groups) (groups_of ls) ∙ whole;
+    whole = append_assoc h.part (map (fresh 0 l.name) l.groups) (unwaiting_groups ls) ∙ whole;
   }
 
 pub ends_files : {R : Type 0} (fits : R → List Entry → Type 0) (last : R → LastAsks) (passed : R → Passed) (kept : List (KeptGroup R)) (history : List Entry) (s : Settings) (rest : List NamedFile) (all : List Group)
     → rest ≡ [] → KeepsFiles fits last passed kept history s rest all → KeepsGroups fits last passed kept history s all
 ends_files {R} fits last passed kept history s rest all none h = by h.left (subst (λ (fs : List NamedFile). LoadAs fs h.left) none h.load) h.whole where
-  by : (left : List LoadedFile) → LoadAs [] left → h.part ++ groups_of left ≡ all → KeepsGroups fits last passed kept history s all
+  by : (left : List LoadedFile) → LoadAs [] left → h.part ++ unwaiting_groups left ≡ all → KeepsGroups fits last passed kept history s all
   by [] load whole = subst (KeepsGroups fits last passed kept history s) (sym (append-nil h.part) ∙ whole) h.keeps
   by (l ∷ ls) load whole = absurd load

@@ -6,7 +6,7 @@ ghost use Rattle.pr_rule_result.specs.Templates.{HaveTemplates};
 ghost use Rattle.pr_rules.specs.Groups.{Group, fresh};
 ghost use Rattle.pr_rules.specs.Reloads.{LoadedFile};
 ghost use Rattle.pr_rules.specs.Settings.{Settings};
-ghost use Rattle.pr_verdict.specs.Events.{groups_of};
+ghost use Rattle.pr_rules.specs.Replays.{unwaiting_groups};
 ghost use Rattle.pr_group.specs.Keeping.{KeepsGroup, settings_of};
 ghost use Rattle.pr_unit.specs.Kept.{KeepsGroups};
 ghost use Rattle.pr_unit.specs.Loaded.{AreShort, LoadAs, LoadsAs};
@@ -108,7 +108,7 @@ pub(crate) fn groups_of<R: Ranges + Drop>(
     requires some { 0 < step }
     requires short { AreShort files.now }
     ensures { (history : List Entry) (loaded : List LoadedFile) → LoadAs files.now loaded
-        → IfOk result (λ v. KeepsGroups R.fits R.last R.passed v.items history (record { subquery_step = step; external = external.now }) (groups_of loaded)) }
+        → IfOk result (λ v. KeepsGroups R.fits R.last R.passed v.items history (record { subquery_step = step; external = external.now }) (unwaiting_groups loaded)) }
 {
     let mut groups = Vec::new(alloc);
     let mut rest = files;

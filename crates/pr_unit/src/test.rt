@@ -3,9 +3,10 @@ ghost use Rattle.std.specs.Prelude.{◌≡◌, ◌+◌, ◌<◌, ◌++◌, ℕ, 
 ghost use Rattle.pr_history.specs.declared.entry.Entry.{Entry};
 ghost use Rattle.pr_rules.specs.Groups.{Group};
 ghost use Rattle.pr_rules.specs.Reloads.{LoadedFile};
+ghost use Rattle.pr_rules.specs.Replays.{unwaiting_groups};
 ghost use Rattle.pr_testfile.specs.Tests.{plain_test};
 ghost use Rattle.pr_test_rounds.specs.Rounds.{AreApart, AreToldApart};
-ghost use Rattle.pr_verdict.specs.Events.{by_names, groups_of, settings_of};
+ghost use Rattle.pr_verdict.specs.Events.{by_names, settings_of};
 ghost use Rattle.pr_verdict.specs.Verdict.{test_verdict};
 ghost use Rattle.pr_unit.specs.Kept.{KeepsGroups};
 ghost use Rattle.pr_unit.specs.Loaded.{AreShort, LoadAs};
@@ -105,7 +106,7 @@ fn groups_in_order<R: Ranges + Drop>(
     requires some { 0 < file.now.interval }
     requires short { AreShort rules.now }
     ensures { (history : List Entry) (loaded : List LoadedFile) → LoadAs rules.now loaded
-        → IfOk result (λ v. KeepsGroups R.fits R.last R.passed v.items history (settings_of file.now.interval (plain_test test.now)) (by_names file.now.order (groups_of loaded))) }
+        → IfOk result (λ v. KeepsGroups R.fits R.last R.passed v.items history (settings_of file.now.interval (plain_test test.now)) (by_names file.now.order (unwaiting_groups loaded))) }
 {
     let groups = groups_of(alloc, rules, file.interval, &test.external)?;
     in_order(alloc, file.order.as_slice(), groups)
@@ -126,7 +127,7 @@ pub(crate) fn run_test<R: Ranges + Drop>(
     requires some { 0 < file.now.interval }
     requires short { AreShort rules.now }
     ensures { (loaded : List LoadedFile) → LoadAs rules.now loaded → AreToldApart loaded
-        → OnOk result (failures.new.items ≡ failures.old.items ++ test_verdict file.now.interval (by_names file.now.order (groups_of loaded)) (index + 1, plain_test test.now)) }
+        → OnOk result (failures.new.items ≡ failures.old.items ++ test_verdict file.now.interval (by_names file.now.order (unwaiting_groups loaded)) (index + 1, plain_test test.now)) }
 {
     let groups: Vec<GroupOver<R>> = groups_in_order(alloc, file, test, rules)?;
     let run = Run::begin(alloc, groups, &test.input)?;

@@ -5,7 +5,6 @@ use Rattle.std.specs.Str.{bytes_eq}
 use Rattle.pr_history.specs.declared.entry.Entry.{Entry}
 use Rattle.pr_fields.specs.Order.{ordered}
 use Rattle.pr_rules.specs.Groups.{Group}
-use Rattle.pr_rules.specs.Reloads.{LoadedFile, fresh_groups}
 use Rattle.pr_rules.specs.Settings.{Settings}
 use Rattle.pr_world.specs.declared.event.Event.{Event}
 use Rattle.pr_world.specs.declared.event.Event.TheVariants.{Add, Eval}
@@ -14,10 +13,6 @@ use Rattle.pr_world.specs.World.{World}
 use Rattle.pr_testfile.specs.Tests.{PlainTest}
 
 -- Groups
-
--- the groups of files, in order; none waits, as after a reload that is not the first one
-abbrev pub groups_of : List LoadedFile → List Group
-groups_of files = fresh_groups true files
 
 abbrev pub is_called : List ℕ → Group → Bool
 is_called name g = bytes_eq g.name name

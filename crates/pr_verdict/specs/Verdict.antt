@@ -13,11 +13,10 @@ use Rattle.pr_query.specs.declared.value.Value.{Value}
 use Rattle.pr_query.specs.Meaning.{meaning}
 use Rattle.pr_lineage.specs.declared.found.Found.{Found}
 use Rattle.pr_lineage.specs.declared.record.Record.{Record}
-use Rattle.pr_lineage.specs.declared.record.State.{State}
-use Rattle.pr_lineage.specs.declared.record.State.TheVariants.{Pending, Firing, Resolved}
-use Rattle.pr_lineage.specs.Records.{records}
+use Rattle.pr_lineage.specs.Records.{is_firing, records}
 use Rattle.pr_rules.specs.Groups.{Group, RuleState}
 use Rattle.pr_rules.specs.Reloads.{LoadedFile}
+use Rattle.pr_rules.specs.Replays.{unwaiting_groups}
 use Rattle.pr_rules.specs.Results.{value_elements}
 use Rattle.pr_world.specs.World.{World}
 use Rattle.pr_testfile.specs.declared.tests.AlertCheck.{AlertCheck}
@@ -28,14 +27,9 @@ use Rattle.pr_testfile.specs.File.{PlainFile}
 use Rattle.pr_verdict.specs.declared.failure.Shown.{Shown}
 use Rattle.pr_verdict.specs.declared.failure.Shown.TheVariants as shown
 use Rattle.pr_verdict.specs.declared.failure.Failure.{Failure}
-use Rattle.pr_verdict.specs.Events.{by_names, groups_of, world_at}
+use Rattle.pr_verdict.specs.Events.{by_names, world_at}
 
 -- Alerts
-
-abbrev pub is_firing : State → Bool
-is_firing Pending = false
-is_firing Firing = true
-is_firing Resolved = false
 
 abbrev pub found_of : Record → Found
 found_of r = record { labels = r.labels; notes = r.notes; value = r.value }
@@ -101,4 +95,4 @@ test_verdict interval groups t =
 -- The checks of a file whose expectation differs from what happens, test by test, over the groups
 -- of its rule files. Each test begins with nothing.
 unfoldable pub verdict : PlainFile → List LoadedFile → List Failure
-verdict f files = flat_map (test_verdict f.interval (by_names f.order (groups_of files))) (enumerate_from 1 f.tests)
+verdict f files = flat_map (test_verdict f.interval (by_names f.order (unwaiting_groups files))) (enumerate_from 1 f.tests)

@@ -8,10 +8,11 @@ ghost use Rattle.pr_history.specs.Examples.{number, whole};
 ghost use Rattle.pr_ast.specs.declared.place.Place.{Place};
 ghost use Rattle.pr_query.specs.declared.fault.FaultKind.{FaultKind};
 ghost use Rattle.pr_rules.specs.Groups.{RuleState};
+ghost use Rattle.pr_rules.specs.Replays.{unwaiting_groups};
 ghost use Rattle.pr_world.specs.declared.event.Event.TheVariants.{Add, Eval};
 ghost use Rattle.pr_verdict.specs.declared.failure.Shown.TheVariants.{Alerts, Fault, Samples};
 ghost use Rattle.pr_verdict.specs.RuleFiles.{folder, rule_file_names};
-ghost use Rattle.pr_verdict.specs.Events.{by_names, events_of, groups_of, last_check, settings_of};
+ghost use Rattle.pr_verdict.specs.Events.{by_names, events_of, last_check, settings_of};
 ghost use Rattle.pr_verdict.specs.Verdict.{alert_failure, expr_failure, failure, firing_by, verdict};
 ghost use Rattle.pr_verdict.specs.Worked.{bare_test, down_failure, down_file, down_tests, names_of, noted, now_file, now_tests, three_groups, x_failure, x_file, x_test};
 
@@ -27,8 +28,8 @@ pub fn rule_files_stand_beside()
 /// Groups that are named come first, in the order of the names, and then the others in that of
 /// their file; a name that no group has is passed over.
 pub fn groups_that_are_named_come_first()
-    ensures file { names_of (by_names [] (groups_of (three_groups ∷ []))) ≡ codes "a" ∷ codes "b" ∷ codes "c" ∷ [] }
-    ensures named { names_of (by_names (codes "c" ∷ codes "d" ∷ codes "b" ∷ []) (groups_of (three_groups ∷ []))) ≡ codes "c" ∷ codes "b" ∷ codes "a" ∷ [] }
+    ensures file { names_of (by_names [] (unwaiting_groups (three_groups ∷ []))) ≡ codes "a" ∷ codes "b" ∷ codes "c" ∷ [] }
+    ensures named { names_of (by_names (codes "c" ∷ codes "d" ∷ codes "b" ∷ []) (unwaiting_groups (three_groups ∷ []))) ≡ codes "c" ∷ codes "b" ∷ codes "a" ∷ [] }
 {}
 
 /// All groups are evaluated at the multiples of the interval up to the last check, the first time
@@ -36,12 +37,12 @@ pub fn groups_that_are_named_come_first()
 #[tactic(auto, unfolding(crate::proofs::Computing::computing))]
 pub fn samples_come_before_evaluations()
     ensures last { last_check (bare_test (60000 ∷ 90000 ∷ 0 ∷ [])) ≡ Some 90000 }
-    ensures events { events_of 60000 (groups_of (three_groups ∷ [])) (bare_test (90000 ∷ []))
+    ensures events { events_of 60000 (unwaiting_groups (three_groups ∷ [])) (bare_test (90000 ∷ []))
         ≡ Add 0 (named (codes "x")) (whole 1)
         ∷ Eval 0 (codes "r.yml") (codes "a") ∷ Eval 0 (codes "r.yml") (codes "b") ∷ Eval 0 (codes "r.yml") (codes "c")
         ∷ Add 60000 (named (codes "x")) (whole 2)
         ∷ Eval 60000 (codes "r.yml") (codes "a") ∷ Eval 60000 (codes "r.yml") (codes "b") ∷ Eval 60000 (codes "r.yml") (codes "c") ∷ [] }
-    ensures none { events_of 60000 (groups_of (three_groups ∷ [])) (bare_test []) ≡ Add 0 (named (codes "x")) (whole 1) ∷ Add 60000 (named (codes "x")) (whole 2) ∷ [] }
+    ensures none { events_of 60000 (unwaiting_groups (three_groups ∷ [])) (bare_test []) ≡ Add 0 (named (codes "x")) (whole 1) ∷ Add 60000 (named (codes "x")) (whole 2) ∷ [] }
 {}
 
 /// Templates see what a test says of the outside.
@@ -80,7 +81,7 @@ pub fn a_fault_is_never_as_expected()
 
 /// No group waits in a test until its alerts are restored.
 pub fn no_group_waits()
-    ensures { map (λ g. g.waits) (groups_of (three_groups ∷ [])) ≡ 0 ∷ 0 ∷ 0 ∷ [] }
+    ensures { map (λ g. g.waits) (unwaiting_groups (three_groups ∷ [])) ≡ 0 ∷ 0 ∷ 0 ∷ [] }
 {}
 
 /// Alerts of two rules of one name are told in label order, whichever rule comes first. A rule that

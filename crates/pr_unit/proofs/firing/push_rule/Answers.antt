@@ -2,7 +2,8 @@ use Rattle.std.proofs.Common.{◌≡◌, List, true, false, ◌&&◌, ◌<◌, O
 use Rattle.std.specs.Str.{bytes_eq}
 use Rattle.std.proofs.lemmas.Option.{slice_get_read}
 use Rattle.pr_rulefile.specs.declared.rules.RuleDef.{RuleDef}
-use Rattle.pr_verdict.specs.Verdict.{found_of, is_firing}
+use Rattle.pr_lineage.specs.Records.{is_firing}
+use Rattle.pr_verdict.specs.Verdict.{found_of}
 use Rattle.pr_unit.proofs.Alerts.{both_true, has_alerts, none_fire, rule_is, these_fire}
 use Rattle.pr_unit.proofs.Answers.{on_ok}
 use Rattle.pr_unit.proofs.firing.push_rule.Goals as goal

@@ -1,7 +1,7 @@
 use Rattle.std.proofs.Common.{◌≡◌, ◌∷◌, subst, sym}
-use Rattle.pr_verdict.specs.Events.{groups_of}
 use Rattle.pr_unit.specs.Loaded.{AreShort}
 use Rattle.pr_rules.specs.Settings.{Settings}
+use Rattle.pr_rules.specs.Replays.{unwaiting_groups}
 use Rattle.pr_unit.proofs.Building.{KeepsFiles, begins_files, ends_files, next_files}
 use Rattle.pr_unit.proofs.Lists.{none_of}
 use Rattle.pr_unit.proofs.groups.groups_of.Goals as goal
@@ -11,7 +11,7 @@ files-init g c = record {
   short = c.requires.short;
   kept = λ history loaded h.
       let s : Settings = record { subquery_step = c.args.step; external = c.args.external.now } in
-      subst (λ ks. KeepsFiles g.R.Ranges.fits g.R.Ranges.last g.R.Ranges.passed ks history s c.args.files.now (groups_of loaded)) (sym c.new-groups.ensures.items)
+      subst (λ ks. KeepsFiles g.R.Ranges.fits g.R.Ranges.last g.R.Ranges.passed ks history s c.args.files.now (unwaiting_groups loaded)) (sym c.new-groups.ensures.items)
       (begins_files g.R.Ranges.fits g.R.Ranges.last g.R.Ranges.passed history s c.args.files.now loaded h);
 }
 
@@ -23,12 +23,12 @@ files-preserved g c =
       short = short.1;
       kept = λ history loaded h.
           let s : Settings = record { subquery_step = c.args.step; external = c.args.external.now } in
-          next_files g.R.Ranges.fits g.R.Ranges.last g.R.Ranges.passed c.files.groups.items c.put_file.new.groups.items history s c.in-Some.file.now c.in-Some.after.now (groups_of loaded)
-          (subst (λ fs. KeepsFiles g.R.Ranges.fits g.R.Ranges.last g.R.Ranges.passed c.files.groups.items history s fs (groups_of loaded)) parts (c.files.invariant.kept history loaded h))
+          next_files g.R.Ranges.fits g.R.Ranges.last g.R.Ranges.passed c.files.groups.items c.put_file.new.groups.items history s c.in-Some.file.now c.in-Some.after.now (unwaiting_groups loaded)
+          (subst (λ fs. KeepsFiles g.R.Ranges.fits g.R.Ranges.last g.R.Ranges.passed c.files.groups.items history s fs (unwaiting_groups loaded)) parts (c.files.invariant.kept history loaded h))
           (λ gs l loads keeps. c.in_ok-put_file.ensures history gs l loads keeps);
     }
 
 pub returns : goal.returns
 returns g c = λ history loaded h.
-    ends_files g.R.Ranges.fits g.R.Ranges.last g.R.Ranges.passed c.files.groups.items history (record { subquery_step = c.args.step; external = c.args.external.now }) c.files.rest.now (groups_of loaded)
+    ends_files g.R.Ranges.fits g.R.Ranges.last g.R.Ranges.passed c.files.groups.items history (record { subquery_step = c.args.step; external = c.args.external.now }) c.files.rest.now (unwaiting_groups loaded)
     (none_of c.files.rest.now c.in_default.ensures.cases) (c.files.invariant.kept history loaded h)

@@ -1,7 +1,7 @@
 use Rattle.std.proofs.Common.{List, length}
 use Rattle.pr_history.specs.declared.entry.Entry.{Entry}
 use Rattle.pr_rules.specs.Reloads.{LoadedFile}
-use Rattle.pr_verdict.specs.Events.{groups_of}
+use Rattle.pr_rules.specs.Replays.{unwaiting_groups}
 use Rattle.pr_unit.specs.Loaded.{AreShort, LoadAs}
 use Rattle.pr_unit.proofs.Building.{KeepsFiles}
 use Rattle.pr_unit.proofs.groups.groups_of.Given as goal
@@ -11,7 +11,7 @@ abbrev pub invariant-files : goal.invariant-files
 invariant-files g l = record {
   short : AreShort l.rest;
   kept : (history : List Entry) (loaded : List LoadedFile) → LoadAs l.files loaded
-      → KeepsFiles g.R.Ranges.fits g.R.Ranges.last g.R.Ranges.passed l.groups.items history (record { subquery_step = l.step; external = l.external }) l.rest (groups_of loaded);
+      → KeepsFiles g.R.Ranges.fits g.R.Ranges.last g.R.Ranges.passed l.groups.items history (record { subquery_step = l.step; external = l.external }) l.rest (unwaiting_groups loaded);
 }
 
 abbrev pub decreases-files : goal.decreases-files

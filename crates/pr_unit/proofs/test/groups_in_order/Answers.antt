@@ -1,6 +1,7 @@
 use Rattle.std.proofs.Common.{subst, sym, ap, ◌∙◌}
+use Rattle.pr_rules.specs.Replays.{unwaiting_groups}
 use Rattle.pr_testfile.specs.Tests.{plain_test}
-use Rattle.pr_verdict.specs.Events.{by_names, groups_of, settings_of}
+use Rattle.pr_verdict.specs.Events.{by_names, settings_of}
 use Rattle.pr_unit.specs.Kept.{KeepsGroups, name_of}
 use Rattle.pr_unit.specs.Ordered.{named_first}
 use Rattle.pr_unit.proofs.Answers.{if_ok}
@@ -12,7 +13,7 @@ returns g c = λ history loaded h.
     let s = settings_of c.args.file.now.interval (plain_test c.args.test.now) in
     let order = c.args.file.now.order in
     let kept = c.in_ok-groups.groups.items in
-    let keeps = kept_by_names g.R.Ranges.fits g.R.Ranges.last g.R.Ranges.passed history s order kept (groups_of loaded) (c.in_ok-groups.ensures history loaded h) in
+    let keeps = kept_by_names g.R.Ranges.fits g.R.Ranges.last g.R.Ranges.passed history s order kept (unwaiting_groups loaded) (c.in_ok-groups.ensures history loaded h) in
     if_ok c.in_order.result _ _
-    (λ v e. subst (λ ks. KeepsGroups g.R.Ranges.fits g.R.Ranges.last g.R.Ranges.passed ks history s (by_names order (groups_of loaded))) (ap (λ names. named_first name_of names kept) (sym c.as_slice.ensures) ∙ sym e) keeps)
+    (λ v e. subst (λ ks. KeepsGroups g.R.Ranges.fits g.R.Ranges.last g.R.Ranges.passed ks history s (by_names order (unwaiting_groups loaded))) (ap (λ names. named_first name_of names kept) (sym c.as_slice.ensures) ∙ sym e) keeps)
     c.in_order.ensures

@@ -1,7 +1,8 @@
 use Rattle.std.proofs.Common.{ℕ, ◌+◌, subst}
+use Rattle.pr_rules.specs.Replays.{unwaiting_groups}
 use Rattle.pr_testfile.specs.Tests.{plain_test}
 use Rattle.pr_test_rounds.proofs.Beginning.{apart_at_first, new_at_first}
-use Rattle.pr_verdict.specs.Events.{by_names, groups_of, last_check, settings_of}
+use Rattle.pr_verdict.specs.Events.{by_names, last_check, settings_of}
 use Rattle.pr_unit.specs.Run.{rounds_until}
 use Rattle.pr_unit.specs.Slots.{AreAllFilled}
 use Rattle.pr_unit.proofs.Answers.{on_ok}
@@ -13,7 +14,7 @@ returns g c = λ loaded load told.
     let file = c.args.file.now in
     let t = plain_test c.args.test.now in
     let every = file.interval in
-    let gs = by_names file.order (groups_of loaded) in
+    let gs = by_names file.order (unwaiting_groups loaded) in
     let run = c.in_ok-run.ensures every gs (settings_of every t) (rounds_until every (last_check t)) 0 (new_at_first file.order loaded) (λ history. c.in_ok-groups.ensures history loaded load) in
     let filled = c.in_ok-slots.ensures gs (apart_at_first file.order loaded told) run in
     let counted = subst (λ (n : ℕ). AreAllFilled every gs n t c.in_ok-slots.slots.alerts.items c.in_ok-slots.slots.exprs.items) c.in_ok-number_of.ensures filled in

@@ -1,9 +1,10 @@
 use Rattle.std.proofs.Common.{◌≡◌, List, length, map, slice_get, Some, refl, ap, ◌∙◌}
 use Rattle.std.specs.List.{enumerate_from, flat_map}
 use Rattle.std.proofs.lemmas.Option.{slice_get_read}
+use Rattle.pr_rules.specs.Replays.{unwaiting_groups}
 use Rattle.pr_testfile.specs.declared.tests.Test.{Test}
 use Rattle.pr_testfile.specs.Tests.{plain_test}
-use Rattle.pr_verdict.specs.Events.{by_names, groups_of}
+use Rattle.pr_verdict.specs.Events.{by_names}
 use Rattle.pr_verdict.specs.Verdict.{test_verdict, verdict}
 use Rattle.pr_unit.proofs.Filling.{next_test}
 use Rattle.pr_unit.proofs.Lists.{take_whole}
@@ -17,7 +18,7 @@ tests-preserved g c = λ loaded load told.
     let n = c.tests.index in
     let x = c.index-tests-index.result in
     let there : slice_get tests n ≡ Some x = slice_get_read tests (length tests) n x refl c.tests-test.true c.index-tests-index.is in
-    next_test (test_verdict file.interval (by_names file.order (groups_of loaded))) plain_test n tests x c.tests.failures.items c.run_test.new.failures.items there
+    next_test (test_verdict file.interval (by_names file.order (unwaiting_groups loaded))) plain_test n tests x c.tests.failures.items c.run_test.new.failures.items there
     (c.tests.invariant loaded load told) (c.in_ok-run_test.ensures loaded load told)
 
 pub returns : goal.returns
@@ -26,6 +27,6 @@ returns g c = λ loaded is.
     let file = c.args.file.now in
     let load = loaded_each c.args.rules.now loaded is in
     let told = told_apart c.args.rules.now loaded load c.requires.names in
-    let f = test_verdict file.interval (by_names file.order (groups_of loaded)) in
+    let f = test_verdict file.interval (by_names file.order (unwaiting_groups loaded)) in
     c.tests.invariant loaded load told
     ∙ ap (λ (l : List Test). flat_map f (enumerate_from 1 (map plain_test l))) (take_whole c.as_slice-tests.result.now c.tests.index c.tests-test.false ∙ c.as_slice-tests.ensures)

@@ -1,9 +1,10 @@
 use Rattle.std.proofs.Common.{◌≡◌, List, map, take}
 use Rattle.std.specs.List.{enumerate_from, flat_map}
 use Rattle.pr_rules.specs.Reloads.{LoadedFile}
+use Rattle.pr_rules.specs.Replays.{unwaiting_groups}
 use Rattle.pr_testfile.specs.Tests.{plain_test}
 use Rattle.pr_test_rounds.specs.Rounds.{AreToldApart}
-use Rattle.pr_verdict.specs.Events.{by_names, groups_of}
+use Rattle.pr_verdict.specs.Events.{by_names}
 use Rattle.pr_verdict.specs.Verdict.{test_verdict}
 use Rattle.pr_unit.specs.Loaded.{LoadAs}
 use Rattle.pr_unit.proofs.tests.run_tests_over.Given as goal
@@ -11,4 +12,4 @@ use Rattle.pr_unit.proofs.tests.run_tests_over.Given as goal
 -- the failures of the first tests
 abbrev pub invariant-tests : goal.invariant-tests
 invariant-tests g l = (loaded : List LoadedFile) → LoadAs l.rules loaded → AreToldApart loaded
-    → l.failures.items ≡ flat_map (test_verdict l.file.interval (by_names l.file.order (groups_of loaded))) (enumerate_from 1 (map plain_test (take l.index l.tests)))
+    → l.failures.items ≡ flat_map (test_verdict l.file.interval (by_names l.file.order (unwaiting_groups loaded))) (enumerate_from 1 (map plain_test (take l.index l.tests)))
