@@ -5,6 +5,7 @@ use Rattle.std.specs.List.{list_all}
 use Rattle.std.specs.Str.{bytes_eq}
 use Rattle.pr_words.specs.Decimals.{plain_decimal}
 use Rattle.pr_time.specs.SpanAnswer.{span_of}
+use Rattle.pr_script.specs.Script.{written_time}
 
 -- the times from a first one to a last one by a step, in milliseconds
 pub record Times : Type 0 where
@@ -65,10 +66,6 @@ exercise_of [] = None
 exercise_of (rounds ∷ []) = rounds_by (plain_decimal 100001 rounds)
 exercise_of (rounds ∷ other ∷ words) = None
 
--- a time: a plain decimal below 2^42
-abbrev pub time_of : List ℕ → Option ℕ
-time_of word = plain_decimal (2 ^ 42) word
-
 -- a step: the text of a span of 1 to 2^40 milliseconds
 abbrev pub is_step : ℕ → Bool
 is_step ms = not (nat_lt (2 ^ 40) ms) && nat_lt 0 ms
@@ -91,7 +88,7 @@ times_by (Some first) (Some last) None = None
 times_by (Some first) (Some last) (Some step) = cond (are_times first last step) (Some (record { first = first; last = last; step = step })) None
 
 abbrev pub times_of : List ℕ → List ℕ → List ℕ → Option Times
-times_of first last step = times_by (time_of first) (time_of last) (step_of step)
+times_of first last step = times_by (written_time first) (written_time last) (step_of step)
 
 abbrev pub backfill_by : List ℕ → Option Times → List (List ℕ) → Option Command
 backfill_by path None names = None

@@ -1,7 +1,8 @@
 // The commands, by the words of the command line.
 ghost use Rattle.std.specs.Prelude.{◌≡◌, map, string_bytes};
 ghost use Rattle.std.specs.List.{list_all};
-ghost use Rattle.pr_top.specs.Command.{are_names, are_times, backfill_by, backfill_of, check_of, command_of, exercise_of, is_file_word, run_of, step_of, test_of, time_of, times_by, times_of};
+ghost use Rattle.pr_script.specs.Script.{written_time};
+ghost use Rattle.pr_top.specs.Command.{are_names, are_times, backfill_by, backfill_of, check_of, command_of, exercise_of, is_file_word, run_of, step_of, test_of, times_by, times_of};
 ghost use Rattle.pr_top.specs.Words.{asks_for, times_for};
 
 use pr_exercise_command::Rounds;
@@ -132,8 +133,8 @@ fn exercise_of(words: &[String]) -> Option<Command<'_>>
     }
 }
 
-fn time_of(word: &str) -> Option<Ms>
-    ensures { result ≡ time_of word.now }
+fn written_time(word: &str) -> Option<Ms>
+    ensures { result ≡ written_time word.now }
 {
     Ms::new(plain_decimal(word.as_bytes(), 1 << 42)?)
 }
@@ -172,7 +173,7 @@ fn times_by(first: Option<Ms>, last: Option<Ms>, step: Option<Span>) -> Option<T
 fn times_of(first: &str, last: &str, step: &str) -> Option<Times>
     ensures { times_for result ≡ times_of first.now last.now step.now }
 {
-    times_by(time_of(first), time_of(last), step_of(step))
+    times_by(written_time(first), written_time(last), step_of(step))
 }
 
 fn backfill_by<'a>(path: &'a str, times: Option<Times>, names: &'a [String]) -> Option<Command<'a>>
