@@ -182,8 +182,11 @@ fn compare(a: &Found, b: &Found) -> Ordering
         .then(a.notes.as_slice().cmp(b.notes.as_slice()))
 }
 
-// Alerts in label order, and those of equal labels in order of their annotations.
-fn founds_in_order(mut founds: Vec<Found>) -> Result<Items<Found>, AllocError>
+/// Alerts in label order, and those of equal labels in order of their annotations.
+///
+/// # Errors
+/// Where memory runs out.
+pub fn founds_in_order(mut founds: Vec<Found>) -> Result<Items<Found>, AllocError>
     ensures { IfOk result (λ list. list ≡ ordered is_found_before founds.items) }
 {
     founds.sort_by(|a, b| compare(a, b))?;

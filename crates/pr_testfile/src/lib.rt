@@ -18,6 +18,7 @@ mod test;
 mod tests;
 mod words;
 
+pub use alerts::founds_in_order;
 pub use examples::{checks_have_these_fields, empty_labels_are_none, files_have_these_problems};
 pub use fault::TestError;
 pub use laws::intervals_are_above_0;

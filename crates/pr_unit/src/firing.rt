@@ -1,9 +1,7 @@
 // The alerts of a name that fire.
 ghost use Rattle.std.specs.Prelude.{◌≡◌, ℕ, ◌<◌, ◌++◌, ◌&&◌, List, IfOk, OnOk, length, slice_get, Some};
 ghost use Rattle.std.specs.List.{flat_map};
-ghost use Rattle.std.specs.Ordering.{ordering_then};
 ghost use Rattle.std.specs.Str.{bytes_eq};
-ghost use Rattle.pr_labels.specs.Order.{labels_cmp};
 ghost use Rattle.pr_history.specs.declared.entry.Entry.{Entry};
 ghost use Rattle.pr_fields.specs.Order.{ordered};
 ghost use Rattle.pr_rules.specs.Groups.{Group, RuleState};
@@ -19,9 +17,9 @@ use pr_group::GroupOver;
 use pr_lineage::Found;
 use pr_range::Ranges;
 use pr_rulefile::RuleDef;
+use pr_testfile::founds_in_order;
 use pr_words::Items;
 use std::alloc::{AllocError, Global};
-use std::cmp::Ordering;
 
 fn is_alert_named(rule: &RuleDef, name: &str) -> bool
     ensures { result ≡ (rule.now.alert && bytes_eq rule.now.name name.now) }
@@ -66,21 +64,6 @@ fn push_group<R: Ranges + Drop>(
     Ok(())
 }
 
-fn compare(a: &Found, b: &Found) -> Ordering
-    ensures { result ≡ ordering_then (labels_cmp a.now.labels b.now.labels) (labels_cmp a.now.notes b.now.notes) }
-{
-    a.labels
-        .cmp(&b.labels)
-        .then(a.notes.as_slice().cmp(b.notes.as_slice()))
-}
-
-fn in_order(mut founds: Vec<Found>) -> Result<Items<Found>, AllocError>
-    ensures { IfOk result (λ list. list ≡ ordered is_found_before founds.items) }
-{
-    founds.sort_by(|a, b| compare(a, b))?;
-    Ok(Items::new(founds))
-}
-
 /// The alerts of all alerting rules of a name that fire, in the order in which they are expected.
 ///
 /// # Errors
@@ -97,5 +80,5 @@ pub(crate) fn firing<R: Ranges + Drop>(
     'groups: for number in 0..groups.len() {
         push_group(alloc, &groups[number], name, &mut founds)?;
     }
-    in_order(founds)
+    founds_in_order(founds)
 }

@@ -29,4 +29,4 @@ returns g c = λ history s gs h.
     let all : length gs ≤ n = let m : length kept ≡ length gs = h.many in let f : length kept ≤ n = c.groups-test.false in omega arith in
     let is : c.groups.founds.items ≡ flat_map (λ (group : Group). flat_map (firing_of c.args.name.now) group.rules) gs =
     c.groups.invariant history s gs h ∙ ap (flat_map (λ (group : Group). flat_map (firing_of c.args.name.now) group.rules)) (take_whole gs n all) in
-    if_ok c.in_order.result _ _ (λ list e. e ∙ ap (ordered is_found_before) is) c.in_order.ensures
+    if_ok c.founds_in_order.result _ _ (λ list e. e ∙ ap (ordered is_found_before) is) c.founds_in_order.ensures
