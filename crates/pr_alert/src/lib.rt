@@ -17,4 +17,5 @@ pub use laws::{
     records_of_a_lineage_stand_for_it, what_is_sent_is_marked,
 };
 pub use pr_lineage::{Found, Record, Restored, Sending, State};
-pub use records::Records;
+pub use records::{Records, is_living};
+pub use samples::for_state_labels;

@@ -38,8 +38,8 @@ impl Model for Records {
     ghost view = { λ r. r.list.items };
 }
 
-// Whether an alert is pending or fires.
-pub(crate) fn is_living(state: State) -> bool
+/// Whether an alert is pending or fires.
+pub fn is_living(state: State) -> bool
     ensures { result ≡ is_living_state state }
 {
     match state {

@@ -50,11 +50,14 @@ fn state_labels(alloc: Global, r: &Record) -> Result<Labels, AllocError>
     Ok(labels)
 }
 
-// The labels of the series that says since when it is active.
-fn time_labels(alloc: Global, r: &Record) -> Result<Labels, AllocError>
-    ensures { IfOk result (λ l. l ≡ for_state_labels r.now.labels) }
+/// The labels of the series that says since when an alert of these labels is active.
+///
+/// # Errors
+/// Where memory runs out.
+pub fn for_state_labels(alloc: Global, labels: &Labels) -> Result<Labels, AllocError>
+    ensures { IfOk result (λ l. l ≡ for_state_labels labels.now) }
 {
-    named(alloc, &r.labels, "ALERTS_FOR_STATE")
+    named(alloc, labels, "ALERTS_FOR_STATE")
 }
 
 #[tactic(auto, using(crate::proofs::Sampled::items_insert))]
@@ -78,7 +81,11 @@ fn put_record(
     }
     put(items, state_labels(alloc, r)?, Num::whole(1))?;
     let seconds = (r.active.get() / 1000) as i64;
-    put(items, time_labels(alloc, r)?, Num::whole(seconds))
+    put(
+        items,
+        for_state_labels(alloc, &r.labels)?,
+        Num::whole(seconds),
+    )
 }
 
 // The entries of an ordered map as elements.

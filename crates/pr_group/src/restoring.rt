@@ -3,14 +3,12 @@ ghost use Rattle.std.specs.Prelude.{◌≡◌, ℕ, ◌+◌, ◌++◌, ◌∷◌
 ghost use Rattle.std.specs.List.{filter_map};
 ghost use Rattle.std.specs.Option.{option_map, option_to_list};
 ghost use Rattle.pr_labels.specs.declared.pair.Pair.{Pair};
-ghost use Rattle.pr_labels.specs.Edits.{set_label};
-ghost use Rattle.pr_labels.specs.LabelSet.{metric_label};
 ghost use Rattle.pr_history.specs.declared.entry.Entry.{Entry};
 ghost use Rattle.pr_history.specs.Admission.{is_of, last_entry};
 ghost use Rattle.pr_head.specs.Holds.{timed};
 ghost use Rattle.pr_lineage.specs.declared.record.Record.{Record};
 ghost use Rattle.pr_lineage.specs.Lineage.{Step, moved};
-ghost use Rattle.pr_lineage.specs.Records.{for_state_labels, is_living, is_living_state, living_count};
+ghost use Rattle.pr_lineage.specs.Records.{for_state_labels, is_living, living_count};
 ghost use Rattle.pr_lineage.specs.Restoring.{for_state_entry, restored_alert, restored_of, restored_time};
 ghost use Rattle.pr_alert.specs.Standing.{StandsFor};
 ghost use Rattle.pr_rulefile.specs.Rules.{rule_of_def};
@@ -22,12 +20,12 @@ ghost use Rattle.pr_group.specs.Keeping.{AreKept, MayEvaluateOver};
 ghost use Rattle.pr_group.specs.Restoring.{IsRestored, OnlyChanges, in_last_hour, kept_of_last_hour, ranges_of};
 
 use pr_alert::{
-    a_move_of_no_alerts_leaves_the_records, a_restored_record_is_moved,
-    records_of_a_lineage_stand_for_it,
+    a_move_of_no_alerts_leaves_the_records, a_restored_record_is_moved, for_state_labels,
+    is_living, records_of_a_lineage_stand_for_it,
 };
 use pr_head::{Head, Timed};
-use pr_labels::{Labels, METRIC_LABEL};
-use pr_lineage::{Restored, State};
+use pr_labels::Labels;
+use pr_lineage::Restored;
 use pr_range::Ranges;
 use pr_rule_step::Remembered;
 use pr_rulefile::RuleDef;
@@ -43,41 +41,6 @@ const OUTAGE_TOLERANCE: u64 = 3_600_000;
 /// The least time to hold of a rule whose alerts are restored, in milliseconds. (Prometheus: the
 /// flag rules.alert.for-grace-period.)
 const GRACE_PERIOD: u64 = 600_000;
-
-fn is_living(state: State) -> bool
-    ensures { result ≡ is_living_state state }
-{
-    match state {
-        State::Pending => true,
-        State::Firing => true,
-        State::Resolved => false,
-    }
-}
-
-fn set(alloc: Global, labels: &mut Labels, name: &str, value: &str) -> Result<(), AllocError>
-    ensures { OnOk result (labels.new ≡ set_label labels.old name.now value.now) }
-{
-    match labels.set(alloc, name, value) {
-        Ok(()) => Ok(()),
-        Err(_) => Err(AllocError),
-    }
-}
-
-// Labels with a metric's name.
-fn named(alloc: Global, labels: &Labels, name: &str) -> Result<Labels, AllocError>
-    ensures { IfOk result (λ l. l ≡ set_label labels.now metric_label name.now) }
-{
-    let mut named = labels.copy(alloc)?;
-    set(alloc, &mut named, METRIC_LABEL, name)?;
-    Ok(named)
-}
-
-// The labels of the series in which the active time of an alert is written.
-fn for_state_labels(alloc: Global, labels: &Labels) -> Result<Labels, AllocError>
-    ensures { IfOk result (λ l. l ≡ for_state_labels labels.now) }
-{
-    named(alloc, labels, "ALERTS_FOR_STATE")
-}
 
 fn of_last_hour(sample: Timed, now: Ms) -> Option<Timed>
     ensures value { result ≡ kept_of_last_hour now (Some sample) }

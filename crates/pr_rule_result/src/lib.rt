@@ -14,4 +14,5 @@ mod templates;
 pub use comes::rule_result;
 pub use error::RuleError;
 pub use laws::rules_that_read_have_templates;
+pub use ruled::limit_exceeded;
 pub use templates::{NamedTemplate, RuleTemplates, templates_of};

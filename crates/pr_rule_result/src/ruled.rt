@@ -53,7 +53,8 @@ fn all_found(
     Ok(rows)
 }
 
-fn limit_exceeded(limit: u32, have: u64) -> RuleFailure
+/// The failure of a rule that comes to more than its limit.
+pub fn limit_exceeded(limit: u32, have: u64) -> RuleFailure
     ensures { result ≡ failure 0 (LimitExceeded limit have) }
 {
     RuleFailure {

@@ -7,8 +7,7 @@ ghost use Rattle.pr_alert.specs.Standing.{StandsFor, marked_if};
 ghost use Rattle.pr_rulefile.specs.Rules.{rule_of_def};
 ghost use Rattle.pr_rules.specs.Evaluations.{recorded, rule_outcome, rule_samples_by};
 ghost use Rattle.pr_rules.specs.Groups.{Group, RuleState};
-ghost use Rattle.pr_rules.specs.Results.{FoundsRise, failure, rule_result};
-ghost use Rattle.pr_rules.specs.declared.fault.RuleFault.TheVariants.{LimitExceeded};
+ghost use Rattle.pr_rules.specs.Results.{FoundsRise, rule_result};
 ghost use Rattle.pr_rules.specs.Settings.{Settings};
 ghost use Rattle.pr_rule_step.specs.Outcomes.{Offers};
 ghost use Rattle.pr_rule_step.specs.Standing.{IsEvaluationOf};
@@ -22,9 +21,8 @@ use pr_alert::{
 use pr_labels::Item;
 use pr_lineage::{Found, Sending};
 use pr_num::Num;
-use pr_rule_result::RuleError;
+use pr_rule_result::{RuleError, limit_exceeded};
 use pr_rulefile::RuleDef;
-use pr_rules::{RuleFailure, RuleFault};
 use pr_words::Items;
 use std::alloc::{AllocError, Global};
 
@@ -81,15 +79,6 @@ fn told(at: &Evaluation<'_>, records: &mut Records) -> Result<Offered, AllocErro
         samples: alert_samples(at, records)?,
         sent: Items::new(sent),
     })
-}
-
-fn limit_exceeded(limit: u32, have: u64) -> RuleFailure
-    ensures { result ≡ failure 0 (LimitExceeded limit have) }
-{
-    RuleFailure {
-        place: 0,
-        kind: RuleFault::LimitExceeded { limit, have },
-    }
 }
 
 // What an alerting rule comes to: its alerts go on, unless they are more than the limit.
