@@ -11,12 +11,8 @@
 //
 // Behind ` => ` stand the lines that are answered, apart by ` / `. Times are in milliseconds.
 use crate::rule::Rule;
+use pr_tables::Answers;
 use std::alloc::{AllocError, Global};
-
-// What a line asks for, and what it is to be answered.
-fn halves(line: &str) -> (&str, &str) {
-    line.split_once(" => ").unwrap_or((line, ""))
-}
 
 // The lines of an answer, apart by ` / `.
 fn joined(alloc: Global, lines: &str) -> Result<String, AllocError> {
@@ -30,16 +26,12 @@ fn joined(alloc: Global, lines: &str) -> Result<String, AllocError> {
     Ok(text)
 }
 
-/// The first line of a row that is answered otherwise, with its answer.
-pub(crate) fn difference(alloc: Global, row: &str) -> Result<Option<String>, AllocError> {
-    let (name, lines) = row.split_once('\n').unwrap_or((row, ""));
-    let mut rule = Rule::new(alloc);
-    for line in lines.lines() {
-        let (order, wanted) = halves(line);
-        let told = joined(alloc, &rule.take(alloc, order)?)?;
-        if told.as_str() != wanted {
-            return Ok(Some(format!(in alloc; "{name}: {order} => {told}")?));
-        }
+impl Answers for Rule {
+    fn new(alloc: Global) -> Rule {
+        Rule::none(alloc)
     }
-    Ok(None)
+
+    fn answer(&mut self, alloc: Global, line: &str) -> Result<String, AllocError> {
+        joined(alloc, &self.take(alloc, line)?)
+    }
 }

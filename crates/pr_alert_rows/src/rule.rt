@@ -3,6 +3,7 @@ use pr_alert::{AlertFault, Found, Record, Records, State};
 use pr_labels::{Item, Labels};
 use pr_num::{Num, Point, read, write};
 use pr_series::read_series_text;
+use pr_tables::counted;
 use pr_time::{Ms, Span};
 use pr_words::Items;
 use std::alloc::{AllocError, Global};
@@ -15,12 +16,6 @@ pub(crate) struct Rule {
     hold: u64,
     keep: u64,
     limit: u32,
-}
-
-// The number at the front of a text, and what stands behind it.
-fn counted(text: &str) -> (u64, &str) {
-    let (number, rest) = text.split_once(' ').unwrap_or((text, ""));
-    (number.parse::<u64>().unwrap_or(0), rest)
 }
 
 fn labels_text(alloc: Global, labels: &Labels) -> Result<String, AllocError> {
@@ -129,7 +124,7 @@ fn push_restored(alloc: Global, told: &mut String, r: &Record) -> Result<(), All
 
 impl Rule {
     /// No records yet.
-    pub(crate) fn new(alloc: Global) -> Rule {
+    pub(crate) fn none(alloc: Global) -> Rule {
         Rule {
             records: Records::new(alloc),
             hold: 0,

@@ -3,6 +3,7 @@ use pr_labels::Labels;
 use pr_lineage::Sending;
 use pr_num::Num;
 use pr_queue::{Batch, Joined, Notifier};
+use pr_tables::counted;
 use pr_time::Ms;
 use pr_words::Items;
 use std::alloc::{AllocError, Global};
@@ -12,12 +13,6 @@ use std::alloc::{AllocError, Global};
 pub(crate) struct Receivers {
     notifier: Notifier,
     alloc: Global,
-}
-
-// The number at the front of a text, and what stands behind it.
-fn counted(text: &str) -> (u64, &str) {
-    let (number, rest) = text.split_once(' ').unwrap_or((text, ""));
-    (number.parse::<u64>().unwrap_or(0), rest)
 }
 
 // So many notices, each known by its end, from a number on.
@@ -67,7 +62,7 @@ fn batch_text(alloc: Global, batch: &Batch) -> Result<String, AllocError> {
 
 impl Receivers {
     /// No receivers.
-    pub(crate) fn new(alloc: Global) -> Receivers {
+    pub(crate) fn none(alloc: Global) -> Receivers {
         Receivers {
             notifier: Notifier::new(alloc),
             alloc,

@@ -9,23 +9,15 @@
 //
 // Behind ` => ` stands what is answered.
 use crate::receivers::Receivers;
+use pr_tables::Answers;
 use std::alloc::{AllocError, Global};
 
-// What a line asks for, and what it is to be answered.
-fn halves(line: &str) -> (&str, &str) {
-    line.split_once(" => ").unwrap_or((line, ""))
-}
-
-/// The first line of a row that is answered otherwise, with its answer.
-pub(crate) fn difference(alloc: Global, row: &str) -> Result<Option<String>, AllocError> {
-    let (name, lines) = row.split_once('\n').unwrap_or((row, ""));
-    let mut receivers = Receivers::new(alloc);
-    for line in lines.lines() {
-        let (order, wanted) = halves(line);
-        let told = receivers.take(order)?;
-        if told.as_str() != wanted {
-            return Ok(Some(format!(in alloc; "{name}: {order} => {told}")?));
-        }
+impl Answers for Receivers {
+    fn new(alloc: Global) -> Receivers {
+        Receivers::none(alloc)
     }
-    Ok(None)
+
+    fn answer(&mut self, _alloc: Global, line: &str) -> Result<String, AllocError> {
+        self.take(line)
+    }
 }

@@ -2,9 +2,9 @@
 // them. A line of `data/answers` has the words, the input behind ` < `, the file of the answers behind
 // ` > `, and maybe behind ` & ` the files that are loaded.
 use crate::program::Promtool;
-use crate::texts::{bytes_of, text_of};
 use pr_outside::{Files, HeldFile};
 use pr_run_rows::answers;
+use pr_tables::{bytes_of, text_of};
 use std::alloc::Global;
 use std::io;
 use std::rt::HostRuntime;

@@ -9,7 +9,6 @@ mod readings;
 mod rule_files;
 mod sample;
 mod tables;
-mod texts;
 mod words;
 mod yaml;
 

@@ -1,8 +1,8 @@
 // The tables of runs, and the forms of what is printed beside them.
 use crate::program::Promtool;
-use crate::texts::text_of;
 use pr_outside::Files;
 use pr_run_rows::{difference, has_written, lacking};
+use pr_tables::text_of;
 use std::io;
 use std::rt::HostRuntime;
 

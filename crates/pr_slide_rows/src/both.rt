@@ -178,7 +178,7 @@ fn numbers_text(alloc: Global, from: &[Option<usize>]) -> Result<String, AllocEr
 
 impl Both {
     /// No samples, and nothing asked.
-    pub(crate) fn new(alloc: Global) -> Both {
+    pub(crate) fn none(alloc: Global) -> Both {
         Both {
             head: Head::new(alloc),
             plain: PlainRanges::new(alloc),

@@ -5,32 +5,10 @@
 mod both;
 mod row;
 
-use crate::row::difference;
-use pr_outside::{DiskFiles, Files, Found};
+use crate::both::Both;
+use pr_tables::tell_table;
 use std::io;
 
-/// The table, a file.
-const TABLE: &str = "ranges";
-
-/// The text of a file.
-fn text_of<F: Files>(files: &mut F, name: &str) -> io::Result<String> {
-    if let Ok(Found::Bytes { bytes }) = files.load(name) {
-        if let Ok(text) = String::from_utf8(bytes) {
-            return Ok(text);
-        }
-    }
-    Err(io::Error::from(io::ErrorKind::NotFound))
-}
-
 fn main(rt: HostRuntime) -> io::Result<()> {
-    let alloc = rt.alloc();
-    let mut files = DiskFiles::new(alloc, &rt);
-    let table = text_of(&mut files, TABLE)?;
-    for row in table.split("\n# ").skip(1) {
-        if let Some(text) = difference(alloc, row)? {
-            println!(rt; "{TABLE}: {text}")?;
-        }
-    }
-    println!(rt; "{TABLE}: {} rows", table.split("\n# ").skip(1).count())?;
-    Ok(())
+    tell_table::<Both>(&rt, "ranges")
 }

@@ -12,23 +12,15 @@
 //
 // Behind ` => ` stands the answer. Times are in milliseconds.
 use crate::both::Both;
+use pr_tables::Answers;
 use std::alloc::{AllocError, Global};
 
-// What a line asks for, and what it is to be answered.
-fn halves(line: &str) -> (&str, &str) {
-    line.split_once(" => ").unwrap_or((line, ""))
-}
-
-/// The first line of a row that is answered otherwise, with its answer.
-pub(crate) fn difference(alloc: Global, row: &str) -> Result<Option<String>, AllocError> {
-    let (name, lines) = row.split_once('\n').unwrap_or((row, ""));
-    let mut both = Both::new(alloc);
-    for line in lines.lines() {
-        let (order, wanted) = halves(line);
-        let told = both.take(alloc, order)?;
-        if told.as_str() != wanted {
-            return Ok(Some(format!(in alloc; "{name}: {order} => {told}")?));
-        }
+impl Answers for Both {
+    fn new(alloc: Global) -> Both {
+        Both::none(alloc)
     }
-    Ok(None)
+
+    fn answer(&mut self, alloc: Global, line: &str) -> Result<String, AllocError> {
+        self.take(alloc, line)
+    }
 }

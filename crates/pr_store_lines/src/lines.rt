@@ -1,12 +1,8 @@
 // The lines of a row.
 use crate::orders::answer;
 use crate::rows::Rows;
+use pr_tables::halves;
 use std::alloc::{AllocError, Global};
-
-/// What a line asks for, and what it is to be answered.
-pub(crate) fn halves(line: &str) -> (&str, &str) {
-    line.split_once(" => ").unwrap_or((line, ""))
-}
 
 /// Whether a line is for the database itself, before its store is used or after.
 fn is_of_the_database(line: &str) -> bool {

@@ -1,8 +1,9 @@
 // A row over a database in memory. Lines `sql TEXT` come first and make its tables, or a line `file`
 // of the bytes that a file has; orders to its store follow; lines `select TEXT` come last, and show
 // what the tables then hold.
-use crate::lines::{difference, halves};
+use crate::lines::difference;
 use crate::stores::{batch, connection_of, kept_of, kept_over};
+use pr_tables::halves;
 use sqlite::{Alter, Connection};
 use sqlite_value::value::ValueRef;
 use std::alloc::{AllocError, Global};

@@ -8,25 +8,10 @@
 use pr_outside::{DiskFiles, Files, FilesError, Found};
 use pr_status::{RuntimeLine, words_of};
 use pr_store_lines::{difference_after_stops, difference_at_paths, difference_in_tables, work};
+use pr_tables::{bytes_of, text_of};
 use sqlite::{Start, Unknown};
 use std::alloc::Global;
 use std::io;
-
-// The bytes of a file.
-fn bytes_of<F: Files>(files: &mut F, name: &str) -> io::Result<Vec<u8>> {
-    match files.load(name) {
-        Ok(Found::Bytes { bytes }) => Ok(bytes),
-        _ => Err(io::Error::from(io::ErrorKind::NotFound)),
-    }
-}
-
-// The text of a file.
-fn text_of<F: Files>(files: &mut F, name: &str) -> io::Result<String> {
-    match String::from_utf8(bytes_of(files, name)?) {
-        Ok(text) => Ok(text),
-        Err(_) => Err(io::Error::from(io::ErrorKind::InvalidData)),
-    }
-}
 
 // The bytes of the file that a row names in its first line, or none.
 fn first_bytes<F: Files>(alloc: Global, files: &mut F, lines: &str) -> io::Result<Vec<u8>> {

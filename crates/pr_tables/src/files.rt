@@ -3,7 +3,10 @@ use pr_outside::{Files, Found};
 use std::io;
 
 /// The bytes of a file.
-pub(crate) fn bytes_of<F: Files>(files: &mut F, name: &str) -> io::Result<Vec<u8>> {
+///
+/// # Errors
+/// Where there is no such file, or it is not loaded.
+pub fn bytes_of<F: Files>(files: &mut F, name: &str) -> io::Result<Vec<u8>> {
     match files.load(name) {
         Ok(Found::Bytes { bytes }) => Ok(bytes),
         _ => Err(io::Error::from(io::ErrorKind::NotFound)),
@@ -11,7 +14,10 @@ pub(crate) fn bytes_of<F: Files>(files: &mut F, name: &str) -> io::Result<Vec<u8
 }
 
 /// The text of a file.
-pub(crate) fn text_of<F: Files>(files: &mut F, name: &str) -> io::Result<String> {
+///
+/// # Errors
+/// Where there is no such file, or it is not loaded, or it holds no text.
+pub fn text_of<F: Files>(files: &mut F, name: &str) -> io::Result<String> {
     match String::from_utf8(bytes_of(files, name)?) {
         Ok(text) => Ok(text),
         Err(_) => Err(io::Error::from(io::ErrorKind::InvalidData)),
