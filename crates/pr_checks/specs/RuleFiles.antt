@@ -35,16 +35,10 @@ missing = codes ": Missing\n"
 unfoldable pub too_large : List ℕ
 too_large = codes ": TooLarge\n"
 
-abbrev pub missing_text : List ℕ → List ℕ
-missing_text name = problems_text (name ++ missing)
-
-abbrev pub too_large_text : List ℕ → List ℕ
-too_large_text name = problems_text (name ++ too_large)
-
 -- by what its name holds
 abbrev pub found_told : List ℕ → Holding → Told
-found_told name is_missing = record { text = missing_text name; refused = true; asks = [] }
-found_told name is_too_large = record { text = too_large_text name; refused = true; asks = [] }
+found_told name is_missing = record { text = problems_text (name ++ missing); refused = true; asks = [] }
+found_told name is_too_large = record { text = problems_text (name ++ too_large); refused = true; asks = [] }
 found_told name (holds bytes) = reading_told name (rule_file_of bytes)
 
 unfoldable pub checking_text : List ℕ → List ℕ
