@@ -1,0 +1,4 @@
+pub mod Times
+pub mod Endings
+pub mod Standing
+pub mod Opening

@@ -1,0 +1,45 @@
+// The history of a store, with which a backfill begins.
+ghost use Rattle.std.specs.Prelude.{◌≡◌, ℕ, Err, IfOk, IfSome, OnErr, OnOk};
+ghost use Rattle.std.specs.Io.KnownBytes.{Appends};
+ghost use Rattle.pr_outside.specs.Kept.{StartsRows};
+ghost use Rattle.pr_row.specs.Histories.{history_of};
+ghost use Rattle.pr_engine.specs.Loading.{IsLoaded};
+ghost use Rattle.pr_status.specs.Ends.{Ends};
+ghost use Rattle.pr_status.specs.Outside.{Outside};
+ghost use Rattle.pr_status.specs.declared.status.Stop.TheVariants as stop;
+ghost use Rattle.pr_run.specs.Rows.{IsBadIn};
+ghost use Rattle.pr_run.specs.Told.{bad_row_text};
+ghost use Rattle.pr_backfill_command.specs.Opening.{IsUnopened};
+
+use pr_engine::{StartError, history};
+use pr_head::Head;
+use pr_outside::{Keeper, Sink};
+use pr_run::tell_bad_row;
+use pr_status::Stop;
+use std::alloc::Global;
+
+/// Opens the store of a path, and reads its rows. Where one is bad, its line is written.
+pub(crate) fn open<K: Keeper, O: Sink>(
+    alloc: Global,
+    path: &str,
+    keeper: &mut K,
+    out: &mut O,
+) -> Result<Head, Stop>
+    ensures head { IfOk result (λ head. IsLoaded head (K.means keeper.new)) }
+    ensures unwritten { OnOk result (O.means out.new ≡ O.means out.old) }
+    ensures front { IfSome (K.means keeper.new).rows (λ rows. OnErr result (IsUnopened (history_of rows) (O.means out.old).taken (O.means out.new).taken result)) }
+    ensures bad { (at : ℕ) → result ≡ Err (stop.BadRow at) → Appends (O.means out.old).taken (O.means out.new).taken (bad_row_text at) }
+    ensures rows { StartsRows (K.means keeper.old).rows (K.means keeper.new).rows }
+    ensures ends { (others : Outside) → Ends (IsBadIn (K.means keeper.new)) ⊥ (record others { store = K.means keeper.old; out = O.means out.old })
+        (record others { store = K.means keeper.new; out = O.means out.new }) result }
+{
+    match history(alloc, keeper, path) {
+        Ok(head) => Ok(head),
+        Err(StartError::BadRow { index }) => {
+            tell_bad_row(alloc, index, out)?;
+            Err(Stop::BadRow { index })
+        }
+        Err(StartError::StoreFailed) => Err(Stop::Store),
+        Err(StartError::Memory) => Err(Stop::Memory),
+    }
+}
