@@ -6,3 +6,5 @@ pub mod Rounds
 pub mod Evaluating
 pub mod Unopened
 pub mod Over
+pub mod Loaded
+pub mod Meaning

@@ -6,7 +6,9 @@ mod filling;
 mod groups;
 mod keeping;
 mod opening;
+mod running;
 mod telling;
 mod times;
 
+pub use running::backfill;
 pub use times::Times;

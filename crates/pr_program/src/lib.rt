@@ -7,12 +7,13 @@ use pr_outside::{DiskFiles, StdSink, StdSource};
 use pr_status::{RuntimeLine, Status, exit_of, words_of};
 use pr_top::promtool;
 use sqlite::Start;
-use std::alloc::Global;
 use std::process::ExitCode;
 use std::rt::HostRuntime;
 
-// Runs these words over the real objects.
-fn run<T: Start>(alloc: Global, rt: &HostRuntime, words: &[String], start: T) -> Status {
+/// Runs these words over the real objects, and tells how the program ends. A store at a path stands
+/// for what its files held by `start`, which is `sqlite::Unknown` in a program.
+pub fn run<T: Start>(rt: &HostRuntime, words: &[String], start: T) -> Status {
+    let alloc = rt.alloc();
     let mut input = StdSource::new(rt.stdin());
     let mut out = StdSink::new(rt.stdout());
     let mut files = DiskFiles::new(alloc, rt);
@@ -20,12 +21,11 @@ fn run<T: Start>(alloc: Global, rt: &HostRuntime, words: &[String], start: T) ->
     promtool(alloc, words, &mut input, &mut files, &mut keeper, &mut out)
 }
 
-/// Runs the words of the command line, and tells how the process ends. A store at a path stands for
-/// what its files held by `start`, which is `sqlite::Unknown` in a program.
+/// Runs the words of the command line, and tells how the process ends, over stores as [`run`] has
+/// them.
 pub fn ended<T: Start>(rt: &HostRuntime, start: T) -> ExitCode {
-    let alloc = rt.alloc();
-    match words_of(alloc, &RuntimeLine::new(rt)) {
-        Ok(words) => exit_of(run(alloc, rt, &words, start)),
+    match words_of(rt.alloc(), &RuntimeLine::new(rt)) {
+        Ok(words) => exit_of(run(rt, &words, start)),
         Err(_) => exit_of(Status::Memory),
     }
 }

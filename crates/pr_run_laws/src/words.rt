@@ -1,5 +1,5 @@
 //! What the words of the command line ask for.
-ghost use Rattle.std.specs.Prelude.{◌≡◌, codes, [], ◌∷◌, None, Some};
+ghost use Rattle.std.specs.Prelude.{◌≡◌, codes, [], ◌∷◌, IsSome, None, Some};
 ghost use Rattle.pr_top.specs.Command.{backfills, checks_metrics, checks_rules, command_of, exercises, runs, tests_rules};
 
 /// The forms of the words, and words that are none of them.
@@ -26,11 +26,10 @@ pub fn words_ask_for_commands()
 /// The forms of a backfill, and times that are none.
 pub fn words_ask_for_a_backfill()
     ensures times { command_of (codes "backfill" ∷ codes "s.db" ∷ codes "0" ∷ codes "120000" ∷ codes "1m" ∷ codes "r.yml" ∷ [])
-        ≡ Some (backfills (codes "s.db") (record { first = 0; last = 120000; step = 60000 }) (codes "r.yml" ∷ [])) }
+        ≡ Some (backfills (codes "s.db") (0 ∷ 60000 ∷ 120000 ∷ []) (codes "r.yml" ∷ [])) }
     ensures end_before_start { command_of (codes "backfill" ∷ codes "s.db" ∷ codes "5" ∷ codes "4" ∷ codes "1m" ∷ codes "r.yml" ∷ []) ≡ None }
     ensures no_step { command_of (codes "backfill" ∷ codes "s.db" ∷ codes "0" ∷ codes "4" ∷ codes "0" ∷ codes "r.yml" ∷ []) ≡ None }
-    ensures most_times { command_of (codes "backfill" ∷ codes "s.db" ∷ codes "0" ∷ codes "1048575" ∷ codes "1ms" ∷ codes "r.yml" ∷ [])
-        ≡ Some (backfills (codes "s.db") (record { first = 0; last = 1048575; step = 1 }) (codes "r.yml" ∷ [])) }
+    ensures most_times { IsSome (command_of (codes "backfill" ∷ codes "s.db" ∷ codes "0" ∷ codes "1048575" ∷ codes "1ms" ∷ codes "r.yml" ∷ [])) }
     ensures too_many_times { command_of (codes "backfill" ∷ codes "s.db" ∷ codes "0" ∷ codes "1048576" ∷ codes "1ms" ∷ codes "r.yml" ∷ []) ≡ None }
     ensures no_file { command_of (codes "backfill" ∷ codes "s.db" ∷ codes "0" ∷ codes "4" ∷ codes "1m" ∷ []) ≡ None }
 {}

@@ -28,6 +28,7 @@ use Rattle.pr_run.specs.Rows.{IsBadIn, OverRows}
 use Rattle.pr_run.specs.Runs.{EndsBy, EndsInto, EndsOver, IsStopped, IsWholeRun, MeansRun, RunsBy}
 use Rattle.pr_run.specs.Told.{answers_to, asks_of, bad_row_text, refuses}
 use Rattle.pr_exercise_command.specs.Means.{MeansExercise, exercise_status}
+use Rattle.pr_backfill_texts.specs.Means.{MeansBackfill}
 use Rattle.pr_top.specs.Command.{Command, runs, tests_rules, checks_rules, checks_metrics, exercises, backfills}
 use Rattle.pr_top.specs.Means.{HasBadRow, MeansCommand, MeansUsage, usage_status}
 use Rattle.pr_top.specs.Usage.{usage_text}
@@ -191,6 +192,12 @@ exercise_cause rounds before now result m = subst (HasCause ((index : ℕ) × Is
     by (Ok done) e = e.cause
     by (Err s) e = stop_cause Unit (IsBadIn now.store) ((index : ℕ) × IsBadIn now.store index) ⊥ before now s (λ index bad. (index, bad)) e.cause
 
+backfill_cause : (times : List ℕ) (names : List (List ℕ)) (before now : Outside) (result : Status) → MeansBackfill times names before now result
+    → HasCause ((index : ℕ) × IsBadIn now.store index) before now result
+backfill_cause times names before now result m =
+    subst (HasCause ((index : ℕ) × IsBadIn now.store index) before now) (sym m.answer)
+    (ending_cause (IsBadIn now.store) ((index : ℕ) × IsBadIn now.store index) ⊥ before now m.ending (λ index bad. (index, bad)) m.ends)
+
 pub command_cause : (c : Option Command) (before now : Outside) (result : Status) → MeansCommand c before now result → HasCause (HasBadRow c now.store) before now result
 command_cause None before now result m = usage_cause usage_text before now result m
 command_cause (Some (runs path)) before now result m = run_cause before now result m
@@ -198,4 +205,4 @@ command_cause (Some (tests_rules names)) before now result m = files_cause tests
 command_cause (Some (checks_rules names)) before now result m = files_cause rules_told names before now result m
 command_cause (Some checks_metrics) before now result m = input_cause metrics_told before now result m
 command_cause (Some (exercises rounds)) before now result m = exercise_cause rounds before now result m
-command_cause (Some (backfills path times names)) before now result m = usage_cause usage_text before now result m
+command_cause (Some (backfills path times names)) before now result m = backfill_cause times names before now result m

@@ -1,6 +1,6 @@
 -- What is read of the word for a step.
 use Rattle.std.proofs.Common.{◌≡◌, ℕ, ◌≤◌, ◌<◌, ◌^◌, Bool, true, false, cond, List, [], Option, Some, None, refl, sym, ap, ◌∙◌, arith, Global, String, ◌∷◌, length, map, string_bytes}
-use Rattle.std.specs.Prelude.{nat_lt, not, ◌&&◌}
+use Rattle.std.specs.Prelude.{nat_lt}
 use Rattle.std.proofs.lemmas.Bool.{lt-ltb, ltb-true}
 use Rattle.pr_forms.specs.Form.{rule, Reads}
 use Rattle.pr_time.specs.SpanAnswer.{span_of}
@@ -17,20 +17,15 @@ small_enough ms small = by (nat_lt (2 ^ 40) ms) refl
     by true is = absurd (omega (arith, ltb-true (2 ^ 40) ms is, small))
     by false is = refl
 
-step : (ms : ℕ) → 0 < ms → ms ≤ 2 ^ 40 → step_in (Some ms) ≡ Some ms
-step ms some small =
-    ap (λ (b : Bool). cond (not b && nat_lt 0 ms) (Some ms) None) (small_enough ms small)
-    ∙ ap (λ (b : Bool). cond b (Some ms) None) (lt-ltb 0 ms some)
+step : (ms : ℕ) → ms ≤ 2 ^ 40 → step_in (Some ms) ≡ Some ms
+step ms small = ap (λ (b : Bool). cond b None (Some ms)) (small_enough ms small)
 
 none : (ms : ℕ) → 2 ^ 40 < ms → step_in (Some ms) ≡ None
-none ms large = ap (λ (b : Bool). cond (not b && nat_lt 0 ms) (Some ms) None) (lt-ltb (2 ^ 40) ms large)
+none ms large = ap (λ (b : Bool). cond b None (Some ms)) (lt-ltb (2 ^ 40) ms large)
 
 -- what a span that was read, or refused, says of the step
-pub step_read : (word : List ℕ) (s : ℕ) → ReadsSpan word s → s ≤ 2 ^ 40 → 0 < s → Some s ≡ step_of word
-step_read word s reads small some = sym (ap step_in (span_of_reading word s reads) ∙ step s some small)
-
-pub zero_read : (word : List ℕ) (s : ℕ) → ReadsSpan word s → s ≡ 0 → None ≡ step_of word
-zero_read word s reads is = sym (ap step_in (span_of_reading word s reads ∙ ap Some is))
+pub step_read : (word : List ℕ) (s : ℕ) → ReadsSpan word s → s ≤ 2 ^ 40 → Some s ≡ step_of word
+step_read word s reads small = sym (ap step_in (span_of_reading word s reads) ∙ step s small)
 
 pub no_step : (word : List ℕ) (e : SpanFault) → ((v : Value) → Reads production (rule Text) (seen word) v [] → IsTooLong v e) → None ≡ step_of word
 no_step word e only = sym (by (span_of word) refl)

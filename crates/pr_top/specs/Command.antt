@@ -1,17 +1,13 @@
 -- What the words of the command line ask for, and what each command leaves unused.
-use Rattle.std.specs.Prelude.{ℕ, zero, suc, ◌+◌, ◌*◌, ◌^◌, Bool, true, false, not, ◌==◌, ◌&&◌, cond, nat_lt, List, [], ◌∷◌, codes, Option, Some, None}
+use Rattle.std.specs.Prelude.{ℕ, zero, suc, ◌^◌, Bool, true, false, not, ◌==◌, ◌&&◌, cond, nat_lt, List, [], ◌∷◌, codes, Option, Some, None}
 use Prim.Native.Char.{code}
 use Rattle.std.specs.List.{list_all}
+use Rattle.std.specs.Option.{option_map}
 use Rattle.std.specs.Str.{bytes_eq}
 use Rattle.pr_words.specs.Decimals.{plain_decimal}
 use Rattle.pr_time.specs.SpanAnswer.{span_of}
 use Rattle.pr_script.specs.Script.{written_time}
-
--- the times from a first one to a last one by a step, in milliseconds
-pub record Times : Type 0 where
-  pub first : ℕ
-  pub last : ℕ
-  pub step : ℕ
+use Rattle.pr_backfill.specs.Times.{backfill_times, times_from}
 
 -- All that the words may ask for. Names are those of files, and a path is that of a store; the empty
 -- path is a store in memory.
@@ -27,7 +23,7 @@ pub data Command : Type 0 where
   -- answers a script of so many rounds that is made up, and sums up what it tells
   exercises : ℕ → Command
   -- evaluates the recording rules of files at these times, over the store of this path
-  backfills : List ℕ → Times → List (List ℕ) → Command
+  backfills : List ℕ → List ℕ → List (List ℕ) → Command
 
 -- a word that names a file or a store: it is not empty, and does not begin with a dash
 abbrev pub is_file_word : List ℕ → Bool
@@ -66,31 +62,25 @@ exercise_of [] = None
 exercise_of (rounds ∷ []) = rounds_by (plain_decimal 100001 rounds)
 exercise_of (rounds ∷ other ∷ words) = None
 
--- a step: the text of a span of 1 to 2^40 milliseconds
-abbrev pub is_step : ℕ → Bool
-is_step ms = not (nat_lt (2 ^ 40) ms) && nat_lt 0 ms
-
+-- a step: the text of a span of at most 2^40 milliseconds
 abbrev pub step_in : Option ℕ → Option ℕ
 step_in None = None
-step_in (Some ms) = cond (is_step ms) (Some ms) None
+step_in (Some ms) = cond (nat_lt (2 ^ 40) ms) None (Some ms)
 
 abbrev pub step_of : List ℕ → Option ℕ
 step_of word = step_in (span_of word)
 
--- The last time is not before the first, and there are 2^20 times at most.
-abbrev pub are_times : ℕ → ℕ → ℕ → Bool
-are_times first last step = not (nat_lt last first) && nat_lt last (first + 2 ^ 20 * step)
-
-abbrev pub times_by : Option ℕ → Option ℕ → Option ℕ → Option Times
+-- the times from a first one to a last one by a step, where a backfill has such
+abbrev pub times_by : Option ℕ → Option ℕ → Option ℕ → Option (List ℕ)
 times_by None last step = None
 times_by (Some first) None step = None
 times_by (Some first) (Some last) None = None
-times_by (Some first) (Some last) (Some step) = cond (are_times first last step) (Some (record { first = first; last = last; step = step })) None
+times_by (Some first) (Some last) (Some step) = option_map (times_from first step) (backfill_times first last step)
 
-abbrev pub times_of : List ℕ → List ℕ → List ℕ → Option Times
+abbrev pub times_of : List ℕ → List ℕ → List ℕ → Option (List ℕ)
 times_of first last step = times_by (written_time first) (written_time last) (step_of step)
 
-abbrev pub backfill_by : List ℕ → Option Times → List (List ℕ) → Option Command
+abbrev pub backfill_by : List ℕ → Option (List ℕ) → List (List ℕ) → Option Command
 backfill_by path None names = None
 backfill_by path (Some times) names = cond (is_file_word path && are_names names) (Some (backfills path times names)) None
 
@@ -126,15 +116,13 @@ pub record Uses : Type 0 where
 abbrev pub uses_nothing : Uses
 uses_nothing = record { input = false; files = false; store = false }
 
--- `backfill` is not done yet: its words are answered as words that are none of the forms, and use
--- nothing.
 abbrev pub uses_of : Command → Uses
 uses_of (runs path) = record { input = true; files = true; store = true }
 uses_of (tests_rules names) = record { input = false; files = true; store = false }
 uses_of (checks_rules names) = record { input = false; files = true; store = false }
 uses_of checks_metrics = record { input = true; files = false; store = false }
 uses_of (exercises rounds) = record { input = false; files = false; store = true }
-uses_of (backfills path times names) = uses_nothing
+uses_of (backfills path times names) = record { input = false; files = true; store = true }
 
 -- words that are none of the forms use nothing
 abbrev pub uses : Option Command → Uses

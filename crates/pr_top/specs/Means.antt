@@ -15,6 +15,7 @@ use Rattle.pr_test_texts.specs.TestsTold.{tests_told}
 use Rattle.pr_run.specs.Rows.{IsBadIn}
 use Rattle.pr_run.specs.Runs.{MeansRun}
 use Rattle.pr_exercise_command.specs.Means.{MeansExercise}
+use Rattle.pr_backfill_texts.specs.Means.{MeansBackfill}
 use Rattle.pr_top.specs.Command.{Command, runs, tests_rules, checks_rules, checks_metrics, exercises, backfills}
 use Rattle.pr_top.specs.Usage.{usage_text}
 
@@ -33,8 +34,7 @@ pub record MeansUsage (text : List ℕ) (before now : Outside) (result : Status)
   -- no call was refused, and memory sufficed
   pub exactly : AreCalm before now → result ≢ status.Memory → (result ≡ status.Usage) × Appends before.out.taken now.out.taken text
 
--- What a command promises. One that is not done yet promises what is promised where the words are none
--- of the forms.
+-- What a command promises.
 abbrev pub MeansCommand : Option Command → Outside → Outside → Status → Type 0
 MeansCommand None before now result = MeansUsage usage_text before now result
 MeansCommand (Some (runs path)) before now result = MeansRun before now result
@@ -42,9 +42,9 @@ MeansCommand (Some (tests_rules names)) before now result = MeansFileCheck tests
 MeansCommand (Some (checks_rules names)) before now result = MeansFileCheck rules_told names before now result
 MeansCommand (Some checks_metrics) before now result = MeansInputCheck metrics_told before now result
 MeansCommand (Some (exercises rounds)) before now result = MeansExercise rounds before now result
-MeansCommand (Some (backfills path times names)) before now result = MeansUsage usage_text before now result
+MeansCommand (Some (backfills path times names)) before now result = MeansBackfill times names before now result
 
--- what shows that a row is a bad one: a run and an exercise look at rows
+-- what shows that a row is a bad one: a run, an exercise and a backfill look at rows
 abbrev pub HasBadRow : Option Command → Store → Type 0
 HasBadRow None store = ⊥
 HasBadRow (Some (runs path)) store = (index : ℕ) × IsBadIn store index
@@ -52,4 +52,4 @@ HasBadRow (Some (tests_rules names)) store = ⊥
 HasBadRow (Some (checks_rules names)) store = ⊥
 HasBadRow (Some checks_metrics) store = ⊥
 HasBadRow (Some (exercises rounds)) store = (index : ℕ) × IsBadIn store index
-HasBadRow (Some (backfills path times names)) store = ⊥
+HasBadRow (Some (backfills path times names)) store = (index : ℕ) × IsBadIn store index

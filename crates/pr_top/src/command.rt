@@ -2,27 +2,17 @@
 ghost use Rattle.std.specs.Prelude.{◌≡◌, map, string_bytes};
 ghost use Rattle.std.specs.List.{list_all};
 ghost use Rattle.pr_script.specs.Script.{written_time};
-ghost use Rattle.pr_top.specs.Command.{are_names, are_times, backfill_by, backfill_of, check_of, command_of, exercise_of, is_file_word, run_of, step_of, test_of, times_by, times_of};
-ghost use Rattle.pr_top.specs.Words.{asks_for, times_for};
+ghost use Rattle.pr_top.specs.Command.{are_names, backfill_by, backfill_of, check_of, command_of, exercise_of, is_file_word, run_of, step_of, test_of, times_by, times_of};
+ghost use Rattle.pr_top.specs.Words.{asks_for};
 
+use pr_backfill_command::Times;
 use pr_exercise_command::Rounds;
 use pr_time::{Ms, Span, read_span};
 use pr_words::laws::plain_decimals_are_printed_numbers;
 use pr_words::plain_decimal;
 
-// There are at most so many times.
-const MOST_TIMES: u64 = 1 << 20;
-
-/// The times from a first one to a last one by a step.
-#[derive(Clone, Copy)]
-pub(crate) struct Times {
-    first: Ms,
-    last: Ms,
-    step: Span,
-}
-
 /// What the words ask for.
-#[derive(Clone, Copy)]
+#[derive(Drop)]
 pub(crate) enum Command<'a> {
     /// Answers the script of the input, over the store of this path; the empty path is a store in
     /// memory.
@@ -139,45 +129,33 @@ fn written_time(word: &str) -> Option<Ms>
     Ms::new(plain_decimal(word.as_bytes(), 1 << 42)?)
 }
 
-#[tactic(auto, using(crate::proofs::WordTimes::step_read, crate::proofs::WordTimes::zero_read, crate::proofs::WordTimes::no_step))]
+#[tactic(auto, using(crate::proofs::WordTimes::step_read, crate::proofs::WordTimes::no_step))]
 fn step_of(word: &str) -> Option<Span>
     ensures { result ≡ step_of word.now }
 {
     match read_span(word.as_bytes()) {
-        Ok(step) => { if step.get() > 0 { Some(step) } else { None } }
+        Ok(step) => Some(step),
         Err(_) => None,
     }
 }
 
-// Whether there are times, and at most 2^20 of them.
-fn are_times(first: Ms, last: Ms, step: Span) -> bool
-    ensures { result ≡ are_times first last step }
-{
-    let (first, last) = (first.get(), last.get());
-    !(last < first) && last < first + MOST_TIMES * step.get()
-}
-
 fn times_by(first: Option<Ms>, last: Option<Ms>, step: Option<Span>) -> Option<Times>
-    ensures { times_for result ≡ times_by first last step }
+    ensures { result ≡ times_by first last step }
 {
     let (Some(first), Some(last), Some(step)) = (first, last, step) else {
         return None;
     };
-    if are_times(first, last, step) {
-        Some(Times { first, last, step })
-    } else {
-        None
-    }
+    Times::new(first, last, step)
 }
 
 fn times_of(first: &str, last: &str, step: &str) -> Option<Times>
-    ensures { times_for result ≡ times_of first.now last.now step.now }
+    ensures { result ≡ times_of first.now last.now step.now }
 {
     times_by(written_time(first), written_time(last), step_of(step))
 }
 
 fn backfill_by<'a>(path: &'a str, times: Option<Times>, names: &'a [String]) -> Option<Command<'a>>
-    ensures { asks_for result ≡ backfill_by path.now (times_for times) (map string_bytes names.now) }
+    ensures { asks_for result ≡ backfill_by path.now times (map string_bytes names.now) }
 {
     match times {
         Some(times) if is_file_word(path) && are_names(names) => {

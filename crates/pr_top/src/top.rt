@@ -14,10 +14,12 @@ ghost use Rattle.pr_top.specs.Words.{asked_by};
 
 use super::command::{Command, command_of};
 use super::engine::RunEngine;
+use pr_backfill_command::backfill;
 use pr_check_loops::{check_files, check_input};
 use pr_checks::{Metrics, RuleFiles};
 use pr_exercise_command::exercise;
 use pr_outside::{Files, Keeper, Sink, Source};
+use pr_range::Ranges;
 use pr_run::{Worlds, run};
 use pr_slide::SlidingRanges;
 use pr_status::{Status, send, status_of};
@@ -82,8 +84,8 @@ fn refuse_words<O: Sink>(out: &mut O) -> Status
     }
 }
 
-// Does what the words ask for. What is not done yet is refused as words that are none of the forms.
-fn do_command<E: Worlds + Drop, I: Source, F: Files, K: Keeper, O: Sink>(
+// Does what the words ask for.
+fn do_command<E: Worlds + Drop, R: Ranges + Drop, I: Source, F: Files, K: Keeper, O: Sink>(
     alloc: Global,
     command: Command<'_>,
     input: &mut I,
@@ -106,18 +108,22 @@ fn do_command<E: Worlds + Drop, I: Source, F: Files, K: Keeper, O: Sink>(
         Command::CheckRules { names } => check_rules(alloc, names, files, out),
         Command::CheckMetrics => check_metrics(alloc, input, out),
         Command::Exercise { rounds } => exercise::<E, K, O>(alloc, rounds, keeper, out),
-        Command::Backfill { .. } => refuse_words(out),
+        Command::Backfill { path, times, names } => backfill::<R, F, K, O>(
+            alloc, path, times, names, files, keeper, out,
+        ),
     }
 }
 
-/// Does all that the program does, over what keeps the world of a run. The words are those after the
-/// program's name, `out` is the standard output, and the status is what the process ends with. It does
-/// `run`, which reads a script from `input` and answers it over the rows of a store;
-/// `check metrics`, which checks the exposition that `input` is; `check rules FILE..`, which checks rule
-/// files, one after another; `test rules FILE..`, which tests rules by test files, one after another; and
-/// `exercise N`, which answers a script that is made up, and sums up what it tells.
+/// Does all that the program does, over what keeps the world of a run, and over ranges for a
+/// backfill. The words are those after the program's name, `out` is the standard output, and the
+/// status is what the process ends with. It does `run`, which reads a script from `input` and answers
+/// it over the rows of a store; `check metrics`, which checks the exposition that `input` is;
+/// `check rules FILE..`, which checks rule files, one after another; `test rules FILE..`, which tests
+/// rules by test files, one after another; `exercise N`, which answers a script that is made up, and
+/// sums up what it tells; and `backfill STORE START END STEP FILE..`, which evaluates the recording
+/// rules of files at one time after another over the rows of a store, and keeps what they record.
 /// Want of memory alone may come at any time.
-pub fn promtool_over<E: Worlds + Drop, I: Source, F: Files, K: Keeper, O: Sink>(
+pub fn promtool_over<E: Worlds + Drop, R: Ranges + Drop, I: Source, F: Files, K: Keeper, O: Sink>(
     alloc: Global,
     words: &[String],
     input: &mut I,
@@ -125,7 +131,6 @@ pub fn promtool_over<E: Worlds + Drop, I: Source, F: Files, K: Keeper, O: Sink>(
     keeper: &mut K,
     out: &mut O,
 ) -> Status
-    // Words of a command that is not done yet are answered as words that are none of the forms.
     ensures means { MeansCommand (command_of (map string_bytes words.now))
         (record { input = I.means input.old; files = F.means files.old; store = K.means keeper.old; out = O.means out.old })
         (record { input = I.means input.new; files = F.means files.new; store = K.means keeper.new; out = O.means out.new }) result }
@@ -140,7 +145,7 @@ pub fn promtool_over<E: Worlds + Drop, I: Source, F: Files, K: Keeper, O: Sink>(
     ensures content { (name : List ℕ) → (F.means files.new).content name ≡ (F.means files.old).content name }
 {
     match command_of(words) {
-        Some(command) => do_command::<E, I, F, K, O>(alloc, command, input, files, keeper, out),
+        Some(command) => do_command::<E, R, I, F, K, O>(alloc, command, input, files, keeper, out),
         None => refuse_words(out),
     }
 }
@@ -154,7 +159,6 @@ pub fn promtool<I: Source, F: Files, K: Keeper, O: Sink>(
     keeper: &mut K,
     out: &mut O,
 ) -> Status
-    // Words of a command that is not done yet are answered as words that are none of the forms.
     ensures means { MeansCommand (command_of (map string_bytes words.now))
         (record { input = I.means input.old; files = F.means files.old; store = K.means keeper.old; out = O.means out.old })
         (record { input = I.means input.new; files = F.means files.new; store = K.means keeper.new; out = O.means out.new }) result }
@@ -168,5 +172,7 @@ pub fn promtool<I: Source, F: Files, K: Keeper, O: Sink>(
     ensures keeper { (uses (command_of (map string_bytes words.now))).store ≡ false → keeper.new ≡ keeper.old }
     ensures content { (name : List ℕ) → (F.means files.new).content name ≡ (F.means files.old).content name }
 {
-    promtool_over::<RunEngine<SlidingRanges>, I, F, K, O>(alloc, words, input, files, keeper, out)
+    promtool_over::<RunEngine<SlidingRanges>, SlidingRanges, I, F, K, O>(
+        alloc, words, input, files, keeper, out,
+    )
 }

@@ -73,5 +73,5 @@ returns-in-Backfill-clause-means g c =
       store = g.K.Keeper.means c.args.keeper.now;
       out = g.O.Sink.means c.args.out.now;
     } in
-    let now : Outside = record before { out = g.O.Sink.means c.refuse_words.new.out } in
-    subst (λ (x : made.Command). MeansCommand (Some (asked_by x)) before now c.refuse_words.result) (sym c.in-Backfill.is) (c.refuse_words.ensures before)
+    let now : Outside = record before { files = g.F.Files.means c.backfill.new.files; store = g.K.Keeper.means c.backfill.new.keeper; out = g.O.Sink.means c.backfill.new.out } in
+    subst (λ (x : made.Command). MeansCommand (Some (asked_by x)) before now c.backfill.result) (sym c.in-Backfill.is) (c.backfill.ensures.means before)

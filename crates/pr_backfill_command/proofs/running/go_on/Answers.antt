@@ -1,0 +1,48 @@
+use Rattle.std.proofs.Common.{◌≡◌, ℕ, Bool, true, false, List, IfSome, map, length, subst}
+use Rattle.std.specs.Prelude.{◌==◌}
+use Rattle.pr_status.specs.Ends.{no_row}
+use Rattle.pr_status.specs.Outside.{Outside}
+use Rattle.pr_row.specs.Histories.{history_of}
+use Rattle.pr_run.specs.Rows.{IsBadIn, OverRows}
+use Rattle.pr_run.proofs.Endings.{ends_wider}
+use Rattle.pr_world.specs.declared.event.NamedFile.{NamedFile}
+use Rattle.pr_test_command.specs.Running.{loaded_of}
+use Rattle.pr_backfill_texts.specs.Means.{EndsBy, EndsRefused}
+use Rattle.pr_backfill_command.proofs.Loaded.{none_wrong, some_wrong, write_fine}
+use Rattle.pr_backfill_command.proofs.running.go_on.Goals as goal
+
+pub returns-then-is_empty-clause-with : goal.returns-then-is_empty-clause-with
+returns-then-is_empty-clause-with g c = λ others.
+    let keeper = g.K.Keeper.means in
+    let out = g.O.Sink.means in
+    let before : Outside = record others { store = keeper c.args.keeper.now; out = out c.args.out.now } in
+    let now : Outside = record others { store = keeper c.fill_all.new.keeper; out = out c.fill_all.new.out } in
+    let is = c.as_slice-wrong.ensures in
+    let over = subst (λ (files : List NamedFile). IfSome now.store.rows (λ all. OverRows before.store.rows all (λ rows. EndsBy (history_of rows) (map loaded_of files) c.args.times rows before now c.fill_all.result)))
+    c.into_vec.ensures (c.fill_all.ensures.over others) in
+    none_wrong c.args.rules.wrong (map loaded_of c.args.rules.files) c.args.times before now c.fill_all.result
+    (subst (λ (lines : List ℕ). true ≡ (length lines == 0)) is c.if-is_empty.ensures) over
+
+pub returns-else-is_empty-clause-with : goal.returns-else-is_empty-clause-with
+returns-else-is_empty-clause-with g c = λ others.
+    let keeper = g.K.Keeper.means in
+    let out = g.O.Sink.means in
+    let before : Outside = record others { store = keeper c.args.keeper.now; out = out c.args.out.now } in
+    let now : Outside = record others { store = keeper c.args.keeper.now; out = out c.refuse.new.out } in
+    let is = c.as_slice-wrong.ensures in
+    some_wrong c.args.rules.wrong (map loaded_of c.args.rules.files) c.args.times before now c.refuse.result
+    (subst (λ (lines : List ℕ). false ≡ (length lines == 0)) is c.if-is_empty.ensures)
+    (subst (λ (lines : List ℕ). EndsRefused lines before now c.refuse.result) is (c.refuse.ensures.refused before))
+
+pub returns-else-is_empty-clause-bad : goal.returns-else-is_empty-clause-bad
+returns-else-is_empty-clause-bad g c = λ at is.
+    let out = g.O.Sink.means in
+    absurd (write_fine Bool (out c.args.out.now) (out c.refuse.new.out) c.refuse.result c.refuse.ensures.ends at is)
+
+pub returns-else-is_empty-clause-ends : goal.returns-else-is_empty-clause-ends
+returns-else-is_empty-clause-ends g c = λ others.
+    let keeper = g.K.Keeper.means in
+    let out = g.O.Sink.means in
+    let before : Outside = record others { store = keeper c.args.keeper.now; out = out c.args.out.now } in
+    let now : Outside = record others { store = keeper c.args.keeper.now; out = out c.refuse.new.out } in
+    ends_wider Bool no_row (IsBadIn before.store) ⊥ ⊥ before now c.refuse.result (λ index no. absurd no) (λ never. never) (c.refuse.ensures.ends before)
