@@ -1,5 +1,5 @@
 -- Places among samples whose times rise.
-use Rattle.std.proofs.Common.{◌≡◌, ◌≢◌, ◌-◌, ℕ, zero, suc, ℤ, pos, negsuc, ◌≤◌, ◌<◌, Bool, true, false, cond, List, [], ◌∷◌, length, find, reverse, slice_get, Some, None, refl, ap, ◌∙◌, arith}
+use Rattle.std.proofs.Common.{◌≡◌, ◌≢◌, ◌-◌, ℕ, zero, suc, ℤ, pos, negsuc, ◌≤◌, ◌<◌, Bool, true, false, cond, List, Option, [], ◌∷◌, length, find, reverse, slice_get, get_or, Some, None, refl, sym, ap, ◌∙◌, arith}
 use Rattle.std.specs.List.{position_or_len, AllWithin}
 use Rattle.std.specs.List.Sorted.{IsNonDecreasingBy, IsPartitionedBy, IsPartitionPoint}
 use Rattle.std.specs.Option.{option_or}
@@ -10,7 +10,7 @@ use Rattle.std.proofs.lemmas.List.Sums.{position_or_len_is}
 use Rattle.std.proofs.lemmas.Grind.{common_steps}
 use Rattle.pr_history.specs.Lookback.{is_after, is_until}
 use Rattle.pr_head.specs.declared.timed.Timed.{Timed}
-use Rattle.pr_head.specs.Stored.{held_before}
+use Rattle.pr_head.specs.Stored.{held_before, is_there_until}
 
 -- the samples until a time come before the others
 pub until_parted : (time : ℤ) (xs : List Timed) → IsNonDecreasingBy (λ x. x.time) xs → IsPartitionedBy (λ x. is_until time x.time) xs
@@ -64,3 +64,43 @@ last_passing p (x ∷ xs) (suc n) h parted =
 pub before_at : (held : List Timed) (n : ℕ) → n ≢ 0 → slice_get held (n - 1) ≡ held_before held n
 before_at held zero h = absurd (h refl)
 before_at held (suc n) h = let same : suc n - 1 ≡ n = omega arith in ap (slice_get held) same
+
+-- A place is that of the first sample above a time where none stands there that is at or before it,
+-- and where it is not the first place, one that is stands right before it.
+until_down : (time : ℤ) (a b : ℕ) → a ≤ b → is_until time b ≡ true → is_until time a ≡ true
+until_down (pos t) a b low h = grind (arith, common_steps)
+until_down (negsuc t) a b low h = cc
+
+not_until_up : (time : ℤ) (a b : ℕ) → a ≤ b → is_until time a ≡ false → is_until time b ≡ false
+not_until_up (pos t) a b low h = grind (arith, common_steps)
+not_until_up (negsuc t) a b low h = refl
+
+there : (time : ℤ) (xs : List Timed) (i : ℕ) (d : Timed) → i < length xs → is_there_until time (slice_get xs i) ≡ is_until time (get_or xs i d).time
+there time [] i d h = absurd (omega arith)
+there time (x ∷ xs) zero d h = refl
+there time (x ∷ xs) (suc i) d h = there time xs i d (omega arith)
+
+pub place_is : (time : ℤ) (xs : List Timed) (i : ℕ) → IsNonDecreasingBy (λ x. x.time) xs → i ≤ length xs → is_there_until time (slice_get xs i) ≡ false → (i ≢ 0 → is_there_until time (slice_get xs (i - 1)) ≡ true)
+    → position_or_len (λ x. is_after time x.time) xs ≡ i
+place_is time xs i rising within here before = parted_place time xs i within (
+  λ k d low below. until_down time _ _ (rising k (i - 1) d (omega arith) (omega arith)) (sym (there time xs (i - 1) d (omega arith)) ∙ before (not_zero i k below)),
+  λ k d low below. not_until_up time _ _ (rising i k d low below) (sym (there time xs i d (omega arith)) ∙ here),
+) where
+  not_zero : (i k : ℕ) → k < i → i ≢ 0
+  not_zero zero k below = absurd (omega arith)
+  not_zero (suc i) k below = λ e. cc
+
+-- where the last sample is at or before a time, it is the newest one
+some_or : (xs : List Timed) (n : ℕ) (o : Option Timed) → n < length xs → option_or (slice_get xs n) o ≡ slice_get xs n
+some_or [] n o h = absurd (omega arith)
+some_or (y ∷ xs) zero o h = refl
+some_or (y ∷ xs) (suc n) o h = some_or xs n o (omega arith)
+
+pub last_newest : (time : ℤ) (xs : List Timed) (n : ℕ) → length xs ≡ suc n → is_there_until time (slice_get xs n) ≡ true → find (λ x. is_until time x.time) (reverse xs) ≡ slice_get xs n
+last_newest time [] n many h = cc
+last_newest time (x ∷ []) zero many h = (λ i. cond (h i) (Some x) None)
+last_newest time (x ∷ []) (suc n) many h = absurd (omega (arith, many))
+last_newest time (x ∷ (y ∷ ys)) zero many h = absurd (omega (arith, many))
+last_newest time (x ∷ (y ∷ ys)) (suc n) many h =
+    ap (find (λ s. is_until time s.time)) (reverse-append (x ∷ []) (y ∷ ys)) ∙ find-append (λ s. is_until time s.time) (reverse (y ∷ ys)) (x ∷ [])
+    ∙ (λ i. option_or (last_newest time (y ∷ ys) n (omega (arith, many)) h i) (find (λ s. is_until time s.time) (x ∷ []))) ∙ some_or (y ∷ ys) n (find (λ s. is_until time s.time) (x ∷ [])) (omega (arith, many))

@@ -1,5 +1,5 @@
 -- What is held of a series.
-use Rattle.std.specs.Prelude.{ℕ, zero, suc, ℤ, ◌+◌, ◌-◌, ◌≤◌, nat_lt, cond, ◌==◌, List, [], ◌∷◌, ◌++◌, length, slice_get, filter, find, map, reverse, Option, None}
+use Rattle.std.specs.Prelude.{ℕ, zero, suc, ℤ, Bool, false, ◌+◌, ◌-◌, ◌≤◌, nat_lt, cond, ◌==◌, List, [], ◌∷◌, ◌++◌, length, slice_get, filter, find, map, reverse, Option, Some, None}
 use Rattle.std.specs.List.{position_or_len, All}
 use Rattle.std.specs.List.Sorted.{IsNonDecreasingBy}
 use Rattle.pr_num.specs.declared.value.Point.{Point}
@@ -34,6 +34,11 @@ count_of s = s.first + length s.held
 -- the place of the first held sample above a time, or the count
 abbrev pub position_of : Stored → ℤ → ℕ
 position_of s time = s.first + position_or_len (λ x. is_after time x.time) s.held
+
+-- whether there is a sample, and it is at or before a time
+abbrev pub is_there_until : ℤ → Option Timed → Bool
+is_there_until time None = false
+is_there_until time (Some x) = is_until time x.time
 
 -- the held sample at a place
 abbrev pub sample_at : Stored → ℕ → Option Timed

@@ -29,16 +29,6 @@ ghost use Rattle.pr_labels.specs.declared.pair.Pair.{Pair};
 ghost use Rattle.pr_labels.specs.Order.{labels_cmp, pair_eq};
 ghost use Rattle.pr_head.specs.Index.{Numbered, has_label, listing_of};
 
-// Another label with the same name and value.
-fn copy_of(alloc: Global, label: &Pair) -> Result<Pair, AllocError>
-    ensures { IfOk result (λ p. p ≡ label.now) }
-{
-    Ok(Pair {
-        name: label.name.copy(alloc)?,
-        value: label.value.copy(alloc)?,
-    })
-}
-
 impl ByLabel {
     /// No series.
     pub(crate) fn new(alloc: Global) -> ByLabel
@@ -66,7 +56,7 @@ impl ByLabel {
     {
         let mut listing = Listing::new(self.alloc);
         listing.insert(labels, number)?;
-        self.listings.insert(copy_of(self.alloc, label)?, listing)?;
+        self.listings.insert(label.copy(self.alloc)?, listing)?;
         Ok(())
     }
 

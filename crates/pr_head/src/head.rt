@@ -151,6 +151,19 @@ impl Head {
         }
     }
 
+    /// The place of the first held sample of a series above a time, or the count; 0 for an unknown
+    /// series. It is found at once where it is a place that is given, or the next one: so where a
+    /// later time is asked of a series that is little longer than before.
+    pub fn position_near(&self, series: usize, time: i64, near: u64) -> u64
+        ensures known { (e : List Pair × Stored) → slice_get self.now series ≡ Some e → result ≡ position_of e.1 time }
+        ensures unknown { slice_get self.now series ≡ None → result ≡ 0 }
+    {
+        match self.held(series) {
+            Some(held) => held.position_near(time, near),
+            None => 0,
+        }
+    }
+
     /// The held sample of a series at a place. One step.
     pub fn sample<G: Ledger>(
         &self,

@@ -1,8 +1,8 @@
 // The samples of one series.
-ghost use Rattle.std.specs.Prelude.{◌≡◌, ◌+◌, ◌<◌, ◌≤◌, drop, length, slice_get, IfOk, OnOk, OnErr};
+ghost use Rattle.std.specs.Prelude.{◌≡◌, true, ◌+◌, ◌<◌, ◌≤◌, drop, length, slice_get, IfOk, OnOk, OnErr};
 ghost use Rattle.std.specs.List.Sorted.{IsNonDecreasingBy};
 ghost use Rattle.pr_history.specs.Lookback.{is_until};
-ghost use Rattle.pr_head.specs.Stored.{admission, after_push, after_trim, begun, count_of, held_before, newest_at, position_of, sample_at};
+ghost use Rattle.pr_head.specs.Stored.{admission, after_push, after_trim, begun, count_of, held_before, is_there_until, newest_at, position_of, sample_at};
 ghost use Rattle.pr_head.specs.Oldest.{IsSince};
 
 use crate::timed::Timed;
@@ -151,10 +151,52 @@ impl Series {
         self.first + self.until(time) as u64
     }
 
+    // Whether a held sample has so many before it, and is at or before a time.
+    fn is_there_until(&self, time: i64, index: usize) -> bool
+        ensures { result ≡ is_there_until time (slice_get self.now.held index) }
+    {
+        match self.samples.get(index) {
+            Some(sample) => is_until(time, sample.time),
+            None => false,
+        }
+    }
+
+    // Whether the first held sample above a time is that at a place.
+    fn is_position(&self, time: i64, place: u64) -> bool
+        ensures { result ≡ true → place ≡ position_of self.now time }
+    {
+        if place < self.first || place > self.count() {
+            return false;
+        }
+        let index = (place - self.first) as usize;
+        if self.is_there_until(time, index) {
+            return false;
+        }
+        index == 0 || self.is_there_until(time, index - 1)
+    }
+
+    /// The same as `position`, found at once where it is this place or the next one.
+    pub(crate) fn position_near(&self, time: i64, near: u64) -> u64
+        ensures { result ≡ position_of self.now time }
+    {
+        if self.is_position(time, near) {
+            return near;
+        }
+        let next = near.saturating_add(1);
+        if self.is_position(time, next) {
+            return next;
+        }
+        self.position(time)
+    }
+
     /// The newest held sample at or before a time.
     pub(crate) fn newest_at(&self, time: i64) -> Option<Timed>
         ensures { result ≡ newest_at self.now time }
     {
+        let count = self.samples.len();
+        if count > 0 && self.is_there_until(time, count - 1) {
+            return self.held(count - 1);
+        }
         let until = self.until(time);
         if until == 0 {
             return None;

@@ -1,7 +1,6 @@
 -- What a head has between two places is what its history has in a range.
 use Rattle.std.proofs.Common.{◌≡◌, ℕ, suc, ℤ, pos, negsuc, ◌+◌, ◌-◌, ◌≤◌, ◌≤ℤ◌, ◌<ℤ◌, ◌&&◌, Bool, true, false, cond, List, [], ◌∷◌, length, take, drop, slice_get, Some, refl, sym, ap, subst, ◌∙◌, arith}
 use Rattle.std.specs.List.{position_or_len}
-use Rattle.std.specs.Option.{option_map}
 use Rattle.std.proofs.lemmas.List.{drop-drop, length-drop}
 use Rattle.std.proofs.lemmas.Grind.{common_steps}
 use Rattle.std.proofs.lemmas.Int.{ints}
@@ -73,10 +72,6 @@ until_short b (x ∷ xs) = by (is_until b x.time) (until_short b xs) where
 
 whole : (f n : ℕ) → f ≤ n → f + (n - f) ≡ n
 whole f n h = omega arith
-
--- what is answered of a series that is there
-pub some_place : (f : Stored → ℕ) (head : List (List Pair × Stored)) (series : ℕ) (e : List Pair × Stored) (n : ℕ) → slice_get head series ≡ Some e → Some n ≡ option_map (λ y. f y.1) (slice_get head series) → n ≡ f e.1
-some_place f head series e n at h = let is : Some n ≡ Some (f e.1) = h ∙ ap (option_map (λ y. f y.1)) at in cc
 
 pub placed : (head : List (List Pair × Stored)) (history : List Entry) (series : ℕ) (labels : List Pair) (a : Ask) → MayAsk head history series labels a → a.from ≤ℤ a.to → Placed head history series labels a
 placed head history series labels a may low = by (entry_at head series labels may.named) where

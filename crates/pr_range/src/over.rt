@@ -3,7 +3,7 @@ ghost use Rattle.std.specs.Prelude.{◌≡◌, ◌≢◌, ◌<◌, ◌≤◌, �
 ghost use Rattle.pr_vectors.specs.declared.range.RangeFn.TheVariants.{Changes, Delta, Increase, MaxOverTime, MinOverTime, QuantileOverTime, Rate, Resets};
 ghost use Rattle.pr_vectors.specs.Extrapolation.{last_two};
 ghost use Rattle.pr_vectors.specs.Ranges.{argument, function_of, over, over_some, with_fault};
-ghost use Rattle.pr_vectors.specs.Spots.{last_of, of_two, some_value};
+ghost use Rattle.pr_vectors.specs.Spots.{last_of, of_two};
 ghost use Rattle.pr_folds.specs.Answers.{is_of_neighbours, is_of_total};
 ghost use Rattle.pr_range.specs.declared.fault.RangeFault.TheVariants.{Memory};
 ghost use Rattle.pr_range.specs.Answers.{AnswersAsk};
@@ -17,8 +17,8 @@ use crate::lines::{deriv, predicted};
 use crate::steps::{idelta, irate, last_two};
 use crate::values::{last_of, quantile};
 use pr_folds::{
-    Greatest, Least, Neighbours, Sequence, Totals, beside, greater, joined, lesser, spot_alone,
-    total_alone, value_alone,
+    Greatest, Least, Neighbours, Sequence, Totals, beside, greater, joined, lesser, some_value,
+    spot_alone, total_alone, value_alone,
 };
 use pr_history::Spot;
 use pr_num::{Num, TooWide, Total};
@@ -102,16 +102,6 @@ fn is_rising(first: &Spot, rest: &[Spot]) -> bool
 {
     let (before, last) = last_two(first, rest);
     first.time < last_of(first, rest).time && before.time < last.time
-}
-
-// A value that is there, or that it is too wide.
-fn some_value(answer: Result<Num, TooWide>) -> Result<Option<Num>, TooWide>
-    ensures { result ≡ some_value answer }
-{
-    match answer {
-        Ok(value) => Ok(Some(value)),
-        Err(fault) => Err(fault),
-    }
 }
 
 // What a formula over two values or more gives.

@@ -1,8 +1,7 @@
 // Ranges that are read anew.
-ghost use Rattle.std.specs.Prelude.{◌≡◌, ◌≢◌, ◌<◌, ◌≤ℤ◌, ◌++◌, ◌∷◌, [], ℕ, List, Option, Some, None, Err, false, length, slice_get};
+ghost use Rattle.std.specs.Prelude.{◌≡◌, ◌≢◌, ◌<◌, ◌≤ℤ◌, ◌++◌, ◌∷◌, [], ℕ, List, Option, None, Err, false, length};
 ghost use Rattle.pr_labels.specs.declared.pair.Pair.{Pair};
 ghost use Rattle.pr_history.specs.declared.entry.Entry.{Entry};
-ghost use Rattle.pr_head.specs.Stored.{Stored, position_of};
 ghost use Rattle.pr_range.specs.Asks.{HasArgument, IsAskAnswer, MayAsk};
 
 use crate::fault::RangeFault;
@@ -29,17 +28,6 @@ impl PlainRanges {
     }
 }
 
-// The place of the first held sample of a series after a moment, or the count.
-fn place_after(head: &Head, series: usize, time: i64) -> u64
-    requires { series < length head.now }
-    ensures { (e : List Pair × Stored) → slice_get head.now series ≡ Some e → result ≡ position_of e.1 time }
-{
-    match head.position(series, time) {
-        Some(place) => place,
-        None => 0,
-    }
-}
-
 /// The function of the values of a series in a range, read from the head.
 fn ask_plainly<G: Ledger>(
     alloc: Global,
@@ -58,8 +46,8 @@ fn ask_plainly<G: Ledger>(
         to: end,
         ..
     } = *ask;
-    let from = place_after(head, series, start);
-    let to = place_after(head, series, end);
+    let from = head.position_near(series, start, 0);
+    let to = head.position_near(series, end, from);
     let mut spots = Vec::new(alloc);
     match push_between(&mut spots, head, series, from, to, reads) {
         Ok(()) => over_list(alloc, &spots, ask),

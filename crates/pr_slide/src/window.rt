@@ -26,6 +26,8 @@ pub struct Window {
     pub(crate) func: RangeFn,
     pub(crate) from: i64,
     pub(crate) to: i64,
+    // The place after the start of that range, near which that of the next one is looked for.
+    begins: u64,
     pub(crate) passed: u64,
     pub(crate) spots: Spots,
 }
@@ -84,17 +86,6 @@ fn push_between<G: Ledger>(
     Ok(())
 }
 
-// The place of the first held sample of a series after a moment, or the count.
-fn place_after(head: &Head, series: usize, time: i64) -> u64
-    requires { series < length head.now }
-    ensures { (e : List Pair × Stored) → slice_get head.now series ≡ Some e → result ≡ position_of e.1 time }
-{
-    match head.position(series, time) {
-        Some(place) => place,
-        None => 0,
-    }
-}
-
 impl Window {
     /// Nothing was passed yet.
     pub(crate) fn new(alloc: Global, func: RangeFn) -> Window
@@ -105,6 +96,7 @@ impl Window {
             func,
             from: 0,
             to: 0,
+            begins: 0,
             passed: 0,
             spots: Spots::new(alloc, func),
         }
@@ -133,13 +125,15 @@ impl Window {
             func,
             ..
         } = *ask;
-        let from = place_after(head, series, start).max(self.passed);
-        let to = place_after(head, series, end);
+        let begins = head.position_near(series, start, self.begins);
+        let from = begins.max(self.passed);
+        let to = head.position_near(series, end, self.passed);
         self.spots.drop_until(start);
         push_between(&mut self.spots, head, series, from, to, reads)?;
         self.func = func;
         self.from = start;
         self.to = end;
+        self.begins = begins;
         self.passed = to;
         Ok(())
     }

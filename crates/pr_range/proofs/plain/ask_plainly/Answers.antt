@@ -12,8 +12,8 @@ returns-in-Ok g c = λ history labels may.
     let p = placed c.args.head.now history c.args.series labels c.args.ask.now may c.requires.ordered in
     let start : to_z w64 (of_z w64 c.args.ask.now.from) ≡ c.args.ask.now.from = grind (arith, to_z-of_z) in
     let end : to_z w64 (of_z w64 c.args.ask.now.to) ≡ c.args.ask.now.to = grind (arith, to_z-of_z) in
-    let from : c.place_after-from.result ≡ position_of p.s c.args.ask.now.from = c.place_after-from.ensures (labels, p.s) p.at ∙ ap (position_of p.s) start in
-    let to : c.place_after-to.result ≡ position_of p.s c.args.ask.now.to = c.place_after-to.ensures (labels, p.s) p.at ∙ ap (position_of p.s) end in
+    let from : c.position_near-from.result ≡ position_of p.s c.args.ask.now.from = c.position_near-from.ensures.known (labels, p.s) p.at ∙ ap (position_of p.s) start in
+    let to : c.position_near-to.result ≡ position_of p.s c.args.ask.now.to = c.position_near-to.ensures.known (labels, p.s) p.at ∙ ap (position_of p.s) end in
     let low = p.first in
     let high = p.last in
     let from_is = p.from_is in
@@ -21,8 +21,8 @@ returns-in-Ok g c = λ history labels may.
     let read = c.in-Ok.ensures.spots (labels, p.s) p.at (omega arith) (omega arith) in
     let reads = c.in-Ok.ensures.reads in
     let spots = c.deref.ensures.value
-    ∙ spots_read c.args.head.now history c.args.series labels c.args.ask.now p c.place_after-from.result c.place_after-to.result c.push_between.new.spots.items from to
-    (read ∙ ap (λ l. l ++ spots_of (samples_between p.s c.place_after-from.result c.place_after-to.result)) c.new-spots.ensures.items) in
+    ∙ spots_read c.args.head.now history c.args.series labels c.args.ask.now p c.position_near-from.result c.position_near-to.result c.push_between.new.spots.items from to
+    (read ∙ ap (λ l. l ++ spots_of (samples_between p.s c.position_near-from.result c.position_near-to.result)) c.new-spots.ensures.items) in
     record {
       value = subst (λ l. AnswersAsk (over c.args.ask.now l) c.over_list.result) spots (c.over_list.ensures.answer (subst (AreWithin c.args.ask.now.from c.args.ask.now.to) (sym spots) p.within));
       reads = reads_plain history labels c.args.ask.now c.args.reads.now c.push_between.new.reads p.between (omega arith);
@@ -33,8 +33,8 @@ returns g c = λ history labels may.
     let p = placed c.args.head.now history c.args.series labels c.args.ask.now may c.requires.ordered in
     let start : to_z w64 (of_z w64 c.args.ask.now.from) ≡ c.args.ask.now.from = grind (arith, to_z-of_z) in
     let end : to_z w64 (of_z w64 c.args.ask.now.to) ≡ c.args.ask.now.to = grind (arith, to_z-of_z) in
-    let from : c.place_after-from.result ≡ position_of p.s c.args.ask.now.from = c.place_after-from.ensures (labels, p.s) p.at ∙ ap (position_of p.s) start in
-    let to : c.place_after-to.result ≡ position_of p.s c.args.ask.now.to = c.place_after-to.ensures (labels, p.s) p.at ∙ ap (position_of p.s) end in
+    let from : c.position_near-from.result ≡ position_of p.s c.args.ask.now.from = c.position_near-from.ensures.known (labels, p.s) p.at ∙ ap (position_of p.s) start in
+    let to : c.position_near-to.result ≡ position_of p.s c.args.ask.now.to = c.position_near-to.ensures.known (labels, p.s) p.at ∙ ap (position_of p.s) end in
     let from_is = p.from_is in
     let to_is = p.to_is in
     let reads = c.in-Err.ensures.reads in

@@ -12,5 +12,5 @@ returns-clause-ok c = λ other.
     begun_under c.args.self.now c.insert-2.new.self.entries label other c.args.labels c.args.number listing c.requires
     (c.in_ok-insert.ensures.ok ∙ ap (λ es. insert_entry labels_cmp es c.args.labels c.args.number) c.new-listing.ensures)
     (c.in_ok-insert-2.ensures.updates.0 other
-    ∙ ap (λ k. cond (pair_eq k other) (Some listing) (lookup (pair_eq other) c.self.inside.listings.entries)) c.in_ok-copy_of.ensures
+    ∙ ap (λ k. cond (pair_eq k other) (Some listing) (lookup (pair_eq other) c.self.inside.listings.entries)) c.in_ok-copy.ensures
     ∙ ap (λ es. cond (pair_eq label other) (Some listing) (lookup (pair_eq other) es)) c.self.view_is)
