@@ -14,8 +14,8 @@ use Rattle.pr_rulefile.specs.declared.rules.RuleDef.{RuleDef}
 use Rattle.pr_query.specs.Cost.{PassedFor, cost}
 use Rattle.pr_range.specs.Asks.{LastAsks, Passed}
 use Rattle.pr_eval.specs.Evaluated.{passed_outside}
-use Rattle.pr_intake.specs.Intake.{Puts, Series}
-use Rattle.pr_intake.proofs.Intake.{puts_none, puts_then}
+use Rattle.pr_intake.specs.Intake.{HasTaken, PutsIf, Series}
+use Rattle.pr_intake.proofs.Intake.{puts_if_none, puts_if_then}
 use Rattle.pr_rules.specs.declared.report.RuleReport.{RuleReport}
 use Rattle.pr_rules.specs.Costs.{PassedByRules, rules_cost}
 use Rattle.pr_rules.specs.Evaluations.{RulesProgress, all_rules, begun, one_rule, rule_step, with_lineage}
@@ -34,13 +34,13 @@ come_next s g history now n r e = ap (λ (k : ℕ). come_to s g history now k) (
 pub come_all : (s : Settings) (g : Group) (history : List Entry) (now n : ℕ) → n ≡ length g.rules → come_to s g history now n ≡ all_rules s g history now
 come_all s g history now n e = ap (λ (k : ℕ). come_to s g history now k) e ∙ ap (fold (one_rule s g now) (begun history)) (take-length g.rules)
 
-module _ {R : Type 0} (fits : R → List Entry → Type 0) (last : R → LastAsks) (passed : R → Passed) (keeps : Bool) (s : Settings) (g : Group) (history : List Entry) (now : ℕ) (codes : List RuleDef) where
+module _ {R : Type 0} (fits : R → List Entry → Type 0) (last : R → LastAsks) (passed : R → Passed) (keeps tells : Bool) (s : Settings) (g : Group) (history : List Entry) (now : ℕ) (codes : List RuleDef) where
   pub come_none : (before : List (Remembered R)) (old : Series) (rows : List Entry) (told : List RuleReport) → Holds old history → told ≡ []
-      → HasCome fits last passed keeps s g history now codes before before old old rows rows told 0 (come_to s g history now 0)
+      → HasCome fits last passed keeps tells s g history now codes before before old old rows rows told 0 (come_to s g history now 0)
   come_none before old rows told holds none = record {
-    puts = puts_none old rows history holds;
+    puts = puts_if_none tells old rows history holds;
     behind = refl;
-    reports = none;
+    reports = λ read. none;
     counted = refl;
     many = refl;
     done = λ i code m r ec em er. absurd (no_place i r er);
@@ -58,10 +58,11 @@ module _ {R : Type 0} (fits : R → List Entry → Type 0) (last : R → LastAsk
     passed_before n code r m ec er em p behind =
         ap (λ (l : List Entry). passed_outside false l (passed m.ranges)) behind ∙ same_passed_put history p.entries (last m.ranges) (passed m.ranges) (was n code m r ec em er).within
 
-    module _ (n : ℕ) (code : RuleDef) (r : RuleState) (m m' : Remembered R) (after : List (Remembered R)) (old mid new : Series) (rows more most : List Entry) (told : List RuleReport) (report : RuleReport)
+    module _ (n : ℕ) (code : RuleDef) (r : RuleState) (m m' : Remembered R) (after : List (Remembered R)) (old mid new : Series) (rows more most : List Entry) (told tellings : List RuleReport) (report : RuleReport)
         (ec : slice_get codes n ≡ Some code) (er : slice_get g.rules n ≡ Some r) (em : slice_get after n ≡ Some m)
-        (h : HasCome fits last passed keeps s g history now codes before after old mid rows more told n (come_to s g history now n))
-        (d : HasDone fits last passed keeps s g r (come_to s g history now n).history now code m m' mid new more most report) where
+        (h : HasCome fits last passed keeps tells s g history now codes before after old mid rows more told n (come_to s g history now n))
+        (d : HasDone fits last passed keeps tells s g r (come_to s g history now n).history now code m m' mid new more most report)
+        (noted : tells ≡ true → tellings ≡ told ++ report ∷ []) where
       abbrev p : RulesProgress
       p = come_to s g history now n
 
@@ -120,12 +121,12 @@ module _ {R : Type 0} (fits : R → List Entry → Type 0) (last : R → LastAsk
             let at_last = subst (λ (y : Remembered R). IsPassedByRule s g x p.history now (passed_outside false history (passed a.ranges)) (passed_outside false q.history (passed y.ranges))) same_kept at_first in
             subst (λ (i : ℕ). IsPassedByRule s g x (come_to s g history now i).history now (passed_outside false history (passed a.ranges)) (passed_outside false q.history (passed k.ranges))) here at_last
 
-      come_more : HasCome fits last passed keeps s g history now codes before (set after n m') old new rows most (told ++ report ∷ []) (n + 1) q
+      come_more : HasCome fits last passed keeps tells s g history now codes before (set after n m') old new rows most tellings (n + 1) q
       come_more = record {
-        puts = puts_then old mid new rows more most history p.entries (rule_step s g r p.history now).entries h.puts
-            (subst (λ (l : List Entry). Puts mid new more most l (rule_step s g r p.history now).entries) h.behind d.stepped.puts);
+        puts = puts_if_then tells old mid new rows more most history p.entries (rule_step s g r p.history now).entries h.puts
+            (subst (λ (l : List Entry). PutsIf tells mid new more most l (rule_step s g r p.history now).entries) h.behind d.stepped.puts);
         behind = ap (λ (l : List Entry). put_all l (rule_step s g r p.history now).entries) h.behind ∙ sym (puts_parts history p.entries (rule_step s g r p.history now).entries);
-        reports = λ i. h.reports i ++ d.stepped.report i ∷ [];
+        reports = λ read. noted read ∙ (λ i. h.reports read i ++ d.stepped.report read i ∷ []);
         counted = length_push p.rules (with_lineage r (rule_step s g r p.history now).lineage) ∙ ap (λ (k : ℕ). k + 1) h.counted;
         many = length-set after n m' ∙ h.many;
         done = done_then;
@@ -133,9 +134,9 @@ module _ {R : Type 0} (fits : R → List Entry → Type 0) (last : R → LastAsk
         passing = passing_then;
       }
 
-      pub come_then : HasCome fits last passed keeps s g history now codes before (set after n m') old new rows most (told ++ report ∷ []) (n + 1) (come_to s g history now (n + 1))
+      pub come_then : HasCome fits last passed keeps tells s g history now codes before (set after n m') old new rows most tellings (n + 1) (come_to s g history now (n + 1))
       come_then =
-          subst (λ (x : RulesProgress). HasCome fits last passed keeps s g history now codes before (set after n m') old new rows most (told ++ report ∷ []) (n + 1) x)
+          subst (λ (x : RulesProgress). HasCome fits last passed keeps tells s g history now codes before (set after n m') old new rows most tellings (n + 1) x)
           (sym (come_next s g history now n r er)) come_more
 
     -- what the rules from one on read at most
@@ -160,21 +161,21 @@ module _ {R : Type 0} (fits : R → List Entry → Type 0) (last : R → LastAsk
     reads_then n code r m a b total ec er em behind before_it at_it = omega (arith, cost_next n code r m ec er em behind)
 
 -- The next rule may be evaluated over the history that was come to.
-pub over_next : (old mid : Series) (rows more : List Entry) (history : List Entry) (now : ℕ) (p : RulesProgress) → MayEvaluateOver old history now → Puts old mid rows more history p.entries → p.history ≡ put_all history p.entries
+pub over_next : (old mid : Series) (history : List Entry) (now : ℕ) (p : RulesProgress) → MayEvaluateOver old history now → HasTaken old mid history p.entries → p.history ≡ put_all history p.entries
     → MayEvaluateOver mid p.history now
-over_next old mid rows more history now p over puts behind =
+over_next old mid history now p over taken behind =
     subst (λ (l : List Entry). MayEvaluateOver mid l now) (sym behind)
-    (record { lawful = put_all_lawful history p.entries over.lawful; holds = puts.taken.holds; whole = puts.taken.whole (pos now -ℤ pos 3888000000) over.whole })
+    (record { lawful = put_all_lawful history p.entries over.lawful; holds = taken.holds; whole = taken.whole (pos now -ℤ pos 3888000000) over.whole })
 
 pub kept_next : {R : Type 0} (fits : R → List Entry → Type 0) (last : R → LastAsks) (passed : R → Passed) → Stays fits → (history : List Entry) (until : Option ℕ) (code : RuleDef) (m : Remembered R) (r : RuleState) (p : RulesProgress)
     → IsLawful history → p.history ≡ put_all history p.entries → KeepsRule fits last passed history until code m r → KeepsRule fits last passed p.history until code m r
 kept_next fits last passed stays history until code m r p lawful behind k =
     subst (λ (l : List Entry). KeepsRule fits last passed l until code m r) (sym behind) (rule_stays_put fits last passed stays history p.entries until code m r lawful k)
 
-module _ {R : Type 0} (fits : R → List Entry → Type 0) (last : R → LastAsks) (passed : R → Passed) (keeps : Bool) (stays : Stays fits) (blank : ℕ) (outside : External) (most : ℕ) (every : Option ℕ) (waiting : Bool) (s : Settings) (g : Group) (old : Series) (history : List Entry) (now : ℕ) (until : Option ℕ)
+module _ {R : Type 0} (fits : R → List Entry → Type 0) (last : R → LastAsks) (passed : R → Passed) (keeps tells : Bool) (stays : Stays fits) (blank : ℕ) (outside : External) (most : ℕ) (every : Option ℕ) (waiting : Bool) (s : Settings) (g : Group) (old : Series) (history : List Entry) (now : ℕ) (until : Option ℕ)
     (codes : List RuleDef) (before : List (Remembered R)) (may : MayEvaluateRules fits last passed blank outside most every waiting s g old history now until codes before)
     (n : ℕ) (code : RuleDef) (m : Remembered R) (after : List (Remembered R)) (mid : Series) (rows more : List Entry) (told : List RuleReport) (ec : slice_get codes n ≡ Some code) (em : slice_get after n ≡ Some m)
-    (h : HasCome fits last passed keeps s g history now codes before after old mid rows more told n (come_to s g history now n)) where
+    (h : HasCome fits last passed keeps tells s g history now codes before after old mid rows more told n (come_to s g history now n)) where
   abbrev at_rule : RulesProgress
   at_rule = come_to s g history now n
 
@@ -182,33 +183,33 @@ module _ {R : Type 0} (fits : R → List Entry → Type 0) (last : R → LastAsk
   next_rule = let low : n < length codes = none_within codes n code ec in place_there g.rules n (omega (arith, may.many))
 
   over_here : MayEvaluateOver mid at_rule.history now
-  over_here = over_next old mid rows more history now at_rule may.over h.puts h.behind
+  over_here = over_next old mid history now at_rule may.over h.puts.taken h.behind
 
   kept_here : KeepsRule fits last passed at_rule.history until code m next_rule.0
   kept_here = kept_next fits last passed stays history until code m next_rule.0 at_rule may.over.lawful h.behind (may.kept n code m next_rule.0 ec (sym (h.later n (omega arith)) ∙ em) next_rule.1)
 
   -- one more rule is evaluated
-  pub rules_then : (m' : Remembered R) (new : Series) (last_rows : List Entry) (report : RuleReport)
-      → ((r : RuleState) → MayEvaluateOver mid at_rule.history now → KeepsRule fits last passed at_rule.history until code m r → HasDone fits last passed keeps s g r at_rule.history now code m m' mid new more last_rows report)
-      → HasCome fits last passed keeps s g history now codes before (set after n m') old new rows last_rows (told ++ report ∷ []) (n + 1) (come_to s g history now (n + 1))
-  rules_then m' new last_rows report done =
-      come_then fits last passed keeps s g history now codes stays may.over.lawful may.many until before may.kept n code next_rule.0 m m' after old mid new rows more last_rows told report ec next_rule.1 em h
-      (done next_rule.0 over_here kept_here)
+  pub rules_then : (m' : Remembered R) (new : Series) (last_rows : List Entry) (tellings : List RuleReport) (report : RuleReport) → (tells ≡ true → tellings ≡ told ++ report ∷ [])
+      → ((r : RuleState) → MayEvaluateOver mid at_rule.history now → KeepsRule fits last passed at_rule.history until code m r → HasDone fits last passed keeps tells s g r at_rule.history now code m m' mid new more last_rows report)
+      → HasCome fits last passed keeps tells s g history now codes before (set after n m') old new rows last_rows tellings (n + 1) (come_to s g history now (n + 1))
+  rules_then m' new last_rows tellings report noted done =
+      come_then fits last passed keeps tells s g history now codes stays may.over.lawful may.many until before may.kept n code next_rule.0 m m' after old mid new rows more last_rows told tellings report ec next_rule.1 em h
+      (done next_rule.0 over_here kept_here) noted
 
   pub rules_read : (a b total : ℕ) → a + rules_cost s g now (passed_of passed history before) n (drop n g.rules) at_rule ≤ total
       → ((r : RuleState) → MayEvaluateOver mid at_rule.history now → KeepsRule fits last passed at_rule.history until code m r → b ≤ a + cost s.subquery_step at_rule.history (passed_outside false at_rule.history (passed m.ranges)) r.rule.expr 0 now)
       → b + rules_cost s g now (passed_of passed history before) (n + 1) (drop (n + 1) g.rules) (come_to s g history now (n + 1)) ≤ total
   rules_read a b total so_far reads =
-      reads_then fits last passed keeps s g history now codes stays may.over.lawful may.many until before may.kept n code next_rule.0 m a b total ec next_rule.1 (sym (h.later n (omega arith)) ∙ em) h.behind so_far
+      reads_then fits last passed keeps tells s g history now codes stays may.over.lawful may.many until before may.kept n code next_rule.0 m a b total ec next_rule.1 (sym (h.later n (omega arith)) ∙ em) h.behind so_far
       (reads next_rule.0 over_here kept_here)
 
 -- all rules were evaluated
-pub come_whole : {R : Type 0} (fits : R → List Entry → Type 0) (last : R → LastAsks) (passed : R → Passed) (keeps : Bool) (s : Settings) (g : Group) (history : List Entry) (now : ℕ) (codes : List RuleDef) (before after : List (Remembered R)) (old new : Series) (rows more : List Entry) (told : List RuleReport) (n : ℕ)
-    → n ≡ length g.rules → HasCome fits last passed keeps s g history now codes before after old new rows more told n (come_to s g history now n)
-    → HasCome fits last passed keeps s g history now codes before after old new rows more told (length g.rules) (all_rules s g history now)
-come_whole fits last passed keeps s g history now codes before after old new rows more told n all h =
-    subst (λ (p : RulesProgress). HasCome fits last passed keeps s g history now codes before after old new rows more told (length g.rules) p) (come_all s g history now n all)
-    (subst (λ (k : ℕ). HasCome fits last passed keeps s g history now codes before after old new rows more told k (come_to s g history now n)) all h)
+pub come_whole : {R : Type 0} (fits : R → List Entry → Type 0) (last : R → LastAsks) (passed : R → Passed) (keeps tells : Bool) (s : Settings) (g : Group) (history : List Entry) (now : ℕ) (codes : List RuleDef) (before after : List (Remembered R)) (old new : Series) (rows more : List Entry) (told : List RuleReport) (n : ℕ)
+    → n ≡ length g.rules → HasCome fits last passed keeps tells s g history now codes before after old new rows more told n (come_to s g history now n)
+    → HasCome fits last passed keeps tells s g history now codes before after old new rows more told (length g.rules) (all_rules s g history now)
+come_whole fits last passed keeps tells s g history now codes before after old new rows more told n all h =
+    subst (λ (p : RulesProgress). HasCome fits last passed keeps tells s g history now codes before after old new rows more told (length g.rules) p) (come_all s g history now n all)
+    (subst (λ (k : ℕ). HasCome fits last passed keeps tells s g history now codes before after old new rows more told k (come_to s g history now n)) all h)
 
 -- What was passed for each rule, by its number, in the words of the rules.
 pub passed_each : (s : Settings) (g : Group) (now : ℕ) (u w : PassedByRules) (rules : List RuleState) (i : ℕ) (p : RulesProgress)

@@ -17,8 +17,8 @@ use Rattle.pr_lineage.specs.declared.restored.Restored.{Restored}
 use Rattle.pr_query.specs.Cost.{PassedFor}
 use Rattle.pr_range.specs.Asks.{LastAsks, Passed}
 use Rattle.pr_eval.specs.Evaluated.{passed_outside}
-use Rattle.pr_intake.specs.Intake.{HasTaken, Puts, Series}
-use Rattle.pr_intake.proofs.Intake.{puts_then}
+use Rattle.pr_intake.specs.Intake.{HasTaken, PutsIf, Series}
+use Rattle.pr_intake.proofs.Intake.{puts_if_then}
 use Rattle.pr_rules.specs.declared.report.RuleReport.{RuleReport}
 use Rattle.pr_rules.specs.Costs.{group_cost, restoring_cost, rules_cost}
 use Rattle.pr_rules.specs.Evaluations.{GroupStep, RulesProgress, all_rules, begun, group_ended, group_step, one_rule, restoring}
@@ -89,8 +89,8 @@ markers_all now (l ∷ old) = ap (λ (m : List Entry). marker now l ∷ m) (mark
 pub marked_all : (now : ℕ) (g : Group) (left none : List (List Pair)) → left ≡ g.leftovers → none ≡ [] → markers now left none ≡ gone_of g now
 marked_all now g left none same empty = (λ i. markers now (same i) (empty i)) ∙ markers_all now g.leftovers
 
-pub over_put : (old new : Series) (rows more : List Entry) (history entries : List Entry) (now : ℕ) → MayEvaluateOver old history now → Puts old new rows more history entries → MayEvaluateOver new (put_all history entries) now
-over_put old new rows more history entries now over puts = record { lawful = put_all_lawful history entries over.lawful; holds = puts.taken.holds; whole = puts.taken.whole (pos now -ℤ pos 3888000000) over.whole }
+pub over_put : (old new : Series) (history entries : List Entry) (now : ℕ) → MayEvaluateOver old history now → HasTaken old new history entries → MayEvaluateOver new (put_all history entries) now
+over_put old new history entries now over taken = record { lawful = put_all_lawful history entries over.lawful; holds = taken.holds; whole = taken.whole (pos now -ℤ pos 3888000000) over.whole }
 
 -- What is kept of a rule's ranges tells what was passed for it.
 same_ranges : {R : Type 0} (passed : R → Passed) (history : List Entry) (ms ks : List (Remembered R)) (j : ℕ) (m : Remembered R) → ranges_of ks ≡ ranges_of ms → slice_get ms j ≡ Some m
@@ -101,9 +101,9 @@ same_ranges {R} passed history ms ks j m same at =
       by None e = absurd (cc)
       by (Some k) e = ap (λ (x : R). passed_outside false history (passed x)) (same_Some k.ranges m.ranges e)
 
-module _ {R : Type 0} (fits : R → List Entry → Type 0) (last : R → LastAsks) (passed : R → Passed) (keeps : Bool) (stays : Stays fits) (k0 k1 : KeptGroup R) (g : Group) (history : List Entry) (now : ℕ) (head0 head1 : Series) (rows0 rows1 : List Entry) (told : List RuleReport)
+module _ {R : Type 0} (fits : R → List Entry → Type 0) (last : R → LastAsks) (passed : R → Passed) (keeps tells : Bool) (stays : Stays fits) (k0 k1 : KeptGroup R) (g : Group) (history : List Entry) (now : ℕ) (head0 head1 : Series) (rows0 rows1 : List Entry) (told : List RuleReport)
     (over : MayEvaluateOver head0 history now) (kept : KeepsGroup fits last passed k0 history g) (rest : k1 ≡ record k0 { rules = k1.rules })
-    (h : HasCome fits last passed keeps (settings_of k0) g history now k0.def.rules k0.rules k1.rules head0 head1 rows0 rows1 told (length g.rules) (all_rules (settings_of k0) g history now)) where
+    (h : HasCome fits last passed keeps tells (settings_of k0) g history now k0.def.rules k0.rules k1.rules head0 head1 rows0 rows1 told (length g.rules) (all_rules (settings_of k0) g history now)) where
   abbrev p : RulesProgress
   p = all_rules (settings_of k0) g history now
 
@@ -115,7 +115,7 @@ module _ {R : Type 0} (fits : R → List Entry → Type 0) (last : R → LastAsk
 
   -- after the rules
   pub over_rules : MayEvaluateOver head1 p.history now
-  over_rules = subst (λ (l : List Entry). MayEvaluateOver head1 l now) (sym h.behind) (over_put head0 head1 rows0 rows1 history p.entries now over h.puts)
+  over_rules = subst (λ (l : List Entry). MayEvaluateOver head1 l now) (sym h.behind) (over_put head0 head1 history p.entries now over h.puts.taken)
 
   pub left_same : k1.leftovers ≡ g.leftovers
   left_same = ap (λ (k : KeptGroup R). k.leftovers) rest ∙ kept.left
@@ -130,23 +130,23 @@ module _ {R : Type 0} (fits : R → List Entry → Type 0) (last : R → LastAsk
   many_rules = ap length def_same ∙ as_many g k0.def.rules (ap (λ (d : Definition). d.rules) kept.definition) ∙ sym h.counted
 
   module _ (head2 : Series) (rows2 : List Entry) (left none series : List (List Pair)) (at_left : left ≡ k1.leftovers) (empty : none ≡ [])
-      (marks : Puts head1 head2 rows1 rows2 p.history (markers now left none)) (marked : series ≡ label_sets_of (admitted p.history (markers now left none))) where
+      (marks : PutsIf tells head1 head2 rows1 rows2 p.history (markers now left none)) (marked : tells ≡ true → series ≡ label_sets_of (admitted p.history (markers now left none))) where
     all_marked : markers now left none ≡ gone
     all_marked = marked_all now g left none (at_left ∙ left_same) empty
 
-    puts_gone : Puts head1 head2 rows1 rows2 p.history gone
-    puts_gone = subst (λ (l : List Entry). Puts head1 head2 rows1 rows2 p.history l) all_marked marks
+    puts_gone : PutsIf tells head1 head2 rows1 rows2 p.history gone
+    puts_gone = subst (λ (l : List Entry). PutsIf tells head1 head2 rows1 rows2 p.history l) all_marked marks
 
     -- before the restoration
     pub over_end : MayEvaluateOver head2 after now
-    over_end = over_put head1 head2 rows1 rows2 p.history gone now over_rules puts_gone
+    over_end = over_put head1 head2 p.history gone now over_rules puts_gone.taken
 
     pub kept_end : AreKept fits last passed after (Some now) k1.def.rules k1.rules p.rules
     kept_end = subst (λ (ds : List RuleDef). AreKept fits last passed after (Some now) ds k1.rules p.rules) (sym def_same)
         (λ i code m r ic im ir. rule_stays_put fits last passed stays p.history gone (Some now) code m r over_rules.lawful (h.done i code m r ic im ir))
 
-    all_puts : Puts head0 head2 rows0 rows2 history (p.entries ++ gone)
-    all_puts = puts_then head0 head1 head2 rows0 rows1 rows2 history p.entries gone h.puts (subst (λ (l : List Entry). Puts head1 head2 rows1 rows2 l gone) h.behind puts_gone)
+    all_puts : PutsIf tells head0 head2 rows0 rows2 history (p.entries ++ gone)
+    all_puts = puts_if_then tells head0 head1 head2 rows0 rows1 rows2 history p.entries gone h.puts (subst (λ (l : List Entry). PutsIf tells head1 head2 rows1 rows2 l gone) h.behind puts_gone)
 
     after_is : put_all history (p.entries ++ gone) ≡ after
     after_is = puts_parts history p.entries gone ∙ ap (λ (l : List Entry). put_all l gone) (sym h.behind)
@@ -154,14 +154,14 @@ module _ {R : Type 0} (fits : R → List Entry → Type 0) (last : R → LastAsk
     pub head_end : HasTaken head0 head2 history (group_step (settings_of k0) g history now).entries
     head_end = subst (λ (x : GroupStep). HasTaken head0 head2 history x.entries) (sym (step_is (settings_of k0) g history now)) all_puts.taken
 
-    pub report_end : (restored : List Restored) → rows0 ≡ [] → restored ≡ restored_alerts (k1.waits == 1) after now p.rules
-        → record { rules = told; leftovers = series; restored = restored; admitted = rows2 } ≡ (group_step (settings_of k0) g history now).report
-    report_end restored nothing alerts =
+    pub report_end : (restored : List Restored) → rows0 ≡ [] → (tells ≡ true → restored ≡ restored_alerts (k1.waits == 1) after now p.rules)
+        → tells ≡ true → record { rules = told; leftovers = series; restored = restored; admitted = rows2 } ≡ (group_step (settings_of k0) g history now).report
+    report_end restored nothing alerts read =
         (λ i. record {
-          rules = h.reports i;
-          leftovers = (marked ∙ ap (λ (l : List Entry). label_sets_of (admitted p.history l)) all_marked) i;
-          restored = (alerts ∙ ap (λ (b : Bool). restored_alerts b after now p.rules) waits_same) i;
-          admitted = (all_puts.added ∙ ap (λ (l : List Entry). l ++ admitted history (p.entries ++ gone)) nothing) i;
+          rules = h.reports read i;
+          leftovers = (marked read ∙ ap (λ (l : List Entry). label_sets_of (admitted p.history l)) all_marked) i;
+          restored = (alerts read ∙ ap (λ (b : Bool). restored_alerts b after now p.rules) waits_same) i;
+          admitted = (all_puts.added read ∙ ap (λ (l : List Entry). l ++ admitted history (p.entries ++ gone)) nothing) i;
         })
         ∙ sym (ap (λ (x : GroupStep). x.report) (step_is (settings_of k0) g history now))
 

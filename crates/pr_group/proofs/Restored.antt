@@ -264,9 +264,9 @@ undue_told history now code r list same short = sym (ap (λ (l : List Restored).
 
 -- The rules of a group
 
-module _ {R : Type 0} (fits : R → List Entry → Type 0) (last : R → LastAsks) (passed : R → Passed) (history : List Entry) (now : ℕ) (until : Option ℕ) (codes : List RuleDef) (rs : List RuleState) where
-  pub restored_none : (before : List (Remembered R)) (list : List Restored) → list ≡ [] → HaveRestored fits last passed history now until codes before before rs list 0
-  restored_none before list none = record { done = λ i code m r low. absurd (omega arith); later = λ j low. refl; telling = none }
+module _ {R : Type 0} (tells : Bool) (fits : R → List Entry → Type 0) (last : R → LastAsks) (passed : R → Passed) (history : List Entry) (now : ℕ) (until : Option ℕ) (codes : List RuleDef) (rs : List RuleState) where
+  pub restored_none : (before : List (Remembered R)) (list : List Restored) → list ≡ [] → HaveRestored tells fits last passed history now until codes before before rs list 0
+  restored_none before list none = record { done = λ i code m r low. absurd (omega arith); later = λ j low. refl; telling = λ read. none }
 
   -- what is kept of a rule whose alerts were restored
   kept_restored : (code : RuleDef) (m m' : Remembered R) (r : RuleState) → m' ≡ record m { records = m'.records } → KeepsRule fits last passed history until code m r
@@ -281,16 +281,16 @@ module _ {R : Type 0} (fits : R → List Entry → Type 0) (last : R → LastAsk
       }
 
   pub restored_then : (n : ℕ) (code : RuleDef) (r : RuleState) (m m' : Remembered R) (before after : List (Remembered R)) (list more : List Restored) → slice_get codes n ≡ Some code → slice_get rs n ≡ Some r → slice_get after n ≡ Some m
-      → AreKept fits last passed history until codes before rs → HaveRestored fits last passed history now until codes before after rs list n → m' ≡ record m { records = m'.records }
+      → AreKept fits last passed history until codes before rs → HaveRestored tells fits last passed history now until codes before after rs list n → m' ≡ record m { records = m'.records }
       → (StandsForRule m.templates m.previous m.records (rule_of_def code) r → StandsForRule m'.templates m'.previous m'.records (rule_of_def code) (with_restored history now r))
-      → (StandsForRule m.templates m.previous m.records (rule_of_def code) r → more ≡ list ++ restores history now r)
-      → HaveRestored fits last passed history now until codes before (set after n m') rs more (n + 1)
+      → (StandsForRule m.templates m.previous m.records (rule_of_def code) r → tells ≡ true → more ≡ list ++ restores history now r)
+      → HaveRestored tells fits last passed history now until codes before (set after n m') rs more (n + 1)
   restored_then n code r m m' before after list more ec er em was h rest stands telling =
       let kept : KeepsRule fits last passed history until code m r = was n code m r ec (sym (h.later n (omega arith)) ∙ em) er in
       record {
         done = λ i c k x low ic ik ix. by i c k x (below_or i n low) ic ik ix;
         later = λ j low. set_there after n j m' (λ e. absurd (omega arith)) ∙ h.later j (omega arith);
-        telling = telling kept.stands ∙ ap (λ (l : List Restored). l ++ restores history now r) h.telling
+        telling = λ read. telling kept.stands read ∙ ap (λ (l : List Restored). l ++ restores history now r) (h.telling read)
             ∙ sym (ap (λ (k : ℕ). flat_map (restores history now) (take k rs)) (add-one n) ∙ ap (flat_map (restores history now)) (take_next rs n r er) ∙ joined (take n rs) r);
       } where
         joined : (xs : List RuleState) (x : RuleState) → flat_map (restores history now) (xs ++ x ∷ []) ≡ flat_map (restores history now) xs ++ restores history now x
@@ -313,7 +313,7 @@ module _ {R : Type 0} (fits : R → List Entry → Type 0) (last : R → LastAsk
             (subst (λ (y : RuleDef). KeepsRule fits last passed history until y m' (with_restored history now r)) same_code
             (kept_restored code m m' r rest kept_there (stands kept_there.stands))))
 
-  pub all_restored : (n : ℕ) (before after : List (Remembered R)) (list : List Restored) → n ≡ length rs → HaveRestored fits last passed history now until codes before after rs list n
+  pub all_restored : (n : ℕ) (before after : List (Remembered R)) (list : List Restored) → n ≡ length rs → HaveRestored tells fits last passed history now until codes before after rs list n
       → AreKept fits last passed history until codes after (map (with_restored history now) rs)
   all_restored n before after list all h = λ i c k x ic ik ix.
       let old = place_there rs i (subst (λ (j : ℕ). i < j) (length-map rs (with_restored history now)) (none_within (map (with_restored history now) rs) i x ix)) in
@@ -321,8 +321,8 @@ module _ {R : Type 0} (fits : R → List Entry → Type 0) (last : R → LastAsk
       let same : with_restored history now old.0 ≡ x = same_Some (with_restored history now old.0) x (sym (slice_get-map (with_restored history now) rs i ∙ ap (option_map (with_restored history now)) old.1) ∙ ix) in
       subst (λ (y : RuleState). KeepsRule fits last passed history until c k y) same (h.done i c k old.0 (omega arith) ic ik old.1)
 
-  pub all_told : (n : ℕ) (before after : List (Remembered R)) (list : List Restored) → n ≡ length rs → HaveRestored fits last passed history now until codes before after rs list n → list ≡ flat_map (restores history now) rs
-  all_told n before after list all h = h.telling ∙ ap (λ (k : ℕ). flat_map (restores history now) (take k rs)) all ∙ ap (flat_map (restores history now)) (take-length rs)
+  pub all_told : (n : ℕ) (before after : List (Remembered R)) (list : List Restored) → n ≡ length rs → HaveRestored tells fits last passed history now until codes before after rs list n → tells ≡ true → list ≡ flat_map (restores history now) rs
+  all_told n before after list all h read = h.telling read ∙ ap (λ (k : ℕ). flat_map (restores history now) (take k rs)) all ∙ ap (flat_map (restores history now)) (take-length rs)
 
 pub reads_next : (rs : List RuleState) (n : ℕ) (r : RuleState) → slice_get rs n ≡ Some r → sum_by restored_reads (take (n + 1) rs) ≡ sum_by restored_reads (take n rs) + restored_reads r
 reads_next rs n r at = ap (λ (k : ℕ). sum_by restored_reads (take k rs)) (add-one n) ∙ fold_next (λ a x. a + restored_reads x) 0 rs n r at

@@ -96,15 +96,15 @@ asked_of_rule blank s code rule keeps history now before after step is asked =
     subst (λ (x : Rule). AreAllAsked keeps history (is_ok (meaning s.subquery_step history x.expr now)) (asks_of history x.expr now) 0 before after) is
     (subst (λ (n : ℕ). AreAllAsked keeps history (is_ok (meaning n history code.expr now)) (asks_of history code.expr now) 0 before after) step asked)
 
-pub rule_done : {R : Type 0} (fits : R → List Entry → Type 0) (last : R → LastAsks) (passed : R → Passed) (keeps : Bool) → Stays fits
+pub rule_done : {R : Type 0} (fits : R → List Entry → Type 0) (last : R → LastAsks) (passed : R → Passed) (keeps tells : Bool) → Stays fits
     → (blank : ℕ) (s : Settings) (g : Group) (r : RuleState) (history : List Entry) (now : ℕ) (until : Option ℕ) (code : RuleDef) (before after : Remembered R) (old new : Series) (rows more : List Entry) (answer : RuleReport)
     → blank ≡ s.subquery_step → MayEvaluateOver old history now → IfSome until (λ u. u ≤ now) → KeepsRule fits last passed history until code before r
-    → HasStepped old new rows more answer history (rule_step s g r history now)
+    → HasStepped tells old new rows more answer history (rule_step s g r history now)
     → StandsForRule after.templates after.previous after.records (rule_of_def code) (with_lineage r (rule_step s g r history now).lineage)
     → fits after.ranges history
     → AreAllAsked keeps history (is_ok (meaning blank history (tree_of code.expr) now)) (asks_of history (tree_of code.expr) now) 0 (kept_by (last before.ranges) (passed before.ranges)) (kept_by (last after.ranges) (passed after.ranges))
-    → HasDone fits last passed keeps s g r history now code before after old new rows more answer
-rule_done fits last passed keeps stays blank s g r history now until code before after old new rows more answer step over early kept stepped stands truly asked =
+    → HasDone fits last passed keeps tells s g r history now code before after old new rows more answer
+rule_done fits last passed keeps tells stays blank s g r history now until code before after old new rows more answer step over early kept stepped stands truly asked =
     let was = kept_by (last before.ranges) (passed before.ranges) in
     let is = kept_by (last after.ranges) (passed after.ranges) in
     let whole = is_ok (meaning blank history (tree_of code.expr) now) in
@@ -126,17 +126,17 @@ rule_done fits last passed keeps stays blank s g r history now until code before
           (rule_passed keeps s g r history now was is keeping kept.within ready (asked_of_rule blank s (rule_of_def code) r.rule keeps history now was is step same asked));
     }
 
-pub rule_done_if : {R E : Type 0} (o : Result RuleReport E) (fits : R → List Entry → Type 0) (last : R → LastAsks) (passed : R → Passed) (keeps : Bool) → Stays fits
+pub rule_done_if : {R E : Type 0} (o : Result RuleReport E) (fits : R → List Entry → Type 0) (last : R → LastAsks) (passed : R → Passed) (keeps tells : Bool) → Stays fits
     → (blank : ℕ) (s : Settings) (g : Group) (r : RuleState) (history : List Entry) (now : ℕ) (until : Option ℕ) (code : RuleDef) (before after : Remembered R) (old new : Series) (rows more : List Entry)
     → blank ≡ s.subquery_step → MayEvaluateOver old history now → IfSome until (λ u. u ≤ now) → KeepsRule fits last passed history until code before r
-    → IfOk o (λ answer. HasStepped old new rows more answer history (rule_step s g r history now))
+    → IfOk o (λ answer. HasStepped tells old new rows more answer history (rule_step s g r history now))
     → OnOk o (StandsForRule after.templates after.previous after.records (rule_of_def code) (with_lineage r (rule_step s g r history now).lineage))
     → OnOk o (fits after.ranges history)
     → OnOk o (AreAllAsked keeps history (is_ok (meaning blank history (tree_of code.expr) now)) (asks_of history (tree_of code.expr) now) 0 (kept_by (last before.ranges) (passed before.ranges)) (kept_by (last after.ranges) (passed after.ranges)))
-    → IfOk o (λ answer. HasDone fits last passed keeps s g r history now code before after old new rows more answer)
-rule_done_if (Ok answer) fits last passed keeps stays blank s g r history now until code before after old new rows more step over early kept stepped stands truly asked =
-    rule_done fits last passed keeps stays blank s g r history now until code before after old new rows more answer step over early kept stepped stands truly asked
-rule_done_if (Err e) fits last passed keeps stays blank s g r history now until code before after old new rows more step over early kept stepped stands truly asked = tt
+    → IfOk o (λ answer. HasDone fits last passed keeps tells s g r history now code before after old new rows more answer)
+rule_done_if (Ok answer) fits last passed keeps tells stays blank s g r history now until code before after old new rows more step over early kept stepped stands truly asked =
+    rule_done fits last passed keeps tells stays blank s g r history now until code before after old new rows more answer step over early kept stepped stands truly asked
+rule_done_if (Err e) fits last passed keeps tells stays blank s g r history now until code before after old new rows more step over early kept stepped stands truly asked = tt
 
 -- how many samples are read for it, in the words of the rule
 pub rule_reads : (blank : ℕ) (s : Settings) (code rule : Rule) (history : List Entry) (u : PassedFor) (now before after : ℕ) → blank ≡ s.subquery_step → code ≡ rule

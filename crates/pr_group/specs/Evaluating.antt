@@ -8,7 +8,7 @@ use Rattle.pr_rulefile.specs.Rules.{rule_of_def}
 use Rattle.pr_range.specs.Asks.{LastAsks, Passed}
 use Rattle.pr_range.specs.Carried.{IsFresh}
 use Rattle.pr_eval.specs.Evaluated.{passed_outside}
-use Rattle.pr_intake.specs.Intake.{Puts, Series}
+use Rattle.pr_intake.specs.Intake.{PutsIf, Series}
 use Rattle.pr_rules.specs.declared.report.RuleReport.{RuleReport}
 use Rattle.pr_rules.specs.Evaluations.{RulesProgress, begun, one_rule, rule_step, with_lineage}
 use Rattle.pr_rules.specs.Groups.{Group, RuleState, fresh_rule}
@@ -18,11 +18,11 @@ use Rattle.pr_rule_step.specs.declared.remembered.Remembered.{Remembered}
 use Rattle.pr_rule_step.specs.Standing.{HasStepped, IsEvaluationOf, StandsForRule}
 use Rattle.pr_group.specs.Keeping.{AreKept, KeepsRule, MayEvaluateOver}
 
--- A rule was evaluated over a history: the head took its entries and it is told so; what is
--- remembered stands for it over the history with them; and what was passed is known where asks are
--- remembered.
-pub record HasDone {R : Type 0} (fits : R → List Entry → Type 0) (last : R → LastAsks) (passed : R → Passed) (keeps : Bool) (s : Settings) (g : Group) (r : RuleState) (history : List Entry) (now : ℕ) (code : RuleDef) (before after : Remembered R) (old new : Series) (rows more : List Entry) (answer : RuleReport) : Type 0 where
-  pub stepped : HasStepped old new rows more answer history (rule_step s g r history now)
+-- A rule was evaluated over a history: the head took its entries, and it is told so where that is
+-- told; what is remembered stands for it over the history with them; and what was passed is known
+-- where asks are remembered.
+pub record HasDone {R : Type 0} (fits : R → List Entry → Type 0) (last : R → LastAsks) (passed : R → Passed) (keeps tells : Bool) (s : Settings) (g : Group) (r : RuleState) (history : List Entry) (now : ℕ) (code : RuleDef) (before after : Remembered R) (old new : Series) (rows more : List Entry) (answer : RuleReport) : Type 0 where
+  pub stepped : HasStepped tells old new rows more answer history (rule_step s g r history now)
   pub kept : KeepsRule fits last passed (put_all history (rule_step s g r history now).entries) (Some now) code after (with_lineage r (rule_step s g r history now).lineage)
   pub passing : keeps ≡ true → IsPassedByRule s g r history now (passed_outside false history (passed before.ranges)) (passed_outside false (put_all history (rule_step s g r history now).entries) (passed after.ranges))
 
@@ -49,12 +49,13 @@ pub record MayEvaluateRules {R : Type 0} (fits : R → List Entry → Type 0) (l
 abbrev pub come_to : Settings → Group → List Entry → ℕ → ℕ → RulesProgress
 come_to s g history now n = fold (one_rule s g now) (begun history) (take n g.rules)
 
--- So many rules were evaluated, and this is how far that has come: the head, the rows and what is
--- told are those of it, the rules that were evaluated are kept, and the others are as they were.
-pub record HasCome {R : Type 0} (fits : R → List Entry → Type 0) (last : R → LastAsks) (passed : R → Passed) (keeps : Bool) (s : Settings) (g : Group) (history : List Entry) (now : ℕ) (codes : List RuleDef) (before after : List (Remembered R)) (old new : Series) (rows more : List Entry) (told : List RuleReport) (n : ℕ) (p : RulesProgress) : Type 0 where
-  pub puts : Puts old new rows more history p.entries
+-- So many rules were evaluated, and this is how far that has come: the head is that of it, and so
+-- are the rows and the reports where they are told; the rules that were evaluated are kept, and the
+-- others are as they were.
+pub record HasCome {R : Type 0} (fits : R → List Entry → Type 0) (last : R → LastAsks) (passed : R → Passed) (keeps tells : Bool) (s : Settings) (g : Group) (history : List Entry) (now : ℕ) (codes : List RuleDef) (before after : List (Remembered R)) (old new : Series) (rows more : List Entry) (told : List RuleReport) (n : ℕ) (p : RulesProgress) : Type 0 where
+  pub puts : PutsIf tells old new rows more history p.entries
   pub behind : p.history ≡ put_all history p.entries
-  pub reports : told ≡ p.reports
+  pub reports : tells ≡ true → told ≡ p.reports
   pub counted : length p.rules ≡ n
   pub many : length after ≡ length before
   pub done : AreKept fits last passed p.history (Some now) codes after p.rules

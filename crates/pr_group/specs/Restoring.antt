@@ -1,5 +1,5 @@
 -- What a restoration looks at, and what becomes of the alerts of a rule.
-use Rattle.std.specs.Prelude.{◌≡◌, ℕ, ◌+◌, ◌≤◌, ◌<◌, Bool, cond, ◌&&◌, nat_le, List, [], ◌∷◌, ◌++◌, flat_map, length, map, slice_get, take, Option, Some, None, option_and_then}
+use Rattle.std.specs.Prelude.{◌≡◌, ℕ, ◌+◌, ◌≤◌, ◌<◌, Bool, true, cond, ◌&&◌, nat_le, List, [], ◌∷◌, ◌++◌, flat_map, length, map, slice_get, take, Option, Some, None, option_and_then}
 use Rattle.std.specs.List.{filter_map}
 use Rattle.std.specs.Option.{option_to_list}
 use Rattle.pr_history.specs.declared.entry.Entry.{Entry}
@@ -39,12 +39,12 @@ abbrev pub restored_until : List Entry → ℕ → ℕ → List Record → ℕ �
 restored_until history hold now rs n = filter_map (restored_alert history hold now) (take n rs)
 
 -- The first rules of a group were gone over: what is remembered of each stands for it with what was
--- restored, and the others are as they were.
-pub record HaveRestored {R : Type 0} (fits : R → List Entry → Type 0) (last : R → LastAsks) (passed : R → Passed) (history : List Entry) (now : ℕ) (until : Option ℕ) (codes : List RuleDef) (before after : List (Remembered R)) (rs : List RuleState) (told : List Restored) (n : ℕ) : Type 0 where
+-- restored, the others are as they were, and what was restored is told where anything is.
+pub record HaveRestored {R : Type 0} (tells : Bool) (fits : R → List Entry → Type 0) (last : R → LastAsks) (passed : R → Passed) (history : List Entry) (now : ℕ) (until : Option ℕ) (codes : List RuleDef) (before after : List (Remembered R)) (rs : List RuleState) (told : List Restored) (n : ℕ) : Type 0 where
   pub done : (i : ℕ) (code : RuleDef) (m : Remembered R) (r : RuleState) → i < n → slice_get codes i ≡ Some code → slice_get after i ≡ Some m → slice_get rs i ≡ Some r
       → KeepsRule fits last passed history until code m (with_restored history now r)
   pub later : (j : ℕ) → n ≤ j → slice_get after j ≡ slice_get before j
-  pub telling : told ≡ flat_map (restores history now) (take n rs)
+  pub telling : tells ≡ true → told ≡ flat_map (restores history now) (take n rs)
 
 -- what ranges keep, of each rule
 abbrev pub ranges_of : {R : Type 0} → List (Remembered R) → List R

@@ -20,7 +20,7 @@ use crate::restoring::restore_rules;
 use crate::rules::evaluate_rules;
 use pr_head::Head;
 use pr_history::Entry;
-use pr_intake::mark;
+use pr_intake::mark_if;
 use pr_labels::Labels;
 use pr_lineage::Restored;
 use pr_range::Ranges;
@@ -147,12 +147,13 @@ impl<R: Ranges + Drop> GroupOver<R> {
         &mut self,
         alloc: Global,
         time: Ms,
+        tells: bool,
         head: &mut Head,
         rows: &mut Vec<Entry>,
         reads: &mut Steps<G>,
     ) -> Result<Vec<RuleReport>, AllocError>
         ensures come { (history : List Entry) (g : Group) → MayEvaluateOver head.old history time → KeepsGroup R.fits R.last R.passed self.old history g → IsAfter time g.last
-            → IfOk result (λ told. HasCome R.fits R.last R.passed R.keeps (settings_of self.old) g history time self.old.def.rules self.old.rules self.new.rules head.old head.new rows.old.items rows.new.items told.items (length g.rules) (all_rules (settings_of self.old) g history time)) }
+            → IfOk result (λ told. HasCome R.fits R.last R.passed R.keeps tells (settings_of self.old) g history time self.old.def.rules self.old.rules self.new.rules head.old head.new rows.old.items rows.new.items told.items (length g.rules) (all_rules (settings_of self.old) g history time)) }
         ensures reads { (history : List Entry) (g : Group) → MayEvaluateOver head.old history time → KeepsGroup R.fits R.last R.passed self.old history g → IsAfter time g.last
             → reads.new ≤ reads.old + rules_cost (settings_of self.old) g time (passed_by R.passed self.old history) 0 g.rules (begun history) }
         ensures rest { self.new ≡ record self.old { rules = self.new.rules } }
@@ -165,6 +166,7 @@ impl<R: Ranges + Drop> GroupOver<R> {
             limit: self.def.limit,
             interval: self.def.interval,
             waits: self.waits > 0,
+            tells,
         };
         evaluate_rules(
             &at,
@@ -181,13 +183,14 @@ impl<R: Ranges + Drop> GroupOver<R> {
         &mut self,
         alloc: Global,
         time: Ms,
+        tells: bool,
         head: &Head,
         reads: &mut Steps<G>,
     ) -> Result<Vec<Restored>, AllocError>
         ensures kept { (history : List Entry) (until : Option ℕ) (rs : List RuleState) → MayEvaluateOver head.now history time → length self.old.def.rules ≡ length rs → AreKept R.fits R.last R.passed history until self.old.def.rules self.old.rules rs
             → OnOk result (AreKept R.fits R.last R.passed history until self.old.def.rules self.new.rules (map (with_restored history time) rs)) }
         ensures told { (history : List Entry) (until : Option ℕ) (rs : List RuleState) → MayEvaluateOver head.now history time → length self.old.def.rules ≡ length rs → AreKept R.fits R.last R.passed history until self.old.def.rules self.old.rules rs
-            → IfOk result (λ v. v.items ≡ flat_map (restores history time) rs) }
+            → IfOk result (λ v. tells ≡ true → v.items ≡ flat_map (restores history time) rs) }
         ensures reads { (history : List Entry) (until : Option ℕ) (rs : List RuleState) → MayEvaluateOver head.now history time → length self.old.def.rules ≡ length rs → AreKept R.fits R.last R.passed history until self.old.def.rules self.old.rules rs
             → reads.new ≤ reads.old + sum_by restored_reads rs }
         ensures ranges { ranges_of self.new.rules ≡ ranges_of self.old.rules }
@@ -195,6 +198,7 @@ impl<R: Ranges + Drop> GroupOver<R> {
     {
         restore_rules(
             alloc,
+            tells,
             head,
             self.def.rules.as_slice(),
             &mut self.rules,
@@ -215,13 +219,14 @@ impl<R: Ranges + Drop> GroupOver<R> {
         &mut self,
         alloc: Global,
         time: Ms,
+        tells: bool,
         head: &Head,
         reads: &mut Steps<G>,
     ) -> Result<Vec<Restored>, AllocError>
         ensures kept { (history : List Entry) (until : Option ℕ) (rs : List RuleState) → MayEvaluateOver head.now history time → length self.old.def.rules ≡ length rs → AreKept R.fits R.last R.passed history until self.old.def.rules self.old.rules rs
             → OnOk result (AreKept R.fits R.last R.passed history until self.old.def.rules self.new.rules (restored_rules (self.old.waits == 1) history time rs)) }
         ensures told { (history : List Entry) (until : Option ℕ) (rs : List RuleState) → MayEvaluateOver head.now history time → length self.old.def.rules ≡ length rs → AreKept R.fits R.last R.passed history until self.old.def.rules self.old.rules rs
-            → IfOk result (λ v. v.items ≡ restored_alerts (self.old.waits == 1) history time rs) }
+            → IfOk result (λ v. tells ≡ true → v.items ≡ restored_alerts (self.old.waits == 1) history time rs) }
         ensures reads { (history : List Entry) (until : Option ℕ) (rs : List RuleState) → MayEvaluateOver head.now history time → length self.old.def.rules ≡ length rs → AreKept R.fits R.last R.passed history until self.old.def.rules self.old.rules rs
             → reads.new ≤ reads.old + restoring_cost (self.old.waits == 1) rs }
         ensures ranges { ranges_of self.new.rules ≡ ranges_of self.old.rules }
@@ -230,7 +235,7 @@ impl<R: Ranges + Drop> GroupOver<R> {
         if !self.is_due() {
             return Ok(Vec::new(alloc));
         }
-        self.restore_all(alloc, time, head, reads)
+        self.restore_all(alloc, time, tells, head, reads)
     }
 
     // The series that a reload left over.
@@ -247,6 +252,43 @@ impl<R: Ranges + Drop> GroupOver<R> {
         self.last = Some(time);
         self.waits = self.waits.saturating_sub(1);
         self.leftovers = Items::empty(alloc);
+    }
+
+    // Evaluates the group at a time over a head. Where that is told, it answers what is told.
+    fn evaluate_by<G: Ledger>(
+        &mut self,
+        alloc: Global,
+        time: Ms,
+        tells: bool,
+        head: &mut Head,
+        reads: &mut Steps<G>,
+    ) -> Result<GroupReport, AllocError>
+        ensures report { (history : List Entry) (g : Group) → MayEvaluateOver head.old history time → KeepsGroup R.fits R.last R.passed self.old history g → IsAfter time g.last
+            → IfOk result (λ r. tells ≡ true → r ≡ (group_step (settings_of self.old) g history time).report) }
+        ensures head { (history : List Entry) (g : Group) → MayEvaluateOver head.old history time → KeepsGroup R.fits R.last R.passed self.old history g → IsAfter time g.last
+            → OnOk result (HasTaken head.old head.new history (group_step (settings_of self.old) g history time).entries) }
+        ensures keeps { (history : List Entry) (g : Group) → MayEvaluateOver head.old history time → KeepsGroup R.fits R.last R.passed self.old history g → IsAfter time g.last
+            → OnOk result (KeepsGroup R.fits R.last R.passed self.new (put_all history (group_step (settings_of self.old) g history time).entries) (group_step (settings_of self.old) g history time).group) }
+        ensures reads { (history : List Entry) (g : Group) → MayEvaluateOver head.old history time → KeepsGroup R.fits R.last R.passed self.old history g → IsAfter time g.last
+            → reads.new ≤ reads.old + group_cost (settings_of self.old) g history time (passed_by R.passed self.old history) }
+        ensures passed { (history : List Entry) (g : Group) → MayEvaluateOver head.old history time → KeepsGroup R.fits R.last R.passed self.old history g → IsAfter time g.last
+            → R.keeps ≡ true
+            → OnOk result (IsPassedAfter (settings_of self.old) g history time (passed_by R.passed self.old history) (passed_by R.passed self.new (put_all history (group_step (settings_of self.old) g history time).entries))) }
+        ensures def { OnOk result (self.new.def ≡ self.old.def) }
+        ensures file { OnOk result (self.new.file ≡ self.old.file) }
+        ensures settings { OnOk result (settings_of self.new ≡ settings_of self.old) }
+    {
+        let mut rows = Vec::new(alloc);
+        let told = self.evaluate_all(alloc, time, tells, head, &mut rows, reads)?;
+        let gone = mark_if(alloc, tells, head, &mut rows, time, self.leftovers(), &[])?;
+        let restored = self.restore_if_due(alloc, time, tells, head, reads)?;
+        self.go_on(alloc, time);
+        Ok(GroupReport {
+            rules: Items::new(told),
+            leftovers: Items::new(gone),
+            restored: Items::new(restored),
+            admitted: Items::new(rows),
+        })
     }
 
     /// Evaluates the group at a time over a head, which takes what is added: its rules in order,
@@ -278,16 +320,36 @@ impl<R: Ranges + Drop> GroupOver<R> {
         ensures file { OnOk result (self.new.file ≡ self.old.file) }
         ensures settings { OnOk result (settings_of self.new ≡ settings_of self.old) }
     {
-        let mut rows = Vec::new(alloc);
-        let told = self.evaluate_all(alloc, time, head, &mut rows, reads)?;
-        let gone = mark(alloc, head, &mut rows, time, self.leftovers(), &[])?;
-        let restored = self.restore_if_due(alloc, time, head, reads)?;
-        self.go_on(alloc, time);
-        Ok(GroupReport {
-            rules: Items::new(told),
-            leftovers: Items::new(gone),
-            restored: Items::new(restored),
-            admitted: Items::new(rows),
-        })
+        self.evaluate_by(alloc, time, true, head, reads)
+    }
+
+    /// Evaluates the group as `evaluate` does, and tells nothing of it.
+    ///
+    /// # Errors
+    /// Want of memory: then nothing is said of the group and of the head, and both are used no more.
+    pub fn evaluate_untold<G: Ledger>(
+        &mut self,
+        alloc: Global,
+        time: Ms,
+        head: &mut Head,
+        reads: &mut Steps<G>,
+    ) -> Result<(), AllocError>
+        ensures head { (history : List Entry) (g : Group) → MayEvaluateOver head.old history time → KeepsGroup R.fits R.last R.passed self.old history g → IsAfter time g.last
+            → OnOk result (HasTaken head.old head.new history (group_step (settings_of self.old) g history time).entries) }
+        ensures keeps { (history : List Entry) (g : Group) → MayEvaluateOver head.old history time → KeepsGroup R.fits R.last R.passed self.old history g → IsAfter time g.last
+            → OnOk result (KeepsGroup R.fits R.last R.passed self.new (put_all history (group_step (settings_of self.old) g history time).entries) (group_step (settings_of self.old) g history time).group) }
+        ensures reads { (history : List Entry) (g : Group) → MayEvaluateOver head.old history time → KeepsGroup R.fits R.last R.passed self.old history g → IsAfter time g.last
+            → reads.new ≤ reads.old + group_cost (settings_of self.old) g history time (passed_by R.passed self.old history) }
+        ensures passed { (history : List Entry) (g : Group) → MayEvaluateOver head.old history time → KeepsGroup R.fits R.last R.passed self.old history g → IsAfter time g.last
+            → R.keeps ≡ true
+            → OnOk result (IsPassedAfter (settings_of self.old) g history time (passed_by R.passed self.old history) (passed_by R.passed self.new (put_all history (group_step (settings_of self.old) g history time).entries))) }
+        ensures def { OnOk result (self.new.def ≡ self.old.def) }
+        ensures file { OnOk result (self.new.file ≡ self.old.file) }
+        ensures settings { OnOk result (settings_of self.new ≡ settings_of self.old) }
+    {
+        match self.evaluate_by(alloc, time, false, head, reads) {
+            Ok(_nothing) => Ok(()),
+            Err(error) => Err(error),
+        }
     }
 }

@@ -173,19 +173,23 @@ fn restore_alert<R: Ranges, G: Ledger>(
     }
 }
 
-// Notes an alert that was restored.
-fn note(list: &mut Vec<Restored>, restored: Option<Restored>) -> Result<(), AllocError>
-    ensures { OnOk result (list.new.items ≡ list.old.items ++ option_to_list restored) }
+// Notes an alert that was restored, where that is told.
+fn note(tells: bool, list: &mut Vec<Restored>, restored: Option<Restored>) -> Result<(), AllocError>
+    ensures { OnOk result (tells ≡ true → list.new.items ≡ list.old.items ++ option_to_list restored) }
 {
+    if !tells {
+        return Ok(());
+    }
     if let Some(restored) = restored {
         list.push(restored)?;
     }
     Ok(())
 }
 
-// Restores the alerts of a rule, and tells which.
+// Restores the alerts of a rule, and notes which.
 fn restore_alerts<R: Ranges, G: Ledger>(
     alloc: Global,
+    tells: bool,
     head: &Head,
     kept: &mut Remembered<R>,
     now: Ms,
@@ -197,7 +201,7 @@ fn restore_alerts<R: Ranges, G: Ledger>(
     ensures stands { (history : List Entry) (lineage : List Step) → MayEvaluateOver head.now history now → StandsFor kept.old.records lineage
         → OnOk result (StandsFor kept.new.records (lineage ++ moved (filter_map (restored_alert history hold now) kept.old.records) ∷ [])) }
     ensures told { (history : List Entry) (lineage : List Step) → MayEvaluateOver head.now history now → StandsFor kept.old.records lineage
-        → OnOk result (list.new.items ≡ list.old.items ++ filter_map (restored_alert history hold now) kept.old.records) }
+        → OnOk result (tells ≡ true → list.new.items ≡ list.old.items ++ filter_map (restored_alert history hold now) kept.old.records) }
     ensures reads { reads.new ≤ reads.old + living_count kept.old.records }
     ensures rest { kept.new ≡ record kept.old { records = kept.new.records } }
 {
@@ -205,7 +209,7 @@ fn restore_alerts<R: Ranges, G: Ledger>(
     a_restored_record_is_moved();
     for index in 0..kept.records().list().len() {
         let restored = restore_alert(alloc, head, kept, index, now, hold, reads)?;
-        note(list, restored)?;
+        note(tells, list, restored)?;
     }
     Ok(())
 }
@@ -217,9 +221,10 @@ fn is_due(code: &RuleDef) -> bool
     code.alert && GRACE_PERIOD <= code.hold.get()
 }
 
-// Restores the alerts of a rule that holds them for long enough, and tells which.
+// Restores the alerts of a rule that holds them for long enough, and notes which.
 fn restore_rule<R: Ranges, G: Ledger>(
     alloc: Global,
+    tells: bool,
     head: &Head,
     code: &RuleDef,
     kept: &mut Remembered<R>,
@@ -230,7 +235,7 @@ fn restore_rule<R: Ranges, G: Ledger>(
     ensures stands { (history : List Entry) (r : RuleState) → MayEvaluateOver head.now history now → StandsForRule kept.old.templates kept.old.previous kept.old.records (rule_of_def code.now) r
         → OnOk result (StandsForRule kept.new.templates kept.new.previous kept.new.records (rule_of_def code.now) (with_restored history now r)) }
     ensures told { (history : List Entry) (r : RuleState) → MayEvaluateOver head.now history now → StandsForRule kept.old.templates kept.old.previous kept.old.records (rule_of_def code.now) r
-        → OnOk result (list.new.items ≡ list.old.items ++ restores history now r) }
+        → OnOk result (tells ≡ true → list.new.items ≡ list.old.items ++ restores history now r) }
     ensures reads { (r : RuleState) → StandsForRule kept.old.templates kept.old.previous kept.old.records (rule_of_def code.now) r → reads.new ≤ reads.old + restored_reads r }
     ensures rest { kept.new ≡ record kept.old { records = kept.new.records } }
 {
@@ -239,16 +244,17 @@ fn restore_rule<R: Ranges, G: Ledger>(
     if !is_due(code) {
         return Ok(());
     }
-    restore_alerts(alloc, head, kept, now, code.hold, list, reads)?;
+    restore_alerts(alloc, tells, head, kept, now, code.hold, list, reads)?;
     Ok(())
 }
 
-/// Restores the alerts of the rules of a group, and tells which.
+/// Restores the alerts of the rules of a group, and where that is told answers which.
 ///
 /// # Errors
 /// Want of memory.
 pub(crate) fn restore_rules<R: Ranges, G: Ledger>(
     alloc: Global,
+    tells: bool,
     head: &Head,
     codes: &[RuleDef],
     rules: &mut Vec<Remembered<R>>,
@@ -259,7 +265,7 @@ pub(crate) fn restore_rules<R: Ranges, G: Ledger>(
     ensures kept { (history : List Entry) (until : Option ℕ) (rs : List RuleState) → MayEvaluateOver head.now history now → length codes.now ≡ length rs → AreKept R.fits R.last R.passed history until codes.now rules.old.items rs
         → OnOk result (AreKept R.fits R.last R.passed history until codes.now rules.new.items (map (with_restored history now) rs)) }
     ensures told { (history : List Entry) (until : Option ℕ) (rs : List RuleState) → MayEvaluateOver head.now history now → length codes.now ≡ length rs → AreKept R.fits R.last R.passed history until codes.now rules.old.items rs
-        → IfOk result (λ v. v.items ≡ flat_map (restores history now) rs) }
+        → IfOk result (λ v. tells ≡ true → v.items ≡ flat_map (restores history now) rs) }
     ensures reads { (history : List Entry) (until : Option ℕ) (rs : List RuleState) → MayEvaluateOver head.now history now → length codes.now ≡ length rs → AreKept R.fits R.last R.passed history until codes.now rules.old.items rs
         → reads.new ≤ reads.old + sum_by restored_reads rs }
     ensures ranges { ranges_of rules.new.items ≡ ranges_of rules.old.items }
@@ -268,6 +274,7 @@ pub(crate) fn restore_rules<R: Ranges, G: Ledger>(
     for index in 0..codes.len() {
         restore_rule(
             alloc,
+            tells,
             head,
             &codes[index],
             &mut rules[index],

@@ -1,5 +1,5 @@
 // The rules of a group, one after the other.
-ghost use Rattle.std.specs.Prelude.{◌≡◌, ℕ, ◌+◌, ◌<◌, ◌≤◌, false, List, Option, IfOk, IfSome, length};
+ghost use Rattle.std.specs.Prelude.{◌≡◌, ℕ, ◌+◌, ◌++◌, ◌∷◌, [], ◌<◌, ◌≤◌, false, true, List, Option, IfOk, IfSome, OnOk, length};
 ghost use Rattle.pr_history.specs.declared.entry.Entry.{Entry};
 ghost use Rattle.pr_query.specs.Cost.{cost};
 ghost use Rattle.pr_eval.specs.Evaluated.{passed_outside};
@@ -33,7 +33,7 @@ fn evaluate_rule<R: Ranges, G: Ledger>(
     requires { 0 < at.now.step }
     ensures done { (s : Settings) (g : Group) (r : RuleState) (history : List Entry) (until : Option ℕ) → IsEvaluationOf at.now.step at.now.external.now at.now.limit at.now.interval at.now.waits s g
         → MayEvaluateOver head.old history at.now.time → IfSome until (λ u. u ≤ at.now.time) → KeepsRule R.fits R.last R.passed history until code.now kept.old r
-        → IfOk result (λ report. HasDone R.fits R.last R.passed R.keeps s g r history at.now.time code.now kept.old kept.new head.old head.new rows.old.items rows.new.items report) }
+        → IfOk result (λ report. HasDone R.fits R.last R.passed R.keeps at.now.tells s g r history at.now.time code.now kept.old kept.new head.old head.new rows.old.items rows.new.items report) }
     ensures reads { (s : Settings) (g : Group) (r : RuleState) (history : List Entry) (until : Option ℕ) → IsEvaluationOf at.now.step at.now.external.now at.now.limit at.now.interval at.now.waits s g
         → MayEvaluateOver head.old history at.now.time → IfSome until (λ u. u ≤ at.now.time) → KeepsRule R.fits R.last R.passed history until code.now kept.old r
         → reads.new ≤ reads.old + cost s.subquery_step history (passed_outside false history (R.passed kept.old.ranges)) r.rule.expr 0 at.now.time }
@@ -42,8 +42,22 @@ fn evaluate_rule<R: Ranges, G: Ledger>(
     kept.evaluate(at, code, head, rows, reads)
 }
 
-/// Evaluates the rules of a group in order, each over the head as those before it leave it, and
-/// tells of each. What is added is put behind the rows.
+// Notes what is told of a rule.
+fn note_report(
+    tells: bool,
+    told: &mut Vec<RuleReport>,
+    report: RuleReport,
+) -> Result<(), AllocError>
+    ensures { OnOk result (tells ≡ true → told.new.items ≡ told.old.items ++ report ∷ []) }
+{
+    if tells {
+        told.push(report)?;
+    }
+    Ok(())
+}
+
+/// Evaluates the rules of a group in order, each over the head as those before it leave it. Where
+/// that is told, what is added stands behind the rows, and it answers what is told of each.
 ///
 /// # Errors
 /// Want of memory.
@@ -59,7 +73,7 @@ pub(crate) fn evaluate_rules<R: Ranges, G: Ledger>(
     requires each { length rules.old.items ≡ length codes.now }
     ensures come { (s : Settings) (g : Group) (history : List Entry) (until : Option ℕ)
         → MayEvaluateRules R.fits R.last R.passed at.now.step at.now.external.now at.now.limit at.now.interval at.now.waits s g head.old history at.now.time until codes.now rules.old.items
-        → IfOk result (λ told. HasCome R.fits R.last R.passed R.keeps s g history at.now.time codes.now rules.old.items rules.new.items head.old head.new rows.old.items rows.new.items told.items (length g.rules) (all_rules s g history at.now.time)) }
+        → IfOk result (λ told. HasCome R.fits R.last R.passed R.keeps at.now.tells s g history at.now.time codes.now rules.old.items rules.new.items head.old head.new rows.old.items rows.new.items told.items (length g.rules) (all_rules s g history at.now.time)) }
     ensures reads { (s : Settings) (g : Group) (history : List Entry) (until : Option ℕ)
         → MayEvaluateRules R.fits R.last R.passed at.now.step at.now.external.now at.now.limit at.now.interval at.now.waits s g head.old history at.now.time until codes.now rules.old.items
         → reads.new ≤ reads.old + rules_cost s g at.now.time (passed_of R.passed history rules.old.items) 0 g.rules (begun history) }
@@ -67,7 +81,8 @@ pub(crate) fn evaluate_rules<R: Ranges, G: Ledger>(
 {
     let mut told = Vec::new(at.alloc);
     for index in 0..codes.len() {
-        told.push(evaluate_rule(at, &codes[index], &mut rules[index], head, rows, reads)?)?;
+        let report = evaluate_rule(at, &codes[index], &mut rules[index], head, rows, reads)?;
+        note_report(at.tells, &mut told, report)?;
     }
     Ok(told)
 }

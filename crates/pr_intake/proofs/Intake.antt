@@ -1,5 +1,5 @@
 -- Entries that are put in parts.
-use Rattle.std.proofs.Common.{◌≡◌, ℕ, ◌+◌, ◌-◌, ◌<◌, ℤ, Result, OnOk, OnErr, length, get_or, take, drop, arith, List, [], ◌∷◌, ◌++◌, refl, sym, ap, ◌∙◌, subst, append_assoc, append-nil}
+use Rattle.std.proofs.Common.{◌≡◌, ℕ, ◌+◌, ◌-◌, ◌<◌, ℤ, Bool, true, false, Result, OnOk, OnErr, length, get_or, take, drop, arith, List, [], ◌∷◌, ◌++◌, refl, sym, ap, ◌∙◌, subst, append_assoc, append-nil}
 use Rattle.std.specs.declared.result.Result.TheVariants.{Ok, Err}
 use Rattle.pr_history.specs.declared.entry.Entry.{Entry}
 use Rattle.pr_history.specs.Admission.{put_all}
@@ -7,7 +7,7 @@ use Rattle.pr_head.specs.Holds.{Holds, IsWhole}
 use Rattle.std.proofs.lemmas.List.{length-append, take_more, take-append-drop}
 use Rattle.pr_puts.specs.Puts.{added_count, admitted}
 use Rattle.pr_puts.proofs.Putting.{admitted_counted, admitted_parts, puts_parts}
-use Rattle.pr_intake.specs.Intake.{HasTaken, HasTakenFront, Puts, Series}
+use Rattle.pr_intake.specs.Intake.{HasTaken, HasTakenFront, Puts, PutsIf, Series}
 
 pub puts_none : (a : Series) (rows history : List Entry) → Holds a history → Puts a a rows rows history []
 puts_none a rows history h = record { taken = record { holds = h; whole = λ x w. w }; added = sym (append-nil rows) }
@@ -25,6 +25,30 @@ puts_then a b c r s t history es more p q = record {
       ∙ append_assoc r (admitted history es) (admitted (put_all history es) more)
       ∙ ap (λ (l : List Entry). r ++ l) (sym (admitted_parts history es more));
 }
+
+-- where rows are told, and where they are not
+pub puts_if_none : (tells : Bool) (a : Series) (rows history : List Entry) → Holds a history → PutsIf tells a a rows rows history []
+puts_if_none tells a rows history h = record { taken = record { holds = h; whole = λ x w. w }; added = λ t. sym (append-nil rows) }
+
+pub puts_if_then : (tells : Bool) (a b c : Series) (r s t history es more : List Entry) → PutsIf tells a b r s history es → PutsIf tells b c s t (put_all history es) more → PutsIf tells a c r t history (es ++ more)
+puts_if_then tells a b c r s t history es more p q = record {
+  taken = taken_then a b c history es more p.taken q.taken;
+  added = λ told. (puts_then a b c r s t history es more (record { taken = p.taken; added = p.added told }) (record { taken = q.taken; added = q.added told })).added;
+}
+
+pub puts_told : {T E : Type 0} (o : Result T E) (tells : Bool) (a b : Series) (r s history es : List Entry) → OnOk o (Puts a b r s history es) → OnOk o (PutsIf tells a b r s history es)
+puts_told (Ok v) tells a b r s history es p = record { taken = p.taken; added = λ told. p.added }
+puts_told (Err e) tells a b r s history es p = tt
+
+pub puts_untold : (tells : Bool) (a b : Series) (r s history es : List Entry) → tells ≡ false → HasTaken a b history es → PutsIf tells a b r s history es
+puts_untold tells a b r s history es untold p = record { taken = p; added = λ told. absurd (let z : true ≡ false = sym told ∙ untold in cc) }
+
+pub puts_untold_if : {T E : Type 0} (o : Result T E) (tells : Bool) (a b : Series) (r s history es : List Entry) → tells ≡ false → OnOk o (HasTaken a b history es) → OnOk o (PutsIf tells a b r s history es)
+puts_untold_if (Ok v) tells a b r s history es untold p = puts_untold tells a b r s history es untold p
+puts_untold_if (Err e) tells a b r s history es untold p = tt
+
+pub taken_none : (a : Series) (history : List Entry) → Holds a history → HasTaken a a history []
+taken_none a history h = record { holds = h; whole = λ x w. w }
 
 pub front_none : (a : Series) (history es : List Entry) → Holds a history → HasTakenFront a a history es
 front_none a history es h = record { front = []; rest = es; parts = refl; taken = record { holds = h; whole = λ x w. w } }
@@ -71,6 +95,14 @@ pub next_puts : {X : Type 0} (g : List X → List Entry) → ((xs ys : List X) �
 next_puts g parts items i x h is a m b r s t history p q =
     subst (λ (l : List Entry). Puts a b r t history l) (sym (ap g (next_of items i x h is) ∙ parts (take i items) (x ∷ [])))
     (puts_then a m b r s t history (g (take i items)) (g (x ∷ [])) p q)
+
+pub next_taken : {X : Type 0} (g : List X → List Entry) → ((xs ys : List X) → g (xs ++ ys) ≡ g xs ++ g ys)
+    → (items : List X) (i : ℕ) (x : X) → i < length items → x ≡ get_or items i x
+    → (a m b : Series) (history : List Entry) → HasTaken a m history (g (take i items)) → HasTaken m b (put_all history (g (take i items))) (g (x ∷ []))
+    → HasTaken a b history (g (take (i + 1) items))
+next_taken g parts items i x h is a m b history p q =
+    subst (λ (l : List Entry). HasTaken a b history l) (sym (ap g (next_of items i x h is) ∙ parts (take i items) (x ∷ [])))
+    (taken_then a m b history (g (take i items)) (g (x ∷ [])) p q)
 
 pub next_front : {X : Type 0} (g : List X → List Entry) → ((xs ys : List X) → g (xs ++ ys) ≡ g xs ++ g ys)
     → (items : List X) (i : ℕ) (x : X) → i < length items → x ≡ get_or items i x

@@ -2,3 +2,4 @@ pub mod Gone
 pub mod Intake
 pub mod Markers
 pub mod Sets
+mod Unchanged

@@ -4,8 +4,10 @@
 
 mod marked;
 mod marking;
+mod same;
 mod taking;
+mod untold;
 
-pub use marked::mark;
+pub use marked::{mark, mark_if};
 pub use marking::{add_labels, put_markers};
-pub use taking::{is_shown, marker, put};
+pub use taking::{is_shown, marker, put, put_if};

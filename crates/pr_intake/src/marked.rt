@@ -1,12 +1,14 @@
 // Markers for the series that are gone, and which series got one.
-ghost use Rattle.std.specs.Prelude.{◌≡◌, [], ◌++◌, List, OnOk, IfOk, fold};
+ghost use Rattle.std.specs.Prelude.{◌≡◌, true, [], ◌++◌, List, OnOk, IfOk, fold};
 ghost use Rattle.pr_labels.specs.Rising.{with_labels};
 ghost use Rattle.pr_history.specs.declared.entry.Entry.{Entry};
 ghost use Rattle.pr_puts.specs.Puts.{admitted, label_sets_of, markers};
 ghost use Rattle.pr_head.specs.Holds.{Holds};
-ghost use Rattle.pr_intake.specs.Intake.{Puts};
+ghost use Rattle.pr_intake.specs.Intake.{Puts, PutsIf};
 
 use crate::marking::{add_labels, put_markers};
+use crate::same::are_same;
+use crate::untold::mark_untold;
 use pr_head::Head;
 use pr_history::Entry;
 use pr_labels::Labels;
@@ -14,8 +16,8 @@ use pr_time::Ms;
 use std::alloc::{AllocError, Global};
 use std::collections::BTreeSet;
 
-// The label sets of a list.
-fn set_of(alloc: Global, list: &[Labels]) -> Result<BTreeSet<Labels>, AllocError>
+/// The label sets of a list.
+pub(crate) fn set_of(alloc: Global, list: &[Labels]) -> Result<BTreeSet<Labels>, AllocError>
     ensures { IfOk result (λ s. s.keys ≡ fold with_labels [] list.now) }
 {
     let mut sets = BTreeSet::new(alloc);
@@ -55,8 +57,32 @@ pub fn mark(
     ensures puts { (history : List Entry) → Holds head.old history → OnOk result (Puts head.old head.new rows.old.items rows.new.items history (markers now old.now new.now)) }
     ensures marked { (history : List Entry) → Holds head.old history → IfOk result (λ v. v.items ≡ label_sets_of (admitted history (markers now old.now new.now))) }
 {
+    if are_same(old, new) {
+        return Ok(Vec::new(alloc));
+    }
     let news = set_of(alloc, new)?;
     let mut marked = Vec::new(alloc);
     put_markers(alloc, head, &mut marked, now, old, &news)?;
     move_rows(alloc, rows, marked)
+}
+
+/// Puts the markers of `mark`, and answers their series where they are told. Where they are not,
+/// nothing is said of rows and series.
+pub fn mark_if(
+    alloc: Global,
+    tells: bool,
+    head: &mut Head,
+    rows: &mut Vec<Entry>,
+    now: Ms,
+    old: &[Labels],
+    new: &[Labels],
+) -> Result<Vec<Labels>, AllocError>
+    ensures puts { (history : List Entry) → Holds head.old history → OnOk result (PutsIf tells head.old head.new rows.old.items rows.new.items history (markers now old.now new.now)) }
+    ensures marked { (history : List Entry) → Holds head.old history → IfOk result (λ v. tells ≡ true → v.items ≡ label_sets_of (admitted history (markers now old.now new.now))) }
+{
+    if tells {
+        return mark(alloc, head, rows, now, old, new);
+    }
+    mark_untold(alloc, head, now, old, new)?;
+    Ok(Vec::new(alloc))
 }

@@ -22,8 +22,8 @@ pub fn add_labels(sets: &mut BTreeSet<Labels>, labels: Labels) -> Result<(), All
     Ok(())
 }
 
-// Whether a label set is among those that are there.
-fn is_among(sets: &BTreeSet<Labels>, labels: &Labels) -> bool
+/// Whether a label set is among those that are there.
+pub(crate) fn is_among(sets: &BTreeSet<Labels>, labels: &Labels) -> bool
     ensures { result ≡ is_among labels.now sets.now.keys }
 {
     sets.contains(labels)

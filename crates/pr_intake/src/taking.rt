@@ -4,7 +4,7 @@ ghost use Rattle.pr_history.specs.declared.entry.Entry.{Entry};
 ghost use Rattle.pr_history.specs.Admission.{admit};
 ghost use Rattle.pr_head.specs.Holds.{Holds};
 ghost use Rattle.pr_puts.specs.Puts.{is_added, is_shown, marker};
-ghost use Rattle.pr_intake.specs.Intake.{HasTaken, HasTakenFront, Puts};
+ghost use Rattle.pr_intake.specs.Intake.{HasTaken, HasTakenFront, Puts, PutsIf};
 
 use pr_head::Head;
 use pr_history::{Append, Entry};
@@ -26,8 +26,8 @@ pub fn is_shown(answer: &Append) -> bool
     matches!(answer, Append::Added | Append::Same)
 }
 
-// Puts an entry into the head.
-fn append(head: &mut Head, entry: &Entry) -> Result<Append, AllocError>
+/// Puts an entry into the head, and tells it in no row.
+pub(crate) fn append(head: &mut Head, entry: &Entry) -> Result<Append, AllocError>
     ensures answer { (history : List Entry) → Holds head.old history → IfOk result (λ a. a ≡ admit history entry.now.labels entry.now.time entry.now.point) }
     ensures taken { (history : List Entry) → Holds head.old history → OnOk result (HasTaken head.old head.new history (entry.now ∷ [])) }
     ensures err { OnErr result (head.new ≡ head.old) }
@@ -46,6 +46,22 @@ pub fn put(head: &mut Head, rows: &mut Vec<Entry>, entry: Entry) -> Result<Appen
         rows.push(entry)?;
     }
     Ok(answer)
+}
+
+/// Puts an entry into the head; and where rows are told, behind them if it is added.
+pub fn put_if(
+    tells: bool,
+    head: &mut Head,
+    rows: &mut Vec<Entry>,
+    entry: Entry,
+) -> Result<Append, AllocError>
+    ensures answer { (history : List Entry) → Holds head.old history → IfOk result (λ a. a ≡ admit history entry.labels entry.time entry.point) }
+    ensures puts { (history : List Entry) → Holds head.old history → OnOk result (PutsIf tells head.old head.new rows.old.items rows.new.items history (entry ∷ [])) }
+{
+    if tells {
+        return put(head, rows, entry);
+    }
+    append(head, &entry)
 }
 
 /// The marker of a series.

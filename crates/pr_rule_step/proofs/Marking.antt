@@ -1,5 +1,5 @@
 -- Alerts that are sent and marked one after the other.
-use Rattle.std.proofs.Common.{◌≡◌, true, false, cond, ℕ, zero, suc, ◌+◌, ◌<◌, List, [], ◌∷◌, ◌++◌, length, map, take, get_or, refl, sym, ap, ◌∙◌, subst, arith}
+use Rattle.std.proofs.Common.{◌≡◌, Bool, true, false, cond, ℕ, zero, suc, ◌+◌, ◌<◌, List, [], ◌∷◌, ◌++◌, length, map, take, get_or, refl, sym, ap, ◌∙◌, subst, arith}
 use Rattle.std.specs.Prelude.{slice_get, slice_set, Some, None}
 use Rattle.std.specs.List.{cons_option}
 use Rattle.std.proofs.Math.Numerals.{add-one}
@@ -53,39 +53,39 @@ record_there n [] h = absurd (omega arith)
 record_there zero (x ∷ rs) h = (x, refl)
 record_there (suc n) (x ∷ rs) h = record_there n rs (omega arith)
 
--- How far the sending has come.
-pub record HasSent (interval now n : ℕ) (rs after : List Record) (sent : List Sending) : Type 0 where
-  pub sendings : sent ≡ sendings_at interval now (take n rs)
+-- How far the sending has come; the notifications where they are told.
+pub record HasSent (tells : Bool) (interval now n : ℕ) (rs after : List Record) (sent : List Sending) : Type 0 where
+  pub sendings : tells ≡ true → sent ≡ sendings_at interval now (take n rs)
   pub marks : after ≡ marked_until now n rs
 
-sends_by : (interval now n : ℕ) (rs at after : List Record) (so_far more : List Sending) → HasSent interval now n rs at so_far → (r : Record) → slice_get rs n ≡ Some r
-    → ((r : Record) → slice_get at n ≡ Some r → more ≡ so_far ++ sendings_at interval now (r ∷ []))
+sends_by : (tells : Bool) (interval now n : ℕ) (rs at after : List Record) (so_far more : List Sending) → HasSent tells interval now n rs at so_far → (r : Record) → slice_get rs n ≡ Some r
+    → ((r : Record) → slice_get at n ≡ Some r → tells ≡ true → more ≡ so_far ++ sendings_at interval now (r ∷ []))
     → ((r : Record) → slice_get at n ≡ Some r → after ≡ slice_set at n (marked_if now r))
-    → HasSent interval now (n + 1) rs after more
-sends_by interval now n rs at after so_far more h r e sends marks =
+    → HasSent tells interval now (n + 1) rs after more
+sends_by tells interval now n rs at after so_far more h r e sends marks =
     let here : slice_get at n ≡ Some r = ap (λ (l : List Record). slice_get l n) h.marks ∙ next_until now n rs ∙ e in
     record {
-      sendings = sends r here ∙ ap (λ (l : List Sending). l ++ sendings_at interval now (r ∷ [])) h.sendings ∙ sym (sent_next interval now n rs r e);
+      sendings = λ told. sends r here told ∙ ap (λ (l : List Sending). l ++ sendings_at interval now (r ∷ [])) (h.sendings told) ∙ sym (sent_next interval now n rs r e);
       marks = marks r here ∙ ap (λ (l : List Record). slice_set l n (marked_if now r)) h.marks ∙ mark_next now n rs r e ∙ ap (λ (k : ℕ). marked_until now k rs) (sym (add-one n));
     }
 
-pub sends_next : (interval now n : ℕ) (rs at after : List Record) (so_far more : List Sending) → HasSent interval now n rs at so_far → n < length rs
-    → ((r : Record) → slice_get at n ≡ Some r → more ≡ so_far ++ sendings_at interval now (r ∷ []))
+pub sends_next : (tells : Bool) (interval now n : ℕ) (rs at after : List Record) (so_far more : List Sending) → HasSent tells interval now n rs at so_far → n < length rs
+    → ((r : Record) → slice_get at n ≡ Some r → tells ≡ true → more ≡ so_far ++ sendings_at interval now (r ∷ []))
     → ((r : Record) → slice_get at n ≡ Some r → after ≡ slice_set at n (marked_if now r))
-    → HasSent interval now (n + 1) rs after more
-sends_next interval now n rs at after so_far more h within sends marks =
+    → HasSent tells interval now (n + 1) rs after more
+sends_next tells interval now n rs at after so_far more h within sends marks =
     let there = record_there n rs within in
-    sends_by interval now n rs at after so_far more h there.0 there.1 sends marks
+    sends_by tells interval now n rs at after so_far more h there.0 there.1 sends marks
 
 -- the records stay as many
-pub still_within : (interval now n : ℕ) (rs at : List Record) (sent : List Sending) → HasSent interval now n rs at sent → n < length rs → n < length at
-still_within interval now n rs at sent h within = subst (λ (k : ℕ). n < k) (sym (ap length h.marks ∙ length_until now n rs)) within
+pub still_within : (tells : Bool) (interval now n : ℕ) (rs at : List Record) (sent : List Sending) → HasSent tells interval now n rs at sent → n < length rs → n < length at
+still_within tells interval now n rs at sent h within = subst (λ (k : ℕ). n < k) (sym (ap length h.marks ∙ length_until now n rs)) within
 
 -- all were gone over
-pub sent_all : (interval now n : ℕ) (rs after : List Record) (sent : List Sending) → HasSent interval now n rs after sent → n ≡ length rs
-    → (sent ≡ sendings_at interval now rs) × (after ≡ map (marked_if now) rs)
-sent_all interval now n rs after sent h e = (
-  h.sendings ∙ ap (λ (k : ℕ). sendings_at interval now (take k rs)) e ∙ ap (sendings_at interval now) (take-length rs),
+pub sent_all : (tells : Bool) (interval now n : ℕ) (rs after : List Record) (sent : List Sending) → HasSent tells interval now n rs after sent → n ≡ length rs
+    → (tells ≡ true → sent ≡ sendings_at interval now rs) × (after ≡ map (marked_if now) rs)
+sent_all tells interval now n rs after sent h e = (
+  λ told. h.sendings told ∙ ap (λ (k : ℕ). sendings_at interval now (take k rs)) e ∙ ap (sendings_at interval now) (take-length rs),
   h.marks ∙ ap (λ (k : ℕ). marked_until now k rs) e ∙ marked_all now rs,
 )
 
@@ -99,9 +99,9 @@ set_same (suc n) (x ∷ rs) r e = ap (λ (l : List Record). x ∷ l) (set_same n
 pub not_marked : (now n : ℕ) (rs : List Record) (r : Record) → slice_get rs n ≡ Some r → is_due now r ≡ false → rs ≡ slice_set rs n (marked_if now r)
 not_marked now n rs r e due = set_same n rs r e ∙ sym (λ i. slice_set rs n (cond (due i) (marked now r) r))
 
-pub sends_due : (interval now n : ℕ) (rs list : List Record) (x r : Record) (s : Sending) (before more : List Sending) → slice_get rs n ≡ Some r → is_due now r ≡ true → list ≡ rs → x ≡ get_or list n x
-    → s ≡ sending_of interval now x → more ≡ before ++ s ∷ [] → more ≡ before ++ sendings_at interval now (r ∷ [])
-sends_due interval now n rs list x r s before more e due same is sent pushed =
+pub sends_due : (interval now n : ℕ) (rs list : List Record) (x r : Record) (before more : List Sending) → slice_get rs n ≡ Some r → is_due now r ≡ true → list ≡ rs → x ≡ get_or list n x
+    → more ≡ before ++ sending_of interval now x ∷ [] → more ≡ before ++ sendings_at interval now (r ∷ [])
+sends_due interval now n rs list x r before more e due same is noted =
     let here : x ≡ r = is ∙ ap (λ (l : List Record). get_or l n x) same ∙ get_or_from_slice_get rs n r x e in
-    pushed ∙ ap (λ (t : Sending). before ++ t ∷ []) (sent ∙ ap (sending_of interval now) here)
+    noted ∙ ap (λ (y : Record). before ++ sending_of interval now y ∷ []) here
     ∙ sym (λ i. before ++ cons_option (sending_if (due i) (sending_of interval now r)) [])

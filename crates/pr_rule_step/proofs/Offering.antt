@@ -76,16 +76,16 @@ alerts_come s g r history now founds o alerts e more =
 
 -- A rule that records
 
-pub records_offered : (offered : Offered) (alerts : List Record) (s : Settings) (g : Group) (r : RuleState) (history : List Entry) (now : ℕ) (founds : List Found) → r.rule.alert ≡ false
+pub records_offered : (tells : Bool) (offered : Offered) (alerts : List Record) (s : Settings) (g : Group) (r : RuleState) (history : List Entry) (now : ℕ) (founds : List Found) → r.rule.alert ≡ false
     → rule_result s g.limit r.rule history now ≡ Ok founds → offered.samples ≡ recorded founds → offered.sent ≡ []
-    → Offers (rule_outcome s g r history now) alerts g r now (Ok offered)
-records_offered offered alerts s g r history now founds records e samples sent = (
+    → Offers tells (rule_outcome s g r history now) alerts g r now (Ok offered)
+records_offered tells offered alerts s g r history now founds records e samples sent = (
   founds,
   (
     records_come s g r history now founds records e,
     record {
       samples = samples ∙ ap (λ (b : Bool). rule_samples_by b (nat_lt 0 g.waits) founds (records_after r.lineage now r.rule.hold r.rule.keep founds)) (sym records);
-      sent = λ wrote. sent ∙ ap (λ (b : Bool). sent_by b (interval_of g) (evaluated r now (came_to founds) wrote)) (sym records);
+      sent = λ told wrote. sent ∙ ap (λ (b : Bool). sent_by b (interval_of g) (evaluated r now (came_to founds) wrote)) (sym records);
       records = λ wrote alerting. absurd (let z : true ≡ false = sym alerting ∙ records in cc);
     },
   ),
@@ -97,13 +97,13 @@ records_offered offered alerts s g r history now founds records e samples sent =
 abbrev after : RuleState → ℕ → ℕ → ℕ → Outcome → List (List Pair) → List Step
 after r now hold keep outcome wrote = r.lineage ++ evaluation now hold keep outcome wrote ∷ []
 
-pub alerts_offered : SentLaw → MarkedLaw → AloneLaw → (offered : Offered) (s : Settings) (g : Group) (r : RuleState) (history : List Entry) (now limit hold keep : ℕ) (every : Option ℕ) (waiting : Bool) (founds : List Found) (before alerts : List Record)
+pub alerts_offered : SentLaw → MarkedLaw → AloneLaw → (tells : Bool) (offered : Offered) (s : Settings) (g : Group) (r : RuleState) (history : List Entry) (now limit hold keep : ℕ) (every : Option ℕ) (waiting : Bool) (founds : List Found) (before alerts : List Record)
     → limit ≡ g.limit → hold ≡ r.rule.hold → keep ≡ r.rule.keep → every ≡ g.interval → waiting ≡ nat_lt 0 g.waits → r.rule.alert ≡ true
     → rule_result s g.limit r.rule history now ≡ Ok founds → exceeding limit r.lineage now hold keep founds ≡ None
     → ((wrote : List (List Pair)) → StandsUnsent before (after r now hold keep (came_to founds) wrote))
-    → alerts ≡ map (marked_if now) before → offered.sent ≡ sendings_at (unwrap_or every 60000) now before → offered.samples ≡ rule_samples_by true waiting founds alerts
-    → Offers (rule_outcome s g r history now) alerts g r now (Ok offered)
-alerts_offered sent_of_records marked_stand stands_alone offered s g r history now limit hold keep every waiting founds before alerts elimit ehold ekeep every_is waits alerting e within stands marks sends samples =
+    → alerts ≡ map (marked_if now) before → (tells ≡ true → offered.sent ≡ sendings_at (unwrap_or every 60000) now before) → offered.samples ≡ rule_samples_by true waiting founds alerts
+    → Offers tells (rule_outcome s g r history now) alerts g r now (Ok offered)
+alerts_offered sent_of_records marked_stand stands_alone tells offered s g r history now limit hold keep every waiting founds before alerts elimit ehold ekeep every_is waits alerting e within stands marks sends samples =
     let unsent : (wrote : List (List Pair)) → StandsUnsent before (evaluated r now (came_to founds) wrote) = λ wrote.
     subst (λ (l : List Step). StandsUnsent before l) (λ i. after r now (ehold i) (ekeep i) (came_to founds) wrote) (stands wrote) in
     let sent : (wrote : List (List Pair)) → StandsFor alerts (evaluated r now (came_to founds) wrote) = λ wrote.
@@ -114,7 +114,7 @@ alerts_offered sent_of_records marked_stand stands_alone offered s g r history n
         alerts_come s g r history now founds None alerting e (sym (λ i. exceeding (elimit i) r.lineage now (ehold i) (ekeep i) founds) ∙ within),
         record {
           samples = samples ∙ (λ i. rule_samples_by (sym alerting i) (waits i) founds (whole i));
-          sent = λ wrote. sends ∙ (λ i. sendings_at (unwrap_or (every_is i) 60000) now before)
+          sent = λ told wrote. sends told ∙ (λ i. sendings_at (unwrap_or (every_is i) 60000) now before)
               ∙ sym (sent_of_records r.lineage before founds (interval_of g) now r.rule.hold r.rule.keep wrote (unsent wrote))
               ∙ ap (λ (b : Bool). sent_by b (interval_of g) (evaluated r now (came_to founds) wrote)) (sym alerting);
           records = λ wrote isalert. sent wrote;
@@ -123,11 +123,11 @@ alerts_offered sent_of_records marked_stand stands_alone offered s g r history n
     )
 
 -- more alerts than the limit
-pub alerts_exceed : NoneLaw → (s : Settings) (g : Group) (r : RuleState) (history : List Entry) (now limit hold keep allowed have : ℕ) (fault : AlertFault) (failed_so : RuleFailure) (founds : List Found) (alerts : List Record)
+pub alerts_exceed : NoneLaw → (tells : Bool) (s : Settings) (g : Group) (r : RuleState) (history : List Entry) (now limit hold keep allowed have : ℕ) (fault : AlertFault) (failed_so : RuleFailure) (founds : List Found) (alerts : List Record)
     → limit ≡ g.limit → hold ≡ r.rule.hold → keep ≡ r.rule.keep → r.rule.alert ≡ true → rule_result s g.limit r.rule history now ≡ Ok founds
     → fault ≡ alert.LimitExceeded allowed have → Exceeds fault limit (exceeding limit r.lineage now hold keep founds) alerts → failed_so ≡ failure 0 (LimitExceeded allowed have)
-    → Offers (rule_outcome s g r history now) alerts g r now (Err (Failed failed_so))
-alerts_exceed none_after s g r history now limit hold keep allowed have fault failed_so founds alerts elimit ehold ekeep alerting e is h failed_is =
+    → Offers tells (rule_outcome s g r history now) alerts g r now (Err (Failed failed_so))
+alerts_exceed none_after tells s g r history now limit hold keep allowed have fault failed_so founds alerts elimit ehold ekeep alerting e is h failed_is =
     let k = subst (λ (x : AlertFault). Exceeds x limit (exceeding limit r.lineage now hold keep founds) alerts) is h in
     let same : allowed ≡ g.limit = k.0 ∙ elimit in
     let more : exceeding g.limit r.lineage now r.rule.hold r.rule.keep founds ≡ Some have = sym (λ i. exceeding (elimit i) r.lineage now (ehold i) (ekeep i) founds) ∙ k.1 in

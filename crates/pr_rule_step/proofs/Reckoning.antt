@@ -35,7 +35,7 @@ pub meant_so : (blank : ℕ) (outside : External) (most : ℕ) (every : Option �
 unfolding rule_result
 meant_so blank outside most every waiting s g code rule history now is e = λ i. rule_result_by (is.external i) (is.limit i) (e i) (failed_by (meaning (is.step i) history (e i).expr now))
 
-pub offers_error : FaultLaw → (error : RuleError) (s : Settings) (g : Group) (r : RuleState) (history : List Entry) (now : ℕ) (alerts : List Record) → ComesTo (rule_result s g.limit r.rule history now) (Err error)
-    → (r.rule.alert ≡ true → StandsFor alerts r.lineage) → Offers (rule_outcome s g r history now) alerts g r now (Err error)
-offers_error law (Failed f) s g r history now alerts comes stands = failed_first law s g r history now f alerts comes stands
-offers_error law Memory s g r history now alerts comes stands = tt
+pub offers_error : FaultLaw → (tells : Bool) (error : RuleError) (s : Settings) (g : Group) (r : RuleState) (history : List Entry) (now : ℕ) (alerts : List Record) → ComesTo (rule_result s g.limit r.rule history now) (Err error)
+    → (r.rule.alert ≡ true → StandsFor alerts r.lineage) → Offers tells (rule_outcome s g r history now) alerts g r now (Err error)
+offers_error law tells (Failed f) s g r history now alerts comes stands = failed_first law s g r history now f alerts comes stands
+offers_error law tells Memory s g r history now alerts comes stands = tt

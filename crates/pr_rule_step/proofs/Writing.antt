@@ -12,9 +12,9 @@ use Rattle.pr_puts.specs.Puts.{admissions, is_shown, label_sets_of, shown_entrie
 use Rattle.pr_puts.proofs.Putting.{answer_to, picks}
 use Rattle.pr_rules.specs.declared.report.Put.{Put}
 use Rattle.pr_rules.specs.Evaluations.{sample_entry, put_of}
-use Rattle.pr_intake.specs.Intake.{Puts, Series}
+use Rattle.pr_intake.specs.Intake.{PutsIf, Series}
 use Rattle.pr_rule_step.specs.Written.{Writes, entries_of, told_of, wrote_of}
-use Rattle.pr_intake.proofs.Intake.{puts_then}
+use Rattle.pr_intake.proofs.Intake.{puts_if_then}
 
 pub entries_parts : (now : ℕ) (xs ys : List (Item Num)) → entries_of now (xs ++ ys) ≡ entries_of now xs ++ entries_of now ys
 entries_parts now xs ys = map-append (sample_entry now) xs ys
@@ -53,27 +53,27 @@ wrote_parts history now (x ∷ xs) ys =
     ∙ sym (append_assoc one (wrote_of (put history e) now xs) (wrote_of (put_all (put history e) (entries_of now xs)) now ys))
     ∙ ap (λ (l : List (List Pair)). l ++ wrote_of (put_all (put history e) (entries_of now xs)) now ys) (sym (wrote_first history now x xs))
 
-pub writes_one : (a b : Series) (r s : List Entry) (t u : List Put) (v w : List (List Pair)) (history : List Entry) (now : ℕ) (x : Item Num)
-    → Puts a b r s history (sample_entry now x ∷ []) → u ≡ t ++ put_of (x, answer_to history (sample_entry now x)) ∷ []
-    → w ≡ v ++ one_shown (answer_to history (sample_entry now x)) x.labels → Writes a b r s t u v w history now (x ∷ [])
-writes_one a b r s t u v w history now x p told wrote = record {
+pub writes_one : (tells : Bool) (a b : Series) (r s : List Entry) (t u : List Put) (v w : List (List Pair)) (history : List Entry) (now : ℕ) (x : Item Num)
+    → PutsIf tells a b r s history (sample_entry now x ∷ []) → (tells ≡ true → u ≡ t ++ put_of (x, answer_to history (sample_entry now x)) ∷ [])
+    → w ≡ v ++ one_shown (answer_to history (sample_entry now x)) x.labels → Writes tells a b r s t u v w history now (x ∷ [])
+writes_one tells a b r s t u v w history now x p told wrote = record {
   puts = p;
   told = told;
   wrote = wrote ∙ ap (λ (l : List (List Pair)). v ++ l) (sym (wrote_first history now x [] ∙ append-nil (one_shown (answer_to history (sample_entry now x)) x.labels)));
 }
 
-pub writes_none : (a : Series) (r : List Entry) (t : List Put) (v : List (List Pair)) (history : List Entry) (now : ℕ) (p : Puts a a r r history []) → Writes a a r r t t v v history now []
-writes_none a r t v history now p = record { puts = p; told = sym (append-nil t); wrote = sym (append-nil v) }
+pub writes_none : (tells : Bool) (a : Series) (r : List Entry) (t : List Put) (v : List (List Pair)) (history : List Entry) (now : ℕ) (p : PutsIf tells a a r r history []) → Writes tells a a r r t t v v history now []
+writes_none tells a r t v history now p = record { puts = p; told = λ told. sym (append-nil t); wrote = sym (append-nil v) }
 
 joined : {X : Type 0} (t u m xs ys : List X) → u ≡ m ++ ys → m ≡ t ++ xs → u ≡ t ++ (xs ++ ys)
 joined {X} t u m xs ys h k = h ∙ ap (λ (l : List X). l ++ ys) k ∙ append_assoc t xs ys
 
-pub writes_then : (a m b : Series) (r q s : List Entry) (t n u : List Put) (v o w : List (List Pair)) (history : List Entry) (now : ℕ) (xs ys : List (Item Num))
-    → Writes a m r q t n v o history now xs → Writes m b q s n u o w (put_all history (entries_of now xs)) now ys → Writes a b r s t u v w history now (xs ++ ys)
-writes_then a m b r q s t n u v o w history now xs ys f g = record {
-  puts = subst (λ (l : List Entry). Puts a b r s history l) (sym (entries_parts now xs ys))
-      (puts_then a m b r q s history (entries_of now xs) (entries_of now ys) f.puts g.puts);
-  told = joined t u n (told_of history now xs) (told_of (put_all history (entries_of now xs)) now ys) g.told f.told
+pub writes_then : (tells : Bool) (a m b : Series) (r q s : List Entry) (t n u : List Put) (v o w : List (List Pair)) (history : List Entry) (now : ℕ) (xs ys : List (Item Num))
+    → Writes tells a m r q t n v o history now xs → Writes tells m b q s n u o w (put_all history (entries_of now xs)) now ys → Writes tells a b r s t u v w history now (xs ++ ys)
+writes_then tells a m b r q s t n u v o w history now xs ys f g = record {
+  puts = subst (λ (l : List Entry). PutsIf tells a b r s history l) (sym (entries_parts now xs ys))
+      (puts_if_then tells a m b r q s history (entries_of now xs) (entries_of now ys) f.puts g.puts);
+  told = λ told. joined t u n (told_of history now xs) (told_of (put_all history (entries_of now xs)) now ys) (g.told told) (f.told told)
       ∙ ap (λ (l : List Put). t ++ l) (sym (told_parts history now xs ys));
   wrote = joined v w o (wrote_of history now xs) (wrote_of (put_all history (entries_of now xs)) now ys) g.wrote f.wrote
       ∙ ap (λ (l : List (List Pair)). v ++ l) (sym (wrote_parts history now xs ys));

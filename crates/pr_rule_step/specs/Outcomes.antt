@@ -1,5 +1,5 @@
 -- What a rule comes to before anything is put: its samples and notifications, and its records.
-use Rattle.std.specs.Prelude.{◌≡◌, ℕ, true, List, [], Result, Ok, Err}
+use Rattle.std.specs.Prelude.{◌≡◌, ℕ, Bool, true, List, [], Result, Ok, Err}
 use Rattle.pr_labels.specs.declared.pair.Pair.{Pair}
 use Rattle.pr_lineage.specs.declared.found.Found.{Found}
 use Rattle.pr_lineage.specs.declared.record.Record.{Record}
@@ -12,11 +12,11 @@ use Rattle.pr_rule_result.specs.declared.error.RuleError.{RuleError}
 use Rattle.pr_rule_result.specs.declared.error.RuleError.TheVariants.{Failed, Memory}
 use Rattle.pr_rule_step.specs.declared.offered.Offered.{Offered}
 
--- The rule comes to these samples and notifications, and where it is an alert to these records,
--- whatever is written then.
-pub record IsOffered (offered : Offered) (alerts : List Record) (g : Group) (r : RuleState) (now : ℕ) (founds : List Found) : Type 0 where
+-- The rule comes to these samples, to these notifications where they are told, and where it is an
+-- alert to these records, whatever is written then.
+pub record IsOffered (tells : Bool) (offered : Offered) (alerts : List Record) (g : Group) (r : RuleState) (now : ℕ) (founds : List Found) : Type 0 where
   pub samples : offered.samples ≡ rule_samples g r now founds
-  pub sent : (wrote : List (List Pair)) → offered.sent ≡ sent_by r.rule.alert (interval_of g) (evaluated r now (came_to founds) wrote)
+  pub sent : tells ≡ true → (wrote : List (List Pair)) → offered.sent ≡ sent_by r.rule.alert (interval_of g) (evaluated r now (came_to founds) wrote)
   pub records : (wrote : List (List Pair)) → r.rule.alert ≡ true → StandsFor alerts (evaluated r now (came_to founds) wrote)
 
 -- A rule has a fault, and its records stand for it after that.
@@ -25,7 +25,7 @@ pub record HasFailed (came : Result (List Found) RuleFailure) (alerts : List Rec
   pub records : r.rule.alert ≡ true → StandsFor alerts (evaluated r now (fault_outcome failure.kind) [])
 
 -- What is offered is what the outcome of the rule comes to, or its fault.
-abbrev pub Offers : Result (List Found) RuleFailure → List Record → Group → RuleState → ℕ → Result Offered RuleError → Type 0
-Offers came alerts g r now (Ok offered) = (founds : List Found) × ((came ≡ Ok founds) × IsOffered offered alerts g r now founds)
-Offers came alerts g r now (Err (Failed failure)) = HasFailed came alerts r now failure
-Offers came alerts g r now (Err Memory) = Unit {0}
+abbrev pub Offers : Bool → Result (List Found) RuleFailure → List Record → Group → RuleState → ℕ → Result Offered RuleError → Type 0
+Offers tells came alerts g r now (Ok offered) = (founds : List Found) × ((came ≡ Ok founds) × IsOffered tells offered alerts g r now founds)
+Offers tells came alerts g r now (Err (Failed failure)) = HasFailed came alerts r now failure
+Offers tells came alerts g r now (Err Memory) = Unit {0}

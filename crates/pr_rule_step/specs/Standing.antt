@@ -10,7 +10,7 @@ use Rattle.pr_rules.specs.declared.report.RuleReport.{RuleReport}
 use Rattle.pr_rules.specs.Evaluations.{RuleStep}
 use Rattle.pr_rules.specs.Groups.{Group, RuleState}
 use Rattle.pr_rules.specs.Settings.{Settings}
-use Rattle.pr_intake.specs.Intake.{Puts, Series}
+use Rattle.pr_intake.specs.Intake.{PutsIf, Series}
 use Rattle.pr_alert.specs.Standing.{StandsFor}
 use Rattle.pr_rule_result.specs.declared.templates.RuleTemplates.{RuleTemplates}
 use Rattle.pr_rule_result.specs.Templates.{IsTemplatesOf}
@@ -32,8 +32,8 @@ pub record StandsForRule (known : RuleTemplates) (wrote : List (List Pair)) (ale
   pub previous : wrote ≡ previous r.lineage
   pub records : r.rule.alert ≡ true → StandsFor alerts r.lineage
 
--- A rule came this step: the head has taken its entries, what was added stands behind the rows, and
--- it is told so.
-pub record HasStepped (old new : Series) (rows more : List Entry) (answer : RuleReport) (history : List Entry) (step : RuleStep) : Type 0 where
-  pub puts : Puts old new rows more history step.entries
-  pub report : answer ≡ step.report
+-- A rule came this step: the head has taken its entries; and where that is told, what was added
+-- stands behind the rows, and the report is that of the step.
+pub record HasStepped (tells : Bool) (old new : Series) (rows more : List Entry) (answer : RuleReport) (history : List Entry) (step : RuleStep) : Type 0 where
+  pub puts : PutsIf tells old new rows more history step.entries
+  pub report : tells ≡ true → answer ≡ step.report

@@ -19,4 +19,6 @@ pub struct Evaluation<'a> {
     pub interval: Option<Span>,
     /// Whether the group waits for its alerts to be restored, so that none is written.
     pub waits: bool,
+    /// Whether what becomes of its rules is told. Where it is not, nothing is made for that.
+    pub tells: bool,
 }

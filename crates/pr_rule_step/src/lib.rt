@@ -1,7 +1,6 @@
 //! One evaluation of a rule over a head: what it records, or what its alerts come to.
 #![tactic(auto)]
 
-mod copies;
 mod evaluation;
 mod offered;
 mod outcome;

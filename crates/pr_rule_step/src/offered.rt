@@ -26,7 +26,8 @@ use pr_rulefile::RuleDef;
 use pr_words::Items;
 use std::alloc::{AllocError, Global};
 
-/// What a rule comes to: the samples that it puts, in label order, and what it sends.
+/// What a rule comes to: the samples that it puts, in label order, and where that is told what it
+/// sends.
 #[derive(Drop)]
 pub(crate) struct Offered {
     pub(crate) samples: Items<Item<Num>>,
@@ -71,10 +72,10 @@ fn alert_samples(at: &Evaluation<'_>, records: &Records) -> Result<Items<Item<Nu
 // Sends what is due of alerts, and marks it, and tells what is written of them.
 fn told(at: &Evaluation<'_>, records: &mut Records) -> Result<Offered, AllocError>
     ensures marked { OnOk result (records.new ≡ map (marked_if at.now.time) records.old) }
-    ensures sent { IfOk result (λ o. o.sent ≡ sendings_at (unwrap_or at.now.interval 60000) at.now.time records.old) }
+    ensures sent { IfOk result (λ o. at.now.tells ≡ true → o.sent ≡ sendings_at (unwrap_or at.now.interval 60000) at.now.time records.old) }
     ensures samples { (founds : List Found) → IfOk result (λ o. o.samples ≡ rule_samples_by true at.now.waits founds records.new) }
 {
-    let sent = send_due(at.alloc, records, interval_of(at.interval), at.time)?;
+    let sent = send_due(at, records, interval_of(at.interval))?;
     Ok(Offered {
         samples: alert_samples(at, records)?,
         sent: Items::new(sent),
@@ -90,7 +91,7 @@ fn alerted(
 ) -> Result<Offered, RuleError>
     ensures { (s : Settings) (g : Group) (r : RuleState) (history : List Entry) → IsEvaluationOf at.now.step at.now.external.now at.now.limit at.now.interval at.now.waits s g
         → rule_of_def rule.now ≡ r.rule → r.rule.alert ≡ true → StandsFor records.old r.lineage → FoundsRise founds.items → rule_result s g.limit r.rule history at.now.time ≡ Ok founds.items
-        → Offers (rule_outcome s g r history at.now.time) records.new g r at.now.time result }
+        → Offers at.now.tells (rule_outcome s g r history at.now.time) records.new g r at.now.time result }
 {
     what_is_sent_is_marked();
     records_of_a_lineage_stand_for_it();
@@ -118,7 +119,7 @@ pub(crate) fn offer(
 ) -> Result<Offered, RuleError>
     ensures { (s : Settings) (g : Group) (r : RuleState) (history : List Entry) → IsEvaluationOf at.now.step at.now.external.now at.now.limit at.now.interval at.now.waits s g
         → rule_of_def rule.now ≡ r.rule → (r.rule.alert ≡ true → StandsFor records.old r.lineage) → FoundsRise founds.items → rule_result s g.limit r.rule history at.now.time ≡ Ok founds.items
-        → Offers (rule_outcome s g r history at.now.time) records.new g r at.now.time result }
+        → Offers at.now.tells (rule_outcome s g r history at.now.time) records.new g r at.now.time result }
 {
     if rule.alert {
         return alerted(at, rule, records, founds);

@@ -72,7 +72,7 @@ pub(crate) fn outcome<R: Ranges, G: Ledger>(
     ensures offers { (s : Settings) (g : Group) (r : RuleState) (history : List Entry) → IsEvaluationOf at.now.step at.now.external.now at.now.limit at.now.interval at.now.waits s g
         → rule_of_def rule.now ≡ r.rule → IsTemplatesOf templates.now r.rule → (r.rule.alert ≡ true → StandsFor records.old r.lineage)
         → MayBegin head.now history (tree_of rule.now.expr) at.now.time (R.fits ranges.old history) (R.last ranges.old)
-        → Offers (rule_outcome s g r history at.now.time) records.new g r at.now.time result }
+        → Offers at.now.tells (rule_outcome s g r history at.now.time) records.new g r at.now.time result }
     ensures reads { (history : List Entry) → MayBegin head.now history (tree_of rule.now.expr) at.now.time (R.fits ranges.old history) (R.last ranges.old)
         → reads.new ≤ reads.old + cost at.now.step history (passed_outside false history (R.passed ranges.old)) (tree_of rule.now.expr) 0 at.now.time }
     ensures fits { (history : List Entry) → MayBegin head.now history (tree_of rule.now.expr) at.now.time (R.fits ranges.old history) (R.last ranges.old)

@@ -69,7 +69,8 @@ impl<R: Ranges> Remembered<R> {
     /// Evaluates the rule over a head: its samples are put, and a marker for each series that it
     /// wrote last and now not; its alerts go on, and what is due of them is sent. A fault puts
     /// nothing, marks nothing and sends nothing; where it is that the alerts are more than the
-    /// limit, they are forgotten. (Prometheus: Recording rules, Alerting rules.)
+    /// limit, they are forgotten. Where the evaluation is not told, all is done all the same, but
+    /// nothing is said of the rows and of the answer. (Prometheus: Recording rules, Alerting rules.)
     ///
     /// # Errors
     /// Want of memory: then nothing is said of what is remembered, and it is used no more.
@@ -85,7 +86,7 @@ impl<R: Ranges> Remembered<R> {
         ensures steps { (s : Settings) (g : Group) (r : RuleState) (history : List Entry) → IsEvaluationOf at.now.step at.now.external.now at.now.limit at.now.interval at.now.waits s g
             → StandsForRule self.old.templates self.old.previous self.old.records (rule_of_def rule.now) r → Holds head.old history
             → MayBegin head.old history (tree_of rule.now.expr) at.now.time (R.fits self.old.ranges history) (R.last self.old.ranges)
-            → IfOk result (λ report. HasStepped head.old head.new rows.old.items rows.new.items report history (rule_step s g r history at.now.time)) }
+            → IfOk result (λ report. HasStepped at.now.tells head.old head.new rows.old.items rows.new.items report history (rule_step s g r history at.now.time)) }
         ensures stands { (s : Settings) (g : Group) (r : RuleState) (history : List Entry) → IsEvaluationOf at.now.step at.now.external.now at.now.limit at.now.interval at.now.waits s g
             → StandsForRule self.old.templates self.old.previous self.old.records (rule_of_def rule.now) r → Holds head.old history
             → MayBegin head.old history (tree_of rule.now.expr) at.now.time (R.fits self.old.ranges history) (R.last self.old.ranges)
@@ -107,7 +108,7 @@ impl<R: Ranges> Remembered<R> {
             &mut self.ranges,
             reads,
         ) {
-            Ok(offered) => tell(at.alloc, head, rows, &mut self.previous, at.time, offered),
+            Ok(offered) => tell(at, head, rows, &mut self.previous, offered),
             Err(RuleError::Failed { failure }) => Ok(failed(at.alloc, failure)),
             Err(RuleError::Memory) => Err(AllocError),
         }

@@ -1,14 +1,15 @@
 // The samples of a rule are put, and what becomes of each is told.
-ghost use Rattle.std.specs.Prelude.{◌≡◌, ◌++◌, ◌∷◌, [], cond, List, IfOk, OnOk};
+ghost use Rattle.std.specs.Prelude.{◌≡◌, ◌++◌, ◌∷◌, [], true, cond, List, IfOk, OnOk};
 ghost use Rattle.pr_history.specs.declared.entry.Entry.{Entry};
 ghost use Rattle.pr_head.specs.Holds.{Holds};
 ghost use Rattle.pr_puts.specs.Puts.{is_shown};
 ghost use Rattle.pr_rules.specs.Evaluations.{sample_entry, put_of};
 ghost use Rattle.pr_rule_step.specs.Written.{Writes};
 
+use crate::evaluation::Evaluation;
 use pr_head::Head;
 use pr_history::{Append, Entry};
-use pr_intake::{is_shown, put};
+use pr_intake::{is_shown, put_if};
 use pr_labels::{Item, Labels};
 use pr_num::{Num, Point};
 use pr_rules::Put;
@@ -41,58 +42,59 @@ fn note_shown(
     Ok(())
 }
 
-// Notes what became of a sample.
+// Notes what became of a sample, where that is told.
 fn note_told(
-    alloc: Global,
+    at: &Evaluation<'_>,
     told: &mut Vec<Put>,
     item: &Item<Num>,
     answer: Append,
 ) -> Result<(), AllocError>
-    ensures { OnOk result (told.new.items ≡ told.old.items ++ put_of (item.now, answer) ∷ []) }
+    ensures { OnOk result (at.now.tells ≡ true → told.new.items ≡ told.old.items ++ put_of (item.now, answer) ∷ []) }
 {
-    told.push(Put {
-        labels: item.labels.copy(alloc)?,
-        value: item.value,
-        append: answer,
-    })?;
+    if at.tells {
+        told.push(Put {
+            labels: item.labels.copy(at.alloc)?,
+            value: item.value,
+            append: answer,
+        })?;
+    }
     Ok(())
 }
 
 // Puts a sample.
 fn put_sample(
-    alloc: Global,
+    at: &Evaluation<'_>,
     head: &mut Head,
     rows: &mut Vec<Entry>,
     told: &mut Vec<Put>,
     wrote: &mut Vec<Labels>,
-    now: Ms,
     item: &Item<Num>,
 ) -> Result<(), AllocError>
     ensures { (history : List Entry) → Holds head.old history
-        → OnOk result (Writes head.old head.new rows.old.items rows.new.items told.old.items told.new.items wrote.old.items wrote.new.items history now (item.now ∷ [])) }
+        → OnOk result (Writes at.now.tells head.old head.new rows.old.items rows.new.items told.old.items told.new.items wrote.old.items wrote.new.items history at.now.time (item.now ∷ [])) }
 {
-    let entry = sample_entry(alloc, now, item)?;
-    let answer = put(head, rows, entry)?;
-    note_shown(alloc, wrote, item, &answer)?;
-    note_told(alloc, told, item, answer)
+    let entry = sample_entry(at.alloc, at.time, item)?;
+    let answer = put_if(at.tells, head, rows, entry)?;
+    note_shown(at.alloc, wrote, item, &answer)?;
+    note_told(at, told, item, answer)
 }
 
-/// Puts samples in order: into the head, behind the rows where they are added, and behind what is
-/// told. The series that show them are put behind those that were written.
+/// Puts samples in order into the head. The series that show them are put behind those that were
+/// written. Where that is told, the samples that are added stand behind the rows, and what becomes
+/// of each behind what is told.
 pub(crate) fn put_samples(
-    alloc: Global,
+    at: &Evaluation<'_>,
     head: &mut Head,
     rows: &mut Vec<Entry>,
     told: &mut Vec<Put>,
     wrote: &mut Vec<Labels>,
-    now: Ms,
     items: &[Item<Num>],
 ) -> Result<(), AllocError>
     ensures { (history : List Entry) → Holds head.old history
-        → OnOk result (Writes head.old head.new rows.old.items rows.new.items told.old.items told.new.items wrote.old.items wrote.new.items history now items.now) }
+        → OnOk result (Writes at.now.tells head.old head.new rows.old.items rows.new.items told.old.items told.new.items wrote.old.items wrote.new.items history at.now.time items.now) }
 {
     for item in items {
-        put_sample(alloc, head, rows, told, wrote, now, item)?;
+        put_sample(at, head, rows, told, wrote, item)?;
     }
     Ok(())
 }

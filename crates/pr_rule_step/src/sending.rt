@@ -1,11 +1,12 @@
 // What is sent of alerts. (Prometheus: rules/alerting.go, sendAlerts.)
-ghost use Rattle.std.specs.Prelude.{◌≡◌, ◌<◌, ◌≤◌, ◌^◌, ◌++◌, ◌∷◌, [], length, map, max, slice_get, slice_set, unwrap_or, Some, IfOk, OnOk};
+ghost use Rattle.std.specs.Prelude.{◌≡◌, true, ◌<◌, ◌≤◌, ◌^◌, ◌++◌, ◌∷◌, [], length, map, max, slice_get, slice_set, unwrap_or, Some, IfOk, OnOk};
 ghost use Rattle.pr_lineage.specs.declared.record.Record.{Record};
 ghost use Rattle.pr_lineage.specs.Records.{ends_at, is_firing, sending_of, sendings_at};
 ghost use Rattle.pr_alert.specs.Standing.{marked_if};
 
-use crate::copies::copies_of;
+use crate::evaluation::Evaluation;
 use pr_alert::Records;
+use pr_labels::copy_pairs;
 use pr_lineage::{Record, Sending, State};
 use pr_time::{Ms, Span};
 use pr_words::Items;
@@ -18,12 +19,6 @@ const RESEND_DELAY: u64 = 60_000;
 /// How often a group is evaluated that does not say so, in milliseconds. (Prometheus:
 /// Configuration, evaluation_interval.)
 const DEFAULT_INTERVAL: u64 = 60_000;
-
-fn greater(a: u64, b: u64) -> u64
-    ensures { result ≡ max a b }
-{
-    if a < b { b } else { a }
-}
 
 /// How often a group is evaluated, in milliseconds.
 pub(crate) fn interval_of(interval: Option<Span>) -> u64
@@ -42,7 +37,7 @@ fn ends_at(resolved: Option<Ms>, interval: u64, now: Ms) -> u64
     ensures { result ≡ ends_at resolved interval now }
 {
     match resolved {
-        None => now.get() + 4 * greater(RESEND_DELAY, interval),
+        None => now.get() + 4 * RESEND_DELAY.max(interval),
         Some(at) => at.get(),
     }
 }
@@ -77,47 +72,61 @@ fn sending_of(alloc: Global, interval: u64, now: Ms, r: &Record) -> Result<Sendi
         value: r.value,
         starts: starts_at(r.fired),
         ends: ends_at(r.resolved, interval, now),
-        notes: Items::new(copies_of(alloc, r.notes.as_slice())?),
+        notes: Items::new(copy_pairs(alloc, r.notes.as_slice())?),
     })
+}
+
+// Makes the notification of an alert, where it is told.
+fn note_sending(
+    at: &Evaluation<'_>,
+    sent: &mut Vec<Sending>,
+    interval: u64,
+    r: &Record,
+) -> Result<(), AllocError>
+    requires { interval ≤ 2 ^ 40 }
+    ensures { OnOk result (at.now.tells ≡ true → sent.new.items ≡ sent.old.items ++ sending_of interval at.now.time r.now ∷ []) }
+{
+    if at.tells {
+        sent.push(sending_of(at.alloc, interval, at.time, r)?)?;
+    }
+    Ok(())
 }
 
 // Sends the alert of a record where it is due, and marks it then.
 fn send_if_due(
-    alloc: Global,
+    at: &Evaluation<'_>,
     records: &mut Records,
     sent: &mut Vec<Sending>,
     index: usize,
     interval: u64,
-    now: Ms,
 ) -> Result<(), AllocError>
     requires in_range { index < length records.old }
     requires small { interval ≤ 2 ^ 40 }
-    ensures sent { (r : Record) → slice_get records.old index ≡ Some r → OnOk result (sent.new.items ≡ sent.old.items ++ sendings_at interval now (r ∷ [])) }
-    ensures marked { (r : Record) → slice_get records.old index ≡ Some r → OnOk result (records.new ≡ slice_set records.old index (marked_if now r)) }
+    ensures sent { (r : Record) → slice_get records.old index ≡ Some r → OnOk result (at.now.tells ≡ true → sent.new.items ≡ sent.old.items ++ sendings_at interval at.now.time (r ∷ [])) }
+    ensures marked { (r : Record) → slice_get records.old index ≡ Some r → OnOk result (records.new ≡ slice_set records.old index (marked_if at.now.time r)) }
 {
-    if !records.due(index, now) {
+    if !records.due(index, at.time) {
         return Ok(());
     }
-    sent.push(sending_of(alloc, interval, now, &records.list()[index])?)?;
-    records.mark_sent(index, now);
+    note_sending(at, sent, interval, &records.list()[index])?;
+    records.mark_sent(index, at.time);
     Ok(())
 }
 
-/// Sends the alerts that are due at a time, in label order, and marks each. The interval is that
-/// of the group, in milliseconds.
+/// Sends the alerts that are due in an evaluation, in label order, and marks each. The interval is
+/// that of the group, in milliseconds. Where nothing is told the alerts are marked alone.
 pub(crate) fn send_due(
-    alloc: Global,
+    at: &Evaluation<'_>,
     records: &mut Records,
     interval: u64,
-    now: Ms,
 ) -> Result<Vec<Sending>, AllocError>
     requires { interval ≤ 2 ^ 40 }
-    ensures sent { IfOk result (λ v. v.items ≡ sendings_at interval now records.old) }
-    ensures marked { OnOk result (records.new ≡ map (marked_if now) records.old) }
+    ensures sent { IfOk result (λ v. at.now.tells ≡ true → v.items ≡ sendings_at interval at.now.time records.old) }
+    ensures marked { OnOk result (records.new ≡ map (marked_if at.now.time) records.old) }
 {
-    let mut sent = Vec::new(alloc);
+    let mut sent = Vec::new(at.alloc);
     for index in 0..records.list().len() {
-        send_if_due(alloc, records, &mut sent, index, interval, now)?;
+        send_if_due(at, records, &mut sent, index, interval)?;
     }
     Ok(sent)
 }

@@ -12,19 +12,19 @@ ghost use Rattle.pr_rule_step.specs.Outcomes.{IsOffered};
 ghost use Rattle.pr_rule_step.specs.Standing.{HasStepped};
 ghost use Rattle.pr_rule_step.specs.Written.{HasWritten};
 
+use crate::evaluation::Evaluation;
 use crate::offered::Offered;
 use crate::samples::put_samples;
 use pr_head::Head;
 use pr_history::Entry;
-use pr_intake::mark;
+use pr_intake::mark_if;
 use pr_labels::{Item, Labels};
 use pr_num::Num;
 use pr_rules::{Put, RuleFailure, RuleOutcome, RuleReport};
-use pr_time::Ms;
 use pr_words::Items;
 use std::alloc::{AllocError, Global};
 
-// What became of the samples of a rule, and the series that got a marker.
+// What is told of the samples of a rule, and of the series that got a marker.
 #[derive(Drop)]
 struct Written {
     told: Items<Put>,
@@ -33,20 +33,27 @@ struct Written {
 
 // Puts the samples of a rule, and then a marker for each series that it wrote last and now not.
 fn write(
-    alloc: Global,
+    at: &Evaluation<'_>,
     head: &mut Head,
     rows: &mut Vec<Entry>,
     last: &mut Items<Labels>,
-    now: Ms,
     items: &[Item<Num>],
 ) -> Result<Written, AllocError>
     ensures { (history : List Entry) → Holds head.old history
-        → IfOk result (λ w. HasWritten head.old head.new rows.old.items rows.new.items last.old last.new w.told w.stale history now items.now) }
+        → IfOk result (λ w. HasWritten at.now.tells head.old head.new rows.old.items rows.new.items last.old last.new w.told w.stale history at.now.time items.now) }
 {
-    let mut told = Vec::new(alloc);
-    let mut wrote = Vec::new(alloc);
-    put_samples(alloc, head, rows, &mut told, &mut wrote, now, items)?;
-    let stale = mark(alloc, head, rows, now, last.as_slice(), &wrote)?;
+    let mut told = Vec::new(at.alloc);
+    let mut wrote = Vec::new(at.alloc);
+    put_samples(at, head, rows, &mut told, &mut wrote, items)?;
+    let stale = mark_if(
+        at.alloc,
+        at.tells,
+        head,
+        rows,
+        at.time,
+        last.as_slice(),
+        &wrote,
+    )?;
     *last = Items::new(wrote);
     Ok(Written {
         told: Items::new(told),
@@ -54,22 +61,21 @@ fn write(
     })
 }
 
-/// Puts what a rule comes to, and tells it. The series that it wrote last are now those that show
-/// its samples.
+/// Puts what a rule comes to, and answers what is told of it. The series that it wrote last are now
+/// those that show its samples.
 pub(crate) fn tell(
-    alloc: Global,
+    at: &Evaluation<'_>,
     head: &mut Head,
     rows: &mut Vec<Entry>,
     last: &mut Items<Labels>,
-    now: Ms,
     offered: Offered,
 ) -> Result<RuleReport, AllocError>
-    ensures steps { (history : List Entry) (g : Group) (r : RuleState) (founds : List Found) (alerts : List Record) → Holds head.old history → last.old ≡ previous r.lineage → IsOffered offered alerts g r now founds
-        → IfOk result (λ report. HasStepped head.old head.new rows.old.items rows.new.items report history (fine_step g r now founds history (rule_samples g r now founds))) }
-    ensures wrote { (history : List Entry) (g : Group) (r : RuleState) (founds : List Found) (alerts : List Record) → Holds head.old history → last.old ≡ previous r.lineage → IsOffered offered alerts g r now founds
-        → OnOk result (last.new ≡ previous (fine_step g r now founds history (rule_samples g r now founds)).lineage) }
+    ensures steps { (history : List Entry) (g : Group) (r : RuleState) (founds : List Found) (alerts : List Record) → Holds head.old history → last.old ≡ previous r.lineage → IsOffered at.now.tells offered alerts g r at.now.time founds
+        → IfOk result (λ report. HasStepped at.now.tells head.old head.new rows.old.items rows.new.items report history (fine_step g r at.now.time founds history (rule_samples g r at.now.time founds))) }
+    ensures wrote { (history : List Entry) (g : Group) (r : RuleState) (founds : List Found) (alerts : List Record) → Holds head.old history → last.old ≡ previous r.lineage → IsOffered at.now.tells offered alerts g r at.now.time founds
+        → OnOk result (last.new ≡ previous (fine_step g r at.now.time founds history (rule_samples g r at.now.time founds)).lineage) }
 {
-    let written = write(alloc, head, rows, last, now, offered.samples.as_slice())?;
+    let written = write(at, head, rows, last, offered.samples.as_slice())?;
     Ok(RuleReport {
         outcome: RuleOutcome::Fine,
         samples: written.told,

@@ -23,7 +23,7 @@ use std::alloc::{AllocError, Global};
 use std::marker::Brand;
 use std::sync::ledger::{Blank, Ledger};
 
-// Its reads are counted for the proofs alone.
+// Nothing is told of it, and its reads are counted for the proofs alone.
 fn evaluate<G: Ledger, R: Ranges + Drop>(
     alloc: Global,
     group: &mut GroupOver<R>,
@@ -41,10 +41,7 @@ fn evaluate<G: Ledger, R: Ranges + Drop>(
     ensures settings { OnOk result (settings_of group.new ≡ settings_of group.old) }
 {
     let mut reads: Steps<G> = Steps::new(blank);
-    match group.evaluate(alloc, time, head, &mut reads) {
-        Ok(_report) => Ok(()),
-        Err(error) => Err(error),
-    }
+    group.evaluate_untold(alloc, time, head, &mut reads)
 }
 
 // The group with a number is evaluated.

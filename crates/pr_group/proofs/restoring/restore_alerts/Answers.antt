@@ -45,11 +45,11 @@ loop-index-preserved g c =
       stands = λ history lineage over st.
           stands_next c.a_restored_record_is_moved.ensures.as_one history hold now lineage rs new.records i there.0 c.in_ok-restored.restored there.1
           (c.in_ok-restored.ensures.restored history (lineage ++ moved (restored_until history hold now rs i) ∷ []) there.0 over (inv.stands history lineage over st) here);
-      told = λ history lineage over st.
+      told = λ history lineage over st read.
           told_next history hold now (lineage ++ moved (restored_until history hold now rs i) ∷ []) rs new.records i there.0 c.in_ok-restored.restored c.args.list.now.items c.loop-index.list.items c.note.new.list.items there.1
-          (inv.told history lineage over st)
+          (inv.told history lineage over st read)
           (c.in_ok-restored.ensures.restored history (lineage ++ moved (restored_until history hold now rs i) ∷ []) there.0 over (inv.stands history lineage over st) here)
-          c.in_ok-note.ensures;
+          (c.in_ok-note.ensures read);
     }
 
 pub returns-clause-stands : goal.returns-clause-stands
@@ -59,7 +59,7 @@ returns-clause-stands g c = λ history lineage over st.
     subst (λ (l : List Restored). StandsFor c.loop-index.kept.records (lineage ++ moved l ∷ [])) (until_all history c.args.hold c.args.now rs c.loop-index.index all) (c.loop-index.invariant.stands history lineage over st)
 
 pub returns-clause-told : goal.returns-clause-told
-returns-clause-told g c = λ history lineage over st.
+returns-clause-told g c = λ history lineage over st read.
     let rs = c.args.kept.now.records in
     let all : c.loop-index.index ≡ length rs = omega (arith, ap length (c.list-index-end.ensures ∙ c.records.ensures)) in
-    c.loop-index.invariant.told history lineage over st ∙ ap (λ (l : List Restored). c.args.list.now.items ++ l) (until_all history c.args.hold c.args.now rs c.loop-index.index all)
+    c.loop-index.invariant.told history lineage over st read ∙ ap (λ (l : List Restored). c.args.list.now.items ++ l) (until_all history c.args.hold c.args.now rs c.loop-index.index all)

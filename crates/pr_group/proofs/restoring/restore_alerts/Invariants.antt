@@ -1,4 +1,4 @@
-use Rattle.std.proofs.Common.{◌≡◌, ℕ, ◌+◌, ◌≤◌, ◌++◌, ◌∷◌, [], List, length, slice_get, take}
+use Rattle.std.proofs.Common.{◌≡◌, ℕ, true, ◌+◌, ◌≤◌, ◌++◌, ◌∷◌, [], List, length, slice_get, take}
 use Rattle.pr_history.specs.declared.entry.Entry.{Entry}
 use Rattle.pr_lineage.specs.Lineage.{Step, moved}
 use Rattle.pr_lineage.specs.Records.{living_count}
@@ -17,5 +17,5 @@ invariant-loop-index g l = record {
   stands : (history : List Entry) (lineage : List Step) → MayEvaluateOver l.head history l.now → StandsFor l.fn.kept.records lineage
       → StandsFor l.kept.records (lineage ++ moved (restored_until history l.hold l.now l.fn.kept.records l.index) ∷ []);
   told : (history : List Entry) (lineage : List Step) → MayEvaluateOver l.head history l.now → StandsFor l.fn.kept.records lineage
-      → l.list.items ≡ l.fn.list.items ++ restored_until history l.hold l.now l.fn.kept.records l.index;
+      → l.tells ≡ true → l.list.items ≡ l.fn.list.items ++ restored_until history l.hold l.now l.fn.kept.records l.index;
 }

@@ -11,7 +11,7 @@ returns-then-not-is_due-clause-stands g c = λ history r over h.
     (short_of c.args.code.now.alert c.args.code.now.hold c.is_due.result c.is_due.ensures c.if-not-is_due.true)
 
 pub returns-then-not-is_due-clause-told : goal.returns-then-not-is_due-clause-told
-returns-then-not-is_due-clause-told g c = λ history r over h.
+returns-then-not-is_due-clause-told g c = λ history r over h read.
     undue_told history c.args.now (rule_of_def c.args.code.now) r c.args.list.now.items h.rule
     (short_of c.args.code.now.alert c.args.code.now.hold c.is_due.result c.is_due.ensures c.if-not-is_due.true)
 
@@ -41,10 +41,10 @@ returns-clause-stands g c = λ history r over h.
     (due_stands history c.args.now code r k.templates k.previous k.records c.restore_alerts.new.kept.records h all held.0 held.1 (c.in_ok-restore_alerts.ensures.stands history r.lineage over mine))
 
 pub returns-clause-told : goal.returns-clause-told
-returns-clause-told g c = λ history r over h.
+returns-clause-told g c = λ history r over h read.
     let k = c.args.kept.now in
     let code = rule_of_def c.args.code.now in
     let held = held_of c.args.code.now.alert c.args.code.now.hold c.is_due.result c.is_due.ensures c.if-not-is_due.false in
     let mine = h.records (ap (λ (x : Rule). x.alert) (sym h.rule) ∙ held.0) in
     let all = c.records_of_a_lineage_stand_for_it.ensures.alone k.records r.lineage mine in
-    c.in_ok-restore_alerts.ensures.told history r.lineage over mine ∙ ap (λ (l : List Restored). c.args.list.now.items ++ l) (due_told history c.args.now code r k.records h.rule all held.0 held.1)
+    c.in_ok-restore_alerts.ensures.told history r.lineage over mine read ∙ ap (λ (l : List Restored). c.args.list.now.items ++ l) (due_told history c.args.now code r k.records h.rule all held.0 held.1)

@@ -45,7 +45,7 @@ loop-index-preserved g c =
       many = length-set c.loop-index.rules.items i m' ∙ c.loop-index.invariant.many;
       come = λ history until rs over size was.
           let r = place_there rs i (subst (λ (k : ℕ). i < k) size c.loop-index-test.true) in
-          restored_then R.fits R.last R.passed history c.args.now until c.args.codes.now rs i code r.0 m m' c.args.rules.now.items c.loop-index.rules.items c.loop-index.list.items c.restore_rule.new.list.items ec r.1 em was
+          restored_then c.args.tells R.fits R.last R.passed history c.args.now until c.args.codes.now rs i code r.0 m m' c.args.rules.now.items c.loop-index.rules.items c.loop-index.list.items c.restore_rule.new.list.items ec r.1 em was
           (c.loop-index.invariant.come history until rs over size was) c.restore_rule.ensures.rest
           (λ st. c.in_ok-restore_rule.ensures.stands history r.0 over st) (λ st. c.in_ok-restore_rule.ensures.told history r.0 over st);
       reads = λ history until rs over size was.
@@ -59,13 +59,13 @@ pub returns-clause-kept : goal.returns-clause-kept
 returns-clause-kept g c = λ history until rs over size was.
     let R = g.R.Ranges in
     let all : c.loop-index.index ≡ length c.args.codes.now = omega arith in
-    all_restored R.fits R.last R.passed history c.args.now until c.args.codes.now rs c.loop-index.index c.args.rules.now.items c.loop-index.rules.items c.loop-index.list.items (all ∙ size) (c.loop-index.invariant.come history until rs over size was)
+    all_restored c.args.tells R.fits R.last R.passed history c.args.now until c.args.codes.now rs c.loop-index.index c.args.rules.now.items c.loop-index.rules.items c.loop-index.list.items (all ∙ size) (c.loop-index.invariant.come history until rs over size was)
 
 pub returns-clause-told : goal.returns-clause-told
 returns-clause-told g c = λ history until rs over size was.
     let R = g.R.Ranges in
     let all : c.loop-index.index ≡ length c.args.codes.now = omega arith in
-    all_told R.fits R.last R.passed history c.args.now until c.args.codes.now rs c.loop-index.index c.args.rules.now.items c.loop-index.rules.items c.loop-index.list.items (all ∙ size) (c.loop-index.invariant.come history until rs over size was)
+    all_told c.args.tells R.fits R.last R.passed history c.args.now until c.args.codes.now rs c.loop-index.index c.args.rules.now.items c.loop-index.rules.items c.loop-index.list.items (all ∙ size) (c.loop-index.invariant.come history until rs over size was)
 
 pub returns-clause-reads : goal.returns-clause-reads
 returns-clause-reads g c = λ history until rs over size was.

@@ -13,7 +13,7 @@ invariant-loop-index g l = record {
   ranges : ranges_of l.rules.items ≡ ranges_of l.fn.rules.items;
   many : length l.rules.items ≡ length l.fn.rules.items;
   come : (history : List Entry) (until : Option ℕ) (rs : List RuleState) → MayEvaluateOver l.head history l.now → length l.codes ≡ length rs → AreKept g.R.Ranges.fits g.R.Ranges.last g.R.Ranges.passed history until l.codes l.fn.rules.items rs
-      → HaveRestored g.R.Ranges.fits g.R.Ranges.last g.R.Ranges.passed history l.now until l.codes l.fn.rules.items l.rules.items rs l.list.items l.index;
+      → HaveRestored l.tells g.R.Ranges.fits g.R.Ranges.last g.R.Ranges.passed history l.now until l.codes l.fn.rules.items l.rules.items rs l.list.items l.index;
   reads : (history : List Entry) (until : Option ℕ) (rs : List RuleState) → MayEvaluateOver l.head history l.now → length l.codes ≡ length rs → AreKept g.R.Ranges.fits g.R.Ranges.last g.R.Ranges.passed history until l.codes l.fn.rules.items rs
       → l.reads ≤ l.fn.reads + sum_by restored_reads (take l.index rs);
 }

@@ -10,7 +10,7 @@ returns-clause-done g c = λ s group r history until is over early kept.
     let at = c.args.at.now in
     let R = g.R.Ranges in
     let may = may_begin c.args.head.now history (tree_of c.args.code.now.expr) at.time (R.fits c.args.kept.now.ranges history) (R.last c.args.kept.now.ranges) until over c.expr-checked.ensures.checked kept.truly kept.asked early in
-    rule_done_if c.evaluate.result R.fits R.last R.passed R.keeps g.met.R.Ranges.stays at.step s group r history at.time until c.args.code.now c.args.kept.now c.evaluate.new.self c.args.head.now c.evaluate.new.head c.args.rows.now.items c.evaluate.new.rows.items
+    rule_done_if c.evaluate.result R.fits R.last R.passed R.keeps at.tells g.met.R.Ranges.stays at.step s group r history at.time until c.args.code.now c.args.kept.now c.evaluate.new.self c.args.head.now c.evaluate.new.head c.args.rows.now.items c.evaluate.new.rows.items
     is.step over early kept
     (c.evaluate.ensures.steps s group r history is kept.stands over.holds may)
     (c.evaluate.ensures.stands s group r history is kept.stands over.holds may)

@@ -14,7 +14,7 @@ within_rules codes before now i low same many = omega arith
 pub loop-index-init : goal.loop-index-init
 loop-index-init g c = record {
   many = refl;
-  come = λ s group history until may. come_none g.R.Ranges.fits g.R.Ranges.last g.R.Ranges.passed g.R.Ranges.keeps s group history c.args.at.now.time c.args.codes.now c.args.rules.now.items c.args.head.now c.args.rows.now.items c.new-told.result.items may.over.holds c.new-told.ensures.items;
+  come = λ s group history until may. come_none g.R.Ranges.fits g.R.Ranges.last g.R.Ranges.passed g.R.Ranges.keeps c.args.at.now.tells s group history c.args.at.now.time c.args.codes.now c.args.rules.now.items c.args.head.now c.args.rows.now.items c.new-told.result.items may.over.holds c.new-told.ensures.items;
   reads = λ s group history until may. omega arith;
 }
 
@@ -33,22 +33,20 @@ loop-index-preserved g c =
       come = λ s group history until may.
           let h = c.loop-index.invariant.come s group history until may in
           let p = come_to s group history at.time i in
-          subst (λ (l : List RuleReport). HasCome R.fits R.last R.passed R.keeps s group history at.time c.args.codes.now c.args.rules.now.items (set c.loop-index.rules.items i m') c.args.head.now c.evaluate_rule.new.head c.args.rows.now.items c.evaluate_rule.new.rows.items l (i + 1) (come_to s group history at.time (i + 1)))
-          (sym c.in_ok-push.ensures.items)
-          (rules_then R.fits R.last R.passed R.keeps g.met.R.Ranges.stays at.step at.external.now at.limit at.interval at.waits s group c.args.head.now history at.time until c.args.codes.now c.args.rules.now.items may i code m c.loop-index.rules.items c.loop-index.head c.args.rows.now.items c.loop-index.rows.items c.loop-index.told.items ec em h
-          m' c.evaluate_rule.new.head c.evaluate_rule.new.rows.items c.in_ok-evaluate_rule.field-0
-          (λ r over kept. c.in_ok-evaluate_rule.ensures.done s group r p.history until may.evaluation over may.early kept));
+          rules_then R.fits R.last R.passed R.keeps at.tells g.met.R.Ranges.stays at.step at.external.now at.limit at.interval at.waits s group c.args.head.now history at.time until c.args.codes.now c.args.rules.now.items may i code m c.loop-index.rules.items c.loop-index.head c.args.rows.now.items c.loop-index.rows.items c.loop-index.told.items ec em h
+          m' c.evaluate_rule.new.head c.evaluate_rule.new.rows.items c.note_report.new.told.items c.in_ok-report.report c.in_ok-note_report.ensures
+          (λ r over kept. c.in_ok-report.ensures.done s group r p.history until may.evaluation over may.early kept);
       reads = λ s group history until may.
           let h = c.loop-index.invariant.come s group history until may in
           let p = come_to s group history at.time i in
-          rules_read R.fits R.last R.passed R.keeps g.met.R.Ranges.stays at.step at.external.now at.limit at.interval at.waits s group c.args.head.now history at.time until c.args.codes.now c.args.rules.now.items may i code m c.loop-index.rules.items c.loop-index.head c.args.rows.now.items c.loop-index.rows.items c.loop-index.told.items ec em h
+          rules_read R.fits R.last R.passed R.keeps at.tells g.met.R.Ranges.stays at.step at.external.now at.limit at.interval at.waits s group c.args.head.now history at.time until c.args.codes.now c.args.rules.now.items may i code m c.loop-index.rules.items c.loop-index.head c.args.rows.now.items c.loop-index.rows.items c.loop-index.told.items ec em h
           c.loop-index.reads c.evaluate_rule.new.reads (c.args.reads.now + rules_cost s group at.time (passed_of R.passed history c.args.rules.now.items) 0 group.rules (come_to s group history at.time 0))
           (c.loop-index.invariant.reads s group history until may)
           (λ r over kept. c.evaluate_rule.ensures.reads s group r p.history until may.evaluation over may.early kept);
     }
 
-pub returns-in_err-evaluate_rule-clause-reads : goal.returns-in_err-evaluate_rule-clause-reads
-returns-in_err-evaluate_rule-clause-reads g c = λ s group history until may.
+pub returns-in_err-report-clause-reads : goal.returns-in_err-report-clause-reads
+returns-in_err-report-clause-reads g c = λ s group history until may.
     let R = g.R.Ranges in
     let at = c.args.at.now in
     let i = c.loop-index.index in
@@ -60,14 +58,14 @@ returns-in_err-evaluate_rule-clause-reads g c = λ s group history until may.
     let p = come_to s group history at.time i in
     let total = c.args.reads.now + rules_cost s group at.time (passed_of R.passed history c.args.rules.now.items) 0 group.rules (come_to s group history at.time 0) in
     let all : c.evaluate_rule.new.reads + rules_cost s group at.time (passed_of R.passed history c.args.rules.now.items) (i + 1) (drop (i + 1) group.rules) (come_to s group history at.time (i + 1)) ≤ total =
-    rules_read R.fits R.last R.passed R.keeps g.met.R.Ranges.stays at.step at.external.now at.limit at.interval at.waits s group c.args.head.now history at.time until c.args.codes.now c.args.rules.now.items may i code m c.loop-index.rules.items c.loop-index.head c.args.rows.now.items c.loop-index.rows.items c.loop-index.told.items ec em h
+    rules_read R.fits R.last R.passed R.keeps at.tells g.met.R.Ranges.stays at.step at.external.now at.limit at.interval at.waits s group c.args.head.now history at.time until c.args.codes.now c.args.rules.now.items may i code m c.loop-index.rules.items c.loop-index.head c.args.rows.now.items c.loop-index.rows.items c.loop-index.told.items ec em h
     c.loop-index.reads c.evaluate_rule.new.reads total
     (c.loop-index.invariant.reads s group history until may)
     (λ r over kept. c.evaluate_rule.ensures.reads s group r p.history until may.evaluation over may.early kept) in
     omega arith
 
-pub returns-in_err-push-clause-reads : goal.returns-in_err-push-clause-reads
-returns-in_err-push-clause-reads g c = λ s group history until may.
+pub returns-in_err-note_report-clause-reads : goal.returns-in_err-note_report-clause-reads
+returns-in_err-note_report-clause-reads g c = λ s group history until may.
     let R = g.R.Ranges in
     let at = c.args.at.now in
     let i = c.loop-index.index in
@@ -79,7 +77,7 @@ returns-in_err-push-clause-reads g c = λ s group history until may.
     let p = come_to s group history at.time i in
     let total = c.args.reads.now + rules_cost s group at.time (passed_of R.passed history c.args.rules.now.items) 0 group.rules (come_to s group history at.time 0) in
     let all : c.evaluate_rule.new.reads + rules_cost s group at.time (passed_of R.passed history c.args.rules.now.items) (i + 1) (drop (i + 1) group.rules) (come_to s group history at.time (i + 1)) ≤ total =
-    rules_read R.fits R.last R.passed R.keeps g.met.R.Ranges.stays at.step at.external.now at.limit at.interval at.waits s group c.args.head.now history at.time until c.args.codes.now c.args.rules.now.items may i code m c.loop-index.rules.items c.loop-index.head c.args.rows.now.items c.loop-index.rows.items c.loop-index.told.items ec em h
+    rules_read R.fits R.last R.passed R.keeps at.tells g.met.R.Ranges.stays at.step at.external.now at.limit at.interval at.waits s group c.args.head.now history at.time until c.args.codes.now c.args.rules.now.items may i code m c.loop-index.rules.items c.loop-index.head c.args.rows.now.items c.loop-index.rows.items c.loop-index.told.items ec em h
     c.loop-index.reads c.evaluate_rule.new.reads total
     (c.loop-index.invariant.reads s group history until may)
     (λ r over kept. c.evaluate_rule.ensures.reads s group r p.history until may.evaluation over may.early kept) in
@@ -90,7 +88,7 @@ returns-clause-come g c = λ s group history until may.
     let R = g.R.Ranges in
     let at = c.args.at.now in
     let all : c.loop-index.index ≡ length c.args.codes.now = omega arith in
-    come_whole R.fits R.last R.passed R.keeps s group history at.time c.args.codes.now c.args.rules.now.items c.loop-index.rules.items c.args.head.now c.loop-index.head c.args.rows.now.items c.loop-index.rows.items c.loop-index.told.items c.loop-index.index (all ∙ may.many)
+    come_whole R.fits R.last R.passed R.keeps at.tells s group history at.time c.args.codes.now c.args.rules.now.items c.loop-index.rules.items c.args.head.now c.loop-index.head c.args.rows.now.items c.loop-index.rows.items c.loop-index.told.items c.loop-index.index (all ∙ may.many)
     (c.loop-index.invariant.come s group history until may)
 
 pub returns-clause-reads : goal.returns-clause-reads

@@ -14,7 +14,7 @@ invariant-loop-index g l = record {
   many : length l.rules.items ≡ length l.fn.rules.items;
   come : (s : Settings) (group : Group) (history : List Entry) (until : Option ℕ)
       → MayEvaluateRules g.R.Ranges.fits g.R.Ranges.last g.R.Ranges.passed l.at.step l.at.external.now l.at.limit l.at.interval l.at.waits s group l.fn.head history l.at.time until l.codes l.fn.rules.items
-      → HasCome g.R.Ranges.fits g.R.Ranges.last g.R.Ranges.passed g.R.Ranges.keeps s group history l.at.time l.codes l.fn.rules.items l.rules.items l.fn.head l.head l.fn.rows.items l.rows.items l.told.items l.index (come_to s group history l.at.time l.index);
+      → HasCome g.R.Ranges.fits g.R.Ranges.last g.R.Ranges.passed g.R.Ranges.keeps l.at.tells s group history l.at.time l.codes l.fn.rules.items l.rules.items l.fn.head l.head l.fn.rows.items l.rows.items l.told.items l.index (come_to s group history l.at.time l.index);
   reads : (s : Settings) (group : Group) (history : List Entry) (until : Option ℕ)
       → MayEvaluateRules g.R.Ranges.fits g.R.Ranges.last g.R.Ranges.passed l.at.step l.at.external.now l.at.limit l.at.interval l.at.waits s group l.fn.head history l.at.time until l.codes l.fn.rules.items
       → l.reads + rules_cost s group l.at.time (passed_of g.R.Ranges.passed history l.fn.rules.items) l.index (drop l.index group.rules) (come_to s group history l.at.time l.index)

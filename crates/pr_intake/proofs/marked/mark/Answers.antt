@@ -1,5 +1,4 @@
-use Rattle.std.proofs.Common.{List, ◌∙◌, ap, subst, sym, ◌≡◌}
-use Rattle.pr_labels.specs.declared.pair.Pair.{Pair}
+use Rattle.std.proofs.Common.{List, ◌∙◌, ap, subst, ◌≡◌}
 use Rattle.pr_history.specs.declared.entry.Entry.{Entry}
 use Rattle.pr_puts.specs.Puts.{markers}
 use Rattle.pr_intake.specs.Intake.{Puts}

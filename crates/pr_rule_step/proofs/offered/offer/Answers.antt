@@ -11,4 +11,4 @@ returns-then-rule c = λ s g r history is same stands rise e.
 pub returns : goal.returns
 returns c = λ s g r history is same stands rise e.
     let records = sym (ap (λ (q : Rule). q.alert) same) ∙ c.if-rule.false in
-    records_offered c.in_ok-recorded.field-0 c.args.records.now s g r history c.args.at.now.time c.args.founds.items records e c.in_ok-recorded.ensures.samples c.in_ok-recorded.ensures.sent
+    records_offered c.args.at.now.tells c.in_ok-recorded.field-0 c.args.records.now s g r history c.args.at.now.time c.args.founds.items records e c.in_ok-recorded.ensures.samples c.in_ok-recorded.ensures.sent

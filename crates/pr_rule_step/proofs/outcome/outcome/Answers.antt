@@ -21,7 +21,7 @@ returns-in-Err-clause-offers g c = λ s group r history is same templates stands
     let at = c.args.at.now in
     let code = rule_of_def c.args.rule.now in
     let own = subst (λ (q : Rule). IsTemplatesOf c.args.templates.now q) (sym same) templates in
-    offers_error c.a_fault_leaves_the_records.ensures c.in-Err.error s group r history at.time c.args.records.now
+    offers_error c.a_fault_leaves_the_records.ensures at.tells c.in-Err.error s group r history at.time c.args.records.now
     (subst (λ (m : Result (List Found) RuleFailure). ComesTo m (Err c.in-Err.error)) (meant_so at.step at.external.now at.limit at.interval at.waits s group code r.rule history at.time is same)
     (c.in-Err.ensures.comes history may own))
     stands

@@ -7,4 +7,4 @@ use Rattle.pr_rule_step.proofs.samples.put_samples.Given as goal
 -- the first ones were put
 abbrev pub invariant-loop-item : goal.invariant-loop-item
 invariant-loop-item l = (history : List Entry) → Holds l.initial.head history
-    → Writes l.initial.head l.head l.initial.rows.items l.rows.items l.initial.told.items l.told.items l.initial.wrote.items l.wrote.items history l.now (take l.item-index l.items)
+    → Writes l.at.tells l.initial.head l.head l.initial.rows.items l.rows.items l.initial.told.items l.told.items l.initial.wrote.items l.wrote.items history l.at.time (take l.item-index l.items)

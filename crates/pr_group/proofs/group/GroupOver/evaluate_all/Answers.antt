@@ -18,10 +18,10 @@ returns-clause-come g c =
     let I = c.self.inside in
     let k : KeptGroup _ = record { def = I.def; file = I.file; step = I.step; external = I.external; rules = I.rules.items; last = I.last; waits = I.waits; leftovers = I.leftovers } in
     subst (λ (k : KeptGroup _). (history : List Entry) (group : Group) → MayEvaluateOver c.args.head.now history now → KeepsGroup R.fits R.last R.passed k history group → IsAfter now group.last
-    → IfOk c.evaluate_rules.result (λ told. HasCome R.fits R.last R.passed R.keeps (settings_of k) group history now k.def.rules k.rules c.evaluate_rules.new.rules.items c.args.head.now c.evaluate_rules.new.head c.args.rows.now.items c.evaluate_rules.new.rows.items told.items (length group.rules) (all_rules (settings_of k) group history now)))
+    → IfOk c.evaluate_rules.result (λ told. HasCome R.fits R.last R.passed R.keeps c.args.tells (settings_of k) group history now k.def.rules k.rules c.evaluate_rules.new.rules.items c.args.head.now c.evaluate_rules.new.head c.args.rows.now.items c.evaluate_rules.new.rows.items told.items (length group.rules) (all_rules (settings_of k) group history now)))
     c.self.view_is
     (λ history group over keeps later.
-    subst (λ (ds : List RuleDef). IfOk c.evaluate_rules.result (λ told. HasCome R.fits R.last R.passed R.keeps (settings_of k) group history now ds I.rules.items c.evaluate_rules.new.rules.items c.args.head.now c.evaluate_rules.new.head c.args.rows.now.items c.evaluate_rules.new.rows.items told.items (length group.rules) (all_rules (settings_of k) group history now)))
+    subst (λ (ds : List RuleDef). IfOk c.evaluate_rules.result (λ told. HasCome R.fits R.last R.passed R.keeps c.args.tells (settings_of k) group history now ds I.rules.items c.evaluate_rules.new.rules.items c.args.head.now c.evaluate_rules.new.head c.args.rows.now.items c.evaluate_rules.new.rows.items told.items (length group.rules) (all_rules (settings_of k) group history now)))
     c.as_slice.ensures
     (c.evaluate_rules.ensures.come (settings_of k) group history group.last
     (subst (λ (ds : List RuleDef). MayEvaluateRules R.fits R.last R.passed I.step I.external I.def.limit I.def.interval (nat_lt 0 I.waits) (settings_of k) group c.args.head.now history now group.last ds I.rules.items) (sym c.as_slice.ensures)

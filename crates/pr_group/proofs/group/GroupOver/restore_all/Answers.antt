@@ -1,4 +1,4 @@
-use Rattle.std.proofs.Common.{◌≡◌, ℕ, ◌+◌, ◌≤◌, List, Option, OnOk, length, map, ap, ◌∙◌}
+use Rattle.std.proofs.Common.{◌≡◌, true, ℕ, ◌+◌, ◌≤◌, List, Option, OnOk, length, map, ap, ◌∙◌}
 use Rattle.std.specs.Prelude.{IfOk, flat_map, sum_by}
 use Rattle.pr_history.specs.declared.entry.Entry.{Entry}
 use Rattle.pr_rulefile.specs.declared.rules.RuleDef.{RuleDef}
@@ -25,7 +25,7 @@ returns-clause-told g c =
     let now = c.args.time in
     through c.as_slice.result.now c.args.self.now.def.rules c.self.inside.rules.items c.args.self.now.rules
     (λ (ds : List RuleDef) (ms : List (Remembered _)). (history : List Entry) (until : Option ℕ) (rs : List RuleState) → MayEvaluateOver c.args.head.now history now → length ds ≡ length rs → AreKept R.fits R.last R.passed history until ds ms rs
-    → IfOk c.restore_rules.result (λ v. v.items ≡ flat_map (restores history now) rs))
+    → IfOk c.restore_rules.result (λ v. c.args.tells ≡ true → v.items ≡ flat_map (restores history now) rs))
     (c.as_slice.ensures ∙ ap (λ (k : KeptGroup _). k.def.rules) c.self.view_is) (ap (λ (k : KeptGroup _). k.rules) c.self.view_is) c.restore_rules.ensures.told
 
 pub returns-clause-reads : goal.returns-clause-reads

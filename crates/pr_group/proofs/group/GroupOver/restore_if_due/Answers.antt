@@ -1,4 +1,4 @@
-use Rattle.std.proofs.Common.{◌≡◌, ◌+◌, ◌≤◌, Bool, OnOk, sym, ap, ◌∙◌, subst}
+use Rattle.std.proofs.Common.{◌≡◌, ◌+◌, ◌≤◌, Bool, true, OnOk, sym, ap, ◌∙◌, subst}
 use Rattle.std.specs.Prelude.{IfOk}
 use Rattle.pr_rules.specs.Costs.{restoring_cost}
 use Rattle.pr_group.specs.Keeping.{AreKept}
@@ -10,7 +10,7 @@ returns-then-not-is_due-clause-kept g c = λ history until rs over size was.
     subst (λ (b : Bool). AreKept g.R.Ranges.fits g.R.Ranges.last g.R.Ranges.passed history until c.args.self.now.def.rules c.args.self.now.rules (restored_rules b history c.args.time rs)) (sym c.if-not-is_due.true ∙ c.is_due.ensures) was
 
 pub returns-then-not-is_due-clause-told : goal.returns-then-not-is_due-clause-told
-returns-then-not-is_due-clause-told g c = λ history until rs over size was.
+returns-then-not-is_due-clause-told g c = λ history until rs over size was read.
     c.new.ensures.items ∙ ap (λ (b : Bool). restored_alerts b history c.args.time rs) (sym c.if-not-is_due.true ∙ c.is_due.ensures)
 
 pub returns-clause-kept : goal.returns-clause-kept
@@ -20,7 +20,7 @@ returns-clause-kept g c = λ history until rs over size was.
 
 pub returns-clause-told : goal.returns-clause-told
 returns-clause-told g c = λ history until rs over size was.
-    subst (λ (b : Bool). IfOk c.restore_all.result (λ v. v.items ≡ restored_alerts b history c.args.time rs)) (sym c.if-not-is_due.false ∙ c.is_due.ensures) (c.restore_all.ensures.told history until rs over size was)
+    subst (λ (b : Bool). IfOk c.restore_all.result (λ v. c.args.tells ≡ true → v.items ≡ restored_alerts b history c.args.time rs)) (sym c.if-not-is_due.false ∙ c.is_due.ensures) (c.restore_all.ensures.told history until rs over size was)
 
 pub returns-clause-reads : goal.returns-clause-reads
 returns-clause-reads g c = λ history until rs over size was.
