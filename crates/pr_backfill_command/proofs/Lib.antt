@@ -8,3 +8,4 @@ pub mod Unopened
 pub mod Over
 pub mod Loaded
 pub mod Meaning
+pub mod Opened

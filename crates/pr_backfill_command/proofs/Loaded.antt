@@ -183,7 +183,7 @@ asked_first T a b all stop.TooLong p = p
 pub no_row_asked : (T : Type 0) (a b all : ℕ) (s : Stop) → AsksBy {T = T} a b all (Err s) → IsNoRow s
 no_row_asked T a b all s p index is = subst (λ (z : Stop). AsksBy {T = T} a b all (Err z)) is p
 
-none_rose : Rose 0 0 → ⊥
+pub none_rose : Rose 0 0 → ⊥
 none_rose r = omega (arith, r)
 
 -- all were asked for before, and the rest asks for none

@@ -19,7 +19,7 @@ use Rattle.pr_run.specs.Rows.{AreKept, OverRows}
 use Rattle.pr_run.proofs.Endings.{ends_as}
 use Rattle.pr_run.proofs.Rows.{IsDecoding, kept_by, over_history}
 use Rattle.pr_backfill_command.specs.Endings.{ending_of}
-use Rattle.pr_backfill_command.specs.Opening.{IsUnopened, bad_text}
+use Rattle.pr_backfill_command.specs.Opening.{IsUnopened}
 use Rattle.pr_backfill_command.specs.Standing.{Finishes, Halts, IsTold}
 use Rattle.pr_backfill_command.proofs.Texts.{begun_fewer}
 

@@ -1,5 +1,5 @@
 -- How parts of a filling end, one behind another.
-use Rattle.std.proofs.Common.{◌≡◌, ◌≢◌, ℕ, ◌≤◌, Option, Result, Ok, Err, IsErrAnd, IsSome, OnOk, refl, subst, arith}
+use Rattle.std.proofs.Common.{◌≡◌, ◌≢◌, ℕ, ◌≤◌, Option, Result, Ok, Err, IsErrAnd, IsSome, OnOk, refl, ◌∙◌, subst, arith}
 use Rattle.pr_outside.specs.Causes.{HasKeepCause}
 use Rattle.pr_outside.specs.Meant.{Output, Store}
 use Rattle.pr_outside.specs.declared.keeping.KeepError.{KeepError}
@@ -17,6 +17,7 @@ pub part_none : {T : Type 0} (a : Store) (x : Output) (v : T) → IsPart a x a x
 part_none a x v = record {
   some = λ some. some;
   more = omega arith;
+  paths = refl;
   ends = λ others. record { cause = (refl, refl, refl, refl); input = in_time_same others.input.course; files = λ going. going; out = λ going. going };
 }
 
@@ -25,6 +26,7 @@ pub part_on : {T U : Type 0} (a b c : Store) (x y z : Output) (v : T) (r : Resul
 part_on a b c x y z v r p q = record {
   some = λ some. p.some (q.some some);
   more = omega (arith, p.more, q.more);
+  paths = q.paths ∙ p.paths;
   ends = λ others.
       let e = p.ends others in
       ends_behind no_row ⊥ (record others { store = a; out = x }) (record others { store = b; out = y }) (record others { store = c; out = z }) r e.cause
@@ -37,6 +39,7 @@ pub part_err : (T U V : Type 0) (a b c : Store) (x y z : Output) (v : V) (r : Re
 part_err T U V a b c x y z v r e h p q = record {
   some = λ some. p.some (q.some some);
   more = omega (arith, p.more, q.more);
+  paths = q.paths ∙ p.paths;
   ends = λ others.
       let l = p.ends others in
       ends_on T U no_row ⊥ (record others { store = a; out = x }) (record others { store = b; out = y }) (record others { store = c; out = z }) r e h l.cause
@@ -46,17 +49,18 @@ part_err T U V a b c x y z v r e h p q = record {
 -- want of memory, behind a part
 pub part_memory : (T V : Type 0) (a b : Store) (x y : Output) (v : V) (r : Result T Stop) → IsErrAnd r (λ s. s ≡ Memory) → IsPart a x b y (Ok v) → IsPart a x b y r
 part_memory T V a b x y v r h p =
-    part_err T T V a b b x y y v r Memory h p (record { some = λ some. some; more = omega arith; ends = λ others. ends_memory T no_row ⊥ (record others { store = b; out = y }) })
+    part_err T T V a b b x y y v r Memory h p (record { some = λ some. some; more = omega arith; paths = refl; ends = λ others. ends_memory T no_row ⊥ (record others { store = b; out = y }) })
 
 -- a write
 pub part_write : {T : Type 0} (a : Store) (x y : Output) (r : Result T Stop) → WriteEnds x y r → IsPart a x a y r
-part_write a x y r w = record { some = λ some. some; more = omega arith; ends = λ others. w (record others { store = a }) }
+part_write a x y r w = record { some = λ some. some; more = omega arith; paths = refl; ends = λ others. w (record others { store = a }) }
 
 -- rows that were kept, or were not
-pub part_kept : {T : Type 0} (a b : Store) (x : Output) (v : T) → (IsSome b.rows → IsSome a.rows) → a.count ≤ b.count → b.faults ≡ a.faults → IsPart a x b x (Ok v)
-part_kept a b x v some more calm = record {
+pub part_kept : {T : Type 0} (a b : Store) (x : Output) (v : T) → (IsSome b.rows → IsSome a.rows) → a.count ≤ b.count → b.paths ≡ a.paths → b.faults ≡ a.faults → IsPart a x b x (Ok v)
+part_kept a b x v some more unopened calm = record {
   some = some;
   more = more;
+  paths = unopened;
   ends = λ others. record { cause = (refl, refl, calm, refl); input = in_time_same others.input.course; files = λ going. going; out = λ going. going };
 }
 
@@ -76,9 +80,9 @@ keep_stop T U a b x keeping.Memory cause others = record {
 }
 
 pub part_unkept : (T U : Type 0) (a b : Store) (x : Output) (r : Result T Stop) (e : KeepError) → IsErrAnd r (λ s. s ≡ stop_of_keeper e) → (IsSome b.rows → IsSome a.rows) → b.count ≡ a.count
-    → HasKeepCause {T = U} a.faults b.faults (Err e) → IsPart a x b x r
-part_unkept T U a b x r e h some same cause =
-    part_err T T Unit a a b x x x tt r (stop_of_keeper e) h (part_none a x tt) (record { some = some; more = omega (arith, same); ends = keep_stop T U a b x e cause })
+    → b.paths ≡ a.paths → HasKeepCause {T = U} a.faults b.faults (Err e) → IsPart a x b x r
+part_unkept T U a b x r e h some same unopened cause =
+    part_err T T Unit a a b x x x tt r (stop_of_keeper e) h (part_none a x tt) (record { some = some; more = omega (arith, same); paths = unopened; ends = keep_stop T U a b x e cause })
 
 -- no row stops a part
 pub part_fine : (T : Type 0) (a b : Store) (x y : Output) (r : Result T Stop) (index : ℕ) → IsPart a x b y r → r ≢ Err (BadRow index)

@@ -10,9 +10,8 @@ use Rattle.pr_rules.specs.Evaluations.{all_rules, group_step, restoring}
 use Rattle.pr_rules.specs.Groups.{Group}
 use Rattle.pr_rules.specs.Reloads.{LoadedFile}
 use Rattle.pr_rules.specs.Settings.{Settings}
-use Rattle.pr_rules.specs.Times.{IsAfter}
+use Rattle.pr_rules.specs.Times.{IsAfter, IsAfterAll}
 use Rattle.pr_backfill.specs.Filled.{Round, at_time, group_to_fill, groups_to_fill, one_group, round_at, round_begun, rows_filled, stepped}
-use Rattle.pr_backfill.specs.Keeping.{IsAfterAll}
 use Rattle.pr_backfill_command.specs.Standing.{AreBefore}
 use Rattle.pr_backfill_command.specs.Times.{AreAfter}
 use Rattle.pr_backfill_command.proofs.Texts.{kept_one}

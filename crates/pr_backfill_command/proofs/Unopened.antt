@@ -14,9 +14,9 @@ use Rattle.pr_status.specs.declared.status.Stop.TheVariants as stop
 use Rattle.pr_status.proofs.Ended.{ends_on, in_time_on, in_time_same}
 use Rattle.pr_status.proofs.Streams.{appends_none}
 use Rattle.pr_run.specs.Rows.{IsBadIn}
-use Rattle.pr_run.specs.Told.{bad_row_text}
+use Rattle.pr_run.specs.Told.{bad_row_text, bad_text}
 use Rattle.pr_run.proofs.Endings.{ends_wider}
-use Rattle.pr_backfill_command.specs.Opening.{IsUnopened, bad_text}
+use Rattle.pr_backfill_command.specs.Opening.{IsUnopened}
 
 -- What is written
 

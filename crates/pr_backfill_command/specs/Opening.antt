@@ -1,17 +1,12 @@
 -- What is written where a store is not opened. Private contracts cite this: a reader can pass it over.
-use Rattle.std.specs.Prelude.{◌≡◌, ℕ, ◌≤◌, List, [], length, take, Option, Result, Ok, Err}
+use Rattle.std.specs.Prelude.{◌≡◌, ℕ, ◌≤◌, List, length, take, Option, Result, Err}
 use Rattle.std.specs.Io.KnownBytes.{Appends}
 use Rattle.pr_history.specs.declared.entry.Entry.{Entry}
 use Rattle.pr_status.specs.declared.status.Stop.{Stop}
 use Rattle.pr_status.specs.declared.status.Stop.TheVariants.{BadRow}
-use Rattle.pr_run.specs.Told.{bad_row_text}
+use Rattle.pr_run.specs.Told.{bad_text}
 
--- the line of a bad row, by what the rows tell
-abbrev pub bad_text : Result (List Entry) ℕ → List ℕ
-bad_text (Ok history) = []
-bad_text (Err index) = bad_row_text index
-
--- A front of that line: all of it, where a row stopped the call.
+-- A front of the line of a bad row: all of it, where a row stopped the call.
 pub record IsUnopened {T : Type 0} (told : Result (List Entry) ℕ) (old new : Option (List ℕ)) (result : Result T Stop) : Type 0 where
   pub count : ℕ
   pub text : Appends old new (take count (bad_text told))

@@ -4,12 +4,13 @@ use Rattle.std.specs.Io.KnownBytes.{Appends}
 use Rattle.std.specs.List.{AllByRecursion}
 use Rattle.pr_history.specs.declared.entry.Entry.{Entry}
 use Rattle.pr_outside.specs.Meant.{Output, Store}
+use Rattle.pr_rules.specs.Times.{IsAfterAll}
 use Rattle.pr_range.specs.Asks.{LastAsks, Passed}
 use Rattle.pr_rules.specs.Groups.{Group}
 use Rattle.pr_engine.specs.Rows.{TellsOf}
 use Rattle.pr_engine.specs.Standing.{HoldsAll}
 use Rattle.pr_backfill.specs.Filled.{FillStep, rows_filled}
-use Rattle.pr_backfill.specs.Keeping.{IsAfterAll, KeepsToFill}
+use Rattle.pr_backfill.specs.Keeping.{KeepsToFill}
 use Rattle.pr_backfill_texts.specs.Text.{begun_text, fill_text}
 use Rattle.pr_status.specs.Ends.{Ends, no_row}
 use Rattle.pr_status.specs.Outside.{Outside}
@@ -55,8 +56,9 @@ Finishes history steps store first taken (Ok done) = IsTold history steps store 
 Finishes history steps store first taken (Err stop) = Halts history steps store first taken
 
 -- What any part of it does to the store and the output: rows that are told were told before, there are
--- not fewer, and its end has its cause, which is no bad row.
+-- not fewer, no path is opened, and its end has its cause, which is no bad row.
 pub record IsPart {T : Type 0} (before : Store) (out : Output) (now : Store) (told : Output) (result : Result T Stop) : Type 0 where
   pub some : IsSome now.rows → IsSome before.rows
   pub more : before.count ≤ now.count
+  pub paths : now.paths ≡ before.paths
   pub ends : (others : Outside) → Ends no_row ⊥ (record others { store = before; out = out }) (record others { store = now; out = told }) result

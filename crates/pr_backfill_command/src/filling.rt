@@ -6,11 +6,12 @@ ghost use Rattle.pr_row.specs.Histories.{history_of};
 ghost use Rattle.pr_rules.specs.Groups.{Group};
 ghost use Rattle.pr_rules.specs.Reloads.{LoadedFile};
 ghost use Rattle.pr_rules.specs.Settings.{of_a_run};
+ghost use Rattle.pr_rules.specs.Times.{IsAfterAll};
 ghost use Rattle.pr_engine.specs.Rows.{TellsOf};
 ghost use Rattle.pr_backfill.specs.Filled.{FillStep, at_time, filled, filled_from, groups_to_fill, round_at, rows_filled};
-ghost use Rattle.pr_backfill.specs.Keeping.{IsAfterAll};
 ghost use Rattle.pr_backfill_texts.specs.Means.{EndsBy};
 ghost use Rattle.pr_status.specs.Ends.{Ends};
+ghost use Rattle.pr_status.specs.Opening.{OpensBy};
 ghost use Rattle.pr_status.specs.Outside.{Outside};
 ghost use Rattle.pr_status.specs.declared.status.Stop.TheVariants as stop;
 ghost use Rattle.pr_run.specs.Rows.{IsBadIn, OverRows};
@@ -149,6 +150,7 @@ pub(crate) fn fill<R: Ranges + Drop, K: Keeper, O: Sink>(
     ensures over { (others : Outside) → IfSome (K.means keeper.new).rows (λ all. OverRows (K.means keeper.old).rows all (λ rows. EndsBy (history_of rows) (map loaded_of files.items) times rows
         (record others { store = K.means keeper.old; out = O.means out.old }) (record others { store = K.means keeper.new; out = O.means out.new }) (ending_of result))) }
     ensures bad { (at : ℕ) → result ≡ Err (stop.BadRow at) → Appends (O.means out.old).taken (O.means out.new).taken (bad_row_text at) }
+    ensures opens { OpensBy path.now (K.means keeper.old).paths (K.means keeper.new).paths result }
     ensures ends { (others : Outside) → Ends (IsBadIn (K.means keeper.new)) ⊥ (record others { store = K.means keeper.old; out = O.means out.old })
         (record others { store = K.means keeper.new; out = O.means out.new }) (ending_of result) }
 {

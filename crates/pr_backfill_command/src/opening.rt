@@ -5,6 +5,7 @@ ghost use Rattle.pr_outside.specs.Kept.{StartsRows};
 ghost use Rattle.pr_row.specs.Histories.{history_of};
 ghost use Rattle.pr_engine.specs.Loading.{IsLoaded};
 ghost use Rattle.pr_status.specs.Ends.{Ends};
+ghost use Rattle.pr_status.specs.Opening.{OpensBy};
 ghost use Rattle.pr_status.specs.Outside.{Outside};
 ghost use Rattle.pr_status.specs.declared.status.Stop.TheVariants as stop;
 ghost use Rattle.pr_run.specs.Rows.{IsBadIn};
@@ -30,6 +31,7 @@ pub(crate) fn open<K: Keeper, O: Sink>(
     ensures front { IfSome (K.means keeper.new).rows (λ rows. OnErr result (IsUnopened (history_of rows) (O.means out.old).taken (O.means out.new).taken result)) }
     ensures bad { (at : ℕ) → result ≡ Err (stop.BadRow at) → Appends (O.means out.old).taken (O.means out.new).taken (bad_row_text at) }
     ensures rows { StartsRows (K.means keeper.old).rows (K.means keeper.new).rows }
+    ensures opens { OpensBy path.now (K.means keeper.old).paths (K.means keeper.new).paths result }
     ensures ends { (others : Outside) → Ends (IsBadIn (K.means keeper.new)) ⊥ (record others { store = K.means keeper.old; out = O.means out.old })
         (record others { store = K.means keeper.new; out = O.means out.new }) result }
 {

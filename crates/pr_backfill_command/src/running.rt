@@ -10,7 +10,7 @@ ghost use Rattle.pr_run.specs.Told.{bad_row_text};
 ghost use Rattle.pr_test_texts.specs.TestsTold.{all_rules};
 ghost use Rattle.pr_test_command.specs.Running.{loaded_of};
 ghost use Rattle.pr_test_command.specs.Taking.{rules_of};
-ghost use Rattle.pr_backfill_texts.specs.Means.{AsksFirst, EndsBy, EndsRefused, EndsWith, MeansBackfill};
+ghost use Rattle.pr_backfill_texts.specs.Means.{AsksFirst, EndsBy, EndsRefused, EndsWith, FillOpens, MeansBackfill};
 
 use crate::filling::fill;
 use crate::times::Times;
@@ -45,6 +45,7 @@ fn fill_all<R: Ranges + Drop, K: Keeper, O: Sink>(
     ensures over { (others : Outside) → IfSome (K.means keeper.new).rows (λ all. OverRows (K.means keeper.old).rows all (λ rows. EndsBy (history_of rows) (map loaded_of files.items) times rows
         (record others { store = K.means keeper.old; out = O.means out.old }) (record others { store = K.means keeper.new; out = O.means out.new }) result)) }
     ensures bad { (at : ℕ) → result ≡ Err (stop.BadRow at) → Appends (O.means out.old).taken (O.means out.new).taken (bad_row_text at) }
+    ensures opens { FillOpens path.now (K.means keeper.old).paths (K.means keeper.new).paths result }
     ensures ends { (others : Outside) → Ends (IsBadIn (K.means keeper.new)) ⊥ (record others { store = K.means keeper.old; out = O.means out.old })
         (record others { store = K.means keeper.new; out = O.means out.new }) result }
 {
@@ -66,6 +67,7 @@ fn go_on<R: Ranges + Drop, K: Keeper, O: Sink>(
     ensures with { (others : Outside) → EndsWith (rules_of rules).wrong (rules_of rules).files times (record others { store = K.means keeper.old; out = O.means out.old })
         (record others { store = K.means keeper.new; out = O.means out.new }) result }
     ensures bad { (at : ℕ) → result ≡ Err (stop.BadRow at) → Appends (O.means out.old).taken (O.means out.new).taken (bad_row_text at) }
+    ensures opens { FillOpens path.now (K.means keeper.old).paths (K.means keeper.new).paths result }
     ensures ends { (others : Outside) → Ends (IsBadIn (K.means keeper.new)) ⊥ (record others { store = K.means keeper.old; out = O.means out.old })
         (record others { store = K.means keeper.new; out = O.means out.new }) result }
 {
@@ -94,6 +96,7 @@ fn run<R: Ranges + Drop, F: Files, K: Keeper, O: Sink>(
     ensures bad { (at : ℕ) → result ≡ Err (stop.BadRow at) → Appends (O.means out.old).taken (O.means out.new).taken (bad_row_text at) }
     ensures asked { AsksFirst (F.means files.old).calls (F.means files.new).calls (length names.now) result }
     ensures same { (other : List ℕ) → (F.means files.new).content other ≡ (F.means files.old).content other }
+    ensures opens { FillOpens path.now (K.means keeper.old).paths (K.means keeper.new).paths result }
     ensures ends { (others : Outside) → Ends (IsBadIn (K.means keeper.new)) ⊥ (record others { files = F.means files.old; store = K.means keeper.old; out = O.means out.old })
         (record others { files = F.means files.new; store = K.means keeper.new; out = O.means out.new }) result }
 {
@@ -118,7 +121,7 @@ pub fn backfill<R: Ranges + Drop, F: Files, K: Keeper, O: Sink>(
     keeper: &mut K,
     out: &mut O,
 ) -> Status
-    ensures means { (others : Outside) → MeansBackfill times (map string_bytes names.now) (record others { files = F.means files.old; store = K.means keeper.old; out = O.means out.old })
+    ensures means { (others : Outside) → MeansBackfill path.now times (map string_bytes names.now) (record others { files = F.means files.old; store = K.means keeper.old; out = O.means out.old })
         (record others { files = F.means files.new; store = K.means keeper.new; out = O.means out.new }) result }
     ensures same { (other : List ℕ) → (F.means files.new).content other ≡ (F.means files.old).content other }
 {

@@ -2,6 +2,7 @@
 use Rattle.std.specs.Prelude.{◌≡◌, ◌≢◌, ℕ, ◌+◌, ◌<◌, ◌≤◌, Bool, true, false, List, [], ◌∷◌, ◌++◌, length, take, Result, Ok, Err, IfOk, IfSome, IsErr}
 use Rattle.std.specs.Io.KnownBytes.{Appends}
 use Rattle.pr_history.specs.declared.entry.Entry.{Entry}
+use Rattle.pr_outside.specs.Paths.{Opens, MayOpen}
 use Rattle.pr_outside.specs.declared.keeping.Row.{Row}
 use Rattle.pr_row.specs.Histories.{history_of}
 use Rattle.pr_rules.specs.Reloads.{LoadedFile}
@@ -103,12 +104,27 @@ abbrev pub FillsWith : List ℕ → List LoadedFile → List ℕ → Outside →
 FillsWith [] files times before now ending result = IfSome now.store.rows (λ all. OverRows before.store.rows all (λ rows. FillsBy (history_of rows) files times rows before now ending result))
 FillsWith (b ∷ wrong) files times before now ending result = RefusesFiles (b ∷ wrong) before now ending result
 
--- What `backfill` promises at these times, and over the files of these names, by how it ended, whose
--- status is the program's, and what stopped it. A file that is named twice has its groups twice.
-pub record MeansBackfill (times : List ℕ) (names : List (List ℕ)) (before now : Outside) (result : Status) : Type 0 where
+-- Which paths it opened: that of the store where it filled it or found a bad row; none where something is
+-- wrong with a file, or one could not be loaded; and that one or none where it was stopped otherwise.
+abbrev pub FillOpens : List ℕ → List (List ℕ) → List (List ℕ) → Result Bool Stop → Type 0
+FillOpens path before now (Ok true) = now ≡ before
+FillOpens path before now (Ok false) = Opens path before now
+FillOpens path before now (Err Read) = ⊥
+FillOpens path before now (Err Load) = now ≡ before
+FillOpens path before now (Err Store) = MayOpen path before now
+FillOpens path before now (Err (BadRow index)) = Opens path before now
+FillOpens path before now (Err Write) = MayOpen path before now
+FillOpens path before now (Err Memory) = MayOpen path before now
+FillOpens path before now (Err TooLong) = ⊥
+
+-- What `backfill` promises over the store of a path, at these times, and over the files of these names, by
+-- how it ended, whose status is the program's, and what stopped it. A file that is named twice has its
+-- groups twice.
+pub record MeansBackfill (path : List ℕ) (times : List ℕ) (names : List (List ℕ)) (before now : Outside) (result : Status) : Type 0 where
   pub ending : Result Bool Stop
   pub answer : result ≡ status_of ending
   pub ends : Ends (IsBadIn now.store) ⊥ before now ending
+  pub opens : FillOpens path before.store.paths now.store.paths ending
   pub asked : AsksFirst before.files.calls now.files.calls (length names) ending
   -- a bad row is told, and nothing else, over any store
   pub row : (index : ℕ) → ending ≡ Err (BadRow index) → Appends before.out.taken now.out.taken (bad_row_text index)

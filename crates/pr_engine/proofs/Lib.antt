@@ -7,3 +7,4 @@ pub mod Steps
 pub mod Passing
 pub mod Answering
 pub mod Free
+pub mod Paths

@@ -6,3 +6,4 @@ pub mod Passing
 pub mod Standing
 pub mod Loading
 pub mod Taken
+pub mod Opening

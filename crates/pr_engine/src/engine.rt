@@ -9,6 +9,7 @@ ghost use Rattle.pr_world.specs.World.{World};
 ghost use Rattle.pr_engine.specs.declared.fault.Cause.{Cause};
 ghost use Rattle.pr_engine.specs.Causes.{HasApplyCause, HasStartCause, broken_after, cause_of, last_after};
 ghost use Rattle.pr_engine.specs.Events.{IsKnownAfter, event_cost, is_restart, settings_of};
+ghost use Rattle.pr_engine.specs.Opening.{StartOpens};
 ghost use Rattle.pr_engine.specs.Passing.{EventPasses};
 ghost use Rattle.pr_engine.specs.Standing.{Forgets, StandsFor, StandsForSome, Starts};
 
@@ -89,7 +90,7 @@ impl<R: Ranges + Drop> Engine<R> {
     /// # Errors
     /// `StoreFailed` where the store refused a call; `BadRow` with the index of the first row that is
     /// the row of no entry, or is not added to those before it; `Memory`.
-    #[tactic(auto, using(crate::proofs::Answering::keep_started))]
+    #[tactic(auto, using(crate::proofs::Answering::keep_started, crate::proofs::Paths::start_refused, crate::proofs::Paths::started_on))]
     pub fn start<K: Keeper>(
         alloc: Global,
         keeper: &mut K,
@@ -101,6 +102,7 @@ impl<R: Ranges + Drop> Engine<R> {
         ensures whole { IfOk result (λ e. (e.broken ≡ None) × (e.step ≡ step)) }
         ensures bad { (at : ℕ) → result ≡ Err (StartError.BadRow at) → IfSome (K.means keeper.new).rows (λ rows. history_of rows ≡ Err at) }
         ensures rows { StartsRows (K.means keeper.old).rows (K.means keeper.new).rows }
+        ensures opens { StartOpens path.now (K.means keeper.old).paths (K.means keeper.new).paths result }
         ensures cause { HasStartCause (K.means keeper.old).faults (K.means keeper.new).faults result }
     {
         match keeper.start(path) {
@@ -163,6 +165,7 @@ impl<R: Ranges + Drop> Engine<R> {
         ensures told { IsSome (K.means keeper.new).rows → IsSome (K.means keeper.old).rows }
         ensures bad { (at : ℕ) → result ≡ Err (ApplyError.BadRow at) → (is_restart event ≡ true) × IfSome (K.means keeper.new).rows (λ rows. history_of rows ≡ Err at) }
         ensures unbroken { (first : Cause) → result ≢ Err (ApplyError.Broken first) }
+        ensures paths { (K.means keeper.new).paths ≡ (K.means keeper.old).paths }
         ensures cause { HasApplyCause (K.means keeper.old).faults (K.means keeper.new).faults result }
         ensures reads { (w : World) → StandsFor R.fits R.last R.passed self.old (K.means keeper.old) w
             → reads.new ≤ reads.old + event_cost self.old.step (passed_by_named R.passed self.old.parts.manager w.history) w event }
@@ -205,6 +208,8 @@ impl<R: Ranges + Drop> Engine<R> {
             → (keeper.new ≡ keeper.old) × OnOk result ((self.new ≡ self.old) × StandsFor R.fits R.last R.passed self.new (K.means keeper.new) w) }
         // After an accepted evaluation no sample is held that is 45 days old.
         ensures forgets { IfOk result (λ r. Forgets event r self.new.parts.head) }
+        // No path is opened.
+        ensures paths { (K.means keeper.new).paths ≡ (K.means keeper.old).paths }
         // After an error the store has the rows of before.
         ensures rows { OnErr result (KeepsRows (K.means keeper.old).rows (K.means keeper.new).rows) }
         ensures count { OnErr result ((K.means keeper.new).count ≡ (K.means keeper.old).count) }

@@ -122,6 +122,7 @@ pub fn keep<K: Keeper>(alloc: Global, keeper: &mut K, entries: &[Entry]) -> Resu
     ensures none { entries.now ≡ [] → keeper.new ≡ keeper.old }
     ensures err { OnErr result (KeepsRows (K.means keeper.old).rows (K.means keeper.new).rows) }
     ensures err_count { OnErr result ((K.means keeper.new).count ≡ (K.means keeper.old).count) }
+    ensures paths { (K.means keeper.new).paths ≡ (K.means keeper.old).paths }
     ensures cause { HasKeepCause (K.means keeper.old).faults (K.means keeper.new).faults result }
 {
     if entries.is_empty() {

@@ -60,6 +60,7 @@ fn load_row<K: Keeper>(
     ensures bad { IsLoadedTo index head.old (K.means keeper.old) → (at : ℕ) → result ≡ Err (StartError.BadRow at) → IfSome (K.means keeper.new).rows (λ rows. history_of rows ≡ Err at) }
     ensures same { KeepsRows (K.means keeper.old).rows (K.means keeper.new).rows }
     ensures count { (K.means keeper.new).count ≡ (K.means keeper.old).count }
+    ensures paths { (K.means keeper.new).paths ≡ (K.means keeper.old).paths }
     ensures cause { HasStartCause (K.means keeper.old).faults (K.means keeper.new).faults result }
 {
     match keeper.load(index) {
@@ -79,6 +80,7 @@ pub(crate) fn load<K: Keeper>(alloc: Global, keeper: &mut K) -> Result<Head, Sta
     ensures bad { (at : ℕ) → result ≡ Err (StartError.BadRow at) → IfSome (K.means keeper.new).rows (λ rows. history_of rows ≡ Err at) }
     ensures same { KeepsRows (K.means keeper.old).rows (K.means keeper.new).rows }
     ensures count { (K.means keeper.new).count ≡ (K.means keeper.old).count }
+    ensures paths { (K.means keeper.new).paths ≡ (K.means keeper.old).paths }
     ensures cause { HasStartCause (K.means keeper.old).faults (K.means keeper.new).faults result }
 {
     let mut head = Head::new(alloc);

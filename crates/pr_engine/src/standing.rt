@@ -6,7 +6,6 @@ ghost use Rattle.pr_outside.specs.Causes.{HasKeepCause};
 ghost use Rattle.pr_outside.specs.Kept.{KeepsRows};
 ghost use Rattle.pr_row.specs.Histories.{history_of};
 ghost use Rattle.pr_manager.specs.Naming.{passed_by_named};
-ghost use Rattle.pr_world.specs.Settings.{of_a_run};
 ghost use Rattle.pr_world.specs.World.{World, begin};
 ghost use Rattle.pr_world.specs.Step.{HasDistinctFiles, entry_of, fail_outcome, gone_outcome, outcome_by, report_of, rows_by, scrape_outcome, scrape_report, step_by, time_of};
 ghost use Rattle.pr_world.specs.Targets.{fail_step, gone_step, scrape_step};
@@ -28,14 +27,13 @@ use crate::telling::{is_restart, report_of, scrape_report};
 use pr_head::Head;
 use pr_history::{Append, Entry};
 use pr_labels::Labels;
-use pr_manager::{Manager, kept_groups_stay};
+use pr_manager::{Manager, kept_groups_stay, no_external};
 use pr_num::Point;
 use pr_outside::{KeepError, Keeper};
 use pr_range::Ranges;
 use pr_scrape::Targets;
 use pr_time::{Ms, Span};
-use pr_tmpl::External;
-use pr_words::{Items, Steps, Text};
+use pr_words::{Items, Steps};
 use pr_world::{Event, Report};
 use std::alloc::{AllocError, Global};
 use std::marker::Model;
@@ -84,16 +82,6 @@ fn added_by(alloc: Global, answer: Append, entry: Entry) -> Result<Items<Entry>,
         Append::Same | Append::OutOfOrder { .. } | Append::Conflict { .. } => {}
     }
     Ok(added)
-}
-
-// What templates see as external in a run: no labels, and no address.
-fn no_external(alloc: Global) -> External
-    ensures { result ≡ of_a_run.external }
-{
-    External {
-        labels: Labels::empty(alloc),
-        url: Text::new(String::new(alloc)),
-    }
 }
 
 impl<R: Ranges + Drop> Standing<R> {
@@ -264,6 +252,7 @@ impl<R: Ranges + Drop> Standing<R> {
         ensures rows { OnErr result (KeepsRows (K.means keeper.old).rows (K.means keeper.new).rows) }
         ensures count { OnErr result ((K.means keeper.new).count ≡ (K.means keeper.old).count) }
         ensures told { IsSome (K.means keeper.new).rows → IsSome (K.means keeper.old).rows }
+        ensures paths { (K.means keeper.new).paths ≡ (K.means keeper.old).paths }
         ensures cause { HasKeepCause (K.means keeper.old).faults (K.means keeper.new).faults result }
         ensures reads { (w : World) → KeepsBefore R.fits R.last R.passed step self.old w (time_of event)
             → reads.new ≤ reads.old + event_cost step (passed_by_named R.passed self.old.manager w.history) w event }
@@ -288,6 +277,7 @@ impl<R: Ranges + Drop> Standing<R> {
         ensures bad { (at : ℕ) → result ≡ Err (StartError.BadRow at) → IfSome (K.means keeper.new).rows (λ rows. history_of rows ≡ Err at) }
         ensures same { KeepsRows (K.means keeper.old).rows (K.means keeper.new).rows }
         ensures count { (K.means keeper.new).count ≡ (K.means keeper.old).count }
+        ensures paths { (K.means keeper.new).paths ≡ (K.means keeper.old).paths }
         ensures cause { HasStartCause (K.means keeper.old).faults (K.means keeper.new).faults result }
     {
         match load(alloc, keeper) {
@@ -317,6 +307,7 @@ impl<R: Ranges + Drop> Standing<R> {
         ensures bad { (at : ℕ) → result ≡ Err (StartError.BadRow at) → IfSome (K.means keeper.new).rows (λ rows. history_of rows ≡ Err at) }
         ensures same { KeepsRows (K.means keeper.old).rows (K.means keeper.new).rows }
         ensures count { (K.means keeper.new).count ≡ (K.means keeper.old).count }
+        ensures paths { (K.means keeper.new).paths ≡ (K.means keeper.old).paths }
         ensures cause { HasStartCause (K.means keeper.old).faults (K.means keeper.new).faults result }
     {
         match Standing::<R>::begin(alloc, keeper, step) {
@@ -361,6 +352,7 @@ impl<R: Ranges + Drop> Standing<R> {
         ensures told { IsSome (K.means keeper.new).rows → IsSome (K.means keeper.old).rows }
         ensures bad { (at : ℕ) → result ≡ Err (ApplyError.BadRow at) → (is_restart event ≡ true) × IfSome (K.means keeper.new).rows (λ rows. history_of rows ≡ Err at) }
         ensures unbroken { (first : Cause) → result ≢ Err (ApplyError.Broken first) }
+        ensures paths { (K.means keeper.new).paths ≡ (K.means keeper.old).paths }
         ensures cause { HasApplyCause (K.means keeper.old).faults (K.means keeper.new).faults result }
         ensures reads { (w : World) → (is_restart event ≡ false → KeepsBefore R.fits R.last R.passed step self.old w (time_of event))
             → reads.new ≤ reads.old + event_cost step (passed_by_named R.passed self.old.manager w.history) w event }

@@ -1,11 +1,12 @@
 -- What an exercise promises, by how it ended.
-use Rattle.std.proofs.Common.{◌≡◌, ◌≢◌, ℕ, List, Option, None, Some, IfSome, Result, Ok, Err, refl, ap, ◌∙◌, subst, take_all, arith}
+use Rattle.std.proofs.Common.{◌≡◌, ◌≢◌, ℕ, List, [], Option, None, Some, IfSome, Result, Ok, Err, refl, ap, ◌∙◌, subst, take_all, arith}
 use Rattle.std.specs.Io.KnownBytes.{Appends}
 use Rattle.pr_history.specs.declared.entry.Entry.{Entry}
 use Rattle.pr_outside.specs.Causes.{IsCalm, Rose}
 use Rattle.pr_outside.specs.declared.keeping.Row.{Row}
 use Rattle.pr_row.specs.Histories.{history_of}
 use Rattle.pr_status.specs.Ends.{Ends, StopsBy, place_of, stop_status}
+use Rattle.pr_status.specs.Opening.{OpensBy}
 use Rattle.pr_status.specs.Outside.{Outside, AreCalm}
 use Rattle.pr_status.specs.declared.status.Status.{Status}
 use Rattle.pr_status.specs.declared.status.Status.TheVariants as status
@@ -53,11 +54,13 @@ if_rows None P Q f p = tt
 if_rows (Some rows) P Q f p = f rows p
 
 pub means_exercise : (rounds : ℕ) (before now : Outside) (r : Result Unit Stop) (result : Status) → result ≡ exercise_status r → Ends (IsBadIn now.store) ⊥ before now r
+    → OpensBy [] before.store.paths now.store.paths r
     → IfSome now.store.rows (λ all. OverRows before.store.rows all (λ rows. EndsBy (history_of rows) rounds rows before now r)) → MeansExercise rounds before now result
-means_exercise rounds before now r result is e over = record {
+means_exercise rounds before now r result is e opens over = record {
   ending = r;
   answer = is;
   ends = e;
+  opens = opens;
   over = if_rows now.store.rows (λ all. OverRows before.store.rows all (λ rows. EndsBy (history_of rows) rounds rows before now r))
       (λ all. OverRows before.store.rows all (λ rows. ExercisesBy (history_of rows) rounds rows before now r result))
       (λ all o. record {

@@ -6,8 +6,7 @@ use Rattle.pr_outside.specs.declared.keeping.Row.{Row}
 use Rattle.pr_row.specs.Histories.{history_of}
 use Rattle.pr_status.specs.declared.status.Stop.{Stop}
 use Rattle.pr_status.proofs.Streams.{appends_none}
-use Rattle.pr_run.specs.Told.{bad_row_text}
-use Rattle.pr_exercise_command.specs.Standing.{bad_text}
+use Rattle.pr_run.specs.Told.{bad_row_text, bad_text}
 
 abbrev pub IsUnopened : {T : Type 0} → Option (List Row) → Result T Stop → Option (List ℕ) → Option (List ℕ) → Type 0
 IsUnopened rows r old new = IfSome rows (λ rs. OnErr r ((n : ℕ) × Appends old new (take n (bad_text (history_of rs)))))

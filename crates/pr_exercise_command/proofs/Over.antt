@@ -21,10 +21,10 @@ use Rattle.pr_status.proofs.Ended.{quiet}
 use Rattle.pr_run.specs.Front.{IsBadStart}
 use Rattle.pr_run.specs.Keeping.{TellsOf}
 use Rattle.pr_run.specs.Rows.{AreKept, OverRows}
-use Rattle.pr_run.specs.Told.{bad_row_text}
+use Rattle.pr_run.specs.Told.{bad_row_text, bad_text}
 use Rattle.pr_run.proofs.Rows.{IsDecoding, kept_by}
 use Rattle.pr_exercise_command.specs.Means.{EndsBy, EndsOver, IsFront, IsWhole}
-use Rattle.pr_exercise_command.specs.Standing.{Halts, bad_text}
+use Rattle.pr_exercise_command.specs.Standing.{Halts}
 
 pub on_rows : (a : Option (List Row)) (P : List Row → Type 0) → ((rows : List Row) → a ≡ Some rows → P rows) → IfSome a P
 on_rows None P f = tt

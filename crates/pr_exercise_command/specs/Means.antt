@@ -1,5 +1,5 @@
 -- What `exercise` promises, by what the four objects mean before and after it.
-use Rattle.std.specs.Prelude.{◌≡◌, ◌≢◌, ℕ, ◌<◌, ◌≤◌, List, ◌++◌, length, take, Result, Ok, Err, IfSome, IsErr, OnOk}
+use Rattle.std.specs.Prelude.{◌≡◌, ◌≢◌, ℕ, ◌<◌, ◌≤◌, List, [], ◌++◌, length, take, Result, Ok, Err, IfSome, IsErr, OnOk}
 use Rattle.std.specs.Io.KnownBytes.{Appends}
 use Rattle.pr_history.specs.declared.entry.Entry.{Entry}
 use Rattle.pr_outside.specs.declared.keeping.Row.{Row}
@@ -10,6 +10,7 @@ use Rattle.pr_world.specs.World.{start}
 use Rattle.pr_exercise.specs.Exercise.{exercise_events}
 use Rattle.pr_exercise.specs.Summary.{exercise_rows, summary}
 use Rattle.pr_status.specs.Ends.{Ends, place_of, stop_status}
+use Rattle.pr_status.specs.Opening.{OpensBy}
 use Rattle.pr_status.specs.Outside.{Outside, AreCalm}
 use Rattle.pr_status.specs.declared.status.Status.{Status}
 use Rattle.pr_status.specs.declared.status.Status.TheVariants as status
@@ -73,5 +74,7 @@ pub record MeansExercise (rounds : ℕ) (before now : Outside) (result : Status)
   pub ending : Result Unit Stop
   pub answer : result ≡ exercise_status ending
   pub ends : Ends (IsBadIn now.store) ⊥ before now ending
+  -- it opens a store in memory
+  pub opens : OpensBy [] before.store.paths now.store.paths ending
   -- What is written and kept, over the rows at the start, where the store tells its rows at the end.
   pub over : IfSome now.store.rows (λ all. OverRows before.store.rows all (λ rows. ExercisesBy (history_of rows) rounds rows before now ending result))

@@ -1,5 +1,5 @@
 -- How far an exercise has come. Private contracts cite this: a reader can pass it over.
-use Rattle.std.specs.Prelude.{◌≡◌, ℕ, ◌≤◌, List, ◌++◌, [], length, take, Result, Ok, Err}
+use Rattle.std.specs.Prelude.{◌≡◌, ℕ, ◌≤◌, List, ◌++◌, length, take, Result, Ok, Err}
 use Rattle.pr_history.specs.declared.entry.Entry.{Entry}
 use Rattle.pr_outside.specs.Meant.{Store}
 use Rattle.pr_status.specs.declared.status.Stop.{Stop}
@@ -9,7 +9,6 @@ use Rattle.pr_world.specs.World.{World, start}
 use Rattle.pr_world.specs.declared.event.Event.{Event}
 use Rattle.pr_exercise.specs.Summary.{lines_told}
 use Rattle.pr_run.specs.Keeping.{TellsOf}
-use Rattle.pr_run.specs.Told.{bad_row_text}
 use Rattle.pr_exercise_command.specs.Tallies.{tally_of}
 use Rattle.pr_exercise_command.specs.declared.session.Session.{Session}
 use Rattle.pr_exercise_command.specs.declared.tally.Tally.{Tally}
@@ -38,8 +37,3 @@ pub record IsCounted (history : List Entry) (events : List Event) (store : Store
 abbrev pub Counts : List Entry → List Event → Store → Result Tally Stop → Type 0
 Counts history events store (Ok t) = IsCounted history events store t
 Counts history events store (Err stop) = Halts history events store
-
--- the line of a bad row, by what the rows tell
-abbrev pub bad_text : Result (List Entry) ℕ → List ℕ
-bad_text (Ok history) = []
-bad_text (Err index) = bad_row_text index

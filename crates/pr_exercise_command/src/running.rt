@@ -1,10 +1,11 @@
 // The command `exercise`.
-ghost use Rattle.std.specs.Prelude.{◌≡◌, ℕ, List, length, take, Err, IfOk, IfSome, IsSome, OnOk, OnErr};
+ghost use Rattle.std.specs.Prelude.{◌≡◌, ℕ, List, [], length, take, Err, IfOk, IfSome, IsSome, OnOk, OnErr};
 ghost use Rattle.std.specs.Io.KnownBytes.{Appends};
 ghost use Rattle.pr_history.specs.declared.entry.Entry.{Entry};
 ghost use Rattle.pr_outside.specs.Kept.{StartsRows};
 ghost use Rattle.pr_row.specs.Histories.{history_of};
 ghost use Rattle.pr_status.specs.Ends.{Ends, WriteEnds};
+ghost use Rattle.pr_status.specs.Opening.{OpensBy};
 ghost use Rattle.pr_status.specs.Outside.{Outside};
 ghost use Rattle.pr_exercise.specs.Exercise.{exercise_events};
 ghost use Rattle.pr_world.specs.World.{start};
@@ -12,9 +13,9 @@ ghost use Rattle.pr_status.specs.declared.status.Stop.TheVariants as stop;
 ghost use Rattle.pr_run.specs.Events.{KeepEnds};
 ghost use Rattle.pr_run.specs.Keeping.{Starts};
 ghost use Rattle.pr_run.specs.Rows.{IsBadIn, OverRows};
-ghost use Rattle.pr_run.specs.Told.{bad_row_text};
+ghost use Rattle.pr_run.specs.Told.{bad_row_text, bad_text};
 ghost use Rattle.pr_exercise_command.specs.Means.{EndsBy, MeansExercise};
-ghost use Rattle.pr_exercise_command.specs.Standing.{Counts, bad_text};
+ghost use Rattle.pr_exercise_command.specs.Standing.{Counts};
 ghost use Rattle.pr_exercise_command.specs.Tallies.{summary_by};
 
 use crate::rounds::Rounds;
@@ -38,6 +39,7 @@ fn open<E: Worlds + Drop, K: Keeper, O: Sink>(
     ensures front { IfSome (K.means keeper.new).rows (λ rows. OnErr result ((n : ℕ) × Appends (O.means out.old).taken (O.means out.new).taken (take n (bad_text (history_of rows))))) }
     ensures bad { (at : ℕ) → result ≡ Err (stop.BadRow at) → Appends (O.means out.old).taken (O.means out.new).taken (bad_row_text at) }
     ensures rows { StartsRows (K.means keeper.old).rows (K.means keeper.new).rows }
+    ensures opens { OpensBy [] (K.means keeper.old).paths (K.means keeper.new).paths result }
     ensures ends { (others : Outside) → Ends (IsBadIn (K.means keeper.new)) ⊥ (record others { store = K.means keeper.old; out = O.means out.old })
         (record others { store = K.means keeper.new; out = O.means out.new }) result }
 {
@@ -63,6 +65,7 @@ fn answer_all<E: Worlds + Drop, K: Keeper>(
     ensures counts { (history : List Entry) → E.stands_for kept (K.means keeper.old) (start history) → (K.means keeper.old).count ≡ length history → IsSome (K.means keeper.new).rows
         → Counts history (exercise_events rounds) (K.means keeper.new) result }
     ensures told { IsSome (K.means keeper.new).rows → IsSome (K.means keeper.old).rows }
+    ensures paths { (K.means keeper.new).paths ≡ (K.means keeper.old).paths }
     ensures ends { KeepEnds (K.means keeper.old) (K.means keeper.new) result }
 {
     let mut session = Session::new(alloc, kept, keeper.size())?;
@@ -100,6 +103,7 @@ fn run<E: Worlds + Drop, K: Keeper, O: Sink>(
 ) -> Result<(), Stop>
     ensures over { (others : Outside) → IfSome (K.means keeper.new).rows (λ all. OverRows (K.means keeper.old).rows all (λ rows. EndsBy (history_of rows) rounds rows
         (record others { store = K.means keeper.old; out = O.means out.old }) (record others { store = K.means keeper.new; out = O.means out.new }) result)) }
+    ensures opens { OpensBy [] (K.means keeper.old).paths (K.means keeper.new).paths result }
     ensures ends { (others : Outside) → Ends (IsBadIn (K.means keeper.new)) ⊥ (record others { store = K.means keeper.old; out = O.means out.old })
         (record others { store = K.means keeper.new; out = O.means out.new }) result }
 {

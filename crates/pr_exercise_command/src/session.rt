@@ -61,6 +61,7 @@ impl<E: Worlds + Drop> Session<E> {
         ensures comes { (history : List Entry) (done : List Event) → Stands E.stands_for history done self.old (K.means keeper.old) → IsSome (K.means keeper.new).rows
             → Comes E.stands_for history (done ++ event ∷ []) self.new (K.means keeper.new) result }
         ensures told { IsSome (K.means keeper.new).rows → IsSome (K.means keeper.old).rows }
+        ensures paths { (K.means keeper.new).paths ≡ (K.means keeper.old).paths }
         ensures ends { KeepEnds (K.means keeper.old) (K.means keeper.new) result }
     {
         let report = self.kept.answer(alloc, keeper, event)?;
@@ -79,6 +80,7 @@ impl<E: Worlds + Drop> Session<E> {
         ensures comes { (history : List Entry) (done : List Event) → Stands E.stands_for history done self.old (K.means keeper.old) → IsSome (K.means keeper.new).rows
             → Comes E.stands_for history (done ++ events.items) self.new (K.means keeper.new) result }
         ensures told { IsSome (K.means keeper.new).rows → IsSome (K.means keeper.old).rows }
+        ensures paths { (K.means keeper.new).paths ≡ (K.means keeper.old).paths }
         ensures ends { KeepEnds (K.means keeper.old) (K.means keeper.new) result }
     {
         for event in events {

@@ -1,12 +1,12 @@
 // How many lines are told, by their first words.
-ghost use Rattle.std.specs.Prelude.{◌≡◌, ◌≢◌, ◌++◌, ◌+◌, ◌<◌, ◌≤◌, [], cond, take, drop, position, length, IfOk, OnOk};
+ghost use Rattle.std.specs.Prelude.{◌≡◌, ◌≢◌, ◌++◌, ◌+◌, ◌<◌, [], cond, take, drop, length, IfOk, OnOk};
 ghost use Rattle.std.specs.List.{position_or_len};
 ghost use Rattle.pr_words.specs.Lines.{is_feed, lines_of};
 ghost use Rattle.pr_exercise.specs.Summary.{begins_with, number_line, tells_fault};
 ghost use Rattle.pr_exercise_command.specs.Tallies.{counted, counted_all, no_lines, summary_by};
 
 use pr_kinds::push_number;
-use pr_words::split_first;
+use pr_words::{line_len, split_first};
 use std::alloc::{AllocError, Global};
 
 fn begins_with(word: &[u8], line: &[u8]) -> bool
@@ -36,21 +36,6 @@ fn more_if(is_one: bool, count: u64) -> Result<u64, AllocError>
     } else {
         Ok(count)
     }
-}
-
-fn first_feed(text: &[u8]) -> Option<usize>
-    ensures { result ≡ position is_feed text.now }
-{
-    text.iter().position(|b| *b == b'\n')
-}
-
-// Where the first line feed stands, or the length.
-#[tactic(auto, using(pr_words::proofs::Places::place_or_end, pr_words::proofs::Places::within))]
-fn line_len(text: &[u8]) -> usize
-    ensures value { result ≡ position_or_len is_feed text.now }
-    ensures within { result ≤ length text.now }
-{
-    first_feed(text).unwrap_or(text.len())
 }
 
 // The first line of a text that has one, and what stands behind it.

@@ -15,7 +15,8 @@ use Rattle.pr_outside.specs.Kept.{KeepsRows, StartsRows}
 use Rattle.pr_outside.specs.declared.keeping.KeepError.{KeepError}
 use Rattle.pr_outside.specs.declared.keeping.KeepError.TheVariants.{Failed, Memory}
 use Rattle.pr_outside.specs.declared.keeping.Row.{Row as Line}
-use Rattle.pr_keep_sql.specs.Counts.{CountsOnce, CountsOne, faults_of, one_more}
+use Rattle.pr_outside.specs.Schedule.{one_more}
+use Rattle.pr_keep_sql.specs.Counts.{CountsOnce, CountsOne, faults_of}
 use Rattle.pr_keep_sql.specs.Kept.{Keeps, listed}
 use Rattle.pr_keep_sql.specs.Opened.{IsFoundIn, TellsOf, rows_in}
 use Rattle.pr_keep_sql.specs.Store.{KeptStore, rows_of}

@@ -9,7 +9,8 @@ use Rattle.sqlite.specs.Store.{Ghosts}
 use Rattle.pr_outside.specs.declared.keeping.KeepError.{KeepError}
 use Rattle.pr_outside.specs.declared.keeping.KeepError.TheVariants.{Failed, Memory}
 use Rattle.pr_outside.specs.declared.keeping.Row.{Row as Line}
-use Rattle.pr_keep_sql.specs.Counts.{CountsOnce, one_more}
+use Rattle.pr_outside.specs.Schedule.{one_more}
+use Rattle.pr_keep_sql.specs.Counts.{CountsOnce}
 use Rattle.pr_keep_sql.specs.Found.{AreFound}
 use Rattle.pr_keep_sql.specs.Ran.{HasLoaded, HasRead, HasRun, IsCount, IsShownAs, numbers_in}
 use Rattle.pr_keep_sql.specs.Refusals.{RanInTurn}

@@ -6,10 +6,7 @@ use Rattle.sqlite.specs.declared.error.Error.TheVariants.{SqliteFailure}
 use Rattle.pr_outside.specs.declared.keeping.KeepError.{KeepError}
 use Rattle.pr_outside.specs.declared.keeping.KeepError.TheVariants.{Failed, Memory}
 use Rattle.pr_outside.specs.declared.keeping.Row.{Row}
-
--- one more, up to the end of the count
-abbrev pub one_more : ℕ → ℕ
-one_more n = min (n + 1) (2 ^ 64 - 1)
+use Rattle.pr_outside.specs.Schedule.{one_more}
 
 -- a refusal for want of memory, which is not counted
 abbrev pub is_want : Error → Bool

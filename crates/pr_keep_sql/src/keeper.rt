@@ -1,8 +1,10 @@
 ghost use Rattle.std.specs.Prelude.{◌≡◌, ◌≢◌, ◌+◌, ◌<◌, [], length, Some, Err, IfOk, IfSome, IsSome, OnOk, OnErr, slice_get};
 ghost use Rattle.pr_outside.specs.Causes.{HasKeepCause};
 ghost use Rattle.pr_outside.specs.Kept.{AppendsRows, KeepsRows};
+ghost use Rattle.pr_outside.specs.Paths.{Opens, StartsPath};
 ghost use Rattle.pr_outside.specs.declared.keeping.KeepError.TheVariants.{Failed};
-ghost use Rattle.pr_keep_sql.specs.Counts.{CountsOne, one_more};
+ghost use Rattle.pr_outside.specs.Schedule.{one_more};
+ghost use Rattle.pr_keep_sql.specs.Counts.{CountsOne};
 ghost use Rattle.pr_keep_sql.specs.Kept.{StaysTold};
 ghost use Rattle.pr_keep_sql.specs.Opened.{CommitsIn, IsTrusted, LoadsIn, TellsOf, disk_faults, faults_with, rows_in, size_in};
 ghost use Rattle.pr_keep_sql.specs.declared.opened.Opened.TheVariants.{Nothing};
@@ -11,8 +13,9 @@ use crate::counts::{failed, faults_of};
 use crate::opened::{Opened, in_file, in_memory};
 use crate::opening::Open;
 use pr_outside::{KeepError, Keeper, Row};
+use pr_words::Text;
 use sqlite::Alter;
-use std::alloc::Global;
+use std::alloc::{AllocError, Global};
 
 /// Rows kept in a file of SQLite, by its path, or in memory: `SqlKeeper<_, DiskFile<..>>` over the
 /// files of the disk.
@@ -21,51 +24,78 @@ pub struct SqlKeeper<S: Alter, O: Open<S>> {
     alloc: Global,
     files: O,
     opened: Opened<S>,
+    paths: Vec<Text>,
     own: u64,
+}
+
+// Copies of these paths.
+fn copy_paths(alloc: Global, paths: &[Text]) -> Result<Vec<Text>, AllocError>
+    ensures { IfOk result (λ copies. copies.items ≡ paths.now) }
+{
+    let mut copies = Vec::new(alloc);
+    for path in paths {
+        copies.push(path.copy(alloc)?)?;
+    }
+    Ok(copies)
+}
+
+// These paths, and another one after them.
+fn with_path(alloc: Global, paths: &[Text], path: &str) -> Result<Vec<Text>, AllocError>
+    ensures { IfOk result (λ all. Opens path.now paths.now all.items) }
+{
+    let mut all = copy_paths(alloc, paths)?;
+    all.push(Text::from_str(alloc, path)?)?;
+    Ok(all)
 }
 
 impl<S: Alter + Drop, O: Open<S>> SqlKeeper<S, O> {
     /// A store that has opened nothing yet, over these files.
     pub fn new(alloc: Global, files: O) -> SqlKeeper<S, O>
         ensures nothing { result.opened ≡ Nothing }
+        ensures unopened { result.paths.items ≡ [] }
         ensures faultless { result.own ≡ 0 }
     {
         SqlKeeper {
             alloc,
             files,
             opened: Opened::Nothing,
+            paths: Vec::new(alloc),
             own: 0,
         }
     }
 
-    // Opens tables in memory.
-    fn start_in_memory(&mut self) -> Result<(), KeepError>
+    // Opens tables in memory, after which these are the paths.
+    fn start_in_memory(&mut self, paths: Vec<Text>) -> Result<(), KeepError>
         requires { self.old.opened ≡ Nothing }
         ensures empty { OnOk result (rows_in S.Store self.new.opened ≡ Some []) }
-        ensures err { OnErr result (self.new.opened ≡ self.old.opened) }
+        ensures paths { OnOk result (self.new.paths.items ≡ paths.items) }
+        ensures err { OnErr result ((self.new.opened ≡ self.old.opened) × (self.new.paths.items ≡ self.old.paths.items)) }
         ensures cause { HasKeepCause self.old.own (faults_with self.new.own self.new.opened) result }
         ensures own { CountsOne self.old.own self.new.own result }
     {
         match in_memory(self.alloc, &mut self.own) {
             Ok(kept) => {
                 self.opened = Opened::Memory(kept);
+                self.paths = paths;
                 Ok(())
             }
             Err(error) => Err(error),
         }
     }
 
-    // Opens the file at this path.
-    fn start_at(&mut self, path: &str) -> Result<(), KeepError>
+    // Opens the file at this path, after which these are the paths.
+    fn start_at(&mut self, path: &str, paths: Vec<Text>) -> Result<(), KeepError>
         requires { self.old.opened ≡ Nothing }
-        ensures told { IsTrusted S.Store self.new.opened → OnOk result (TellsOf O.finds (rows_in S.Store self.new.opened)) }
-        ensures err { OnErr result (self.new.opened ≡ self.old.opened) }
+        ensures told { IsTrusted S.Store self.new.opened → OnOk result (TellsOf (O.finds path.now) (rows_in S.Store self.new.opened)) }
+        ensures paths { OnOk result (self.new.paths.items ≡ paths.items) }
+        ensures err { OnErr result ((self.new.opened ≡ self.old.opened) × (self.new.paths.items ≡ self.old.paths.items)) }
         ensures cause { HasKeepCause self.old.own (faults_with self.new.own self.new.opened) result }
         ensures own { CountsOne self.old.own self.new.own result }
     {
         match in_file(&mut self.files, path, &mut self.own) {
             Ok(kept) => {
                 self.opened = Opened::File(kept);
+                self.paths = paths;
                 Ok(())
             }
             Err(error) => Err(error),
@@ -82,8 +112,10 @@ impl<S: Alter + Drop, O: Open<S>> SqlKeeper<S, O> {
     pub fn start(&mut self, path: &str) -> Result<(), KeepError>
         ensures first { OnOk result (self.old.opened ≡ Nothing) }
         ensures empty { OnOk result (path.now ≡ [] → rows_in S.Store self.new.opened ≡ Some []) }
-        ensures told { IsTrusted S.Store self.new.opened → OnOk result (path.now ≢ [] → TellsOf O.finds (rows_in S.Store self.new.opened)) }
+        ensures told { IsTrusted S.Store self.new.opened → OnOk result (path.now ≢ [] → TellsOf (O.finds path.now) (rows_in S.Store self.new.opened)) }
         ensures err { OnErr result (self.new.opened ≡ self.old.opened) }
+        // The path is noted where it is opened.
+        ensures paths { StartsPath path.now self.old.paths.items self.new.paths.items result }
         ensures cause { HasKeepCause (faults_with self.old.own self.old.opened) (faults_with self.new.own self.new.opened) result }
         // A refusal adds one to its own count, and a start that succeeds leaves it.
         ensures own { CountsOne self.old.own self.new.own result }
@@ -91,10 +123,11 @@ impl<S: Alter + Drop, O: Open<S>> SqlKeeper<S, O> {
         if !self.opened.is_nothing() {
             return Err(failed(&mut self.own));
         }
+        let paths = with_path(self.alloc, &self.paths, path)?;
         if path.is_empty() {
-            self.start_in_memory()
+            self.start_in_memory(paths)
         } else {
-            self.start_at(path)
+            self.start_at(path, paths)
         }
     }
 
@@ -121,6 +154,7 @@ impl<S: Alter + Drop, O: Open<S>> SqlKeeper<S, O> {
         ensures told { IsTrusted S.Store self.new.opened → OnOk result (IsSome (rows_in S.Store self.old.opened) → IsSome (rows_in S.Store self.new.opened)) }
         ensures err { OnErr result (KeepsRows (rows_in S.Store self.old.opened) (rows_in S.Store self.new.opened)) }
         ensures err_count { OnErr result (size_in self.new.opened ≡ size_in self.old.opened) }
+        ensures paths { self.new.paths.items ≡ self.old.paths.items }
         ensures cause { HasKeepCause (faults_with self.old.own self.old.opened) (faults_with self.new.own self.new.opened) result }
         // Told rows stay told, also after a refused call, unless the disk has failed.
         ensures stays { IsTrusted S.Store self.new.opened → StaysTold (rows_in S.Store self.old.opened) (rows_in S.Store self.new.opened) (disk_faults S.Store self.old.opened) (disk_faults S.Store self.new.opened) }
@@ -146,6 +180,7 @@ impl<S: Alter + Drop, O: Open<S>> SqlKeeper<S, O> {
         ensures told { IsTrusted S.Store self.new.opened → OnOk result (IsSome (rows_in S.Store self.old.opened) → IsSome (rows_in S.Store self.new.opened)) }
         ensures same { KeepsRows (rows_in S.Store self.old.opened) (rows_in S.Store self.new.opened) }
         ensures count { size_in self.new.opened ≡ size_in self.old.opened }
+        ensures paths { self.new.paths.items ≡ self.old.paths.items }
         ensures cause { HasKeepCause (faults_with self.old.own self.old.opened) (faults_with self.new.own self.new.opened) result }
         // Told rows stay told, also after a refused call, unless the disk has failed.
         ensures stays { IsTrusted S.Store self.new.opened → StaysTold (rows_in S.Store self.old.opened) (rows_in S.Store self.new.opened) (disk_faults S.Store self.old.opened) (disk_faults S.Store self.new.opened) }
@@ -173,7 +208,7 @@ impl<S: Alter + Drop, O: Open<S>> SqlKeeper<S, O> {
 }
 
 impl<S: Alter + Drop, O: Open<S>> Keeper for SqlKeeper<S, O> {
-    ghost means = { λ k. record { rows = rows_in S.Store k.opened; count = size_in k.opened; faults = faults_with k.own k.opened } };
+    ghost means = { λ k. record { rows = rows_in S.Store k.opened; count = size_in k.opened; paths = k.paths.items; faults = faults_with k.own k.opened } };
 
     fn start(&mut self, path: &str) -> Result<(), KeepError> {
         SqlKeeper::start(self, path)

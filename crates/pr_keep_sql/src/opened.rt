@@ -82,7 +82,7 @@ pub(crate) fn in_file<S: Alter + Drop, O: Open<S>>(
     own: &mut u64,
 ) -> Result<Kept<S>, KeepError>
     ensures counts { IfOk result (λ k. faults_of own.new (faults_in k) ≡ own.old) }
-    ensures told { IfOk result (λ k. HasCleanDisk (state S.Store k.conn) → TellsOf O.finds (rows_of S.Store k)) }
+    ensures told { IfOk result (λ k. HasCleanDisk (state S.Store k.conn) → TellsOf (O.finds path.now) (rows_of S.Store k)) }
     ensures cause { HasKeepCause own.old own.new result }
     ensures once { CountsOne own.old own.new result }
 {

@@ -9,16 +9,17 @@ use std::rt::HostRuntime;
 
 /// How a store of rows comes to a file, by its path.
 pub trait Open<S: Alter> {
+    ghost use Rattle.std.specs.Prelude.{ℕ, List};
     ghost use Rattle.sqlite.specs.Effect.{Database};
 
-    /// What is known of a database that is found.
-    ghost finds: { Database → Type 0 };
+    /// What is known of a database that is found at a path.
+    ghost finds: { List ℕ → Database → Type 0 };
 
     /// Opens the file at this path.
     fn open(&mut self, path: &str) -> Result<Connection<S>, Error>
         ensures mode { IfOk result (λ c. c.in_transaction ≡ false) }
         ensures sound { IfOk result (λ c. HasCleanDisk (state S.Store c) → IsDatabase (state S.Store c).now) }
-        ensures found { IfOk result (λ c. HasCleanDisk (state S.Store c) → finds (state S.Store c).now) };
+        ensures found { IfOk result (λ c. HasCleanDisk (state S.Store c) → finds path.now (state S.Store c).now) };
 }
 
 /// Files of the disk. Contracts see what stands in a file by the value that it is opened with, which
@@ -43,7 +44,7 @@ impl<T: Start> Open<FileStore<FileFrom<T>>> for DiskFile<'_, T> {
     ghost use Rattle.sqlite.specs.WalFiles.{image_at};
     ghost use Rattle.pr_keep_sql.specs.Opened.{IsFoundIn};
 
-    ghost finds = { IsFoundIn (image_at T.Start) };
+    ghost finds = { λ path. IsFoundIn (image_at T.Start) };
 
     fn open(&mut self, path: &str) -> Result<Connection<FileStore<FileFrom<T>>>, Error> {
         let Some(start) = self.start.take() else {

@@ -2,6 +2,7 @@
 ghost use Rattle.std.specs.Prelude.{◌≡◌, ◌<◌, ◌+◌, length, OnOk, OnErr, IfOk, IfSome, Some, slice_get};
 ghost use Rattle.pr_outside.specs.Causes.{HasKeepCause};
 ghost use Rattle.pr_outside.specs.Kept.{KeepsRows, StartsRows, AppendsRows};
+ghost use Rattle.pr_outside.specs.Paths.{StartsPath};
 
 use pr_words::Text;
 use std::alloc::AllocError;
@@ -38,8 +39,8 @@ pub struct Row {
 pub trait Keeper {
     ghost use Rattle.pr_outside.specs.Meant.{Store};
 
-    /// The rows in order, where they are told; how many there are; and how often a call was
-    /// refused, at most 2^64 - 1.
+    /// The rows in order, where they are told; how many there are; the paths that were opened, in
+    /// order; and how often a call was refused, at most 2^64 - 1.
     ghost means: { Self → Store };
 
     /// Opens the store of this path; the empty path is a store in memory. Rows that were told stay
@@ -48,6 +49,7 @@ pub trait Keeper {
         ensures ok { OnOk result (StartsRows (means self.old).rows (means self.new).rows) }
         ensures err { OnErr result (KeepsRows (means self.old).rows (means self.new).rows) }
         ensures err_count { OnErr result ((means self.new).count ≡ (means self.old).count) }
+        ensures paths { StartsPath path.now (means self.old).paths (means self.new).paths result }
         ensures cause { HasKeepCause (means self.old).faults (means self.new).faults result };
 
     /// How many rows there are.
@@ -63,6 +65,7 @@ pub trait Keeper {
         ensures ok_count { OnOk result ((means self.new).count ≡ (means self.old).count + length added.now) }
         ensures err { OnErr result (KeepsRows (means self.old).rows (means self.new).rows) }
         ensures err_count { OnErr result ((means self.new).count ≡ (means self.old).count) }
+        ensures paths { (means self.new).paths ≡ (means self.old).paths }
         ensures cause { HasKeepCause (means self.old).faults (means self.new).faults result };
 
     /// The row of this index. It changes no rows.
@@ -71,5 +74,6 @@ pub trait Keeper {
         ensures row { IfOk result (λ row. IfSome (means self.new).rows (λ rows. slice_get rows index ≡ Some row)) }
         ensures same { KeepsRows (means self.old).rows (means self.new).rows }
         ensures count { (means self.new).count ≡ (means self.old).count }
+        ensures paths { (means self.new).paths ≡ (means self.old).paths }
         ensures cause { HasKeepCause (means self.old).faults (means self.new).faults result };
 }

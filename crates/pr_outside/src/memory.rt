@@ -1,5 +1,5 @@
 // Forms in memory that fail where they are told to.
-ghost use Rattle.std.specs.Prelude.{◌≡◌, ◌≢◌, ◌↔◌, ℕ, ◌+◌, ◌<◌, ◌≤◌, List, [], ◌++◌, length, min, take, drop, Some, IsTrue, IsOk, IsErr, IfOk, IfSome, OnOk, OnErr, slice_get};
+ghost use Rattle.std.specs.Prelude.{◌≡◌, ◌≢◌, ◌↔◌, ℕ, ◌+◌, ◌<◌, ◌≤◌, List, [], ◌++◌, length, min, take, drop, Some, IsTrue, IsErr, IfOk, IfSome, OnOk, OnErr, slice_get};
 ghost use Rattle.std.specs.Io.{ReadsAtMost, WritesAtMost};
 ghost use Rattle.std.specs.Io.KnownBytes.{ReadConsumes, WriteAppends};
 ghost use Rattle.pr_outside.specs.Causes.{HasReadCause, HasWriteCause, HasFilesCause, HasKeepCause};
@@ -7,6 +7,7 @@ ghost use Rattle.pr_outside.specs.Contents.{IsFound, IsWithinLimit};
 ghost use Rattle.pr_outside.specs.Courses.{course_after, is_last_read, is_refused};
 ghost use Rattle.pr_outside.specs.HeldFiles.{content_of, files_of};
 ghost use Rattle.pr_outside.specs.Kept.{KeepsRows, StartsRows, AppendsRows};
+ghost use Rattle.pr_outside.specs.Paths.{StartsPath};
 ghost use Rattle.pr_outside.specs.Schedule.{after_call, fails_next, one_more, schedule_of};
 
 use super::schedule::Schedule;
@@ -204,8 +205,8 @@ impl Files for MemFiles {
     }
 }
 
-/// Rows in memory, some of whose commits fail. Contracts see the rows in order, and the schedule,
-/// as with `MemSource`.
+/// Rows in memory, some of whose commits fail. Contracts see the rows in order, the paths that were
+/// opened, and the schedule, as with `MemSource`.
 #[derive(Debug, Drop)]
 pub struct MemKeeper {
     inner: SureKeeper,
@@ -217,13 +218,13 @@ impl Model for MemKeeper {
 
     ghost Value = { FailingKeeper };
 
-    ghost view = { λ m. record { rows = m.inner; schedule = m.schedule } };
+    ghost view = { λ m. record { rows = m.inner.rows; paths = m.inner.paths; schedule = m.schedule } };
 }
 
 impl MemKeeper {
-    /// These rows, whose calls of `commit` with these numbers, counted from 1, fail.
+    /// These rows, whose calls of `commit` with these numbers, counted from 1, fail. No path was opened.
     pub fn new(rows: Vec<Row>, fails: Vec<u64>) -> MemKeeper
-        ensures { result ≡ record { rows = rows.items; schedule = schedule_of fails.items } }
+        ensures { result ≡ record { rows = rows.items; paths = []; schedule = schedule_of fails.items } }
     {
         MemKeeper {
             inner: SureKeeper::new(rows),
@@ -240,16 +241,17 @@ impl MemKeeper {
 }
 
 impl Keeper for MemKeeper {
-    ghost means = { λ m. record { rows = Some m.rows; count = length m.rows; faults = m.schedule.faults } };
+    ghost means = { λ m. record { rows = Some m.rows; count = length m.rows; paths = m.paths; faults = m.schedule.faults } };
 
-    /// Ignores the path, and keeps its rows.
+    /// Notes the path, and keeps its rows, unless memory runs out.
     fn start(&mut self, path: &str) -> Result<(), KeepError>
         ensures ok { OnOk result (StartsRows (Some self.old.rows) (Some self.new.rows)) }
         ensures err { OnErr result (KeepsRows (Some self.old.rows) (Some self.new.rows)) }
         ensures err_count { OnErr result (length self.new.rows ≡ length self.old.rows) }
+        ensures paths { StartsPath path.now self.old.paths self.new.paths result }
         ensures cause { HasKeepCause self.old.schedule.faults self.new.schedule.faults result }
-        ensures sure { IsOk result }
-        ensures unchanged { self.new ≡ self.old }
+        ensures unchanged { (self.new.rows ≡ self.old.rows) × (self.new.schedule ≡ self.old.schedule) }
+        ensures sure { result ≢ Err KeepError.Failed }
     {
         self.inner.start(path)
     }
@@ -267,6 +269,7 @@ impl Keeper for MemKeeper {
         ensures ok_count { OnOk result (length self.new.rows ≡ length self.old.rows + length added.now) }
         ensures err { OnErr result (KeepsRows (Some self.old.rows) (Some self.new.rows)) }
         ensures err_count { OnErr result (length self.new.rows ≡ length self.old.rows) }
+        ensures paths { self.new.paths ≡ self.old.paths }
         ensures cause { HasKeepCause self.old.schedule.faults self.new.schedule.faults result }
         ensures failed { (result ≡ Err KeepError.Failed) ↔ IsTrue (fails_next self.old.schedule) }
         ensures schedule { self.new.schedule ≡ after_call self.old.schedule }
@@ -283,6 +286,7 @@ impl Keeper for MemKeeper {
         ensures row { IfOk result (λ row. IfSome (Some self.new.rows) (λ rows. slice_get rows index ≡ Some row)) }
         ensures same { KeepsRows (Some self.old.rows) (Some self.new.rows) }
         ensures count { length self.new.rows ≡ length self.old.rows }
+        ensures paths { self.new.paths ≡ self.old.paths }
         ensures cause { HasKeepCause self.old.schedule.faults self.new.schedule.faults result }
         ensures unchanged { self.new ≡ self.old }
         ensures sure { result ≢ Err KeepError.Failed }

@@ -1,5 +1,5 @@
 // Forms in memory that never fail.
-ghost use Rattle.std.specs.Prelude.{◌≡◌, ◌≢◌, ◌↔◌, ℕ, ◌+◌, ◌<◌, ◌≤◌, ◌==◌, ◌&&◌, not, List, [], ◌∷◌, ◌++◌, length, min, take, drop, Some, vec_len, IsOk, IfOk, IfSome, OnOk, OnErr, slice_get};
+ghost use Rattle.std.specs.Prelude.{◌≡◌, ◌≢◌, ◌↔◌, ℕ, ◌+◌, ◌<◌, ◌≤◌, ◌==◌, ◌&&◌, not, List, [], ◌∷◌, ◌++◌, length, min, take, drop, Some, vec_len, IfOk, IfSome, OnOk, OnErr, slice_get};
 ghost use Rattle.std.specs.Io.{ReadsAtMost, WritesAtMost};
 ghost use Rattle.std.specs.Io.KnownBytes.{ReadConsumes, WriteAppends};
 ghost use Rattle.pr_outside.specs.Causes.{HasReadCause, HasWriteCause, HasFilesCause, HasKeepCause};
@@ -7,12 +7,14 @@ ghost use Rattle.pr_outside.specs.Contents.{IsFound, IsWithinLimit};
 ghost use Rattle.pr_outside.specs.Courses.{course_after, is_last_read, is_refused};
 ghost use Rattle.pr_outside.specs.HeldFiles.{content_of, files_of};
 ghost use Rattle.pr_outside.specs.Kept.{KeepsRows, StartsRows, AppendsRows};
+ghost use Rattle.pr_outside.specs.Paths.{StartsPath};
 ghost use Rattle.pr_outside.specs.Schedule.{one_more};
 
 use super::{
     Course, FILE_LIMIT, Failed, Files, FilesError, Found, HeldFile, KeepError, Keeper, Row, Sink,
     SinkError, Source,
 };
+use pr_words::Text;
 use std::alloc::{AllocError, Global};
 use std::marker::Model;
 
@@ -61,8 +63,8 @@ fn copy_prefix(from: &[u8], to: &mut [u8]) -> usize
     count
 }
 
-// Whether a read of so many bytes into this buffer met the end.
-pub(crate) fn is_end(count: usize, buf: &[u8]) -> bool
+/// Whether a read of so many bytes into this buffer met the end: an empty buffer tells of none.
+pub fn is_end(count: usize, buf: &[u8]) -> bool
     ensures { result ≡ ((count == 0) && not (length buf.now == 0)) }
 {
     count == 0 && !buf.is_empty()
@@ -233,32 +235,34 @@ impl Files for SureFiles {
     }
 }
 
-/// Rows in memory whose calls fail only for want of memory. Contracts see the rows in order.
+/// Rows in memory whose calls fail only for want of memory. Contracts see the rows in order, and the
+/// paths that were opened.
 #[derive(Debug, Drop)]
 pub struct SureKeeper {
     rows: Vec<Row>,
+    paths: Vec<Text>,
 }
 
 impl Model for SureKeeper {
-    ghost use Rattle.std.specs.Prelude.{List};
-    ghost use Rattle.pr_outside.specs.declared.keeping.Row.{Row};
+    ghost use Rattle.pr_outside.specs.Failing.{SureRows};
 
-    ghost Value = { List Row };
+    ghost Value = { SureRows };
 
-    ghost view = { λ s. s.rows.items };
+    ghost view = { λ s. record { rows = s.rows.items; paths = s.paths.items } };
 }
 
 impl SureKeeper {
-    /// These rows.
+    /// These rows. No path was opened.
     pub fn new(rows: Vec<Row>) -> SureKeeper
-        ensures { result ≡ rows.items }
+        ensures { result ≡ record { rows = rows.items; paths = [] } }
     {
-        SureKeeper { rows }
+        let paths = Vec::new(*rows.allocator());
+        SureKeeper { rows, paths }
     }
 
     /// The rows in order.
     pub fn kept(&self) -> &[Row]
-        ensures { result.now ≡ self.now }
+        ensures { result.now ≡ self.now.rows }
     {
         &self.rows
     }
@@ -286,34 +290,46 @@ fn copy_rows(alloc: Global, rows: &[Row]) -> Result<Vec<Row>, AllocError>
     Ok(copies)
 }
 
-impl Keeper for SureKeeper {
-    ghost means = { λ s. record { rows = Some s; count = length s; faults = 0 } };
+// Adds a path, or none where memory runs out.
+fn note(paths: &mut Vec<Text>, path: &str) -> Result<(), AllocError>
+    ensures { StartsPath path.now paths.old.items paths.new.items result }
+{
+    let path = Text::from_str(*paths.allocator(), path)?;
+    paths.push(path)?;
+    Ok(())
+}
 
-    /// Ignores the path, and keeps its rows.
-    fn start(&mut self, _path: &str) -> Result<(), KeepError>
-        ensures ok { OnOk result (StartsRows (Some self.old) (Some self.new)) }
-        ensures err { OnErr result (KeepsRows (Some self.old) (Some self.new)) }
-        ensures err_count { OnErr result (length self.new ≡ length self.old) }
+impl Keeper for SureKeeper {
+    ghost means = { λ s. record { rows = Some s.rows; count = length s.rows; paths = s.paths; faults = 0 } };
+
+    /// Notes the path, and keeps its rows, unless memory runs out.
+    fn start(&mut self, path: &str) -> Result<(), KeepError>
+        ensures ok { OnOk result (StartsRows (Some self.old.rows) (Some self.new.rows)) }
+        ensures err { OnErr result (KeepsRows (Some self.old.rows) (Some self.new.rows)) }
+        ensures err_count { OnErr result (length self.new.rows ≡ length self.old.rows) }
+        ensures paths { StartsPath path.now self.old.paths self.new.paths result }
         ensures cause { HasKeepCause 0 0 result }
-        ensures sure { IsOk result }
-        ensures unchanged { self.new ≡ self.old }
+        ensures unchanged { self.new.rows ≡ self.old.rows }
+        ensures sure { result ≢ Err KeepError.Failed }
     {
+        note(&mut self.paths, path)?;
         Ok(())
     }
 
     fn size(&self) -> u64
-        ensures count { result ≡ length self.now }
-        ensures rows { IfSome (Some self.now) (λ rows. result ≡ length rows) }
+        ensures count { result ≡ length self.now.rows }
+        ensures rows { IfSome (Some self.now.rows) (λ rows. result ≡ length rows) }
     {
         self.rows.len() as u64
     }
 
     /// Appends copies of all the rows, or none where memory runs out.
     fn commit(&mut self, added: &[Row]) -> Result<(), KeepError>
-        ensures ok { OnOk result (AppendsRows (Some self.old) (Some self.new) added.now) }
-        ensures ok_count { OnOk result (length self.new ≡ length self.old + length added.now) }
-        ensures err { OnErr result (KeepsRows (Some self.old) (Some self.new)) }
-        ensures err_count { OnErr result (length self.new ≡ length self.old) }
+        ensures ok { OnOk result (AppendsRows (Some self.old.rows) (Some self.new.rows) added.now) }
+        ensures ok_count { OnOk result (length self.new.rows ≡ length self.old.rows + length added.now) }
+        ensures err { OnErr result (KeepsRows (Some self.old.rows) (Some self.new.rows)) }
+        ensures err_count { OnErr result (length self.new.rows ≡ length self.old.rows) }
+        ensures paths { self.new.paths ≡ self.old.paths }
         ensures cause { HasKeepCause 0 0 result }
         ensures sure { result ≢ Err KeepError.Failed }
     {
@@ -324,10 +340,11 @@ impl Keeper for SureKeeper {
 
     /// Copies the row of this index, unless memory runs out.
     fn load(&mut self, index: u64) -> Result<Row, KeepError>
-        requires { index < length self.old }
-        ensures row { IfOk result (λ row. IfSome (Some self.new) (λ rows. slice_get rows index ≡ Some row)) }
-        ensures same { KeepsRows (Some self.old) (Some self.new) }
-        ensures count { length self.new ≡ length self.old }
+        requires { index < length self.old.rows }
+        ensures row { IfOk result (λ row. IfSome (Some self.new.rows) (λ rows. slice_get rows index ≡ Some row)) }
+        ensures same { KeepsRows (Some self.old.rows) (Some self.new.rows) }
+        ensures count { length self.new.rows ≡ length self.old.rows }
+        ensures paths { self.new.paths ≡ self.old.paths }
         ensures cause { HasKeepCause 0 0 result }
         ensures unchanged { self.new ≡ self.old }
         ensures sure { result ≢ Err KeepError.Failed }

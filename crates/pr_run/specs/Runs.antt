@@ -5,6 +5,7 @@ use Rattle.pr_history.specs.declared.entry.Entry.{Entry}
 use Rattle.pr_outside.specs.declared.keeping.Row.{Row}
 use Rattle.pr_row.specs.Histories.{history_of}
 use Rattle.pr_status.specs.Ends.{Ends, KnowsLength, place_of, status_of}
+use Rattle.pr_status.specs.Opening.{OpensBy}
 use Rattle.pr_status.specs.Outside.{Outside, AreCalm, Held, AreTold}
 use Rattle.pr_status.specs.Status.{IsLong, verdict}
 use Rattle.pr_status.specs.declared.status.Status.{Status}
@@ -71,11 +72,14 @@ abbrev pub RunsBy : Result (List Entry) ℕ → List Row → List ℕ → Outsid
 RunsBy (Ok history) rows bytes before now ending result = RunsOver history bytes before now ending result
 RunsBy (Err index) rows bytes before now ending result = RunsInto index rows before now ending result
 
--- What `run` promises, by how it ended, whose status is the program's, and what stopped it.
-pub record MeansRun (before now : Outside) (result : Status) : Type 0 where
+-- What `run` promises over the store of a path, by how it ended, whose status is the program's, and what
+-- stopped it.
+pub record MeansRun (path : List ℕ) (before now : Outside) (result : Status) : Type 0 where
   pub ending : Result Bool Stop
   pub answer : result ≡ status_of ending
   pub ends : Ends (IsBadIn now.store) (IsLong before.input.left) before now ending
+  -- it opens this path, and no other
+  pub opens : OpensBy path before.store.paths now.store.paths ending
   -- an input that was read to its end is short, and one that is too long is long
   pub known : KnowsLength before.input.left ending
   -- over any store

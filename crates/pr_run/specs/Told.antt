@@ -120,6 +120,11 @@ told_of rows answered = shown_report (Opened (length rows)) ++ flat_map (λ (a :
 unfoldable pub bad_row_text : ℕ → List ℕ
 bad_row_text index = codes "bad row " ++ (decimal index ++ codes "\n")
 
+-- the line of a bad row, by what the rows tell
+abbrev pub bad_text : Result (List Entry) ℕ → List ℕ
+bad_text (Ok history) = []
+bad_text (Err index) = bad_row_text index
+
 -- the entries that are kept after answers: those at the start, and those of the answers
 abbrev pub kept_after : List Entry → List Answer → List Entry
 kept_after rows answered = rows ++ flat_map (λ (a : Answer). a.rows) answered

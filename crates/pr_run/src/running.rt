@@ -5,6 +5,7 @@ ghost use Rattle.pr_history.specs.declared.entry.Entry.{Entry};
 ghost use Rattle.pr_outside.specs.Kept.{StartsRows};
 ghost use Rattle.pr_row.specs.Histories.{history_of};
 ghost use Rattle.pr_status.specs.Ends.{Ends, KnowsLength, WriteEnds};
+ghost use Rattle.pr_status.specs.Opening.{OpensBy};
 ghost use Rattle.pr_status.specs.Outside.{AreTold, Held, Outside};
 ghost use Rattle.pr_status.specs.Status.{IsLong};
 ghost use Rattle.pr_status.specs.declared.status.Stop.TheVariants as stop;
@@ -87,6 +88,7 @@ fn begin<E: Worlds + Drop, K: Keeper, O: Sink>(
     ensures front { IfSome (K.means keeper.new).rows (λ rows. OnErr result ((n : ℕ) × Appends (O.means out.old).taken (O.means out.new).taken (take n (first_text (history_of rows))))) }
     ensures bad { (at : ℕ) → result ≡ Err (stop.BadRow at) → Appends (O.means out.old).taken (O.means out.new).taken (bad_row_text at) }
     ensures rows { StartsRows (K.means keeper.old).rows (K.means keeper.new).rows }
+    ensures opens { OpensBy path.now (K.means keeper.old).paths (K.means keeper.new).paths result }
     ensures ends { (others : Outside) → Ends (IsBadIn (K.means keeper.new)) ⊥ (record others { store = K.means keeper.old; out = O.means out.old })
         (record others { store = K.means keeper.new; out = O.means out.new }) result }
 {
@@ -127,6 +129,7 @@ fn answer_order<E: Worlds + Drop, F: Files, K: Keeper, O: Sink>(
     ensures grows { (w : World) → E.stands_for session.old.kept (K.means keeper.old) w → IsSome (K.means keeper.new).rows → Grows E.stands_for w.history (K.means keeper.new) session.new.kept result }
     ensures told { IsSome (K.means keeper.new).rows → IsSome (K.means keeper.old).rows }
     ensures same { (other : List ℕ) → (F.means files.new).content other ≡ (F.means files.old).content other }
+    ensures paths { (K.means keeper.new).paths ≡ (K.means keeper.old).paths }
     ensures ends { (others : Outside) → Ends (IsBadIn (K.means keeper.new)) ⊥ (record others { files = F.means files.old; store = K.means keeper.old; out = O.means out.old })
         (record others { files = F.means files.new; store = K.means keeper.new; out = O.means out.new }) result }
 {
@@ -165,6 +168,7 @@ fn answer_all<E: Worlds + Drop, I: Source, F: Files, K: Keeper, O: Sink>(
     ensures told { IsSome (K.means keeper.new).rows → IsSome (K.means keeper.old).rows }
     ensures same { (other : List ℕ) → (F.means files.new).content other ≡ (F.means files.old).content other }
     ensures long { KnowsLength (I.means input.old).left result }
+    ensures paths { (K.means keeper.new).paths ≡ (K.means keeper.old).paths }
     ensures ends { Ends (IsBadIn (K.means keeper.new)) (IsLong (I.means input.old).left)
         (record { input = I.means input.old; files = F.means files.old; store = K.means keeper.old; out = O.means out.old })
         (record { input = I.means input.new; files = F.means files.new; store = K.means keeper.new; out = O.means out.new }) result }
@@ -194,6 +198,7 @@ pub fn run<E: Worlds + Drop, I: Source, F: Files, K: Keeper, O: Sink>(
     ensures row { (at : ℕ) → result ≡ Err (stop.BadRow at) → TellsRow at (O.means out.old).taken (O.means out.new).taken }
     ensures same { (other : List ℕ) → (F.means files.new).content other ≡ (F.means files.old).content other }
     ensures long { KnowsLength (I.means input.old).left result }
+    ensures opens { OpensBy path.now (K.means keeper.old).paths (K.means keeper.new).paths result }
     ensures ends { Ends (IsBadIn (K.means keeper.new)) (IsLong (I.means input.old).left)
         (record { input = I.means input.old; files = F.means files.old; store = K.means keeper.old; out = O.means out.old })
         (record { input = I.means input.new; files = F.means files.new; store = K.means keeper.new; out = O.means out.new }) result }

@@ -104,6 +104,7 @@ impl<E: Worlds + Drop> Session<E> {
         ensures queues { self.new.queues ≡ self.old.queues }
         ensures grows { (w : World) → E.stands_for self.old.kept (K.means keeper.old) w → IsSome (K.means keeper.new).rows → Grows E.stands_for w.history (K.means keeper.new) self.new.kept result }
         ensures told { IsSome (K.means keeper.new).rows → IsSome (K.means keeper.old).rows }
+        ensures paths { (K.means keeper.new).paths ≡ (K.means keeper.old).paths }
         ensures ends { (others : Outside) → Ends (IsBadIn (K.means keeper.new)) ⊥ (record others { store = K.means keeper.old }) (record others { store = K.means keeper.new }) result }
     {
         self.kept.answer(alloc, keeper, event)
@@ -127,6 +128,7 @@ impl<E: Worlds + Drop> Session<E> {
         ensures grows { (w : World) → E.stands_for self.old.kept (K.means keeper.old) w → IsSome (K.means keeper.new).rows → Grows E.stands_for w.history (K.means keeper.new) self.new.kept result }
         ensures told { IsSome (K.means keeper.new).rows → IsSome (K.means keeper.old).rows }
         ensures same { (other : List ℕ) → (F.means files.new).content other ≡ (F.means files.old).content other }
+        ensures paths { (K.means keeper.new).paths ≡ (K.means keeper.old).paths }
         ensures ends { (others : Outside) → Ends (IsBadIn (K.means keeper.new)) ⊥ (record others { files = F.means files.old; store = K.means keeper.old })
             (record others { files = F.means files.new; store = K.means keeper.new }) result }
     {
@@ -154,6 +156,7 @@ impl<E: Worlds + Drop> Session<E> {
         ensures grows { (w : World) → E.stands_for self.old.kept (K.means keeper.old) w → IsSome (K.means keeper.new).rows → Grows E.stands_for w.history (K.means keeper.new) self.new.kept result }
         ensures told { IsSome (K.means keeper.new).rows → IsSome (K.means keeper.old).rows }
         ensures same { (other : List ℕ) → (F.means files.new).content other ≡ (F.means files.old).content other }
+        ensures paths { (K.means keeper.new).paths ≡ (K.means keeper.old).paths }
         ensures ends { (others : Outside) → Ends (IsBadIn (K.means keeper.new)) ⊥ (record others { files = F.means files.old; store = K.means keeper.old })
             (record others { files = F.means files.new; store = K.means keeper.new }) result }
     {
@@ -191,6 +194,7 @@ impl<E: Worlds + Drop> Session<E> {
             → IfErr result (Leaves (turn held p.state (record { number = number; order = order.Event event })) p.state.world.history (record others { store = K.means keeper.old }) (record others { store = K.means keeper.new })) }
         ensures grows { (w : World) → E.stands_for self.old.kept (K.means keeper.old) w → IsSome (K.means keeper.new).rows → Grows E.stands_for w.history (K.means keeper.new) self.new.kept result }
         ensures told { IsSome (K.means keeper.new).rows → IsSome (K.means keeper.old).rows }
+        ensures paths { (K.means keeper.new).paths ≡ (K.means keeper.old).paths }
         ensures ends { (others : Outside) → Ends (IsBadIn (K.means keeper.new)) ⊥ (record others { store = K.means keeper.old }) (record others { store = K.means keeper.new }) result }
     {
         // The reader makes no such order.
@@ -221,6 +225,7 @@ impl<E: Worlds + Drop> Session<E> {
         ensures grows { (w : World) → E.stands_for self.old.kept (K.means keeper.old) w → IsSome (K.means keeper.new).rows → Grows E.stands_for w.history (K.means keeper.new) self.new.kept result }
         ensures told { IsSome (K.means keeper.new).rows → IsSome (K.means keeper.old).rows }
         ensures same { (other : List ℕ) → (F.means files.new).content other ≡ (F.means files.old).content other }
+        ensures paths { (K.means keeper.new).paths ≡ (K.means keeper.old).paths }
         ensures ends { (others : Outside) → Ends (IsBadIn (K.means keeper.new)) ⊥ (record others { files = F.means files.old; store = K.means keeper.old })
             (record others { files = F.means files.new; store = K.means keeper.new }) result }
     {
@@ -289,6 +294,7 @@ impl<E: Worlds + Drop> Session<E> {
         ensures grows { (w : World) → E.stands_for self.old.kept (K.means keeper.old) w → IsSome (K.means keeper.new).rows → Grows E.stands_for w.history (K.means keeper.new) self.new.kept result }
         ensures told { IsSome (K.means keeper.new).rows → IsSome (K.means keeper.old).rows }
         ensures same { (other : List ℕ) → (F.means files.new).content other ≡ (F.means files.old).content other }
+        ensures paths { (K.means keeper.new).paths ≡ (K.means keeper.old).paths }
         ensures ends { (others : Outside) → Ends (IsBadIn (K.means keeper.new)) ⊥ (record others { files = F.means files.old; store = K.means keeper.old })
             (record others { files = F.means files.new; store = K.means keeper.new }) result }
     {

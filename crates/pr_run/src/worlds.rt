@@ -2,6 +2,7 @@
 ghost use Rattle.std.specs.Prelude.{◌≡◌, IfOk, IsSome, OnErr, OnOk};
 ghost use Rattle.pr_outside.specs.Kept.{StartsRows};
 ghost use Rattle.pr_outside.specs.Meant.{Store};
+ghost use Rattle.pr_status.specs.Opening.{OpensBy};
 ghost use Rattle.pr_world.specs.Settings.{of_a_run};
 ghost use Rattle.pr_world.specs.Step.{HasDistinctFiles, next};
 ghost use Rattle.pr_world.specs.World.{World};
@@ -30,6 +31,7 @@ pub trait Worlds {
         Self: Sized,
         ensures stands { IfOk result (λ e. Starts stands_for e (K.means keeper.new)) }
         ensures rows { StartsRows (K.means keeper.old).rows (K.means keeper.new).rows }
+        ensures opens { OpensBy path.now (K.means keeper.old).paths (K.means keeper.new).paths result }
         ensures ends { KeepEnds (K.means keeper.old) (K.means keeper.new) result };
 
     /// The time of the last event that was accepted, where one was.
@@ -53,6 +55,7 @@ pub trait Worlds {
             → OnOk result (stands_for self.new (K.means keeper.new) (next of_a_run w event).world) }
         ensures err { (w : World) → stands_for self.old (K.means keeper.old) w → OnErr result (TellsOf (K.means keeper.new) w.history) }
         ensures told { IsSome (K.means keeper.new).rows → IsSome (K.means keeper.old).rows }
+        ensures paths { (K.means keeper.new).paths ≡ (K.means keeper.old).paths }
         ensures ends { KeepEnds (K.means keeper.old) (K.means keeper.new) result };
 
     /// The rows of the store tell the history.

@@ -11,7 +11,7 @@ abbrev pub outside_of : List ℕ → List Row → ℕ → Outside
 outside_of taken rows calls = record {
   input = record { left = Some []; faults = 0; course = Going };
   files = record { content = λ name. Some None; calls = calls; faults = 0; course = Going };
-  store = record { rows = Some rows; count = length rows; faults = 0 };
+  store = record { rows = Some rows; count = length rows; paths = []; faults = 0 };
   out = record { taken = Some taken; faults = 0; course = Going };
 }
 

@@ -1,9 +1,9 @@
 // The input of a row.
-ghost use Rattle.std.specs.Prelude.{◌≡◌, ◌==◌, ◌&&◌, None, length, not};
+ghost use Rattle.std.specs.Prelude.{None};
 
 use crate::lines::marked;
 use crate::signs::push_text;
-use pr_outside::{Course, Failed, MemSource, Source};
+use pr_outside::{Course, Failed, MemSource, Source, is_end};
 use std::alloc::{AllocError, Global};
 
 /// An input: bytes of which some reads are refused, or comments without end. Nothing is told of what
@@ -35,13 +35,6 @@ fn fill(buf: &mut [u8]) {
     if let Some(last) = buf.last_mut() {
         *last = b'\n';
     }
-}
-
-// Whether a read of so many bytes into this buffer met the end.
-fn is_end(count: usize, buf: &[u8]) -> bool
-    ensures { result ≡ ((count == 0) && not (length buf.now == 0)) }
-{
-    count == 0 && !buf.is_empty()
 }
 
 impl Source for Input {

@@ -74,7 +74,7 @@ impl Store {
 }
 
 impl Keeper for Store {
-    ghost means = { λ s. record { rows = None; count = length s.rows; faults = s.faults } };
+    ghost means = { λ s. record { rows = None; count = length s.rows.rows; paths = s.rows.paths; faults = s.faults } };
 
     fn start(&mut self, path: &str) -> Result<(), KeepError> {
         if self.starts.next_is_chosen() {

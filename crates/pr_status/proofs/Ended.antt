@@ -1,5 +1,5 @@
 -- How a call ends whose last part ends so, where no earlier part was refused anything.
-use Rattle.std.proofs.Common.{◌≡◌, ◌≢◌, ℕ, List, Option, None, Result, Ok, Err, IsErrAnd, ◌⊎◌, inl, inr, arith, refl, sym, ◌∙◌, subst}
+use Rattle.std.proofs.Common.{◌≡◌, ◌≢◌, ℕ, List, [], Option, None, Result, Ok, Err, IsErrAnd, ◌⊎◌, inl, inr, arith, refl, sym, ◌∙◌, subst}
 use Rattle.pr_outside.specs.Causes.{Rose, IsCalm}
 use Rattle.pr_outside.specs.Courses.{IsInTime, GoesOn}
 use Rattle.pr_outside.specs.declared.course.Course.{Course}
@@ -16,7 +16,7 @@ abbrev pub quiet : Outside
 quiet = record {
   input = record { left = None; faults = 0; course = Going };
   files = record { content = λ name. None; calls = 0; faults = 0; course = Going };
-  store = record { rows = None; count = 0; faults = 0 };
+  store = record { rows = None; count = 0; paths = []; faults = 0 };
   out = record { taken = None; faults = 0; course = Going };
 }
 

@@ -3,3 +3,4 @@ pub mod Outside
 pub mod Ends
 pub mod Asks
 pub mod Words
+pub mod Opening

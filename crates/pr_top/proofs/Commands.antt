@@ -6,6 +6,7 @@ use Rattle.pr_outside.specs.Causes.{IsCalm, Rose}
 use Rattle.pr_outside.specs.declared.keeping.Row.{Row}
 use Rattle.pr_row.specs.Histories.{history_of}
 use Rattle.pr_status.specs.Ends.{Ends, KnowsLength, StopsBy, no_row, place_of, status_of, stop_status}
+use Rattle.pr_status.specs.Opening.{OpensBy}
 use Rattle.pr_status.specs.Outside.{Outside, AreCalm, AreTold, Held}
 use Rattle.pr_status.specs.Status.{HasCause, IsLong, verdict}
 use Rattle.pr_status.specs.declared.status.Status.{Status}
@@ -109,14 +110,15 @@ if_bytes : (o : Option (List ℕ)) (P Q : List ℕ → Type 0) → ((bytes : Lis
 if_bytes None P Q f p = tt
 if_bytes (Some bytes) P Q f p = f bytes refl p
 
-pub means_run : (before now : Outside) (r : Result Bool Stop) (result : Status) → result ≡ status_of r → Ends (IsBadIn now.store) (IsLong before.input.left) before now r
-    → KnowsLength before.input.left r → ((index : ℕ) → r ≡ Err (stop.BadRow index) → TellsRow index before.out.taken now.out.taken)
+pub means_run : (path : List ℕ) (before now : Outside) (r : Result Bool Stop) (result : Status) → result ≡ status_of r → Ends (IsBadIn now.store) (IsLong before.input.left) before now r
+    → OpensBy path before.store.paths now.store.paths r → KnowsLength before.input.left r → ((index : ℕ) → r ≡ Err (stop.BadRow index) → TellsRow index before.out.taken now.out.taken)
     → IfSome now.store.rows (λ all. IfSome before.input.left (λ bytes. OverRows before.store.rows all (λ rows. EndsBy (history_of rows) rows bytes before now r)))
-    → MeansRun before now result
-means_run before now r result answer e k row over = record {
+    → MeansRun path before now result
+means_run path before now r result answer e opens k row over = record {
   ending = r;
   answer = answer;
   ends = e;
+  opens = opens;
   known = k;
   row = row;
   over = if_rows now.store.rows
@@ -158,8 +160,8 @@ means_usage text before now r result answer e w f = record {
 no_bad : (index : ℕ) → no_row index → ⊥
 no_bad index bad = bad
 
-run_cause : (before now : Outside) (result : Status) → MeansRun before now result → HasCause ((index : ℕ) × IsBadIn now.store index) before now result
-run_cause before now result m =
+run_cause : (path : List ℕ) (before now : Outside) (result : Status) → MeansRun path before now result → HasCause ((index : ℕ) × IsBadIn now.store index) before now result
+run_cause path before now result m =
     subst (HasCause ((index : ℕ) × IsBadIn now.store index) before now) (sym m.answer)
     (ending_cause (IsBadIn now.store) ((index : ℕ) × IsBadIn now.store index) (IsLong before.input.left) before now m.ending (λ index bad. (index, bad)) m.ends)
 
@@ -192,17 +194,17 @@ exercise_cause rounds before now result m = subst (HasCause ((index : ℕ) × Is
     by (Ok done) e = e.cause
     by (Err s) e = stop_cause Unit (IsBadIn now.store) ((index : ℕ) × IsBadIn now.store index) ⊥ before now s (λ index bad. (index, bad)) e.cause
 
-backfill_cause : (times : List ℕ) (names : List (List ℕ)) (before now : Outside) (result : Status) → MeansBackfill times names before now result
+backfill_cause : (path times : List ℕ) (names : List (List ℕ)) (before now : Outside) (result : Status) → MeansBackfill path times names before now result
     → HasCause ((index : ℕ) × IsBadIn now.store index) before now result
-backfill_cause times names before now result m =
+backfill_cause path times names before now result m =
     subst (HasCause ((index : ℕ) × IsBadIn now.store index) before now) (sym m.answer)
     (ending_cause (IsBadIn now.store) ((index : ℕ) × IsBadIn now.store index) ⊥ before now m.ending (λ index bad. (index, bad)) m.ends)
 
 pub command_cause : (c : Option Command) (before now : Outside) (result : Status) → MeansCommand c before now result → HasCause (HasBadRow c now.store) before now result
 command_cause None before now result m = usage_cause usage_text before now result m
-command_cause (Some (runs path)) before now result m = run_cause before now result m
+command_cause (Some (runs path)) before now result m = run_cause path before now result m
 command_cause (Some (tests_rules names)) before now result m = files_cause tests_told names before now result m
 command_cause (Some (checks_rules names)) before now result m = files_cause rules_told names before now result m
 command_cause (Some checks_metrics) before now result m = input_cause metrics_told before now result m
 command_cause (Some (exercises rounds)) before now result m = exercise_cause rounds before now result m
-command_cause (Some (backfills path times names)) before now result m = backfill_cause times names before now result m
+command_cause (Some (backfills path times names)) before now result m = backfill_cause path times names before now result m

@@ -2,6 +2,7 @@
 use Rattle.std.proofs.Common.{◌≡◌, ◌≢◌, ℕ, Bool, true, false, cond, List, Option, Some, None, Result, Ok, Err, IfSome, IsSome, IfOk, OnOk, OnErr, refl, sym, ap, ◌∙◌, subst}
 use Rattle.pr_engine.specs.Causes.{HasApplyCause, HasStartCause, broken_after}
 use Rattle.pr_engine.specs.Events.{IsKnownAfter, settings_of}
+use Rattle.pr_engine.specs.Opening.{StartOpens}
 use Rattle.pr_engine.specs.Standing.{Kept, StandsFor}
 use Rattle.pr_history.specs.declared.entry.Entry.{Entry}
 use Rattle.pr_range.specs.Asks.{LastAsks, Passed}
@@ -13,6 +14,7 @@ use Rattle.pr_outside.specs.Meant.{Store}
 use Rattle.pr_row.specs.Histories.{history_of}
 use Rattle.pr_run.specs.Events.{KeepEnds}
 use Rattle.pr_run.specs.Keeping.{TellsOf}
+use Rattle.pr_status.specs.Opening.{OpensBy}
 use Rattle.pr_status.proofs.Ended.{in_time_same}
 use Rattle.pr_status.specs.declared.status.Stop.{Stop}
 use Rattle.pr_top.specs.Engine.{IsRunning}
@@ -58,6 +60,11 @@ start_ends T U a b (start.BadRow at) cause bad = λ others. record {
   files = in_time_same others.files.course;
   out = in_time_same others.out.course;
 }
+
+pub start_opens : (T U : Type 0) (path : List ℕ) (a b : List (List ℕ)) (error : StartError) → StartOpens {T = T} path a b (Err error) → OpensBy {T = U} path a b (Err (start_stop error))
+start_opens T U path a b start.Memory h = h
+start_opens T U path a b start.StoreFailed h = h
+start_opens T U path a b (start.BadRow at) h = h
 
 pub apply_ends : (T U : Type 0) (a b : Store) (error : ApplyError) → HasApplyCause {T = T} a.faults b.faults (Err error)
     → ((at : ℕ) → error ≡ apply.BadRow at → IfSome b.rows (λ rows. history_of rows ≡ Err at)) → KeepEnds {T = U} a b (Err (apply_stop error))

@@ -37,12 +37,12 @@ pub record MeansUsage (text : List ℕ) (before now : Outside) (result : Status)
 -- What a command promises.
 abbrev pub MeansCommand : Option Command → Outside → Outside → Status → Type 0
 MeansCommand None before now result = MeansUsage usage_text before now result
-MeansCommand (Some (runs path)) before now result = MeansRun before now result
+MeansCommand (Some (runs path)) before now result = MeansRun path before now result
 MeansCommand (Some (tests_rules names)) before now result = MeansFileCheck tests_told names before now result
 MeansCommand (Some (checks_rules names)) before now result = MeansFileCheck rules_told names before now result
 MeansCommand (Some checks_metrics) before now result = MeansInputCheck metrics_told before now result
 MeansCommand (Some (exercises rounds)) before now result = MeansExercise rounds before now result
-MeansCommand (Some (backfills path times names)) before now result = MeansBackfill times names before now result
+MeansCommand (Some (backfills path times names)) before now result = MeansBackfill path times names before now result
 
 -- what shows that a row is a bad one: a run, an exercise and a backfill look at rows
 abbrev pub HasBadRow : Option Command → Store → Type 0

@@ -75,6 +75,7 @@ fn answer_with<R: Ranges + Drop, K: Keeper, G: Ledger>(
         → OnOk result (IsRunning R.fits R.last R.passed engine.new (K.means keeper.new) (next of_a_run w event).world) }
     ensures err { (w : World) → IsRunning R.fits R.last R.passed engine.old (K.means keeper.old) w → OnErr result (TellsOf (K.means keeper.new) w.history) }
     ensures told { IsSome (K.means keeper.new).rows → IsSome (K.means keeper.old).rows }
+    ensures paths { (K.means keeper.new).paths ≡ (K.means keeper.old).paths }
     ensures ends { KeepEnds (K.means keeper.old) (K.means keeper.new) result }
 {
     let mut reads: Steps<G> = Steps::new(blank);

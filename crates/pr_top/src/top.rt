@@ -45,7 +45,7 @@ fn run_script<E: Worlds + Drop, I: Source, F: Files, K: Keeper, O: Sink>(
     keeper: &mut K,
     out: &mut O,
 ) -> Status
-    ensures means { MeansRun (record { input = I.means input.old; files = F.means files.old; store = K.means keeper.old; out = O.means out.old })
+    ensures means { MeansRun path.now (record { input = I.means input.old; files = F.means files.old; store = K.means keeper.old; out = O.means out.old })
         (record { input = I.means input.new; files = F.means files.new; store = K.means keeper.new; out = O.means out.new }) result }
     ensures same { (name : List ℕ) → (F.means files.new).content name ≡ (F.means files.old).content name }
 {

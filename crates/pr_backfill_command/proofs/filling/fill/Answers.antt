@@ -1,4 +1,4 @@
-use Rattle.std.proofs.Common.{◌≡◌, ℕ, List, Option, Err, IsSome, ap, map, refl, subst}
+use Rattle.std.proofs.Common.{◌≡◌, ℕ, List, Option, Err, IsSome, ap, inl, map, refl, subst}
 use Rattle.std.specs.Prelude.{is_some}
 use Rattle.pr_outside.specs.Kept.{StartsRows}
 use Rattle.pr_outside.specs.Meant.{Output}
@@ -9,6 +9,7 @@ use Rattle.pr_status.specs.Outside.{Outside}
 use Rattle.pr_status.specs.declared.status.Stop.{Stop}
 use Rattle.pr_status.specs.declared.status.Stop.TheVariants.{Memory}
 use Rattle.pr_status.proofs.Ended.{ends_memory, in_time_same}
+use Rattle.pr_status.proofs.Opening.{opened_on, opening_error}
 use Rattle.pr_run.specs.Rows.{IsBadIn}
 use Rattle.pr_run.proofs.Answering.{ends_behind}
 use Rattle.pr_run.proofs.Endings.{bad_of, ends_wider}
@@ -90,3 +91,22 @@ returns-clause-ends g c = λ others.
     ends_ending (IsBadIn now.store) ⊥ before now c.fill_over.result
     (ends_behind (IsBadIn now.store) ⊥ before mid now c.fill_over.result l.cause (in_time_same before.input.course) l.files l.out
     (ends_wider _ no_row (IsBadIn now.store) ⊥ ⊥ mid now c.fill_over.result (λ i no. absurd no) (λ never. never) (c.fill_over.ensures.part.ends others)))
+
+-- which path was opened
+
+pub returns-in_err-groups-clause-opens : goal.returns-in_err-groups-clause-opens
+returns-in_err-groups-clause-opens g c =
+    let a = (g.K.Keeper.means c.args.keeper.now).paths in
+    opening_error Unit _ c.args.path.now a a c.from_residual.result Memory c.from_residual.ensures.1 (inl refl)
+
+pub returns-in_err-head-clause-opens : goal.returns-in_err-head-clause-opens
+returns-in_err-head-clause-opens g c =
+    let a = (g.K.Keeper.means c.args.keeper.now).paths in
+    let b = (g.K.Keeper.means c.open.new.keeper).paths in
+    opening_error Unit _ c.args.path.now a b c.from_residual-in_err-head.result c.in_err-head.field-0.0 c.from_residual-in_err-head.ensures.1 c.in_err-head.ensures.opens
+
+pub returns-clause-opens : goal.returns-clause-opens
+returns-clause-opens g c =
+    let a = (g.K.Keeper.means c.args.keeper.now).paths in
+    let b = (g.K.Keeper.means c.open.new.keeper).paths in
+    opened_on _ c.args.path.now a b (g.K.Keeper.means c.fill_over.new.keeper).paths c.fill_over.result c.in_ok-head.ensures.opens c.fill_over.ensures.part.paths

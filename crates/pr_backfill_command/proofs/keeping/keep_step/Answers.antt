@@ -18,7 +18,7 @@ returns-in_err-keep-clause-part g c =
     let a = g.K.Keeper.means c.args.keeper.now in
     let b = g.K.Keeper.means c.keep.new.keeper in
     let e = c.in_err-keep.ensures in
-    part_unkept Unit Unit a b (g.O.Sink.means c.args.out.now) c.from_residual.result c.in_err-keep.field-0.0 c.from_residual.ensures.1 (some_before a.rows b.rows e.err) e.err_count e.cause
+    part_unkept Unit Unit a b (g.O.Sink.means c.args.out.now) c.from_residual.result c.in_err-keep.field-0.0 c.from_residual.ensures.1 (some_before a.rows b.rows e.err) e.err_count e.paths e.cause
 
 pub returns-clause-comes : goal.returns-clause-comes
 returns-clause-comes g c = λ history done first here lawful.
@@ -35,4 +35,4 @@ returns-clause-part g c =
     let y = g.O.Sink.means c.tell_step.new.out in
     let e = c.in_ok-keep.ensures in
     let more : a.count ≤ b.count = omega (arith, e.ok_count) in
-    part_on {T = Unit} a b b x x y tt c.tell_step.result (part_kept a b x tt (told_before a.rows b.rows _ e.ok) more e.cause) (part_write b x y c.tell_step.result c.tell_step.ensures.ends)
+    part_on {T = Unit} a b b x x y tt c.tell_step.result (part_kept a b x tt (told_before a.rows b.rows _ e.ok) more e.paths e.cause) (part_write b x y c.tell_step.result c.tell_step.ensures.ends)

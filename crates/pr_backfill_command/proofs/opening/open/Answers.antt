@@ -1,9 +1,11 @@
-use Rattle.std.proofs.Common.{Err, ap, subst, length, arith}
+use Rattle.std.proofs.Common.{Err, refl, ap, subst, length, arith}
 use Rattle.pr_engine.specs.Causes.{HasStartCause}
 use Rattle.pr_engine.specs.declared.fault.StartError.{StartError}
 use Rattle.pr_run.specs.Told.{bad_row_text}
 use Rattle.pr_run.proofs.Begins.{whole_front, write_row}
 use Rattle.pr_status.specs.declared.status.Stop.TheVariants.{BadRow}
+use Rattle.pr_status.proofs.Opening.{opened_on}
+use Rattle.pr_backfill_command.proofs.Opened.{bad_opened}
 use Rattle.pr_backfill_command.proofs.Unopened.{front_row, start_row, start_untold}
 use Rattle.pr_backfill_command.proofs.opening.open.Goals as goal
 
@@ -44,3 +46,17 @@ returns-in_ok-tell_bad_row-in-Err-BadRow-clause-ends g c = λ others.
     let b = c.in-Err-BadRow in
     start_row (g.K.Keeper.means c.args.keeper.now) (g.K.Keeper.means c.history.new.keeper) (g.O.Sink.means c.args.out.now) others _ _ (g.O.Sink.means c.tell_bad_row.new.out) tt b.index (subst (λ (e : StartError). HasStartCause {T = Unit} (g.K.Keeper.means c.args.keeper.now).faults (g.K.Keeper.means c.history.new.keeper).faults (Err e)) b.field-0-is b.ensures.cause)
     (b.ensures.bad b.index (ap (λ (e : StartError). Err e) b.field-0-is)) c.in_ok-tell_bad_row-in-Err-BadRow.ensures.ends
+
+-- the store is opened, unless the start was refused
+
+pub returns-in_err-tell_bad_row-in-Err-BadRow-clause-opens : goal.returns-in_err-tell_bad_row-in-Err-BadRow-clause-opens
+returns-in_err-tell_bad_row-in-Err-BadRow-clause-opens g c =
+    let a = (g.K.Keeper.means c.args.keeper.now).paths in
+    let b = (g.K.Keeper.means c.history.new.keeper).paths in
+    opened_on _ c.args.path.now a b b c.from_residual.result (bad_opened Unit c.args.path.now a b _ c.in-Err-BadRow.index c.in-Err-BadRow.field-0-is c.in-Err-BadRow.ensures.opens) refl
+
+pub returns-in_ok-tell_bad_row-in-Err-BadRow-clause-opens : goal.returns-in_ok-tell_bad_row-in-Err-BadRow-clause-opens
+returns-in_ok-tell_bad_row-in-Err-BadRow-clause-opens g c =
+    let a = (g.K.Keeper.means c.args.keeper.now).paths in
+    let b = (g.K.Keeper.means c.history.new.keeper).paths in
+    bad_opened Unit c.args.path.now a b _ c.in-Err-BadRow.index c.in-Err-BadRow.field-0-is c.in-Err-BadRow.ensures.opens

@@ -18,6 +18,7 @@ returns-clause-means g c = λ others.
       ending = c.run.result;
       answer = c.status_of.ensures;
       ends = c.run.ensures.ends others;
+      opens = c.run.ensures.opens;
       asked = subst (λ (n : ℕ). AsksFirst before.files.calls now.files.calls n c.run.result) (sym (length-map c.args.names.now string_bytes)) c.run.ensures.asked;
       row = c.run.ensures.bad;
       over = λ held told.

@@ -2,6 +2,7 @@ use Rattle.std.proofs.Common.{◌≡◌, ℕ, Bool, true, false, List, IfSome, m
 use Rattle.std.specs.Prelude.{◌==◌}
 use Rattle.pr_status.specs.Ends.{no_row}
 use Rattle.pr_status.specs.Outside.{Outside}
+use Rattle.pr_status.proofs.Ended.{quiet}
 use Rattle.pr_row.specs.Histories.{history_of}
 use Rattle.pr_run.specs.Rows.{IsBadIn, OverRows}
 use Rattle.pr_run.proofs.Endings.{ends_wider}
@@ -9,6 +10,7 @@ use Rattle.pr_world.specs.declared.event.NamedFile.{NamedFile}
 use Rattle.pr_test_command.specs.Running.{loaded_of}
 use Rattle.pr_backfill_texts.specs.Means.{EndsBy, EndsRefused}
 use Rattle.pr_backfill_command.proofs.Loaded.{none_wrong, some_wrong, write_fine}
+use Rattle.pr_backfill_command.proofs.Opened.{refused_fill}
 use Rattle.pr_backfill_command.proofs.running.go_on.Goals as goal
 
 pub returns-then-is_empty-clause-with : goal.returns-then-is_empty-clause-with
@@ -46,3 +48,12 @@ returns-else-is_empty-clause-ends g c = λ others.
     let before : Outside = record others { store = keeper c.args.keeper.now; out = out c.args.out.now } in
     let now : Outside = record others { store = keeper c.args.keeper.now; out = out c.refuse.new.out } in
     ends_wider Bool no_row (IsBadIn before.store) ⊥ ⊥ before now c.refuse.result (λ index no. absurd no) (λ never. never) (c.refuse.ensures.ends before)
+
+pub returns-then-is_empty-clause-opens : goal.returns-then-is_empty-clause-opens
+returns-then-is_empty-clause-opens g c = c.fill_all.ensures.opens
+
+pub returns-else-is_empty-clause-opens : goal.returns-else-is_empty-clause-opens
+returns-else-is_empty-clause-opens g c =
+    let out = g.O.Sink.means in
+    refused_fill c.args.path.now _ (record quiet { out = out c.args.out.now }) (record quiet { out = out c.refuse.new.out }) quiet.store quiet.store (out c.args.out.now) (out c.refuse.new.out)
+    (g.K.Keeper.means c.args.keeper.now).paths c.refuse.result (c.refuse.ensures.refused quiet) (c.refuse.ensures.ends quiet)

@@ -1,4 +1,4 @@
-use Rattle.std.proofs.Common.{◌≡◌, ℕ, Bool, Err, List, length, subst}
+use Rattle.std.proofs.Common.{◌≡◌, ℕ, Bool, Err, List, length, refl, subst}
 use Rattle.pr_status.specs.Ends.{no_row}
 use Rattle.pr_status.specs.Outside.{Outside}
 use Rattle.pr_status.proofs.Ended.{in_time_same, quiet}
@@ -10,6 +10,7 @@ use Rattle.pr_test_command.specs.Taking.{rules_of}
 use Rattle.pr_test_command.specs.declared.rules.Rules.{Rules}
 use Rattle.pr_backfill_texts.specs.Means.{EndsWith}
 use Rattle.pr_backfill_command.proofs.Loaded.{asked_all, no_row_asked, nothing_done, with_behind}
+use Rattle.pr_backfill_command.proofs.Opened.{asked_long, asked_read, unopened_fill}
 use Rattle.pr_backfill_command.proofs.running.run.Goals as goal
 
 pub returns-in-Ok-clause-over : goal.returns-in-Ok-clause-over
@@ -56,3 +57,9 @@ returns-in-Err-clause-ends g c = λ others.
     let now : Outside = record before { files = files c.load_rules.new.files } in
     ends_wider Bool no_row (IsBadIn before.store) ⊥ ⊥ before now (Err c.in-Err.stop) (λ index no. absurd no) (λ never. never)
     (ends_as Rules Bool no_row ⊥ before now c.in-Err.stop (c.in-Err.ensures.ends before))
+
+pub returns-in-Err-clause-opens : goal.returns-in-Err-clause-opens
+returns-in-Err-clause-opens g c =
+    let paths = (g.K.Keeper.means c.args.keeper.now).paths in
+    let asked = c.in-Err.ensures.asked in
+    unopened_fill c.args.path.now paths paths c.in-Err.stop (asked_read Rules _ _ _ c.in-Err.stop asked) (asked_long Rules _ _ _ c.in-Err.stop asked) (no_row_asked Rules _ _ _ c.in-Err.stop asked) refl

@@ -9,6 +9,7 @@ invariant-loading g l = record {
   within : l.index ≤ l.size;
   same : KeepsRows (g.K.Keeper.means l.fn.keeper).rows (g.K.Keeper.means l.keeper).rows;
   count : (g.K.Keeper.means l.keeper).count ≡ (g.K.Keeper.means l.fn.keeper).count;
+  paths : (g.K.Keeper.means l.keeper).paths ≡ (g.K.Keeper.means l.fn.keeper).paths;
   calm : (g.K.Keeper.means l.keeper).faults ≡ (g.K.Keeper.means l.fn.keeper).faults;
 }
 

@@ -76,6 +76,7 @@ loop-round-init g c =
           };
       small = subst (AreWithin 0) (sym c.in_ok-targets.ensures.counts) (omega arith, (omega arith, (omega arith, (omega arith, tt))));
       told = c.in_ok-take.ensures.told;
+      paths = c.in_ok-take.ensures.paths;
       calm = calm_keep Unit (store c.args.keeper.now) (store c.take.new.keeper) tt c.in_ok-take.ensures.ends quiet;
     }
 
@@ -96,6 +97,7 @@ loop-round-preserved g c =
           (c.in_ok-take_all.ensures.comes history ([] ++ here.some) here.stands some);
       small = made.small;
       told = λ some. at.invariant.told (c.in_ok-take_all.ensures.told some);
+      paths = c.in_ok-take_all.ensures.paths ∙ at.invariant.paths;
       calm = calm_keep Unit (store at.keeper) (store c.take_all.new.keeper) tt c.in_ok-take_all.ensures.ends quiet ∙ at.invariant.calm;
     }
 

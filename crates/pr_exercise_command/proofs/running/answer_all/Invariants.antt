@@ -14,5 +14,6 @@ invariant-loop-round g l = record {
       → Answered g.E.Worlds.stands_for history [] (exercise_events l.fn.rounds) (turns_from l.round (l.fn.rounds - l.round) l.targets.number l.targets.counts.items) l.session (g.K.Keeper.means l.keeper);
   small : AreWithin l.round l.targets.counts.items;
   told : IsSome (g.K.Keeper.means l.keeper).rows → IsSome (g.K.Keeper.means l.fn.keeper).rows;
+  paths : (g.K.Keeper.means l.keeper).paths ≡ (g.K.Keeper.means l.fn.keeper).paths;
   calm : (g.K.Keeper.means l.keeper).faults ≡ (g.K.Keeper.means l.fn.keeper).faults;
 }

@@ -1,8 +1,10 @@
-use Rattle.std.proofs.Common.{◌∙◌, Result, Err, subst, length}
+use Rattle.std.proofs.Common.{◌∙◌, [], Result, Err, refl, subst, length}
 use Rattle.pr_status.specs.Ends.{no_row}
+use Rattle.pr_status.specs.Opening.{OpensBy}
 use Rattle.pr_status.specs.Outside.{Outside}
 use Rattle.pr_status.specs.declared.status.Stop.{Stop}
 use Rattle.pr_status.proofs.Ended.{ends_on, in_time_on, in_time_same, quiet}
+use Rattle.pr_status.proofs.Opening.{opened_on, row_opened, stopped_opening}
 use Rattle.pr_run.specs.Events.{KeepEnds}
 use Rattle.pr_run.specs.Rows.{IsBadIn}
 use Rattle.pr_run.specs.Told.{bad_row_text}
@@ -82,3 +84,32 @@ returns-in-None-clause-ends g c = λ others.
     let a : Outside = record others { store = keeper c.args.keeper.now; out = out c.args.out.now } in
     let b : Outside = record others { store = keeper c.start.new.keeper; out = out c.args.out.now } in
     ends_as _ _ (IsBadIn b.store) ⊥ a b c.in-Err.stop (subst (λ (r : Result _ Stop). KeepEnds a.store b.store r) c.in-Err.is c.start.ensures.ends (record others { out = out c.args.out.now }))
+
+-- the store in memory is opened, unless the start was refused
+
+pub returns-in-Ok-clause-opens : goal.returns-in-Ok-clause-opens
+returns-in-Ok-clause-opens g c =
+    let keeper = g.K.Keeper.means in
+    subst (λ (r : Result _ Stop). OpensBy [] (keeper c.args.keeper.now).paths (keeper c.start.new.keeper).paths r) c.in-Ok.is c.start.ensures.opens
+
+pub returns-in_err-tell_bad_row-in-Some-clause-opens : goal.returns-in_err-tell_bad_row-in-Some-clause-opens
+returns-in_err-tell_bad_row-in-Some-clause-opens g c =
+    let keeper = g.K.Keeper.means in
+    let a = (keeper c.args.keeper.now).paths in
+    let b = (keeper c.start.new.keeper).paths in
+    opened_on _ [] a b b c.from_residual.result
+    (row_opened Unit [] a b c.in-Err.stop c.in-Some.index c.in-Some.ensures.some (subst (λ (r : Result _ Stop). OpensBy [] a b r) c.in-Err.is c.start.ensures.opens)) refl
+
+pub returns-in_ok-tell_bad_row-in-Some-clause-opens : goal.returns-in_ok-tell_bad_row-in-Some-clause-opens
+returns-in_ok-tell_bad_row-in-Some-clause-opens g c =
+    let keeper = g.K.Keeper.means in
+    let a = (keeper c.args.keeper.now).paths in
+    let b = (keeper c.start.new.keeper).paths in
+    stopped_opening Unit Unit [] a b c.in-Err.stop (subst (λ (r : Result _ Stop). OpensBy [] a b r) c.in-Err.is c.start.ensures.opens)
+
+pub returns-in-None-clause-opens : goal.returns-in-None-clause-opens
+returns-in-None-clause-opens g c =
+    let keeper = g.K.Keeper.means in
+    let a = (keeper c.args.keeper.now).paths in
+    let b = (keeper c.start.new.keeper).paths in
+    stopped_opening Unit Unit [] a b c.in-Err.stop (subst (λ (r : Result _ Stop). OpensBy [] a b r) c.in-Err.is c.start.ensures.opens)

@@ -11,6 +11,7 @@ use Rattle.pr_status.specs.Ends.{no_row}
 use Rattle.pr_status.specs.Outside.{Outside}
 use Rattle.pr_status.specs.declared.status.Stop.{Stop}
 use Rattle.pr_status.proofs.Ended.{ends_on, in_time_same}
+use Rattle.pr_status.proofs.Opening.{opened_on, opening_error}
 use Rattle.pr_status.proofs.Streams.{appends_none}
 use Rattle.pr_world.specs.World.{start}
 use Rattle.pr_run.specs.Rows.{IsBadIn}
@@ -118,3 +119,20 @@ returns-clause-ends g c = λ others.
     ends_behind (IsBadIn now.store) ⊥ before mid now c.tell_summary.result (m.cause.0 ∙ l.cause.0, m.cause.1 ∙ l.cause.1, m.cause.2 ∙ l.cause.2, m.cause.3 ∙ l.cause.3)
     (in_time_same before.input.course) (λ e. m.files (l.files e)) (λ e. m.out (l.out e))
     (ends_wider _ no_row (IsBadIn now.store) ⊥ ⊥ mid now c.tell_summary.result (λ i no. absurd no) (λ never. never) (c.tell_summary.ensures.ends (record others { store = mid.store })))
+
+pub returns-in_err-kept-clause-opens : goal.returns-in_err-kept-clause-opens
+returns-in_err-kept-clause-opens g c =
+    let keeper = g.K.Keeper.means in
+    opening_error Unit _ [] (keeper c.args.keeper.now).paths (keeper c.open.new.keeper).paths c.from_residual.result c.in_err-kept.field-0.0 c.from_residual.ensures.1 c.in_err-kept.ensures.opens
+
+pub returns-in_err-tally-clause-opens : goal.returns-in_err-tally-clause-opens
+returns-in_err-tally-clause-opens g c =
+    let keeper = g.K.Keeper.means in
+    opened_on _ [] (keeper c.args.keeper.now).paths (keeper c.open.new.keeper).paths (keeper c.answer_all.new.keeper).paths c.from_residual-in_err-tally.result
+    c.in_ok-kept.ensures.opens c.in_err-tally.ensures.paths
+
+pub returns-clause-opens : goal.returns-clause-opens
+returns-clause-opens g c =
+    let keeper = g.K.Keeper.means in
+    opened_on _ [] (keeper c.args.keeper.now).paths (keeper c.open.new.keeper).paths (keeper c.answer_all.new.keeper).paths c.tell_summary.result
+    c.in_ok-kept.ensures.opens c.in_ok-tally.ensures.paths

@@ -17,6 +17,7 @@ invariant-answering g l = record {
   counts : Counts (g.I.Source.means l.fn.input).left (g.I.Source.means l.input).left 0 l.reader.lines.count;
   told : IsSome (g.K.Keeper.means l.keeper).rows → IsSome (g.K.Keeper.means l.fn.keeper).rows;
   same : (other : List ℕ) → (g.F.Files.means l.files).content other ≡ (g.F.Files.means l.fn.files).content other;
+  paths : (g.K.Keeper.means l.keeper).paths ≡ (g.K.Keeper.means l.fn.keeper).paths;
   read_calm : (g.I.Source.means l.input).faults ≡ (g.I.Source.means l.fn.input).faults;
   load_calm : (g.F.Files.means l.files).faults ≡ (g.F.Files.means l.fn.files).faults;
   keep_calm : (g.K.Keeper.means l.keeper).faults ≡ (g.K.Keeper.means l.fn.keeper).faults;

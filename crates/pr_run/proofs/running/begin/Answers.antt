@@ -1,9 +1,11 @@
 use Rattle.std.proofs.Common.{◌≡◌, ◌∙◌, ℕ, List, Result, Ok, Err, IfOk, length, refl, sym, ap, subst}
 use Rattle.pr_status.specs.Ends.{no_row}
+use Rattle.pr_status.specs.Opening.{OpensBy}
 use Rattle.pr_status.specs.Outside.{Outside}
 use Rattle.pr_status.specs.declared.status.Stop.{Stop}
 use Rattle.pr_status.specs.declared.status.Stop.TheVariants as stop
 use Rattle.pr_status.proofs.Ended.{ends_on, in_time_on, in_time_same, quiet}
+use Rattle.pr_status.proofs.Opening.{opened_on, row_opened, stopped_opening}
 use Rattle.pr_status.proofs.Streams.{appends_none}
 use Rattle.pr_world.specs.World.{start}
 use Rattle.pr_run.specs.Events.{KeepEnds}
@@ -129,3 +131,41 @@ returns-in-None-clause-ends g c = λ others.
     let a : Outside = record others { store = keeper c.args.keeper.now; out = out c.args.out.now } in
     let b : Outside = record others { store = keeper c.start.new.keeper; out = out c.args.out.now } in
     ends_as _ _ (IsBadIn b.store) ⊥ a b c.in-Err.stop (subst (λ (r : Result _ Stop). KeepEnds a.store b.store r) c.in-Err.is c.start.ensures.ends (record others { out = out c.args.out.now }))
+
+-- the path is opened, unless the start was refused
+
+pub returns-in_err-tell_opened-in-Ok-clause-opens : goal.returns-in_err-tell_opened-in-Ok-clause-opens
+returns-in_err-tell_opened-in-Ok-clause-opens g c =
+    let keeper = g.K.Keeper.means in
+    let a = (keeper c.args.keeper.now).paths in
+    let b = (keeper c.start.new.keeper).paths in
+    opened_on _ c.args.path.now a b b c.from_residual.result (subst (λ (r : Result _ Stop). OpensBy c.args.path.now a b r) c.in-Ok.is c.start.ensures.opens) refl
+
+pub returns-in_ok-tell_opened-in-Ok-clause-opens : goal.returns-in_ok-tell_opened-in-Ok-clause-opens
+returns-in_ok-tell_opened-in-Ok-clause-opens g c =
+    let keeper = g.K.Keeper.means in
+    let a = (keeper c.args.keeper.now).paths in
+    let b = (keeper c.start.new.keeper).paths in
+    subst (λ (r : Result _ Stop). OpensBy c.args.path.now a b r) c.in-Ok.is c.start.ensures.opens
+
+pub returns-in_err-tell_bad_row-in-Some-clause-opens : goal.returns-in_err-tell_bad_row-in-Some-clause-opens
+returns-in_err-tell_bad_row-in-Some-clause-opens g c =
+    let keeper = g.K.Keeper.means in
+    let a = (keeper c.args.keeper.now).paths in
+    let b = (keeper c.start.new.keeper).paths in
+    opened_on _ c.args.path.now a b b c.from_residual-in_err-tell_bad_row-in-Some.result
+    (row_opened Unit c.args.path.now a b c.in-Err.stop c.in-Some.index c.in-Some.ensures.some (subst (λ (r : Result _ Stop). OpensBy c.args.path.now a b r) c.in-Err.is c.start.ensures.opens)) refl
+
+pub returns-in_ok-tell_bad_row-in-Some-clause-opens : goal.returns-in_ok-tell_bad_row-in-Some-clause-opens
+returns-in_ok-tell_bad_row-in-Some-clause-opens g c =
+    let keeper = g.K.Keeper.means in
+    let a = (keeper c.args.keeper.now).paths in
+    let b = (keeper c.start.new.keeper).paths in
+    stopped_opening Unit Unit c.args.path.now a b c.in-Err.stop (subst (λ (r : Result _ Stop). OpensBy c.args.path.now a b r) c.in-Err.is c.start.ensures.opens)
+
+pub returns-in-None-clause-opens : goal.returns-in-None-clause-opens
+returns-in-None-clause-opens g c =
+    let keeper = g.K.Keeper.means in
+    let a = (keeper c.args.keeper.now).paths in
+    let b = (keeper c.start.new.keeper).paths in
+    stopped_opening Unit Unit c.args.path.now a b c.in-Err.stop (subst (λ (r : Result _ Stop). OpensBy c.args.path.now a b r) c.in-Err.is c.start.ensures.opens)

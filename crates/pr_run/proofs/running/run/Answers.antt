@@ -7,6 +7,7 @@ use Rattle.pr_status.specs.Outside.{Outside}
 use Rattle.pr_status.specs.Status.{IsLong}
 use Rattle.pr_status.specs.declared.status.Stop.{Stop}
 use Rattle.pr_status.proofs.Ended.{ends_on, in_time_same, quiet}
+use Rattle.pr_status.proofs.Opening.{opened_on, opening_error}
 use Rattle.pr_status.proofs.Telling.{at_told, on_told}
 use Rattle.pr_world.specs.World.{start}
 use Rattle.pr_run.specs.Rows.{IsBadIn, OverRows}
@@ -98,3 +99,15 @@ returns-clause-ends g c =
     } in
     let l = c.in_ok-session.ensures.ends before in
     ends_behind (IsBadIn now.store) (IsLong before.input.left) before mid now c.answer_all.result l.cause c.answer_all.ensures.ends.input l.files l.out c.answer_all.ensures.ends
+
+pub returns-in_err-session-clause-opens : goal.returns-in_err-session-clause-opens
+returns-in_err-session-clause-opens g c =
+    let keeper = g.K.Keeper.means in
+    opening_error Unit _ c.args.path.now (keeper c.args.keeper.now).paths (keeper c.begin.new.keeper).paths c.from_residual.result c.in_err-session.field-0.0 c.from_residual.ensures.1
+    c.in_err-session.ensures.opens
+
+pub returns-clause-opens : goal.returns-clause-opens
+returns-clause-opens g c =
+    let keeper = g.K.Keeper.means in
+    opened_on _ c.args.path.now (keeper c.args.keeper.now).paths (keeper c.begin.new.keeper).paths (keeper c.answer_all.new.keeper).paths c.answer_all.result
+    c.in_ok-session.ensures.opens c.answer_all.ensures.paths

@@ -10,6 +10,7 @@ loop-event-init g c = record {
   going = λ history done s some. answered_none g.E.Worlds.stands_for history done c.args.events.items c.into_iter-event-iterator.result.rest.items c.args.self.now (g.K.Keeper.means c.args.keeper.now) c.into_iter-event-iterator.ensures.into_iter_gives.0 s;
   files = subst HaveDistinctFiles (sym c.into_iter-event-iterator.ensures.into_iter_gives.0) c.requires;
   told = λ some. some;
+  paths = refl;
   calm = refl;
 }
 
@@ -28,6 +29,7 @@ loop-event-preserved g c =
           (c.in_ok-take.ensures.comes history (done ++ here.some) here.stands some);
       files = files.1;
       told = λ some. at.invariant.told (c.in_ok-take.ensures.told some);
+      paths = c.in_ok-take.ensures.paths ∙ at.invariant.paths;
       calm = calm_keep _ (store at.keeper) (store c.take.new.keeper) tt c.in_ok-take.ensures.ends quiet ∙ at.invariant.calm;
     }
 

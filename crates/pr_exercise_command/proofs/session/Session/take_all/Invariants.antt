@@ -13,5 +13,6 @@ invariant-loop-event g l = record {
       → Answered g.E.Worlds.stands_for history done l.fn.events.items l.event-iterator.rest.items l.self (g.K.Keeper.means l.keeper);
   files : HaveDistinctFiles l.event-iterator.rest.items;
   told : IsSome (g.K.Keeper.means l.keeper).rows → IsSome (g.K.Keeper.means l.fn.keeper).rows;
+  paths : (g.K.Keeper.means l.keeper).paths ≡ (g.K.Keeper.means l.fn.keeper).paths;
   calm : (g.K.Keeper.means l.keeper).faults ≡ (g.K.Keeper.means l.fn.keeper).faults;
 }
