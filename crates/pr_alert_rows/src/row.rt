@@ -11,8 +11,10 @@
 //
 // Behind ` => ` stand the lines that are answered, apart by ` / `. Times are in milliseconds.
 use crate::rule::Rule;
-use pr_tables::Answers;
+use pr_tables::{Answers, tell_table};
 use std::alloc::{AllocError, Global};
+use std::io;
+use std::rt::HostRuntime;
 
 // The lines of an answer, apart by ` / `.
 fn joined(alloc: Global, lines: &str) -> Result<String, AllocError> {
@@ -34,4 +36,13 @@ impl Answers for Rule {
     fn answer(&mut self, alloc: Global, line: &str) -> Result<String, AllocError> {
         joined(alloc, &self.take(alloc, line)?)
     }
+}
+
+/// Goes over a table of rows about the records of an alerting rule, tells each that is answered
+/// otherwise, and how many rows there are.
+///
+/// # Errors
+/// Where the table is not read, or what is told is not written, or memory runs out.
+pub fn tell_alerts(rt: &HostRuntime, table: &str) -> io::Result<()> {
+    tell_table::<Rule>(rt, table)
 }

@@ -9,8 +9,10 @@
 //
 // Behind ` => ` stands what is answered.
 use crate::receivers::Receivers;
-use pr_tables::Answers;
+use pr_tables::{Answers, tell_table};
 use std::alloc::{AllocError, Global};
+use std::io;
+use std::rt::HostRuntime;
 
 impl Answers for Receivers {
     fn new(alloc: Global) -> Receivers {
@@ -20,4 +22,13 @@ impl Answers for Receivers {
     fn answer(&mut self, _alloc: Global, line: &str) -> Result<String, AllocError> {
         self.take(line)
     }
+}
+
+/// Goes over a table of rows about the queues of receivers, tells each that is answered otherwise, and
+/// how many rows there are.
+///
+/// # Errors
+/// Where the table is not read, or what is told is not written, or memory runs out.
+pub fn tell_queues(rt: &HostRuntime, table: &str) -> io::Result<()> {
+    tell_table::<Receivers>(rt, table)
 }

@@ -12,8 +12,10 @@
 //
 // Behind ` => ` stands the answer. Times are in milliseconds.
 use crate::both::Both;
-use pr_tables::Answers;
+use pr_tables::{Answers, tell_table};
 use std::alloc::{AllocError, Global};
+use std::io;
+use std::rt::HostRuntime;
 
 impl Answers for Both {
     fn new(alloc: Global) -> Both {
@@ -23,4 +25,13 @@ impl Answers for Both {
     fn answer(&mut self, alloc: Global, line: &str) -> Result<String, AllocError> {
         self.take(alloc, line)
     }
+}
+
+/// Goes over a table of rows about ranges of both kinds, tells each that is answered otherwise, and
+/// how many rows there are.
+///
+/// # Errors
+/// Where the table is not read, or what is told is not written, or memory runs out.
+pub fn tell_ranges(rt: &HostRuntime, table: &str) -> io::Result<()> {
+    tell_table::<Both>(rt, table)
 }

@@ -1,5 +1,5 @@
-//! What a line of a table asks of a store of rows, over disks in memory and over paths; and a store
-//! that is stopped at each call of its files.
+//! Rows of what stores of rows answer, over disks in memory and over paths; and a store that is
+//! stopped at each call of its files.
 #![tactic(auto)]
 
 mod lines;
@@ -10,9 +10,7 @@ mod rows;
 mod stops;
 mod stores;
 mod tables;
+mod told;
 
-pub use measure::work;
-pub use paths::difference_at_paths;
-pub use rows::Rows;
-pub use stops::difference_after_stops;
-pub use tables::difference_in_tables;
+pub use measure::tell_work;
+pub use told::tell_stores;

@@ -1,10 +1,11 @@
 // Work of one kind over a store at a path, to be measured from outside.
 use crate::rows::Rows;
-use pr_keep_sql::{DiskFile, SqlKeeper};
+use pr_keep_sql::{DiskFile, Open, SqlKeeper};
 use pr_outside::Row;
 use pr_words::Text;
-use sqlite::Start;
+use sqlite::{Alter, Start};
 use std::alloc::{AllocError, Global};
+use std::io;
 use std::rt::HostRuntime;
 
 // So many rows of one series, at times from this number on.
@@ -47,20 +48,15 @@ fn loads<R: Rows>(store: &mut R) -> u64 {
     count
 }
 
-/// Opens the store of a path, makes so many commits of so many rows, or loads all rows where there
-/// are to be no commits, and tells how many commits or loads were answered.
-///
-/// # Errors
-/// Where memory runs out.
-pub fn work<T: Start>(
-    rt: &HostRuntime,
+// Opens the store of a path, and makes commits or loads. It tells how many were answered.
+fn work<S: Alter + Drop, O: Open<S> + Drop>(
+    alloc: Global,
+    files: O,
     path: &str,
     count: u64,
     rows: u64,
-    start: T,
 ) -> Result<u64, AllocError> {
-    let alloc = rt.alloc();
-    let mut keeper = SqlKeeper::new(alloc, DiskFile::new(rt, start));
+    let mut keeper = SqlKeeper::new(alloc, files);
     if keeper.begin(path).is_err() {
         return Ok(0);
     }
@@ -69,4 +65,21 @@ pub fn work<T: Start>(
     } else {
         commits(alloc, &mut keeper, count, rows)
     }
+}
+
+/// Opens the store of a path, makes so many commits of so many rows, or loads all rows where there
+/// are to be no commits, and tells how many commits or loads were answered. The words are the path and
+/// the two numbers.
+///
+/// # Errors
+/// Where there are other words, or what is told is not written, or memory runs out.
+pub fn tell_work<T: Start>(rt: &HostRuntime, words: &[String], start: T) -> io::Result<()> {
+    let [path, count, rows] = words else {
+        return Err(io::Error::from(io::ErrorKind::InvalidInput));
+    };
+    let count = count.parse::<u64>().unwrap_or(0);
+    let rows = rows.parse::<u64>().unwrap_or(0);
+    let files = DiskFile::new(rt, start);
+    let done = work(rt.alloc(), files, path.as_str(), count, rows)?;
+    println!(rt; "{done}")
 }

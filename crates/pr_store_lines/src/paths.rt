@@ -1,17 +1,16 @@
 // A row over paths. Each of its sessions, with a line `then` between two, has a keeper of its own.
 use crate::lines::difference;
-use pr_keep_sql::{DiskFile, SqlKeeper};
-use sqlite::Start;
+use pr_keep_sql::{DiskFile, Open, SqlKeeper};
+use sqlite::{Alter, Start};
 use std::alloc::{AllocError, Global};
 use std::rt::HostRuntime;
 
-fn session<T: Start>(
+fn session<S: Alter + Drop, O: Open<S> + Drop>(
     alloc: Global,
-    rt: &HostRuntime,
+    files: O,
     lines: &str,
-    start: T,
 ) -> Result<Option<String>, AllocError> {
-    let mut keeper = SqlKeeper::new(alloc, DiskFile::new(rt, start));
+    let mut keeper = SqlKeeper::new(alloc, files);
     difference(alloc, &mut keeper, lines)
 }
 
@@ -20,7 +19,7 @@ fn session<T: Start>(
 ///
 /// # Errors
 /// Where memory runs out.
-pub fn difference_at_paths<T: Start>(
+pub(crate) fn difference_at_paths<T: Start>(
     rt: &HostRuntime,
     lines: &str,
     starts: &mut Vec<T>,
@@ -30,7 +29,7 @@ pub fn difference_at_paths<T: Start>(
         let Some(start) = starts.pop() else {
             return Ok(Some(String::from_str(alloc, "too many sessions")?));
         };
-        if let Some(text) = session(alloc, rt, lines, start)? {
+        if let Some(text) = session(alloc, DiskFile::new(rt, start), lines)? {
             return Ok(Some(text));
         }
     }

@@ -5,7 +5,7 @@ use sqlite::Alter;
 use std::alloc::{AllocError, Global};
 
 /// A store of rows, as lines ask for it.
-pub trait Rows {
+pub(crate) trait Rows {
     /// Opens the store of a path, or makes the tables of the connection ready.
     fn begin(&mut self, path: &str) -> Result<(), KeepError>;
 

@@ -1,9 +1,9 @@
 // A store whose files answer so many calls, and then none.
 use crate::orders::{all_rows, rows_of};
 use crate::rows::Rows;
-use crate::stores::{Stopped, close, kept_over};
+use crate::stores::{Opens, Stopped, close, kept_of};
 use pr_outside::Row;
-use sqlite::Files;
+use sqlite::{Alter, Connection, Files};
 use sqlite_disk::Crash;
 use std::alloc::{AllocError, Global};
 
@@ -28,18 +28,25 @@ fn filled<R: Rows>(store: &mut R, rows: &[Row]) -> usize {
     3
 }
 
+// Fills the store of a connection. It tells what is left of the files, and how many calls were answered.
+fn filled_over<S: Alter + Drop, O: Opens<S>>(
+    conn: Connection<S>,
+    rows: &[Row],
+) -> Option<(Files<Stopped>, usize)> {
+    let mut kept = kept_of(conn)?;
+    let done = filled(&mut kept, rows);
+    Some((close::<S, O>(kept), done))
+}
+
 // What is left of two empty files that answered so many calls, and how many calls of the store were answered.
-fn stopped(
+fn stopped<S: Alter + Drop, O: Opens<S>>(
     alloc: Global,
     rows: &[Row],
     log_calls: u64,
     db_calls: u64,
 ) -> Option<(Files<Stopped>, usize)> {
-    match kept_over(alloc, &[], &[], log_calls, db_calls)? {
-        Ok(mut kept) => {
-            let done = filled(&mut kept, rows);
-            Some((close(kept), done))
-        }
+    match O::open(alloc, &[], &[], log_calls, db_calls)? {
+        Ok(conn) => filled_over::<S, O>(conn, rows),
         Err(left) => Some((left, 0)),
     }
 }
@@ -52,12 +59,26 @@ fn rows_in<R: Rows>(alloc: Global, store: &mut R) -> Result<Option<String>, Allo
     }
 }
 
+// The texts of the rows of a database that is opened.
+fn opened_rows<S: Alter + Drop>(
+    alloc: Global,
+    conn: Connection<S>,
+) -> Result<Option<String>, AllocError> {
+    match kept_of(conn) {
+        Some(mut kept) => rows_in(alloc, &mut kept),
+        None => Ok(None),
+    }
+}
+
 // The texts of the rows that two files hold, which answer all calls.
-fn found(alloc: Global, left: &Files<Stopped>) -> Result<Option<String>, AllocError> {
+fn found<S: Alter + Drop, O: Opens<S>>(
+    alloc: Global,
+    left: &Files<Stopped>,
+) -> Result<Option<String>, AllocError> {
     let log = left.log.inner().bytes();
     let db = left.db.inner().bytes();
-    match kept_over(alloc, log, db, u64::MAX, u64::MAX) {
-        Some(Ok(mut kept)) => rows_in(alloc, &mut kept),
+    match O::open(alloc, log, db, u64::MAX, u64::MAX) {
+        Some(Ok(conn)) => opened_rows(alloc, conn),
         _ => Ok(None),
     }
 }
@@ -78,8 +99,12 @@ fn crash<D: Crash>(disk: &mut D) {
 }
 
 // Whether the files hold whole commits as they stand, and after a crash of the machine.
-fn holds_whole(alloc: Global, mut left: Files<Stopped>, done: usize) -> Result<bool, AllocError> {
-    let Some(rows) = found(alloc, &left)? else {
+fn holds_whole<S: Alter + Drop, O: Opens<S>>(
+    alloc: Global,
+    mut left: Files<Stopped>,
+    done: usize,
+) -> Result<bool, AllocError> {
+    let Some(rows) = found::<S, O>(alloc, &left)? else {
         return Ok(false);
     };
     if !is_whole(rows.as_str(), done) {
@@ -87,7 +112,7 @@ fn holds_whole(alloc: Global, mut left: Files<Stopped>, done: usize) -> Result<b
     }
     crash(&mut left.log);
     crash(&mut left.db);
-    match found(alloc, &left)? {
+    match found::<S, O>(alloc, &left)? {
         Some(rows) => Ok(is_whole(rows.as_str(), done)),
         None => Ok(false),
     }
@@ -95,16 +120,16 @@ fn holds_whole(alloc: Global, mut left: Files<Stopped>, done: usize) -> Result<b
 
 // What two files hold that answered so many calls, where it is not whole; and whether all calls of
 // the store were answered.
-fn stop(
+fn stop<S: Alter + Drop, O: Opens<S>>(
     alloc: Global,
     rows: &[Row],
     log_calls: u64,
     db_calls: u64,
 ) -> Result<Option<bool>, AllocError> {
-    let Some((left, done)) = stopped(alloc, rows, log_calls, db_calls) else {
+    let Some((left, done)) = stopped::<S, O>(alloc, rows, log_calls, db_calls) else {
         return Ok(None);
     };
-    if holds_whole(alloc, left, done)? {
+    if holds_whole::<S, O>(alloc, left, done)? {
         Ok(Some(done == 3))
     } else {
         Ok(None)
@@ -117,16 +142,16 @@ fn stop(
 ///
 /// # Errors
 /// Where memory runs out.
-pub fn difference_after_stops(
+pub(crate) fn difference_after_stops<S: Alter + Drop, O: Opens<S>>(
     alloc: Global,
     is_of_log: bool,
 ) -> Result<Option<String>, AllocError> {
     let rows = rows_of(alloc, ROWS)?;
     for calls in 0..1000u64 {
         let outcome = if is_of_log {
-            stop(alloc, rows.as_slice(), calls, u64::MAX)?
+            stop::<S, O>(alloc, rows.as_slice(), calls, u64::MAX)?
         } else {
-            stop(alloc, rows.as_slice(), u64::MAX, calls)?
+            stop::<S, O>(alloc, rows.as_slice(), u64::MAX, calls)?
         };
         match outcome {
             Some(true) => return Ok(None),

@@ -2,7 +2,7 @@
 // of the bytes that a file has; orders to its store follow; lines `select TEXT` come last, and show
 // what the tables then hold.
 use crate::lines::difference;
-use crate::stores::{batch, connection_of, kept_of, kept_over};
+use crate::stores::{Opens, batch, connection_of, kept_of};
 use pr_tables::halves;
 use sqlite::{Alter, Connection};
 use sqlite_value::value::ValueRef;
@@ -107,13 +107,13 @@ fn used<S: Alter + Drop>(
 ///
 /// # Errors
 /// Where memory runs out.
-pub fn difference_in_tables(
+pub(crate) fn difference_in_tables<S: Alter + Drop, O: Opens<S>>(
     alloc: Global,
     bytes: &[u8],
     lines: &str,
 ) -> Result<Option<String>, AllocError> {
-    match kept_over(alloc, &[], bytes, u64::MAX, u64::MAX) {
-        Some(Ok(kept)) => used(alloc, connection_of(kept), lines),
+    match O::open(alloc, &[], bytes, u64::MAX, u64::MAX) {
+        Some(Ok(conn)) => used(alloc, conn, lines),
         _ => Ok(Some(String::from_str(alloc, "not opened")?)),
     }
 }

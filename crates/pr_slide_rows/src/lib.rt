@@ -1,0 +1,7 @@
+//! Rows of what ranges answer that go on, beside those that are read anew.
+#![tactic(auto)]
+
+mod both;
+mod row;
+
+pub use row::tell_ranges;
