@@ -139,16 +139,6 @@ fn mark_first(
     Ok(marks)
 }
 
-// An element of its own with the same labels and value.
-fn copied(alloc: Global, item: &Item<Num>) -> Result<Item<Num>, AllocError>
-    ensures { IfOk result (λ i. i ≡ item.now) }
-{
-    Ok(Item {
-        labels: item.labels.copy(alloc)?,
-        value: item.value,
-    })
-}
-
 // The mark of a place.
 fn is_marked(marks: &[bool], index: usize) -> bool
     ensures { (b : Bool) → slice_get marks.now index ≡ Some b → result ≡ b }
@@ -171,7 +161,7 @@ fn marked_items(
     let mut chosen = Vec::new(alloc);
     for (index, item) in vector.iter().enumerate() {
         if is_marked(marks, index) {
-            chosen.push(copied(alloc, item)?)?;
+            chosen.push(item.copy(alloc)?)?;
         }
     }
     Ok(chosen)

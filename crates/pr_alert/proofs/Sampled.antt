@@ -11,19 +11,20 @@ use Rattle.pr_labels.specs.declared.pair.Pair.{Pair}
 use Rattle.pr_labels.specs.Order.{labels_cmp}
 use Rattle.pr_labels.specs.Rising.{IsRising, placed, with_labels}
 use Rattle.pr_labels.proofs.LabelOrder.{rising_with}
+use Rattle.pr_history.specs.Series.{element}
 use Rattle.pr_lineage.specs.declared.record.Record.{Record}
-use Rattle.pr_lineage.specs.Records.{placed_item, sample_of, samples, samples_of, with_item, with_samples}
+use Rattle.pr_lineage.specs.Records.{placed_item, samples, samples_of, with_item, with_samples}
 use Rattle.pr_alert.specs.Sampling.{items_of}
 
 entry_placed : (o : Ordering) (k : List Pair) (v : Num) (e : List Pair × Num) (es : List (List Pair × Num))
-    → items_of (insert_entry labels_cmp es k v) ≡ with_item (items_of es) (sample_of k v)
+    → items_of (insert_entry labels_cmp es k v) ≡ with_item (items_of es) (element k v)
     → items_of (match_ordering o ((k, v) ∷ e ∷ es) ((e.0, v) ∷ es) (e ∷ insert_entry labels_cmp es k v))
-    ≡ placed_item o (sample_of k v) (sample_of e.0 e.1) (items_of es) (with_item (items_of es) (sample_of k v))
+    ≡ placed_item o (element k v) (element e.0 e.1) (items_of es) (with_item (items_of es) (element k v))
 entry_placed Less k v e es h = refl
 entry_placed Equal k v e es h = refl
-entry_placed Greater k v e es h = ap (λ (l : List (Item Num)). sample_of e.0 e.1 ∷ l) h
+entry_placed Greater k v e es h = ap (λ (l : List (Item Num)). element e.0 e.1 ∷ l) h
 
-pub items_insert : (es : List (List Pair × Num)) (k : List Pair) (v : Num) → items_of (insert_entry labels_cmp es k v) ≡ with_item (items_of es) (sample_of k v)
+pub items_insert : (es : List (List Pair × Num)) (k : List Pair) (v : Num) → items_of (insert_entry labels_cmp es k v) ≡ with_item (items_of es) (element k v)
 items_insert [] k v = refl
 items_insert (e ∷ es) k v = entry_placed (labels_cmp k e.0) k v e es (items_insert es k v)
 

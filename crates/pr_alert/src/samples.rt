@@ -3,7 +3,8 @@ ghost use Rattle.std.specs.Prelude.{◌≡◌, ◌∷◌, [], codes, IfOk, OnOk,
 ghost use Rattle.pr_labels.specs.Rising.{IsRising};
 ghost use Rattle.pr_labels.specs.Edits.{set_label};
 ghost use Rattle.pr_labels.specs.LabelSet.{metric_label};
-ghost use Rattle.pr_lineage.specs.Records.{alert_labels, for_state_labels, sample_of, samples, samples_of, state_text, with_item, with_samples};
+ghost use Rattle.pr_history.specs.Series.{element};
+ghost use Rattle.pr_lineage.specs.Records.{alert_labels, for_state_labels, samples, samples_of, state_text, with_item, with_samples};
 ghost use Rattle.pr_alert.specs.Sampling.{items_of};
 
 use crate::records::is_living;
@@ -62,7 +63,7 @@ pub fn for_state_labels(alloc: Global, labels: &Labels) -> Result<Labels, AllocE
 
 #[tactic(auto, using(crate::proofs::Sampled::items_insert))]
 fn put(items: &mut BTreeMap<Labels, Num>, labels: Labels, value: Num) -> Result<(), AllocError>
-    ensures { OnOk result (items_of items.new.entries ≡ with_item (items_of items.old.entries) (sample_of labels value)) }
+    ensures { OnOk result (items_of items.new.entries ≡ with_item (items_of items.old.entries) (element labels value)) }
 {
     items.insert(labels, value)?;
     Ok(())

@@ -10,7 +10,7 @@ use Rattle.pr_rules.specs.declared.report.GroupReport.{GroupReport}
 use Rattle.pr_rules.specs.Evaluations.{group_step}
 use Rattle.pr_rules.specs.Groups.{Group}
 use Rattle.pr_rules.specs.Settings.{Settings}
-use Rattle.pr_rules.specs.Times.{IsAfter}
+use Rattle.pr_rules.specs.Times.{IsAfter, IsAfterAll}
 use Rattle.pr_group.specs.Keeping.{KeptGroup, MayEvaluateOver}
 use Rattle.pr_world.specs.declared.report.Report.TheVariants as report
 use Rattle.pr_manager.specs.Coming.{IsEvaluated, history_with}
@@ -20,7 +20,6 @@ use Rattle.pr_manager.proofs.Names.{kept_name}
 use Rattle.pr_manager.proofs.Places.{zip_at, zip_set}
 use Rattle.pr_backfill.specs.declared.stepped.Stepped.{Stepped}
 use Rattle.pr_backfill.specs.Filled.{Round, one_group, round_at, round_begun}
-use Rattle.pr_backfill.specs.Keeping.{IsAfterAll}
 use Rattle.pr_backfill.specs.Rounds.{HasFilled, IsStepped, IsSteppedAt}
 use Rattle.pr_backfill.proofs.Lists.{as_many, set_at, there_at, there_within}
 

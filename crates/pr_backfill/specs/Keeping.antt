@@ -1,19 +1,12 @@
--- How what is kept of groups stands for the groups of a backfill, and at which times they may be
--- evaluated.
-use Rattle.std.specs.Prelude.{ℕ, List}
-use Rattle.std.specs.List.{AllByRecursion}
+-- How what is kept of groups stands for the groups of a backfill.
+use Rattle.std.specs.Prelude.{List}
 use Rattle.pr_history.specs.declared.entry.Entry.{Entry}
 use Rattle.pr_range.specs.Asks.{LastAsks, Passed}
 use Rattle.pr_rules.specs.Groups.{Group}
 use Rattle.pr_rules.specs.Settings.{of_a_run}
-use Rattle.pr_rules.specs.Times.{IsAfter}
 use Rattle.pr_group.specs.Keeping.{KeptGroup}
 use Rattle.pr_manager.specs.Keeping.{KeepEach}
 
 -- each is kept over the history, in order, under the settings of a run
 abbrev pub KeepsToFill : {R : Type 0} → (R → List Entry → Type 0) → (R → LastAsks) → (R → Passed) → List Entry → List (KeptGroup R) → List Group → Type 0
 KeepsToFill fits last passed history ks groups = KeepEach fits last passed of_a_run history ks groups
-
--- a time after the last evaluation of each
-abbrev pub IsAfterAll : ℕ → List Group → Type 0
-IsAfterAll time groups = AllByRecursion (λ g. IsAfter time g.last) groups

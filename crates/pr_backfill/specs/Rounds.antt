@@ -1,6 +1,7 @@
 -- How far the evaluations at one time have come. Private contracts cite this: a reader can pass it over.
 use Rattle.std.specs.Prelude.{◌≡◌, ℕ, List, ◌++◌, fold, length, slice_set}
 use Rattle.pr_history.specs.declared.entry.Entry.{Entry}
+use Rattle.pr_rules.specs.Times.{IsAfterAll}
 use Rattle.pr_intake.specs.Intake.{Series}
 use Rattle.pr_range.specs.Asks.{LastAsks, Passed}
 use Rattle.pr_rules.specs.Evaluations.{group_step}
@@ -11,7 +12,6 @@ use Rattle.pr_manager.specs.Coming.{history_with}
 use Rattle.pr_manager.specs.Keeping.{HasGoneOn, KeepEach, KeepsUnder}
 use Rattle.pr_backfill.specs.declared.stepped.Stepped.{Stepped}
 use Rattle.pr_backfill.specs.Filled.{Round, one_group, round_at, stepped}
-use Rattle.pr_backfill.specs.Keeping.{IsAfterAll}
 
 -- a group was evaluated: this is told of it, it is kept, and the head has gone on
 pub record IsStepped {R : Type 0} (fits : R → List Entry → Type 0) (last : R → LastAsks) (passed : R → Passed) (s : Settings) (g : Group) (kept : KeptGroup R) (history : List Entry) (time : ℕ) (old new : Series) (told : Stepped) : Type 0 where

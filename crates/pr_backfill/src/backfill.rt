@@ -3,10 +3,11 @@ ghost use Rattle.std.specs.Prelude.{◌≡◌, List, map, IfOk, OnOk};
 ghost use Rattle.pr_history.specs.declared.entry.Entry.{Entry};
 ghost use Rattle.pr_rules.specs.Groups.{Group};
 ghost use Rattle.pr_rules.specs.Settings.{of_a_run};
+ghost use Rattle.pr_rules.specs.Times.{IsAfterAll};
 ghost use Rattle.pr_group.specs.Keeping.{MayEvaluateOver};
 ghost use Rattle.pr_manager.specs.Keeping.{HasGoneOn};
 ghost use Rattle.pr_backfill.specs.Filled.{group_of_file, round_at};
-ghost use Rattle.pr_backfill.specs.Keeping.{IsAfterAll, KeepsToFill};
+ghost use Rattle.pr_backfill.specs.Keeping.{KeepsToFill};
 
 use crate::fresh::fresh_groups;
 use crate::round::evaluate_all;

@@ -11,12 +11,11 @@ ghost use Rattle.pr_backfill.specs.Keeping.{KeepsToFill};
 
 use crate::stepped::FileGroup;
 use pr_group::GroupOver;
-use pr_labels::Labels;
+use pr_manager::no_external;
 use pr_range::Ranges;
 use pr_rulefile::{GroupDef, RuleDef};
 use pr_time::Span;
-use pr_tmpl::External;
-use pr_words::{Items, Text};
+use pr_words::Items;
 use std::alloc::{AllocError, Global};
 
 // The step of subqueries that name none: a minute.
@@ -24,16 +23,6 @@ fn minute() -> Span
     ensures { result ≡ of_a_run.subquery_step }
 {
     Span::new(60_000).unwrap()
-}
-
-// What templates see as external: nothing.
-fn no_external(alloc: Global) -> External
-    ensures { result ≡ of_a_run.external }
-{
-    External {
-        labels: Labels::empty(alloc),
-        url: Text::new(String::new(alloc)),
-    }
 }
 
 // The rules that are no alerts.

@@ -3,11 +3,10 @@ ghost use Rattle.std.specs.Prelude.{◌≡◌, ◌<◌, List, length, slice_get,
 ghost use Rattle.pr_history.specs.declared.entry.Entry.{Entry};
 ghost use Rattle.pr_rules.specs.Groups.{Group};
 ghost use Rattle.pr_rules.specs.Settings.{Settings};
-ghost use Rattle.pr_rules.specs.Times.{IsAfter};
+ghost use Rattle.pr_rules.specs.Times.{IsAfter, IsAfterAll};
 ghost use Rattle.pr_group.specs.Keeping.{KeptGroup, MayEvaluateOver};
 ghost use Rattle.pr_manager.specs.Keeping.{HasGoneOn, KeepEach, KeepsUnder};
 ghost use Rattle.pr_backfill.specs.Filled.{round_at};
-ghost use Rattle.pr_backfill.specs.Keeping.{IsAfterAll};
 ghost use Rattle.pr_backfill.specs.Rounds.{HasFilled, IsStepped, IsSteppedAt};
 
 use crate::stepped::Stepped;

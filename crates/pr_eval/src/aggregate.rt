@@ -16,11 +16,11 @@ ghost use Rattle.pr_eval.specs.Parts.{IsPartAt, IsValued, counts_after};
 use crate::evaluate::eval_at;
 use crate::parts::{is_aggregate, is_aggregate_by, stands_at};
 use crate::scope::Scope;
-use pr_ast::{AggOp, Expr, ExprKind, Place};
+use pr_ast::{AggOp, Expr, Place};
 use pr_labels::Grouping;
 use pr_query::Value;
 use pr_range::Ranges;
-use pr_types::Counts;
+use pr_types::{Counts, content};
 use pr_values::{EvalError, aggregated};
 use pr_words::Steps;
 use std::alloc::{AllocError, Global};
@@ -50,16 +50,6 @@ fn aggregated_one(
     let mut values = Vec::new(alloc);
     push_value(&mut values, vector)?;
     aggregated(alloc, place, op, by, "", &values)
-}
-
-// The content of a text; nothing for every other expression.
-fn content(e: &Expr) -> &str
-    ensures { result.now ≡ content (tree_of e.now) }
-{
-    match &e.kind {
-        ExprKind::Text { text } => text.as_str(),
-        _ => "",
-    }
 }
 
 // An aggregation with a parameter, whose value is given beside it.

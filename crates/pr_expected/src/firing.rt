@@ -3,7 +3,7 @@ ghost use Rattle.std.specs.Prelude.{◌≡◌, ◌++◌, ◌∷◌, [], OnOk, If
 ghost use Rattle.pr_lineage.specs.Records.{is_firing};
 ghost use Rattle.pr_verdict.specs.Verdict.{found_of};
 
-use pr_labels::Pair;
+use pr_labels::{Pair, copy_pairs};
 use pr_lineage::{Found, Record, State};
 use pr_words::Items;
 use std::alloc::{AllocError, Global};
@@ -17,24 +17,11 @@ fn is_firing(state: State) -> bool
     }
 }
 
-fn copy_pair(alloc: Global, pair: &Pair) -> Result<Pair, AllocError>
-    ensures { IfOk result (λ p. p ≡ pair.now) }
-{
-    Ok(Pair {
-        name: pair.name.copy(alloc)?,
-        value: pair.value.copy(alloc)?,
-    })
-}
-
 /// The same annotations again.
 pub(crate) fn copy_notes(alloc: Global, notes: &[Pair]) -> Result<Items<Pair>, AllocError>
     ensures { IfOk result (λ list. list ≡ notes.now) }
 {
-    let mut copies = Vec::new(alloc);
-    for note in notes {
-        copies.push(copy_pair(alloc, note)?)?;
-    }
-    Ok(Items::new(copies))
+    Ok(Items::new(copy_pairs(alloc, notes)?))
 }
 
 fn found_of(alloc: Global, alert: &Record) -> Result<Found, AllocError>

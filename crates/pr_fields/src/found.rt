@@ -1,10 +1,11 @@
 // Problems that are found.
-ghost use Rattle.std.specs.Prelude.{◌≡◌, ◌++◌, ◌∷◌, [], codes, OnOk};
-ghost use Rattle.pr_fields.specs.declared.problem.ProblemKind.TheVariants.{WantText, WantList, WantMap, UnknownField, Missing, BadLabel, NotForRecording, DuplicateGroup};
+ghost use Rattle.std.specs.Prelude.{◌≡◌, ◌++◌, ◌∷◌, [], codes, IfOk, OnOk};
+ghost use Rattle.pr_fields.specs.declared.problem.ProblemKind.TheVariants.{WantText, WantList, WantMap, UnknownField, Missing, BadLabel, NotForRecording, DuplicateGroup, Yaml};
 ghost use Rattle.pr_fields.specs.Problems.{problem};
 
 use crate::problem::{Problem, ProblemKind};
-use pr_words::Text;
+use pr_words::{Items, Text};
+use pr_yaml_scan::YamlKind;
 use std::alloc::{AllocError, Global};
 
 /// Puts a problem behind those found so far.
@@ -78,4 +79,13 @@ pub fn push_not_for_recording(
 {
     let name = Text::from_str(alloc, name)?;
     push(found, line, ProblemKind::NotForRecording { name })
+}
+
+/// The one problem of a text that has no tree, at its line.
+pub fn no_tree(alloc: Global, line: u32, kind: YamlKind) -> Result<Items<Problem>, AllocError>
+    ensures { IfOk result (λ list. list ≡ problem line (Yaml kind) ∷ []) }
+{
+    let mut found = Vec::new(alloc);
+    push(&mut found, line, ProblemKind::Yaml { kind })?;
+    Ok(Items::new(found))
 }

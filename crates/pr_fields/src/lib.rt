@@ -22,7 +22,8 @@ pub use expressions::{
     expression_in, expression_under, expression_value_problems, typed_expression,
 };
 pub use found::{
-    push, push_bad_label, push_duplicate, push_missing, push_not_for_recording, push_unknown,
+    no_tree, push, push_bad_label, push_duplicate, push_missing, push_not_for_recording,
+    push_unknown,
 };
 pub use labels::{label_value, labels_problems, pairs_of, put_labels};
 pub use maps::{ItemForm, MapForm, list_problems, map_problems, require, texts_problems};

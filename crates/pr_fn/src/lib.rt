@@ -18,4 +18,5 @@ pub use instants::calendar;
 pub use label_functions::{label_join, label_replace};
 pub use laws::dates_by_example;
 pub use pr_vectors::Part;
+pub use rows::keep_least;
 pub use values::{at_least, at_most, clamp, map_values, scalar, sign, within, without_metrics};

@@ -39,8 +39,8 @@ fn is_below(labels: &Labels, least: &Option<Labels>) -> bool
     }
 }
 
-// Keeps the least of the labels that came again.
-fn keep_least(least: &mut Option<Labels>, labels: Labels)
+/// Keeps the least of the labels that came again.
+pub fn keep_least(least: &mut Option<Labels>, labels: Labels)
     ensures { least.new ≡ least_with least.old labels }
 {
     if is_below(&labels, least) {

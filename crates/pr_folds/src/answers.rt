@@ -10,8 +10,8 @@ use crate::neighbours::Neighbours;
 use pr_num::{Num, TooWide, Total};
 use pr_vectors::{Ask, RangeFn};
 
-// A value that is there, or that it is too wide.
-fn some_value(answer: Result<Num, TooWide>) -> Result<Option<Num>, TooWide>
+/// A value that is there, or that it is too wide.
+pub fn some_value(answer: Result<Num, TooWide>) -> Result<Option<Num>, TooWide>
     ensures { result ≡ some_value answer }
 {
     match answer {

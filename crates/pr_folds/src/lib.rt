@@ -9,7 +9,7 @@ mod neighbours;
 mod parts;
 mod summarize;
 
-pub use answers::{from_neighbours, from_total, is_of_neighbours, is_of_total};
+pub use answers::{from_neighbours, from_total, is_of_neighbours, is_of_total, some_value};
 pub use folds::{Greatest, Least, Sequence, Totals};
 pub use gains::units_of;
 pub use laws::{greatest_tells, least_tells, sequences_tell, totals_tell};

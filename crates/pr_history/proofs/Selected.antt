@@ -9,7 +9,7 @@ use Rattle.pr_history.specs.declared.entry.Entry.{Entry}
 use Rattle.pr_labels.specs.Rising.{IsBelowFirstSet, IsRising}
 use Rattle.pr_labels.proofs.LabelOrder.{below_next}
 use Rattle.pr_history.specs.Lookback.{value_at}
-use Rattle.pr_history.specs.Series.{has_values, item_of, items_of, chosen, values_shown}
+use Rattle.pr_history.specs.Series.{has_values, element, items_of, chosen, values_shown}
 use Rattle.pr_history.proofs.Choosing.{chosen_rising}
 
 abbrev sets_in : List (Item Num) → List (List Pair)
@@ -17,7 +17,7 @@ sets_in items = map (λ i. i.labels) items
 
 -- an item more, where the series has a value
 abbrev sets_after : List Pair → Option Num → List (Item Num) → List (List Pair)
-sets_after labels value items = sets_in (cons_option (option_map (item_of labels) value) items)
+sets_after labels value items = sets_in (cons_option (option_map (element labels) value) items)
 
 below_items : (history : List Entry) (x : ℤ) (labels : List Pair) (sets : List (List Pair)) → IsBelowFirstSet labels sets → IsRising sets
     → IsBelowFirstSet labels (sets_in (items_of history x sets))

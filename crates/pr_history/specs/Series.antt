@@ -19,12 +19,12 @@ has_values equal labels = list_all (λ q. bytes_eq (text_at labels q.name) q.val
 abbrev pub chosen : (List Pair → Bool) → List Entry → List (List Pair)
 chosen test history = fold with_labels [] (filter test (map (λ e. e.labels) history))
 
--- a label set with its value at a moment
-abbrev pub item_of : List Pair → Num → Item Num
-item_of labels value = record { labels = labels; value = value }
+-- an element: labels with a value
+abbrev pub element : List Pair → Num → Item Num
+element labels value = record { labels = labels; value = value }
 
 abbrev pub items_of : List Entry → ℤ → List (List Pair) → List (Item Num)
-items_of history x sets = filter_map (λ labels. option_map (item_of labels) (value_at history x labels)) sets
+items_of history x sets = filter_map (λ labels. option_map (element labels) (value_at history x labels)) sets
 
 -- the chosen series that have a value at a moment
 abbrev pub values_shown : List Entry → List Pair → ℤ → List (Item Num)

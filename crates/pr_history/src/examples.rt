@@ -2,14 +2,14 @@
 ghost use Rattle.std.specs.Prelude.{◌≡◌, pos, negsuc, [], ◌∷◌, Some, None, true, false, codes};
 ghost use Rattle.pr_history.specs.Admission.{admit, put};
 ghost use Rattle.pr_history.specs.Lookback.{entries_until, recent_entry, spot_at, spot_of, spots_within, value_at, values_within};
-ghost use Rattle.pr_history.specs.Series.{has_values, values_shown, item_of};
+ghost use Rattle.pr_history.specs.Series.{has_values, values_shown, element};
 ghost use Rattle.pr_history.specs.Examples.{m, job, number, whole, entry_at, one, marked, three};
 ghost use Rattle.pr_history.specs.declared.append.Append.TheVariants.{Added, Same, OutOfOrder, Conflict};
 ghost use Rattle.pr_num.specs.declared.value.Point.TheVariants.{Stale};
 
 /// A value is seen for five minutes, and no millisecond longer.
 pub fn lookback_is_five_minutes()
-    ensures seen { values_shown one m (pos 299999) ≡ item_of m (number 1) ∷ [] }
+    ensures seen { values_shown one m (pos 299999) ≡ element m (number 1) ∷ [] }
     ensures gone { values_shown one m (pos 300000) ≡ [] }
     ensures before { value_at marked (negsuc 0) m ≡ None }
 {}

@@ -1,6 +1,6 @@
 // The texts of the values of a series.
-ghost use Rattle.std.specs.Prelude.{◌≡◌, ◌+◌, ◌^◌, ◌<◌, ◌≤◌, ◌∷◌, [], ℕ, List, Option, Some, None, length, position, IfOk, IfSome, OnOk, MatchOption};
-ghost use Rattle.std.specs.List.{slice_split, position_or_len};
+ghost use Rattle.std.specs.Prelude.{◌≡◌, ◌+◌, ◌^◌, ◌<◌, ◌≤◌, ◌∷◌, [], ℕ, List, Option, Some, None, length, IfOk, IfSome, OnOk, MatchOption};
+ghost use Rattle.std.specs.List.{slice_split};
 ghost use Rattle.std.specs.Option.{option_copied};
 ghost use Rattle.pr_words.specs.Bytes.{is_blank};
 ghost use Rattle.pr_inputs.specs.Points.{size};
@@ -11,7 +11,7 @@ use crate::item::stretch_of;
 use crate::point::size;
 use crate::stretch::Stretch;
 use pr_time::Span;
-use pr_words::{Items, is_blank};
+use pr_words::{Items, field_len};
 use std::alloc::{AllocError, Global};
 
 /// What a text of values writes.
@@ -27,27 +27,13 @@ pub enum Values {
 
 const MOST_PLACES: u64 = 1 << 20;
 
-fn first_blank(text: &[u8]) -> Option<usize>
-    ensures { result ≡ position is_blank text.now }
-{
-    text.iter().position(|b| is_blank(*b))
-}
-
-#[tactic(auto, using(pr_words::proofs::Places::place_or_end, pr_words::proofs::Places::within))]
-fn blank_len(text: &[u8]) -> usize
-    ensures value { result ≡ position_or_len is_blank text.now }
-    ensures within { result ≤ length text.now }
-{
-    first_blank(text).unwrap_or(text.len())
-}
-
 // What stands before the first blank, and what stands after it.
 #[tactic(auto, using(crate::proofs::Parts::first_part))]
 fn cut(text: &[u8]) -> (&[u8], Option<&[u8]>)
     ensures parts { slice_split is_blank text.now ≡ result.0.now ∷ parts_after (option_copied result.1) }
     ensures shorter { IfSome result.1 (λ rest. length rest.now < length text.now) }
 {
-    let (part, rest) = text.split_at(blank_len(text));
+    let (part, rest) = text.split_at(field_len(text));
     match rest.split_first() {
         Some((_blank, after)) => (part, Some(after)),
         None => (part, None),

@@ -29,16 +29,6 @@ fn keys_of(
     Ok(keys)
 }
 
-// An element of its own with the same labels and value.
-fn copied(alloc: Global, item: &Item<Num>) -> Result<Item<Num>, AllocError>
-    ensures { IfOk result (λ i. i ≡ item.now) }
-{
-    Ok(Item {
-        labels: item.labels.copy(alloc)?,
-        value: item.value,
-    })
-}
-
 // Whether one of the keys is that of the element.
 fn has_match(
     alloc: Global,
@@ -66,7 +56,7 @@ fn with_match(
     let mut chosen = Vec::new(alloc);
     for item in side {
         if has_match(alloc, how, &keys, item)? == wanted {
-            chosen.push(copied(alloc, item)?)?;
+            chosen.push(item.copy(alloc)?)?;
         }
     }
     Ok(chosen)

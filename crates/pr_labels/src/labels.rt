@@ -8,6 +8,7 @@ mod place;
 mod shared;
 
 use crate::pair::Pair;
+pub use copies::copy_pairs;
 use place::place_of;
 use shared::SharedPairs;
 use std::alloc::{AllocError, Global};

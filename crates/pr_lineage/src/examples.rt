@@ -1,10 +1,11 @@
 // What the definitions say of small lineages.
 ghost use Rattle.std.specs.Prelude.{◌≡◌, [], ◌∷◌, ◌++◌, codes, Some, None};
 ghost use Rattle.pr_history.specs.Examples.{number, whole};
+ghost use Rattle.pr_history.specs.Series.{element};
 ghost use Rattle.pr_num.specs.declared.value.Point.TheVariants.{Stale};
 ghost use Rattle.pr_lineage.specs.Examples.{a, after_two, b, d, d_of, down, failed_at, firing, firing_sent, found_of, first_of_two, gave, held_out, kept, over, over_sent, pending, twice_sent, two_found, up, with_state, written};
 ghost use Rattle.pr_lineage.specs.Lineage.{came_to, exceeded, previous};
-ghost use Rattle.pr_lineage.specs.Records.{alerting_outcome, evaluation, exceeding, records, sample_of, samples, sendings, for_state_labels};
+ghost use Rattle.pr_lineage.specs.Records.{alerting_outcome, evaluation, exceeding, records, samples, sendings, for_state_labels};
 ghost use Rattle.pr_lineage.specs.Restoring.{restored, restored_entry, restored_of, restored_time};
 
 /// An alert is pending until it has been active for as long as it has to be, and then fires and is
@@ -75,6 +76,6 @@ pub fn an_alert_is_restored()
 /// seconds. Nothing is written of one that is over.
 #[tactic(auto, unfolding(pr_num::specs::Arithmetic::product_of))]
 pub fn alerts_are_written_as_samples()
-    ensures pending { samples (pending a 60000 ∷ []) ≡ sample_of (with_state a (codes "ALERTS") (codes "pending")) (number 1) ∷ sample_of (for_state_labels a) (number 60) ∷ [] }
+    ensures pending { samples (pending a 60000 ∷ []) ≡ element (with_state a (codes "ALERTS") (codes "pending")) (number 1) ∷ element (for_state_labels a) (number 60) ∷ [] }
     ensures over { samples (over d 0 0 240000 None None ∷ []) ≡ [] }
 {}

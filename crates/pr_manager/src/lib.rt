@@ -18,4 +18,5 @@ mod waiting;
 
 pub use answered::{Answered, admitted_in};
 pub use laws::kept_groups_stay;
+pub use loading::no_external;
 pub use manager::Manager;

@@ -4,6 +4,7 @@ ghost use Rattle.std.specs.List.{All};
 ghost use Rattle.pr_history.specs.declared.entry.Entry.{Entry};
 ghost use Rattle.pr_rulefile.specs.Groups.{group_of_def};
 ghost use Rattle.pr_rulefile.specs.File.{groups_given, groups_of_file, rule_file_of};
+ghost use Rattle.pr_rules.specs.Settings.{of_a_run};
 ghost use Rattle.pr_rule_result.specs.Templates.{HaveTemplates};
 ghost use Rattle.pr_rules.specs.Groups.{Group, fresh};
 ghost use Rattle.pr_group.specs.Keeping.{waits_of};
@@ -13,6 +14,7 @@ ghost use Rattle.pr_manager.specs.Loading.{HasPassedNothing, IsRefusalOf, fresh_
 
 use pr_fields::{Problem, ProblemKind};
 use pr_group::GroupOver;
+use pr_labels::Labels;
 use pr_range::Ranges;
 use pr_rule_result::rules_that_read_have_templates;
 use pr_rulefile::laws::a_refused_file_has_a_problem;
@@ -59,6 +61,16 @@ pub(crate) struct Making<'a> {
     pub(crate) step: Span,
     /// What templates see as external.
     pub(crate) external: &'a External,
+}
+
+/// What templates see as external in a run: no labels, and no address.
+pub fn no_external(alloc: Global) -> External
+    ensures { result ≡ of_a_run.external }
+{
+    External {
+        labels: Labels::empty(alloc),
+        url: Text::new(String::new(alloc)),
+    }
 }
 
 // The same texts once more.

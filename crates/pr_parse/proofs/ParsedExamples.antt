@@ -3,6 +3,7 @@ use Rattle.std.proofs.Common.{◌≡◌, refl, None, false, [], ◌∷◌}
 use Rattle.std.specs.Prelude.{codes}
 use Rattle.pr_forms.specs.Reading.{reading, bad_place}
 use Rattle.pr_lex.specs.Words.{word_of, words, is_word, word_text}
+use Rattle.pr_lex.specs.Worked.{name, duration, sign}
 use Rattle.pr_lex.specs.declared.token.Sign.TheVariants as signs
 use Rattle.pr_ast.specs.Names.{func_of, funcs, is_func, func_text}
 use Rattle.pr_ast.specs.declared.names.BinOp.TheVariants as op
@@ -12,7 +13,7 @@ use Rattle.pr_ast.specs.Examples.{one, grouped}
 use Rattle.pr_grammar.specs.Seen.{seen_tokens}
 use Rattle.pr_parse.specs.declared.fault.ParseKind.TheVariants as kind
 use Rattle.pr_parse.specs.Parsed.{parsed_tokens, gives_tree, gives_fault}
-use Rattle.pr_parse.specs.Examples.{name, lasting, sign, place, metric}
+use Rattle.pr_parse.specs.Examples.{place, metric}
 
 pub two_names : parsed_tokens 3 (seen_tokens (name 0 1 (codes "x") ∷ name 2 3 (codes "y") ∷ [])) ≡ gives_fault 2 kind.Unexpected
 unfolding parsed_tokens reading bad_place word_of words is_word word_text func_of funcs is_func func_text
@@ -26,15 +27,15 @@ pub nothing : parsed_tokens 0 (seen_tokens ([])) ≡ gives_fault 0 kind.End
 unfolding parsed_tokens reading bad_place word_of words is_word word_text func_of funcs is_func func_text
 nothing = refl
 
-pub second_offset : parsed_tokens 21 (seen_tokens (name 0 1 (codes "x") ∷ name 2 8 (codes "offset") ∷ lasting 9 11 300000 ∷ name 12 18 (codes "offset") ∷ lasting 19 21 300000 ∷ [])) ≡ gives_fault 12 kind.Misplaced
+pub second_offset : parsed_tokens 21 (seen_tokens (name 0 1 (codes "x") ∷ name 2 8 (codes "offset") ∷ duration 9 11 300000 ∷ name 12 18 (codes "offset") ∷ duration 19 21 300000 ∷ [])) ≡ gives_fault 12 kind.Misplaced
 unfolding parsed_tokens reading bad_place word_of words is_word word_text func_of funcs is_func func_text
 second_offset = refl
 
-pub range_of_0 : parsed_tokens 5 (seen_tokens (name 0 1 (codes "x") ∷ sign 1 2 signs.LeftBracket ∷ lasting 2 4 0 ∷ sign 4 5 signs.RightBracket ∷ [])) ≡ gives_fault 2 kind.ZeroSpan
+pub range_of_0 : parsed_tokens 5 (seen_tokens (name 0 1 (codes "x") ∷ sign 1 2 signs.LeftBracket ∷ duration 2 4 0 ∷ sign 4 5 signs.RightBracket ∷ [])) ≡ gives_fault 2 kind.ZeroSpan
 unfolding parsed_tokens reading bad_place word_of words is_word word_text func_of funcs is_func func_text
 range_of_0 = refl
 
-pub range_of_parentheses : parsed_tokens 7 (seen_tokens (sign 0 1 signs.LeftParen ∷ name 1 2 (codes "x") ∷ sign 2 3 signs.RightParen ∷ sign 3 4 signs.LeftBracket ∷ lasting 4 6 300000 ∷ sign 6 7 signs.RightBracket ∷ [])) ≡ gives_fault 6 kind.Misplaced
+pub range_of_parentheses : parsed_tokens 7 (seen_tokens (sign 0 1 signs.LeftParen ∷ name 1 2 (codes "x") ∷ sign 2 3 signs.RightParen ∷ sign 3 4 signs.LeftBracket ∷ duration 4 6 300000 ∷ sign 6 7 signs.RightBracket ∷ [])) ≡ gives_fault 6 kind.Misplaced
 unfolding parsed_tokens reading bad_place word_of words is_word word_text func_of funcs is_func func_text
 range_of_parentheses = refl
 

@@ -70,7 +70,7 @@ fn around(inner: u64, part: OpenPart) -> OpenPart
     OpenPart {
         braces: part.braces,
         operators: part.operators,
-        closed: greater(part.closed, inner),
+        closed: part.closed.max(inner),
     }
 }
 
@@ -193,16 +193,10 @@ fn after_kind(alloc: Global, parts: Parts, kind: Kind) -> Result<Parts, AllocErr
     }
 }
 
-fn greater(a: u64, b: u64) -> u64
-    ensures { result ≡ max a b }
-{
-    if a < b { b } else { a }
-}
-
 fn is_high(inner: u64, part: OpenPart) -> bool
     ensures { result ≡ nat_lt 100 (1 + part.operators + max inner part.closed) }
 {
-    part.operators >= 100 || greater(inner, part.closed) >= 100 - part.operators
+    part.operators >= 100 || inner.max(part.closed) >= 100 - part.operators
 }
 
 /// Whether a part is more than 100 high, where so much was closed in the parts inside these.
@@ -212,7 +206,7 @@ fn are_high(inner: u64, parts: &Parts) -> bool
     match parts {
         Parts::Whole { part } => is_high(inner, *part),
         Parts::Inside { part, around } => {
-            is_high(inner, *part) || are_high(greater(inner, part.closed), around)
+            is_high(inner, *part) || are_high(inner.max(part.closed), around)
         }
     }
 }

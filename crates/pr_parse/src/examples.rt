@@ -1,6 +1,7 @@
 //! What the definitions say of the tokens of small texts. An example is a function that does
 //! nothing, and its contract is what it shows: the texts are those of its comments.
 ghost use Rattle.std.specs.Prelude.{◌≡◌, codes, None, false, [], ◌∷◌};
+ghost use Rattle.pr_lex.specs.Worked.{name, duration, sign};
 ghost use Rattle.pr_lex.specs.declared.token.Sign.TheVariants as signs;
 ghost use Rattle.pr_lex.specs.declared.words.Word.TheVariants.{And};
 ghost use Rattle.pr_ast.specs.declared.names.BinOp.TheVariants as op;
@@ -12,7 +13,7 @@ ghost use Rattle.pr_grammar.specs.Seen.{seen_tokens};
 ghost use Rattle.pr_parse.specs.declared.fault.ParseKind.TheVariants as kind;
 ghost use Rattle.pr_parse.specs.Deep.{depth};
 ghost use Rattle.pr_parse.specs.Parsed.{parsed_tokens, gives_tree, gives_fault};
-ghost use Rattle.pr_parse.specs.Examples.{name, lasting, sign, place, metric};
+ghost use Rattle.pr_parse.specs.Examples.{place, metric};
 
 /// The trees and the faults of small texts.
 pub fn small_texts_give_so()
@@ -23,11 +24,11 @@ pub fn small_texts_give_so()
     // ``
     ensures nothing { parsed_tokens 0 (seen_tokens ([])) ≡ gives_fault 0 kind.End }
     // `x offset 5m offset 5m`
-    ensures second_offset { parsed_tokens 21 (seen_tokens (name 0 1 (codes "x") ∷ name 2 8 (codes "offset") ∷ lasting 9 11 300000 ∷ name 12 18 (codes "offset") ∷ lasting 19 21 300000 ∷ [])) ≡ gives_fault 12 kind.Misplaced }
+    ensures second_offset { parsed_tokens 21 (seen_tokens (name 0 1 (codes "x") ∷ name 2 8 (codes "offset") ∷ duration 9 11 300000 ∷ name 12 18 (codes "offset") ∷ duration 19 21 300000 ∷ [])) ≡ gives_fault 12 kind.Misplaced }
     // `x[0s]`
-    ensures range_of_0 { parsed_tokens 5 (seen_tokens (name 0 1 (codes "x") ∷ sign 1 2 signs.LeftBracket ∷ lasting 2 4 0 ∷ sign 4 5 signs.RightBracket ∷ [])) ≡ gives_fault 2 kind.ZeroSpan }
+    ensures range_of_0 { parsed_tokens 5 (seen_tokens (name 0 1 (codes "x") ∷ sign 1 2 signs.LeftBracket ∷ duration 2 4 0 ∷ sign 4 5 signs.RightBracket ∷ [])) ≡ gives_fault 2 kind.ZeroSpan }
     // `(x)[5m]`
-    ensures range_of_parentheses { parsed_tokens 7 (seen_tokens (sign 0 1 signs.LeftParen ∷ name 1 2 (codes "x") ∷ sign 2 3 signs.RightParen ∷ sign 3 4 signs.LeftBracket ∷ lasting 4 6 300000 ∷ sign 6 7 signs.RightBracket ∷ [])) ≡ gives_fault 6 kind.Misplaced }
+    ensures range_of_parentheses { parsed_tokens 7 (seen_tokens (sign 0 1 signs.LeftParen ∷ name 1 2 (codes "x") ∷ sign 2 3 signs.RightParen ∷ sign 3 4 signs.LeftBracket ∷ duration 4 6 300000 ∷ sign 6 7 signs.RightBracket ∷ [])) ≡ gives_fault 6 kind.Misplaced }
     // `foo(x)`
     ensures no_function { parsed_tokens 6 (seen_tokens (name 0 3 (codes "foo") ∷ sign 3 4 signs.LeftParen ∷ name 4 5 (codes "x") ∷ sign 5 6 signs.RightParen ∷ [])) ≡ gives_fault 3 kind.UnknownFunction }
     // `x{__name__`

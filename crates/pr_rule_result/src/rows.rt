@@ -1,13 +1,13 @@
 // What a rule makes of elements, by their labels, so that equal labels are seen.
 ghost use Rattle.std.specs.Prelude.{◌≡◌, List, [], ◌∷◌, ◌++◌, IfOk, OnOk, map};
 ghost use Rattle.pr_lineage.specs.declared.found.Found.{Found};
-ghost use Rattle.pr_fn.specs.Rows.{is_below, least_with};
 ghost use Rattle.pr_rules.specs.declared.fault.RuleFault.TheVariants.{SameAfterRule};
 ghost use Rattle.pr_rules.specs.Results.{FoundsRise, failure, founds_apart, without_place};
 ghost use Rattle.pr_rule_result.specs.Coming.{ComesTo};
 ghost use Rattle.pr_rule_result.specs.Rows.{AreRows, found_in};
 
 use crate::error::RuleError;
+use pr_fn::keep_least;
 use pr_labels::{Item, Labels, Pair};
 use pr_lineage::Found;
 use pr_num::Num;
@@ -37,24 +37,6 @@ pub(crate) fn no_rows(alloc: Global) -> Rows
     Rows {
         founds: Ordered::new(alloc),
         again: None,
-    }
-}
-
-fn is_below(labels: &Labels, least: &Option<Labels>) -> bool
-    ensures { result ≡ is_below labels.now least.now }
-{
-    match least {
-        Some(least) => labels.cmp(least).is_lt(),
-        None => true,
-    }
-}
-
-// Keeps the least of the labels that came again.
-fn keep_least(least: &mut Option<Labels>, labels: Labels)
-    ensures { least.new ≡ least_with least.old labels }
-{
-    if is_below(&labels, least) {
-        *least = Some(labels);
     }
 }
 

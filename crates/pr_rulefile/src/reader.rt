@@ -1,28 +1,18 @@
 //! Reading a text.
 ghost use Rattle.std.specs.Prelude.{◌≡◌, ◌<◌, ◌^◌, ◌++◌, List, Some, length, IfOk, IfErr, OnOk};
 ghost use Rattle.pr_yaml.specs.Tree.{tree_of};
-ghost use Rattle.pr_yaml.specs.Read.{gives_tree, gives_fault};
+ghost use Rattle.pr_yaml.specs.Read.{gives_tree};
 ghost use Rattle.pr_rulefile.specs.Groups.{Group};
-ghost use Rattle.pr_rulefile.specs.File.{gives_file, gives_problems, by_reading, file_groups, groups_given, rules_given, rule_file_of, groups_of_file, IsErrorOf};
+ghost use Rattle.pr_rulefile.specs.File.{gives_file, by_reading, file_groups, groups_given, rules_given, rule_file_of, groups_of_file, IsErrorOf};
 
 use crate::fault::RuleError;
 use crate::file::file_at;
 use crate::gather::{GroupSink, RuleCount};
 use crate::rules::RuleFile;
-use pr_fields::{Problem, ProblemKind, in_order, push};
+use pr_fields::{in_order, no_tree};
 use pr_words::Items;
 use pr_yaml::{Node, YamlError, read as read_tree};
-use pr_yaml_scan::YamlKind;
-use std::alloc::{AllocError, Global};
-
-// The one problem of a text that has no tree.
-fn no_tree(alloc: Global, line: u32, kind: YamlKind) -> Result<Items<Problem>, AllocError>
-    ensures { IfOk result (λ list. by_reading (gives_fault line kind) ≡ gives_problems list) }
-{
-    let mut found = Vec::new(alloc);
-    push(&mut found, line, ProblemKind::Yaml { kind })?;
-    Ok(Items::new(found))
-}
+use std::alloc::Global;
 
 // The groups of a tree, one after another, or what is wrong with it.
 #[tactic(auto, using(crate::proofs::Files::some_problems))]

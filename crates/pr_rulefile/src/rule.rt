@@ -17,6 +17,7 @@ use pr_fields::{
     labels_problems, line_of, pairs_of, push, push_not_for_recording, push_unknown, put_labels,
     span_problems, span_under, text_of, text_problems, value_of, written, written_text,
 };
+use pr_grammar::no_span;
 use pr_labels::{Pair, is_metric_name};
 use pr_time::Span;
 use pr_types::Checked;
@@ -201,12 +202,6 @@ fn rule_notes(alloc: Global, entries: &[Entry]) -> Result<Items<Pair>, AllocErro
     let mut notes = BTreeMap::new(alloc);
     put_labels(alloc, &mut notes, fields_under("annotations", entries))?;
     pairs_of(alloc, notes)
-}
-
-fn no_span() -> Span
-    ensures { result ≡ 0 }
-{
-    Span::new(0).unwrap()
 }
 
 // How long an alert of a rule is pending.

@@ -28,3 +28,7 @@ IsTimely g = AllByRecursion (IsOnTime g.last) g.rules
 abbrev pub IsAfter : ℕ → Option ℕ → Type 0
 IsAfter now None = Unit {0}
 IsAfter now (Some last) = last < now
+
+-- a time at which each of these groups may be evaluated
+abbrev pub IsAfterAll : ℕ → List Group → Type 0
+IsAfterAll time groups = AllByRecursion (λ g. IsAfter time g.last) groups

@@ -10,7 +10,7 @@ use Rattle.pr_history.specs.declared.entry.Entry.{Entry}
 use Rattle.pr_fields.specs.Order.{ordered}
 use Rattle.pr_rules.specs.Groups.{Group}
 use Rattle.pr_rules.specs.Settings.{Settings}
-use Rattle.pr_rules.specs.Times.{IsAfter}
+use Rattle.pr_rules.specs.Times.{IsAfter, IsAfterAll}
 use Rattle.pr_world.specs.declared.event.Event.{Event}
 use Rattle.pr_world.specs.Step.{time_of, world_after}
 use Rattle.pr_world.specs.World.{World}
@@ -18,7 +18,7 @@ use Rattle.pr_testfile.specs.Series.{entries_at, entries_of, entry_at, entry_by,
 use Rattle.pr_testfile.specs.Tests.{PlainTest}
 use Rattle.pr_verdict.specs.Events.{add_of, begun, eval_at, evaluations_until, events_of, is_earlier, is_until, last_check, settings_of, world_at}
 use Rattle.pr_test_rounds.specs.Sooner.{AllAbove, AllAt, AllFrom, AllUntil}
-use Rattle.pr_test_rounds.specs.Rounds.{AreNew, AreReady, HasCome, HaveSites, IsInRound, IsUpTo, events_left, place_events, round_events, rounds_left, samples_left}
+use Rattle.pr_test_rounds.specs.Rounds.{AreNew, HasCome, HaveSites, IsInRound, IsUpTo, events_left, place_events, round_events, rounds_left, samples_left}
 use Rattle.pr_test_rounds.proofs.Merging.{all_joined, all_weaker, rounds_next, samples_first, until_is}
 use Rattle.pr_test_rounds.proofs.Adding.{HasAdded, all_added, world_parts}
 use Rattle.pr_test_rounds.proofs.Evaluating.{ready_again}
@@ -87,7 +87,7 @@ rounds_from every groups round (suc n) =
 
 -- The beginning
 
-new_groups : (groups : List Group) → AreNew groups → AreReady 0 groups
+new_groups : (groups : List Group) → AreNew groups → IsAfterAll 0 groups
 new_groups groups h = all_weaker (λ (g : Group). g.last ≡ None) (λ (g : Group). IsAfter 0 g.last) (λ (g : Group) (e : g.last ≡ None). subst (IsAfter 0) (sym e) tt) groups h
 
 all_left : (n : ℕ) → n ≡ n - 0
@@ -105,7 +105,7 @@ begins input every groups s rounds now new = record {
   world = refl;
   sampled = λ some. tt;
   evaluated = tt;
-  ready = subst (λ (t : ℕ). AreReady t groups) (at_once every) (new_groups groups new);
+  ready = subst (λ (t : ℕ). IsAfterAll t groups) (at_once every) (new_groups groups new);
   sites = refl;
 }
 
@@ -161,7 +161,7 @@ place_comes input every groups s rounds place n round now w low early h = (added
       world = ap (λ (x : World). world_after s x (place_events input place)) h.world ∙ sym (world_parts s (begun groups) h.done (place_events input place));
       sampled = λ some. up_to_later (world_after s w (place_events input place)).last (place * input.interval) ((place + 1) * input.interval) (omega arith) added.last;
       evaluated = up_to_later (world_after s w (place_events input place)).last (place * input.interval) (round * every) early added.last;
-      ready = subst (AreReady (round * every)) (sym added.groups) h.ready;
+      ready = subst (IsAfterAll (round * every)) (sym added.groups) h.ready;
       sites = subst (λ (gs : List Group). HaveSites gs groups) (sym added.groups) h.sites;
     }
 

@@ -10,7 +10,7 @@ use Rattle.pr_puts.proofs.Putting.{puts_admitted}
 use Rattle.pr_rules.specs.Evaluations.{GroupStep, RulesProgress, all_rules, group_step, restoring}
 use Rattle.pr_rules.specs.Groups.{Group, is_group_named}
 use Rattle.pr_rules.specs.Settings.{Settings}
-use Rattle.pr_rules.specs.Times.{IsAfter}
+use Rattle.pr_rules.specs.Times.{IsAfter, IsAfterAll}
 use Rattle.pr_rules.proofs.Putting.{evaluation_admits}
 use Rattle.pr_world.specs.declared.event.Event.TheVariants.{Eval}
 use Rattle.pr_world.specs.declared.event.Event.{Event}
@@ -20,7 +20,7 @@ use Rattle.pr_world.specs.Rounds.{eval_after, eval_by, evaluation_outcome, with_
 use Rattle.pr_world.specs.Step.{next, outcome_in_time, step_by, world_after}
 use Rattle.pr_world.specs.World.{World}
 use Rattle.pr_verdict.specs.Events.{eval_at}
-use Rattle.pr_test_rounds.specs.Rounds.{AreApart, AreReady, HaveSites, IsInRound, IsUpTo, site}
+use Rattle.pr_test_rounds.specs.Rounds.{AreApart, HaveSites, IsInRound, IsUpTo, site}
 use Rattle.pr_test_rounds.proofs.Adding.{in_time}
 use Rattle.pr_test_rounds.proofs.Named.{apart_by_sites, found_itself, same_site, set_itself, sites_set}
 
@@ -151,7 +151,7 @@ each_from_all P [] h j x at = absurd cc
 each_from_all P (y ∷ xs) h zero x at = let e : y ≡ x = cc in subst P e h.0
 each_from_all P (y ∷ xs) h (suc j) x at = each_from_all P xs h.1 j x at
 
-pub begins_round : (w : World) (groups : List Group) (time : ℕ) → HaveSites w.groups groups → IsUpTo w.last time → AreReady time w.groups → IsInRound groups time 0 w
+pub begins_round : (w : World) (groups : List Group) (time : ℕ) → HaveSites w.groups groups → IsUpTo w.last time → IsAfterAll time w.groups → IsInRound groups time 0 w
 begins_round w groups time sites up ready = record {
   sites = sites;
   last = up;
@@ -159,7 +159,7 @@ begins_round w groups time sites up ready = record {
   rest = λ j g low at. each_from_all (λ (x : Group). IsAfter time x.last) w.groups ready j g at;
 }
 
-pub ready_again : (w : World) (groups : List Group) (time next_time i : ℕ) → IsInRound groups time i w → length w.groups ≤ i → time < next_time → AreReady next_time w.groups
+pub ready_again : (w : World) (groups : List Group) (time next_time i : ℕ) → IsInRound groups time i w → length w.groups ≤ i → time < next_time → IsAfterAll next_time w.groups
 ready_again w groups time next_time i in_round all later =
     all_from_each (λ (x : Group). IsAfter next_time x.last) w.groups (λ j g at. subst (IsAfter next_time) (sym (in_round.done j g (within j g at) at)) later) where
       inside : (xs : List Group) (j : ℕ) (g : Group) → slice_get xs j ≡ Some g → j < length xs

@@ -7,7 +7,7 @@ use Rattle.pr_fields.specs.Order.{ordered}
 use Rattle.pr_rules.specs.Groups.{Group, is_group_named}
 use Rattle.pr_rules.specs.Reloads.{LoadedFile}
 use Rattle.pr_rules.specs.Settings.{Settings}
-use Rattle.pr_rules.specs.Times.{IsAfter}
+use Rattle.pr_rules.specs.Times.{IsAfter, IsAfterAll}
 use Rattle.pr_world.specs.declared.event.Event.{Event}
 use Rattle.pr_world.specs.Step.{time_of, world_after}
 use Rattle.pr_world.specs.World.{World}
@@ -40,10 +40,6 @@ events_left input every groups place samples round rounds =
 abbrev pub IsUpTo : Option ℕ → ℕ → Type 0
 IsUpTo None time = Unit {0}
 IsUpTo (Some last) time = last ≤ time
-
--- each group may be evaluated at a time
-abbrev pub AreReady : ℕ → List Group → Type 0
-AreReady time groups = AllByRecursion (λ g. IsAfter time g.last) groups
 
 -- by its file and its name a group is told from all others
 abbrev pub AreApart : List Group → Type 0
@@ -79,5 +75,5 @@ pub record HasCome (input : Input) (every : ℕ) (groups : List Group) (s : Sett
   pub world : w ≡ world_after s (begun groups) done
   pub sampled : 0 < left → IsUpTo w.last (place * input.interval)
   pub evaluated : IsUpTo w.last (round * every)
-  pub ready : AreReady (round * every) w.groups
+  pub ready : IsAfterAll (round * every) w.groups
   pub sites : HaveSites w.groups groups

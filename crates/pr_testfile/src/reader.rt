@@ -1,27 +1,16 @@
 // Reading a text.
 ghost use Rattle.std.specs.Prelude.{◌≡◌, ◌<◌, ◌^◌, length, IfOk, IfErr};
 ghost use Rattle.pr_yaml.specs.Tree.{tree_of};
-ghost use Rattle.pr_yaml.specs.Read.{gives_tree, gives_fault};
+ghost use Rattle.pr_yaml.specs.Read.{gives_tree};
 ghost use Rattle.pr_testfile.specs.File.{plain_file};
-ghost use Rattle.pr_testfile.specs.Reading.{gives_file, gives_problems, by_reading, test_file_of, IsErrorOf};
+ghost use Rattle.pr_testfile.specs.Reading.{gives_file, by_reading, test_file_of, IsErrorOf};
 
 use crate::fault::TestError;
 use crate::file::{file_in, file_problems};
 use crate::tests::TestFile;
-use pr_fields::{Problem, ProblemKind, fields_in, in_order, push};
-use pr_words::Items;
+use pr_fields::{fields_in, in_order, no_tree};
 use pr_yaml::{Node, YamlError, read as read_tree};
-use pr_yaml_scan::YamlKind;
-use std::alloc::{AllocError, Global};
-
-// The one problem of a text that has no tree.
-fn no_tree(alloc: Global, line: u32, kind: YamlKind) -> Result<Items<Problem>, AllocError>
-    ensures { IfOk result (λ list. by_reading (gives_fault line kind) ≡ gives_problems list) }
-{
-    let mut found = Vec::new(alloc);
-    push(&mut found, line, ProblemKind::Yaml { kind })?;
-    Ok(Items::new(found))
-}
+use std::alloc::Global;
 
 // The tests of a tree, or what is wrong with it.
 #[tactic(auto, using(crate::proofs::Files::some_problems))]

@@ -4,7 +4,7 @@ ghost use Rattle.pr_labels.specs.LabelSet.{named, pair_of};
 ghost use Rattle.pr_num.specs.declared.value.Point.TheVariants.{Stale};
 ghost use Rattle.pr_history.specs.Examples.{m, job, number, whole};
 ghost use Rattle.pr_history.specs.declared.append.Append.TheVariants as append;
-ghost use Rattle.pr_history.specs.Series.{item_of};
+ghost use Rattle.pr_history.specs.Series.{element};
 ghost use Rattle.pr_fields.specs.declared.problem.ProblemKind.TheVariants.{NotForRecording};
 ghost use Rattle.pr_lineage.specs.declared.record.State.TheVariants.{Pending};
 ghost use Rattle.pr_notices.specs.declared.joined.Joined.TheVariants.{New, Known, Full};
@@ -34,7 +34,7 @@ pub fn reports_are_written_so()
     ensures failed { shown_report (Failed 5) ≡ codes "failed stale 5\n" }
     ensures gone { shown_report (Gone 12) ≡ codes "gone stale 12\n" }
     ensures scalar { shown_report (Scalar (number 20)) ≡ codes "scalar 20\n" }
-    ensures vector { shown_report (Vector (item_of m (number 1) ∷ item_of (job (codes "a")) (number 20) ∷ []))
+    ensures vector { shown_report (Vector (element m (number 1) ∷ element (job (codes "a")) (number 20) ∷ []))
         ≡ codes "vector 2\nvalue m 1\nvalue {job=\"a\"} 20\n" }
     ensures nothing { shown_report (Vector []) ≡ codes "vector 0\n" }
     ensures fault { shown_report (QueryFault 3 fault.TooWide) ≡ codes "fault TooWide at 3\n" }

@@ -26,4 +26,6 @@ pub use laws::{
     outermost_nodes_tell_types, parts_of_typed_expressions_have_types,
     texts_of_typed_expressions_are_good,
 };
+pub use operation::compares;
 pub use signature::Signature;
+pub use texts::{content, content_at};

@@ -11,7 +11,8 @@ use pr_labels::{Card, Matching};
 use pr_time::Span;
 use pr_words::Text;
 
-fn compares(op: BinOp) -> bool
+/// Whether an operator is a comparison. (Prometheus: Operators, "Comparison binary operators".)
+pub fn compares(op: BinOp) -> bool
     ensures { result ≡ compares op }
 {
     matches!(

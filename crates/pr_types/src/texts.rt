@@ -15,7 +15,7 @@ use pr_match::Pattern;
 use std::alloc::Global;
 
 /// The content of a text; nothing for every other expression.
-pub(crate) fn content(e: &Expr) -> &str
+pub fn content(e: &Expr) -> &str
     ensures { result.now ≡ content (tree_of e.now) }
 {
     match &e.kind {
@@ -24,8 +24,8 @@ pub(crate) fn content(e: &Expr) -> &str
     }
 }
 
-/// The content of the argument at a place.
-fn content_at(args: &[Expr], place: usize) -> &str
+/// The content of the argument at a place, from 0 on; nothing where that is no text.
+pub fn content_at(args: &[Expr], place: usize) -> &str
     ensures { result.now ≡ content_at (trees_of args.now) place }
 {
     match args.get(place) {

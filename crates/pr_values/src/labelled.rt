@@ -14,12 +14,13 @@ ghost use Rattle.pr_values.specs.Plain.{all_plain};
 
 use crate::arguments::{elements_given, number_given};
 use crate::error::EvalError;
-use crate::texts::{content_at, contents_after_three};
+use crate::texts::contents_after_three;
 use crate::vectors::made_at;
 use pr_ast::{Expr, Place};
 use pr_fn::{histogram_quantile, label_join, label_replace};
 use pr_match::Pattern;
 use pr_query::Value;
+use pr_types::content_at;
 use std::alloc::Global;
 
 // A label set to what a pattern and a template make of another one.

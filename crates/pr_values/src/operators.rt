@@ -1,27 +1,13 @@
 // Operators of two values.
 ghost use Rattle.std.specs.Prelude.{◌≡◌, if◌then◌else◌};
-ghost use Rattle.pr_types.specs.Operations.{compares};
 ghost use Rattle.pr_vectors.specs.Operators.{holds, truth_value};
 ghost use Rattle.pr_query.specs.Operators.{comparison_of, is_filter, operator_of, result_of};
 ghost use Rattle.pr_values.specs.Besides.{holds_beside, result_beside};
 
 use pr_ast::BinOp;
 use pr_num::{Num, TooWide};
+use pr_types::compares;
 use std::cmp::Ordering;
-
-fn compares(op: BinOp) -> bool
-    ensures { result ≡ compares op }
-{
-    matches!(
-        op,
-        BinOp::Equal
-            | BinOp::NotEqual
-            | BinOp::LessEqual
-            | BinOp::Less
-            | BinOp::GreaterEqual
-            | BinOp::Greater
-    )
-}
 
 /// Whether the operator is a comparison without `bool`.
 pub(crate) fn is_filter(op: BinOp, with_bool: bool) -> bool

@@ -7,10 +7,7 @@ use Rattle.pr_labels.specs.declared.pair.Pair.{Pair}
 use Rattle.pr_labels.specs.declared.item.Item.{Item}
 use Rattle.pr_labels.specs.Order.{labels_cmp}
 use Rattle.pr_labels.specs.Rising.{IsRising, with_labels}
-
--- an element: labels with a value
-abbrev pub element : List Pair → Num → Item Num
-element labels value = record { labels = labels; value = value }
+pub use Rattle.pr_history.specs.Series.{element}
 
 abbrev pub label_sets : List (Item Num) → List (List Pair)
 label_sets items = map (λ e. e.labels) items

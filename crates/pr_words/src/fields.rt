@@ -36,8 +36,9 @@ fn last_byte(text: &[u8]) -> Option<usize>
     text.iter().rev().position(|b| !is_blank(*b))
 }
 
+/// How many bytes stand before the first blank: all, where there is none.
 #[tactic(auto, using(crate::proofs::Places::place_or_end, crate::proofs::Places::within))]
-fn field_len(text: &[u8]) -> usize
+pub fn field_len(text: &[u8]) -> usize
     ensures value { result ≡ position_or_len is_blank text.now }
     ensures within { result ≤ length text.now }
 {

@@ -6,7 +6,7 @@ ghost use Rattle.pr_ast.specs.Examples.{chosen, metric};
 ghost use Rattle.pr_ast.specs.Places.{nowhere};
 ghost use Rattle.pr_ast.specs.Tree.{binary, call, more, none, range, text};
 ghost use Rattle.pr_history.specs.Examples.{m, whole, entry_at, one, number};
-ghost use Rattle.pr_history.specs.Series.{item_of};
+ghost use Rattle.pr_history.specs.Series.{element};
 ghost use Rattle.pr_lex.specs.declared.fault.LexKind.TheVariants as lex;
 ghost use Rattle.pr_parse.specs.declared.fault.ParseKind.TheVariants as parse;
 ghost use Rattle.pr_parse.specs.Parsed.{gives_tree, gives_lex_fault, gives_fault};
@@ -35,7 +35,7 @@ pub fn a_sample_adds_its_entry()
 /// adds anything, and a fault is accepted as a value is.
 #[tactic(auto, unfolding(crate::specs::Query::parsed_outcome, pr_types::specs::Operations::operation_fault, pr_match::specs::Matcher::meets, pr_match::specs::Matcher::meets_all, pr_num::specs::Arithmetic::product_of, pr_num::specs::Half::half, pr_num::specs::Half::half_abs))]
 pub fn an_expression_is_answered_by_its_meaning()
-    ensures vector { parsed_outcome of_a_run one 299999 (gives_tree (metric (codes "m"))) ≡ accept (Vector (item_of m (number 1) ∷ [])) [] nothing_else }
+    ensures vector { parsed_outcome of_a_run one 299999 (gives_tree (metric (codes "m"))) ≡ accept (Vector (element m (number 1) ∷ [])) [] nothing_else }
     ensures gone { parsed_outcome of_a_run one 300000 (gives_tree (metric (codes "m"))) ≡ accept (Vector []) [] nothing_else }
     ensures scalar { parsed_outcome of_a_run [] 0 (gives_tree (whole_number 1)) ≡ accept (Scalar (number 1)) [] nothing_else }
     ensures wide { parsed_outcome of_a_run [] 0 (gives_tree (binary (record { start = 3; end = 9 }) op.Mul false None (whole_number (10 ^ 19)) (whole_number (10 ^ 19)))) ≡ accept (QueryFault 3 TooWide) [] nothing_else }

@@ -4,9 +4,10 @@ ghost use Rattle.pr_labels.specs.LabelSet.{pair_of};
 ghost use Rattle.pr_num.specs.declared.value.Num.TheVariants.{Finite, NaN, PosInf, NegInf};
 ghost use Rattle.pr_num.specs.declared.value.Point.TheVariants.{Value};
 ghost use Rattle.pr_history.specs.Examples.{number, whole};
+ghost use Rattle.pr_history.specs.Series.{element};
 ghost use Rattle.pr_lineage.specs.Examples.{a, b, d, down, found_of, firing_sent, gave, held_out, pending, up, with_state, written};
 ghost use Rattle.pr_lineage.specs.Lineage.{came_to, exceeded, moved, previous};
-ghost use Rattle.pr_lineage.specs.Records.{evaluation, exceeding, for_state_labels, records, sample_of, samples, sendings};
+ghost use Rattle.pr_lineage.specs.Records.{evaluation, exceeding, for_state_labels, records, samples, sendings};
 ghost use Rattle.pr_lineage.specs.Restoring.{restored, restored_of, restored_time, written_time};
 ghost use Rattle.pr_world_laws.specs.Worked.{found_twice};
 
@@ -33,7 +34,7 @@ pub fn alerts_go_on_so()
 pub fn alerts_are_sent_so()
     ensures once { sendings 60000 (held_out ++ up 240000 180000 0 ∷ up 270000 180000 0 ∷ []) ≡ [] }
     ensures interval { sendings 120000 (down 0 0 0 ∷ []) ≡ firing_sent d 0 480000 ∷ [] }
-    ensures seconds { samples (pending a 60500 ∷ []) ≡ sample_of (with_state a (codes "ALERTS") (codes "pending")) (number 1) ∷ sample_of (for_state_labels a) (number 60) ∷ [] }
+    ensures seconds { samples (pending a 60500 ∷ []) ≡ element (with_state a (codes "ALERTS") (codes "pending")) (number 1) ∷ element (for_state_labels a) (number 60) ∷ [] }
 {}
 
 /// An active time is restored from a sample that is exactly an hour old, of a rule that holds for

@@ -5,7 +5,6 @@ ghost use Rattle.pr_labels.specs.Chosen.{HasNames, is_chosen};
 ghost use Rattle.pr_labels.specs.Edits.{is_listed, listed_labels, unlisted_labels, key_labels};
 ghost use Rattle.pr_labels.specs.LabelSet.{IsLabelSet};
 
-use super::copies::copied;
 use super::known::known_names;
 use super::{Labels, METRIC_LABEL};
 use crate::pair::Pair;
@@ -80,7 +79,7 @@ fn copies_of(
     let mut copies = Vec::new(alloc);
     for pair in pairs {
         if is_chosen(listed, many, names, pair) {
-            copies.push(copied(alloc, pair)?)?;
+            copies.push(pair.copy(alloc)?)?;
         }
     }
     Ok(copies)

@@ -5,16 +5,6 @@ ghost use Rattle.std.specs.List.{remove};
 use crate::pair::Pair;
 use std::alloc::{AllocError, Global};
 
-/// A pair with the same texts.
-pub(super) fn copied(alloc: Global, pair: &Pair) -> Result<Pair, AllocError>
-    ensures { IfOk result (λ p. p ≡ pair.now) }
-{
-    Ok(Pair {
-        name: pair.name.copy(alloc)?,
-        value: pair.value.copy(alloc)?,
-    })
-}
-
 /// Puts pairs with the same texts at the end.
 pub(super) fn push_copies(
     alloc: Global,
@@ -24,13 +14,13 @@ pub(super) fn push_copies(
     ensures { OnOk result (copies.new.items ≡ copies.old.items ++ pairs.now) }
 {
     for pair in pairs {
-        copies.push(copied(alloc, pair)?)?;
+        copies.push(pair.copy(alloc)?)?;
     }
     Ok(())
 }
 
 /// Other pairs with the same texts.
-pub(super) fn copy_pairs(alloc: Global, pairs: &[Pair]) -> Result<Vec<Pair>, AllocError>
+pub fn copy_pairs(alloc: Global, pairs: &[Pair]) -> Result<Vec<Pair>, AllocError>
     ensures { IfOk result (λ v. v.items ≡ pairs.now) }
 {
     let mut copies = Vec::with_capacity(alloc, pairs.len())?;

@@ -4,7 +4,7 @@ ghost use Rattle.pr_labels.specs.Edits.{first_fault, has_value, labels_of, union
 ghost use Rattle.pr_labels.specs.LabelSet.{IsLabelSet};
 
 use super::Labels;
-use super::copies::{copied, copy_pairs, push_copies};
+use super::copies::{copy_pairs, push_copies};
 use super::known::add_name;
 use super::place::parted;
 use crate::fault::LabelFault;
@@ -56,7 +56,7 @@ fn merged(alloc: Global, own: &[Pair], over: &[Pair]) -> Result<Vec<Pair>, Alloc
     for label in over {
         let (below, above) = parted(left, label.name.as_str());
         push_copies(alloc, &mut pairs, below)?;
-        pairs.push(copied(alloc, label)?)?;
+        pairs.push(label.copy(alloc)?)?;
         left = above;
     }
     push_copies(alloc, &mut pairs, left)?;
