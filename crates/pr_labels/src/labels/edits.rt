@@ -6,7 +6,6 @@ ghost use Rattle.pr_labels.specs.Edits.{set_label, set_pair, without_name};
 ghost use Rattle.std.specs.List.{remove};
 
 use super::Labels;
-use super::copies::copy_others;
 use super::place::place_of;
 use super::shared::SharedPairs;
 use crate::fault::LabelFault;
@@ -44,7 +43,7 @@ fn put_in(alloc: Global, pairs: &mut SharedPairs, label: Pair) -> Result<(), All
     put
 }
 
-// Takes out the pair at a place. Where the pairs are shared, others come in their stead.
+// Takes out the pair at a place. Where the pairs are shared, the others come in their stead.
 fn take_out(alloc: Global, pairs: &mut SharedPairs, place: usize) -> Result<(), AllocError>
     requires { place < length pairs.old }
     ensures ok { OnOk result (pairs.new ≡ remove pairs.old place) }
@@ -55,8 +54,8 @@ fn take_out(alloc: Global, pairs: &mut SharedPairs, place: usize) -> Result<(), 
             alone.remove(place);
             *pairs = SharedPairs::new(alloc, alone);
         }
-        Err(shared) => match copy_others(alloc, shared.as_slice(), place) {
-            Ok(others) => *pairs = SharedPairs::new(alloc, others),
+        Err(shared) => match shared.others(alloc, place) {
+            Ok(others) => *pairs = others,
             Err(error) => {
                 *pairs = shared;
                 return Err(error);

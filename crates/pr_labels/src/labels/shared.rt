@@ -1,6 +1,7 @@
-ghost use Rattle.std.specs.Prelude.{◌≡◌, [], IfOk, OnErr, MatchResult};
+ghost use Rattle.std.specs.Prelude.{◌≡◌, ◌<◌, [], length, drop, IfOk, OnErr, MatchResult};
+ghost use Rattle.std.specs.List.{remove};
 
-use super::copies::copy_pairs;
+use super::copies::{copy_others, copy_pairs};
 use crate::pair::Pair;
 use std::alloc::{AllocError, Global};
 use std::marker::Model;
@@ -14,12 +15,24 @@ pub(super) struct SharedPairs {
     held: Held,
 }
 
-// Pairs of one set alone, or with a count of the sets that have them. Pairs without a count are
-// those for which there was no memory, and the empty list.
+// Pairs of one set alone, or with a count of the sets that have them, or all but the first of such,
+// which is mostly the metric's name. Pairs without a count are those for which there was no memory,
+// and the empty list.
 #[derive(Debug, Drop)]
 enum Held {
     Alone(Vec<Pair>),
     Counted(Rc<Vec<Pair>>),
+    Rest(Rc<Vec<Pair>>),
+}
+
+// All but the first pair.
+fn rest_of(pairs: &[Pair]) -> &[Pair]
+    ensures { result.now ≡ drop 1 pairs.now }
+{
+    match pairs.split_first() {
+        Some((_first, rest)) => rest,
+        None => pairs,
+    }
 }
 
 impl Model for SharedPairs {
@@ -68,6 +81,7 @@ impl SharedPairs {
         match &self.held {
             Held::Alone(pairs) => pairs.as_slice(),
             Held::Counted(counted) => counted.as_ref().as_slice(),
+            Held::Rest(counted) => rest_of(counted.as_ref().as_slice()),
         }
     }
 
@@ -80,6 +94,25 @@ impl SharedPairs {
             Held::Counted(counted) => Ok(SharedPairs {
                 held: Held::Counted(counted.clone()?),
             }),
+            Held::Rest(counted) => Ok(SharedPairs {
+                held: Held::Rest(counted.clone()?),
+            }),
+        }
+    }
+
+    /// The pairs but the one at a place. All but the first one are shared where the pairs are.
+    pub(super) fn others(&self, alloc: Global, place: usize) -> Result<SharedPairs, AllocError>
+        requires { place < length self.now }
+        ensures { IfOk result (λ s. s ≡ remove self.now place) }
+    {
+        match &self.held {
+            Held::Counted(counted) if place == 0 => Ok(SharedPairs {
+                held: Held::Rest(counted.clone()?),
+            }),
+            _ => {
+                let others = copy_others(alloc, self.as_slice(), place)?;
+                Ok(SharedPairs::new(alloc, others))
+            }
         }
     }
 
@@ -95,6 +128,9 @@ impl SharedPairs {
                     held: Held::Counted(counted),
                 }),
             },
+            Held::Rest(counted) => Err(SharedPairs {
+                held: Held::Rest(counted),
+            }),
         }
     }
 
