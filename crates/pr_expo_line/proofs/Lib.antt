@@ -2,6 +2,7 @@ pub mod Fronts
 pub mod Ways
 pub mod Grammar
 pub mod Numbers
+pub mod KnownNames
 pub mod Sound
 pub mod Shapes
 pub mod Leading

@@ -3,6 +3,7 @@
 
 mod characters;
 mod examples;
+mod label_list;
 mod laws;
 mod line;
 mod number;
@@ -14,6 +15,7 @@ pub use examples::{
     lines_with_a_bad_name, lines_with_a_bad_time, lines_with_a_bad_type, lines_with_a_bad_value,
     lines_with_a_label_twice, lines_with_bad_labels,
 };
+pub use label_list::LabelList;
 pub use laws::{
     faults_are_told_by_their_place, lines_are_those_of_the_grammar, numbers_of_samples_are_read,
     samples_are_read_from_their_lines,

@@ -9,7 +9,7 @@ ghost use Rattle.pr_expo_line.specs.declared.place.ExpoKind.TheVariants.{Duplica
 use crate::characters::is_label_byte;
 use crate::number::is_number_end;
 use crate::place::{ExpoKind, Head, Measured, Place, Read, Word};
-use crate::steps::{after_keyword, stands_before, step, type_of};
+use crate::steps::{stands_before, step, type_of};
 use pr_words::Text;
 use std::alloc::{AllocError, Global};
 use std::str;
@@ -35,7 +35,7 @@ impl From<AllocError> for LineFault {
 }
 
 /// What is bad at a label's name that no line goes on from.
-fn label_fault(head: &Head, name: &str) -> ExpoKind
+fn label_fault(head: &Head, name: &Text) -> ExpoKind
     ensures { result ≡ (if stands_before head.now name.now then DuplicateLabel else BadLabels) }
 {
     if stands_before(head, name) {
@@ -51,7 +51,7 @@ fn fault_at(place: &Place) -> ExpoKind
 {
     match place {
         Place::BeforeType(_) | Place::InType(_, _) | Place::AfterType(_, _) => ExpoKind::BadType,
-        Place::InLabel(head, name) => label_fault(head, name.as_str()),
+        Place::InLabel(head, name) => label_fault(head, name),
         Place::BeforeLabel(_)
         | Place::BeforeEqual(_, _)
         | Place::BeforeQuote(_, _)
@@ -90,12 +90,13 @@ fn end_fault(place: &Place) -> ExpoKind
     }
 }
 
+// The words of help and type lines want a family behind them.
 fn keyword_end(text: Text) -> Option<Read>
     ensures { result ≡ keyword_end (after_keyword text) }
 {
-    match after_keyword(text.as_str()) {
-        Place::Passed => Some(Read::Nothing),
-        _ => None,
+    match text.as_str() {
+        "HELP" | "TYPE" => None,
+        _ => Some(Read::Nothing),
     }
 }
 

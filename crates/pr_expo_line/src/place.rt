@@ -1,7 +1,7 @@
 // The places of a line, what a line reads as, and how it may be bad.
+use crate::label_list::LabelList;
 use crate::number::NumberPlace;
-use pr_labels::Pair;
-use pr_words::{Items, Text};
+use pr_words::Text;
 
 /// What a family of samples is.
 #[derive(Clone, Copy, Debug, PartialEq, Eq)]
@@ -36,7 +36,7 @@ pub enum Word {
 #[derive(Debug, Drop)]
 pub struct Head {
     pub name: Text,
-    pub labels: Items<Pair>,
+    pub labels: LabelList,
 }
 
 /// A name with labels, and the text of its number.

@@ -5,7 +5,6 @@ ghost use Rattle.pr_expo_line.specs.Line.{
   type_of,
   is_front_of,
   is_type_front,
-  has_label_named,
   stands_before,
   bare,
   with_label,
@@ -43,10 +42,11 @@ ghost use Rattle.pr_expo_line.specs.Line.{
 use crate::characters::{
     is_blank, is_label_byte, is_letter, is_metric_byte, is_metric_letter, is_sign,
 };
+use crate::label_list::LabelList;
 use crate::number::{NumberPlace, is_number_end, number_next, number_start};
 use crate::place::{FamilyKind, Head, Measured, Place, Word};
 use pr_labels::{METRIC_LABEL, Pair};
-use pr_words::{Items, Text};
+use pr_words::Text;
 use std::alloc::{AllocError, Global};
 
 /// The text of a character alone.
@@ -104,23 +104,11 @@ fn is_type_front(text: &str) -> bool
         || is_front_of(b"untyped", text)
 }
 
-/// Whether one of the labels has the name.
-fn has_label_named(name: &str, labels: &[Pair]) -> bool
-    ensures { result ≡ has_label_named name.now labels.now }
-{
-    for label in labels {
-        if label.name.as_str() == name {
-            return true;
-        }
-    }
-    false
-}
-
 /// Whether the name stands before: as that of the metric's name, or among the labels.
-pub(crate) fn stands_before(head: &Head, name: &str) -> bool
+pub(crate) fn stands_before(head: &Head, name: &Text) -> bool
     ensures { result ≡ stands_before head.now name.now }
 {
-    METRIC_LABEL == name || has_label_named(name, head.labels.as_slice())
+    METRIC_LABEL == name.as_str() || head.labels.has(name)
 }
 
 fn bare(alloc: Global, name: Text) -> Head
@@ -128,21 +116,20 @@ fn bare(alloc: Global, name: Text) -> Head
 {
     Head {
         name,
-        labels: Items::empty(alloc),
+        labels: LabelList::empty(alloc),
     }
 }
 
-fn with_label(head: Head, name: Text, value: Text) -> Result<Head, AllocError>
+fn with_label(alloc: Global, head: Head, name: Text, value: Text) -> Result<Head, AllocError>
     ensures { IfOk result (λ h. h ≡ with_label head name value) }
 {
     let Head {
         name: metric,
-        mut labels,
+        labels,
     } = head;
-    labels.push(Pair { name, value })?;
     Ok(Head {
         name: metric,
-        labels,
+        labels: labels.with(alloc, Pair { name, value })?,
     })
 }
 
@@ -171,7 +158,7 @@ fn from_gap(alloc: Global, c: char) -> Result<Option<Place>, AllocError>
 }
 
 /// The place after the first word of a comment.
-pub(crate) fn after_keyword(text: &str) -> Place
+fn after_keyword(text: &str) -> Place
     ensures { result ≡ after_keyword text.now }
 {
     if text == "HELP" {
@@ -310,7 +297,7 @@ fn in_label(head: Head, name: Text, c: char) -> Result<Option<Place>, AllocError
 {
     if is_label_byte(c) {
         Ok(Some(Place::InLabel(head, grown(name, c)?)))
-    } else if stands_before(&head, name.as_str()) {
+    } else if stands_before(&head, &name) {
         Ok(None)
     } else {
         Ok(before_equal(head, name, c))
@@ -329,11 +316,17 @@ fn before_quote(alloc: Global, head: Head, name: Text, c: char) -> Option<Place>
     }
 }
 
-fn in_value(head: Head, name: Text, value: Text, c: char) -> Result<Option<Place>, AllocError>
+fn in_value(
+    alloc: Global,
+    head: Head,
+    name: Text,
+    value: Text,
+    c: char,
+) -> Result<Option<Place>, AllocError>
     ensures { IfOk result (λ o. o ≡ in_value head name value c) }
 {
     if c == '"' {
-        Ok(Some(Place::AfterValue(with_label(head, name, value)?)))
+        Ok(Some(Place::AfterValue(with_label(alloc, head, name, value)?)))
     } else if c == '\\' {
         Ok(Some(Place::InEscape(head, name, value)))
     } else {
@@ -492,7 +485,7 @@ pub(crate) fn step(alloc: Global, place: Place, c: char) -> Result<Option<Place>
         Place::InLabel(head, name) => in_label(head, name, c),
         Place::BeforeEqual(head, name) => Ok(before_equal(head, name, c)),
         Place::BeforeQuote(head, name) => Ok(before_quote(alloc, head, name, c)),
-        Place::InValue(head, name, value) => in_value(head, name, value, c),
+        Place::InValue(head, name, value) => in_value(alloc, head, name, value, c),
         Place::InEscape(head, name, value) => in_escape(head, name, value, c),
         Place::AfterValue(head) => Ok(after_value(head, c)),
         Place::AfterList(head) => Ok(after_list(head, c)),
