@@ -1,4 +1,3 @@
 pub mod Points
 pub mod Going
 pub mod Feeding
-pub mod Known

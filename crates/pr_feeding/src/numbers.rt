@@ -1,19 +1,9 @@
 // The numbers that the series of a test have in a head.
-ghost use Rattle.std.specs.Prelude.{◌≡◌, IfSome, IsTrue, Some, slice_get};
+ghost use Rattle.std.specs.Prelude.{◌≡◌, IfSome, Some, slice_get};
 ghost use Rattle.pr_head.specs.Holds.{sets_of};
 
 use pr_head::Head;
 use pr_labels::Labels;
-
-// Whether the series of this number has these labels.
-fn is_of(head: &Head, number: usize, labels: &Labels) -> bool
-    ensures { IsTrue result → slice_get (sets_of head.now) number ≡ Some labels.now }
-{
-    match head.labels(number) {
-        Some(found) => *found == *labels,
-        None => false,
-    }
-}
 
 /// The number of the series with these labels, where the head has it: the one that is known, where
 /// that is right, so that nothing is searched for.
@@ -21,7 +11,7 @@ pub(crate) fn number_of(head: &Head, labels: &Labels, known: Option<usize>) -> O
     ensures { IfSome result (λ n. slice_get (sets_of head.now) n ≡ Some labels.now) }
 {
     match known {
-        Some(number) if is_of(head, number, labels) => known,
+        Some(number) if head.has_labels(number, labels) => known,
         Some(_) | None => head.number(labels),
     }
 }

@@ -8,6 +8,8 @@ use Rattle.std.specs.Map.{lookup}
 use Rattle.std.proofs.lemmas.List.Elements.{filter-append}
 use Rattle.pr_history.specs.Lookback.{entries_until, is_until}
 use Rattle.std.specs.Option.{option_map}
+use Rattle.std.proofs.lemmas.Option.{slice_get-map}
+use Rattle.pr_labels.proofs.LabelOrder.{labels_decide}
 use Rattle.std.proofs.lemmas.List.{map-append, length-append, drop-append-le}
 use Rattle.indexmap.specs.IndexMap.{set_value_at}
 use Rattle.pr_num.specs.declared.value.Point.{Point}
@@ -97,6 +99,11 @@ number_found l sets i h = let same : i - 0 ≡ i = omega arith in subst (λ j. s
 pub number_is : (l : List Pair) (sets : List (List Pair)) (r : Option ℕ) → r ≡ position (labels_eq l) sets → IfSome r (λ i. slice_get sets i ≡ Some l)
 number_is l sets None h = tt
 number_is l sets (Some i) h = number_found l sets i (sym h)
+
+-- a series has the labels that are found there
+pub is_here : (head : List Series) (number : ℕ) (found labels : List Pair) → Some found ≡ option_map (λ e. e.0) (slice_get head number) → labels_eq found labels ≡ true
+    → slice_get (sets_of head) number ≡ Some labels
+is_here head number found labels there same = slice_get-map (λ (e : Series). e.0) head number ∙ sym there ∙ ap Some ((labels_decide found labels).0 same)
 
 -- the series at the end
 pub at_last : (head : List Series) (n : Series) (i : ℕ) (e : Series) → slice_get (head ++ n ∷ []) i ≡ Some e → (slice_get head i ≡ Some e) ⊎ (n ≡ e)

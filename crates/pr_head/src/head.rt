@@ -21,6 +21,8 @@ pub struct Head {
     index: Index,
     // No held sample is older.
     oldest: u64,
+    // The series behind the one that got the last sample: mostly it gets the next.
+    next: usize,
     alloc: Global,
 }
 
@@ -40,7 +42,7 @@ impl Model for Head {
     ghost invariant = { λ h. IsIndexed h.index.all h.index.by_label (sets_of h.series.entries) × AreSince h.oldest h.series.entries };
 }
 
-ghost use Rattle.std.specs.Prelude.{◌≡◌, ◌+◌, ◌<◌, ◌≤◌, ◌≤ℤ◌, ◌++◌, ◌∷◌, [], ℤ, length, slice_get, List, Some, None, IfOk, IfSome, IfNone, OnOk, OnErr, option_and_then};
+ghost use Rattle.std.specs.Prelude.{◌≡◌, ◌+◌, ◌<◌, ◌≤◌, ◌≤ℤ◌, true, ◌++◌, ◌∷◌, [], ℤ, length, slice_get, List, Some, None, IfOk, IfSome, IfNone, OnOk, OnErr, option_and_then};
 ghost use Rattle.std.specs.Map.{lookup};
 ghost use Rattle.std.specs.Option.{option_copied, option_map};
 ghost use Rattle.indexmap.specs.IndexMap.{set_value_at};
@@ -90,6 +92,7 @@ impl Head {
             series: IndexMap::new(alloc),
             index: Index::new(alloc),
             oldest: u64::MAX,
+            next: 0,
             alloc,
         }
     }
@@ -208,6 +211,30 @@ impl Head {
         self.series.get_index_of(labels)
     }
 
+    /// Whether the series with a number has these labels.
+    pub fn has_labels(&self, series: usize, labels: &Labels) -> bool
+        ensures { result ≡ true → slice_get (sets_of self.now) series ≡ Some labels.now }
+    {
+        match self.labels(series) {
+            Some(found) => *found == *labels,
+            None => false,
+        }
+    }
+
+    // The number of the series with these labels. It looks first at the series that mostly comes
+    // next.
+    fn number_near(&self, labels: &Labels) -> Option<usize>
+        ensures found { IfSome result (λ i. slice_get (sets_of self.now) i ≡ Some labels.now) }
+        ensures within { IfSome result (λ i. i < length self.now) }
+        ensures none { IfNone result (lookup (labels_eq labels.now) self.now ≡ None) }
+    {
+        if self.has_labels(self.next, labels) {
+            Some(self.next)
+        } else {
+            self.number(labels)
+        }
+    }
+
     // A series that is not there yet, with its first sample.
     fn add(&mut self, labels: Labels, sample: &Timed) -> Result<(), AllocError>
         requires { lookup (labels_eq labels) self.old ≡ None }
@@ -239,6 +266,7 @@ impl Head {
     {
         self.series[series].push(sample)?;
         self.oldest = earlier(self.oldest, sample.time.get());
+        self.next = series.saturating_add(1);
         Ok(())
     }
 
@@ -252,7 +280,7 @@ impl Head {
             → OnOk result (IsWhole self.new (put history (entry_of labels.now time point)) x) }
         ensures err { OnErr result (self.new ≡ self.old) }
     {
-        match self.number(labels) {
+        match self.number_near(labels) {
             Some(series) => self.append_at(series, time, point),
             None => {
                 self.add(labels.copy(self.alloc)?, &Timed { time, point })?;
