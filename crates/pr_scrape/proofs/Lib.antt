@@ -1,4 +1,5 @@
 pub mod Names
+pub mod ByName
 pub mod Tallying
 pub mod Answering
 pub mod Bodies

@@ -2,6 +2,7 @@
 //! goes stale; and the targets that are known, with what is tracked of each.
 #![tactic(auto)]
 
+mod by_name;
 mod calls;
 mod named;
 mod offered;
