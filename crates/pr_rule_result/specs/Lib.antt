@@ -1,3 +1,4 @@
 pub mod Templates
 pub mod Coming
 pub mod Rows
+pub mod Shapes

@@ -1,11 +1,13 @@
 // What a rule makes of an element.
 ghost use Rattle.std.specs.Prelude.{◌≡◌, false, true, IfOk};
-ghost use Rattle.pr_rulefile.specs.Rules.{rule_of_def};
+ghost use Rattle.pr_rulefile.specs.Rules.{Rule, rule_of_def};
 ghost use Rattle.pr_tmpl.specs.declared.template.External.{External};
 ghost use Rattle.pr_rules.specs.Results.{found_by, found_of};
+ghost use Rattle.pr_rule_result.specs.Shapes.{IsShapeOf};
 ghost use Rattle.pr_rule_result.specs.Templates.{IsTemplatesOf};
 
-use crate::labels::{alerting_labels, expanded_notes, recorded_labels};
+use crate::labels::{alerting_labels, expanded_notes};
+use crate::shape::Shape;
 use crate::templates::RuleTemplates;
 use pr_labels::Item;
 use pr_lineage::Found;
@@ -15,12 +17,19 @@ use pr_tmpl::External;
 use pr_words::Items;
 use std::alloc::{AllocError, Global};
 
-// What is recorded of it.
-fn recorded(alloc: Global, rule: &RuleDef, item: &Item<Num>) -> Result<Found, AllocError>
-    ensures { (external : External) → IfOk result (λ f. f ≡ found_by external (rule_of_def rule.now) false item.now) }
+// What the rule of the shape records of the element at a place.
+#[tactic(auto, using(crate::proofs::Shaping::recorded_so))]
+fn recorded(
+    alloc: Global,
+    shape: &mut Shape,
+    place: usize,
+    item: &Item<Num>,
+) -> Result<Found, AllocError>
+    ensures found { (external : External) (rule : Rule) → shape.old ≡ (rule.name, rule.labels) → IfOk result (λ f. f ≡ found_by external rule false item.now) }
+    ensures stays { shape.new ≡ shape.old }
 {
     Ok(Found {
-        labels: recorded_labels(alloc, rule, item)?,
+        labels: shape.recorded(alloc, place, &item.labels)?,
         notes: Items::empty(alloc),
         value: item.value,
     })
@@ -47,19 +56,23 @@ fn alerting(
     })
 }
 
-/// What a rule makes of an element: what it records of it, or the alert that it is.
+/// What a rule makes of the element at a place: what it records of it, or the alert that it is.
 pub(crate) fn found_of(
     alloc: Global,
     external: &External,
     rule: &RuleDef,
     templates: &RuleTemplates,
+    shape: &mut Shape,
+    place: usize,
     item: &Item<Num>,
 ) -> Result<Found, AllocError>
-    ensures { IsTemplatesOf templates.now (rule_of_def rule.now) → IfOk result (λ f. f ≡ found_of external.now (rule_of_def rule.now) item.now) }
+    ensures found { IsTemplatesOf templates.now (rule_of_def rule.now) → IsShapeOf shape.old (rule_of_def rule.now)
+        → IfOk result (λ f. f ≡ found_of external.now (rule_of_def rule.now) item.now) }
+    ensures stays { shape.new ≡ shape.old }
 {
     if rule.alert {
         alerting(alloc, external, rule, templates, item)
     } else {
-        recorded(alloc, rule, item)
+        recorded(alloc, shape, place, item)
     }
 }

@@ -3,7 +3,8 @@ ghost use Rattle.std.specs.Prelude.{◌≡◌, IfOk, OnOk};
 ghost use Rattle.pr_labels.specs.Edits.{set_label, union_labels};
 ghost use Rattle.pr_tmpl.specs.Expansion.{expansion};
 ghost use Rattle.pr_rulefile.specs.Rules.{rule_of_def};
-ghost use Rattle.pr_rules.specs.Results.{alerting_labels, recorded_labels};
+ghost use Rattle.pr_rules.specs.Results.{alerting_labels};
+ghost use Rattle.pr_rule_result.specs.Shapes.{made_labels};
 ghost use Rattle.pr_rule_result.specs.Templates.{AreTemplatesOf, all_expanded_by, expanded_pair_by};
 
 use crate::templates::NamedTemplate;
@@ -37,17 +38,18 @@ fn set_all(alloc: Global, labels: &mut Labels, over: &[Pair]) -> Result<(), Allo
     Ok(())
 }
 
-/// The labels under which a rule records an element.
-pub(crate) fn recorded_labels(
+/// The labels that a rule of this name and with these labels makes of those of an element.
+pub(crate) fn made_labels(
     alloc: Global,
-    rule: &RuleDef,
-    item: &Item<Num>,
+    name: &str,
+    over: &[Pair],
+    from: &Labels,
 ) -> Result<Labels, AllocError>
-    ensures { IfOk result (λ l. l ≡ recorded_labels (rule_of_def rule.now) item.now) }
+    ensures { IfOk result (λ l. l ≡ made_labels name.now over.now from.now) }
 {
-    let mut labels = item.labels.copy(alloc)?;
-    set(alloc, &mut labels, METRIC_LABEL, rule.name.as_str())?;
-    set_all(alloc, &mut labels, rule.labels.as_slice())?;
+    let mut labels = from.copy(alloc)?;
+    set(alloc, &mut labels, METRIC_LABEL, name)?;
+    set_all(alloc, &mut labels, over)?;
     Ok(labels)
 }
 

@@ -24,7 +24,7 @@ use pr_eval::eval;
 use pr_head::Head;
 use pr_lineage::Found;
 use pr_range::Ranges;
-use pr_rule_result::{RuleError, RuleTemplates, rule_result};
+use pr_rule_result::{RuleError, RuleTemplates, Shape, rule_result};
 use pr_rulefile::RuleDef;
 use pr_words::Steps;
 use std::sync::ledger::Ledger;
@@ -34,6 +34,7 @@ fn found<R: Ranges, G: Ledger>(
     at: &Evaluation<'_>,
     rule: &RuleDef,
     templates: &RuleTemplates,
+    shape: &mut Shape,
     head: &Head,
     ranges: &mut R,
     reads: &mut Steps<G>,
@@ -51,7 +52,15 @@ fn found<R: Ranges, G: Ledger>(
         (kept_by (R.last ranges.old) (R.passed ranges.old)) (kept_by (R.last ranges.new) (R.passed ranges.new)) }
 {
     let given = eval(at.alloc, &rule.expr, head, at.time, at.step, ranges, reads);
-    rule_result(at.alloc, at.external, at.limit, rule, templates, given)
+    rule_result(
+        at.alloc,
+        at.external,
+        at.limit,
+        rule,
+        templates,
+        shape,
+        given,
+    )
 }
 
 /// What a rule comes to at a time, over a head, before anything is put: its samples, and what is
@@ -63,6 +72,7 @@ pub(crate) fn outcome<R: Ranges, G: Ledger>(
     at: &Evaluation<'_>,
     rule: &RuleDef,
     templates: &RuleTemplates,
+    shape: &mut Shape,
     records: &mut Records,
     head: &Head,
     ranges: &mut R,
@@ -82,7 +92,7 @@ pub(crate) fn outcome<R: Ranges, G: Ledger>(
         (kept_by (R.last ranges.old) (R.passed ranges.old)) (kept_by (R.last ranges.new) (R.passed ranges.new)) }
 {
     a_fault_leaves_the_records();
-    match found(at, rule, templates, head, ranges, reads) {
+    match found(at, rule, templates, shape, head, ranges, reads) {
         Ok(founds) => offer(at, rule, records, founds),
         Err(error) => Err(error),
     }

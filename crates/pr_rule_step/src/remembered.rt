@@ -29,7 +29,7 @@ use pr_history::Entry;
 use pr_labels::Labels;
 use pr_num::Point;
 use pr_range::Ranges;
-use pr_rule_result::{RuleError, RuleTemplates, templates_of};
+use pr_rule_result::{RuleError, RuleTemplates, Shape, templates_of};
 use pr_rulefile::RuleDef;
 use pr_rules::RuleReport;
 use pr_time::{Ms, Span};
@@ -48,6 +48,8 @@ pub struct Remembered<R> {
     pub records: Records,
     /// What its range selectors keep.
     pub ranges: R,
+    // The labels of its last result, where it records: they are shared with the next one.
+    shape: Shape,
 }
 
 impl<R: Ranges> Remembered<R> {
@@ -63,6 +65,7 @@ impl<R: Ranges> Remembered<R> {
             previous: Items::empty(alloc),
             records: Records::new(alloc),
             ranges: R::empty(alloc),
+            shape: Shape::new(alloc),
         })
     }
 
@@ -103,6 +106,7 @@ impl<R: Ranges> Remembered<R> {
             at,
             rule,
             &self.templates,
+            &mut self.shape,
             &mut self.records,
             head,
             &mut self.ranges,
@@ -145,8 +149,8 @@ impl<R: Ranges> Remembered<R> {
     }
 
     /// Goes on from what is remembered of an older rule that this one continues: all but the
-    /// templates is taken over, and of its range selectors what the older ones keep that are named
-    /// for them.
+    /// templates and the labels of its last result is taken over, and of its range selectors what
+    /// the older ones keep that are named for them.
     pub fn carry(&mut self, old: Remembered<R>, from: &[Option<usize>])
         requires once { IsOnce from.now }
         ensures templates { self.new.templates ≡ self.old.templates }

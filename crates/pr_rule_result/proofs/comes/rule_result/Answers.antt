@@ -15,4 +15,4 @@ returns-in_ok-elements-in-Ok-clause-comes c = λ meant answers templates.
     let rule = rule_of_def c.args.rule.now in
     let e : meant ≡ Ok c.in-Ok.value = subst (λ (given : Result Value EvalError). AnswersTo meant given) c.in-Ok.is answers in
     by_value meant c.in-Ok.value c.args.external.now c.args.limit rule c.ruled.result e
-    (subst (λ (l : List (Item Num)). ComesTo (without_place (ruled c.args.external.now c.args.limit rule l)) c.ruled.result) (c.deref.ensures.value ∙ c.in_ok-elements-in-Ok.ensures) (c.ruled.ensures.comes templates))
+    (subst (λ (l : List (Item Num)). ComesTo (without_place (ruled c.args.external.now c.args.limit rule l)) c.ruled.result) (c.deref.ensures.value ∙ c.in_ok-elements-in-Ok.ensures) (c.ruled.ensures.comes templates c.in_ok-fit-in-Ok.ensures))
