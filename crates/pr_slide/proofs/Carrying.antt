@@ -9,6 +9,7 @@ use Rattle.pr_slide.specs.declared.window.Window.{Window}
 use Rattle.pr_slide.specs.Windows.{AreWindowsOf, HasWindow, Nodes, found, last_in, last_asks, passed_in, passed_of}
 use Rattle.pr_range.specs.Carried.{IsCarried, IsOnce, named_in, older_of}
 use Rattle.pr_slide.specs.Carried.{carried, number_from, renumbered}
+use Rattle.pr_slide.specs.Places.{AreApart, IsAbsent, numbers_of}
 
 -- a number that goes on from an older one names it
 number_is : (at j : ℕ) (from : List (Option ℕ)) (k : ℕ) → number_from at j from ≡ Some k → (at ≤ k) × (slice_get from (k - at) ≡ Some (Some j))
@@ -143,3 +144,28 @@ removed_at from nodes nodes' i j d e is h found = ap (λ l. take i l ++ carried 
   by [] i h k = absurd (omega arith)
   by (n ∷ nodes) zero h k = ap (λ o. renumbered o n.1 (carried from nodes)) (sym k)
   by (n ∷ nodes) (suc i) h k = ap (λ l. n ∷ l) (by nodes i (omega arith) k)
+
+-- numbers that are apart go on under numbers that are
+absent_carried : (from : List (Option ℕ)) (nodes : Nodes) (j k : ℕ) → number_from 0 j from ≡ Some k → IsAbsent (numbers_of nodes) j → IsAbsent (numbers_of (carried from nodes)) k
+absent_carried from [] j k e h = tt
+absent_carried from (n ∷ nodes) j k e h = by (number_from 0 n.0 from) refl (absent_carried from nodes j k e h.1) where
+  by : (o : Option ℕ) → number_from 0 n.0 from ≡ o → IsAbsent (numbers_of (carried from nodes)) k → IsAbsent (numbers_of (renumbered o n.1 (carried from nodes))) k
+  by None g rest = rest
+  by (Some k') g rest = (test (nat_eq k k') refl, rest) where
+    test : (b : Bool) → nat_eq k k' ≡ b → b ≡ false
+    test false f = refl
+    test true f =
+        let same : k ≡ k' = eqb-true k k' f in
+        let first = number_is 0 j from k e in
+        let second = number_is 0 n.0 from k' g in
+        let equal : Some (Some j) ≡ Some (Some n.0) = sym first.1 ∙ ap (λ i. slice_get from (i - 0)) same ∙ second.1 in
+        let older : j ≡ n.0 = cc in
+        let yes : nat_eq j n.0 ≡ true = grind (arith, common_steps) in
+        absurd (cc (yes, h.0))
+
+pub apart_carried : (from : List (Option ℕ)) (nodes : Nodes) → AreApart (numbers_of nodes) → AreApart (numbers_of (carried from nodes))
+apart_carried from [] h = tt
+apart_carried from (n ∷ nodes) h = by (number_from 0 n.0 from) refl (apart_carried from nodes h.1) where
+  by : (o : Option ℕ) → number_from 0 n.0 from ≡ o → AreApart (numbers_of (carried from nodes)) → AreApart (numbers_of (renumbered o n.1 (carried from nodes)))
+  by None g rest = rest
+  by (Some k) g rest = (absent_carried from nodes n.0 k g h.0, rest)

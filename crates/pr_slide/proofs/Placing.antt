@@ -1,9 +1,9 @@
 -- The places of range selectors stay true as more are noted, and as their windows go on.
-use Rattle.std.proofs.Common.{◌≡◌, ℕ, zero, suc, ◌+◌, ◌<◌, ◌≤◌, Bool, true, false, cond, nat_eq, List, [], ◌∷◌, ◌++◌, length, get_or, set, take, Option, Some, None, refl, sym, ap, subst, ◌∙◌, arith}
+use Rattle.std.proofs.Common.{◌≡◌, ℕ, zero, suc, ◌+◌, ◌<◌, ◌≤◌, Bool, true, false, cond, nat_eq, List, [], ◌∷◌, ◌++◌, length, get_or, set, slice_get, take, Option, Some, None, refl, sym, ap, subst, ◌∙◌, arith}
 use Rattle.std.specs.Map.{lookup}
 use Rattle.std.proofs.lemmas.Grind.{common_steps}
 use Rattle.std.proofs.lemmas.List.{get_or-map, length-append, length-map, length-take-le, map-append, take_all, take-append-le, take_more}
-use Rattle.pr_slide.specs.Places.{ArePlacesOf, IsAbsent, IsFoundIn, IsNodePlace, IsPlaceIn, noted, numbers_of}
+use Rattle.pr_slide.specs.Places.{AreApart, ArePlacesOf, IsAbsent, IsFoundIn, IsNodePlace, IsPlaceIn, noted, numbers_of}
 use Rattle.pr_slide.specs.declared.window.Window.{Window}
 use Rattle.pr_slide.specs.Windows.{Nodes}
 use Rattle.pr_slide.proofs.Nodes.{Row}
@@ -81,3 +81,31 @@ node_last nodes node i windows h size =
     let all : numbers_of (nodes ++ (node, windows) ∷ []) ≡ numbers_of nodes ++ node ∷ [] = map-append (λ (n : Row). n.0) nodes ((node, windows) ∷ []) in
     let long : length (numbers_of nodes) ≡ i = length-map nodes (λ (n : Row). n.0) ∙ size in
     subst (λ l. IsPlaceIn l node i) (sym all) (place_last (numbers_of nodes) node node i h long (eq_same node))
+
+-- where numbers are apart, each stands first where it stands
+stands_first : (numbers : List ℕ) (k i : ℕ) → AreApart numbers → slice_get numbers i ≡ Some k → IsPlaceIn numbers k i
+stands_first [] k i h at = absurd (cc)
+stands_first (n ∷ numbers) k zero h at = let same : k ≡ n = cc in ap (nat_eq k) (sym same) ∙ eq_same k
+stands_first (n ∷ numbers) k (suc i) h at = (other numbers n k i h.0 at, stands_first numbers k i h.1 at) where
+  other : (numbers : List ℕ) (n k i : ℕ) → IsAbsent numbers n → slice_get numbers i ≡ Some k → nat_eq k n ≡ false
+  other [] n k i h at = absurd (cc)
+  other (m ∷ numbers) n k zero h at = let same : m ≡ k = cc in let apart = h.0 in grind (arith, common_steps)
+  other (m ∷ numbers) n k (suc i) h at = other numbers n k i h.1 at
+
+pub node_first : (nodes : Nodes) (node i : ℕ) (row : Row) → AreApart (numbers_of nodes) → slice_get nodes i ≡ Some row → row.0 ≡ node → IsNodePlace node i nodes
+node_first nodes node i row apart at number = stands_first (numbers_of nodes) node i apart (mapped nodes i at ∙ ap Some number) where
+  mapped : (nodes : Nodes) (i : ℕ) → slice_get nodes i ≡ Some row → slice_get (numbers_of nodes) i ≡ Some row.0
+  mapped [] i at = absurd (cc)
+  mapped (n ∷ nodes) zero at = let same : n ≡ row = cc in ap (λ (r : Row). Some r.0) same
+  mapped (n ∷ nodes) (suc i) at = mapped nodes i at
+
+-- one that stood nowhere is apart from the others
+apart_more : (numbers : List ℕ) (n : ℕ) → AreApart numbers → IsAbsent numbers n → AreApart (numbers ++ n ∷ [])
+apart_more [] n h absent = (tt, tt)
+apart_more (m ∷ numbers) n h absent =
+    let apart = absent.0 in
+    let other : nat_eq m n ≡ false = grind (arith, common_steps) in
+    (absent_more numbers n m h.0 other, apart_more numbers n h.1 absent.1)
+
+pub apart_pushed : (nodes : Nodes) (row : Row) → AreApart (numbers_of nodes) → IsAbsent (numbers_of nodes) row.0 → AreApart (numbers_of (nodes ++ row ∷ []))
+apart_pushed nodes row apart absent = subst AreApart (sym (map-append (λ (n : Row). n.0) nodes (row ∷ []))) (apart_more (numbers_of nodes) row.0 apart absent)

@@ -28,6 +28,16 @@ pub record ArePlacesOf (places : ℕ × List (ℕ × ℕ)) (numbers : List ℕ) 
   pub within : places.0 ≤ length numbers
   pub each : (number : ℕ) → IsFoundIn (take places.0 numbers) number (lookup (nat_eq number) places.1)
 
+-- each number stands at one place alone
+abbrev pub AreApart : List ℕ → Type 0
+AreApart [] = Unit {0}
+AreApart (n ∷ numbers) = IsAbsent numbers n × AreApart numbers
+
+-- The numbers of a list are apart, and the places of the first ones are noted.
+pub record AreStandingAt (places : ℕ × List (ℕ × ℕ)) (numbers : List ℕ) : Type 0 where
+  pub known : ArePlacesOf places numbers
+  pub apart : AreApart numbers
+
 -- what is noted of a number once another one stands at a place: the first place stays
 abbrev pub noted : ℕ → ℕ → ℕ → Option ℕ → Option ℕ
 noted place other number (Some i) = Some i

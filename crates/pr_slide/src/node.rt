@@ -1,6 +1,6 @@
 // The windows of one range selector.
-ghost use Rattle.std.specs.Prelude.{◌≡◌, ◌≢◌, ◌+◌, ◌-◌, ◌<◌, ◌≤◌, ◌++◌, ◌∷◌, [], ℕ, List, OnOk, Some, None, Err, cond, length, max, nat_eq, slice_get};
-ghost use Rattle.std.specs.Map.{lookup};
+ghost use Rattle.std.specs.Prelude.{◌≡◌, ◌≢◌, ◌+◌, ◌-◌, ◌<◌, ◌≤◌, ◌++◌, ◌∷◌, [], ℕ, List, OnOk, Some, None, Err, cond, length, max, nat_eq, slice_get, true};
+ghost use Rattle.std.specs.Map.{keys_of, lookup};
 ghost use Rattle.pr_labels.specs.declared.pair.Pair.{Pair};
 ghost use Rattle.pr_head.specs.Stored.{Stored, count_of, position_of};
 ghost use Rattle.pr_vectors.specs.Ranges.{over};
@@ -27,6 +27,8 @@ use std::sync::ledger::Ledger;
 pub struct Node {
     number: usize,
     windows: IndexMap<usize, Window>,
+    // The place behind the window of the last ask: mostly that of the next one is there.
+    next: usize,
 }
 
 impl Model for Node {
@@ -46,6 +48,7 @@ impl Node {
         Node {
             number,
             windows: IndexMap::new(alloc),
+            next: 0,
         }
     }
 
@@ -62,6 +65,48 @@ impl Node {
     {
         self.number = number;
     }
+
+    // Whether the window at a place is that of a series.
+    fn stands_at(&self, place: usize, series: usize) -> bool
+        ensures { result ≡ true → slice_get (keys_of self.now.1) place ≡ Some series }
+    {
+        match self.windows.get_index(place) {
+            Some((found, _)) => *found == series,
+            None => false,
+        }
+    }
+
+    // The place of a series' window, or one behind all where it has none. It is looked for first
+    // where it mostly is.
+    fn place_of(&self, series: usize) -> usize
+        ensures there { result < length self.now.1 → slice_get (keys_of self.now.1) result ≡ Some series }
+        ensures none { length self.now.1 ≤ result → lookup (nat_eq series) self.now.1 ≡ None }
+    {
+        if self.stands_at(self.next, series) {
+            return self.next;
+        }
+        match self.windows.get_index_of(&series) {
+            Some(place) => place,
+            None => self.windows.len(),
+        }
+    }
+
+    // The same, and the next one is looked for behind it. Behind the last one is the first.
+    fn go_to(&mut self, series: usize) -> usize
+        ensures same { self.new ≡ self.old }
+        ensures there { result < length self.old.1 → slice_get (keys_of self.old.1) result ≡ Some series }
+        ensures none { length self.old.1 ≤ result → lookup (nat_eq series) self.old.1 ≡ None }
+    {
+        let place = self.place_of(series);
+        let behind = place.saturating_add(1);
+        self.next = if behind < self.windows.len() {
+            behind
+        } else {
+            0
+        };
+        place
+    }
+
     // The first ask for a series: a window of its own.
     fn begin<G: Ledger>(
         &mut self,
@@ -110,7 +155,8 @@ impl Node {
         ensures reads { (e : List Pair × Stored) → slice_get head.now series ≡ Some e
             → reads.new ≤ reads.old + (position_of e.1 ask.now.to - max (position_of e.1 ask.now.from) (passed_in (lookup (nat_eq series) self.old.1))) }
     {
-        match self.windows.get_mut(&series) {
+        let place = self.go_to(series);
+        match self.windows.get_index_mut(place) {
             Some(window) => window.ask(alloc, head, series, ask, reads),
             None => self.begin(alloc, head, series, ask, reads),
         }

@@ -1,5 +1,5 @@
 // Ranges that go on.
-ghost use Rattle.std.specs.Prelude.{◌≡◌, ◌≢◌, ◌+◌, ◌-◌, ◌<◌, ◌≤◌, ◌≤ℤ◌, ◌++◌, ◌∷◌, [], ℕ, List, Option, Some, None, Err, IfOk, OnOk, length, max, slice_get, take, drop};
+ghost use Rattle.std.specs.Prelude.{◌≡◌, ◌≢◌, ◌+◌, ◌-◌, ◌<◌, ◌≤◌, ◌≤ℤ◌, ◌++◌, ◌∷◌, [], ℕ, List, Option, Some, None, Err, IfOk, IfSome, OnOk, length, max, slice_get, take, drop, true};
 ghost use Rattle.pr_labels.specs.declared.pair.Pair.{Pair};
 ghost use Rattle.pr_history.specs.declared.entry.Entry.{Entry};
 ghost use Rattle.pr_head.specs.Stored.{Stored, count_of, position_of};
@@ -31,18 +31,20 @@ use std::sync::ledger::Ledger;
 pub struct SlidingRanges {
     nodes: Vec<Node>,
     places: Places,
+    // The place of the range selector that was asked last: mostly the next ask is for the same one.
+    near: usize,
     alloc: Global,
 }
 
 impl Model for SlidingRanges {
     ghost use Rattle.pr_slide.specs.Windows.{Nodes};
-    ghost use Rattle.pr_slide.specs.Places.{ArePlacesOf, numbers_of};
+    ghost use Rattle.pr_slide.specs.Places.{AreStandingAt, numbers_of};
 
     ghost Value = { Nodes };
 
     ghost view = { λ r. r.nodes.items };
 
-    ghost invariant = { λ r. ArePlacesOf r.places (numbers_of r.nodes.items) };
+    ghost invariant = { λ r. AreStandingAt r.places (numbers_of r.nodes.items) };
 }
 
 // The number of the range selector that goes on from an older one.
@@ -95,12 +97,40 @@ impl SlidingRanges {
         SlidingRanges {
             nodes: Vec::new(alloc),
             places: Places::new(alloc),
+            near: 0,
             alloc,
         }
     }
 
-    // Where the windows of a range selector stand, be it that there are none yet.
-    fn place_for(&mut self, node: usize) -> Result<usize, AllocError>
+    // Whether the windows of a range selector stand at a place.
+    fn stands_at(&self, place: usize, node: usize) -> bool
+        ensures { result ≡ true → IsNodePlace node place self.now }
+    {
+        match self.nodes.get(place) {
+            Some(found) => found.number() == node,
+            None => false,
+        }
+    }
+
+    // Where the windows of a range selector stand, if it is where those of the last ask do, or the
+    // place behind. Behind the last one is the first.
+    fn place_near(&self, node: usize) -> Option<usize>
+        ensures { IfSome result (λ i. IsNodePlace node i self.now) }
+    {
+        if self.stands_at(self.near, node) {
+            return Some(self.near);
+        }
+        let behind = self.near.saturating_add(1);
+        let next = if behind < self.nodes.len() { behind } else { 0 };
+        if self.stands_at(next, node) {
+            Some(next)
+        } else {
+            None
+        }
+    }
+
+    // The same by the number, be it that there are none yet.
+    fn place_by_number(&mut self, node: usize) -> Result<usize, AllocError>
         ensures place { IfOk result (λ i. IsNodePlace node i self.new) }
         ensures same { OnOk result ((k q : ℕ) → found self.new k q ≡ found self.old k q) }
     {
@@ -111,6 +141,17 @@ impl SlidingRanges {
                 self.nodes.push(Node::new(self.alloc, node))?;
                 Ok(self.nodes.len() - 1)
             }
+        }
+    }
+
+    // Where the windows of a range selector stand, be it that there are none yet.
+    fn place_for(&mut self, node: usize) -> Result<usize, AllocError>
+        ensures place { IfOk result (λ i. IsNodePlace node i self.new) }
+        ensures same { OnOk result ((k q : ℕ) → found self.new k q ≡ found self.old k q) }
+    {
+        match self.place_near(node) {
+            Some(place) => Ok(place),
+            None => self.place_by_number(node),
         }
     }
 
@@ -135,6 +176,7 @@ impl SlidingRanges {
         ensures reads { (e : List Pair × Stored) → slice_get head.now series ≡ Some e
             → reads.new ≤ reads.old + (position_of e.1 ask.now.to - max (position_of e.1 ask.now.from) (passed_in (found self.old node series))) }
     {
+        self.near = place;
         self.nodes[place].ask(self.alloc, head, series, ask, reads)
     }
 
@@ -200,6 +242,7 @@ impl Ranges for SlidingRanges {
         renumber_all(&mut nodes, from);
         self.nodes = nodes;
         self.places = Places::new(self.alloc);
+        self.near = 0;
     }
 
     ghost stays = { λ r history e lawful h. fits_more r history e h };

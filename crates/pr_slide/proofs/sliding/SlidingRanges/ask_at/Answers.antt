@@ -4,7 +4,7 @@ use Rattle.pr_head.specs.Stored.{position_of}
 use Rattle.pr_vectors.specs.Ranges.{over}
 use Rattle.pr_range.specs.Answers.{AnswersAsk}
 use Rattle.pr_range.specs.Spots.{AreWithin}
-use Rattle.pr_slide.specs.Places.{ArePlacesOf, IsNodePlace, numbers_of}
+use Rattle.pr_slide.specs.Places.{AreStandingAt, IsNodePlace, numbers_of}
 use Rattle.pr_slide.specs.Windows.{IsPut, IsPutIn, found, passed_in, slid_spots, spots_in}
 use Rattle.pr_slide.proofs.Nodes.{Row, found_there, place_within, put_at}
 use Rattle.pr_slide.proofs.Placing.{numbers_kept}
@@ -43,4 +43,4 @@ invariant_of-self g c =
     let number : c.ask.new.self.0 ≡ (get_or c.self.inside.nodes.items c.args.place c.index_mut.result.now).0 = c.ask.ensures.number ∙ ap (λ (r : Row). r.0) c.index_mut.ensures.value in
     let same : numbers_of (set c.self.inside.nodes.items c.args.place c.ask.new.self) ≡ numbers_of c.self.inside.nodes.items =
     numbers_kept c.self.inside.nodes.items c.args.place c.ask.new.self c.index_mut.result.now number in
-    subst (ArePlacesOf c.self.inside.places) (sym same) c.self.invariant
+    subst (AreStandingAt c.self.inside.places) (sym same) c.self.invariant

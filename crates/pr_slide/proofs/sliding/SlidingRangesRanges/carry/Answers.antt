@@ -1,9 +1,9 @@
 use Rattle.std.proofs.Common.{◌≡◌, ap, sym, subst, ◌∙◌}
 use Rattle.pr_range.specs.Carried.{IsCarried}
 use Rattle.pr_slide.specs.Carried.{carried}
-use Rattle.pr_slide.specs.Places.{numbers_of}
+use Rattle.pr_slide.specs.Places.{AreApart, numbers_of}
 use Rattle.pr_slide.specs.Windows.{AreWindowsOf, last_asks, passed_of}
-use Rattle.pr_slide.proofs.Carrying.{fits_carried, is_carried}
+use Rattle.pr_slide.proofs.Carrying.{apart_carried, fits_carried, is_carried}
 use Rattle.pr_slide.proofs.sliding.SlidingRangesRanges.carry.Goals as goal
 
 pub returns-clause-carried : goal.returns-clause-carried
@@ -17,4 +17,7 @@ returns-clause-fits c = λ history fits.
     subst (λ l. AreWindowsOf l history) (sym is) (fits_carried c.args.from.now c.args.old history c.requires.once fits)
 
 pub invariant_of-self : goal.invariant_of-self
-invariant_of-self c = c.new.ensures (numbers_of c.renumber_all.new.nodes.items)
+invariant_of-self c = record {
+  known = c.new.ensures (numbers_of c.renumber_all.new.nodes.items);
+  apart = subst (λ l. AreApart (numbers_of l)) (sym c.renumber_all.ensures) (apart_carried c.args.from.now c.old.inside.nodes.items c.old.invariant.apart);
+}

@@ -1,0 +1,41 @@
+-- The windows of one range selector, by their places.
+use Rattle.std.proofs.Common.{◌≡◌, ℕ, zero, suc, ◌<◌, cond, nat_eq, List, [], ◌∷◌, length, get_or, position, slice_get, Some, sym, ap, subst, ◌∙◌}
+use Rattle.std.specs.Cmp.{nat_eq_equiv}
+use Rattle.std.specs.HashMap.{HashMap}
+use Rattle.std.specs.Map.{keys_of, lookup, values_of}
+use Rattle.std.proofs.lemmas.List.Quantifiers.{position-Some}
+use Rattle.std.proofs.lemmas.Map.Entries.{hash_map_get_place}
+use Rattle.std.proofs.lemmas.Option.{slice_get-get_or}
+use borrow.Author.Tests.{eqb-true}
+use Rattle.indexmap.specs.IndexMap.{IsUnique, with_value_at}
+use Rattle.indexmap.proofs.CallerLemmas.{updates-with_value_at}
+use Rattle.pr_slide.specs.declared.window.Window.{Window}
+
+-- what stands at a place
+entry_at : (windows : List (ℕ × Window)) (i series : ℕ) (w : Window) → slice_get (keys_of windows) i ≡ Some series → Some w ≡ slice_get (values_of windows) i → slice_get windows i ≡ Some (series, w)
+entry_at [] i series w key value = absurd (cc)
+entry_at (e ∷ windows) zero series w key value = let first : e.0 ≡ series = cc in let second : e.1 ≡ w = cc in (λ i. Some (first i, second i))
+entry_at (e ∷ windows) (suc i) series w key value = entry_at windows i series w key value
+
+-- The window at a place is what is found of its series, and what is written there is what is found
+-- afterwards, while the others stay.
+pub record IsThere {S : Type 0} (m : HashMap ℕ Window S) (windows : List (ℕ × Window)) (i series : ℕ) (w : Window) : Type 0 where
+  pub found : lookup (nat_eq series) windows ≡ Some w
+  pub put : (v : Window) (q : ℕ) → lookup (nat_eq q) (with_value_at m i v).entries ≡ cond (nat_eq series q) (Some v) (lookup (nat_eq q) windows)
+
+pub there : {S : Type 0} (m : HashMap ℕ Window S) (windows : List (ℕ × Window)) (i series : ℕ) (w : Window) → m.entries ≡ windows → IsUnique nat_eq m → i < length m.entries
+    → (i < length windows → slice_get (keys_of windows) i ≡ Some series) → Some w ≡ slice_get (values_of m.entries) i → IsThere m windows i series w
+there m windows i series w same unique inside named value =
+    let key : slice_get (keys_of m.entries) i ≡ Some series = subst (λ l. slice_get (keys_of l) i ≡ Some series) (sym same) (named (subst (λ l. i < length l) same inside)) in
+    let at : slice_get m.entries i ≡ Some (series, w) = entry_at m.entries i series w key value in
+    record {
+      found = subst (λ l. lookup (nat_eq series) l ≡ Some w) same (hash_map_get_place nat_eq_equiv m i series w unique at);
+      put = λ v q. (updates-with_value_at m i v nat_eq_equiv unique series w at).0 q ∙ ap (λ l. cond (nat_eq series q) (Some v) (lookup (nat_eq q) l)) same;
+    }
+
+-- the place of a key has that key
+pub key_found : (series : ℕ) (keys : List ℕ) (i : ℕ) → position (nat_eq series) keys ≡ Some i → slice_get keys i ≡ Some series
+key_found series keys i h =
+    let found = position-Some (nat_eq series) keys i series h in
+    let same : series ≡ get_or keys i series = eqb-true series (get_or keys i series) found.1 in
+    slice_get-get_or keys i series found.0 ∙ ap Some (sym same)
