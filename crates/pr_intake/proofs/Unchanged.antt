@@ -1,27 +1,11 @@
 -- Where two lists have the same label sets in order, none of the first is gone from the second.
-use Rattle.std.proofs.Common.{◌≡◌, ℕ, Bool, true, false, not, cond, List, [], ◌∷◌, ◌++◌, ◌&&◌, ◌||◌, map, filter, refl, sym, ap, ◌∙◌}
+use Rattle.std.proofs.Common.{◌≡◌, ℕ, Bool, true, false, not, cond, List, [], ◌∷◌, map, filter, refl, ap}
+use Rattle.std.proofs.lemmas.Bool.{and_parts, or_left, or_right}
 use Rattle.std.specs.Cmp.Lexicographic.{pointwise}
 use Rattle.pr_labels.specs.declared.pair.Pair.{Pair}
 use Rattle.pr_labels.specs.Order.{labels_eq}
 use Rattle.pr_labels.specs.Rising.{is_among}
-use Rattle.pr_history.specs.declared.entry.Entry.{Entry}
 use Rattle.pr_puts.specs.Puts.{marker, markers}
-
-first_of : (s t : Bool) → (s && t) ≡ true → s ≡ true
-first_of true t h = refl
-first_of false t h = h
-
-second_of : (s t : Bool) → (s && t) ≡ true → t ≡ true
-second_of true t h = h
-second_of false t h = cc
-
-either_first : (s t : Bool) → s ≡ true → (s || t) ≡ true
-either_first true t h = refl
-either_first false t h = cc
-
-either_second : (s t : Bool) → t ≡ true → (s || t) ≡ true
-either_second true t h = refl
-either_second false t h = h
 
 dropped : (b : Bool) (l : List Pair) (rest : List (List Pair)) → b ≡ true → rest ≡ [] → cond (not b) (l ∷ rest) rest ≡ []
 dropped true l rest h none = none
@@ -32,9 +16,10 @@ none_gone : (old new whole : List (List Pair)) → pointwise labels_eq old new �
 none_gone [] new whole h within = refl
 none_gone (l ∷ old) [] whole h within = cc
 none_gone (l ∷ old) (n ∷ new) whole h within =
+    let same = and_parts (labels_eq l n) (pointwise labels_eq old new) h in
     dropped (is_among l whole) l (filter (λ k. not (is_among k whole)) old)
-    (within l (either_first (labels_eq l n) (is_among l new) (first_of (labels_eq l n) (pointwise labels_eq old new) h)))
-    (none_gone old new whole (second_of (labels_eq l n) (pointwise labels_eq old new) h) (λ k e. within k (either_second (labels_eq k n) (is_among k new) e)))
+    (within l (or_left (labels_eq l n) (is_among l new) same.0))
+    (none_gone old new whole same.1 (λ k e. within k (or_right (labels_eq k n) (is_among k new) e)))
 
 pub no_markers : (now : ℕ) (old new : List (List Pair)) → pointwise labels_eq old new ≡ true → markers now old new ≡ []
 no_markers now old new h = ap (map (marker now)) (none_gone old new new h (λ l e. e))
