@@ -1,6 +1,5 @@
 // The rows of entries, handed to a store.
-ghost use Rattle.std.specs.Prelude.{◌≡◌, ◌+◌, ◌<◌, ◌^◌, List, [], length, map, IfOk, OnOk, OnErr, Some, true};
-ghost use Rattle.pr_labels.specs.LabelSet.{IsBelowFirst, IsLabel, IsLabelSet};
+ghost use Rattle.std.specs.Prelude.{◌≡◌, ◌+◌, [], length, map, IfOk, OnOk, OnErr, Some};
 ghost use Rattle.pr_num.specs.Arithmetic.{IsFit};
 ghost use Rattle.pr_outside.specs.Causes.{HasKeepCause};
 ghost use Rattle.pr_outside.specs.Kept.{AppendsRows, KeepsRows};
@@ -9,80 +8,41 @@ ghost use Rattle.pr_row.specs.Rows.{IsEntry, decoded, encoded};
 ghost use Rattle.pr_engine.specs.Rows.{AreRead};
 
 use pr_history::Entry;
-use pr_labels::{Labels, Pair, is_label_name};
 use pr_num::{Num, Point};
 use pr_outside::{KeepError, Keeper, Row};
 use pr_row::encode;
 use pr_row::laws::rows_decode_as_their_entries;
 use std::alloc::{AllocError, Global};
-use std::cmp::Ordering;
-
-// Whether the name of a pair is below that of the first pair.
-fn is_below_first(pair: &Pair, pairs: &[Pair]) -> bool
-    ensures { result ≡ true → IsBelowFirst pair.now.name pairs.now }
-{
-    match pairs.first() {
-        Some(first) => {
-            pair.name
-                .as_str()
-                .as_bytes()
-                .cmp(first.name.as_str().as_bytes())
-                == Ordering::Less
-        }
-        None => true,
-    }
-}
-
-// Whether a pair is a label.
-fn is_label(pair: &Pair) -> bool
-    ensures { result ≡ true → IsLabel pair.now }
-{
-    is_label_name(pair.name.as_str().as_bytes()) && !pair.value.as_str().is_empty()
-}
-
-// Whether pairs are a label set.
-fn are_label_set(pairs: &[Pair]) -> bool
-    ensures { result ≡ true → IsLabelSet pairs.now }
-{
-    let mut rest = pairs;
-    'testing: while let Some((pair, after)) = rest.split_first() {
-        if !is_label(pair) || !is_below_first(pair, after) {
-            return false;
-        }
-        rest = after;
-    }
-    true
-}
 
 // A value is fit, as its type says.
-fn is_fit_value(value: Num) -> bool
-    ensures { result ≡ true → IsFit value }
+fn value_is_fit(value: Num)
+    ensures { IsFit value }
 {
     match value {
         Num::Finite(number) => {
             let _units = number.units();
-            true
         }
-        Num::NaN | Num::PosInf | Num::NegInf => true,
+        Num::NaN | Num::PosInf | Num::NegInf => {}
     }
 }
 
-fn is_fit(point: Point) -> bool
-    ensures { result ≡ true → IsFitPoint point }
+// A point is fit, as its value is.
+fn point_is_fit(point: Point)
+    ensures { IsFitPoint point }
 {
     match point {
-        Point::Value(value) => is_fit_value(value),
-        Point::Stale => true,
+        Point::Value(value) => value_is_fit(value),
+        Point::Stale => {}
     }
 }
 
-// Whether this is an entry. Every value of the type is one; but that its labels are a label set is known
-// to their own crate alone, so it is looked at here.
-fn is_entry(entry: &Entry) -> bool
-    ensures { result ≡ true → IsEntry entry.now }
+// What the types of its parts say of them makes each value of the type an entry.
+fn parts_are_an_entry(entry: &Entry)
+    ensures { IsEntry entry.now }
 {
+    let _labels = entry.labels.pairs();
     let _time = entry.time.get();
-    are_label_set(entry.labels.pairs()) && is_fit(entry.point)
+    point_is_fit(entry.point);
 }
 
 // The row of an entry.
@@ -90,12 +50,9 @@ fn row_of(alloc: Global, entry: &Entry) -> Result<Row, AllocError>
     ensures row { IfOk result (λ row. row ≡ encoded entry.now) }
     ensures back { OnOk result (decoded (encoded entry.now) ≡ Some entry.now) }
 {
-    if is_entry(entry) {
-        rows_decode_as_their_entries();
-        encode(alloc, &entry.labels, entry.time, entry.point)
-    } else {
-        Err(AllocError)
-    }
+    parts_are_an_entry(entry);
+    rows_decode_as_their_entries();
+    encode(alloc, &entry.labels, entry.time, entry.point)
 }
 
 // The rows of entries.

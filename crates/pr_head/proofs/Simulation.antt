@@ -1,5 +1,5 @@
 -- One more sample of a head is one more entry of the history that it stands for.
-use Rattle.std.proofs.Common.{◌≡◌, ◌≢◌, ◌&&◌, ℤ, ℕ, zero, suc, ◌+◌, ◌-◌, ◌==◌, nat_lt, ◌<◌, ◌≤◌, Bool, true, false, cond, ◌||◌, ◌⊎◌, inl, inr, List, [], ◌∷◌, ◌++◌, length, map, filter, drop, slice_get, position, IfSome, Option, Some, None, refl, sym, ap, subst, ◌∙◌, arith}
+use Rattle.std.proofs.Common.{◌≡◌, ◌≢◌, ◌↔◌, ◌&&◌, ℤ, ℕ, zero, suc, ◌+◌, ◌-◌, ◌==◌, nat_lt, ◌<◌, ◌≤◌, Bool, true, false, cond, ◌||◌, ◌⊎◌, inl, inr, List, [], ◌∷◌, ◌++◌, length, map, filter, drop, slice_get, position, IfSome, Option, Some, None, refl, sym, ap, subst, ◌∙◌, arith}
 use Rattle.std.specs.List.{position_from}
 use Rattle.std.proofs.lemmas.Iterator.Adapters.{position_from-zero}
 use Rattle.std.proofs.lemmas.Grind.{common_steps}
@@ -104,6 +104,23 @@ number_is l sets (Some i) h = number_found l sets i (sym h)
 pub is_here : (head : List Series) (number : ℕ) (found labels : List Pair) → Some found ≡ option_map (λ e. e.0) (slice_get head number) → labels_eq found labels ≡ true
     → slice_get (sets_of head) number ≡ Some labels
 is_here head number found labels there same = slice_get-map (λ (e : Series). e.0) head number ∙ sym there ∙ ap Some ((labels_decide found labels).0 same)
+
+-- and only those
+same_some : (a b : List Pair) → Some a ≡ Some b → a ≡ b
+same_some a b h = cc
+
+none_some : (a : List Pair) → None ≡ Some a → false ≡ true
+none_some a h = cc
+
+pub has_labels : (head : List Series) (number : ℕ) (found labels : List Pair) (answer : Bool) → Some found ≡ option_map (λ e. e.0) (slice_get head number) → labels_eq found labels ≡ answer
+    → (answer ≡ true) ↔ (slice_get (sets_of head) number ≡ Some labels)
+has_labels head number found labels answer there same = (
+  λ yes. is_here head number found labels there (same ∙ yes),
+  λ at. sym same ∙ (labels_decide found labels).1 (same_some found labels (there ∙ sym (slice_get-map (λ (e : Series). e.0) head number) ∙ at)),
+)
+
+pub has_none : (head : List Series) (number : ℕ) (labels : List Pair) → None ≡ option_map (λ e. e.0) (slice_get head number) → (false ≡ true) ↔ (slice_get (sets_of head) number ≡ Some labels)
+has_none head number labels there = (λ h. cc, λ at. none_some labels (there ∙ sym (slice_get-map (λ (e : Series). e.0) head number) ∙ at))
 
 -- the series at the end
 pub at_last : (head : List Series) (n : Series) (i : ℕ) (e : Series) → slice_get (head ++ n ∷ []) i ≡ Some e → (slice_get head i ≡ Some e) ⊎ (n ≡ e)

@@ -42,7 +42,7 @@ impl Model for Head {
     ghost invariant = { λ h. IsIndexed h.index.all h.index.by_label (sets_of h.series.entries) × AreSince h.oldest h.series.entries };
 }
 
-ghost use Rattle.std.specs.Prelude.{◌≡◌, ◌+◌, ◌<◌, ◌≤◌, ◌≤ℤ◌, true, ◌++◌, ◌∷◌, [], ℤ, length, slice_get, List, Some, None, IfOk, IfSome, IfNone, OnOk, OnErr, option_and_then};
+ghost use Rattle.std.specs.Prelude.{◌≡◌, ◌↔◌, ◌+◌, ◌<◌, ◌≤◌, ◌≤ℤ◌, true, ◌++◌, ◌∷◌, [], ℤ, length, slice_get, List, Some, None, IfOk, IfSome, IfNone, OnOk, OnErr, option_and_then};
 ghost use Rattle.std.specs.Map.{lookup};
 ghost use Rattle.std.specs.Option.{option_copied, option_map};
 ghost use Rattle.indexmap.specs.IndexMap.{set_value_at};
@@ -213,7 +213,7 @@ impl Head {
 
     /// Whether the series with a number has these labels.
     pub fn has_labels(&self, series: usize, labels: &Labels) -> bool
-        ensures { result ≡ true → slice_get (sets_of self.now) series ≡ Some labels.now }
+        ensures { result ≡ true ↔ slice_get (sets_of self.now) series ≡ Some labels.now }
     {
         match self.labels(series) {
             Some(found) => *found == *labels,

@@ -131,9 +131,10 @@ impl Labels {
         }
     }
 
-    /// The pairs, in order of name.
+    /// The pairs, in order of name: no name stands twice, and no value is empty.
     pub fn pairs(&self) -> &[Pair]
-        ensures { result.now ≡ self.now }
+        ensures all { result.now ≡ self.now }
+        ensures set { IsLabelSet result.now }
     {
         self.pairs.as_slice()
     }

@@ -16,7 +16,7 @@ returns-in-Ok-clause-ok c = λ sets size indexed.
     indexed_more c.args.self.now.all c.insert.new.self c.args.self.now.by_label c.add_each.new.self sets c.args.labels.now c.args.number size indexed
     (c.in_ok-insert.ensures.ok ∙ ap (λ l. insert_entry labels_cmp c.args.self.now.all l c.args.number) c.in_ok-copy.ensures)
     (λ other. c.in-Ok.ensures.ok other
-    ∙ (λ i. cond (has_label other (c.pairs.ensures i)) (insert_entry labels_cmp (listing_of c.args.self.now.by_label other) c.args.labels.now c.args.number) (listing_of c.args.self.now.by_label other)))
+    ∙ (λ i. cond (has_label other (c.pairs.ensures.all i)) (insert_entry labels_cmp (listing_of c.args.self.now.by_label other) c.args.labels.now c.args.number) (listing_of c.args.self.now.by_label other)))
 
 pub returns-in-Err-clause-err : goal.returns-in-Err-clause-err
 returns-in-Err-clause-err c = λ sets none indexed.
