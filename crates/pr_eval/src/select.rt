@@ -101,7 +101,7 @@ fn read_all<G: Ledger>(
     ensures items { IfOk result (λ v. v.items ≡ items_read head.now x numbers.now) }
     ensures reads { reads.new ≤ reads.old + length numbers.now }
 {
-    let mut items = Vec::new(alloc);
+    let mut items = Vec::with_capacity(alloc, numbers.len())?;
     for series in numbers {
         push_read(alloc, head, *series, x, &mut items, reads)?;
     }
@@ -134,7 +134,7 @@ pub(crate) fn selected_spots<G: Ledger>(
 pub(crate) fn valued(alloc: Global, items: Vec<Item<Spot>>) -> Result<Vec<Item<Num>>, AllocError>
     ensures { IfOk result (λ v. v.items ≡ map valued items.items) }
 {
-    let mut values = Vec::new(alloc);
+    let mut values = Vec::with_capacity(alloc, items.len())?;
     for item in items {
         values.push(Item {
             labels: item.labels,

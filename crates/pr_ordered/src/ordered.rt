@@ -43,6 +43,16 @@ impl<V> Ordered<V> {
             placed: BTreeMap::new(alloc),
         }
     }
+
+    /// No label sets, with room for so many that come in label order.
+    pub fn with_capacity(alloc: Global, capacity: usize) -> Result<Ordered<V>, AllocError>
+        ensures { IfOk result (λ o. o ≡ []) }
+    {
+        Ok(Ordered {
+            rising: Vec::with_capacity(alloc, capacity)?,
+            placed: BTreeMap::new(alloc),
+        })
+    }
 }
 
 impl<V: Drop> Ordered<V> {

@@ -1,9 +1,9 @@
 -- The series that meet all matchers are among those that have what is asked for by `=`.
-use Rattle.std.proofs.Common.{◌≡◌, Bool, true, false, cond, ◌&&◌, List, [], ◌∷◌, ◌++◌, map, filter, Option, Some, None, ℕ, ◌<◌, length, refl, sym, ap, subst, ◌∙◌}
+use Rattle.std.proofs.Common.{◌≡◌, Bool, true, false, cond, ◌&&◌, is_some, List, [], ◌∷◌, ◌++◌, map, filter, Option, Some, None, ℕ, ◌<◌, length, refl, sym, ap, subst, ◌∙◌}
 use Rattle.std.specs.List.{All, filter_map, list_all, cons_option}
 use Rattle.std.proofs.lemmas.List.Elements.{All-filter}
 use Rattle.pr_labels.specs.declared.pair.Pair.{Pair}
-use Rattle.pr_labels.specs.LabelSet.{pair_of, text_at}
+use Rattle.pr_labels.specs.LabelSet.{metric_label, pair_of, text_at}
 use Rattle.pr_labels.specs.Rising.{IsBelowFirstSet, IsRising, is_among}
 use Rattle.pr_labels.proofs.LabelOrder.{among_filter, labels_total, same_rising, both}
 use Rattle.pr_labels.specs.Order.{labels_cmp}
@@ -12,6 +12,7 @@ use Rattle.pr_history.specs.declared.entry.Entry.{Entry}
 use Rattle.pr_history.specs.Series.{chosen, has_values}
 use Rattle.pr_history.proofs.Choosing.{chosen_among, chosen_rising}
 use Rattle.pr_match.specs.Matcher.{LabelTest, meets, meets_all, passes}
+use Rattle.pr_match.specs.declared.op.MatchOp.TheVariants as op
 use Rattle.pr_head.specs.Stored.{Stored}
 use Rattle.pr_head.specs.Holds.{Holds, arrivals, labels_at}
 use Rattle.pr_range_calls.specs.Choosing.{is_met_by, labels_of_series}
@@ -21,7 +22,7 @@ use Rattle.pr_ast.specs.declared.selector.MatchSign.{MatchSign}
 use Rattle.pr_ast.specs.declared.selector.MatchSign.TheVariants.{Equal, NotEqual, Like, NotLike}
 use Rattle.pr_types.specs.Selectors.{match_op, name_tests, test_of, tests_of}
 use Rattle.pr_query.specs.Selection.{chosen_by}
-use Rattle.pr_range_calls.specs.Equalities.{asked_pair, asked_pairs, name_pairs, pair_by}
+use Rattle.pr_range_calls.specs.Equalities.{asked_pair, asked_pairs, is_asked, name_pairs, pair_by}
 
 abbrev Series : Type 0
 Series = List Pair × Stored
@@ -121,3 +122,33 @@ chosen_met s tests pairs head history places left named asked is holds found =
     ∙ ap (λ l. filter (meets_all l) (chosen (has_values pairs) history)) named
     ∙ ap (λ l. filter (meets_all (tests_of s)) (chosen (has_values l) history)) asked
     ∙ chosen_is history s
+
+-- a selector that asks by `=` alone asks for its pairs and no more
+pair_alone : (sign : MatchSign) (m : MatchText) (labels : List Pair) (rest : List Pair) (x : Bool) → is_some (pair_by sign (pair_of m.label m.text)) ≡ true → has_values rest labels ≡ x
+    → has_values (cons_option (pair_by sign (pair_of m.label m.text)) rest) labels ≡ (passes (match_op sign) m.text (text_at labels m.label) && x)
+pair_alone Equal m labels rest x h k = ap (λ b. passes op.Equal m.text (text_at labels m.label) && b) k
+pair_alone NotEqual m labels rest x h k = cc
+pair_alone Like m labels rest x h k = cc
+pair_alone NotLike m labels rest x h k = cc
+
+pairs_alone : (labels : List Pair) (ms : List MatchText) → list_all is_asked ms ≡ true → has_values (filter_map asked_pair ms) labels ≡ list_all (λ test. meets test labels) (map test_of ms)
+unfolding meets
+pairs_alone labels [] h = refl
+pairs_alone labels (m ∷ ms) h =
+    let parts = both (is_asked m) (list_all is_asked ms) h in
+    pair_alone m.op m labels (filter_map asked_pair ms) (list_all (λ test. meets test labels) (map test_of ms)) parts.0 (pairs_alone labels ms parts.1)
+
+named_alone : (labels : List Pair) (name : Option (List ℕ)) (ms : List MatchText) → list_all is_asked ms ≡ true
+    → has_values (name_pairs name ++ filter_map asked_pair ms) labels ≡ list_all (λ test. meets test labels) (name_tests name ++ map test_of ms)
+unfolding meets
+named_alone labels None ms h = pairs_alone labels ms h
+named_alone labels (Some name) ms h = ap (λ b. passes op.Equal name (text_at labels metric_label) && b) (pairs_alone labels ms h)
+
+met_alone : (s : Selector) (labels : List Pair) → list_all is_asked s.matchers ≡ true → has_values (asked_pairs s) labels ≡ meets_all (tests_of s) labels
+unfolding meets_all
+met_alone s labels h = named_alone labels s.name s.matchers h
+
+pub asked_alone : (s : Selector) (head : List Series) (history : List Entry) (places : List ℕ) → list_all is_asked s.matchers ≡ true → Holds head history
+    → map (labels_at (arrivals history)) places ≡ chosen (has_values (asked_pairs s)) history → map (labels_of_series head) places ≡ chosen_by s history
+asked_alone s head history places alone holds found =
+    ap (λ sets. map (labels_at sets) places) holds.numbered ∙ found ∙ ap (λ test. chosen test history) (λ j labels. met_alone s labels alone j)

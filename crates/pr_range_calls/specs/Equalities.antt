@@ -1,5 +1,5 @@
 -- What a selector asks for by `=`.
-use Rattle.std.specs.Prelude.{ℕ, List, [], ◌∷◌, ◌++◌, Option, Some, None}
+use Rattle.std.specs.Prelude.{ℕ, Bool, List, [], ◌∷◌, ◌++◌, Option, Some, None, is_some}
 use Rattle.std.specs.List.{filter_map}
 use Rattle.pr_labels.specs.declared.pair.Pair.{Pair}
 use Rattle.pr_labels.specs.LabelSet.{metric_label, pair_of}
@@ -24,3 +24,7 @@ name_pairs (Some name) = pair_of metric_label name ∷ []
 -- the metric's name, where it stands before the braces, and the pairs of the matchers with `=`
 abbrev pub asked_pairs : Selector → List Pair
 asked_pairs s = name_pairs s.name ++ filter_map asked_pair s.matchers
+
+-- whether a matcher asks for a pair
+abbrev pub is_asked : MatchText → Bool
+is_asked m = is_some (asked_pair m)

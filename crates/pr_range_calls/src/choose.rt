@@ -1,13 +1,14 @@
 // The series that a selector chooses.
 ghost use Rattle.std.specs.Prelude.{◌≡◌, ◌<◌, ◌++◌, ◌∷◌, [], List, map, filter, IfOk, OnOk, length};
-ghost use Rattle.std.specs.List.{All, filter_map};
+ghost use Rattle.std.specs.List.{All, filter_map, list_all};
 ghost use Rattle.pr_labels.specs.LabelSet.{pair_of};
 ghost use Rattle.pr_labels.specs.Rising.{IsRising};
 ghost use Rattle.pr_history.specs.declared.entry.Entry.{Entry};
-ghost use Rattle.pr_head.specs.Holds.{Holds};
+ghost use Rattle.pr_history.specs.Series.{chosen, has_values};
+ghost use Rattle.pr_head.specs.Holds.{Holds, arrivals, labels_at};
 ghost use Rattle.pr_types.specs.Selectors.{tests_of};
 ghost use Rattle.pr_query.specs.Selection.{chosen_by};
-ghost use Rattle.pr_range_calls.specs.Equalities.{asked_pair, asked_pairs, name_pairs};
+ghost use Rattle.pr_range_calls.specs.Equalities.{asked_pair, asked_pairs, is_asked, name_pairs};
 ghost use Rattle.pr_range_calls.specs.Choosing.{is_met_by, labels_of_series};
 
 use pr_ast::{MatchSign, MatchText, Selector};
@@ -91,17 +92,37 @@ fn met(
     ensures { IfOk result (λ v. v.items ≡ filter (is_met_by matchers.now head.now) numbers.now) }
 {
     let mut selection = Selection::of(alloc, matchers)?;
-    let mut met = Vec::new(alloc);
+    let mut met = Vec::with_capacity(alloc, numbers.len())?;
     for series in numbers {
         push_met(head, &mut selection, *series, &mut met)?;
     }
     Ok(met)
 }
 
-/// The series that a selector chooses, in label order, by its matchers. What it asks for by `=` is
-/// found by the head, and its other matchers are asked of what is found.
+// Whether a selector asks by `=` alone.
+fn asks_by_equal(selector: &Selector) -> bool
+    ensures { result ≡ list_all is_asked selector.now.matchers }
+{
+    selector
+        .matchers
+        .as_slice()
+        .iter()
+        .all(|matcher| matches!(matcher.op, MatchSign::Equal))
+}
+
+// The series that the head finds by what a selector asks for by `=`.
+fn asked_series(alloc: Global, head: &Head, selector: &Selector) -> Result<Vec<usize>, AllocError>
+    ensures known { IfOk result (λ v. All (λ i. i < length head.now) v.items) }
+    ensures rising { IfOk result (λ v. IsRising (map (labels_of_series head.now) v.items)) }
+    ensures chosen { (history : List Entry) → Holds head.now history
+        → IfOk result (λ v. map (labels_at (arrivals history)) v.items ≡ chosen (has_values (asked_pairs selector.now)) history) }
+{
+    head.select(&asked_pairs(alloc, selector)?)
+}
+
+// The series that a selector chooses, by all of its matchers.
 #[tactic(auto, using(crate::proofs::Choosing::known_met, crate::proofs::Choosing::rising_met, crate::proofs::Choosing::chosen_met))]
-pub fn chosen_series(
+fn met_series(
     alloc: Global,
     head: &Head,
     selector: &Selector,
@@ -116,4 +137,24 @@ pub fn chosen_series(
     let numbers = head.select(&pairs)?;
     let chosen = met(alloc, head, matchers, &numbers)?;
     Ok(chosen)
+}
+
+/// The series that a selector chooses, in label order, by its matchers. What it asks for by `=` is
+/// found by the head, and where it has other matchers, these are asked of what is found.
+#[tactic(auto, using(crate::proofs::Choosing::asked_alone))]
+pub fn chosen_series(
+    alloc: Global,
+    head: &Head,
+    selector: &Selector,
+    matchers: &[Matcher],
+) -> Result<Vec<usize>, AllocError>
+    requires { matchers.now ≡ tests_of selector.now }
+    ensures known { IfOk result (λ v. All (λ i. i < length head.now) v.items) }
+    ensures rising { IfOk result (λ v. IsRising (map (labels_of_series head.now) v.items)) }
+    ensures chosen { (history : List Entry) → Holds head.now history → IfOk result (λ v. map (labels_of_series head.now) v.items ≡ chosen_by selector.now history) }
+{
+    if asks_by_equal(selector) {
+        return asked_series(alloc, head, selector);
+    }
+    met_series(alloc, head, selector, matchers)
 }

@@ -63,7 +63,7 @@ fn items_of(alloc: Global, head: &Head, answers: &[Answer]) -> Result<Vec<Item<N
     requires { All (λ x. x.series < length head.now) answers.now }
     ensures { IfOk result (λ v. v.items ≡ map (answer_element head.now) answers.now) }
 {
-    let mut items = Vec::new(alloc);
+    let mut items = Vec::with_capacity(alloc, answers.len())?;
     for answer in answers {
         items.push(answer_element(alloc, head, answer)?)?;
     }
