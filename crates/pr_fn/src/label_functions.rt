@@ -12,7 +12,7 @@ ghost use Rattle.pr_fn.specs.Separated.{with_rest};
 use crate::fn_fault::FnFault;
 use crate::rows::{no_rows, put, told_apart};
 use pr_labels::{Item, Labels};
-use pr_match::Pattern;
+use pr_match::{Expander, Pattern};
 use pr_num::Num;
 use pr_words::Text;
 use std::alloc::{AllocError, Global};
@@ -42,16 +42,16 @@ fn with_label(alloc: Global, labels: &Labels, name: &str, text: &str) -> Result<
 // The labels with one of them set to what a pattern and a template make of another.
 fn with_expansion(
     alloc: Global,
+    expander: &mut Expander<'_>,
     labels: &Labels,
     dst: &str,
-    template: &str,
     src: &str,
-    pattern: &Pattern,
 ) -> Result<Labels, AllocError>
     requires { is_label_name dst.now ≡ true }
-    ensures { IfOk result (λ l. l ≡ set_if_any labels.now dst.now (expanded pattern.now (text_at labels.now src.now) template.now)) }
+    ensures made { IfOk result (λ l. l ≡ set_if_any labels.now dst.now (expanded expander.old.pattern (text_at labels.now src.now) expander.old.template)) }
+    ensures same { expander.new ≡ expander.old }
 {
-    match pattern.expand(alloc, text_at(labels, src), template)? {
+    match expander.expand(alloc, text_at(labels, src))? {
         None => labels.copy(alloc),
         Some(text) => with_label(alloc, labels, dst, text.as_str()),
     }
@@ -79,9 +79,10 @@ pub fn label_replace(
         (λ e. IfSome (function_told e) (λ fault. label_replaced dst.now src.now (λ text. expanded pattern.now text template.now) vector.now ≡ Err fault)) }
     ensures vector { IfOk result (λ v. IsVector v.items) }
 {
-    let mut rows = no_rows(alloc);
+    let mut expander = pattern.expander(alloc, template)?;
+    let mut rows = no_rows(alloc, vector.len())?;
     for item in vector {
-        let labels = with_expansion(alloc, &item.labels, dst, template, src, pattern)?;
+        let labels = with_expansion(alloc, &mut expander, &item.labels, dst, src)?;
         put(&mut rows, labels, item.value)?;
     }
     told_apart(rows)
@@ -143,7 +144,7 @@ pub fn label_join(
         (λ e. IfSome (function_told e) (λ fault. label_joined dst.now separator.now names.now vector.now ≡ Err fault)) }
     ensures vector { IfOk result (λ v. IsVector v.items) }
 {
-    let mut rows = no_rows(alloc);
+    let mut rows = no_rows(alloc, vector.len())?;
     for item in vector {
         let text = joined_text(alloc, &item.labels, separator, names)?;
         let labels = with_label(alloc, &item.labels, dst, text.as_str())?;

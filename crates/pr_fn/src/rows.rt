@@ -20,14 +20,14 @@ pub struct Rows {
     pub again: Option<Labels>,
 }
 
-/// No elements.
-pub fn no_rows(alloc: Global) -> Rows
-    ensures { AreRows [] result }
+/// No elements, with room for so many.
+pub fn no_rows(alloc: Global, capacity: usize) -> Result<Rows, AllocError>
+    ensures { IfOk result (AreRows []) }
 {
-    Rows {
-        elements: Ordered::new(alloc),
+    Ok(Rows {
+        elements: Ordered::with_capacity(alloc, capacity)?,
         again: None,
-    }
+    })
 }
 
 fn is_below(labels: &Labels, least: &Option<Labels>) -> bool

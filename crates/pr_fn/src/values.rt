@@ -61,7 +61,7 @@ fn map_all<O: Fn(Num) -> Result<Num, TooWide>>(
         (λ rows. (list_any (is_too_wide f) vector.now ≡ false) × AreRows (filter_map (with_value f) vector.now) rows)
         (λ e. e ≢ FnFault.Memory → (e ≡ FnFault.TooWide) × (list_any (is_too_wide f) vector.now ≡ true)) }
 {
-    let mut rows = no_rows(alloc);
+    let mut rows = no_rows(alloc, vector.len())?;
     for item in vector {
         if let Err(fault) = map_one(alloc, &mut rows, item, op) {
             return Err(fault);
@@ -105,7 +105,7 @@ pub fn without_metrics(alloc: Global, vector: &[Item<Num>]) -> Result<Vec<Item<N
         (λ e. IfSome (function_told e) (λ fault. told_apart (map without_metric vector.now) ≡ Err fault)) }
     ensures vector { IfOk result (λ v. IsVector v.items) }
 {
-    let mut rows = no_rows(alloc);
+    let mut rows = no_rows(alloc, vector.len())?;
     for item in vector {
         let labels = unnamed(alloc, &item.labels)?;
         put(&mut rows, labels, item.value)?;
