@@ -6,6 +6,7 @@ pub mod KnownNames
 pub mod Sound
 pub mod Shapes
 pub mod Leading
+pub mod RunSteps
 pub mod OnLiterals
 pub mod Completes
 pub mod Told

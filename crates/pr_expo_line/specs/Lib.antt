@@ -1,6 +1,7 @@
 pub mod Characters
 pub mod Number
 pub mod Line
+pub mod Runs
 pub mod KnownNames
 pub mod Grammar
 pub mod GrammarTable

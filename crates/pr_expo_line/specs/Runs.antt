@@ -1,0 +1,51 @@
+-- Runs: characters that keep a line at its place, and only lengthen a text there. They say nothing
+-- of what a line reads as.
+use Rattle.std.specs.Prelude.{◌≡◌, ℕ, Bool, true, false, not, ◌==◌, ◌||◌, List, ◌++◌}
+use Rattle.std.specs.List.{list_all}
+use Rattle.std.specs.Char.{is_ascii_digit}
+use Rattle.std.specs.Str.{chars}
+use Prim.Native.Char.{code}
+use Rattle.pr_words.specs.Bytes.{is_label_byte}
+use Rattle.pr_labels.specs.Names.{is_metric_byte}
+use Rattle.pr_expo_line.specs.declared.number.NumberPlace.{NumberPlace}
+use Rattle.pr_expo_line.specs.declared.number.NumberPlace.TheVariants.{Whole, Fraction, ExponentDigits}
+use Rattle.pr_expo_line.specs.declared.place.Place.{Place}
+use Rattle.pr_expo_line.specs.declared.place.Place.TheVariants.{Passed, InFamily, InHelp, InName, InLabel, InValue, InNumber}
+
+-- what ends a value, or begins an escape in it, and every other character of it
+abbrev pub ends_plain : ℕ → Bool
+ends_plain c = c == code "\"" || c == code "\\"
+
+abbrev pub is_plain : ℕ → Bool
+is_plain c = not (ends_plain c)
+
+-- whether a character only lengthens the number's text
+abbrev pub lengthens_number : NumberPlace → ℕ → Bool
+lengthens_number Whole c = is_ascii_digit c
+lengthens_number Fraction c = is_ascii_digit c
+lengthens_number ExponentDigits c = is_ascii_digit c
+lengthens_number _ c = false
+
+-- whether a character only lengthens the text at the place
+abbrev pub lengthens : Place → ℕ → Bool
+lengthens Passed c = true
+lengthens (InFamily w name) c = is_metric_byte c
+lengthens (InHelp name) c = true
+lengthens (InName name) c = is_metric_byte c
+lengthens (InLabel head name) c = is_label_byte c
+lengthens (InValue head name value) c = is_plain c
+lengthens (InNumber head place text) c = lengthens_number place c
+lengthens _ c = false
+
+-- the place with these bytes behind its text
+abbrev pub longer : Place → List ℕ → Place
+longer (InFamily w name) run = InFamily w (name ++ run)
+longer (InName name) run = InName (name ++ run)
+longer (InLabel head name) run = InLabel head (name ++ run)
+longer (InValue head name value) run = InValue head name (value ++ run)
+longer (InNumber head place text) run = InNumber head place (text ++ run)
+longer place run = place
+
+-- each character of the text only lengthens the one at the place
+abbrev pub IsRun : Place → List ℕ → Type 0
+IsRun place run = list_all (lengthens place) (chars run) ≡ true

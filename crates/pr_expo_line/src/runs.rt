@@ -1,0 +1,149 @@
+// Runs: the characters that keep a line at its place, and only lengthen a text there.
+ghost use Rattle.std.specs.Prelude.{◌≡◌, ◌++◌, IfOk, not, position, take, true};
+ghost use Rattle.std.specs.Char.{is_ascii_digit};
+ghost use Rattle.std.specs.List.{list_all, position_or_len};
+ghost use Rattle.std.specs.Str.{chars, IsCharBoundary};
+ghost use Rattle.pr_words.specs.Bytes.{is_label_byte};
+ghost use Rattle.pr_labels.specs.Names.{is_metric_byte};
+ghost use Rattle.pr_expo_line.specs.Runs.{ends_plain, is_plain, lengthens_number, IsRun, longer};
+
+use crate::characters::{is_label_byte, is_metric_byte};
+use crate::number::NumberPlace;
+use crate::place::Place;
+use pr_words::Text;
+use std::alloc::AllocError;
+
+fn after_metric(text: &[u8]) -> Option<usize>
+    ensures { result ≡ position (λ b. not (is_metric_byte b)) text.now }
+{
+    text.iter().position(|b| !is_metric_byte(*b as char))
+}
+
+/// How many bytes stand before the first that is none of a metric's name.
+fn metric_bytes(text: &[u8]) -> usize
+    ensures { result ≡ position_or_len (λ b. not (is_metric_byte b)) text.now }
+{
+    after_metric(text).unwrap_or(text.len())
+}
+
+fn after_label(text: &[u8]) -> Option<usize>
+    ensures { result ≡ position (λ b. not (is_label_byte b)) text.now }
+{
+    text.iter().position(|b| !is_label_byte(*b as char))
+}
+
+fn label_bytes(text: &[u8]) -> usize
+    ensures { result ≡ position_or_len (λ b. not (is_label_byte b)) text.now }
+{
+    after_label(text).unwrap_or(text.len())
+}
+
+fn after_digits(text: &[u8]) -> Option<usize>
+    ensures { result ≡ position (λ b. not (is_ascii_digit b)) text.now }
+{
+    text.iter().position(|b| !b.is_ascii_digit())
+}
+
+fn digits(text: &[u8]) -> usize
+    ensures { result ≡ position_or_len (λ b. not (is_ascii_digit b)) text.now }
+{
+    after_digits(text).unwrap_or(text.len())
+}
+
+fn after_plain(text: &[u8]) -> Option<usize>
+    ensures { result ≡ position ends_plain text.now }
+{
+    text.iter().position(|b| *b == b'"' || *b == b'\\')
+}
+
+/// How many bytes stand before the first that ends a value or begins an escape in it.
+fn plain_bytes(text: &[u8]) -> usize
+    ensures { result ≡ position_or_len ends_plain text.now }
+{
+    after_plain(text).unwrap_or(text.len())
+}
+
+/// How much of the text's front may stand in a metric's name.
+#[tactic(auto, using(crate::proofs::RunSteps::metric_boundary, crate::proofs::RunSteps::metric_run))]
+fn metric_len(text: &str) -> usize
+    ensures boundary { IsCharBoundary text.now result }
+    ensures run { list_all is_metric_byte (chars (take result text.now)) ≡ true }
+{
+    metric_bytes(text.as_bytes())
+}
+
+#[tactic(auto, using(crate::proofs::RunSteps::label_boundary, crate::proofs::RunSteps::label_run))]
+fn label_len(text: &str) -> usize
+    ensures boundary { IsCharBoundary text.now result }
+    ensures run { list_all is_label_byte (chars (take result text.now)) ≡ true }
+{
+    label_bytes(text.as_bytes())
+}
+
+#[tactic(auto, using(crate::proofs::RunSteps::digits_boundary, crate::proofs::RunSteps::digits_run))]
+fn digits_len(text: &str) -> usize
+    ensures boundary { IsCharBoundary text.now result }
+    ensures run { list_all is_ascii_digit (chars (take result text.now)) ≡ true }
+{
+    digits(text.as_bytes())
+}
+
+#[tactic(auto, using(crate::proofs::RunSteps::plain_boundary, crate::proofs::RunSteps::plain_run))]
+fn plain_len(text: &str) -> usize
+    ensures boundary { IsCharBoundary text.now result }
+    ensures run { list_all is_plain (chars (take result text.now)) ≡ true }
+{
+    plain_bytes(text.as_bytes())
+}
+
+#[tactic(auto, using(crate::proofs::RunSteps::no_boundary, crate::proofs::RunSteps::no_run))]
+fn number_len(place: NumberPlace, text: &str) -> usize
+    ensures boundary { IsCharBoundary text.now result }
+    ensures run { list_all (lengthens_number place) (chars (take result text.now)) ≡ true }
+{
+    match place {
+        NumberPlace::Whole | NumberPlace::Fraction | NumberPlace::ExponentDigits => {
+            digits_len(text)
+        }
+        _ => 0,
+    }
+}
+
+/// How much of the text's front only lengthens the text at the place.
+#[tactic(auto, using(crate::proofs::RunSteps::no_boundary, crate::proofs::RunSteps::no_run, crate::proofs::RunSteps::whole_boundary, crate::proofs::RunSteps::passed_run, crate::proofs::RunSteps::help_run))]
+pub(crate) fn run_len(place: &Place, text: &str) -> usize
+    ensures boundary { IsCharBoundary text.now result }
+    ensures run { IsRun place.now (take result text.now) }
+{
+    match place {
+        Place::Passed | Place::InHelp(_) => text.len(),
+        Place::InFamily(_, _) | Place::InName(_) => metric_len(text),
+        Place::InLabel(_, _) => label_len(text),
+        Place::InValue(_, _, _) => plain_len(text),
+        Place::InNumber(_, place, _) => number_len(*place, text),
+        _ => 0,
+    }
+}
+
+/// The text with a run behind it.
+fn joined(text: Text, run: &str) -> Result<Text, AllocError>
+    ensures { IfOk result (λ t. t ≡ text ++ run.now) }
+{
+    let mut inner = text.into_string();
+    inner.push_str(run)?;
+    Ok(Text::new(inner))
+}
+
+/// The place after a run.
+pub(crate) fn lengthened(place: Place, run: &str) -> Result<Place, AllocError>
+    ensures { IfOk result (λ p. p ≡ longer place run.now) }
+{
+    match place {
+        Place::InFamily(word, name) => Ok(Place::InFamily(word, joined(name, run)?)),
+        Place::InName(name) => Ok(Place::InName(joined(name, run)?)),
+        Place::InLabel(head, name) => Ok(Place::InLabel(head, joined(name, run)?)),
+        Place::InValue(head, name, value) => Ok(Place::InValue(head, name, joined(value, run)?)),
+        Place::InNumber(head, place, text) => Ok(Place::InNumber(head, place, joined(text, run)?)),
+        place => Ok(place),
+    }
+}
