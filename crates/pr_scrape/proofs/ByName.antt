@@ -70,8 +70,8 @@ pub set_stays_put : (name value : List ℕ) (es : Entries) → IsLabelSet (label
 set_stays_put name value es s l = rw (put_in_map name value es s l) (set_stays (labels_in es) name value l.name s)
 
 -- where the labels of a set were all put in, they are there
-pub all_put : (rest ps ls : List Pair) → length rest ≡ 0 → (IsLabelSet rest → IsLabelSet ls) → fold set_pair ps rest ≡ labels_of ls → ps ≡ ls
-all_put [] ps ls n s e = e ∙ sym (set_again ls (s tt))
+pub all_put : (rest ps ls : List Pair) → length rest ≡ 0 → IsLabelSet ls → fold set_pair ps rest ≡ labels_of ls → ps ≡ ls
+all_put [] ps ls n s e = e ∙ sym (set_again ls s)
 all_put (p ∷ rest) ps ls n s e = absurd (omega arith)
 
 -- and they make the set

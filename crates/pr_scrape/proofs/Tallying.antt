@@ -1,14 +1,12 @@
 -- The samples of a body, in parts.
-use Rattle.std.proofs.Common.{◌≡◌, ℕ, ◌+◌, Result, OnOk, OnErr, zero-add, Bool, true, false, cond, not, ◌&&◌, Option, Some, None, List, [], ◌∷◌, ◌++◌, map, fold, refl, sym, ap, ◌∙◌, subst, append_assoc, append-nil, add_assoc, arith}
+use Rattle.std.proofs.Common.{◌≡◌, ℕ, ◌+◌, Result, OnOk, OnErr, zero-add, Bool, true, false, cond, not, ◌&&◌, Option, Some, None, List, [], ◌∷◌, ◌++◌, map, refl, sym, ap, ◌∙◌, subst, append_assoc, append-nil, add_assoc, arith}
 use Rattle.std.specs.Prelude.{count_by, is_none}
 use Rattle.std.specs.List.{cons_option, filter_map}
 use Rattle.std.specs.declared.result.Result.TheVariants.{Ok, Err}
 use Rattle.pr_intake.specs.Intake.{HasTakenFront, Puts, Series}
 use Rattle.std.proofs.lemmas.List.{map-append}
 use Rattle.std.proofs.lemmas.List.Elements.{filter_map-append}
-use Rattle.std.proofs.lemmas.List.Sums.{fold-append}
 use Rattle.pr_labels.specs.declared.pair.Pair.{Pair}
-use Rattle.pr_labels.specs.Rising.{is_among, with_labels}
 use Rattle.pr_history.specs.declared.append.Append.{Append}
 use Rattle.pr_history.specs.declared.entry.Entry.{Entry}
 use Rattle.pr_history.specs.Admission.{admit, put, put_all}
@@ -57,9 +55,9 @@ tallies_then a b c target now xs ys history p q =
           ∙ add_assoc a.dropped (dropped_count target now xs history) (dropped_count target now ys after)
           ∙ ap (λ (n : ℕ). a.dropped + n) (sym (dropped_parts target now xs ys history));
       kept = q.kept
-          ∙ ap (λ (l : List (List Pair)). fold with_labels l (kept_sets after (offers target now ys))) p.kept
-          ∙ sym (fold-append with_labels a.kept.keys (kept_sets history (offers target now xs)) (kept_sets after (offers target now ys)))
-          ∙ ap (λ (l : List (List Pair)). fold with_labels a.kept.keys l) (sym (kept_parts history (offers target now xs) (offers target now ys)) ∙ ap (kept_sets history) (sym (offers_parts target now xs ys)));
+          ∙ ap (λ (l : List (List Pair)). l ++ kept_sets after (offers target now ys)) p.kept
+          ∙ append_assoc a.kept.items (kept_sets history (offers target now xs)) (kept_sets after (offers target now ys))
+          ∙ ap (λ (l : List (List Pair)). a.kept.items ++ l) (sym (kept_parts history (offers target now xs) (offers target now ys)) ∙ ap (kept_sets history) (sym (offers_parts target now xs ys)));
     }
 
 -- one offer
@@ -77,7 +75,7 @@ one_front res o target now line is a b history p = subst (λ (x : Option Offer).
 
 one_tally : (old new : Tally) (target : List Pair) (now : ℕ) (line : Line) (history : List Entry)
     → new.dropped ≡ old.dropped + (cond (is_none (offer_of target now line)) 1 0 + refused_count history (offered_entries (cons_option (offer_of target now line) [])))
-    → new.kept.keys ≡ fold with_labels old.kept.keys (kept_sets history (cons_option (offer_of target now line) []))
+    → new.kept.items ≡ old.kept.items ++ (kept_sets history (cons_option (offer_of target now line) []))
     → Tallies old new target now (line ∷ []) history
 one_tally old new target now line history d k = record {
   dropped = d ∙ ap (λ (n : ℕ). old.dropped + (n + refused_count history (offered_entries (cons_option (offer_of target now line) [])))) (sym (zero-add (cond (is_none (offer_of target now line)) 1 0)));
@@ -87,10 +85,10 @@ one_tally old new target now line history d k = record {
 pub one_tallies : {T E : Type 0} (res : Result T E) (o : Option Offer) (target : List Pair) (now : ℕ) (line : Line) → o ≡ offer_of target now line
     → (old new : Tally) (history : List Entry)
     → OnOk res (new.dropped ≡ old.dropped + (cond (is_none o) 1 0 + refused_count history (offered_entries (cons_option o []))))
-    → OnOk res (new.kept.keys ≡ fold with_labels old.kept.keys (kept_sets history (cons_option o [])))
+    → OnOk res (new.kept.items ≡ old.kept.items ++ (kept_sets history (cons_option o [])))
     → OnOk res (Tallies old new target now (line ∷ []) history)
 one_tallies (Err e) o target now line is old new history d k = tt
 one_tallies (Ok v) o target now line is old new history d k =
     one_tally old new target now line history
     (subst (λ (x : Option Offer). new.dropped ≡ old.dropped + (cond (is_none x) 1 0 + refused_count history (offered_entries (cons_option x [])))) is d)
-    (subst (λ (x : Option Offer). new.kept.keys ≡ fold with_labels old.kept.keys (kept_sets history (cons_option x []))) is k)
+    (subst (λ (x : Option Offer). new.kept.items ≡ old.kept.items ++ (kept_sets history (cons_option x []))) is k)

@@ -1,3 +1,4 @@
 pub mod ByName
+pub mod Making
 pub mod Tallying
 pub mod Knowing

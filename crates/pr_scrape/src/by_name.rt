@@ -1,32 +1,15 @@
 // Labels that are kept by name in an ordered map, so that one of many is found, taken out or put
 // in after a few steps.
-ghost use Rattle.std.specs.Prelude.{◌≡◌, true, IfOk, OnOk};
+ghost use Rattle.std.specs.Prelude.{◌≡◌, IfOk, OnOk};
 ghost use Rattle.pr_labels.specs.Edits.{set_label, without_name};
-ghost use Rattle.pr_labels.specs.LabelSet.{IsBelowFirst, IsLabel, IsLabelSet, pair_of};
+ghost use Rattle.pr_labels.specs.LabelSet.{IsLabel, IsLabelSet, pair_of};
 ghost use Rattle.pr_world.specs.Scrapes.{has};
 ghost use Rattle.pr_scrape.specs.ByName.{labels_in};
 
-use pr_labels::{Labels, Pair, is_label_name};
+use pr_labels::{Labels, Pair};
 use pr_words::Text;
 use std::alloc::{AllocError, Global};
 use std::collections::BTreeMap;
-
-// Whether a name is below that of the first pair.
-fn is_below_first(name: &Text, pairs: &[Pair]) -> bool
-    ensures { result ≡ true → IsBelowFirst name.now pairs.now }
-{
-    match pairs.first() {
-        Some(first) => name.cmp(&first.name).is_lt(),
-        None => true,
-    }
-}
-
-// Whether a pair is a label.
-fn is_label(pair: &Pair) -> bool
-    ensures { result ≡ true → IsLabel pair.now }
-{
-    is_label_name(pair.name.as_str().as_bytes()) && !pair.value.as_str().is_empty()
-}
 
 // Puts a label in, instead of the one with its name.
 #[tactic(auto, using(crate::proofs::ByName::put_in_map, crate::proofs::ByName::set_stays_put))]
@@ -63,18 +46,14 @@ pub(crate) fn is_in(named: &BTreeMap<Text, Text>, name: &Text) -> bool
     named.contains_key(name)
 }
 
-/// The labels of a set by name. Every value of `Labels` is a label set; but that is known to its
-/// own crate alone, so it is looked at here, and pairs that are none are refused.
+/// The labels of a set by name.
 pub(crate) fn by_name(alloc: Global, pairs: &[Pair]) -> Result<BTreeMap<Text, Text>, AllocError>
-    ensures set { OnOk result (IsLabelSet pairs.now) }
-    ensures all { IfOk result (λ named. labels_in named.entries ≡ pairs.now) }
+    requires { IsLabelSet pairs.now }
+    ensures { IfOk result (λ named. labels_in named.entries ≡ pairs.now) }
 {
     let mut named = BTreeMap::new(alloc);
     let mut rest = pairs;
     'naming: while let Some((pair, after)) = rest.split_first() {
-        if !is_label(pair) || !is_below_first(&pair.name, after) {
-            return Err(AllocError);
-        }
         put(alloc, &mut named, pair.name.copy(alloc)?, &pair.value)?;
         rest = after;
     }

@@ -7,8 +7,8 @@ ghost use Rattle.pr_expo.specs.Families.{exposition_of};
 ghost use Rattle.pr_world.specs.Scrapes.{about, failed, gone_of, marker, reported, sample_count_of, scrape_of, scraped, scraped_by, up_of};
 ghost use Rattle.pr_intake.specs.Intake.{HasTaken, HasTakenFront, Puts};
 
+use crate::known::Known;
 use crate::named::metric_of;
-use crate::tally::put_lines;
 use pr_expo::{ExpoError, Line};
 use pr_head::Head;
 use pr_history::Entry;
@@ -20,6 +20,7 @@ use pr_words::Items;
 use pr_world::{BodyFault, Scraped};
 use std::alloc::{AllocError, Global};
 use std::collections::BTreeSet;
+use std::mem;
 
 // A number that is said of a target.
 fn reported(labels: Labels, now: Ms, n: u64) -> Entry
@@ -84,35 +85,27 @@ fn put_ends(
     put_two(head, rows, first, marker(alloc, now, &labels)?)
 }
 
-// The label sets of a set, in order.
-fn in_order(alloc: Global, sets: BTreeSet<Labels>) -> Result<Vec<Labels>, AllocError>
-    ensures { IfOk result (λ v. v.items ≡ sets.keys) }
-{
-    sets.into_iter().collect(alloc)
-}
-
 // A scrape whose body has these samples.
 fn scrape_lines(
     alloc: Global,
     head: &mut Head,
-    tracked: &mut Vec<Labels>,
+    known: &mut Known,
     target: &Labels,
     now: Ms,
     lines: &[Line],
 ) -> Result<Scraped, AllocError>
-    ensures taken { (history : List Entry) → Holds head.old history → OnOk result (HasTaken head.old head.new history (scraped target.now now tracked.old.items lines.now history).entries) }
-    ensures answer { (history : List Entry) → Holds head.old history → IfOk result (λ s. s ≡ (scraped target.now now tracked.old.items lines.now history).answer) }
-    ensures tracked { (history : List Entry) → Holds head.old history → OnOk result (tracked.new.items ≡ (scraped target.now now tracked.old.items lines.now history).tracked) }
-    ensures front { (history : List Entry) → Holds head.old history → OnErr result (HasTakenFront head.old head.new history (scraped target.now now tracked.old.items lines.now history).entries) }
+    ensures taken { (history : List Entry) → Holds head.old history → OnOk result (HasTaken head.old head.new history (scraped target.now now known.old lines.now history).entries) }
+    ensures answer { (history : List Entry) → Holds head.old history → IfOk result (λ s. s ≡ (scraped target.now now known.old lines.now history).answer) }
+    ensures tracked { (history : List Entry) → Holds head.old history → OnOk result (known.new ≡ (scraped target.now now known.old lines.now history).tracked) }
+    ensures front { (history : List Entry) → Holds head.old history → OnErr result (HasTakenFront head.old head.new history (scraped target.now now known.old lines.now history).entries) }
 {
     let mut rows = Vec::new(alloc);
-    let tally = put_lines(alloc, head, &mut rows, target, now, lines)?;
+    let tally = known.put_lines(alloc, head, &mut rows, target, now, lines)?;
     let added = rows.len();
-    put_markers(alloc, head, &mut rows, now, tracked, &tally.kept)?;
+    known.track(alloc, head, &mut rows, now, tally.kept)?;
     let stale = rows.len().saturating_sub(added);
     let samples = lines.len() as u64;
     put_about(alloc, head, &mut rows, target, now, 1, samples)?;
-    *tracked = in_order(alloc, tally.kept)?;
     Ok(Scraped {
         admitted: Items::new(rows),
         fault: None,
@@ -126,21 +119,28 @@ fn scrape_lines(
 fn fail(
     alloc: Global,
     head: &mut Head,
-    tracked: &mut Vec<Labels>,
+    known: &mut Known,
     target: &Labels,
     now: Ms,
     fault: Option<BodyFault>,
 ) -> Result<Scraped, AllocError>
-    ensures taken { (history : List Entry) → Holds head.old history → OnOk result (HasTaken head.old head.new history (failed target.now now tracked.old.items fault history).entries) }
-    ensures answer { (history : List Entry) → Holds head.old history → IfOk result (λ s. s ≡ (failed target.now now tracked.old.items fault history).answer) }
-    ensures tracked { OnOk result (tracked.new.items ≡ []) }
-    ensures front { (history : List Entry) → Holds head.old history → OnErr result (HasTakenFront head.old head.new history (failed target.now now tracked.old.items fault history).entries) }
+    ensures taken { (history : List Entry) → Holds head.old history → OnOk result (HasTaken head.old head.new history (failed target.now now known.old fault history).entries) }
+    ensures answer { (history : List Entry) → Holds head.old history → IfOk result (λ s. s ≡ (failed target.now now known.old fault history).answer) }
+    ensures tracked { OnOk result (known.new ≡ []) }
+    ensures front { (history : List Entry) → Holds head.old history → OnErr result (HasTakenFront head.old head.new history (failed target.now now known.old fault history).entries) }
 {
     let mut rows = Vec::new(alloc);
-    put_markers(alloc, head, &mut rows, now, tracked, &BTreeSet::new(alloc))?;
+    put_markers(
+        alloc,
+        head,
+        &mut rows,
+        now,
+        known.as_slice(),
+        &BTreeSet::new(alloc),
+    )?;
     let stale = rows.len() as u64;
     put_about(alloc, head, &mut rows, target, now, 0, 0)?;
-    tracked.clear();
+    known.clear(alloc);
     Ok(Scraped {
         admitted: Items::new(rows),
         fault,
@@ -154,27 +154,48 @@ fn fail(
 fn scrape_body(
     alloc: Global,
     head: &mut Head,
-    tracked: &mut Vec<Labels>,
+    known: &mut Known,
     target: &Labels,
     now: Ms,
     bytes: &[u8],
 ) -> Result<Scraped, AllocError>
     requires { length bytes.now < 2 ^ 32 }
-    ensures taken { (history : List Entry) → Holds head.old history → OnOk result (HasTaken head.old head.new history (scraped_by target.now now tracked.old.items (exposition_of bytes.now) history).entries) }
-    ensures answer { (history : List Entry) → Holds head.old history → IfOk result (λ s. s ≡ (scraped_by target.now now tracked.old.items (exposition_of bytes.now) history).answer) }
-    ensures tracked { (history : List Entry) → Holds head.old history → OnOk result (tracked.new.items ≡ (scraped_by target.now now tracked.old.items (exposition_of bytes.now) history).tracked) }
-    ensures front { (history : List Entry) → Holds head.old history → OnErr result (HasTakenFront head.old head.new history (scraped_by target.now now tracked.old.items (exposition_of bytes.now) history).entries) }
+    ensures taken { (history : List Entry) → Holds head.old history → OnOk result (HasTaken head.old head.new history (scraped_by target.now now known.old (exposition_of bytes.now) history).entries) }
+    ensures answer { (history : List Entry) → Holds head.old history → IfOk result (λ s. s ≡ (scraped_by target.now now known.old (exposition_of bytes.now) history).answer) }
+    ensures tracked { (history : List Entry) → Holds head.old history → OnOk result (known.new ≡ (scraped_by target.now now known.old (exposition_of bytes.now) history).tracked) }
+    ensures front { (history : List Entry) → Holds head.old history → OnErr result (HasTakenFront head.old head.new history (scraped_by target.now now known.old (exposition_of bytes.now) history).entries) }
 {
     match pr_expo::read(alloc, bytes) {
         Ok(exposition) => {
             let lines = exposition.lines.as_slice();
-            scrape_lines(alloc, head, tracked, target, now, lines)
+            scrape_lines(alloc, head, known, target, now, lines)
         }
         Err(ExpoError::Fault { line, kind }) => {
             let fault = BodyFault { line, kind };
-            fail(alloc, head, tracked, target, now, Some(fault))
+            fail(alloc, head, known, target, now, Some(fault))
         }
         Err(ExpoError::Memory) => Err(AllocError),
+    }
+}
+
+/// Scrapes a target of which this is known, as `scrape` does.
+pub(crate) fn scrape_known(
+    alloc: Global,
+    head: &mut Head,
+    known: &mut Known,
+    target: &Labels,
+    time: Ms,
+    body: Option<&[u8]>,
+) -> Result<Scraped, AllocError>
+    requires { ForSome body (λ b. length b.now < 2 ^ 32) }
+    ensures taken { (history : List Entry) → Holds head.old history → OnOk result (HasTaken head.old head.new history (scrape_of target.now time known.old (option_copied body.entry) history).entries) }
+    ensures answer { (history : List Entry) → Holds head.old history → IfOk result (λ s. s ≡ (scrape_of target.now time known.old (option_copied body.entry) history).answer) }
+    ensures tracked { (history : List Entry) → Holds head.old history → OnOk result (known.new ≡ (scrape_of target.now time known.old (option_copied body.entry) history).tracked) }
+    ensures front { (history : List Entry) → Holds head.old history → OnErr result (HasTakenFront head.old head.new history (scrape_of target.now time known.old (option_copied body.entry) history).entries) }
+{
+    match body {
+        Some(bytes) => scrape_body(alloc, head, known, target, time, bytes),
+        None => fail(alloc, head, known, target, time, None),
     }
 }
 
@@ -205,10 +226,10 @@ pub fn scrape(
     ensures tracked { (history : List Entry) → Holds head.old history → OnOk result (tracked.new.items ≡ (scrape_of target.now time tracked.old.items (option_copied body.entry) history).tracked) }
     ensures front { (history : List Entry) → Holds head.old history → OnErr result (HasTakenFront head.old head.new history (scrape_of target.now time tracked.old.items (option_copied body.entry) history).entries) }
 {
-    match body {
-        Some(bytes) => scrape_body(alloc, head, tracked, target, time, bytes),
-        None => fail(alloc, head, tracked, target, time, None),
-    }
+    let mut known = Known::new(alloc, mem::replace(tracked, Vec::new(alloc)));
+    let scraped = scrape_known(alloc, head, &mut known, target, time, body)?;
+    *tracked = known.into_vec();
+    Ok(scraped)
 }
 
 /// Ends a target: puts a stale marker for each series that is tracked of it, and for `up` and

@@ -4,6 +4,8 @@
 
 mod by_name;
 mod calls;
+mod known;
+mod made;
 mod named;
 mod offered;
 mod tally;

@@ -2,7 +2,7 @@
 ghost use Rattle.std.specs.Prelude.{◌≡◌, IfOk};
 ghost use Rattle.pr_world.specs.Scrapes.{offer_by, offer_of, sample_time};
 
-use crate::named::scraped_labels;
+use crate::made::MadeLabels;
 use pr_expo::Line;
 use pr_history::Entry;
 use pr_labels::Labels;
@@ -42,18 +42,20 @@ fn offer(labels: Labels, is_timed: bool, time: Ms, value: Num) -> Offer
     Offer { entry, is_timed }
 }
 
-/// The offer that a sample is, unless its time is not taken or its value is too wide.
+/// The offer that a sample is of the target that is remembered, unless its time is not taken or its
+/// value is too wide.
 pub(crate) fn offer_of(
     alloc: Global,
-    target: &Labels,
+    made: &mut MadeLabels,
     now: Ms,
     line: &Line,
 ) -> Result<Option<Offer>, AllocError>
-    ensures { IfOk result (λ o. o ≡ offer_of target.now now line.now) }
+    ensures offer { IfOk result (λ o. o ≡ offer_of made.old now line.now) }
+    ensures stays { made.new ≡ made.old }
 {
     match (sample_time(now, line.time), line.value) {
         (Some(time), Some(value)) => {
-            let labels = scraped_labels(alloc, target, &line.labels)?;
+            let labels = made.next_labels(alloc, &line.labels)?;
             Ok(Some(offer(labels, line.time.is_some(), time, value)))
         }
         _ => Ok(None),

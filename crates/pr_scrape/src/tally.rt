@@ -1,31 +1,31 @@
 // The samples of a body are put, and counted.
-ghost use Rattle.std.specs.Prelude.{◌≡◌, [], ◌∷◌, ◌+◌, ◌<◌, ◌≤◌, ◌^◌, ◌&&◌, not, cond, List, OnOk, OnErr, IfOk, fold, is_none};
+ghost use Rattle.std.specs.Prelude.{◌≡◌, [], ◌∷◌, ◌++◌, ◌+◌, ◌<◌, ◌≤◌, ◌^◌, ◌&&◌, not, cond, List, OnOk, OnErr, IfOk, is_none};
 ghost use Rattle.std.specs.List.{cons_option};
-ghost use Rattle.pr_labels.specs.Rising.{with_labels};
+ghost use Rattle.pr_labels.specs.declared.pair.Pair.{Pair};
 ghost use Rattle.pr_history.specs.declared.entry.Entry.{Entry};
 ghost use Rattle.pr_head.specs.Holds.{Holds};
-ghost use Rattle.pr_world.specs.Scrapes.{dropped_count, offered_entries, is_shown, kept_sets, offers, refused_count, tracked_after};
+ghost use Rattle.pr_world.specs.Scrapes.{dropped_count, offered_entries, is_shown, kept_sets, offers, refused_count};
 ghost use Rattle.pr_intake.specs.Intake.{HasTakenFront, Puts};
 ghost use Rattle.pr_scrape.specs.Tallying.{Tallies};
 
+use crate::made::MadeLabels;
 use crate::offered::offer_of;
 use pr_expo::Line;
 use pr_head::Head;
 use pr_history::{Append, Entry};
-use pr_intake::{add_labels, is_shown, put};
+use pr_intake::{is_shown, put};
 use pr_labels::Labels;
 use pr_time::Ms;
 use pr_world::Offer;
 use std::alloc::{AllocError, Global};
-use std::collections::BTreeSet;
 
 /// What is counted while the samples of a body are put.
 #[derive(Drop)]
 pub(crate) struct Tally {
     /// How many were dropped.
     pub(crate) dropped: u64,
-    /// The series that are tracked.
-    pub(crate) kept: BTreeSet<Labels>,
+    /// The series that are to be tracked, in the order of the samples.
+    pub(crate) kept: Vec<Labels>,
 }
 
 // Counts a sample by its answer.
@@ -37,14 +37,14 @@ fn note(
 ) -> Result<(), AllocError>
     requires { tally.old.dropped < 2 ^ 63 }
     ensures dropped { OnOk result (tally.new.dropped ≡ tally.old.dropped + (cond (not (is_shown answer.now)) 1 0)) }
-    ensures kept { OnOk result (tally.new.kept.keys ≡ fold with_labels tally.old.kept.keys (cond (not is_timed && is_shown answer.now) (labels ∷ []) [])) }
+    ensures kept { OnOk result (tally.new.kept.items ≡ tally.old.kept.items ++ (cond (not is_timed && is_shown answer.now) (labels ∷ []) [])) }
 {
     if !is_shown(answer) {
         tally.dropped += 1;
         return Ok(());
     }
     if !is_timed {
-        add_labels(&mut tally.kept, labels)?;
+        tally.kept.push(labels)?;
     }
     Ok(())
 }
@@ -60,7 +60,7 @@ fn put_offer(
     requires { tally.old.dropped < 2 ^ 63 }
     ensures puts { (history : List Entry) → Holds head.old history → OnOk result (Puts head.old head.new rows.old.items rows.new.items history (offer.entry ∷ [])) }
     ensures dropped { (history : List Entry) → Holds head.old history → OnOk result (tally.new.dropped ≡ tally.old.dropped + refused_count history (offer.entry ∷ [])) }
-    ensures kept { (history : List Entry) → Holds head.old history → OnOk result (tally.new.kept.keys ≡ fold with_labels tally.old.kept.keys (kept_sets history (offer ∷ []))) }
+    ensures kept { (history : List Entry) → Holds head.old history → OnOk result (tally.new.kept.items ≡ tally.old.kept.items ++ (kept_sets history (offer ∷ []))) }
     ensures few { OnOk result (tally.new.dropped ≤ tally.old.dropped + 1) }
     ensures front { (history : List Entry) → Holds head.old history → OnErr result (HasTakenFront head.old head.new history (offer.entry ∷ [])) }
 {
@@ -81,7 +81,7 @@ fn put_some(
     requires { tally.old.dropped < 2 ^ 63 }
     ensures puts { (history : List Entry) → Holds head.old history → OnOk result (Puts head.old head.new rows.old.items rows.new.items history (offered_entries (cons_option offer []))) }
     ensures dropped { (history : List Entry) → Holds head.old history → OnOk result (tally.new.dropped ≡ tally.old.dropped + (cond (is_none offer) 1 0 + refused_count history (offered_entries (cons_option offer [])))) }
-    ensures kept { (history : List Entry) → Holds head.old history → OnOk result (tally.new.kept.keys ≡ fold with_labels tally.old.kept.keys (kept_sets history (cons_option offer []))) }
+    ensures kept { (history : List Entry) → Holds head.old history → OnOk result (tally.new.kept.items ≡ tally.old.kept.items ++ (kept_sets history (cons_option offer []))) }
     ensures few { OnOk result (tally.new.dropped ≤ tally.old.dropped + 1) }
     ensures front { (history : List Entry) → Holds head.old history → OnErr result (HasTakenFront head.old head.new history (offered_entries (cons_option offer []))) }
 {
@@ -100,40 +100,45 @@ fn put_line(
     head: &mut Head,
     rows: &mut Vec<Entry>,
     tally: &mut Tally,
-    target: &Labels,
+    made: &mut MadeLabels,
     now: Ms,
     line: &Line,
 ) -> Result<(), AllocError>
     requires { tally.old.dropped < 2 ^ 63 }
-    ensures puts { (history : List Entry) → Holds head.old history → OnOk result (Puts head.old head.new rows.old.items rows.new.items history (offered_entries (offers target.now now (line.now ∷ [])))) }
-    ensures tallies { (history : List Entry) → Holds head.old history → OnOk result (Tallies tally.old tally.new target.now now (line.now ∷ []) history) }
+    ensures puts { (target : List Pair) (history : List Entry) → made.old ≡ target → Holds head.old history → OnOk result (Puts head.old head.new rows.old.items rows.new.items history (offered_entries (offers target now (line.now ∷ [])))) }
+    ensures tallies { (target : List Pair) (history : List Entry) → made.old ≡ target → Holds head.old history → OnOk result (Tallies tally.old tally.new target now (line.now ∷ []) history) }
     ensures few { OnOk result (tally.new.dropped ≤ tally.old.dropped + 1) }
-    ensures front { (history : List Entry) → Holds head.old history → OnErr result (HasTakenFront head.old head.new history (offered_entries (offers target.now now (line.now ∷ [])))) }
+    ensures front { (target : List Pair) (history : List Entry) → made.old ≡ target → Holds head.old history → OnErr result (HasTakenFront head.old head.new history (offered_entries (offers target now (line.now ∷ [])))) }
+    ensures stays { made.new ≡ made.old }
 {
-    let offer = offer_of(alloc, target, now, line)?;
+    let offer = offer_of(alloc, made, now, line)?;
     put_some(alloc, head, rows, tally, offer)
 }
 
-/// Puts the samples of a body in order, and counts them.
+/// Puts the samples of a body in order, and counts them. The labels that were made for the last ones
+/// are shared, and those of these are remembered then.
 pub(crate) fn put_lines(
     alloc: Global,
     head: &mut Head,
     rows: &mut Vec<Entry>,
+    made: &mut MadeLabels,
     target: &Labels,
     now: Ms,
     lines: &[Line],
 ) -> Result<Tally, AllocError>
     ensures puts { (history : List Entry) → Holds head.old history → OnOk result (Puts head.old head.new rows.old.items rows.new.items history (offered_entries (offers target.now now lines.now))) }
     ensures dropped { (history : List Entry) → Holds head.old history → IfOk result (λ t. t.dropped ≡ dropped_count target.now now lines.now history) }
-    ensures kept { (history : List Entry) → Holds head.old history → IfOk result (λ t. t.kept.keys ≡ tracked_after history (offers target.now now lines.now)) }
+    ensures kept { (history : List Entry) → Holds head.old history → IfOk result (λ t. t.kept.items ≡ kept_sets history (offers target.now now lines.now)) }
     ensures front { (history : List Entry) → Holds head.old history → OnErr result (HasTakenFront head.old head.new history (offered_entries (offers target.now now lines.now))) }
 {
+    made.begin(alloc, target)?;
     let mut tally = Tally {
         dropped: 0,
-        kept: BTreeSet::new(alloc),
+        kept: Vec::new(alloc),
     };
     for line in lines {
-        put_line(alloc, head, rows, &mut tally, target, now, line)?;
+        put_line(alloc, head, rows, &mut tally, made, now, line)?;
     }
+    made.end();
     Ok(tally)
 }

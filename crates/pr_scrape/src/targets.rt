@@ -9,6 +9,7 @@ ghost use Rattle.pr_intake.specs.Intake.{HasTaken, HasTakenFront};
 ghost use Rattle.pr_scrape.specs.Knowing.{Knows};
 
 use crate::calls;
+use crate::known::Known;
 use indexmap::IndexMap;
 use pr_head::Head;
 use pr_labels::Labels;
@@ -22,7 +23,7 @@ use std::marker::Model;
 /// of it, and say of each list of targets that it stands for what becomes of it.
 #[derive(Drop)]
 pub struct Targets {
-    tracked: IndexMap<Labels, Items<Labels>>,
+    known: IndexMap<Labels, Known>,
 }
 
 impl Model for Targets {
@@ -30,7 +31,7 @@ impl Model for Targets {
 
     ghost Value = { Tracked };
 
-    ghost view = { λ t. t.tracked.entries };
+    ghost view = { λ t. t.known.entries };
 }
 
 // What comes of an order about an unknown target.
@@ -46,19 +47,19 @@ fn nothing_scraped(alloc: Global) -> Scraped
     }
 }
 
-// Ends a target of which these series are tracked.
+// Ends a target of which this is known.
 fn end(
     alloc: Global,
     head: &mut Head,
-    tracked: Items<Labels>,
+    known: Known,
     target: &Labels,
     time: Ms,
 ) -> Result<Scraped, AllocError>
-    ensures taken { (history : List Entry) → Holds head.old history → OnOk result (HasTaken head.old head.new history (gone_of target.now time tracked history).entries) }
-    ensures answer { (history : List Entry) → Holds head.old history → IfOk result (λ s. s ≡ (gone_of target.now time tracked history).answer) }
-    ensures front { (history : List Entry) → Holds head.old history → OnErr result (HasTakenFront head.old head.new history (gone_of target.now time tracked history).entries) }
+    ensures taken { (history : List Entry) → Holds head.old history → OnOk result (HasTaken head.old head.new history (gone_of target.now time known history).entries) }
+    ensures answer { (history : List Entry) → Holds head.old history → IfOk result (λ s. s ≡ (gone_of target.now time known history).answer) }
+    ensures front { (history : List Entry) → Holds head.old history → OnErr result (HasTakenFront head.old head.new history (gone_of target.now time known history).entries) }
 {
-    let mut tracked = tracked.into_vec();
+    let mut tracked = known.into_vec();
     calls::gone(alloc, head, &mut tracked, target, time)
 }
 
@@ -68,34 +69,35 @@ impl Targets {
         ensures { Knows result [] }
     {
         Targets {
-            tracked: IndexMap::new(alloc),
+            known: IndexMap::new(alloc),
         }
     }
 
-    // Makes a target unknown, and hands out what was tracked of it, where it was known.
-    fn take(&mut self, target: &Labels) -> Option<Items<Labels>>
+    // Makes a target unknown, and hands out what was known of it, where it was known.
+    fn take(&mut self, target: &Labels) -> Option<Known>
         ensures found { (targets : List Target) → Knows self.old targets → result ≡ tracked_at targets target.now }
         ensures others { (targets : List Target) → Knows self.old targets → Knows self.new (without_target targets target.now) }
     {
-        self.tracked.swap_remove(target)
+        self.known.swap_remove(target)
     }
 
-    // Makes a target unknown, and hands out what was tracked of it: nothing, where it was unknown.
-    fn take_tracked(&mut self, alloc: Global, target: &Labels) -> Vec<Labels>
-        ensures found { (targets : List Target) → Knows self.old targets → result.items ≡ tracked_of targets target.now }
+    // Makes a target unknown, and hands out what was known of it: that nothing is tracked, where it
+    // was unknown.
+    fn take_known(&mut self, alloc: Global, target: &Labels) -> Known
+        ensures found { (targets : List Target) → Knows self.old targets → result ≡ tracked_of targets target.now }
         ensures others { (targets : List Target) → Knows self.old targets → Knows self.new (without_target targets target.now) }
     {
         match self.take(target) {
-            Some(tracked) => tracked.into_vec(),
-            None => Vec::new(alloc),
+            Some(known) => known,
+            None => Known::new(alloc, Vec::new(alloc)),
         }
     }
 
     // Makes a target known that is not.
-    fn set(&mut self, target: Labels, tracked: Items<Labels>) -> Result<(), AllocError>
-        ensures { (targets : List Target) → Knows self.old (without_target targets target) → OnOk result (Knows self.new (with_tracked targets target tracked)) }
+    fn set(&mut self, target: Labels, known: Known) -> Result<(), AllocError>
+        ensures { (targets : List Target) → Knows self.old (without_target targets target) → OnOk result (Knows self.new (with_tracked targets target known)) }
     {
-        self.tracked.insert(target, tracked)?;
+        self.known.insert(target, known)?;
         Ok(())
     }
 
@@ -118,9 +120,9 @@ impl Targets {
         ensures front { (targets : List Target) (history : List Entry) → Knows self.old targets → Holds head.old history
             → OnErr result (HasTakenFront head.old head.new history (scrape_of target time (tracked_of targets target) (option_copied body.entry) history).entries) }
     {
-        let mut tracked = self.take_tracked(alloc, &target);
-        let scraped = calls::scrape(alloc, head, &mut tracked, &target, time, body)?;
-        self.set(target, Items::new(tracked))?;
+        let mut known = self.take_known(alloc, &target);
+        let scraped = calls::scrape_known(alloc, head, &mut known, &target, time, body)?;
+        self.set(target, known)?;
         Ok(scraped)
     }
 
@@ -199,7 +201,7 @@ impl Targets {
             → OnErr result (HasTakenFront head.old head.new history (gone_step targets history target.now time).entries) }
     {
         match self.take(target) {
-            Some(tracked) => end(alloc, head, tracked, target, time),
+            Some(known) => end(alloc, head, known, target, time),
             None => Ok(nothing_scraped(alloc)),
         }
     }

@@ -2,6 +2,6 @@ use Rattle.pr_scrape.specs.ByName.{labels_in}
 use Rattle.pr_scrape.proofs.ByName.{all_put}
 use Rattle.pr_scrape.proofs.by_name.by_name.Goals as goal
 
-pub returns-clause-all : goal.returns-clause-all
-returns-clause-all c =
-    all_put c.naming.rest.now (labels_in c.naming.named.entries) c.args.pairs.now c.in_default.ensures.cases c.naming.invariant.whole c.naming.invariant.all
+pub returns : goal.returns
+returns c =
+    all_put c.naming.rest.now (labels_in c.naming.named.entries) c.args.pairs.now c.in_default.ensures.cases c.requires c.naming.invariant.all

@@ -4,11 +4,11 @@ use Rattle.pr_labels.specs.LabelSet.{IsLabelSet}
 use Rattle.pr_scrape.specs.ByName.{labels_in}
 use Rattle.pr_scrape.proofs.by_name.by_name.Given as goal
 
--- those that are left come to all, and are a label set only if all are
+-- those that are left are a label set, and come to all
 abbrev pub invariant-naming : goal.invariant-naming
 invariant-naming l = record {
-  whole : IsLabelSet l.rest → IsLabelSet l.pairs;
   set : IsLabelSet (labels_in l.named.entries);
+  left : IsLabelSet l.rest;
   all : fold set_pair (labels_in l.named.entries) l.rest ≡ labels_of l.pairs;
 }
 

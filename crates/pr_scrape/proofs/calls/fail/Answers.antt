@@ -11,18 +11,18 @@ use Rattle.pr_scrape.proofs.calls.fail.Goals as goal
 
 pub returns-in_err-put_markers-clause-front : goal.returns-in_err-put_markers-clause-front
 returns-in_err-put_markers-clause-front c = λ history h.
-    let old = c.args.tracked.now.items in
-    let all : markers c.args.now c.deref.result.now c.new.result.keys ≡ map (marker c.args.now) old =
-    ap (markers c.args.now c.deref.result.now) c.new.ensures.empty ∙ markers_all c.args.now c.deref.result.now ∙ ap (map (marker c.args.now)) c.deref.ensures.value in
+    let old = c.args.known.now in
+    let all : markers c.args.now c.as_slice.result.now c.new.result.keys ≡ map (marker c.args.now) old =
+    ap (markers c.args.now c.as_slice.result.now) c.new.ensures.empty ∙ markers_all c.args.now c.as_slice.result.now ∙ ap (map (marker c.args.now)) c.as_slice.ensures in
     front_if c.from_residual.result c.args.head.now c.put_markers.new.head history (failure_entries c.args.target.now c.args.now old)
     (front_more c.args.head.now c.put_markers.new.head history (map (marker c.args.now) old) (about c.args.target.now c.args.now 0 0)
     (subst (λ (l : List Entry). HasTakenFront c.args.head.now c.put_markers.new.head history l) all (c.in_err-put_markers.ensures.front history h)))
 
 pub returns-in_err-put_about-clause-front : goal.returns-in_err-put_about-clause-front
 returns-in_err-put_about-clause-front c = λ history h.
-    let old = c.args.tracked.now.items in
-    let all : markers c.args.now c.deref.result.now c.new.result.keys ≡ map (marker c.args.now) old =
-    ap (markers c.args.now c.deref.result.now) c.new.ensures.empty ∙ markers_all c.args.now c.deref.result.now ∙ ap (map (marker c.args.now)) c.deref.ensures.value in
+    let old = c.args.known.now in
+    let all : markers c.args.now c.as_slice.result.now c.new.result.keys ≡ map (marker c.args.now) old =
+    ap (markers c.args.now c.as_slice.result.now) c.new.ensures.empty ∙ markers_all c.args.now c.as_slice.result.now ∙ ap (map (marker c.args.now)) c.as_slice.ensures in
     let p : Puts c.args.head.now c.put_markers.new.head c.new-rows.result.items c.put_markers.new.rows.items history (map (marker c.args.now) old) =
     subst (λ (l : List Entry). Puts c.args.head.now c.put_markers.new.head c.new-rows.result.items c.put_markers.new.rows.items history l) all (c.in_ok-put_markers.ensures.puts history h) in
     front_if c.from_residual-in_err-put_about.result c.args.head.now c.put_about.new.head history (failure_entries c.args.target.now c.args.now old)
@@ -31,9 +31,9 @@ returns-in_err-put_about-clause-front c = λ history h.
 
 pub returns-clause-taken : goal.returns-clause-taken
 returns-clause-taken c = λ history h.
-    let old = c.args.tracked.now.items in
-    let all : markers c.args.now c.deref.result.now c.new.result.keys ≡ map (marker c.args.now) old =
-    ap (markers c.args.now c.deref.result.now) c.new.ensures.empty ∙ markers_all c.args.now c.deref.result.now ∙ ap (map (marker c.args.now)) c.deref.ensures.value in
+    let old = c.args.known.now in
+    let all : markers c.args.now c.as_slice.result.now c.new.result.keys ≡ map (marker c.args.now) old =
+    ap (markers c.args.now c.as_slice.result.now) c.new.ensures.empty ∙ markers_all c.args.now c.as_slice.result.now ∙ ap (map (marker c.args.now)) c.as_slice.ensures in
     let p : Puts c.args.head.now c.put_markers.new.head c.new-rows.result.items c.put_markers.new.rows.items history (map (marker c.args.now) old) =
     subst (λ (l : List Entry). Puts c.args.head.now c.put_markers.new.head c.new-rows.result.items c.put_markers.new.rows.items history l) all (c.in_ok-put_markers.ensures.puts history h) in
     (puts_then c.args.head.now c.put_markers.new.head c.put_about.new.head c.new-rows.result.items c.put_markers.new.rows.items c.put_about.new.rows.items history
@@ -41,9 +41,9 @@ returns-clause-taken c = λ history h.
 
 pub returns-clause-answer : goal.returns-clause-answer
 returns-clause-answer c = λ history h.
-    let old = c.args.tracked.now.items in
-    let all : markers c.args.now c.deref.result.now c.new.result.keys ≡ map (marker c.args.now) old =
-    ap (markers c.args.now c.deref.result.now) c.new.ensures.empty ∙ markers_all c.args.now c.deref.result.now ∙ ap (map (marker c.args.now)) c.deref.ensures.value in
+    let old = c.args.known.now in
+    let all : markers c.args.now c.as_slice.result.now c.new.result.keys ≡ map (marker c.args.now) old =
+    ap (markers c.args.now c.as_slice.result.now) c.new.ensures.empty ∙ markers_all c.args.now c.as_slice.result.now ∙ ap (map (marker c.args.now)) c.as_slice.ensures in
     let p : Puts c.args.head.now c.put_markers.new.head c.new-rows.result.items c.put_markers.new.rows.items history (map (marker c.args.now) old) =
     subst (λ (l : List Entry). Puts c.args.head.now c.put_markers.new.head c.new-rows.result.items c.put_markers.new.rows.items history l) all (c.in_ok-put_markers.ensures.puts history h) in
     let whole = puts_then c.args.head.now c.put_markers.new.head c.put_about.new.head c.new-rows.result.items c.put_markers.new.rows.items c.put_about.new.rows.items history

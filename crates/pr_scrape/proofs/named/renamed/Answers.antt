@@ -10,5 +10,5 @@ returns-then-not-has_any c =
     let target = c.args.target.now in
     let labels = c.args.labels.now in
     let none : list_any (λ p. has target p.name) labels ≡ false =
-    ap (list_any (λ (p : Pair). has target p.name)) (sym c.pairs-pairs.ensures) ∙ sym c.has_any.ensures ∙ c.if-not-has_any.true in
+    ap (list_any (λ (p : Pair). has target p.name)) (sym c.pairs-pairs.ensures.all) ∙ sym c.has_any.ensures ∙ c.if-not-has_any.true in
     subst (λ (ls : List Pair). IfOk c.copy.result (λ l. l ≡ ls)) (sym (none_renamed target labels labels none)) c.copy.ensures

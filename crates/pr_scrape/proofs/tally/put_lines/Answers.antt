@@ -1,26 +1,32 @@
-use Rattle.std.proofs.Common.{◌≡◌, ◌≤◌, ◌+◌, ◌++◌, [], ◌∷◌, List, take, arith, sym, subst}
+use Rattle.std.proofs.Common.{◌≡◌, ◌≤◌, ◌+◌, ◌++◌, [], ◌∷◌, List, take, arith, sym, ◌∙◌, subst}
 use Rattle.pr_history.specs.declared.entry.Entry.{Entry}
 use Rattle.pr_history.specs.Admission.{put_all}
 use Rattle.pr_expo.specs.declared.exposition.Line.{Line}
 use Rattle.pr_world.specs.Scrapes.{offered_entries, offers}
 use Rattle.pr_scrape.specs.Tallying.{Tallies}
 use Rattle.pr_scrape.specs.declared.tally.Tally.{Tally}
-use Rattle.pr_intake.proofs.Intake.{front_if, next_front, next_of, next_puts}
+use Rattle.pr_intake.proofs.Intake.{front_if, front_none, next_front, next_of, next_puts}
 use Rattle.pr_scrape.proofs.Tallying.{offered_parts, tallies_then}
 use Rattle.pr_scrape.proofs.tally.put_lines.Goals as goal
+
+pub returns-in_err-begin-clause-front : goal.returns-in_err-begin-clause-front
+returns-in_err-begin-clause-front c = λ history h.
+    front_if c.from_residual.result c.args.head.now c.args.head.now history (offered_entries (offers c.args.target.now c.args.now c.args.lines.now))
+    (front_none c.args.head.now history (offered_entries (offers c.args.target.now c.args.now c.args.lines.now)) h)
 
 pub returns-in_err-put_line-clause-front : goal.returns-in_err-put_line-clause-front
 returns-in_err-put_line-clause-front c = λ history h.
     let g : List Line → List Entry = λ lines. offered_entries (offers c.args.target.now c.args.now lines) in
     let i = c.loop-line.line-index in
     let p = c.loop-line.invariant.puts history h in
-    front_if c.from_residual.result c.args.head.now c.put_line.new.head history (g c.args.lines.now)
+    front_if c.from_residual-in_err-put_line.result c.args.head.now c.put_line.new.head history (g c.args.lines.now)
     (next_front g (offered_parts c.args.target.now c.args.now) c.args.lines.now i c.line-item.result c.loop-line-test.true c.line-item.is
     c.args.head.now c.loop-line.head c.put_line.new.head history p.taken
-    (c.in_err-put_line.ensures.front (put_all history (g (take i c.args.lines.now))) p.taken.holds))
+    (c.in_err-put_line.ensures.front c.args.target.now (put_all history (g (take i c.args.lines.now))) c.loop-line.invariant.fit p.taken.holds))
 
 pub loop-line-preserved : goal.loop-line-preserved
 loop-line-preserved c = record {
+  fit = c.in_ok-put_line.ensures.stays ∙ c.loop-line.invariant.fit;
   few =
       let before : c.loop-line.tally.dropped ≤ c.loop-line.line-index = c.loop-line.invariant.few in
       let more : c.put_line.new.tally.dropped ≤ c.loop-line.tally.dropped + 1 = c.in_ok-put_line.ensures.few in
@@ -31,7 +37,7 @@ loop-line-preserved c = record {
       let p = c.loop-line.invariant.puts history h in
       next_puts g (offered_parts c.args.target.now c.args.now) c.args.lines.now i c.line-item.result c.loop-line-test.true c.line-item.is
       c.args.head.now c.loop-line.head c.put_line.new.head c.args.rows.now.items c.loop-line.rows.items c.put_line.new.rows.items history p
-      (c.in_ok-put_line.ensures.puts (put_all history (g (take i c.args.lines.now))) p.taken.holds);
+      (c.in_ok-put_line.ensures.puts c.args.target.now (put_all history (g (take i c.args.lines.now))) c.loop-line.invariant.fit p.taken.holds);
   tallies = λ history h.
       let g : List Line → List Entry = λ lines. offered_entries (offers c.args.target.now c.args.now lines) in
       let i = c.loop-line.line-index in
@@ -39,5 +45,5 @@ loop-line-preserved c = record {
       let empty : Tally = record { dropped = 0; kept = c.new.result } in
       subst (λ (ls : List Line). Tallies empty c.put_line.new.tally c.args.target.now c.args.now ls history) (sym (next_of c.args.lines.now i c.line-item.result c.loop-line-test.true c.line-item.is))
       (tallies_then empty c.loop-line.tally c.put_line.new.tally c.args.target.now c.args.now (take i c.args.lines.now) (c.line-item.result ∷ []) history (c.loop-line.invariant.tallies history h)
-      (c.in_ok-put_line.ensures.tallies (put_all history (g (take i c.args.lines.now))) p.taken.holds));
+      (c.in_ok-put_line.ensures.tallies c.args.target.now (put_all history (g (take i c.args.lines.now))) c.loop-line.invariant.fit p.taken.holds));
 }

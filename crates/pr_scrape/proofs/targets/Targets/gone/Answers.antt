@@ -1,5 +1,5 @@
 use Rattle.std.proofs.Common.{sym}
-use Rattle.pr_scrape.proofs.Known.{unknown_stays}
+use Rattle.pr_scrape.proofs.KnownTargets.{unknown_stays}
 use Rattle.pr_scrape.proofs.targets.Targets.gone.Goals as goal
 
 pub returns-in-None-clause-targets : goal.returns-in-None-clause-targets
