@@ -2,4 +2,4 @@ pub mod Templated
 pub mod RowLemmas
 pub mod Ruling
 pub mod Files
-pub mod Shaping
+pub mod Making

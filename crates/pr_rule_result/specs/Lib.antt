@@ -1,4 +1,4 @@
 pub mod Templates
 pub mod Coming
 pub mod Rows
-pub mod Shapes
+pub mod Making

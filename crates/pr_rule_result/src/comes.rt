@@ -12,8 +12,8 @@ ghost use Rattle.pr_rule_result.specs.Coming.{ComesTo};
 ghost use Rattle.pr_rule_result.specs.Templates.{IsTemplatesOf};
 
 use crate::error::RuleError;
+use crate::made::MadeLabels;
 use crate::ruled::ruled;
-use crate::shape::Shape;
 use crate::templates::RuleTemplates;
 use pr_ast::Place;
 use pr_labels::{Item, Labels};
@@ -56,8 +56,8 @@ fn eval_failure(place: Place, kind: FaultKind) -> RuleFailure
 /// What the answer of its expression comes to in a rule, in a group with this limit: labels,
 /// annotations and values in label order. What is recorded gets the rule's name and labels; an
 /// alert loses the metric's name, and gets the rule's labels and annotations with their templates
-/// expanded. (Prometheus: Recording rules; Alerting rules; rules/alerting.go, Eval.) What is
-/// remembered of the last result of the rule becomes that of this one.
+/// expanded. (Prometheus: Recording rules; Alerting rules; rules/alerting.go, Eval.) The labels that
+/// a rule that records made last are shared where its elements have the same labels again.
 ///
 /// # Errors
 /// The fault of the expression, with its place. Two elements that have the same labels once the
@@ -70,7 +70,7 @@ pub fn rule_result(
     limit: u32,
     rule: &RuleDef,
     templates: &RuleTemplates,
-    shape: &mut Shape,
+    made: &mut MadeLabels,
     given: Result<Value, EvalError>,
 ) -> Result<Vec<Found>, RuleError>
     ensures comes { (meant : Result Value Fault) → AnswersTo meant given → IsTemplatesOf templates.now (rule_of_def rule.now)
@@ -80,9 +80,9 @@ pub fn rule_result(
 {
     match given {
         Ok(value) => {
-            shape.fit(alloc, rule)?;
+            made.fit(alloc, rule)?;
             let elements = value_elements(alloc, value)?;
-            ruled(alloc, external, limit, rule, templates, shape, &elements)
+            ruled(alloc, external, limit, rule, templates, made, &elements)
         }
         Err(EvalError::Fault { place, kind }) => Err(RuleError::Failed {
             failure: eval_failure(place, kind),

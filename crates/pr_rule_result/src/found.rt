@@ -3,11 +3,11 @@ ghost use Rattle.std.specs.Prelude.{◌≡◌, false, true, IfOk};
 ghost use Rattle.pr_rulefile.specs.Rules.{Rule, rule_of_def};
 ghost use Rattle.pr_tmpl.specs.declared.template.External.{External};
 ghost use Rattle.pr_rules.specs.Results.{found_by, found_of};
-ghost use Rattle.pr_rule_result.specs.Shapes.{IsShapeOf};
+ghost use Rattle.pr_rule_result.specs.Making.{IsOfRule};
 ghost use Rattle.pr_rule_result.specs.Templates.{IsTemplatesOf};
 
 use crate::labels::{alerting_labels, expanded_notes};
-use crate::shape::Shape;
+use crate::made::MadeLabels;
 use crate::templates::RuleTemplates;
 use pr_labels::Item;
 use pr_lineage::Found;
@@ -17,19 +17,19 @@ use pr_tmpl::External;
 use pr_words::Items;
 use std::alloc::{AllocError, Global};
 
-// What the rule of the shape records of the element at a place.
-#[tactic(auto, using(crate::proofs::Shaping::recorded_so))]
+// What the rule of the made records of the element at a place.
+#[tactic(auto, using(crate::proofs::Making::recorded_so))]
 fn recorded(
     alloc: Global,
-    shape: &mut Shape,
+    made: &mut MadeLabels,
     place: usize,
     item: &Item<Num>,
 ) -> Result<Found, AllocError>
-    ensures found { (external : External) (rule : Rule) → shape.old ≡ (rule.name, rule.labels) → IfOk result (λ f. f ≡ found_by external rule false item.now) }
-    ensures stays { shape.new ≡ shape.old }
+    ensures found { (external : External) (rule : Rule) → made.old ≡ (rule.name, rule.labels) → IfOk result (λ f. f ≡ found_by external rule false item.now) }
+    ensures stays { made.new ≡ made.old }
 {
     Ok(Found {
-        labels: shape.recorded(alloc, place, &item.labels)?,
+        labels: made.recorded(alloc, place, &item.labels)?,
         notes: Items::empty(alloc),
         value: item.value,
     })
@@ -62,17 +62,17 @@ pub(crate) fn found_of(
     external: &External,
     rule: &RuleDef,
     templates: &RuleTemplates,
-    shape: &mut Shape,
+    made: &mut MadeLabels,
     place: usize,
     item: &Item<Num>,
 ) -> Result<Found, AllocError>
-    ensures found { IsTemplatesOf templates.now (rule_of_def rule.now) → IsShapeOf shape.old (rule_of_def rule.now)
+    ensures found { IsTemplatesOf templates.now (rule_of_def rule.now) → IsOfRule made.old (rule_of_def rule.now)
         → IfOk result (λ f. f ≡ found_of external.now (rule_of_def rule.now) item.now) }
-    ensures stays { shape.new ≡ shape.old }
+    ensures stays { made.new ≡ made.old }
 {
     if rule.alert {
         alerting(alloc, external, rule, templates, item)
     } else {
-        recorded(alloc, shape, place, item)
+        recorded(alloc, made, place, item)
     }
 }

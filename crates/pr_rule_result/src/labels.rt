@@ -3,8 +3,7 @@ ghost use Rattle.std.specs.Prelude.{◌≡◌, IfOk, OnOk};
 ghost use Rattle.pr_labels.specs.Edits.{set_label, union_labels};
 ghost use Rattle.pr_tmpl.specs.Expansion.{expansion};
 ghost use Rattle.pr_rulefile.specs.Rules.{rule_of_def};
-ghost use Rattle.pr_rules.specs.Results.{alerting_labels};
-ghost use Rattle.pr_rule_result.specs.Shapes.{made_labels};
+ghost use Rattle.pr_rules.specs.Results.{alerting_labels, made_labels};
 ghost use Rattle.pr_rule_result.specs.Templates.{AreTemplatesOf, all_expanded_by, expanded_pair_by};
 
 use crate::templates::NamedTemplate;

@@ -7,14 +7,14 @@ mod error;
 mod found;
 mod labels;
 mod laws;
+mod made;
 mod rows;
 mod ruled;
-mod shape;
 mod templates;
 
 pub use comes::rule_result;
 pub use error::RuleError;
 pub use laws::rules_that_read_have_templates;
+pub use made::MadeLabels;
 pub use ruled::limit_exceeded;
-pub use shape::Shape;
 pub use templates::{NamedTemplate, RuleTemplates, templates_of};

@@ -30,14 +30,14 @@ pub(crate) struct Rows {
     pub(crate) again: Option<Labels>,
 }
 
-/// No elements.
-pub(crate) fn no_rows(alloc: Global) -> Rows
-    ensures { AreRows [] result }
+/// No elements, with room for so many.
+pub(crate) fn no_rows(alloc: Global, capacity: usize) -> Result<Rows, AllocError>
+    ensures { IfOk result (AreRows []) }
 {
-    Rows {
-        founds: Ordered::new(alloc),
+    Ok(Rows {
+        founds: Ordered::with_capacity(alloc, capacity)?,
         again: None,
-    }
+    })
 }
 
 /// Puts an element among those so far.
@@ -82,7 +82,7 @@ fn found_in(item: Item<Row>) -> Found
 fn all_found_in(alloc: Global, items: Vec<Item<Row>>) -> Result<Vec<Found>, AllocError>
     ensures { IfOk result (λ v. v.items ≡ map found_in items.items) }
 {
-    let mut founds = Vec::new(alloc);
+    let mut founds = Vec::with_capacity(alloc, items.len())?;
     for item in items {
         founds.push(found_in(item))?;
     }

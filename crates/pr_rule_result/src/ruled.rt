@@ -6,13 +6,13 @@ ghost use Rattle.pr_rules.specs.declared.fault.RuleFault.TheVariants.{LimitExcee
 ghost use Rattle.pr_rules.specs.Results.{FoundsRise, failure, found_of, ruled, within_limit, without_place};
 ghost use Rattle.pr_rule_result.specs.Coming.{ComesTo};
 ghost use Rattle.pr_rule_result.specs.Rows.{AreRows};
-ghost use Rattle.pr_rule_result.specs.Shapes.{IsShapeOf};
+ghost use Rattle.pr_rule_result.specs.Making.{IsOfRule};
 ghost use Rattle.pr_rule_result.specs.Templates.{IsTemplatesOf};
 
 use crate::error::RuleError;
 use crate::found::found_of;
+use crate::made::MadeLabels;
 use crate::rows::{Rows, founds_apart, no_rows, put};
-use crate::shape::Shape;
 use crate::templates::RuleTemplates;
 use pr_labels::Item;
 use pr_lineage::Found;
@@ -29,15 +29,15 @@ fn put_found(
     external: &External,
     rule: &RuleDef,
     templates: &RuleTemplates,
-    shape: &mut Shape,
+    made: &mut MadeLabels,
     place: usize,
     item: &Item<Num>,
 ) -> Result<(), AllocError>
-    ensures puts { (front : List Found) → IsTemplatesOf templates.now (rule_of_def rule.now) → IsShapeOf shape.old (rule_of_def rule.now) → AreRows front rows.old
+    ensures puts { (front : List Found) → IsTemplatesOf templates.now (rule_of_def rule.now) → IsOfRule made.old (rule_of_def rule.now) → AreRows front rows.old
         → OnOk result (AreRows (front ++ found_of external.now (rule_of_def rule.now) item.now ∷ []) rows.new) }
-    ensures stays { shape.new ≡ shape.old }
+    ensures stays { made.new ≡ made.old }
 {
-    let found = found_of(alloc, external, rule, templates, shape, place, item)?;
+    let found = found_of(alloc, external, rule, templates, made, place, item)?;
     put(rows, found)
 }
 
@@ -47,19 +47,19 @@ fn all_found(
     external: &External,
     rule: &RuleDef,
     templates: &RuleTemplates,
-    shape: &mut Shape,
+    made: &mut MadeLabels,
     items: &[Item<Num>],
 ) -> Result<Rows, AllocError>
-    ensures { IsTemplatesOf templates.now (rule_of_def rule.now) → IsShapeOf shape.old (rule_of_def rule.now)
+    ensures { IsTemplatesOf templates.now (rule_of_def rule.now) → IsOfRule made.old (rule_of_def rule.now)
         → IfOk result (AreRows (map (found_of external.now (rule_of_def rule.now)) items.now)) }
 {
-    let mut rows = no_rows(alloc);
+    let mut rows = no_rows(alloc, items.len())?;
     for (place, item) in items.iter().enumerate() {
         put_found(
-            alloc, &mut rows, external, rule, templates, shape, place, item,
+            alloc, &mut rows, external, rule, templates, made, place, item,
         )?;
     }
-    shape.truncate(items.len());
+    made.truncate(items.len());
     Ok(rows)
 }
 
@@ -95,14 +95,14 @@ pub(crate) fn ruled(
     limit: u32,
     rule: &RuleDef,
     templates: &RuleTemplates,
-    shape: &mut Shape,
+    made: &mut MadeLabels,
     items: &[Item<Num>],
 ) -> Result<Vec<Found>, RuleError>
-    ensures comes { IsTemplatesOf templates.now (rule_of_def rule.now) → IsShapeOf shape.old (rule_of_def rule.now)
+    ensures comes { IsTemplatesOf templates.now (rule_of_def rule.now) → IsOfRule made.old (rule_of_def rule.now)
         → ComesTo (without_place (ruled external.now limit (rule_of_def rule.now) items.now)) result }
     ensures rising { IfOk result (λ v. FoundsRise v.items) }
 {
-    let rows = all_found(alloc, external, rule, templates, shape, items)?;
+    let rows = all_found(alloc, external, rule, templates, made, items)?;
     match founds_apart(alloc, rows) {
         Ok(founds) => {
             if rule.alert {

@@ -38,7 +38,7 @@ pub(crate) struct Offered {
 fn elements(alloc: Global, founds: Vec<Found>) -> Result<Vec<Item<Num>>, AllocError>
     ensures { IfOk result (λ v. v.items ≡ recorded founds.items) }
 {
-    let mut items = Vec::new(alloc);
+    let mut items = Vec::with_capacity(alloc, founds.len())?;
     for found in founds {
         items.push(Item {
             labels: found.labels,

@@ -24,7 +24,7 @@ use pr_eval::eval;
 use pr_head::Head;
 use pr_lineage::Found;
 use pr_range::Ranges;
-use pr_rule_result::{RuleError, RuleTemplates, Shape, rule_result};
+use pr_rule_result::{MadeLabels, RuleError, RuleTemplates, rule_result};
 use pr_rulefile::RuleDef;
 use pr_words::Steps;
 use std::sync::ledger::Ledger;
@@ -34,7 +34,7 @@ fn found<R: Ranges, G: Ledger>(
     at: &Evaluation<'_>,
     rule: &RuleDef,
     templates: &RuleTemplates,
-    shape: &mut Shape,
+    made: &mut MadeLabels,
     head: &Head,
     ranges: &mut R,
     reads: &mut Steps<G>,
@@ -58,7 +58,7 @@ fn found<R: Ranges, G: Ledger>(
         at.limit,
         rule,
         templates,
-        shape,
+        made,
         given,
     )
 }
@@ -72,7 +72,7 @@ pub(crate) fn outcome<R: Ranges, G: Ledger>(
     at: &Evaluation<'_>,
     rule: &RuleDef,
     templates: &RuleTemplates,
-    shape: &mut Shape,
+    made: &mut MadeLabels,
     records: &mut Records,
     head: &Head,
     ranges: &mut R,
@@ -92,7 +92,7 @@ pub(crate) fn outcome<R: Ranges, G: Ledger>(
         (kept_by (R.last ranges.old) (R.passed ranges.old)) (kept_by (R.last ranges.new) (R.passed ranges.new)) }
 {
     a_fault_leaves_the_records();
-    match found(at, rule, templates, shape, head, ranges, reads) {
+    match found(at, rule, templates, made, head, ranges, reads) {
         Ok(founds) => offer(at, rule, records, founds),
         Err(error) => Err(error),
     }

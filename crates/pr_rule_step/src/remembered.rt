@@ -29,7 +29,7 @@ use pr_history::Entry;
 use pr_labels::Labels;
 use pr_num::Point;
 use pr_range::Ranges;
-use pr_rule_result::{RuleError, RuleTemplates, Shape, templates_of};
+use pr_rule_result::{MadeLabels, RuleError, RuleTemplates, templates_of};
 use pr_rulefile::RuleDef;
 use pr_rules::RuleReport;
 use pr_time::{Ms, Span};
@@ -49,7 +49,7 @@ pub struct Remembered<R> {
     /// What its range selectors keep.
     pub ranges: R,
     // The labels of its last result, where it records: they are shared with the next one.
-    shape: Shape,
+    made: MadeLabels,
 }
 
 impl<R: Ranges> Remembered<R> {
@@ -65,7 +65,7 @@ impl<R: Ranges> Remembered<R> {
             previous: Items::empty(alloc),
             records: Records::new(alloc),
             ranges: R::empty(alloc),
-            shape: Shape::new(alloc),
+            made: MadeLabels::new(alloc),
         })
     }
 
@@ -106,7 +106,7 @@ impl<R: Ranges> Remembered<R> {
             at,
             rule,
             &self.templates,
-            &mut self.shape,
+            &mut self.made,
             &mut self.records,
             head,
             &mut self.ranges,

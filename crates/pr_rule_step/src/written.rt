@@ -43,7 +43,7 @@ fn write(
         → IfOk result (λ w. HasWritten at.now.tells head.old head.new rows.old.items rows.new.items last.old last.new w.told w.stale history at.now.time items.now) }
 {
     let mut told = Vec::new(at.alloc);
-    let mut wrote = Vec::new(at.alloc);
+    let mut wrote = Vec::with_capacity(at.alloc, items.len())?;
     put_samples(at, head, rows, &mut told, &mut wrote, items)?;
     let stale = mark_if(
         at.alloc,

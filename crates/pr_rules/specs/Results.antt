@@ -48,9 +48,13 @@ expanded_pair external e p = pair_of p.name (expanded_by external e (template_pa
 abbrev pub all_expanded : External → Item Num → List Pair → List Pair
 all_expanded external e pairs = map (expanded_pair external e) pairs
 
--- What is recorded gets the metric's name, and then the labels of the rule.
+-- What a rule of this name and with these labels makes of the labels of an element: they get the
+-- metric's name, and then the labels of the rule.
+abbrev pub made_labels : List ℕ → List Pair → List Pair → List Pair
+made_labels name labels from = union_labels (set_label from metric_label name) labels
+
 abbrev pub recorded_labels : Rule → Item Num → List Pair
-recorded_labels rule e = union_labels (set_label e.labels metric_label rule.name) rule.labels
+recorded_labels rule e = made_labels rule.name rule.labels e.labels
 
 -- An alert loses the metric's name, gets the labels of the rule, expanded, and then its own name.
 abbrev pub alerting_labels : External → Rule → Item Num → List Pair

@@ -1,0 +1,154 @@
+// What a rule that records remembers of its last result.
+ghost use Rattle.std.specs.Prelude.{◌≡◌, [], ℕ, true, List, IfOk, IfSome, OnOk};
+ghost use Rattle.pr_labels.specs.declared.pair.Pair.{Pair};
+ghost use Rattle.pr_rulefile.specs.Rules.{rule_of_def};
+ghost use Rattle.pr_rules.specs.Results.{made_labels};
+ghost use Rattle.pr_rule_result.specs.Making.{AreMade, IsOfRule};
+
+use crate::labels::made_labels;
+use pr_labels::{Labels, Pair, copy_pairs};
+use pr_rulefile::RuleDef;
+use pr_words::{Items, Text};
+use std::alloc::{AllocError, Global};
+use std::marker::Model;
+
+// The labels of an element, and those under which it was recorded.
+#[derive(Drop)]
+struct Made {
+    from: Labels,
+    to: Labels,
+}
+
+/// What a rule that records remembers of its last result: for each place the labels of the element
+/// and those under which it was recorded, so that these are shared where an element with the same
+/// labels comes to the place again. Contracts see the name and the labels of the rule.
+#[derive(Drop)]
+pub struct MadeLabels {
+    name: Text,
+    labels: Items<Pair>,
+    made: Vec<Made>,
+}
+
+impl Model for MadeLabels {
+    ghost use Rattle.std.specs.Prelude.{ℕ, List};
+    ghost use Rattle.pr_labels.specs.declared.pair.Pair.{Pair};
+    ghost use Rattle.pr_rule_result.specs.Making.{AreMade};
+
+    ghost Value = { List ℕ × List Pair };
+
+    ghost view = { λ s. (s.name, s.labels) };
+
+    ghost invariant = { λ s. AreMade s.name s.labels s.made.items };
+}
+
+// Under which labels the element at a place was recorded, where it had these.
+fn known<'a>(made: &'a [Made], place: usize, from: &Labels) -> Option<&'a Labels>
+    ensures { (name : List ℕ) (labels : List Pair) → AreMade name labels made.now → IfSome result (λ to. to.now ≡ made_labels name labels from.now) }
+{
+    match made.get(place) {
+        Some(one) => {
+            if one.from == *from {
+                Some(&one.to)
+            } else {
+                None
+            }
+        }
+        None => None,
+    }
+}
+
+// Remembers an element, at its place or behind all places.
+fn remember(made: &mut Vec<Made>, place: usize, one: Made) -> Result<(), AllocError>
+    ensures { (name : List ℕ) (labels : List Pair) → AreMade name labels made.old.items → one.to ≡ made_labels name labels one.from → AreMade name labels made.new.items }
+{
+    if place < made.len() {
+        made[place] = one;
+        return Ok(());
+    }
+    made.push(one)?;
+    Ok(())
+}
+
+impl MadeLabels {
+    /// Nothing is remembered, of a rule that has neither name nor labels.
+    pub fn new(alloc: Global) -> MadeLabels
+        ensures { result ≡ ([], []) }
+    {
+        MadeLabels {
+            name: Text::new(String::new(alloc)),
+            labels: Items::empty(alloc),
+            made: Vec::new(alloc),
+        }
+    }
+
+    // Nothing is remembered of a rule.
+    fn of_rule(alloc: Global, rule: &RuleDef) -> Result<MadeLabels, AllocError>
+        ensures { IfOk result (λ s. s ≡ (rule.now.name, rule.now.labels)) }
+    {
+        Ok(MadeLabels {
+            name: rule.name.copy(alloc)?,
+            labels: Items::new(copy_pairs(alloc, rule.labels.as_slice())?),
+            made: Vec::new(alloc),
+        })
+    }
+
+    // Whether it is of a rule.
+    fn is_of(&self, rule: &RuleDef) -> bool
+        ensures { result ≡ true → self.now ≡ (rule.now.name, rule.now.labels) }
+    {
+        self.name == rule.name && self.labels.as_slice() == rule.labels.as_slice()
+    }
+
+    /// Forgets what is remembered of another rule. An alert leaves it alone, since its labels come
+    /// of templates.
+    pub(crate) fn fit(&mut self, alloc: Global, rule: &RuleDef) -> Result<(), AllocError>
+        ensures { OnOk result (IsOfRule self.new (rule_of_def rule.now)) }
+    {
+        if rule.alert {
+            return Ok(());
+        }
+        if self.is_of(rule) {
+            return Ok(());
+        }
+        *self = MadeLabels::of_rule(alloc, rule)?;
+        Ok(())
+    }
+
+    // Makes the labels under which the element at a place is recorded, and remembers them.
+    fn make(&mut self, alloc: Global, place: usize, from: &Labels) -> Result<Labels, AllocError>
+        ensures made { IfOk result (λ to. to ≡ made_labels self.old.0 self.old.1 from.now) }
+        ensures stays { self.new ≡ self.old }
+    {
+        let to = made_labels(alloc, self.name.as_str(), self.labels.as_slice(), from)?;
+        let one = Made {
+            from: from.copy(alloc)?,
+            to: to.copy(alloc)?,
+        };
+        remember(&mut self.made, place, one)?;
+        Ok(to)
+    }
+
+    /// The labels under which the rule records the element at a place, which has these. They are
+    /// those of the last result, where the element at the place had the same.
+    pub(crate) fn recorded(
+        &mut self,
+        alloc: Global,
+        place: usize,
+        from: &Labels,
+    ) -> Result<Labels, AllocError>
+        ensures made { IfOk result (λ to. to ≡ made_labels self.old.0 self.old.1 from.now) }
+        ensures stays { self.new ≡ self.old }
+    {
+        match known(&self.made, place, from) {
+            Some(to) => to.copy(alloc),
+            None => self.make(alloc, place, from),
+        }
+    }
+
+    /// Forgets the elements behind so many places.
+    pub(crate) fn truncate(&mut self, places: usize)
+        ensures { self.new ≡ self.old }
+    {
+        self.made.truncate(places);
+    }
+}
