@@ -1,6 +1,7 @@
 -- Windows that go on under other numbers are found under them.
-use Rattle.std.proofs.Common.{◌≡◌, ℕ, zero, suc, ◌-◌, ◌<◌, ◌≤◌, Bool, true, false, cond, nat_eq, List, [], ◌∷◌, ◌++◌, length, get_or, set, take, drop, slice_get, Option, Some, None, option_and_then, refl, sym, ap, ◌∙◌, arith}
+use Rattle.std.proofs.Common.{◌≡◌, ℕ, zero, suc, ◌-◌, ◌≤◌, Bool, true, false, cond, nat_eq, List, [], ◌∷◌, slice_get, Option, Some, None, is_some, unwrap_or, option_and_then, refl, sym, ap, subst, ◌∙◌, arith}
 use Rattle.std.specs.Map.{lookup}
+use Rattle.std.specs.List.Retain.{RetainsInTurn}
 use Rattle.std.specs.Option.{option_map, option_map_or}
 use Rattle.std.proofs.lemmas.Grind.{common_steps}
 use borrow.Author.Tests.{eqb-true}
@@ -10,6 +11,7 @@ use Rattle.pr_slide.specs.Windows.{AreWindowsOf, HasWindow, Nodes, found, last_i
 use Rattle.pr_range.specs.Carried.{IsCarried, IsOnce, named_in, older_of}
 use Rattle.pr_slide.specs.Carried.{carried, number_from, renumbered}
 use Rattle.pr_slide.specs.Places.{AreApart, IsAbsent, numbers_of}
+use Rattle.pr_slide.proofs.Nodes.{Row}
 
 -- a number that goes on from an older one names it
 number_is : (at j : ℕ) (from : List (Option ℕ)) (k : ℕ) → number_from at j from ≡ Some k → (at ≤ k) × (slice_get from (k - at) ≡ Some (Some j))
@@ -125,25 +127,17 @@ fits_carried from nodes history once fits = λ k q w at. by q w (older_of from k
   by q w None e = absurd (cc)
   by q w (Some j) e = fits j q w e
 
--- the windows at a place get their number, or go
-pub renumbered_at : (from : List (Option ℕ)) (nodes : Nodes) (i j number : ℕ) (d : ℕ × List (ℕ × Window)) → j ≡ suc i → i < length nodes → number_from 0 (get_or nodes i d).0 from ≡ Some number
-    → take j (set nodes i (number, (get_or nodes i d).1)) ++ carried from (drop j (set nodes i (number, (get_or nodes i d).1))) ≡ take i nodes ++ carried from (drop i nodes)
-renumbered_at from nodes i j number d e h found =
-    ap (λ n. take n (set nodes i (number, (get_or nodes i d).1)) ++ carried from (drop n (set nodes i (number, (get_or nodes i d).1)))) e ∙ by nodes i h found where
-      by : (nodes : Nodes) (i : ℕ) → i < length nodes → number_from 0 (get_or nodes i d).0 from ≡ Some number
-          → take (suc i) (set nodes i (number, (get_or nodes i d).1)) ++ carried from (drop (suc i) (set nodes i (number, (get_or nodes i d).1))) ≡ take i nodes ++ carried from (drop i nodes)
-      by [] i h k = absurd (omega arith)
-      by (n ∷ nodes) zero h k = ap (λ o. renumbered o n.1 (carried from nodes)) (sym k)
-      by (n ∷ nodes) (suc i) h k = ap (λ l. n ∷ l) (by nodes i (omega arith) k)
-
-pub removed_at : (from : List (Option ℕ)) (nodes nodes' : Nodes) (i j : ℕ) (d : ℕ × List (ℕ × Window)) → j ≡ suc i → nodes' ≡ take i nodes ++ drop j nodes → i < length nodes → number_from 0 (get_or nodes i d).0 from ≡ None
-    → take i nodes' ++ carried from (drop i nodes') ≡ take i nodes ++ carried from (drop i nodes)
-removed_at from nodes nodes' i j d e is h found = ap (λ l. take i l ++ carried from (drop i l)) (is ∙ ap (λ n. take i nodes ++ drop n nodes) e) ∙ by nodes i h found where
-  by : (nodes : Nodes) (i : ℕ) → i < length nodes → number_from 0 (get_or nodes i d).0 from ≡ None
-      → take i (take i nodes ++ drop (suc i) nodes) ++ carried from (drop i (take i nodes ++ drop (suc i) nodes)) ≡ take i nodes ++ carried from (drop i nodes)
-  by [] i h k = absurd (omega arith)
-  by (n ∷ nodes) zero h k = ap (λ o. renumbered o n.1 (carried from nodes)) (sym k)
-  by (n ∷ nodes) (suc i) h k = ap (λ l. n ∷ l) (by nodes i (omega arith) k)
+-- windows that get their numbers one after another, or go, as a closure says that stays as it is
+pub carried_retained : {S : Type 0} (R : S → Row → Bool → S → Row → Type 0) (from : List (Option ℕ)) (s : S)
+    → ((n : Row) (stays : Bool) (t : S) (m : Row) → R s n stays t m → (stays ≡ is_some (number_from 0 n.0 from)) × (m ≡ (unwrap_or (number_from 0 n.0 from) n.0, n.1)) × (t ≡ s))
+    → (nodes left : Nodes) → RetainsInTurn R s nodes left → left ≡ carried from nodes
+carried_retained R from s said [] left h = h
+carried_retained {S} R from s said (n ∷ nodes) left h =
+    let is = said n h.0 h.1 h.2 h.3 in
+    by (number_from 0 n.0 from) (is.0, is.1) (carried_retained R from s said nodes h.4 (subst (λ t. RetainsInTurn R t nodes h.4) is.2 h.5)) where
+      by : (o : Option ℕ) → (h.0 ≡ is_some o) × (h.2 ≡ (unwrap_or o n.0, n.1)) → h.4 ≡ carried from nodes → left ≡ renumbered o n.1 (carried from nodes)
+      by None is rest = h.6 ∙ (λ i. cond (is.0 i) (h.2 ∷ h.4) h.4) ∙ rest
+      by (Some k) is rest = h.6 ∙ (λ i. cond (is.0 i) (is.1 i ∷ rest i) (rest i))
 
 -- numbers that are apart go on under numbers that are
 absent_carried : (from : List (Option ℕ)) (nodes : Nodes) (j k : ℕ) → number_from 0 j from ≡ Some k → IsAbsent (numbers_of nodes) j → IsAbsent (numbers_of (carried from nodes)) k

@@ -1,7 +1,6 @@
 -- A window that goes on to a later range.
-use Rattle.std.proofs.Common.{◌≡◌, ℕ, zero, suc, ℤ, pos, negsuc, ◌-◌, ◌≤◌, ◌≤ℤ◌, max, Bool, true, false, cond, ◌&&◌, List, [], ◌∷◌, ◌++◌, length, map, take, drop, filter, refl, sym, ap, ◌∙◌, arith}
+use Rattle.std.proofs.Common.{◌≡◌, ℕ, zero, suc, ℤ, ◌-◌, ◌≤◌, ◌≤ℤ◌, max, Bool, true, false, cond, ◌&&◌, List, [], ◌∷◌, ◌++◌, length, map, take, drop, filter, refl, sym, ap, ◌∙◌, arith}
 use Rattle.std.specs.List.{cons_option, filter_map, list_all}
-use Rattle.std.proofs.lemmas.Grind.{common_steps}
 use Rattle.pr_num.specs.declared.value.Point.{Point}
 use Rattle.pr_num.specs.declared.value.Point.TheVariants.{Value, Stale}
 use Rattle.pr_history.specs.declared.entry.Entry.{Entry}
@@ -12,6 +11,7 @@ use Rattle.pr_head.proofs.Newest.{Rises}
 use Rattle.pr_range.specs.Spots.{spots_of}
 use Rattle.pr_range.proofs.Timeline.{until, after, between, between_is, after_is, until_up, none_until, until_is_front}
 use Rattle.pr_slide.specs.Later.{later}
+use Rattle.pr_slide.proofs.Successions.{after_up}
 
 -- what is after a later moment is after an earlier one
 after_down : (a b : ℤ) (t : ℕ) → a ≤ℤ b → is_after b t ≡ true → is_after a t ≡ true
@@ -19,10 +19,6 @@ after_down a b t h k = by (is_until a t) refl where
   by : (u : Bool) → is_until a t ≡ u → is_after a t ≡ true
   by true e = let later = until_up a b t h e in let k' = after_is b t true later in cc
   by false e = after_is a t false e
-
-after_up : (a : ℤ) (s t : ℕ) → is_after a s ≡ true → s ≤ t → is_after a t ≡ true
-after_up (pos a) s t h k = grind (arith, common_steps)
-after_up (negsuc a) s t h k = refl
 
 -- where the first is after a moment, all are
 all_after : (a : ℤ) (t : ℕ) (xs : List Timed) → is_after a t ≡ true → Rises t xs → after a xs ≡ xs

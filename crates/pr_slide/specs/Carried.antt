@@ -1,5 +1,6 @@
 -- Windows that go on under other numbers.
-use Rattle.std.specs.Prelude.{ℕ, suc, Bool, false, cond, nat_eq, List, [], ◌∷◌, Option, Some, None}
+use Rattle.std.specs.Prelude.{◌≡◌, ℕ, suc, Bool, false, cond, nat_eq, List, [], ◌∷◌, Option, Some, None}
+use Rattle.std.specs.Map.{lookup}
 use Rattle.pr_slide.specs.declared.window.Window.{Window}
 use Rattle.pr_slide.specs.Windows.{Nodes}
 
@@ -20,3 +21,7 @@ renumbered (Some k) windows rest = (k, windows) ∷ rest
 abbrev pub carried : List (Option ℕ) → Nodes → Nodes
 carried from [] = []
 carried from (n ∷ nodes) = renumbered (number_from 0 n.0 from) n.1 (carried from nodes)
+
+-- the numbers that go on from older ones are found by these
+abbrev pub AreNumbersFrom : List (Option ℕ) → List (ℕ × ℕ) → Type 0
+AreNumbersFrom from numbers = (j : ℕ) → lookup (nat_eq j) numbers ≡ number_from 0 j from

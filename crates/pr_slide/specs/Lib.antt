@@ -4,3 +4,4 @@ pub mod Growing
 pub mod Places
 pub mod Carried
 pub mod Kinds
+pub mod Successions

@@ -5,10 +5,12 @@
 mod kept;
 mod laws;
 mod listed;
+mod newer;
 mod node;
 mod places;
 mod sliding;
 mod spots;
+mod successive;
 mod window;
 
 pub use laws::what_was_passed_is_no_more_than_the_range;

@@ -1,5 +1,5 @@
 // The windows of one range selector.
-ghost use Rattle.std.specs.Prelude.{◌≡◌, ◌≢◌, ◌+◌, ◌-◌, ◌<◌, ◌≤◌, ◌++◌, ◌∷◌, [], ℕ, List, OnOk, Some, None, Err, cond, length, max, nat_eq, slice_get, true};
+ghost use Rattle.std.specs.Prelude.{◌≡◌, ◌≢◌, ◌+◌, ◌-◌, ◌<◌, ◌≤◌, ◌++◌, ◌∷◌, [], ℕ, List, OnOk, Some, None, Err, cond, is_some, length, max, nat_eq, slice_get, true, unwrap_or};
 ghost use Rattle.std.specs.Map.{keys_of, lookup};
 ghost use Rattle.pr_labels.specs.declared.pair.Pair.{Pair};
 ghost use Rattle.pr_head.specs.Stored.{Stored, count_of, position_of};
@@ -59,11 +59,18 @@ impl Node {
         self.number
     }
 
-    /// Stands under another number.
-    pub(crate) fn renumber(&mut self, number: usize)
-        ensures { self.new ≡ (number, self.old.1) }
+    /// Goes on under a new number. Whether there is one.
+    pub(crate) fn go_on(&mut self, number: Option<usize>) -> bool
+        ensures stays { result ≡ is_some number }
+        ensures under { self.new ≡ (unwrap_or number self.old.0, self.old.1) }
     {
-        self.number = number;
+        match number {
+            Some(number) => {
+                self.number = number;
+                true
+            }
+            None => false,
+        }
     }
 
     // Whether the window at a place is that of a series.

@@ -1,5 +1,5 @@
 // Ranges that go on.
-ghost use Rattle.std.specs.Prelude.{◌≡◌, ◌≢◌, ◌+◌, ◌-◌, ◌<◌, ◌≤◌, ◌≤ℤ◌, ◌++◌, ◌∷◌, [], ℕ, List, Option, Some, None, Err, IfOk, IfSome, OnOk, length, max, slice_get, take, drop, true};
+ghost use Rattle.std.specs.Prelude.{◌≡◌, ◌≢◌, ◌+◌, ◌-◌, ◌<◌, ◌≤◌, ◌≤ℤ◌, ◌++◌, ◌∷◌, [], ℕ, List, Option, Some, None, Err, IfOk, IfSome, OnOk, length, max, slice_get, true};
 ghost use Rattle.pr_labels.specs.declared.pair.Pair.{Pair};
 ghost use Rattle.pr_history.specs.declared.entry.Entry.{Entry};
 ghost use Rattle.pr_head.specs.Stored.{Stored, count_of, position_of};
@@ -9,9 +9,10 @@ ghost use Rattle.pr_range.specs.Answers.{AnswersAsk};
 ghost use Rattle.pr_range.specs.Asks.{HasArgument};
 ghost use Rattle.pr_range.specs.Spots.{AreWithin};
 ghost use Rattle.pr_slide.specs.Places.{IsNodePlace};
-ghost use Rattle.pr_slide.specs.Carried.{carried, number_from};
+ghost use Rattle.pr_slide.specs.Carried.{carried};
 ghost use Rattle.pr_slide.specs.Windows.{AreWindowsOf, IsPut, found, last_asks, passed_in, passed_of, slid_spots, spots_in};
 
+use crate::newer::{Newer, number_from};
 use crate::node::Node;
 use crate::places::Places;
 use pr_head::Head;
@@ -47,44 +48,14 @@ impl Model for SlidingRanges {
     ghost invariant = { λ r. AreStandingAt r.places (numbers_of r.nodes.items) };
 }
 
-// The number of the range selector that goes on from an older one.
-fn number_from(from: &[Option<usize>], older: usize) -> Option<usize>
-    ensures { result ≡ number_from 0 older from.now }
-{
-    for (number, choice) in from.iter().enumerate() {
-        if *choice == Some(older) {
-            return Some(number);
-        }
-    }
-    None
-}
-
-// The windows at a place get their new number, or go. What is left stands from the answer on.
-fn renumber_at(nodes: &mut Vec<Node>, from: &[Option<usize>], place: usize) -> usize
-    requires { place < length nodes.old.items }
-    ensures carried { take result nodes.new.items ++ carried from.now (drop result nodes.new.items) ≡ take place nodes.old.items ++ carried from.now (drop place nodes.old.items) }
-    ensures within { result ≤ length nodes.new.items }
-    ensures less { length nodes.new.items - result < length nodes.old.items - place }
-{
-    match number_from(from, nodes[place].number()) {
-        Some(number) => {
-            nodes[place].renumber(number);
-            place + 1
-        }
-        None => {
-            nodes.remove(place);
-            place
-        }
-    }
-}
-
-// Gives the windows that go on their new numbers, and lets the others go.
-fn renumber_all(nodes: &mut Vec<Node>, from: &[Option<usize>])
+// Gives the windows that go on their new numbers, and lets the others go. Without memory for the
+// numbers each is looked for among those that go on.
+fn renumber_all(alloc: Global, nodes: &mut Vec<Node>, from: &[Option<usize>])
     ensures { nodes.new.items ≡ carried from.now nodes.old.items }
 {
-    let mut done = 0;
-    'renumbering: while done < nodes.len() {
-        done = renumber_at(nodes, from, done);
+    match Newer::new(alloc, from) {
+        Ok(newer) => nodes.retain_mut(|node| node.go_on(newer.number_of(node.number()))),
+        Err(_) => nodes.retain_mut(|node| node.go_on(number_from(from, node.number()))),
     }
 }
 
@@ -239,7 +210,7 @@ impl Ranges for SlidingRanges {
 
     fn carry(&mut self, old: SlidingRanges, from: &[Option<usize>]) {
         let mut nodes = old.nodes;
-        renumber_all(&mut nodes, from);
+        renumber_all(self.alloc, &mut nodes, from);
         self.nodes = nodes;
         self.places = Places::new(self.alloc);
         self.near = 0;

@@ -11,9 +11,8 @@ ghost use Rattle.pr_slide.specs.Later.{later};
 
 use crate::kept::Kept;
 use crate::listed::Listed;
-use pr_folds::{
-    Greatest, Least, Neighbours, Sequence, Summarize, Totals, is_of_neighbours, is_of_total,
-};
+use crate::successive::Successive;
+use pr_folds::{Greatest, Least, Summarize, Totals, is_of_neighbours, is_of_total};
 use pr_history::Spot;
 use pr_num::{Num, Total};
 use pr_range::{
@@ -34,8 +33,8 @@ pub enum Kind {
     Greatest { spots: Kept<Num, Greatest> },
     /// With the least of them.
     Least { spots: Kept<Num, Least> },
-    /// With what is kept of them one after another.
-    Sequence { spots: Kept<Neighbours, Sequence> },
+    /// With what is counted of them one after another.
+    Sequence { spots: Successive },
 }
 
 /// The values of a window. Contracts see the values.
@@ -122,16 +121,18 @@ fn answer_least(
 
 fn answer_neighbours(
     alloc: Global,
-    spots: &Kept<Neighbours, Sequence>,
+    spots: &Successive,
     ask: &Ask,
 ) -> Result<Option<Num>, RangeFault>
     requires { HasArgument ask.now }
     ensures { AreWithin ask.now.from ask.now.to spots.now → AnswersAsk (over ask.now spots.now) result }
 {
-    if is_of_neighbours(ask.func) {
-        answer_from_neighbours(ask, spots.len(), spots.summary())
-    } else {
-        answer_unfolded(alloc, spots, ask)
+    if !is_of_neighbours(ask.func) {
+        return answer_listed(alloc, spots.as_slice(), ask);
+    }
+    match spots.summary() {
+        Some(summary) => answer_from_neighbours(ask, spots.len(), Some(summary)),
+        None => answer_listed(alloc, spots.as_slice(), ask),
     }
 }
 
@@ -154,7 +155,7 @@ fn kind_for(alloc: Global, func: RangeFn) -> Kind
         },
         RangeFn::Rate | RangeFn::Increase | RangeFn::Delta | RangeFn::Changes | RangeFn::Resets =>
             Kind::Sequence {
-                spots: Kept::new(alloc),
+                spots: Successive::new(alloc),
             },
         RangeFn::LastOverTime
         | RangeFn::QuantileOverTime

@@ -1,4 +1,4 @@
-use Rattle.std.proofs.Common.{◌≤◌, length, sym, subst}
+use Rattle.std.proofs.Common.{◌≤◌, length, Some, sym, subst}
 use Rattle.std.specs.Option.{IfSome}
 use Rattle.pr_folds.specs.Neighbours.{weight_of}
 use Rattle.pr_folds.proofs.Over.{neighbours_light}
@@ -6,8 +6,8 @@ use Rattle.pr_slide.proofs.spots.answer_neighbours.Goals as goal
 
 pub answer_from_neighbours-requires-clause-light : goal.answer_from_neighbours-requires-clause-light
 answer_from_neighbours-requires-clause-light c =
-    subst (λ n. IfSome c.summary.result (λ s. weight_of s ≤ n)) (sym c.len.ensures)
-    (subst (λ o. IfSome o (λ s. weight_of s ≤ length c.args.spots.now)) (sym c.summary.ensures) (neighbours_light c.args.spots.now))
+    subst (λ n. IfSome (Some c.in-Some.summary) (λ s. weight_of s ≤ n)) (sym c.len.ensures)
+    (subst (λ o. IfSome o (λ s. weight_of s ≤ length c.args.spots.now)) c.in-Some.ensures (neighbours_light c.args.spots.now))
 
-pub returns-then-is_of_neighbours : goal.returns-then-is_of_neighbours
-returns-then-is_of_neighbours c = λ within. c.answer_from_neighbours.ensures.answer c.args.spots.now within (sym c.len.ensures) (sym c.summary.ensures)
+pub returns-in-Some : goal.returns-in-Some
+returns-in-Some c = λ within. c.answer_from_neighbours.ensures.answer c.args.spots.now within (sym c.len.ensures) c.in-Some.ensures
