@@ -12,7 +12,7 @@ ghost use Rattle.pr_agg.specs.Parts.{AreParts};
 
 use crate::numbers::whole;
 use crate::parts::group_of;
-use pr_labels::{Grouping, Item, LabelFault, Labels};
+use pr_labels::{Grouping, Item, Labels};
 use pr_num::{Num, write};
 use std::alloc::{AllocError, Global};
 use std::collections::BTreeMap;
@@ -24,11 +24,8 @@ fn set_label(alloc: Global, labels: Labels, label: &str, text: &str) -> Result<L
     ensures { IfOk result (λ l. l ≡ set_label labels label.now text.now) }
 {
     let mut changed = labels;
-    match changed.set(alloc, label, text) {
-        Ok(()) => Ok(changed),
-        Err(LabelFault::Memory) => Err(AllocError),
-        Err(LabelFault::BadName { .. } | LabelFault::Twice { .. }) => unreachable!(),
-    }
+    changed.assign(alloc, label, text)?;
+    Ok(changed)
 }
 
 // Sets a label name to the printed value.

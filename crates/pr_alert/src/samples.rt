@@ -14,21 +14,12 @@ use pr_num::Num;
 use std::alloc::{AllocError, Global};
 use std::collections::BTreeMap;
 
-fn set(alloc: Global, labels: &mut Labels, name: &str, value: &str) -> Result<(), AllocError>
-    ensures { OnOk result (labels.new ≡ set_label labels.old name.now value.now) }
-{
-    match labels.set(alloc, name, value) {
-        Ok(()) => Ok(()),
-        Err(_) => Err(AllocError),
-    }
-}
-
 // The labels of a record with a metric's name.
 fn named(alloc: Global, labels: &Labels, name: &str) -> Result<Labels, AllocError>
     ensures { IfOk result (λ l. l ≡ set_label labels.now metric_label name.now) }
 {
     let mut named = labels.copy(alloc)?;
-    set(alloc, &mut named, METRIC_LABEL, name)?;
+    named.assign(alloc, METRIC_LABEL, name)?;
     Ok(named)
 }
 
@@ -36,9 +27,9 @@ fn set_state(alloc: Global, labels: &mut Labels, state: State) -> Result<(), All
     ensures { OnOk result (labels.new ≡ set_label labels.old (codes "alertstate") (state_text state)) }
 {
     match state {
-        State::Pending => set(alloc, labels, "alertstate", "pending"),
-        State::Firing => set(alloc, labels, "alertstate", "firing"),
-        State::Resolved => set(alloc, labels, "alertstate", "resolved"),
+        State::Pending => labels.assign(alloc, "alertstate", "pending"),
+        State::Firing => labels.assign(alloc, "alertstate", "firing"),
+        State::Resolved => labels.assign(alloc, "alertstate", "resolved"),
     }
 }
 

@@ -33,10 +33,8 @@ fn with_label(alloc: Global, labels: &Labels, name: &str, text: &str) -> Result<
     ensures { IfOk result (λ l. l ≡ set_label labels.now name.now text.now) }
 {
     let mut others = labels.copy(alloc)?;
-    match others.set(alloc, name, text) {
-        Ok(()) => Ok(others),
-        Err(_) => Err(AllocError),
-    }
+    others.assign(alloc, name, text)?;
+    Ok(others)
 }
 
 // The labels with one of them set to what a pattern and a template make of another.

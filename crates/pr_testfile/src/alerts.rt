@@ -144,10 +144,8 @@ fn named(alloc: Global, entries: &[Entry], name: &str) -> Result<Labels, AllocEr
     ensures { IfOk result (λ l. l ≡ set_label (label_set (map entry_tree_of entries.now)) (codes "alertname") name.now) }
 {
     let mut labels = label_set(alloc, entries)?;
-    match labels.set(alloc, "alertname", name) {
-        Ok(()) => Ok(labels),
-        Err(_) => Err(AllocError),
-    }
+    labels.assign(alloc, "alertname", name)?;
+    Ok(labels)
 }
 
 #[tactic(auto, unfolding(crate::specs::Alerts::found_in))]

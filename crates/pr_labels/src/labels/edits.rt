@@ -105,8 +105,9 @@ impl Labels {
         Ok(())
     }
 
-    // The same of a label name.
-    fn assign(&mut self, alloc: Global, name: &str, value: &str) -> Result<(), AllocError>
+    /// Sets the value of a label name; an empty value takes the name out. Without memory the set is
+    /// as it was.
+    pub fn assign(&mut self, alloc: Global, name: &str, value: &str) -> Result<(), AllocError>
         requires { is_label_name name.now ≡ true }
         ensures ok { OnOk result (self.new ≡ set_label self.old name.now value.now) }
         ensures err { OnErr result (self.new ≡ self.old) }

@@ -15,9 +15,9 @@ pub(super) struct SharedPairs {
     held: Held,
 }
 
-// Pairs of one set alone, or with a count of the sets that have them, or all but the first of such,
-// which is mostly the metric's name. Pairs without a count are those for which there was no memory,
-// and the empty list.
+// Pairs of one set alone, or with a count of the sets that have them. A set can also have all but the
+// first of the pairs that are counted: so does one that lost the metric's name, which mostly stands
+// first. Pairs without a count are those for which there was no memory, and the empty list.
 #[derive(Debug, Drop)]
 enum Held {
     Alone(Vec<Pair>),
@@ -100,7 +100,8 @@ impl SharedPairs {
         }
     }
 
-    /// The pairs but the one at a place. All but the first one are shared where the pairs are.
+    /// The pairs but the one at a place. All but the first one are shared where the set shares all of
+    /// its pairs.
     pub(super) fn others(&self, alloc: Global, place: usize) -> Result<SharedPairs, AllocError>
         requires { place < length self.now }
         ensures { IfOk result (λ s. s ≡ remove self.now place) }
