@@ -1,18 +1,19 @@
 -- What the functions that read tokens say of themselves.
-use Rattle.std.specs.Prelude.{ℕ, ◌+◌, ◌^◌, ◌<◌, ◌≤◌, List, length, Bool, Result, Ok, Err}
+use Rattle.std.specs.Prelude.{ℕ, ◌+◌, ◌^◌, ◌<◌, ◌≤◌, List, length, take, Bool, false, nat_le, Option, Some, None, Result, Ok, Err}
 use Rattle.std.specs.Borrow.{Bor}
 use Rattle.std.specs.Str.{IsUtf8}
 use Rattle.pr_forms.specs.Form.{rule}
 use Rattle.pr_forms.specs.Run.{good, bad}
 use Rattle.pr_forms.specs.Language.{Language, Gives}
 use Rattle.pr_lex.specs.declared.number.Letter.{Letter}
+use Rattle.pr_lex.specs.declared.token.Token.{Token}
 use Rattle.pr_lex.specs.declared.token.TokenKind.{TokenKind}
 use Rattle.pr_lex.specs.declared.fault.LexError.{LexError}
 use Rattle.pr_lex.specs.declared.fault.LexError.TheVariants.{Fault, Memory}
 use Rattle.pr_lex.specs.declared.part.Lexeme.{Lexeme}
 use Rattle.pr_lex.specs.declared.part.Lexeme.TheVariants.{Text as TextLexeme}
 use Rattle.pr_lex.specs.Number.{production, letter_of, seen, Value, mark, Rule}
-use Rattle.pr_lex.specs.Tokens.{IsTokenOf, IsFaultOf, TextFault, HasFault}
+use Rattle.pr_lex.specs.Tokens.{IsTokenOf, IsFaultOf, TextFault, HasTokens, HasFront, HasFault}
 use Rattle.pr_lex.specs.NumberTable.{table}
 
 -- the language of numbers, over bytes
@@ -64,3 +65,17 @@ Refuses text Memory = Unit {0}
 abbrev pub Misses : LexError → Type 0
 Misses (Fault at kind) = ⊥
 Misses Memory = Unit {0}
+
+-- The first so many tokens, or all.
+abbrev pub kept : Option ℕ → List Token → List Token
+kept None tokens = tokens
+kept (Some most) tokens = take most tokens
+
+abbrev pub HasKept : List ℕ → Option ℕ → List Token → Type 0
+HasKept text None found = HasTokens text found
+HasKept text (Some most) found = HasFront text most found
+
+-- As many tokens are there as are kept.
+abbrev pub is_full : Option ℕ → ℕ → Bool
+is_full None found = false
+is_full (Some most) found = nat_le most found

@@ -1,12 +1,13 @@
 //! Reading the tokens of a text.
-ghost use Rattle.std.specs.Prelude.{◌≡◌, List, false, ◌-◌, ◌<◌, ◌≤◌, length, IfOk, IfErr, IfSome, MatchResult};
+ghost use Rattle.std.specs.Prelude.{◌≡◌, List, [], ◌∷◌, ◌++◌, false, ◌-◌, ◌<◌, ◌≤◌, length, take, IfOk, IfErr, IfSome, MatchResult};
 ghost use Rattle.pr_lex.specs.declared.token.Token.{Token as TokenValue};
+ghost use Rattle.pr_lex.specs.declared.fault.LexError.TheVariants.{Memory};
 ghost use Rattle.pr_lex.specs.declared.part.Lexeme.TheVariants.{Name, Number, Duration, Text as TextLexeme, Sign as SignLexeme};
 ghost use Rattle.pr_lex.specs.declared.part.Part.TheVariants.{Token as TokenPart};
 ghost use Rattle.pr_lex.specs.Bytes.{part_at};
-ghost use Rattle.pr_lex.specs.Tokens.{inside_after, HasTokens};
+ghost use Rattle.pr_lex.specs.Tokens.{inside_after, HasTokens, HasFront};
 ghost use Rattle.pr_lex.specs.SignAt.{two_byte_sign, one_byte_sign, mark_sign, bracket_sign, arithmetic_sign, longer_sign, sign_at};
-ghost use Rattle.pr_lex.specs.Reader.{IsRead, Refuses, Misses, HasText, IsFaulty, IsWithin, Fits, moved};
+ghost use Rattle.pr_lex.specs.Reader.{IsRead, Refuses, Misses, HasText, IsFaulty, IsWithin, Fits, moved, kept, HasKept, is_full};
 ghost use Rattle.std.specs.Str.{IsUtf8};
 
 use crate::fault::{LexError, LexKind};
@@ -241,15 +242,32 @@ fn moved(place: usize, fault: LexError) -> LexError
     }
 }
 
-/// The tokens of a text of the query language, in their order, each the longest one where it
-/// begins. Between them stand whitespace (spaces, tabs, line feeds and carriage returns) and
-/// comments, from `#` up to the end of the line.
-pub fn tokens(alloc: Global, text: &str) -> Result<Vec<Token>, LexError>
-    // What is answered are the tokens of the text.
-    ensures tree { IfOk result (λ tokens. HasTokens text.now tokens.items) }
-    // A text that has tokens is answered with them, unless memory runs out.
-    ensures only { (tokens : List TokenValue) → HasTokens text.now tokens → MatchResult result (λ found. found.items ≡ tokens) Misses }
-    // Else the fault is the first one of the text.
+/// Whether as many tokens are there as are kept.
+fn is_full(most: Option<usize>, found: usize) -> bool
+    ensures { result ≡ is_full most found }
+{
+    match most {
+        Some(most) => most <= found,
+        None => false,
+    }
+}
+
+/// Puts a token behind those found, unless as many stand there as are kept.
+fn keep(found: &mut Vec<Token>, most: Option<usize>, token: Token) -> Result<(), LexError>
+    ensures kept { (all : List TokenValue) → found.old.items ≡ kept most all → IfOk result (λ _. found.new.items ≡ kept most (all ++ token ∷ [])) }
+    ensures memory { IfErr result (λ e. e ≡ Memory) }
+{
+    if is_full(most, found.len()) {
+        return Ok(());
+    }
+    found.push(token)?;
+    Ok(())
+}
+
+/// Reads all tokens of a text, and keeps the first so many, or all.
+fn read_tokens(alloc: Global, text: &str, most: Option<usize>) -> Result<Vec<Token>, LexError>
+    ensures tree { IfOk result (λ found. HasKept text.now most found.items) }
+    ensures only { (tokens : List TokenValue) → HasTokens text.now tokens → MatchResult result (λ found. found.items ≡ kept most tokens) Misses }
     ensures fault { IfErr result (Refuses text.now) }
 {
     let bytes = text.as_bytes();
@@ -265,11 +283,12 @@ pub fn tokens(alloc: Global, text: &str) -> Result<Vec<Token>, LexError>
                 Ok((kind, length)) => {
                     let end = place + length;
                     inside = inside_after(inside, &kind);
-                    found.push(Token {
+                    let token = Token {
                         start: place,
                         end,
                         kind,
-                    })?;
+                    };
+                    keep(&mut found, most, token)?;
                     place = end;
                 }
                 Err(fault) => return Err(moved(place, fault)),
@@ -277,4 +296,31 @@ pub fn tokens(alloc: Global, text: &str) -> Result<Vec<Token>, LexError>
         }
     }
     Ok(found)
+}
+
+/// The tokens of a text of the query language, in their order, each the longest one where it
+/// begins. Between them stand whitespace (spaces, tabs, line feeds and carriage returns) and
+/// comments, from `#` up to the end of the line.
+pub fn tokens(alloc: Global, text: &str) -> Result<Vec<Token>, LexError>
+    // What is answered are the tokens of the text.
+    ensures tree { IfOk result (λ tokens. HasTokens text.now tokens.items) }
+    // A text that has tokens is answered with them, unless memory runs out.
+    ensures only { (tokens : List TokenValue) → HasTokens text.now tokens → MatchResult result (λ found. found.items ≡ tokens) Misses }
+    // Else the fault is the first one of the text.
+    ensures fault { IfErr result (Refuses text.now) }
+{
+    read_tokens(alloc, text, None)
+}
+
+/// The same, of which the first so many alone are kept: so a text that is judged by its first
+/// tokens takes memory for these alone. The faults are those of the whole text.
+pub fn first_tokens(alloc: Global, text: &str, most: usize) -> Result<Vec<Token>, LexError>
+    // What is answered are the first tokens of the text.
+    ensures tree { IfOk result (λ found. HasFront text.now most found.items) }
+    // A text that has tokens is answered with the first of them, unless memory runs out.
+    ensures only { (tokens : List TokenValue) → HasTokens text.now tokens → MatchResult result (λ found. found.items ≡ take most tokens) Misses }
+    // Else the fault is the first one of the text.
+    ensures fault { IfErr result (Refuses text.now) }
+{
+    read_tokens(alloc, text, Some(most))
 }
