@@ -96,7 +96,7 @@ early_fault end ts deep n t p h =
     let w = t.within in let l = kinds_length ts in
     record { place = n; is = refl; bad = bad_token (omega (arith, w, l, h)) (part_place production (rule expression) ts (suc deep) n (omega arith) (omega (arith, w, l)) p) (front_shallow n deep (kinds_seen ts) h t.before) }
 
-append_none : (xs : List Seen) → xs ++ [] ≡ xs
+pub append_none : (xs : List Seen) → xs ++ [] ≡ xs
 append_none [] = refl
 append_none (x ∷ xs) = ap (λ ys. x ∷ ys) (append_none xs)
 

@@ -5,5 +5,6 @@ pub mod Deep
 pub mod Open
 pub mod DeepReader
 pub mod Derived
+pub mod Front
 pub mod Parsed
 pub mod Examples

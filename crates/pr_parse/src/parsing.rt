@@ -1,15 +1,18 @@
 //! Parsing a text.
-ghost use Rattle.std.specs.Prelude.{◌≡◌, ◌≤◌, ◌<◌, true, length, slice_get, [], IfOk, IfErr, IfSome, MatchResult};
+ghost use Rattle.std.specs.Prelude.{◌≡◌, ◌≤◌, ◌<◌, true, List, length, slice_get, [], ◌++◌, IfOk, IfErr, IfSome, MatchResult};
 ghost use Rattle.pr_forms.specs.Form.{rule, Reads};
+ghost use Rattle.pr_lex.specs.declared.token.Token.{Token};
+ghost use Rattle.pr_lex.specs.Tokens.{HasTokens};
 ghost use Rattle.pr_ast.specs.Tree.{Tree, tree_of};
 ghost use Rattle.pr_ast.specs.Steps.{has_steps};
-ghost use Rattle.pr_grammar.specs.Seen.{seen, kinds_of, kinds_seen};
+ghost use Rattle.pr_grammar.specs.Seen.{Seen, seen, kinds_of, kinds_seen};
 ghost use Rattle.pr_grammar.specs.Grammar.{Value, production, expression};
 ghost use Rattle.pr_grammar.specs.Whole.{Derives, IsBadPlace};
 ghost use Rattle.pr_parse.specs.Whole.{HasTree};
 ghost use Rattle.pr_parse.specs.Deep.{depth, IsTooDeep};
 ghost use Rattle.pr_parse.specs.declared.fault.ParseKind.TheVariants.{TooDeep};
 ghost use Rattle.pr_parse.specs.Faults.{kind_at};
+ghost use Rattle.pr_parse.specs.Front.{HasFront};
 ghost use Rattle.pr_parse.specs.Parsed.{parsed, gives_tree, IsFaultOf};
 ghost use Rattle.pr_parse.specs.Derived.{start_of, fault_of, RefusesSeen, end_of, IsExpression, Refuses, Misses};
 
@@ -19,8 +22,12 @@ use crate::kinds::kind_at;
 use crate::whole::{TreeFault, whole_tree};
 use pr_ast::Expr;
 use pr_grammar::{Lexed, with_kinds};
-use pr_lex::{LexError, tokens};
+use pr_lex::{first_tokens, tokens};
 use std::alloc::Global;
+
+/// So many tokens are looked at before the others are kept: most texts have fewer, and one that is
+/// too deep is mostly so within these. Then the others, which may be millions, take no memory.
+const FRONT: usize = 4096;
 
 /// Where a token begins, or the text ends.
 fn start_of(end: usize, tokens: &[Lexed], place: usize) -> usize
@@ -86,11 +93,11 @@ fn first_bad_place(alloc: Global, tokens: &[Lexed]) -> Option<usize>
     end_of(tokens.len(), &outcome)
 }
 
-/// The fault of tokens of which one makes the text too deep: those up to it are parsed, so that an
-/// earlier bad one comes first.
+/// The fault of tokens of which one makes the text too deep, whatever follows them: those up to it
+/// are parsed, so that an earlier bad one comes first.
 fn deep_fault(alloc: Global, end: usize, tokens: &[Lexed], deep: usize) -> ParseError
     requires { IsTooDeep (kinds_seen (seen tokens.now)) deep }
-    ensures { RefusesSeen end (seen tokens.now) result }
+    ensures { (rest : List Seen) → RefusesSeen end (seen tokens.now ++ rest) result }
 {
     let Some(index) = first_bad_place(alloc, &tokens[..deep + 1]) else {
         return ParseError::Memory;
@@ -114,18 +121,53 @@ fn tree_at(alloc: Global, end: usize, tokens: &[Lexed]) -> Result<Expr, ParseErr
     }
 }
 
+/// The first tokens of a text with their kinds: so many, or all where it has fewer.
+fn front_of(alloc: Global, text: &str, most: usize) -> Result<Vec<Lexed>, ParseError>
+    ensures tree { IfOk result (λ front. HasFront text.now most (seen front.items)) }
+    ensures only { (tokens : List Token) → HasTokens text.now tokens → IfErr result Misses }
+    ensures fault { IfErr result (Refuses text.now) }
+{
+    let found = first_tokens(alloc, text, most)?;
+    Ok(with_kinds(alloc, found)?)
+}
+
+/// The tree of a text of which all tokens are kept.
+fn kept_tree(alloc: Global, text: &str) -> Result<Expr, ParseError>
+    ensures tree { IfOk result (λ e. IsExpression text.now (tree_of e)) }
+    ensures only { (tree : Tree) → IsExpression text.now tree → MatchResult result (λ e. tree_of e ≡ tree) Misses }
+    ensures fault { IfErr result (Refuses text.now) }
+{
+    let found = tokens(alloc, text)?;
+    let all = with_kinds(alloc, found)?;
+    tree_at(alloc, text.len(), &all)
+}
+
+/// The tree of a text that begins with these tokens, and may go on with more. These are judged
+/// first, and all are kept only where they are not too deep.
+fn long_tree(alloc: Global, text: &str, front: &[Lexed]) -> Result<Expr, ParseError>
+    requires { HasFront text.now FRONT (seen front.now) }
+    ensures tree { IfOk result (λ e. IsExpression text.now (tree_of e)) }
+    ensures only { (tree : Tree) → IsExpression text.now tree → MatchResult result (λ e. tree_of e ≡ tree) Misses }
+    ensures fault { IfErr result (Refuses text.now) }
+{
+    match too_deep_at(alloc, front)? {
+        Some(deep) => Err(deep_fault(alloc, text.len(), front, deep)),
+        None => kept_tree(alloc, text),
+    }
+}
+
+/// The tree of a text. Where it has fewer tokens than are looked at first, these are all of them.
 fn read_text(alloc: Global, text: &str) -> Result<Expr, ParseError>
     ensures tree { IfOk result (λ e. IsExpression text.now (tree_of e)) }
     ensures only { (tree : Tree) → IsExpression text.now tree → MatchResult result (λ e. tree_of e ≡ tree) Misses }
     ensures fault { IfErr result (Refuses text.now) }
 {
-    let found = match tokens(alloc, text) {
-        Ok(found) => found,
-        Err(LexError::Fault { at, kind }) => return Err(ParseError::Lex { at, kind }),
-        Err(LexError::Memory) => return Err(ParseError::Memory),
-    };
-    let all = with_kinds(alloc, found)?;
-    tree_at(alloc, text.len(), &all)
+    let front = front_of(alloc, text, FRONT)?;
+    if front.len() < FRONT {
+        tree_at(alloc, text.len(), &front)
+    } else {
+        long_tree(alloc, text, &front)
+    }
 }
 
 /// The tree of an expression of the query language. (Prometheus: Querying, Basics and Operators.)

@@ -1,0 +1,13 @@
+use Rattle.std.proofs.lemmas.Result.{err_from_is_err_and}
+use Rattle.pr_parse.proofs.Fronts.{token_refuses, token_misses}
+use Rattle.pr_parse.proofs.parsing.kept_tree.Goals as goal
+
+pub returns-in_err-found-clause-only : goal.returns-in_err-found-clause-only
+returns-in_err-found-clause-only c =
+    let p = err_from_is_err_and c.from_residual.result c.from_residual.ensures.1 in
+    rw p.1 (λ tree x. token_misses c.in_err-found.field-0.0 p.0 p.2 (c.in_err-found.ensures.only x.tokens x.has))
+
+pub returns-in_err-found-clause-fault : goal.returns-in_err-found-clause-fault
+returns-in_err-found-clause-fault c =
+    let p = err_from_is_err_and c.from_residual.result c.from_residual.ensures.1 in
+    rw p.1 (token_refuses c.args.text.now c.in_err-found.field-0.0 p.0 p.2 c.in_err-found.ensures.fault)
