@@ -1,6 +1,6 @@
 -- The series that are listed under a label, as series come.
 use Rattle.std.proofs.Common.{◌≡◌, ◌≢◌, ℕ, zero, suc, ◌+◌, Bool, true, false, cond, ◌==◌, ◌&&◌, ◌||◌, ◌⊎◌, inl, inr, List, [], ◌∷◌, ◌++◌, length, filter, find, fold, slice_get, take, drop, None, Some, unwrap_or, refl, sym, ap, subst, ◌∙◌, arith}
-use Rattle.std.specs.List.{list_any}
+use Rattle.std.specs.List.{AllByRecursion, list_any}
 use Rattle.std.specs.Map.{keys_of, lookup, remove_entry, set_value}
 use Rattle.std.specs.Option.{option_map}
 use Rattle.std.specs.Str.{bytes_eq}
@@ -11,10 +11,10 @@ use Rattle.std.specs.declared.cmp.Ordering.TheVariants.{Less, Equal, Greater}
 use Rattle.std.proofs.lemmas.List.Elements.{filter-append}
 use Rattle.std.proofs.lemmas.List.Sums.{fold-append}
 use Rattle.pr_labels.specs.declared.pair.Pair.{Pair}
-use Rattle.pr_labels.specs.LabelSet.{has_name, text_at}
-use Rattle.pr_labels.specs.Order.{labels_cmp, labels_tie, pair_eq}
+use Rattle.pr_labels.specs.LabelSet.{IsLabelSet, has_name, text_at, value_of}
+use Rattle.pr_labels.specs.Order.{labels_cmp, labels_eq, labels_tie, pair_eq}
 use Rattle.pr_labels.specs.Rising.{IsRising, is_among, placed, with_labels}
-use Rattle.pr_labels.proofs.LabelLaws.{same_names}
+use Rattle.pr_labels.proofs.LabelLaws.{alike, none_above, same_names, value_hit, value_miss}
 use Rattle.pr_labels.proofs.LabelOrder.{both, labels_decide, pair_decides, tied, rising_fold, among_fold, among_filter}
 use Rattle.pr_history.specs.Series.{has_values}
 use Rattle.pr_head.specs.Holds.{chosen_of}
@@ -81,12 +81,17 @@ listing_more test sets labels es h = record {
 listing_same : (test : List Pair → Bool) (sets : Sets) (es more : Numbered) → more ≡ es → IsListing test sets es → IsListing test sets more
 listing_same test sets es more is h = subst (IsListing test sets) (sym is) h
 
+fit_more : (sets : Sets) (labels : List Pair) → IsLabelSet labels → AllByRecursion IsLabelSet sets → AllByRecursion IsLabelSet (sets ++ labels ∷ [])
+fit_more [] labels new h = (new, tt)
+fit_more (s ∷ sets) labels new h = (h.0, fit_more sets labels new h.1)
+
 -- so all are indexed that were, and one more
-pub indexed_more : (all more : Numbered) (old new : List (Pair × Numbered)) (sets : Sets) (labels : List Pair) (n : ℕ) → n ≡ length sets → IsIndexed all old sets
+pub indexed_more : (all more : Numbered) (old new : List (Pair × Numbered)) (sets : Sets) (labels : List Pair) (n : ℕ) → IsLabelSet labels → n ≡ length sets → IsIndexed all old sets
     → more ≡ insert_entry labels_cmp all labels n
     → ((other : Pair) → listing_of new other ≡ cond (has_label other labels) (insert_entry labels_cmp (listing_of old other) labels n) (listing_of old other))
     → IsIndexed more new (sets ++ labels ∷ [])
-indexed_more all more old new sets labels n size h every each = record {
+indexed_more all more old new sets labels n set size h every each = record {
+  fit = fit_more sets labels set h.fit;
   every = listing_same (λ l. true) (sets ++ labels ∷ []) (insert_entry labels_cmp all labels (length sets)) more (every ∙ ap (insert_entry labels_cmp all labels) size) (listing_more (λ l. true) sets labels all h.every);
   each = λ other. listing_same (has_label other) (sets ++ labels ∷ []) (cond (has_label other labels) (insert_entry labels_cmp (listing_of old other) labels (length sets)) (listing_of old other)) (listing_of new other)
       (each other ∙ ap (λ k. cond (has_label other labels) (insert_entry labels_cmp (listing_of old other) labels k) (listing_of old other)) size)
@@ -95,12 +100,13 @@ indexed_more all more old new sets labels n size h every each = record {
 
 pub indexed_same : (all more : Numbered) (old new : List (Pair × Numbered)) (sets : Sets) → IsIndexed all old sets → more ≡ all → ((other : Pair) → listing_of new other ≡ listing_of old other) → IsIndexed more new sets
 indexed_same all more old new sets h every each = record {
+  fit = h.fit;
   every = listing_same (λ l. true) sets all more every h.every;
   each = λ other. listing_same (has_label other) sets (listing_of old other) (listing_of new other) (each other) (h.each other);
 }
 
 pub indexed_none : IsIndexed [] [] []
-indexed_none = record { every = record { in_order = refl; numbers = tt }; each = λ other. record { in_order = refl; numbers = tt } }
+indexed_none = record { fit = tt; every = record { in_order = refl; numbers = tt }; each = λ other. record { in_order = refl; numbers = tt } }
 
 is_equal : (o : Ordering) → is_eq o ≡ true → o ≡ Equal
 is_equal Less h = cc
@@ -322,3 +328,53 @@ pub enough_of_two : (equal : List Pair) (k : ℕ) (label : Pair) (all : Numbered
 enough_of_two equal k label all by_label sets listing others one is (inl e) at some indexed enough =
     subst (IsEnough equal sets) (sym (e ∙ is)) (enough_labelled equal k label all by_label sets at some indexed)
 enough_of_two equal k label all by_label sets listing others one is (inr e) at some indexed enough = subst (IsEnough equal sets) (sym e) enough
+
+-- a label of a label set is the value of its name
+value_of_label : (label : Pair) (labels : List Pair) → label.value ≢ [] → IsLabelSet labels → has_label label labels ≡ true → text_at labels label.name ≡ label.value
+value_of_label label [] some set h = cc
+value_of_label label (p ∷ ps) some set h = by (pair_eq label p) refl h (value_of_label label ps some set.2) where
+  by : (b : Bool) → pair_eq label p ≡ b → (b || has_label label ps) ≡ true → (has_label label ps ≡ true → text_at ps label.name ≡ label.value) → text_at (p ∷ ps) label.name ≡ label.value
+  by true is h more =
+      let same : label ≡ p = (pair_decides label p).0 is in
+      ap (λ o. unwrap_or o []) (value_hit p ps label.name (ap (λ (q : Pair). bytes_eq p.name q.name) same ∙ alike p.name)) ∙ ap (λ (q : Pair). q.value) (sym same)
+  by false is h more = named (bytes_eq p.name label.name) refl (more h) where
+    named : (b : Bool) → bytes_eq p.name label.name ≡ b → text_at ps label.name ≡ label.value → text_at (p ∷ ps) label.name ≡ label.value
+    named true name there =
+        let none : value_of ps label.name ≡ None = ap (value_of ps) (sym (same_names p.name label.name name)) ∙ none_above p.name ps set.2 set.1 in
+        absurd (some (sym there ∙ ap (λ o. unwrap_or o []) none))
+    named false name there = ap (λ o. unwrap_or o []) (value_miss p ps label.name name) ∙ there
+
+has_value : (label : Pair) (labels : List Pair) → label.value ≢ [] → IsLabelSet labels → has_label label labels ≡ true → has_values (label ∷ []) labels ≡ true
+has_value label labels some set h = ap (λ t. bytes_eq t label.value && true) (value_of_label label labels some set h) ∙ ap (λ b. b && true) (alike label.value)
+
+set_at : (sets : Sets) (i : ℕ) (l : List Pair) → AllByRecursion IsLabelSet sets → slice_get sets i ≡ Some l → IsLabelSet l
+set_at [] i l h at = cc
+set_at (s ∷ sets) zero l h at = let same : s ≡ l = cc in subst IsLabelSet same h.0
+set_at (s ∷ sets) (suc i) l h at = set_at sets i l h.1 at
+
+or_later : (a b : Bool) → b ≡ true → (a || b) ≡ true
+or_later true b h = refl
+or_later false b h = h
+
+-- of the series that are listed under a label each has its value
+all_pass : (label : Pair) (sets : Sets) (es : Numbered) → label.value ≢ [] → AllByRecursion IsLabelSet sets → AreNumbered sets es
+    → ((one : List Pair) → is_among one (keys_of es) ≡ true → has_label label one ≡ true) → filter (λ e. has_values (label ∷ []) e.0) es ≡ es
+all_pass label sets [] some fit numbers listed = refl
+all_pass label sets (e ∷ es) some fit numbers listed =
+    let rest = filter (λ (x : List Pair × ℕ). has_values (label ∷ []) x.0) es in
+    ap (λ b. cond b (e ∷ rest) rest) (has_value label e.0 some (set_at sets e.1 e.0 fit numbers.0) (listed e.0 (ap (λ b. b || is_among e.0 (keys_of es)) (eq_same e.0))))
+    ∙ ap (λ l. e ∷ l) (all_pass label sets es some fit numbers.1 (λ one k. listed one (or_later (labels_eq one e.0) (is_among one (keys_of es)) k)))
+
+all_listed_pass : (label : Pair) (all : Numbered) (by_label : List (Pair × Numbered)) (sets : Sets) → label.value ≢ [] → IsIndexed all by_label sets
+    → filter (λ e. has_values (label ∷ []) e.0) (listing_of by_label label) ≡ listing_of by_label label
+all_listed_pass label all by_label sets some h = all_pass label sets (listing_of by_label label) some h.fit (h.each label).numbers (λ one k.
+    (both (has_label label one) (is_among one sets)
+    (sym (ap (is_among one) (h.each label).in_order ∙ among_fold one [] (filter (has_label label) sets) ∙ among_filter (has_label label) one sets) ∙ k)).0)
+
+-- so those that are listed under the only label that is asked for are enough, and all are chosen
+pub alone : (equal : List Pair) (label : Pair) (all : Numbered) (by_label : List (Pair × Numbered)) (sets : Sets) (es : Numbered) → equal ≡ label ∷ [] → label.value ≢ [] → es ≡ listing_of by_label label
+    → IsIndexed all by_label sets → IsEnough equal sets es × (filter (λ e. has_values equal e.0) es ≡ es)
+alone equal label all by_label sets es only some is h =
+    subst (λ q. IsEnough q sets es × (filter (λ e. has_values q e.0) es ≡ es)) (sym only)
+    (subst (λ l. IsEnough (label ∷ []) sets l × (filter (λ e. has_values (label ∷ []) e.0) l ≡ l)) (sym is)
+    (enough_labelled (label ∷ []) 0 label all by_label sets refl some h, all_listed_pass label all by_label sets some h))

@@ -1,8 +1,7 @@
 -- Series in label order: those that are chosen of some in label order are in label order, each once.
-use Rattle.std.proofs.Common.{◌≡◌, ℕ, zero, suc, ◌<◌, Bool, true, false, cond, ◌&&◌, List, [], ◌∷◌, length, slice_get, map, filter, Some, refl, sym, ap, subst, ◌∙◌, arith}
+use Rattle.std.proofs.Common.{◌≡◌, ℕ, zero, suc, ◌<◌, Bool, true, false, cond, ◌&&◌, List, [], ◌∷◌, length, slice_get, map, filter, Some, refl, sym, ap, ◌∙◌, arith}
 use Rattle.std.specs.List.{All}
 use Rattle.std.specs.Map.{keys_of, values_of}
-use Rattle.std.proofs.lemmas.List.{length-map}
 use Rattle.std.proofs.lemmas.List.Elements.{All-cons, All-nil}
 use Rattle.pr_labels.specs.declared.pair.Pair.{Pair}
 use Rattle.pr_labels.specs.Rising.{IsBelowFirstSet, IsRising, is_among}
@@ -10,8 +9,7 @@ use Rattle.pr_labels.proofs.LabelOrder.{below_next, rising_fold, among_fold, amo
 use Rattle.pr_history.specs.declared.entry.Entry.{Entry}
 use Rattle.pr_history.specs.Series.{chosen, has_values}
 use Rattle.pr_history.proofs.Choosing.{chosen_rising, chosen_among}
-use Rattle.pr_head.specs.Stored.{Stored}
-use Rattle.pr_head.specs.Holds.{arrivals, chosen_of, labels_at, sets_of}
+use Rattle.pr_head.specs.Holds.{arrivals, chosen_of, labels_at}
 use Rattle.pr_head.specs.Index.{AreNumbered, IsEnough, Numbered}
 use Rattle.pr_head.proofs.Arrivals.{among_arrivals}
 
@@ -32,15 +30,12 @@ number_below [] i l h = cc
 number_below (s ∷ sets) zero l h = omega arith
 number_below (s ∷ sets) (suc i) l h = let rest = number_below sets i l h in omega arith
 
-picked_known : (equal : List Pair) (sets : Sets) (es : Numbered) → AreNumbered sets es → All (λ i. i < length sets) (values_of (picked equal es))
+pub picked_known : (equal : List Pair) (sets : Sets) (es : Numbered) → AreNumbered sets es → All (λ i. i < length sets) (values_of (picked equal es))
 picked_known equal sets [] h = All-nil (λ i. i < length sets)
 picked_known equal sets (e ∷ es) h = by (has_values equal e.0) (picked_known equal sets es h.1) where
   by : (b : Bool) → All (λ i. i < length sets) (values_of (picked equal es)) → All (λ i. i < length sets) (values_of (cond b (e ∷ picked equal es) (picked equal es)))
   by true rest = All-cons (λ i. i < length sets) e.1 (values_of (picked equal es)) (number_below sets e.1 e.0 h.0) rest
   by false rest = rest
-
-pub select_known : (equal : List Pair) (head : List (List Pair × Stored)) (es : Numbered) → AreNumbered (sets_of head) es → All (λ i. i < length head) (values_of (picked equal es))
-select_known equal head es h = subst (λ n. All (λ i. i < n) (values_of (picked equal es))) (length-map head (λ e. e.0)) (picked_known equal (sets_of head) es h)
 
 -- their labels are those of the series that have the values
 picked_labels : (equal : List Pair) (sets : Sets) (es : Numbered) → AreNumbered sets es → map (labels_at sets) (values_of (picked equal es)) ≡ filter (has_values equal) (keys_of es)
@@ -65,9 +60,6 @@ rising_filter test (s ∷ sets) h = by (test s) (rising_filter test sets h.1) wh
   by : (b : Bool) → IsRising (filter test sets) → IsRising (cond b (s ∷ filter test sets) (filter test sets))
   by true rest = (below_filter test s sets h.0 h.1, rest)
   by false rest = rest
-
-pub select_rising : (equal : List Pair) (sets : Sets) (es : Numbered) → IsEnough equal sets es → IsRising (map (labels_at sets) (values_of (picked equal es)))
-select_rising equal sets es h = subst IsRising (sym (picked_labels equal sets es h.numbers)) (rising_filter (has_values equal) (keys_of es) h.rising)
 
 -- so they are the chosen ones
 pub select_chosen : (equal : List Pair) (sets : Sets) (es : Numbered) → IsEnough equal sets es → map (labels_at sets) (values_of (picked equal es)) ≡ chosen_of (has_values equal) sets

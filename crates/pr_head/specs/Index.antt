@@ -3,6 +3,7 @@ use Rattle.std.specs.Prelude.{◌≡◌, ℕ, Bool, true, List, [], slice_get, S
 use Rattle.std.specs.List.{AllByRecursion, list_any}
 use Rattle.std.specs.Map.{keys_of, lookup}
 use Rattle.pr_labels.specs.declared.pair.Pair.{Pair}
+use Rattle.pr_labels.specs.LabelSet.{IsLabelSet}
 use Rattle.pr_labels.specs.Order.{pair_eq}
 use Rattle.pr_labels.specs.Rising.{IsRising, is_among}
 use Rattle.pr_history.specs.Series.{has_values}
@@ -29,8 +30,10 @@ pub record IsListing (test : List Pair → Bool) (sets : List (List Pair)) (list
 abbrev pub listing_of : List (Pair × Numbered) → Pair → Numbered
 listing_of listings label = unwrap_or (lookup (pair_eq label) listings) []
 
--- All series are listed, and under each label those that have it.
+-- All series are listed, and under each label those that have it. Each has a label set, in which no
+-- name stands twice.
 pub record IsIndexed (all : Numbered) (by_label : List (Pair × Numbered)) (sets : List (List Pair)) : Type 0 where
+  pub fit : AllByRecursion IsLabelSet sets
   pub every : IsListing (λ labels. true) sets all
   pub each : (label : Pair) → IsListing (has_label label) sets (listing_of by_label label)
 

@@ -21,7 +21,8 @@ pub struct Head {
     index: Index,
     // No held sample is older.
     oldest: u64,
-    // The series behind the one that got the last sample: mostly it gets the next.
+    // The number after that of the series that last got a sample other than its first: the next
+    // sample is mostly of the series with this number.
     next: usize,
     alloc: Global,
 }

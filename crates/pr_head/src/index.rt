@@ -1,12 +1,15 @@
 // Which series have a label, and all series, in label order.
-ghost use Rattle.std.specs.Prelude.{◌≡◌, ℕ, ◌++◌, ◌∷◌, [], false, length, slice_get, List, Some, unwrap_or, ◌⊎◌, OnOk, OnErr};
+ghost use Rattle.std.specs.Prelude.{◌≡◌, ◌≢◌, ℕ, ◌<◌, ◌++◌, ◌∷◌, [], false, length, map, slice_get, List, Some, unwrap_or, ◌⊎◌, IfOk, IfSome, OnOk, OnErr};
+ghost use Rattle.std.specs.List.{All};
 ghost use Rattle.std.specs.Option.{option_copied};
 ghost use Rattle.pr_labels.specs.declared.pair.Pair.{Pair};
 ghost use Rattle.pr_labels.specs.Rising.{is_among};
+ghost use Rattle.pr_history.specs.Series.{has_values};
+ghost use Rattle.pr_head.specs.Holds.{chosen_of, labels_at};
 ghost use Rattle.pr_head.specs.Index.{IsEnough, IsIndexed};
 
 use crate::by_label::ByLabel;
-use crate::listing::Listing;
+use crate::listing::{Listing, all_of, chosen_among};
 use pr_labels::{Labels, Pair};
 use std::alloc::{AllocError, Global};
 
@@ -26,6 +29,18 @@ fn fewer_of<'a>(listing: &'a Listing, others: &'a Listing) -> &'a Listing
         listing
     } else {
         others
+    }
+}
+
+// The only one of some labels that are asked for, where it has a value.
+#[tactic(auto, using(crate::proofs::Indexing::some_text))]
+fn only_value(equal: &[Pair]) -> Option<&Pair>
+    ensures only { IfSome result (λ p. equal.now ≡ p.now ∷ []) }
+    ensures value { IfSome result (λ p. p.now.value ≢ []) }
+{
+    match equal {
+        [label] if !label.value.as_str().is_empty() => Some(label),
+        _ => None,
     }
 }
 
@@ -73,9 +88,9 @@ impl Index {
         }
     }
 
-    /// The fewest series that are listed together and among which are all that have these values;
-    /// none where no series has one of them.
-    pub(crate) fn fewest(&self, equal: &[Pair]) -> Option<&Listing>
+    // The fewest series that are listed together and among which are all that have these values;
+    // none where no series has one of them.
+    fn fewest(&self, equal: &[Pair]) -> Option<&Listing>
         ensures { (sets : List (List Pair)) → IsIndexed self.now.all self.now.by_label sets → IsEnough equal.now sets (unwrap_or (option_copied result) []) }
     {
         let mut fewest = &self.all;
@@ -86,5 +101,18 @@ impl Index {
             }
         }
         Some(fewest)
+    }
+
+    /// The numbers of the series that have these values, in label order. Where one value alone is
+    /// asked for, no series that is listed under it is looked at again.
+    pub(crate) fn select(&self, equal: &[Pair]) -> Result<Vec<usize>, AllocError>
+        ensures known { (sets : List (List Pair)) → IsIndexed self.now.all self.now.by_label sets → IfOk result (λ v. All (λ i. i < length sets) v.items) }
+        ensures sets { (sets : List (List Pair)) → IsIndexed self.now.all self.now.by_label sets
+            → IfOk result (λ v. map (labels_at sets) v.items ≡ chosen_of (has_values equal.now) sets) }
+    {
+        match only_value(equal) {
+            Some(label) => all_of(self.alloc, self.by_label.listing(label)),
+            None => chosen_among(self.alloc, self.fewest(equal), equal),
+        }
     }
 }

@@ -79,6 +79,17 @@ impl Listing {
         self.numbers.remove(labels);
     }
 
+    // The numbers of all, in label order.
+    fn all(&self, alloc: Global) -> Result<Vec<usize>, AllocError>
+        ensures { IfOk result (λ v. v.items ≡ values_of self.now) }
+    {
+        let mut numbers = Vec::with_capacity(alloc, self.len())?;
+        for number in self.numbers.values() {
+            numbers.push(*number)?;
+        }
+        Ok(numbers)
+    }
+
     // The numbers of those that have each of the values, in label order.
     fn chosen(&self, alloc: Global, equal: &[Pair]) -> Result<Vec<usize>, AllocError>
         ensures { IfOk result (λ v. v.items ≡ values_of (filter (λ e. has_values equal.now e.0) self.now)) }
@@ -90,6 +101,16 @@ impl Listing {
             }
         }
         Ok(chosen)
+    }
+}
+
+/// The numbers of some series, in label order.
+pub(crate) fn all_of(alloc: Global, listing: Option<&Listing>) -> Result<Vec<usize>, AllocError>
+    ensures { IfOk result (λ v. v.items ≡ values_of (unwrap_or (option_copied listing.entry) [])) }
+{
+    match listing {
+        Some(listing) => listing.all(alloc),
+        None => Ok(Vec::new(alloc)),
     }
 }
 

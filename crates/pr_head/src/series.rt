@@ -1,5 +1,5 @@
 // The samples of one series.
-ghost use Rattle.std.specs.Prelude.{◌≡◌, true, ◌+◌, ◌<◌, ◌≤◌, drop, length, slice_get, IfOk, OnOk, OnErr};
+ghost use Rattle.std.specs.Prelude.{◌≡◌, true, ◌+◌, ◌<◌, ◌≤◌, drop, length, slice_get, IfOk, IfSome, OnOk, OnErr};
 ghost use Rattle.std.specs.List.Sorted.{IsNonDecreasingBy};
 ghost use Rattle.pr_history.specs.Lookback.{is_until};
 ghost use Rattle.pr_head.specs.Stored.{admission, after_push, after_trim, begun, count_of, held_before, is_there_until, newest_at, position_of, sample_at};
@@ -153,7 +153,8 @@ impl Series {
 
     // Whether a held sample has so many before it, and is at or before a time.
     fn is_there_until(&self, time: i64, index: usize) -> bool
-        ensures { result ≡ is_there_until time (slice_get self.now.held index) }
+        ensures value { result ≡ is_there_until time (slice_get self.now.held index) }
+        ensures within { result ≡ true → index < length self.now.held }
     {
         match self.samples.get(index) {
             Some(sample) => is_until(time, sample.time),
@@ -161,32 +162,38 @@ impl Series {
         }
     }
 
-    // Whether the first held sample above a time is that at a place.
-    fn is_position(&self, time: i64, place: u64) -> bool
-        ensures { result ≡ true → place ≡ position_of self.now time }
+    // How many of the held samples are at or before a time, where it is so many or one more. Only
+    // the sample on the other side is looked at then.
+    fn until_near(&self, time: i64, near: usize) -> Option<usize>
+        ensures place { IfSome result (λ n. self.now.first + n ≡ position_of self.now time) }
+        ensures held { IfSome result (λ n. n ≤ length self.now.held) }
     {
-        if place < self.first || place > self.count() {
-            return false;
+        let _newest = self.last_time.get();
+        if self.is_there_until(time, near) {
+            if self.is_there_until(time, near + 1) {
+                None
+            } else {
+                Some(near + 1)
+            }
+        } else if near == 0 || self.is_there_until(time, near - 1) {
+            Some(near)
+        } else {
+            None
         }
-        let index = (place - self.first) as usize;
-        if self.is_there_until(time, index) {
-            return false;
-        }
-        index == 0 || self.is_there_until(time, index - 1)
     }
 
     /// The same as `position`, found at once where it is this place or the next one.
     pub(crate) fn position_near(&self, time: i64, near: u64) -> u64
         ensures { result ≡ position_of self.now time }
     {
-        if self.is_position(time, near) {
-            return near;
+        if near < self.first {
+            return self.position(time);
         }
-        let next = near.saturating_add(1);
-        if self.is_position(time, next) {
-            return next;
+        let _newest = self.last_time.get();
+        match self.until_near(time, (near - self.first) as usize) {
+            Some(until) => self.first + until as u64,
+            None => self.position(time),
         }
-        self.position(time)
     }
 
     /// The newest held sample at or before a time.

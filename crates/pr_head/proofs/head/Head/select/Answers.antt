@@ -1,14 +1,15 @@
-use Rattle.std.proofs.Common.{◌<◌, length, map, sym, subst, ◌∙◌, unwrap_or, [], List, IfOk, Result}
+use Rattle.std.proofs.Common.{◌<◌, filter, map, sym, subst, ◌∙◌, [], List, IfOk, Result}
 use Rattle.std.specs.List.{All}
-use Rattle.std.specs.Option.{option_copied}
 use Rattle.std.specs.declared.result.Result.TheVariants.{Ok, Err}
+use Rattle.std.proofs.lemmas.List.{length-map}
 use Rattle.pr_labels.specs.declared.pair.Pair.{Pair}
 use Rattle.pr_labels.specs.Rising.{IsRising}
+use Rattle.pr_labels.proofs.LabelOrder.{rising_fold}
 use Rattle.pr_history.specs.Series.{has_values}
 use Rattle.pr_head.specs.Stored.{Stored}
 use Rattle.pr_head.specs.Holds.{chosen_of, labels_at, sets_of}
-use Rattle.pr_head.specs.Index.{IsEnough, IsIndexed}
-use Rattle.pr_head.proofs.Selecting.{chosen_arrivals, select_chosen, select_known, select_rising}
+use Rattle.pr_head.specs.Index.{IsIndexed}
+use Rattle.pr_head.proofs.Selecting.{chosen_arrivals}
 use Rattle.pr_head.proofs.head.Head.select.Goals as goal
 
 if_ok : {T E : Type 0} {P Q : T → Type 0} (r : Result T E) → ((v : T) → P v → Q v) → IfOk r P → IfOk r Q
@@ -20,31 +21,22 @@ returns-clause-known c =
     let head = c.args.self.now in
     let indexed : IsIndexed c.self.inside.index.all c.self.inside.index.by_label (sets_of head) =
     subst (λ (h : List (List Pair × Stored)). IsIndexed c.self.inside.index.all c.self.inside.index.by_label (sets_of h)) c.self.view_is c.self.invariant.0 in
-    let es = unwrap_or (option_copied c.fewest.result) [] in
-    let asked : IsEnough c.args.equal.now (sets_of head) es = c.fewest.ensures (sets_of head) indexed in
-    if_ok c.chosen_among.result (λ v is. subst (All (λ i. i < length head)) (sym is) (select_known c.args.equal.now head es asked.numbers)) c.chosen_among.ensures
-
-pub returns-clause-in_order : goal.returns-clause-in_order
-returns-clause-in_order c =
-    let head = c.args.self.now in
-    let indexed : IsIndexed c.self.inside.index.all c.self.inside.index.by_label (sets_of head) =
-    subst (λ (h : List (List Pair × Stored)). IsIndexed c.self.inside.index.all c.self.inside.index.by_label (sets_of h)) c.self.view_is c.self.invariant.0 in
-    let es = unwrap_or (option_copied c.fewest.result) [] in
-    let asked : IsEnough c.args.equal.now (sets_of head) es = c.fewest.ensures (sets_of head) indexed in
-    if_ok c.chosen_among.result (λ v is. subst (λ l. IsRising (map (labels_at (sets_of head)) l)) (sym is) (select_rising c.args.equal.now (sets_of head) es asked)) c.chosen_among.ensures
+    if_ok c.select.result (λ v known. subst (λ n. All (λ i. i < n) v.items) (length-map head (λ e. e.0)) known) (c.select.ensures.known (sets_of head) indexed)
 
 pub returns-clause-sets : goal.returns-clause-sets
 returns-clause-sets c =
     let head = c.args.self.now in
     let indexed : IsIndexed c.self.inside.index.all c.self.inside.index.by_label (sets_of head) =
     subst (λ (h : List (List Pair × Stored)). IsIndexed c.self.inside.index.all c.self.inside.index.by_label (sets_of h)) c.self.view_is c.self.invariant.0 in
-    let es = unwrap_or (option_copied c.fewest.result) [] in
-    let asked : IsEnough c.args.equal.now (sets_of head) es = c.fewest.ensures (sets_of head) indexed in
-    if_ok c.chosen_among.result (λ v is. (λ i. map (labels_at (sets_of head)) (is i)) ∙ select_chosen c.args.equal.now (sets_of head) es asked) c.chosen_among.ensures
+    c.select.ensures.sets (sets_of head) indexed
+
+pub returns-clause-in_order : goal.returns-clause-in_order
+returns-clause-in_order c =
+    if_ok c.select.result (λ v is. subst IsRising (sym is) (rising_fold [] (filter (has_values c.args.equal.now) (sets_of c.args.self.now)) tt)) (returns-clause-sets c)
 
 pub returns-clause-chosen : goal.returns-clause-chosen
 returns-clause-chosen c = λ history holds.
-    if_ok c.chosen_among.result
+    if_ok c.select.result
     (λ v is. (λ i. map (labels_at (sym holds.numbered i)) v.items) ∙ is
     ∙ (λ i. chosen_of (has_values c.args.equal.now) (holds.numbered i)) ∙ chosen_arrivals (has_values c.args.equal.now) history)
     (returns-clause-sets c)

@@ -1,7 +1,8 @@
-use Rattle.std.proofs.Common.{◌≡◌, cond, refl, ap, ◌∙◌, OnErr, Result}
+use Rattle.std.proofs.Common.{◌≡◌, cond, refl, ap, subst, ◌∙◌, OnErr, Result}
 use Rattle.std.specs.declared.result.Result.TheVariants.{Ok, Err}
 use Rattle.std.specs.Map.{remove_entry}
 use Rattle.std.specs.BTreeMap.{insert_entry, is_at}
+use Rattle.pr_labels.specs.LabelSet.{IsLabelSet}
 use Rattle.pr_labels.specs.Order.{labels_cmp}
 use Rattle.pr_head.specs.Index.{has_label, listing_of}
 use Rattle.pr_head.proofs.Indexing.{absent, indexed_more, indexed_same, removed_again}
@@ -13,7 +14,7 @@ on_err (Err e) P p = p
 
 pub returns-in-Ok-clause-ok : goal.returns-in-Ok-clause-ok
 returns-in-Ok-clause-ok c = λ sets size indexed.
-    indexed_more c.args.self.now.all c.insert.new.self c.args.self.now.by_label c.add_each.new.self sets c.args.labels.now c.args.number size indexed
+    indexed_more c.args.self.now.all c.insert.new.self c.args.self.now.by_label c.add_each.new.self sets c.args.labels.now c.args.number (subst IsLabelSet c.pairs.ensures.all c.pairs.ensures.set) size indexed
     (c.in_ok-insert.ensures.ok ∙ ap (λ l. insert_entry labels_cmp c.args.self.now.all l c.args.number) c.in_ok-copy.ensures)
     (λ other. c.in-Ok.ensures.ok other
     ∙ (λ i. cond (has_label other (c.pairs.ensures.all i)) (insert_entry labels_cmp (listing_of c.args.self.now.by_label other) c.args.labels.now c.args.number) (listing_of c.args.self.now.by_label other)))

@@ -22,5 +22,5 @@ returns-then-is_there_until c =
     let held : c.self.inside.samples.items ≡ s.held = ap (λ (x : Stored). x.held) c.self.view_is in
     let size = ap length held in
     let many : length s.held ≡ suc n = omega (arith, size, c.len-count.ensures, c.if-count-gt0.true) in
-    let late : is_there_until c.args.time (slice_get s.held n) ≡ true = ap (λ t. is_there_until t (slice_get s.held n)) (sym time) ∙ sym c.is_there_until.ensures ∙ c.if-is_there_until.true in
+    let late : is_there_until c.args.time (slice_get s.held n) ≡ true = ap (λ t. is_there_until t (slice_get s.held n)) (sym time) ∙ sym c.is_there_until.ensures.value ∙ c.if-is_there_until.true in
     c.held.ensures ∙ sym (last_newest c.args.time s.held n many late)
