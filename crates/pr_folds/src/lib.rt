@@ -15,6 +15,7 @@ pub use gains::units_of;
 pub use laws::{greatest_tells, least_tells, sequences_tell, totals_tell};
 pub use neighbours::Neighbours;
 pub use parts::{
-    beside, falls, greater, is_special, joined, lesser, spot_alone, total_alone, value_alone,
+    beside, differ, falls, greater, is_special, joined, lesser, one_if, spot_alone, total_alone,
+    value_alone,
 };
 pub use summarize::Summarize;

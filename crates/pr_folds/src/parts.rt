@@ -107,8 +107,8 @@ pub fn falls(before: &Num, value: &Num) -> bool
     }
 }
 
-// Whether two values differ, where NaN is NaN.
-fn differ(before: &Num, value: &Num) -> bool
+/// Whether two values differ, where NaN is NaN.
+pub fn differ(before: &Num, value: &Num) -> bool
     ensures { result ≡ differ (before.now, value.now) }
 {
     before != value
@@ -126,7 +126,8 @@ fn loss(fell: bool, before: &Num) -> Total
     }
 }
 
-fn one_if(test: bool) -> u64
+/// One where a test holds, else none.
+pub fn one_if(test: bool) -> u64
     ensures value { result ≡ one_if test }
     ensures few { result ≤ 1 }
 {

@@ -19,3 +19,4 @@ pub use plain::PlainRanges;
 pub use pr_history::Spot;
 pub use pr_vectors::{Ask, RangeFn};
 pub use ranges::Ranges;
+pub use values::last_of;

@@ -8,9 +8,9 @@ use pr_history::Spot;
 use pr_num::Num;
 use std::alloc::{AllocError, Global};
 
-// The last one.
+/// The last of a value and those behind it.
 #[tactic(auto, using(crate::proofs::Neighbours::last_some, crate::proofs::Neighbours::last_none))]
-pub(crate) fn last_of<'a>(first: &'a Spot, rest: &'a [Spot]) -> &'a Spot
+pub fn last_of<'a>(first: &'a Spot, rest: &'a [Spot]) -> &'a Spot
     ensures { result.now ≡ last_of first.now rest.now }
 {
     match rest.last() {
