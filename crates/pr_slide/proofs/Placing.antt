@@ -1,7 +1,9 @@
 -- The places of range selectors stay true as more are noted, and as their windows go on.
 use Rattle.std.proofs.Common.{◌≡◌, ℕ, zero, suc, ◌+◌, ◌<◌, ◌≤◌, Bool, true, false, cond, nat_eq, List, [], ◌∷◌, ◌++◌, length, get_or, set, slice_get, take, Option, Some, None, refl, sym, ap, subst, ◌∙◌, arith}
 use Rattle.std.specs.Map.{lookup}
+use Rattle.std.specs.Option.{option_map}
 use Rattle.std.proofs.lemmas.Grind.{common_steps}
+use Rattle.std.proofs.lemmas.Option.{slice_get-map}
 use Rattle.std.proofs.lemmas.List.{get_or-map, length-append, length-map, length-take-le, map-append, take_all, take-append-le, take_more}
 use Rattle.pr_slide.specs.Places.{AreApart, ArePlacesOf, IsAbsent, IsFoundIn, IsNodePlace, IsPlaceIn, noted, numbers_of}
 use Rattle.pr_slide.specs.declared.window.Window.{Window}
@@ -93,11 +95,7 @@ stands_first (n ∷ numbers) k (suc i) h at = (other numbers n k i h.0 at, stand
   other (m ∷ numbers) n k (suc i) h at = other numbers n k i h.1 at
 
 pub node_first : (nodes : Nodes) (node i : ℕ) (row : Row) → AreApart (numbers_of nodes) → slice_get nodes i ≡ Some row → row.0 ≡ node → IsNodePlace node i nodes
-node_first nodes node i row apart at number = stands_first (numbers_of nodes) node i apart (mapped nodes i at ∙ ap Some number) where
-  mapped : (nodes : Nodes) (i : ℕ) → slice_get nodes i ≡ Some row → slice_get (numbers_of nodes) i ≡ Some row.0
-  mapped [] i at = absurd (cc)
-  mapped (n ∷ nodes) zero at = let same : n ≡ row = cc in ap (λ (r : Row). Some r.0) same
-  mapped (n ∷ nodes) (suc i) at = mapped nodes i at
+node_first nodes node i row apart at number = stands_first (numbers_of nodes) node i apart (slice_get-map (λ (r : Row). r.0) nodes i ∙ ap (option_map (λ (r : Row). r.0)) at ∙ ap Some number)
 
 -- one that stood nowhere is apart from the others
 apart_more : (numbers : List ℕ) (n : ℕ) → AreApart numbers → IsAbsent numbers n → AreApart (numbers ++ n ∷ [])

@@ -22,7 +22,8 @@ before_falls spots = map (λ p. p.0) (filter is_fall (neighbours spots))
 abbrev pub before_fall : Spot → Spot → List Spot
 before_fall x y = map (λ p. p.0) (filter is_fall ((x, y) ∷ []))
 
--- how many values differ from the one before, and whether the second one does
+-- how many values differ from the one before, and whether the first of some differs from the value
+-- before it
 abbrev pub changes_in : List Spot → ℕ
 changes_in spots = count_by differ (neighbours (numbers_of spots))
 

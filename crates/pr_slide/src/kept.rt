@@ -89,6 +89,7 @@ fn push_item<A: Copy, M: Fold<Spot, A>>(
 {
     match window.item(place) {
         Some(spot) => {
+            // Names the type of a value to the check.
             let _value: Num = spot.value;
             spots.push(*spot)?;
             Ok(())

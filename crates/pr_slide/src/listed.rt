@@ -89,6 +89,7 @@ impl Listed {
     pub(crate) fn push(&mut self, spot: Spot) -> Result<(), AllocError>
         ensures ok { OnOk result (self.new ≡ self.old ++ spot ∷ []) }
     {
+        // Names the type of a value to the check.
         let _value: Num = spot.value;
         self.items.push(spot)?;
         Ok(())

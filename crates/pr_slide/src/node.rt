@@ -59,9 +59,9 @@ impl Node {
         self.number
     }
 
-    /// Goes on under a new number. Whether there is one.
+    /// Goes on under a new number, if there is one, and answers whether there is.
     pub(crate) fn go_on(&mut self, number: Option<usize>) -> bool
-        ensures stays { result ≡ is_some number }
+        ensures there { result ≡ is_some number }
         ensures under { self.new ≡ (unwrap_or number self.old.0, self.old.1) }
     {
         match number {

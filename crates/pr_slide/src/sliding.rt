@@ -1,5 +1,5 @@
 // Ranges that go on.
-ghost use Rattle.std.specs.Prelude.{◌≡◌, ◌≢◌, ◌+◌, ◌-◌, ◌<◌, ◌≤◌, ◌≤ℤ◌, ◌++◌, ◌∷◌, [], ℕ, List, Option, Some, None, Err, IfOk, IfSome, OnOk, length, max, slice_get, true};
+ghost use Rattle.std.specs.Prelude.{◌≡◌, ◌≢◌, ◌+◌, ◌-◌, ◌<◌, ◌≤◌, ◌≤ℤ◌, ◌++◌, ◌∷◌, [], ℕ, List, Option, Some, None, Err, IfOk, IfSome, OnOk, is_some, length, max, slice_get, true, unwrap_or};
 ghost use Rattle.pr_labels.specs.declared.pair.Pair.{Pair};
 ghost use Rattle.pr_history.specs.declared.entry.Entry.{Entry};
 ghost use Rattle.pr_head.specs.Stored.{Stored, count_of, position_of};
@@ -7,12 +7,13 @@ ghost use Rattle.pr_vectors.specs.Ranges.{over};
 ghost use Rattle.pr_range.specs.declared.fault.RangeFault.TheVariants.{Memory};
 ghost use Rattle.pr_range.specs.Answers.{AnswersAsk};
 ghost use Rattle.pr_range.specs.Asks.{HasArgument};
+ghost use Rattle.pr_range.specs.Carried.{IsOnce};
 ghost use Rattle.pr_range.specs.Spots.{AreWithin};
 ghost use Rattle.pr_slide.specs.Places.{IsNodePlace};
-ghost use Rattle.pr_slide.specs.Carried.{carried};
+ghost use Rattle.pr_slide.specs.Carried.{carried, number_from};
 ghost use Rattle.pr_slide.specs.Windows.{AreWindowsOf, IsPut, found, last_asks, passed_in, passed_of, slid_spots, spots_in};
 
-use crate::newer::{Newer, number_from};
+use crate::newer::number_near;
 use crate::node::Node;
 use crate::places::Places;
 use pr_head::Head;
@@ -48,15 +49,27 @@ impl Model for SlidingRanges {
     ghost invariant = { λ r. AreStandingAt r.places (numbers_of r.nodes.items) };
 }
 
-// Gives the windows that go on their new numbers, and lets the others go. Without memory for the
-// numbers each is looked for among those that go on.
-fn renumber_all(alloc: Global, nodes: &mut Vec<Node>, from: &[Option<usize>])
+// Gives the windows of a range selector their new number, if they go on, and answers whether they
+// do. The number is looked for first behind the one that was found last.
+fn renumber(node: &mut Node, from: &[Option<usize>], behind: &mut usize) -> bool
+    ensures there { IsOnce from.now → result ≡ is_some (number_from node.old.0 from.now) }
+    ensures under { IsOnce from.now → node.new ≡ (unwrap_or (number_from node.old.0 from.now) node.old.0, node.old.1) }
+{
+    let number = number_near(from, *behind, node.number());
+    if let Some(found) = number {
+        *behind = found.saturating_add(1);
+    }
+    node.go_on(number)
+}
+
+// Gives the windows that go on their new numbers, and lets the others go. Range selectors mostly
+// keep their order, and then this goes over both lists once.
+fn renumber_all(nodes: &mut Vec<Node>, from: &[Option<usize>])
+    requires once { IsOnce from.now }
     ensures { nodes.new.items ≡ carried from.now nodes.old.items }
 {
-    match Newer::new(alloc, from) {
-        Ok(newer) => nodes.retain_mut(|node| node.go_on(newer.number_of(node.number()))),
-        Err(_) => nodes.retain_mut(|node| node.go_on(number_from(from, node.number()))),
-    }
+    let mut behind = 0;
+    nodes.retain_mut(|node| renumber(node, from, &mut behind));
 }
 
 impl SlidingRanges {
@@ -210,7 +223,7 @@ impl Ranges for SlidingRanges {
 
     fn carry(&mut self, old: SlidingRanges, from: &[Option<usize>]) {
         let mut nodes = old.nodes;
-        renumber_all(self.alloc, &mut nodes, from);
+        renumber_all(&mut nodes, from);
         self.nodes = nodes;
         self.places = Places::new(self.alloc);
         self.near = 0;

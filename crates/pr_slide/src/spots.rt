@@ -34,7 +34,7 @@ pub enum Kind {
     /// With the least of them.
     Least { spots: Kept<Num, Least> },
     /// With what is counted of them one after another.
-    Sequence { spots: Successive },
+    Successive { spots: Successive },
 }
 
 /// The values of a window. Contracts see the values.
@@ -154,7 +154,7 @@ fn kind_for(alloc: Global, func: RangeFn) -> Kind
             spots: Kept::new(alloc),
         },
         RangeFn::Rate | RangeFn::Increase | RangeFn::Delta | RangeFn::Changes | RangeFn::Resets =>
-            Kind::Sequence {
+            Kind::Successive {
                 spots: Successive::new(alloc),
             },
         RangeFn::LastOverTime
@@ -188,7 +188,7 @@ impl Spots {
             Kind::Totals { spots } => answer_total(alloc, spots, ask),
             Kind::Greatest { spots } => answer_greatest(alloc, spots, ask),
             Kind::Least { spots } => answer_least(alloc, spots, ask),
-            Kind::Sequence { spots } => answer_neighbours(alloc, spots, ask),
+            Kind::Successive { spots } => answer_neighbours(alloc, spots, ask),
         }
     }
 
@@ -201,7 +201,7 @@ impl Spots {
             Kind::Totals { spots } => spots.len(),
             Kind::Greatest { spots } => spots.len(),
             Kind::Least { spots } => spots.len(),
-            Kind::Sequence { spots } => spots.len(),
+            Kind::Successive { spots } => spots.len(),
         }
     }
 
@@ -218,13 +218,14 @@ impl Spots {
     pub(crate) fn push(&mut self, spot: Spot) -> Result<(), AllocError>
         ensures { OnOk result (self.new ≡ self.old ++ spot ∷ []) }
     {
+        // Names the type of a value to the check.
         let _value: Num = spot.value;
         match &mut self.kind {
             Kind::Listed { spots } => spots.push(spot),
             Kind::Totals { spots } => spots.push(spot),
             Kind::Greatest { spots } => spots.push(spot),
             Kind::Least { spots } => spots.push(spot),
-            Kind::Sequence { spots } => spots.push(spot),
+            Kind::Successive { spots } => spots.push(spot),
         }
     }
 
@@ -237,7 +238,7 @@ impl Spots {
             Kind::Totals { spots } => spots.drop_until(time),
             Kind::Greatest { spots } => spots.drop_until(time),
             Kind::Least { spots } => spots.drop_until(time),
-            Kind::Sequence { spots } => spots.drop_until(time),
+            Kind::Successive { spots } => spots.drop_until(time),
         }
     }
 }

@@ -10,9 +10,10 @@ ghost use Rattle.pr_slide.specs.Successions.{AreCounted, before_fall, changes_at
 
 use crate::kept::Kept;
 use crate::listed::{Listed, is_after};
-use pr_folds::{Neighbours, Totals, falls, is_special};
+use pr_folds::{Neighbours, Totals, differ, falls, is_special, one_if};
 use pr_history::Spot;
 use pr_num::{Num, Total};
+use pr_range::last_of;
 use std::alloc::{AllocError, Global};
 use std::marker::Model;
 
@@ -48,18 +49,12 @@ impl Model for Successive {
     ghost invariant = { λ s. s.counted ≡ true → AreCounted s.spots s.counts };
 }
 
-fn one_if(test: bool) -> u64
-    ensures value { result ≡ one_if test }
-    ensures few { result ≤ 1 }
-{
-    if test { 1 } else { 0 }
-}
-
-// One more if a test holds, where no more than all are counted of a first value and the rest.
+// One more if a test holds. The values bound the count, so that it cannot wrap.
 fn one_more(count: u64, test: bool, rest: &[Spot]) -> u64
     requires { count ≤ length rest.now + 1 }
     ensures { result ≡ count + one_if test }
 {
+    // Its type bounds it.
     let _count = rest.len();
     count + one_if(test)
 }
@@ -72,13 +67,6 @@ fn one_less(count: u64, test: bool) -> u64
     count - one_if(test)
 }
 
-// Whether two values differ, where NaN is NaN.
-fn differ(before: &Num, value: &Num) -> bool
-    ensures { result ≡ differ (before.now, value.now) }
-{
-    before != value
-}
-
 // Whether the value behind the first one differs from it.
 fn changes_at(first: &Spot, rest: &[Spot]) -> bool
     ensures { result ≡ changes_at first.now rest.now }
@@ -86,17 +74,6 @@ fn changes_at(first: &Spot, rest: &[Spot]) -> bool
     match rest.first() {
         Some(next) => differ(&first.value, &next.value),
         None => false,
-    }
-}
-
-// The last one.
-#[tactic(auto, using(pr_range::proofs::Neighbours::last_some, pr_range::proofs::Neighbours::last_none))]
-fn last_of<'a>(first: &'a Spot, rest: &'a [Spot]) -> &'a Spot
-    ensures { result.now ≡ last_of first.now rest.now }
-{
-    match rest.last() {
-        Some(last) => last,
-        None => first,
     }
 }
 
@@ -283,6 +260,7 @@ impl Successive {
     pub(crate) fn push(&mut self, spot: Spot) -> Result<(), AllocError>
         ensures { OnOk result (self.new ≡ self.old ++ spot ∷ []) }
     {
+        // Names the type of a value to the check.
         let _value: Num = spot.value;
         let counted = self.counted;
         self.counted = false;
@@ -300,8 +278,8 @@ impl Successive {
         self.spots.drop_until(time);
     }
 
-    /// What the values fold to, without going over them: always where there are some and their times
-    /// rise, as those of a series do.
+    /// What the values fold to, without going over them, where they are counted: as long as there
+    /// are some and each came after the one before.
     pub(crate) fn summary(&self) -> Option<Neighbours>
         ensures { IfSome result (λ s. folded spot_alone beside self.now ≡ Some s) }
     {
