@@ -3,3 +3,4 @@ pub mod Placing
 pub mod Taken
 pub mod Pairing
 pub mod Ordered
+pub mod KeyLabels

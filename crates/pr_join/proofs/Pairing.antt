@@ -58,24 +58,24 @@ fault_append card before (o ∷ xs) ys =
     ∙ or_assoc (outcome_fault card before o) (fault_of_outcomes card (before ++ option_to_list (kept_of o)) xs) (fault_of_outcomes card (before ++ cons_option (kept_of o) (kept_pairs xs)) ys)
 
 -- one pair
-module _ (how : Matching) (keep_name : Bool) (p : Paired) (before : List Kept) where
+module _ (how : Matching) (keep_name : Bool) (p : Paired) (ones : List (Item Num)) (before : List Kept) where
   pub pair_wide : (r : Result (Option Num) TooWide) (e : TooWide) → r ≡ Err e → fault_of_outcomes how.card before (kept_if how keep_name p r ∷ []) ≡ Some fault.TooWide
   pair_wide r e h = ap (λ (x : Result (Option Num) TooWide). fault_of_outcomes how.card before (kept_if how keep_name p x ∷ [])) h
 
-  pub pair_dropped : (r : Result (Option Num) TooWide) (rows : Rows) → r ≡ Ok None → HasKept how.card before rows → AreRowsTaken how.card before (kept_if how keep_name p r ∷ []) rows
+  pub pair_dropped : (r : Result (Option Num) TooWide) (rows : Rows) → r ≡ Ok None → HasKept how ones before rows → AreRowsTaken how ones before (kept_if how keep_name p r ∷ []) rows
   pair_dropped r rows h k = record {
     faultless = ap (λ (x : Result (Option Num) TooWide). fault_of_outcomes how.card before (kept_if how keep_name p x ∷ [])) h;
-    holds = subst (λ (b : List Kept). HasKept how.card b rows) (sym (ap (λ (x : Result (Option Num) TooWide). before ++ kept_pairs (kept_if how keep_name p x ∷ [])) h ∙ append-nil before)) k;
+    holds = subst (λ (b : List Kept). HasKept how ones b rows) (sym (ap (λ (x : Result (Option Num) TooWide). before ++ kept_pairs (kept_if how keep_name p x ∷ [])) h ∙ append-nil before)) k;
   }
 
 pub fault_one : (card : Card) (before : List Kept) (o : Result (Option Kept) TooWide) → fault_of_outcomes card before (o ∷ []) ≡ outcome_fault card before o
 fault_one card before o = or_none (outcome_fault card before o)
 
-pub taken_one : (card : Card) (before : List Kept) (o : Result (Option Kept) TooWide) (k : Kept) (rows : Rows) → o ≡ Ok (Some k) → outcome_fault card before (Ok (Some k)) ≡ None → HasKept card (before ++ k ∷ []) rows
-    → AreRowsTaken card before (o ∷ []) rows
-taken_one card before o k rows e h holds = record {
-  faultless = fault_one card before o ∙ ap (outcome_fault card before) e ∙ h;
-  holds = subst (λ (x : Result (Option Kept) TooWide). HasKept card (before ++ kept_pairs (x ∷ [])) rows) (sym e) holds;
+pub taken_one : (how : Matching) (ones : List (Item Num)) (before : List Kept) (o : Result (Option Kept) TooWide) (k : Kept) (rows : Rows) → o ≡ Ok (Some k) → outcome_fault how.card before (Ok (Some k)) ≡ None
+    → HasKept how ones (before ++ k ∷ []) rows → AreRowsTaken how ones before (o ∷ []) rows
+taken_one how ones before o k rows e h holds = record {
+  faultless = fault_one how.card before o ∙ ap (outcome_fault how.card before) e ∙ h;
+  holds = subst (λ (x : Result (Option Kept) TooWide). HasKept how ones (before ++ kept_pairs (x ∷ [])) rows) (sym e) holds;
 }
 
 -- the pairs of an element by what is found on the one side
@@ -86,10 +86,10 @@ outcomes_found how keep_name f ones m None e =
 outcomes_found how keep_name f ones m (Some x) e =
     ap (λ (xs : List (Item Num)). map (pair_outcome how keep_name f) (map (paired m) xs)) e
 
-pub taken_none : (card : Card) (before : List Kept) (os : List (Result (Option Kept) TooWide)) (rows : Rows) → os ≡ [] → HasKept card before rows → AreRowsTaken card before os rows
-taken_none card before os rows e h = record {
-  faultless = ap (fault_of_outcomes card before) e;
-  holds = subst (λ (b : List Kept). HasKept card b rows) (sym (ap (λ (x : List (Result (Option Kept) TooWide)). before ++ kept_pairs x) e ∙ append-nil before)) h;
+pub taken_none : (how : Matching) (ones : List (Item Num)) (before : List Kept) (os : List (Result (Option Kept) TooWide)) (rows : Rows) → os ≡ [] → HasKept how ones before rows → AreRowsTaken how ones before os rows
+taken_none how ones before os rows e h = record {
+  faultless = ap (fault_of_outcomes how.card before) e;
+  holds = subst (λ (b : List Kept). HasKept how ones b rows) (sym (ap (λ (x : List (Result (Option Kept) TooWide)). before ++ kept_pairs x) e ∙ append-nil before)) h;
 }
 
 -- one element more
@@ -113,29 +113,29 @@ module _ (how : Matching) (keep_name : Bool) (f : Operator) (ones : List (Item N
       ∙ told_first e (fault_of_outcomes how.card (kept_pairs (outcomes_of how keep_name f front ones) ++ kept_pairs (outcomes_with how keep_name f ones m)) (outcomes_of how keep_name f rest ones)) lacks
 
   pub taken_more : (front : List (Item Num)) (m : Item Num) (rows : Rows) → fault_of_outcomes how.card [] (outcomes_of how keep_name f front ones) ≡ None
-      → AreRowsTaken how.card (kept_pairs (outcomes_of how keep_name f front ones)) (outcomes_with how keep_name f ones m) rows
-      → AreRowsTaken how.card [] (outcomes_of how keep_name f (front ++ m ∷ []) ones) rows
+      → AreRowsTaken how ones (kept_pairs (outcomes_of how keep_name f front ones)) (outcomes_with how keep_name f ones m) rows
+      → AreRowsTaken how ones [] (outcomes_of how keep_name f (front ++ m ∷ []) ones) rows
   taken_more front m rows clear h = record {
     faultless = ap (fault_of_outcomes how.card []) whole ∙ fault_append how.card [] (outcomes_of how keep_name f front ones) (outcomes_with how keep_name f ones m)
         ∙ ap (λ (x : Option MatchFault). option_or x (fault_of_outcomes how.card (kept_pairs (outcomes_of how keep_name f front ones)) (outcomes_with how keep_name f ones m))) clear ∙ h.faultless;
-    holds = subst (λ (b : List Kept). HasKept how.card b rows) (sym (ap kept_pairs whole ∙ filter_map-append kept_of (outcomes_of how keep_name f front ones) (outcomes_with how keep_name f ones m))) h.holds;
+    holds = subst (λ (b : List Kept). HasKept how ones b rows) (sym (ap kept_pairs whole ∙ filter_map-append kept_of (outcomes_of how keep_name f front ones) (outcomes_with how keep_name f ones m))) h.holds;
   } where
     whole : outcomes_of how keep_name f (front ++ m ∷ []) ones ≡ outcomes_of how keep_name f front ones ++ outcomes_with how keep_name f ones m
     whole = outcomes_more front m [] ∙ ap (λ (x : List (Result (Option Kept) TooWide)). outcomes_of how keep_name f front ones ++ x) (append-nil (outcomes_with how keep_name f ones m))
 
-pub taken_result : (card : Card) (before : List Kept) (o : Result (Option Kept) TooWide) (k : Kept) (r : Result (Unit {0}) JoinFault) (rows : Rows) → o ≡ Ok (Some k)
-    → MatchResult r (λ _. (outcome_fault card before (Ok (Some k)) ≡ None) × HasKept card (before ++ k ∷ []) rows) (λ e. e ≢ Memory → outcome_fault card before (Ok (Some k)) ≡ match_told e)
-    → MatchResult r (λ _. AreRowsTaken card before (o ∷ []) rows) (λ e. e ≢ Memory → fault_of_outcomes card before (o ∷ []) ≡ match_told e)
-taken_result card before o k (Ok u) rows e h = taken_one card before o k rows e h.0 h.1
-taken_result card before o k (Err x) rows e h =
-    λ m. fault_one card before o ∙ ap (outcome_fault card before) e ∙ h m
+pub taken_result : (how : Matching) (ones : List (Item Num)) (before : List Kept) (o : Result (Option Kept) TooWide) (k : Kept) (r : Result (Unit {0}) JoinFault) (rows : Rows) → o ≡ Ok (Some k)
+    → MatchResult r (λ _. (outcome_fault how.card before (Ok (Some k)) ≡ None) × HasKept how ones (before ++ k ∷ []) rows) (λ e. e ≢ Memory → outcome_fault how.card before (Ok (Some k)) ≡ match_told e)
+    → MatchResult r (λ _. AreRowsTaken how ones before (o ∷ []) rows) (λ e. e ≢ Memory → fault_of_outcomes how.card before (o ∷ []) ≡ match_told e)
+taken_result how ones before o k (Ok u) rows e h = taken_one how ones before o k rows e h.0 h.1
+taken_result how ones before o k (Err x) rows e h =
+    λ m. fault_one how.card before o ∙ ap (outcome_fault how.card before) e ∙ h m
 
 -- what an element gives by what is found for it
-pub result_found : (card : Card) (before : List Kept) (os ps : List (Result (Option Kept) TooWide)) (r : Result (Unit {0}) JoinFault) (rows : Rows) → os ≡ ps
-    → MatchResult r (λ _. AreRowsTaken card before ps rows) (λ e. e ≢ Memory → fault_of_outcomes card before ps ≡ match_told e)
-    → MatchResult r (λ _. AreRowsTaken card before os rows) (λ e. e ≢ Memory → fault_of_outcomes card before os ≡ match_told e)
-result_found card before os ps (Ok u) rows e h = subst (λ (x : List (Result (Option Kept) TooWide)). AreRowsTaken card before x rows) (sym e) h
-result_found card before os ps (Err x) rows e h = λ m. ap (fault_of_outcomes card before) e ∙ h m
+pub result_found : (how : Matching) (ones : List (Item Num)) (before : List Kept) (os ps : List (Result (Option Kept) TooWide)) (r : Result (Unit {0}) JoinFault) (rows : Rows) → os ≡ ps
+    → MatchResult r (λ _. AreRowsTaken how ones before ps rows) (λ e. e ≢ Memory → fault_of_outcomes how.card before ps ≡ match_told e)
+    → MatchResult r (λ _. AreRowsTaken how ones before os rows) (λ e. e ≢ Memory → fault_of_outcomes how.card before os ≡ match_told e)
+result_found how ones before os ps (Ok u) rows e h = subst (λ (x : List (Result (Option Kept) TooWide)). AreRowsTaken how ones before x rows) (sym e) h
+result_found how ones before os ps (Err x) rows e h = λ m. ap (fault_of_outcomes how.card before) e ∙ h m
 
 -- the sides whole
 pub side_fault_some : (how : Matching) (manys ones : List (Item Num)) → false ≡ (length manys == 0) → side_fault how manys ones ≡ option_map fault.ManyToMany (least_shared how ones)
@@ -168,7 +168,7 @@ module _ (how : Matching) (keep_name : Bool) (f : Operator) (manys ones : List (
   sides_fault Memory some h at = tt
 
   pub sides_kept : (rows : Rows) (items : List (Item Num)) → false ≡ (length manys == 0) → None ≡ option_map (λ e. e.0) (find is_flagged places.entries)
-      → AreRowsTaken how.card [] (outcomes_of how keep_name f manys ones) rows → items ≡ items_of rows.items → joined_sides how keep_name f manys ones ≡ Ok items
+      → AreRowsTaken how ones [] (outcomes_of how keep_name f manys ones) rows → items ≡ items_of rows.items → joined_sides how keep_name f manys ones ≡ Ok items
   sides_kept rows items some h t is =
       ap (λ (x : Option MatchFault). joined_result how.card (outcomes_of how keep_name f manys ones) x) (no_side_fault some h)
       ∙ ap (λ (x : Option MatchFault). unless_fault x (in_order (items_kept (kept_pairs (outcomes_of how keep_name f manys ones))))) t.faultless

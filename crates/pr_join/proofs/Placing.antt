@@ -3,13 +3,14 @@ use Rattle.std.proofs.Common.{◌≡◌, ℕ, zero, suc, ◌+◌, ◌<◌, ◌�
 use Rattle.std.proofs.lemmas.List.Folds.{find-append}
 use Rattle.std.proofs.lemmas.List.Sums.{fold-append, sum_by-append}
 use Rattle.std.proofs.lemmas.List.{map-append}
+use Rattle.std.proofs.lemmas.Bool.{eqb-true, eq-eqb}
 use Rattle.std.proofs.lemmas.Bool.Decides.{nat_tests}
 use Rattle.std.proofs.lemmas.Map.Entries.{btree_map_get_place}
-use Rattle.std.specs.Bool.{nat_lt}
+use Rattle.std.specs.Bool.{nat_eq, nat_lt}
 use Rattle.std.specs.List.{find, count_by, slice_get}
 use Rattle.std.specs.Option.{option_or, option_to_list, option_map, IfSome}
 use Rattle.std.specs.Map.{keys_of, lookup}
-use Rattle.std.specs.BTreeMap.{BTreeMap, IsOrdered, get, Updates, is_at, insert_entry}
+use Rattle.std.specs.BTreeMap.{BTreeMap, IsOrdered, get, keys, Updates, is_at, insert_entry}
 use Rattle.pr_num.specs.declared.value.Num.{Num}
 use Rattle.pr_labels.specs.declared.pair.Pair.{Pair}
 use Rattle.pr_labels.specs.declared.item.Item.{Item}
@@ -21,7 +22,7 @@ use Rattle.pr_labels.specs.Rising.{with_labels}
 use Rattle.pr_labels.proofs.LabelMaps.{keys_insert, tie}
 use Rattle.pr_vectors.specs.Matching.{has_key, is_shared, key_of, key_set, least_shared}
 use Rattle.pr_join.specs.declared.places.Place.{Place}
-use Rattle.pr_join.specs.Places.{IsPlaceOf, IsIndexOf, place_with, is_flagged}
+use Rattle.pr_join.specs.Places.{IsPlaceOf, IsIndexOf, IsOnlyAt, IsPlaced, place_with, is_flagged}
 
 key_set_more : (how : Matching) (front : List (Item Num)) (x : Item Num) → key_set how (front ++ x ∷ []) ≡ with_labels (key_set how front) (key_of how x)
 key_set_more how front x =
@@ -63,7 +64,10 @@ lt_one n k h e = grind (arith, nat_tests)
 lt_more : (n k : ℕ) → 1 ≤ n → k ≡ 1 → true ≡ nat_lt 1 (n + k)
 lt_more n k h e = grind (arith, nat_tests)
 
-some_within : (xs : List (Item Num)) (i : ℕ) → i < length xs → slice_get xs i ≡ None → ⊥
+same : (x y : Item Num) → Some x ≡ Some y → x ≡ y
+same x y h = cc
+
+pub some_within : (xs : List (Item Num)) (i : ℕ) → i < length xs → slice_get xs i ≡ None → ⊥
 some_within [] i w e = omega arith
 some_within (x ∷ xs) zero w e = cc
 some_within (x ∷ xs) (suc i) w e = some_within xs i (omega arith) e
@@ -101,22 +105,59 @@ place_more how side front x q (Some p) i present at within h = by_item (slice_ge
   }
 
 pub index_more : (how : Matching) (side front : List (Item Num)) (x : Item Num) (i : ℕ) (m n : BTreeMap (List Pair) Place) → slice_get side i ≡ Some x → i < length side
-    → n.entries ≡ insert_entry labels_cmp m.entries (key_of how x) (place_with (get labels_cmp m (key_of how x)) i)
-    → Updates labels_cmp m n (key_of how x) (Some (place_with (get labels_cmp m (key_of how x)) i))
-    → IsOrdered labels_cmp n → IsIndexOf how side front m → IsIndexOf how side (front ++ x ∷ []) n
-index_more how side front x i m n at within entries u ordered h = record {
-  ordered = ordered;
-  known = ap keys_of entries ∙ keys_insert m.entries (key_of how x) (place_with (get labels_cmp m (key_of how x)) i) ∙ ap (λ (ks : List (List Pair)). with_labels ks (key_of how x)) h.known ∙ sym (key_set_more how front x);
-  at = λ q. by_key q (labels_eq (key_of how x) q) refl;
+    → IsPlaced how x i m n → IsIndexOf how side front m → IsIndexOf how side (front ++ x ∷ []) n
+index_more how side front x i m n at within placed h = record {
+  ordered = placed.ordered;
+  known = placed.known ∙ ap (λ (ks : List (List Pair)). with_labels ks (key_of how x)) h.known ∙ sym (key_set_more how front x);
+  at = λ q. by_key q (has_key how q x) refl;
 } where
-  by_key : (q : List Pair) (b : Bool) → labels_eq (key_of how x) q ≡ b → IsPlaceOf how side (front ++ x ∷ []) q (get labels_cmp n q)
+  by_key : (q : List Pair) (b : Bool) → has_key how q x ≡ b → IsPlaceOf how side (front ++ x ∷ []) q (get labels_cmp n q)
   by_key q true present =
-      let same : key_of how x ≡ q = (labels_decide (key_of how x) q).0 present in
-      let new : get labels_cmp n q ≡ Some (place_with (get labels_cmp m q) i) = u.0 q ∙ ap (λ (b : Bool). cond b (Some (place_with (get labels_cmp m (key_of how x)) i)) (get labels_cmp m q)) (tie (key_of how x) q ∙ present) ∙ ap (λ (k : List Pair). Some (place_with (get labels_cmp m k) i)) same in
+      let new : get labels_cmp n q ≡ Some (place_with (get labels_cmp m q) i) = placed.at q ∙ ap (λ (b : Bool). cond b (Some (place_with (get labels_cmp m q) i)) (get labels_cmp m q)) present in
       subst (λ (o : Option Place). IsPlaceOf how side (front ++ x ∷ []) q o) (sym new) (place_more how side front x q (get labels_cmp m q) i present at within (h.at q))
   by_key q false absent =
-      let new : get labels_cmp n q ≡ get labels_cmp m q = u.0 q ∙ ap (λ (b : Bool). cond b (Some (place_with (get labels_cmp m (key_of how x)) i)) (get labels_cmp m q)) (tie (key_of how x) q ∙ absent) in
+      let new : get labels_cmp n q ≡ get labels_cmp m q = placed.at q ∙ ap (λ (b : Bool). cond b (Some (place_with (get labels_cmp m q) i)) (get labels_cmp m q)) absent in
       subst (λ (o : Option Place). IsPlaceOf how side (front ++ x ∷ []) q o) (sym new) (place_same how side front x q (get labels_cmp m q) absent (h.at q))
+
+-- one more element is put in by its key
+twice : (b : Bool) (v w o : Option Place) → cond b w (cond b v o) ≡ cond b w o
+twice true v w o = refl
+twice false v w o = refl
+
+module _ (how : Matching) (x : Item Num) (i : ℕ) (m : BTreeMap (List Pair) Place) where
+  at_key : (n : BTreeMap (List Pair) Place) (key : List Pair) (v : Place) → key ≡ key_of how x → v ≡ place_with (get labels_cmp m key) i
+      → ((q : List Pair) → get labels_cmp n q ≡ cond (is_at (labels_cmp key) q) (Some v) (get labels_cmp m q))
+      → (q : List Pair) → get labels_cmp n q ≡ cond (has_key how q x) (Some (place_with (get labels_cmp m q) i)) (get labels_cmp m q)
+  at_key n key v is value u q =
+      u q ∙ ap (λ (b : Bool). cond b (Some v) (get labels_cmp m q)) (tie key q) ∙ by_test (labels_eq key q) refl
+      ∙ ap (λ (k : List Pair). cond (labels_eq k q) (Some (place_with (get labels_cmp m q) i)) (get labels_cmp m q)) is
+    where
+      by_test : (b : Bool) → labels_eq key q ≡ b → cond b (Some v) (get labels_cmp m q) ≡ cond b (Some (place_with (get labels_cmp m q) i)) (get labels_cmp m q)
+      by_test true h = ap (λ (p : Place). Some p) (value ∙ ap (λ (k : List Pair). place_with (get labels_cmp m k) i) ((labels_decide key q).0 h))
+      by_test false h = refl
+
+  pub placed_alone : (n : BTreeMap (List Pair) Place) (key : List Pair) → key ≡ key_of how x → None ≡ get labels_cmp m key
+      → n.entries ≡ insert_entry labels_cmp m.entries key (record { index = i; shared = false }) → Updates labels_cmp m n key (Some (record { index = i; shared = false })) → IsOrdered labels_cmp n
+      → IsPlaced how x i m n
+  placed_alone n key is none entries u ordered = record {
+    known = ap keys_of entries ∙ keys_insert m.entries key (record { index = i; shared = false }) ∙ ap (λ (k : List Pair). with_labels (keys_of m.entries) k) is;
+    ordered = ordered;
+    at = at_key n key (record { index = i; shared = false }) is (ap (λ (o : Option Place). place_with o i) none) u.0;
+  }
+
+  pub placed_again : (n o : BTreeMap (List Pair) Place) (key same : List Pair) (first : Place) → key ≡ key_of how x → same ≡ key_of how x → Some first ≡ get labels_cmp m key
+      → keys n ≡ keys m → Updates labels_cmp m n key (Some (record { index = i; shared = false }))
+      → o.entries ≡ insert_entry labels_cmp n.entries same (record { index = first.index; shared = true }) → Updates labels_cmp n o same (Some (record { index = first.index; shared = true })) → IsOrdered labels_cmp o
+      → IsPlaced how x i m o
+  placed_again n o key same first is also some stay u entries v ordered =
+      let both : Place = record { index = first.index; shared = true } in
+      let alone : Place = record { index = i; shared = false } in
+      record {
+        known = ap keys_of entries ∙ keys_insert n.entries same both ∙ (λ j. with_labels (stay j) (also j));
+        ordered = ordered;
+        at = at_key o key both is (ap (λ (p : Option Place). place_with p i) some)
+            (λ q. v.0 q ∙ (λ j. cond (is_at (labels_cmp ((also ∙ sym is) j)) q) (Some both) (u.0 q j)) ∙ twice (is_at (labels_cmp key) q) (Some alone) (Some both) (get labels_cmp m q));
+      }
 
 -- the flags of the entries are those of their keys
 by_flag : (e : List Pair × Place) (es : List (List Pair × Place)) (o : Option (List Pair)) (a b : Bool) → a ≡ b → option_map (λ x. x.0) (find is_flagged es) ≡ o
@@ -178,3 +219,66 @@ one_pair how side m k h clear = by_place (get labels_cmp m k) refl (h.at k) wher
   by_place None e p = at_most_one (has_key how k) side (omega (arith, none_counted (has_key how k) side (sym p.first)))
   by_place (Some q) e p =
       at_most_one (has_key how k) side (not_more (count_by (has_key how k) side) (sym p.shared ∙ unflagged (is_at (labels_cmp k)) m.entries q clear e))
+
+-- and where it has one, its key stands at one place
+none_at : (p : Item Num → Bool) (xs : List (Item Num)) → count_by p xs ≡ 0 → (i : ℕ) (x : Item Num) → slice_get xs i ≡ Some x → p x ≡ false
+none_at p [] h i x s = cc
+none_at p (y ∷ xs) h i x s = by_test (p y) refl (sym (count_cons p y xs) ∙ h) (none_at p xs) i s where
+  by_test : (b : Bool) → p y ≡ b → cond b 1 0 + count_by p xs ≡ 0 → (count_by p xs ≡ 0 → (j : ℕ) (z : Item Num) → slice_get xs j ≡ Some z → p z ≡ false)
+      → (j : ℕ) → slice_get (y ∷ xs) j ≡ Some x → p x ≡ false
+  by_test true e k more j t = absurd (omega (arith, k))
+  by_test false e k more zero t = subst (λ (z : Item Num). p z ≡ false) (same y x t) e
+  by_test false e k more (suc j) t = more (omega (arith, k)) j x t
+
+none_behind : (p : Item Num → Bool) (z : Item Num) (xs : List (Item Num)) (i : ℕ) (x : Item Num) → count_by p (z ∷ xs) ≤ 1 → p z ≡ true → slice_get xs i ≡ Some x → p x ≡ false
+none_behind p z xs i x h e s =
+    let here : ◌≡◌ {A = ℕ} (cond (p z) 1 0) 1 = ap (λ (b : Bool). cond b 1 0) e in
+    none_at p xs (omega (arith, here, subst (λ (n : ℕ). n ≤ 1) (count_cons p z xs) h)) i x s
+
+one_at : (p : Item Num → Bool) (xs : List (Item Num)) (i j : ℕ) (x y : Item Num) → count_by p xs ≤ 1 → slice_get xs i ≡ Some x → p x ≡ true → slice_get xs j ≡ Some y → p y ≡ true → j ≡ i
+one_at p [] i j x y h s e t f = cc
+one_at p (z ∷ xs) zero zero x y h s e t f = refl
+one_at p (z ∷ xs) zero (suc j) x y h s e t f = absurd (other (none_behind p z xs j y h (subst (λ (w : Item Num). p w ≡ true) (sym (same z x s)) e) t)) where
+  other : p y ≡ false → ⊥
+  other g = cc
+one_at p (z ∷ xs) (suc i) zero x y h s e t f = absurd (other (none_behind p z xs i x h (subst (λ (w : Item Num). p w ≡ true) (sym (same z y t)) f) s)) where
+  other : p x ≡ false → ⊥
+  other g = cc
+one_at p (z ∷ xs) (suc i) (suc j) x y h s e t f =
+    ap (λ (k : ℕ). suc k) (one_at p xs i j x y (omega (arith, subst (λ (n : ℕ). n ≤ 1) (count_cons p z xs) h)) s e t f)
+
+found_passes : (p : Item Num → Bool) (xs : List (Item Num)) (x : Item Num) → find p xs ≡ Some x → p x ≡ true
+found_passes p [] x h = cc
+found_passes p (y ∷ ys) x h = by_test (p y) refl h (found_passes p ys x) where
+  by_test : (b : Bool) → p y ≡ b → cond b (Some y) (find p ys) ≡ Some x → (find p ys ≡ Some x → p x ≡ true) → p x ≡ true
+  by_test true e k more = subst (λ (z : Item Num). p z ≡ true) (same y x k) e
+  by_test false e k more = more k
+
+pub only_place : (how : Matching) (side : List (Item Num)) (m : BTreeMap (List Pair) Place) (k : List Pair) (p : Place) → IsIndexOf how side side m → find is_flagged m.entries ≡ None → get labels_cmp m k ≡ Some p
+    → IsOnlyAt how side k p.index
+only_place how side m k p h clear e = by_item (slice_get side p.index) refl where
+  at : IsPlaceOf how side side k (Some p)
+  at = subst (λ (o : Option Place). IsPlaceOf how side side k o) e (h.at k)
+
+  few : count_by (has_key how k) side ≤ 1
+  few = not_more (count_by (has_key how k) side) (sym at.shared ∙ unflagged (is_at (labels_cmp k)) m.entries p clear e)
+
+  by_item : (o : Option (Item Num)) → slice_get side p.index ≡ o → IsOnlyAt how side k p.index
+  by_item None s = absurd (some_within side p.index at.within s)
+  by_item (Some x) s = record {
+    within = at.within;
+    only = λ i y t. by_tests i y t (has_key how k y) (nat_eq i p.index) refl refl;
+  } where
+    has : has_key how k x ≡ true
+    has = found_passes (has_key how k) side x (sym at.first ∙ s)
+
+    by_tests : (i : ℕ) (y : Item Num) → slice_get side i ≡ Some y → (b c : Bool) → has_key how k y ≡ b → nat_eq i p.index ≡ c → b ≡ c
+    by_tests i y t true true f g = refl
+    by_tests i y t false false f g = refl
+    by_tests i y t true false f g =
+        let here : nat_eq i p.index ≡ true = eq-eqb i p.index (one_at (has_key how k) side p.index i x y few s has t f) in
+        cc
+    by_tests i y t false true f g =
+        let one : x ≡ y = same x y (sym s ∙ ap (λ (j : ℕ). slice_get side j) (sym (eqb-true i p.index g)) ∙ t) in
+        let own : has_key how k y ≡ true = subst (λ (z : Item Num). has_key how k z ≡ true) one has in
+        cc

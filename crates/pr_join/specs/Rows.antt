@@ -1,5 +1,6 @@
 -- What is kept of the pairs so far.
-use Rattle.std.specs.Prelude.{◌≡◌, Bool, true, false, List, [], ◌++◌, map, Option, None, Result}
+use Rattle.std.specs.Prelude.{◌≡◌, ℕ, Bool, true, false, List, [], ◌++◌, map, slice_get, Option, Some, None, Result}
+use Rattle.std.specs.List.{list_any}
 use Rattle.std.specs.BTreeMap.{BTreeMap}
 use Rattle.pr_num.specs.declared.value.Num.{Num}
 use Rattle.pr_num.specs.declared.value.TooWide.{TooWide}
@@ -8,8 +9,9 @@ use Rattle.pr_labels.specs.declared.pair.Pair.{Pair}
 use Rattle.pr_labels.specs.declared.item.Item.{Item}
 use Rattle.pr_labels.specs.declared.matching.Card.{Card}
 use Rattle.pr_labels.specs.declared.matching.Card.TheVariants.{OneToOne, ManyToOne, OneToMany}
+use Rattle.pr_labels.specs.Order.{labels_eq}
 use Rattle.pr_vectors.specs.Vectors.{element, in_order}
-use Rattle.pr_vectors.specs.Matching.{Kept, Operator, fault_of_outcomes, items_kept, kept_pairs, pair_outcome, pairs_with}
+use Rattle.pr_vectors.specs.Matching.{Kept, Operator, fault_of_outcomes, items_kept, key_of, kept_pairs, pair_outcome, pairs_with}
 use Rattle.pr_ordered.specs.Entries.{items_of}
 use Rattle.pr_join.specs.Keys.{HasKeys}
 use Rattle.pr_join.specs.declared.rows.Rows.{Rows}
@@ -29,9 +31,6 @@ keyed OneToOne before = before
 keyed ManyToOne before = []
 keyed OneToMany before = []
 
-abbrev pub key_in : Kept → List Pair
-key_in k = k.key
-
 abbrev pub labels_in : Kept → List Pair
 labels_in k = k.item.labels
 
@@ -40,13 +39,13 @@ pub record HasItems (before : List Kept) (entries : List (List Pair × Num)) : T
   pub listed : items_of entries ≡ in_order (items_kept before)
   pub labels : HasKeys labels_in before entries
 
--- the keys of the pairs before, where each may come once
-pub record HasTakenKeys (card : Card) (before : List Kept) (entries : List (List Pair × Unit {0})) : Type 0 where
-  pub keys : HasKeys key_in (keyed card before) entries
+-- which elements of the one side have the key of a pair before, where each key may come once
+pub record HasTakenKeys (how : Matching) (ones : List (Item Num)) (before : List Kept) (taken : List Bool) : Type 0 where
+  pub told : (i : ℕ) (e : Item Num) → slice_get ones i ≡ Some e → slice_get taken i ≡ Some (list_any (λ k. labels_eq k.key (key_of how e)) (keyed how.card before))
 
-pub record HasKept (card : Card) (before : List Kept) (rows : Rows) : Type 0 where
+pub record HasKept (how : Matching) (ones : List (Item Num)) (before : List Kept) (rows : Rows) : Type 0 where
   pub items : HasItems before rows.items
-  pub taken : HasTakenKeys card before rows.taken
+  pub taken : HasTakenKeys how ones before rows.taken.items
 
 -- a kept pair by its parts
 abbrev pub kept_with : List Pair → List Pair → Num → Kept
@@ -57,6 +56,6 @@ abbrev pub outcomes_with : Matching → Bool → Operator → List (Item Num) �
 outcomes_with how keep_name f ones m = map (pair_outcome how keep_name f) (pairs_with how ones m)
 
 -- pairs without a fault after those kept before them, and what is kept then
-pub record AreRowsTaken (card : Card) (before : List Kept) (outcomes : List (Result (Option Kept) TooWide)) (rows : Rows) : Type 0 where
-  pub faultless : fault_of_outcomes card before outcomes ≡ None
-  pub holds : HasKept card (before ++ kept_pairs outcomes) rows
+pub record AreRowsTaken (how : Matching) (ones : List (Item Num)) (before : List Kept) (outcomes : List (Result (Option Kept) TooWide)) (rows : Rows) : Type 0 where
+  pub faultless : fault_of_outcomes how.card before outcomes ≡ None
+  pub holds : HasKept how ones (before ++ kept_pairs outcomes) rows

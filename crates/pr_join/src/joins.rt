@@ -1,16 +1,18 @@
 // Arithmetic and comparisons between two vectors.
-ghost use Rattle.std.specs.Prelude.{◌≡◌, ◌≢◌, List, [], ◌∷◌, find, Ok, Err, Some, None, IfOk, IfSome, MatchResult, OnOk};
+ghost use Rattle.std.specs.Prelude.{◌≡◌, ◌≢◌, ◌<◌, length, List, [], ◌∷◌, find, Ok, Err, Some, None, IfOk, IfSome, MatchResult, OnOk};
 ghost use Rattle.pr_join.specs.declared.join_fault.JoinFault.TheVariants.{Memory};
+ghost use Rattle.pr_labels.specs.declared.item.Item.{Item};
+ghost use Rattle.pr_num.specs.declared.value.Num.{Num};
 ghost use Rattle.pr_vectors.specs.Vectors.{IsVector};
 ghost use Rattle.pr_vectors.specs.Matching.{Operator, Kept, worked, paired, pair_outcome, fault_of_outcomes, key_of, outcomes_of, joined, joined_sides};
 ghost use Rattle.pr_join.specs.Faults.{match_told};
 ghost use Rattle.pr_join.specs.Operators.{AnswersBy};
-ghost use Rattle.pr_join.specs.Places.{IsIndexOf, is_flagged};
+ghost use Rattle.pr_join.specs.Places.{IsIndexOf, IsOnlyAt, is_flagged};
 ghost use Rattle.pr_join.specs.Rows.{HasKept, AreRowsTaken, outcomes_with};
 
 use crate::join_fault::JoinFault;
 use crate::labels::result_labels;
-use crate::places::{Place, first_shared, first_with, key_of, places_of};
+use crate::places::{Place, first_shared, key_of, place_of, places_of};
 use crate::rows::{Rows, no_rows, take};
 use pr_labels::{Card, Item, Labels, Matching};
 use pr_num::{Num, TooWide};
@@ -33,7 +35,7 @@ fn worked<O: Fn(Num, Num) -> Result<Option<Num>, TooWide>>(
     }
 }
 
-// Takes what a pair gives.
+// Takes what a pair gives. Of the one side the element at the place alone has the key.
 fn join_pair<O: Fn(Num, Num) -> Result<Option<Num>, TooWide>>(
     alloc: Global,
     how: &Matching,
@@ -42,20 +44,23 @@ fn join_pair<O: Fn(Num, Num) -> Result<Option<Num>, TooWide>>(
     key: Labels,
     many: &Item<Num>,
     one: &Item<Num>,
+    place: usize,
     rows: &mut Rows,
 ) -> Result<(), JoinFault>
     requires callable { O.IsAlwaysCallable op.now }
     requires key { key ≡ key_of how.now many.now }
-    ensures { (f : Operator) (before : List Kept) → AnswersBy O.Fn op.now f → HasKept how.now.card before rows.old → MatchResult result
-        (λ _. AreRowsTaken how.now.card before (pair_outcome how.now keep_name f (paired many.now one.now) ∷ []) rows.new)
+    requires place { place < length rows.old.taken.items }
+    ensures taken { (f : Operator) (ones : List (Item Num)) (before : List Kept) → AnswersBy O.Fn op.now f → IsOnlyAt how.now ones key place → HasKept how.now ones before rows.old → MatchResult result
+        (λ _. AreRowsTaken how.now ones before (pair_outcome how.now keep_name f (paired many.now one.now) ∷ []) rows.new)
         (λ e. e ≢ Memory → fault_of_outcomes how.now.card before (pair_outcome how.now keep_name f (paired many.now one.now) ∷ []) ≡ match_told e) }
+    ensures room { OnOk result (length rows.new.taken.items ≡ length rows.old.taken.items) }
 {
     match worked(how.card, op, many, one) {
         Err(_) => Err(JoinFault::TooWide),
         Ok(None) => Ok(()),
         Ok(Some(value)) => {
-            let labels = result_labels(alloc, how, keep_name, many, one)?;
-            take(rows, how.card, key, labels, value)
+            let labels = result_labels(alloc, how, keep_name, &key, many, one)?;
+            take(rows, how.card, place, key, labels, value)
         }
     }
 }
@@ -74,14 +79,19 @@ fn join_one<O: Fn(Num, Num) -> Result<Option<Num>, TooWide>>(
     requires callable { O.IsAlwaysCallable op.now }
     requires index { IsIndexOf how.now ones.now ones.now places.now }
     requires unshared { find is_flagged places.now.entries ≡ None }
-    ensures { (f : Operator) (before : List Kept) → AnswersBy O.Fn op.now f → HasKept how.now.card before rows.old → MatchResult result
-        (λ _. AreRowsTaken how.now.card before (outcomes_with how.now keep_name f ones.now many.now) rows.new)
+    requires room { length rows.old.taken.items ≡ length ones.now }
+    ensures taken { (f : Operator) (before : List Kept) → AnswersBy O.Fn op.now f → HasKept how.now ones.now before rows.old → MatchResult result
+        (λ _. AreRowsTaken how.now ones.now before (outcomes_with how.now keep_name f ones.now many.now) rows.new)
         (λ e. e ≢ Memory → fault_of_outcomes how.now.card before (outcomes_with how.now keep_name f ones.now many.now) ≡ match_told e) }
+    ensures room { OnOk result (length rows.new.taken.items ≡ length ones.now) }
 {
     let key = key_of(alloc, how, many)?;
-    match first_with(how, ones, places, &key) {
+    match place_of(how, ones, places, &key) {
         None => Ok(()),
-        Some(one) => join_pair(alloc, how, keep_name, op, key, many, one, rows),
+        Some(place) => {
+            let one = &ones[place];
+            join_pair(alloc, how, keep_name, op, key, many, one, place, rows)
+        }
     }
 }
 
@@ -99,10 +109,10 @@ fn join_all<O: Fn(Num, Num) -> Result<Option<Num>, TooWide>>(
     requires index { IsIndexOf how.now ones.now ones.now places.now }
     requires unshared { find is_flagged places.now.entries ≡ None }
     ensures { (f : Operator) → AnswersBy O.Fn op.now f → MatchResult result
-        (AreRowsTaken how.now.card [] (outcomes_of how.now keep_name f manys.now ones.now))
+        (AreRowsTaken how.now ones.now [] (outcomes_of how.now keep_name f manys.now ones.now))
         (λ e. e ≢ Memory → fault_of_outcomes how.now.card [] (outcomes_of how.now keep_name f manys.now ones.now) ≡ match_told e) }
 {
-    let mut rows = no_rows(alloc);
+    let mut rows = no_rows(alloc, ones)?;
     for many in manys {
         if let Err(fault) = join_one(alloc, how, keep_name, op, ones, places, many, &mut rows) {
             return Err(fault);

@@ -1,12 +1,15 @@
 // The elements of a result, as pairs give them.
-ghost use Rattle.pr_labels.specs.declared.matching.Card.{Card};
-ghost use Rattle.std.specs.Prelude.{◌≡◌, ◌≢◌, List, [], ◌∷◌, ◌++◌, Some, None, Ok, IfOk, OnOk, MatchResult};
+ghost use Rattle.pr_labels.specs.declared.item.Item.{Item};
+ghost use Rattle.pr_labels.specs.declared.matching.Matching.{Matching};
+ghost use Rattle.pr_num.specs.declared.value.Num.{Num};
+ghost use Rattle.std.specs.Prelude.{◌≡◌, ◌≢◌, ◌<◌, length, List, [], ◌∷◌, ◌++◌, Some, None, Ok, IfOk, OnOk, MatchResult};
 ghost use Rattle.std.specs.BTreeMap.{IsOrdered, insert_entry};
 ghost use Rattle.pr_labels.specs.Order.{labels_cmp};
 ghost use Rattle.pr_join.specs.declared.join_fault.JoinFault.TheVariants.{Memory};
 ghost use Rattle.pr_vectors.specs.Vectors.{IsVector, element};
 ghost use Rattle.pr_vectors.specs.Matching.{Kept, key_fault, labels_fault, outcome_fault};
 ghost use Rattle.pr_join.specs.Faults.{match_told};
+ghost use Rattle.pr_join.specs.Places.{IsOnlyAt};
 ghost use Rattle.pr_join.specs.Rows.{HasTakenKeys, HasItems, HasKept, elements, is_one_to_one, kept_with};
 
 use crate::join_fault::JoinFault;
@@ -16,22 +19,23 @@ use pr_ordered::Ordered;
 use std::alloc::{AllocError, Global};
 use std::collections::BTreeMap;
 
-/// The elements so far by their labels, and in one-to-one matching the keys of the pairs that gave
-/// them.
+/// The elements so far by their labels, and in one-to-one matching which elements of the one side
+/// gave one, by their places.
 #[derive(Drop)]
 pub struct Rows {
     pub items: Ordered<Num>,
-    pub taken: Ordered<()>,
+    pub taken: Vec<bool>,
 }
 
-/// No elements.
-pub fn no_rows(alloc: Global) -> Rows
-    ensures { (card : Card) → HasKept card [] result }
+/// No elements of pairs with the one side.
+pub fn no_rows(alloc: Global, ones: &[Item<Num>]) -> Result<Rows, AllocError>
+    ensures kept { IfOk result (λ rows. (how : Matching) → HasKept how ones.now [] rows) }
+    ensures room { IfOk result (λ rows. length rows.taken.items ≡ length ones.now) }
 {
-    Rows {
+    Ok(Rows {
         items: Ordered::new(alloc),
-        taken: Ordered::new(alloc),
-    }
+        taken: vec![in alloc; false; ones.len()]?,
+    })
 }
 
 /// Puts a value behind labels.
@@ -52,19 +56,23 @@ fn is_one_to_one(card: Card) -> bool
     matches!(card, Card::OneToOne)
 }
 
-// Takes a key, which in one-to-one matching may come once.
-fn take_key(taken: &mut Ordered<()>, card: Card, key: Labels) -> Result<(), JoinFault>
-    ensures { (before : List Kept) (k : Kept) → k.key ≡ key → HasTakenKeys card before taken.old → MatchResult result
-        (λ _. (key_fault card before k ≡ None) × HasTakenKeys card (before ++ k ∷ []) taken.new)
+// Takes a key, which in one-to-one matching may come once. Of the one side the element at the place
+// alone has it.
+fn take_key(taken: &mut Vec<bool>, card: Card, place: usize, key: Labels) -> Result<(), JoinFault>
+    requires { place < length taken.old.items }
+    ensures taken { (how : Matching) (ones : List (Item Num)) (before : List Kept) (k : Kept) → how.card ≡ card → k.key ≡ key → IsOnlyAt how ones key place → HasTakenKeys how ones before taken.old.items → MatchResult result
+        (λ _. (key_fault card before k ≡ None) × HasTakenKeys how ones (before ++ k ∷ []) taken.new.items)
         (λ e. e ≢ Memory → key_fault card before k ≡ match_told e) }
+    ensures room { OnOk result (length taken.new.items ≡ length taken.old.items) }
 {
     if !is_one_to_one(card) {
         return Ok(());
     }
-    match taken.put(key, ())? {
-        None => Ok(()),
-        Some(key) => Err(JoinFault::ManyToMany { key }),
+    if taken[place] {
+        return Err(JoinFault::ManyToMany { key });
     }
+    taken[place] = true;
+    Ok(())
 }
 
 // Takes an element, whose labels may come once.
@@ -79,19 +87,23 @@ fn take_item(items: &mut Ordered<Num>, labels: Labels, value: Num) -> Result<(),
     }
 }
 
-/// Takes what a pair gives, unless an earlier pair with its key or its labels was taken.
+/// Takes what a pair gives, unless an earlier pair with its key or its labels was taken. Of the one
+/// side the element at the place alone has the key.
 pub fn take(
     rows: &mut Rows,
     card: Card,
+    place: usize,
     key: Labels,
     labels: Labels,
     value: Num,
 ) -> Result<(), JoinFault>
-    ensures { (before : List Kept) (k : Kept) → k ≡ kept_with key labels value → HasKept card before rows.old → MatchResult result
-        (λ _. (outcome_fault card before (Ok (Some k)) ≡ None) × HasKept card (before ++ k ∷ []) rows.new)
+    requires { place < length rows.old.taken.items }
+    ensures taken { (how : Matching) (ones : List (Item Num)) (before : List Kept) (k : Kept) → how.card ≡ card → k ≡ kept_with key labels value → IsOnlyAt how ones key place → HasKept how ones before rows.old → MatchResult result
+        (λ _. (outcome_fault card before (Ok (Some k)) ≡ None) × HasKept how ones (before ++ k ∷ []) rows.new)
         (λ e. e ≢ Memory → outcome_fault card before (Ok (Some k)) ≡ match_told e) }
+    ensures room { OnOk result (length rows.new.taken.items ≡ length rows.old.taken.items) }
 {
-    take_key(&mut rows.taken, card, key)?;
+    take_key(&mut rows.taken, card, place, key)?;
     take_item(&mut rows.items, labels, value)
 }
 

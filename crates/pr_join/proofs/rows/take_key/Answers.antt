@@ -1,19 +1,26 @@
-use Rattle.std.proofs.Common.{List, Option, subst, sym}
-use Rattle.pr_labels.specs.declared.pair.Pair.{Pair}
-use Rattle.pr_ordered.specs.Entries.{IsPut}
-use Rattle.pr_join.proofs.Taken.{taken_free, taken_more, taken_twice}
+use Rattle.std.proofs.Common.{◌≡◌, ◌∙◌, ap, sym, refl, subst, Bool, true, false, [], ◌∷◌, ◌++◌, length, set, slice_get, Some, None}
+use Rattle.std.proofs.lemmas.Option.{slice_get_read}
+use Rattle.pr_labels.specs.declared.matching.Card.{Card}
+use Rattle.pr_vectors.specs.declared.match_fault.MatchFault.TheVariants as fault
+use Rattle.pr_vectors.specs.Matching.{key_fault}
+use Rattle.pr_join.specs.Rows.{HasTakenKeys, is_one_to_one}
+use Rattle.pr_join.proofs.Taken.{taken_more, taken_twice}
 use Rattle.pr_join.proofs.rows.take_key.Goals as goal
 
-pub returns-then-not-is_one_to_one : goal.returns-then-not-is_one_to_one
-returns-then-not-is_one_to_one c = λ before k e h.
-    taken_free c.args.card before k c.args.taken.now (sym c.if-not-is_one_to_one.ensures) h
+pub returns-then-index-clause-taken : goal.returns-then-index-clause-taken
+returns-then-index-clause-taken c = λ how ones before k card key only h _.
+    let taken = c.args.taken.now.items in
+    let mark = c.index.result.now in
+    let once : is_one_to_one how.card ≡ true = ap is_one_to_one card ∙ sym c.if-not-is_one_to_one.ensures in
+    let at : slice_get taken c.args.place ≡ Some true = slice_get_read taken (length taken) c.args.place mark refl c.requires c.index.ensures ∙ ap (λ (b : Bool). Some b) c.if-index.true in
+    subst (λ (x : Card). key_fault x before k ≡ Some (fault.ManyToMany c.args.key)) card
+    (taken_twice how ones before k taken h c.args.key c.args.place once key only at)
 
-pub returns-in-None : goal.returns-in-None
-returns-in-None c = λ before k e h.
-    taken_more c.args.card before k c.args.key c.args.taken.now c.put.new.self (sym c.if-not-is_one_to_one.ensures) e
-    (subst (λ (o : Option (List Pair)). IsPut o c.args.key tt c.args.taken.now c.put.new.self) c.in-None.is c.in_ok-put.ensures) h
-
-pub returns-in-Some : goal.returns-in-Some
-returns-in-Some c = λ before k e h _.
-    taken_twice c.args.card before k c.args.key c.in-Some.key c.args.taken.now c.put.new.self (sym c.if-not-is_one_to_one.ensures) e
-    (subst (λ (o : Option (List Pair)). IsPut o c.args.key tt c.args.taken.now c.put.new.self) c.in-Some.is c.in_ok-put.ensures) h
+pub returns-clause-taken : goal.returns-clause-taken
+returns-clause-taken c = λ how ones before k card key only h.
+    let taken = c.args.taken.now.items in
+    let mark = c.index.result.now in
+    let once : is_one_to_one how.card ≡ true = ap is_one_to_one card ∙ sym c.if-not-is_one_to_one.ensures in
+    let at : slice_get taken c.args.place ≡ Some false = slice_get_read taken (length taken) c.args.place mark refl c.requires c.index.ensures ∙ ap (λ (b : Bool). Some b) c.if-index.false in
+    subst (λ (x : Card). (key_fault x before k ≡ None) × HasTakenKeys how ones (before ++ k ∷ []) (set taken c.args.place true)) card
+    (taken_more how ones before k taken h c.args.key c.args.place once key only at c.requires)
