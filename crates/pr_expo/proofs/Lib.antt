@@ -4,3 +4,4 @@ pub mod Telling
 pub mod Reading
 pub mod Times
 pub mod Endings
+pub mod Sampled

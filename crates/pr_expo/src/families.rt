@@ -1,6 +1,6 @@
 // The families of the lines so far.
 use crate::exposition::Family;
-use crate::known::{Known, nothing_known};
+use crate::known::{Known, nothing_known, with_sample};
 use indexmap::IndexMap;
 use pr_expo_line::FamilyKind;
 use pr_words::Text;
@@ -21,12 +21,12 @@ impl Model for Families {
     ghost view = { λ f. f.known.entries };
 }
 
-ghost use Rattle.std.specs.Prelude.{◌≡◌, ℕ, [], IfOk, MatchOption, OnOk, codes, false, map, true};
+ghost use Rattle.std.specs.Prelude.{◌≡◌, ℕ, [], IfOk, IfSome, MatchOption, OnOk, codes, false, map, true, unwrap_or};
 ghost use Rattle.std.specs.List.{position_or_len};
 ghost use Rattle.std.specs.Map.{keys_of};
 ghost use Rattle.std.specs.Str.{bytes_eq};
 ghost use Rattle.pr_expo.specs.Families.{ends_in, has_parts, whole_of, without_ending};
-ghost use Rattle.pr_expo.specs.Keeping.{family_from, kept_family, kept_kind, known_of, put};
+ghost use Rattle.pr_expo.specs.Keeping.{family_from, kept_family, kept_kind, known_of, put, with_sample};
 
 // The name without an ending, where it has that.
 fn without_ending<'a>(name: &'a str, ending: &str) -> Option<&'a str>
@@ -88,20 +88,57 @@ impl Families {
         }
     }
 
-    // The family of a sample with this name.
-    pub(crate) fn family_of(&self, alloc: Global, name: &Text) -> Result<Text, AllocError>
-        ensures { IfOk result (λ f. f ≡ kept_family self.now name.now) }
+    // The family of a sample with this name, where that is not the name itself.
+    fn other_family(&self, alloc: Global, name: &Text) -> Result<Option<Text>, AllocError>
+        ensures { IfOk result (λ o. unwrap_or o name.now ≡ kept_family self.now name.now) }
     {
         if let Some(family) = self.whole_of(alloc, name, "_bucket", false)? {
-            return Ok(family);
+            return Ok(Some(family));
         }
         if let Some(family) = self.whole_of(alloc, name, "_sum", true)? {
-            return Ok(family);
+            return Ok(Some(family));
         }
-        if let Some(family) = self.whole_of(alloc, name, "_count", true)? {
-            return Ok(family);
+        let family = self.whole_of(alloc, name, "_count", true)?;
+        Ok(family)
+    }
+
+    // The place of a family that is known to have a sample.
+    #[tactic(auto, using(crate::proofs::Sampled::stays_put, crate::proofs::Sampled::place_is))]
+    fn sampled_place(&self, family: &Text) -> Option<usize>
+        ensures place { IfSome result (λ i. i ≡ position_or_len (bytes_eq family.now) (keys_of self.now)) }
+        ensures stays { IfSome result (λ i. put self.now family.now (with_sample (known_of self.now family.now)) ≡ self.now) }
+    {
+        match self.known.get_full(family) {
+            Some((place, _, known)) if known.sampled => Some(place),
+            _ => None,
         }
-        name.copy(alloc)
+    }
+
+    // Puts that a family has a sample, and gives its place.
+    fn put_sample(&mut self, family: Text) -> Result<usize, AllocError>
+        ensures place { IfOk result (λ i. i ≡ position_or_len (bytes_eq family) (keys_of self.old)) }
+        ensures known { OnOk result (self.new ≡ put self.old family (with_sample (known_of self.old family))) }
+    {
+        let known = with_sample(self.known_of(&family));
+        let place = self.put(family, known)?;
+        Ok(place)
+    }
+
+    // The same for the family of a sample with this name. Where the name is that of the family, it
+    // is copied for its first sample alone.
+    pub(crate) fn note_sample(&mut self, alloc: Global, name: &Text) -> Result<usize, AllocError>
+        ensures place { IfOk result (λ i. i ≡ position_or_len (bytes_eq (kept_family self.old name.now)) (keys_of self.old)) }
+        ensures known { OnOk result (self.new ≡ put self.old (kept_family self.old name.now) (with_sample (known_of self.old (kept_family self.old name.now)))) }
+    {
+        if let Some(family) = self.other_family(alloc, name)? {
+            let place = self.put_sample(family)?;
+            return Ok(place);
+        }
+        if let Some(place) = self.sampled_place(name) {
+            return Ok(place);
+        }
+        let place = self.put_sample(name.copy(alloc)?)?;
+        Ok(place)
     }
 
     // Puts what is known of a name, and gives the place of the name.

@@ -7,7 +7,7 @@ ghost use Rattle.pr_expo_line.specs.declared.place.Read.TheVariants.{Sample};
 
 use crate::exposition::{ExpoError, Exposition, Line};
 use crate::families::Families;
-use crate::known::{with_help, with_sample, with_type};
+use crate::known::{with_help, with_type};
 use crate::sample::{labels_of, time_of, value_of};
 use crate::text::next_line;
 use pr_expo_line::{FamilyKind, LineFault, Measured, Read, read_line};
@@ -84,9 +84,7 @@ fn note_sample(
         mut families,
         mut lines,
     } = draft;
-    let family = families.family_of(alloc, &measured.head.name)?;
-    let known = with_sample(families.known_of(&family));
-    let place = families.put(family, known)?;
+    let place = families.note_sample(alloc, &measured.head.name)?;
     lines.push(sample_of(alloc, measured, time, place)?)?;
     Ok(Draft { families, lines })
 }

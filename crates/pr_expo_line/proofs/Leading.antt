@@ -370,6 +370,10 @@ whole_leads head p s d ds e h =
     (e.enter d np.Whole (digit_small d k.0) (digit_no_blank d k.0) (digit_no_sign d k.0) (digit_no_letter d (code "n") k.0 (lit≤ tt) (lit< tt)) (whole_digit d k.0))
     (digits_on head (s ++ d ∷ []) np.Whole ds whole_on k.1))
 
+-- digits where a number begins
+pub starts_whole : (head : Head) (d : ℕ) (ds : List ℕ) → AreDigits (d ∷ ds) → Leads (BeforeNumber head) (InNumber head np.Whole (d ∷ ds)) (d ∷ ds)
+starts_whole head d ds h = whole_leads head (BeforeNumber head) [] d ds (enters_bare head) h
+
 mantissa_leads : (head : Head) (p : Place) (s whole : List ℕ) (f : Fraction) → Enters head p s → AreDigits whole → AreDigits (decimals f) → 0 < length whole + length (decimals f) → Counts head p s (whole ++ fraction_part f)
 mantissa_leads head p s [] no_point e w d some = absurd (omega arith)
 mantissa_leads head p s [] (point []) e w d some = absurd (omega arith)

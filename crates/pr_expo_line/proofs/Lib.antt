@@ -7,6 +7,7 @@ pub mod Sound
 pub mod Shapes
 pub mod Leading
 pub mod RunSteps
+pub mod PlainFronts
 pub mod OnLiterals
 pub mod Completes
 pub mod Told

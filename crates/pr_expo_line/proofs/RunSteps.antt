@@ -59,11 +59,11 @@ list_all_same : (p q : ℕ → Bool) → ((x : ℕ) → p x ≡ q x) → (xs : L
 list_all_same p q f [] = refl
 list_all_same p q f (x ∷ xs) = λ i. f x i && list_all_same p q f xs i
 
-all_before : (p : ℕ → Bool) (xs : List ℕ) → list_all p (take (position_or_len (λ x. not (p x)) xs) xs) ≡ true
+pub all_before : (p : ℕ → Bool) (xs : List ℕ) → list_all p (take (position_or_len (λ x. not (p x)) xs) xs) ≡ true
 all_before p xs = sym (list_all_same (λ x. not (not (p x))) p (λ x. twice (p x)) (take (position_or_len (λ x. not (p x)) xs) xs)) ∙ none_before (λ x. not (p x)) xs
 
 -- bytes of a class that has ASCII characters alone
-ascii : (p : ℕ → Bool) → ((c : ℕ) → p c ≡ true → c < 128) → (xs : List ℕ) → list_all p xs ≡ true → IsAscii xs
+pub ascii : (p : ℕ → Bool) → ((c : ℕ) → p c ≡ true → c < 128) → (xs : List ℕ) → list_all p xs ≡ true → IsAscii xs
 ascii p s [] h i = omega arith
 ascii p s (x ∷ xs) h zero = s x (both (p x) (list_all p xs) h).0
 ascii p s (x ∷ xs) h (suc i) = ascii p s xs (both (p x) (list_all p xs) h).1 i

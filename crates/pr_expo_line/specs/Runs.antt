@@ -1,9 +1,9 @@
 -- Runs: characters that keep a line at its place, and only lengthen a text there. They say nothing
 -- of what a line reads as.
-use Rattle.std.specs.Prelude.{◌≡◌, ℕ, Bool, true, false, not, ◌==◌, ◌||◌, List, ◌++◌}
+use Rattle.std.specs.Prelude.{◌≡◌, ℕ, Bool, true, false, not, ◌==◌, ◌||◌, List, [], ◌∷◌, ◌++◌}
 use Rattle.std.specs.List.{list_all}
 use Rattle.std.specs.Char.{is_ascii_digit}
-use Rattle.std.specs.Str.{chars}
+use Rattle.std.specs.Str.{IsUtf8, chars}
 use Prim.Native.Char.{code}
 use Rattle.pr_words.specs.Bytes.{is_label_byte}
 use Rattle.pr_labels.specs.Names.{is_metric_byte}
@@ -11,6 +11,7 @@ use Rattle.pr_expo_line.specs.declared.number.NumberPlace.{NumberPlace}
 use Rattle.pr_expo_line.specs.declared.number.NumberPlace.TheVariants.{Whole, Fraction, ExponentDigits}
 use Rattle.pr_expo_line.specs.declared.place.Place.{Place}
 use Rattle.pr_expo_line.specs.declared.place.Place.TheVariants.{Passed, InFamily, InHelp, InName, InLabel, InValue, InNumber}
+use Rattle.pr_expo_line.specs.Line.{way}
 
 -- what ends a value, or begins an escape in it, and every other character of it
 abbrev pub ends_plain : ℕ → Bool
@@ -49,3 +50,13 @@ longer place run = place
 -- each character of the text only lengthens the one at the place
 abbrev pub IsRun : Place → List ℕ → Type 0
 IsRun place run = list_all (lengthens place) (chars run) ≡ true
+
+-- whether the first byte is of a class
+abbrev pub begins_with : (ℕ → Bool) → List ℕ → Bool
+begins_with p [] = false
+begins_with p (b ∷ bs) = p b
+
+-- A front of the text leads from one place to the next, and this is left.
+pub record LeadsTo (place : Place) (text : List ℕ) (next : Place) (rest : List ℕ) : Type 0 where
+  pub is_text : IsUtf8 rest
+  pub leads : way place (chars text) ≡ way next (chars rest)

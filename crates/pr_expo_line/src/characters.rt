@@ -1,5 +1,5 @@
 // The characters of a line.
-ghost use Rattle.std.specs.Prelude.{◌≡◌};
+ghost use Rattle.std.specs.Prelude.{◌≡◌, ◌++◌, ◌<◌, encode_utf8, length, IfSome, MatchOption};
 ghost use Rattle.pr_words.specs.Bytes.{is_blank, is_letter, is_label_byte};
 ghost use Rattle.pr_labels.specs.Names.{is_metric_letter, is_metric_byte};
 ghost use Rattle.pr_expo_line.specs.Characters.{is_sign};
@@ -40,4 +40,17 @@ pub(crate) fn is_metric_byte(c: char) -> bool
     ensures { result ≡ is_metric_byte c }
 {
     is_metric_letter(c) || c.is_ascii_digit()
+}
+
+/// The first character of a text, and what stands after it.
+#[tactic(auto, using(crate::proofs::RunSteps::shorter))]
+pub(crate) fn split_char(text: &str) -> Option<(char, &str)>
+    ensures parts { MatchOption result (length text.now ≡ 0) (λ x. text.now ≡ encode_utf8 x.0 ++ x.1.now) }
+    ensures shorter { IfSome result (λ x. length x.1.now < length text.now) }
+{
+    let mut chars = text.chars();
+    match chars.next() {
+        Some(c) => Some((c, chars.as_str())),
+        None => None,
+    }
 }

@@ -8,6 +8,7 @@ mod laws;
 mod line;
 mod number;
 mod place;
+mod plain;
 mod runs;
 mod steps;
 

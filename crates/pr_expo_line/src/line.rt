@@ -1,14 +1,15 @@
 //! Reading a line.
-ghost use Rattle.std.specs.Prelude.{◌≡◌, ◌++◌, ◌<◌, length, encode_utf8, Some, None, Ok, IfOk, IfSome, MatchOption, MatchResult, if◌then◌else◌};
+ghost use Rattle.std.specs.Prelude.{◌≡◌, Some, None, Ok, IfOk, MatchResult, if◌then◌else◌};
 ghost use Rattle.std.specs.Str.{chars, is_utf8};
 ghost use Rattle.pr_expo_line.specs.Line.{goes, stands_before, after_keyword, keyword_end, family_end, type_of, type_end, ends, fault_at, end_fault, at_end, way, comes, outcome_of, text_front, line_read, IsBadLine, StopsBy};
 ghost use Rattle.pr_expo_line.specs.Sound.{IsSound};
 ghost use Rattle.pr_expo_line.specs.declared.place.Place.TheVariants.{Start};
 ghost use Rattle.pr_expo_line.specs.declared.place.ExpoKind.TheVariants.{DuplicateLabel, BadLabels};
 
-use crate::characters::is_label_byte;
+use crate::characters::{is_label_byte, split_char};
 use crate::number::is_number_end;
 use crate::place::{ExpoKind, Head, Measured, Place, Read, Word};
+use crate::plain::plain_front;
 use crate::runs::{lengthened, run_len};
 use crate::steps::{stands_before, step, type_of};
 use pr_words::Text;
@@ -155,25 +156,12 @@ fn at_end(place: Place) -> Result<Read, ExpoKind>
     }
 }
 
-/// The first character of a text, and what stands after it.
-#[tactic(auto, using(crate::proofs::RunSteps::shorter))]
-fn split_char(text: &str) -> Option<(char, &str)>
-    ensures parts { MatchOption result (length text.now ≡ 0) (λ x. text.now ≡ encode_utf8 x.0 ++ x.1.now) }
-    ensures shorter { IfSome result (λ x. length x.1.now < length text.now) }
-{
-    let mut chars = text.chars();
-    match chars.next() {
-        Some(c) => Some((c, chars.as_str())),
-        None => None,
-    }
-}
-
-/// Where the characters of a text lead: a run at once, and each other character by itself.
+/// Where the characters of a text lead: its plain front and each run at once, and each other
+/// character by itself.
 fn way_of(alloc: Global, text: &str) -> Result<Place, LineFault>
     ensures { MatchResult result (λ p. way Start (chars text.now) ≡ comes p) (StopsBy text.now) }
 {
-    let mut place = Place::Start;
-    let mut rest = text;
+    let (mut place, mut rest) = plain_front(alloc, text)?;
     while let Some((c, after)) = split_char(rest) {
         let kind = fault_before(&place, c);
         match step(alloc, place, c)? {

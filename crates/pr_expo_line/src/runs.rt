@@ -20,7 +20,7 @@ fn after_metric(text: &[u8]) -> Option<usize>
 }
 
 /// How many bytes stand before the first that is none of a metric's name.
-fn metric_bytes(text: &[u8]) -> usize
+pub(crate) fn metric_bytes(text: &[u8]) -> usize
     ensures { result ≡ position_or_len (λ b. not (is_metric_byte b)) text.now }
 {
     after_metric(text).unwrap_or(text.len())
@@ -32,7 +32,7 @@ fn after_label(text: &[u8]) -> Option<usize>
     text.iter().position(|b| !is_label_byte(*b as char))
 }
 
-fn label_bytes(text: &[u8]) -> usize
+pub(crate) fn label_bytes(text: &[u8]) -> usize
     ensures { result ≡ position_or_len (λ b. not (is_label_byte b)) text.now }
 {
     after_label(text).unwrap_or(text.len())
@@ -44,7 +44,7 @@ fn after_digits(text: &[u8]) -> Option<usize>
     text.iter().position(|b| !b.is_ascii_digit())
 }
 
-fn digits(text: &[u8]) -> usize
+pub(crate) fn digits(text: &[u8]) -> usize
     ensures { result ≡ position_or_len (λ b. not (is_ascii_digit b)) text.now }
 {
     after_digits(text).unwrap_or(text.len())
@@ -57,7 +57,7 @@ fn after_plain(text: &[u8]) -> Option<usize>
 }
 
 /// How many bytes stand before the first that ends a value or begins an escape in it.
-fn plain_bytes(text: &[u8]) -> usize
+pub(crate) fn plain_bytes(text: &[u8]) -> usize
     ensures { result ≡ position_or_len ends_plain text.now }
 {
     after_plain(text).unwrap_or(text.len())

@@ -111,7 +111,7 @@ pub(crate) fn stands_before(head: &Head, name: &Text) -> bool
     METRIC_LABEL == name.as_str() || head.labels.has(name)
 }
 
-fn bare(alloc: Global, name: Text) -> Head
+pub(crate) fn bare(alloc: Global, name: Text) -> Head
     ensures { result ≡ bare name }
 {
     Head {
@@ -120,7 +120,12 @@ fn bare(alloc: Global, name: Text) -> Head
     }
 }
 
-fn with_label(alloc: Global, head: Head, name: Text, value: Text) -> Result<Head, AllocError>
+pub(crate) fn with_label(
+    alloc: Global,
+    head: Head,
+    name: Text,
+    value: Text,
+) -> Result<Head, AllocError>
     ensures { IfOk result (λ h. h ≡ with_label head name value) }
 {
     let Head {

@@ -3,6 +3,9 @@ use Rattle.pr_expo_line.proofs.RunSteps.{run_goes_on}
 use Rattle.pr_expo_line.proofs.Ways.{goes_on, stops_at, comes_to}
 use Rattle.pr_expo_line.proofs.line.way_of.Goals as goal
 
+pub loop-c-init : goal.loop-c-init
+loop-c-init c = (c.in_ok-place.ensures.is_text, sym c.in_ok-place.ensures.leads)
+
 pub loop-c-preserved : goal.loop-c-preserved
 loop-c-preserved c =
     let held = c.loop-c.invariant in
