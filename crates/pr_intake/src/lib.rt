@@ -9,5 +9,5 @@ mod taking;
 mod untold;
 
 pub use marked::{mark, mark_if};
-pub use marking::{add_labels, put_markers};
+pub use marking::{add_labels, put_markers, set_of};
 pub use taking::{is_shown, marker, put, put_if};

@@ -1,12 +1,11 @@
 // Markers for the series that are gone, and which series got one.
-ghost use Rattle.std.specs.Prelude.{◌≡◌, true, [], ◌++◌, List, OnOk, IfOk, fold};
-ghost use Rattle.pr_labels.specs.Rising.{with_labels};
+ghost use Rattle.std.specs.Prelude.{◌≡◌, true, ◌++◌, List, OnOk, IfOk};
 ghost use Rattle.pr_history.specs.declared.entry.Entry.{Entry};
 ghost use Rattle.pr_puts.specs.Puts.{admitted, label_sets_of, markers};
 ghost use Rattle.pr_head.specs.Holds.{Holds};
 ghost use Rattle.pr_intake.specs.Intake.{Puts, PutsIf};
 
-use crate::marking::{add_labels, put_markers};
+use crate::marking::{put_markers, set_of};
 use crate::same::are_same;
 use crate::untold::mark_untold;
 use pr_head::Head;
@@ -14,18 +13,6 @@ use pr_history::Entry;
 use pr_labels::Labels;
 use pr_time::Ms;
 use std::alloc::{AllocError, Global};
-use std::collections::BTreeSet;
-
-/// The label sets of a list.
-pub(crate) fn set_of(alloc: Global, list: &[Labels]) -> Result<BTreeSet<Labels>, AllocError>
-    ensures { IfOk result (λ s. s.keys ≡ fold with_labels [] list.now) }
-{
-    let mut sets = BTreeSet::new(alloc);
-    for labels in list {
-        add_labels(&mut sets, labels.copy(alloc)?)?;
-    }
-    Ok(sets)
-}
 
 // Puts rows behind others, and tells their series.
 fn move_rows(

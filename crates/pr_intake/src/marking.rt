@@ -1,5 +1,5 @@
 // Stale markers.
-ghost use Rattle.std.specs.Prelude.{◌≡◌, [], ◌∷◌, List, OnOk, OnErr};
+ghost use Rattle.std.specs.Prelude.{◌≡◌, [], ◌∷◌, List, IfOk, OnOk, OnErr, fold};
 ghost use Rattle.pr_labels.specs.Rising.{is_among, with_labels};
 ghost use Rattle.pr_history.specs.declared.entry.Entry.{Entry};
 ghost use Rattle.pr_head.specs.Holds.{Holds};
@@ -20,6 +20,17 @@ pub fn add_labels(sets: &mut BTreeSet<Labels>, labels: Labels) -> Result<(), All
 {
     sets.insert(labels)?;
     Ok(())
+}
+
+/// The label sets of a list, in label order, each once.
+pub fn set_of(alloc: Global, list: &[Labels]) -> Result<BTreeSet<Labels>, AllocError>
+    ensures { IfOk result (λ s. s.keys ≡ fold with_labels [] list.now) }
+{
+    let mut sets = BTreeSet::new(alloc);
+    for labels in list {
+        add_labels(&mut sets, labels.copy(alloc)?)?;
+    }
+    Ok(sets)
 }
 
 /// Whether a label set is among those that are there.

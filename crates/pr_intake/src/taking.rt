@@ -2,7 +2,7 @@
 ghost use Rattle.std.specs.Prelude.{◌≡◌, [], ◌∷◌, ◌++◌, List, IfOk, OnOk, OnErr};
 ghost use Rattle.pr_history.specs.declared.entry.Entry.{Entry};
 ghost use Rattle.pr_history.specs.Admission.{admit};
-ghost use Rattle.pr_head.specs.Holds.{Holds};
+ghost use Rattle.pr_head.specs.Holds.{Holds, entry_of};
 ghost use Rattle.pr_puts.specs.Puts.{is_added, is_shown, marker};
 ghost use Rattle.pr_intake.specs.Intake.{HasTaken, HasTakenFront, Puts, PutsIf};
 
@@ -48,20 +48,36 @@ pub fn put(head: &mut Head, rows: &mut Vec<Entry>, entry: Entry) -> Result<Appen
     Ok(answer)
 }
 
-/// Puts an entry into the head; and where rows are told, behind them if it is added.
+// The point of a series at a time.
+fn entry_of(alloc: Global, labels: &Labels, time: Ms, point: Point) -> Result<Entry, AllocError>
+    ensures { IfOk result (λ e. e ≡ entry_of labels.now time point) }
+{
+    Ok(Entry {
+        labels: labels.copy(alloc)?,
+        time,
+        point,
+    })
+}
+
+/// Puts the point of a series into the head; and where rows are told, its entry behind them if it is
+/// added. Where they are not, no entry is made.
 pub fn put_if(
+    alloc: Global,
     tells: bool,
     head: &mut Head,
     rows: &mut Vec<Entry>,
-    entry: Entry,
+    labels: &Labels,
+    time: Ms,
+    point: Point,
 ) -> Result<Append, AllocError>
-    ensures answer { (history : List Entry) → Holds head.old history → IfOk result (λ a. a ≡ admit history entry.labels entry.time entry.point) }
-    ensures puts { (history : List Entry) → Holds head.old history → OnOk result (PutsIf tells head.old head.new rows.old.items rows.new.items history (entry ∷ [])) }
+    ensures answer { (history : List Entry) → Holds head.old history → IfOk result (λ a. a ≡ admit history labels.now time point) }
+    ensures puts { (history : List Entry) → Holds head.old history → OnOk result (PutsIf tells head.old head.new rows.old.items rows.new.items history (entry_of labels.now time point ∷ [])) }
 {
     if tells {
+        let entry = entry_of(alloc, labels, time, point)?;
         return put(head, rows, entry);
     }
-    append(head, &entry)
+    head.append(labels, time, point)
 }
 
 /// The marker of a series.

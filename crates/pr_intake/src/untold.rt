@@ -5,8 +5,7 @@ ghost use Rattle.pr_head.specs.Holds.{Holds};
 ghost use Rattle.pr_puts.specs.Puts.{markers};
 ghost use Rattle.pr_intake.specs.Intake.{HasTaken};
 
-use crate::marked::set_of;
-use crate::marking::is_among;
+use crate::marking::{is_among, set_of};
 use crate::same::are_same;
 use crate::taking::{append, marker};
 use pr_head::Head;

@@ -3,7 +3,7 @@ ghost use Rattle.std.specs.Prelude.{◌≡◌, ◌++◌, ◌∷◌, [], true, co
 ghost use Rattle.pr_history.specs.declared.entry.Entry.{Entry};
 ghost use Rattle.pr_head.specs.Holds.{Holds};
 ghost use Rattle.pr_puts.specs.Puts.{is_shown};
-ghost use Rattle.pr_rules.specs.Evaluations.{sample_entry, put_of};
+ghost use Rattle.pr_rules.specs.Evaluations.{put_of};
 ghost use Rattle.pr_rule_step.specs.Written.{Writes};
 
 use crate::evaluation::Evaluation;
@@ -13,19 +13,7 @@ use pr_intake::{is_shown, put_if};
 use pr_labels::{Item, Labels};
 use pr_num::{Num, Point};
 use pr_rules::Put;
-use pr_time::Ms;
 use std::alloc::{AllocError, Global};
-
-// A sample at a time.
-fn sample_entry(alloc: Global, now: Ms, item: &Item<Num>) -> Result<Entry, AllocError>
-    ensures { IfOk result (λ e. e ≡ sample_entry now item.now) }
-{
-    Ok(Entry {
-        labels: item.labels.copy(alloc)?,
-        time: now,
-        point: Point::Value(item.value),
-    })
-}
 
 // Notes the series of a sample that it shows.
 fn note_shown(
@@ -73,8 +61,8 @@ fn put_sample(
     ensures { (history : List Entry) → Holds head.old history
         → OnOk result (Writes at.now.tells head.old head.new rows.old.items rows.new.items told.old.items told.new.items wrote.old.items wrote.new.items history at.now.time (item.now ∷ [])) }
 {
-    let entry = sample_entry(at.alloc, at.time, item)?;
-    let answer = put_if(at.tells, head, rows, entry)?;
+    let point = Point::Value(item.value);
+    let answer = put_if(at.alloc, at.tells, head, rows, &item.labels, at.time, point)?;
     note_shown(at.alloc, wrote, item, &answer)?;
     note_told(at, told, item, answer)
 }

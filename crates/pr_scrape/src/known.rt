@@ -7,12 +7,12 @@ ghost use Rattle.pr_head.specs.Holds.{Holds};
 ghost use Rattle.pr_world.specs.Scrapes.{dropped_count, kept_sets, markers, offered_entries, offers};
 ghost use Rattle.pr_intake.specs.Intake.{HasTakenFront, Puts};
 
-use crate::made::MadeLabels;
+use crate::made::ScrapedLabels;
 use crate::tally::{Tally, put_lines};
 use pr_expo::Line;
 use pr_head::Head;
 use pr_history::Entry;
-use pr_intake::{add_labels, put_markers};
+use pr_intake::{put_markers, set_of};
 use pr_labels::Labels;
 use pr_time::Ms;
 use pr_words::Items;
@@ -20,16 +20,16 @@ use std::alloc::{AllocError, Global};
 use std::collections::BTreeSet;
 use std::marker::Model;
 
-/// What is known of a target: the series that its last scrape left tracked, in label order; and, so
-/// that the next one finds them again, in the order of its samples, and what was made of the labels
-/// of these.
-/// Contracts see the series in label order.
+/// What is known of a target: the series that are tracked of it, in label order. So that the next
+/// scrape finds them again by comparison, also the same series in the order of the samples that
+/// offered them, and what was made of the labels of these samples. Contracts see the series that
+/// are tracked.
 #[derive(Drop)]
 pub(crate) struct Known {
     tracked: Items<Labels>,
     // Nothing, where the order is not known.
     kept: Option<Items<Labels>>,
-    made: MadeLabels,
+    made: ScrapedLabels,
 }
 
 impl Model for Known {
@@ -54,17 +54,6 @@ fn are_same(known: &Option<Items<Labels>>, kept: &[Labels]) -> bool
     }
 }
 
-// The label sets of a list.
-fn set_of(alloc: Global, list: &[Labels]) -> Result<BTreeSet<Labels>, AllocError>
-    ensures { IfOk result (λ s. s.keys ≡ fold with_labels [] list.now) }
-{
-    let mut sets = BTreeSet::new(alloc);
-    for labels in list {
-        add_labels(&mut sets, labels.copy(alloc)?)?;
-    }
-    Ok(sets)
-}
-
 // The label sets of a set, in order.
 fn in_order(alloc: Global, sets: BTreeSet<Labels>) -> Result<Vec<Labels>, AllocError>
     ensures { IfOk result (λ v. v.items ≡ sets.keys) }
@@ -80,7 +69,7 @@ impl Known {
         Known {
             tracked: Items::new(tracked),
             kept: None,
-            made: MadeLabels::new(alloc),
+            made: ScrapedLabels::new(alloc),
         }
     }
 

@@ -20,14 +20,14 @@ struct Made {
 /// sample and those that it has under the target, so that these are shared where a sample with the
 /// same labels comes to the place again. Contracts see the target.
 #[derive(Drop)]
-pub(crate) struct MadeLabels {
+pub(crate) struct ScrapedLabels {
     target: Labels,
     made: Vec<Made>,
     // The place of the next sample.
     next: usize,
 }
 
-impl Model for MadeLabels {
+impl Model for ScrapedLabels {
     ghost use Rattle.std.specs.Prelude.{List};
     ghost use Rattle.pr_labels.specs.declared.pair.Pair.{Pair};
     ghost use Rattle.pr_scrape.specs.Making.{AreMade};
@@ -67,12 +67,12 @@ fn remember(made: &mut Vec<Made>, place: usize, one: Made) -> Result<(), AllocEr
     Ok(())
 }
 
-impl MadeLabels {
+impl ScrapedLabels {
     /// Nothing is remembered, of a target without labels.
-    pub(crate) fn new(alloc: Global) -> MadeLabels
+    pub(crate) fn new(alloc: Global) -> ScrapedLabels
         ensures { result ≡ [] }
     {
-        MadeLabels {
+        ScrapedLabels {
             target: Labels::empty(alloc),
             made: Vec::new(alloc),
             next: 0,
@@ -80,10 +80,10 @@ impl MadeLabels {
     }
 
     // Nothing is remembered of a target.
-    fn of_target(alloc: Global, target: &Labels) -> Result<MadeLabels, AllocError>
+    fn of_target(alloc: Global, target: &Labels) -> Result<ScrapedLabels, AllocError>
         ensures { IfOk result (λ s. s ≡ target.now) }
     {
-        Ok(MadeLabels {
+        Ok(ScrapedLabels {
             target: target.copy(alloc)?,
             made: Vec::new(alloc),
             next: 0,
@@ -112,7 +112,7 @@ impl MadeLabels {
             self.rewind();
             return Ok(());
         }
-        *self = MadeLabels::of_target(alloc, target)?;
+        *self = ScrapedLabels::of_target(alloc, target)?;
         Ok(())
     }
 

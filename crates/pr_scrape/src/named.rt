@@ -126,21 +126,11 @@ pub(crate) fn scraped_labels(
     renamed(alloc, target, labels)?.union(alloc, target)
 }
 
-// Sets the value of a name that is a label's.
-fn set(alloc: Global, labels: &mut Labels, name: &str, value: &str) -> Result<(), AllocError>
-    ensures { OnOk result (labels.new ≡ set_label labels.old name.now value.now) }
-{
-    match labels.set(alloc, name, value) {
-        Ok(()) => Ok(()),
-        Err(_) => Err(AllocError),
-    }
-}
-
 /// The target's labels with a metric's name.
 pub(crate) fn metric_of(alloc: Global, target: &Labels, name: &str) -> Result<Labels, AllocError>
     ensures { IfOk result (λ l. l ≡ metric_of target.now name.now) }
 {
     let mut labels = target.copy(alloc)?;
-    set(alloc, &mut labels, METRIC_LABEL, name)?;
+    labels.assign(alloc, METRIC_LABEL, name)?;
     Ok(labels)
 }

@@ -2,7 +2,7 @@
 ghost use Rattle.std.specs.Prelude.{◌≡◌, IfOk};
 ghost use Rattle.pr_world.specs.Scrapes.{offer_by, offer_of, sample_time};
 
-use crate::made::MadeLabels;
+use crate::made::ScrapedLabels;
 use pr_expo::Line;
 use pr_history::Entry;
 use pr_labels::Labels;
@@ -42,11 +42,11 @@ fn offer(labels: Labels, is_timed: bool, time: Ms, value: Num) -> Offer
     Offer { entry, is_timed }
 }
 
-/// The offer that a sample is of the target that is remembered, unless its time is not taken or its
+/// The offer that the next sample makes under the target; none where its time is not taken or its
 /// value is too wide.
 pub(crate) fn offer_of(
     alloc: Global,
-    made: &mut MadeLabels,
+    made: &mut ScrapedLabels,
     now: Ms,
     line: &Line,
 ) -> Result<Option<Offer>, AllocError>

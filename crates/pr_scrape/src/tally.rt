@@ -8,7 +8,7 @@ ghost use Rattle.pr_world.specs.Scrapes.{dropped_count, offered_entries, is_show
 ghost use Rattle.pr_intake.specs.Intake.{HasTakenFront, Puts};
 ghost use Rattle.pr_scrape.specs.Tallying.{Tallies};
 
-use crate::made::MadeLabels;
+use crate::made::ScrapedLabels;
 use crate::offered::offer_of;
 use pr_expo::Line;
 use pr_head::Head;
@@ -100,7 +100,7 @@ fn put_line(
     head: &mut Head,
     rows: &mut Vec<Entry>,
     tally: &mut Tally,
-    made: &mut MadeLabels,
+    made: &mut ScrapedLabels,
     now: Ms,
     line: &Line,
 ) -> Result<(), AllocError>
@@ -121,7 +121,7 @@ pub(crate) fn put_lines(
     alloc: Global,
     head: &mut Head,
     rows: &mut Vec<Entry>,
-    made: &mut MadeLabels,
+    made: &mut ScrapedLabels,
     target: &Labels,
     now: Ms,
     lines: &[Line],

@@ -81,8 +81,8 @@ impl Targets {
         self.known.swap_remove(target)
     }
 
-    // Makes a target unknown, and hands out what was known of it: that nothing is tracked, where it
-    // was unknown.
+    // Makes a target unknown, and hands out what was known of it; of an unknown one nothing is
+    // tracked.
     fn take_known(&mut self, alloc: Global, target: &Labels) -> Known
         ensures found { (targets : List Target) → Knows self.old targets → result ≡ tracked_of targets target.now }
         ensures others { (targets : List Target) → Knows self.old targets → Knows self.new (without_target targets target.now) }
