@@ -3,3 +3,5 @@ pub mod RowLemmas
 pub mod Ruling
 pub mod Files
 pub mod Making
+pub mod InOrder
+pub mod Remembering

@@ -17,7 +17,7 @@ use pr_tmpl::External;
 use pr_words::Items;
 use std::alloc::{AllocError, Global};
 
-// What the rule of the made records of the element at a place.
+// What a rule that records makes of the element at a place, by what is remembered of it.
 #[tactic(auto, using(crate::proofs::Making::recorded_so))]
 fn recorded(
     alloc: Global,

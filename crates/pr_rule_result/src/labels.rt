@@ -17,7 +17,8 @@ use std::alloc::{AllocError, Global};
 // The name under which the alert's name stands.
 const ALERT_LABEL: &str = "alertname";
 
-// Sets the value of a name, which is that of a label.
+// Sets the value of a name of the rule's own labels, which is that of a label: a rule file has no
+// others.
 fn set(alloc: Global, labels: &mut Labels, name: &str, value: &str) -> Result<(), AllocError>
     ensures { OnOk result (labels.new ≡ set_label labels.old name.now value.now) }
 {
@@ -47,7 +48,7 @@ pub(crate) fn made_labels(
     ensures { IfOk result (λ l. l ≡ made_labels name.now over.now from.now) }
 {
     let mut labels = from.copy(alloc)?;
-    set(alloc, &mut labels, METRIC_LABEL, name)?;
+    labels.assign(alloc, METRIC_LABEL, name)?;
     set_all(alloc, &mut labels, over)?;
     Ok(labels)
 }
@@ -95,7 +96,7 @@ pub(crate) fn alerting_labels(
     let mut labels = item.labels.copy(alloc)?;
     labels.remove(alloc, METRIC_LABEL)?;
     set_expanded(alloc, &mut labels, external, templates, item)?;
-    set(alloc, &mut labels, ALERT_LABEL, rule.name.as_str())?;
+    labels.assign(alloc, ALERT_LABEL, rule.name.as_str())?;
     Ok(labels)
 }
 

@@ -87,9 +87,8 @@ fn limited(limit: u32, founds: Vec<Found>) -> Result<Vec<Found>, RuleError>
     })
 }
 
-/// What a rule makes of a vector, in label order. The limit is one on what is recorded: of an alert
-/// not the elements are counted.
-pub(crate) fn ruled(
+// What a rule makes of a vector, by the labels of each element.
+fn ruled_anew(
     alloc: Global,
     external: &External,
     limit: u32,
@@ -113,4 +112,28 @@ pub(crate) fn ruled(
         }
         Err(error) => Err(error),
     }
+}
+
+/// What a rule makes of a vector, in label order. The limit is one on what is recorded: of an alert
+/// not the elements are counted. A rule that records the elements of its last result again has what
+/// it made of them in order.
+pub(crate) fn ruled(
+    alloc: Global,
+    external: &External,
+    limit: u32,
+    rule: &RuleDef,
+    templates: &RuleTemplates,
+    made: &mut MadeLabels,
+    items: &[Item<Num>],
+) -> Result<Vec<Found>, RuleError>
+    ensures comes { IsTemplatesOf templates.now (rule_of_def rule.now) → IsOfRule made.old (rule_of_def rule.now)
+        → ComesTo (without_place (ruled external.now limit (rule_of_def rule.now) items.now)) result }
+    ensures rising { IfOk result (λ v. FoundsRise v.items) }
+{
+    if !rule.alert {
+        if let Some(founds) = made.all_recorded(alloc, items)? {
+            return limited(limit, founds);
+        }
+    }
+    ruled_anew(alloc, external, limit, rule, templates, made, items)
 }

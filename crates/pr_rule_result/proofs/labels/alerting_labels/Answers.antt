@@ -7,6 +7,6 @@ use Rattle.pr_rule_result.proofs.labels.alerting_labels.Goals as goal
 
 pub returns : goal.returns
 returns c = λ h.
-    alerting_so c.args.external.now (rule_of_def c.args.rule.now) c.args.item.now c.args.templates.now c.in_ok-labels.labels c.remove.new.self c.set_expanded.new.labels c.set.new.labels
+    alerting_so c.args.external.now (rule_of_def c.args.rule.now) c.args.item.now c.args.templates.now c.in_ok-labels.labels c.remove.new.self c.set_expanded.new.labels c.assign.new.self
     c.in_ok-labels.ensures c.in_ok-remove.ensures.ok c.in_ok-set_expanded.ensures
-    (c.in_ok-set.ensures ∙ ap (λ (name : List ℕ). set_label c.set_expanded.new.labels (codes "alertname") name) c.as_str.ensures) h
+    (c.in_ok-assign.ensures.ok ∙ ap (λ (name : List ℕ). set_label c.set_expanded.new.labels (codes "alertname") name) c.as_str.ensures) h
