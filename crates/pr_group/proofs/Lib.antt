@@ -1,3 +1,4 @@
+pub mod AlertingRules
 pub mod Keys
 pub mod Spared
 pub mod Unused

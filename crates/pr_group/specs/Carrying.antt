@@ -14,8 +14,9 @@ use Rattle.pr_rule_step.specs.declared.remembered.Remembered.{Remembered}
 use Rattle.pr_group.specs.Keeping.{KeptGroup}
 use Rattle.pr_group.specs.Matching.{continues_def, spared}
 
--- What is remembered of a rule goes on from that of an older one: all but the templates is taken
--- over, and of its range selectors what those of the older expression have that they go on from.
+-- What is remembered of a rule goes on from that of an older one: the series that it wrote and its
+-- alerts are taken over, and each of its range selectors that goes on from one of the older
+-- expression has what that one had. Its templates stay.
 pub record GoesOn {R : Type 0} (fits : R → List Entry → Type 0) (last : R → LastAsks) (passed : R → Passed) (tree older : Tree) (before from after : Remembered R) : Type 0 where
   pub templates : after.templates ≡ before.templates
   pub previous : after.previous ≡ from.previous

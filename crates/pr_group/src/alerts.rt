@@ -1,5 +1,6 @@
 // The alerts of a group.
-ghost use Rattle.std.specs.Prelude.{◌≡◌, ℕ, List, option_copied, slice_get, Some, IfSome};
+ghost use Rattle.std.specs.Prelude.{◌≡◌, ℕ, List, false, is_some, option_copied, slice_get, Some, IfSome};
+ghost use Rattle.std.specs.Option.{option_map_or};
 ghost use Rattle.pr_history.specs.declared.entry.Entry.{Entry};
 ghost use Rattle.pr_alert.specs.Standing.{StandsFor};
 ghost use Rattle.pr_rules.specs.Groups.{Group, RuleState};
@@ -21,9 +22,12 @@ impl<R: Ranges + Drop> GroupOver<R> {
         Some(self.rules.get(rule)?.records())
     }
 
-    /// The alerts of the rule with this number, counted from 0; none where no alerting rule has it.
+    /// The alerts of the rule with this number, counted from 0; none exactly where no alerting rule
+    /// has it.
     pub fn records(&self, rule: usize) -> Option<&Records>
         ensures same { option_copied result ≡ alerts_at self.now rule }
+        ensures some { (history : List Entry) (g : Group) → KeepsGroup R.fits R.last R.passed self.now history g
+            → is_some (option_copied result) ≡ option_map_or (λ r. r.rule.alert) (slice_get g.rules rule) false }
         ensures stands { (history : List Entry) (g : Group) (r : RuleState) → KeepsGroup R.fits R.last R.passed self.now history g → slice_get g.rules rule ≡ Some r
             → IfSome (option_copied result) (λ records. StandsFor records r.lineage) }
     {

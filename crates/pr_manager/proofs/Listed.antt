@@ -1,21 +1,18 @@
 -- The alerts that are listed.
 use native.Mathlib.Numerals.{unary_clauses}
 use Rattle.std.proofs.Common.{◌≡◌, ℕ, ◌+◌, ◌<◌, ◌≤◌, Bool, true, false, cond, List, [], ◌∷◌, ◌++◌, append_assoc, append-nil, length, length-append, map, Option, Some, None, Result, Ok, Err, OnOk, slice_get, refl, sym, ap, ◌∙◌, arith}
-use Rattle.std.specs.Prelude.{filter, flat_map, option_and_then}
-use Rattle.std.specs.Option.{option_map}
+use Rattle.std.specs.Prelude.{filter, flat_map}
+use Rattle.std.specs.Option.{option_map_or}
 use Rattle.std.proofs.lemmas.List.{length-map, map-append}
-use Rattle.std.proofs.lemmas.Option.{slice_get-map}
 use Rattle.pr_history.specs.declared.entry.Entry.{Entry}
 use Rattle.pr_lineage.specs.declared.record.Record.{Record}
 use Rattle.pr_lineage.specs.Records.{is_living, records}
 use Rattle.pr_range.specs.Asks.{LastAsks, Passed}
 use Rattle.pr_rulefile.specs.Groups.{Group as Definition}
-use Rattle.pr_rulefile.specs.Rules.{Rule, rule_of_def}
-use Rattle.pr_rulefile.specs.declared.rules.RuleDef.{RuleDef}
-use Rattle.pr_rule_step.specs.declared.remembered.Remembered.{Remembered}
+use Rattle.pr_rulefile.specs.Rules.{rule_of_def}
 use Rattle.pr_rules.specs.Groups.{Group, RuleState}
 use Rattle.pr_rules.specs.Settings.{Settings}
-use Rattle.pr_group.specs.Keeping.{KeepsGroup, KeptGroup, alerts_at, alerts_of_rule}
+use Rattle.pr_group.specs.Keeping.{KeepsGroup, KeptGroup}
 use Rattle.pr_world.specs.declared.report.AlertLine.{AlertLine}
 use Rattle.pr_world.specs.Rounds.{alert_line, alerts_by, group_alerts, rule_alerts}
 use Rattle.pr_manager.specs.Keeping.{KeepEach}
@@ -39,45 +36,9 @@ living_end lines (r ∷ rs) all none h = absurd (omega (arith, none))
 
 -- One rule
 
--- the code of a rule, by its number
-record HasCode (codes : List RuleDef) (i : ℕ) (rule : Rule) : Type 0 where
-  code : RuleDef
-  at : slice_get codes i ≡ Some code
-  is : rule ≡ rule_of_def code
-
-some_of : {A B : Type 0} (f : A → B) (o : Option A) (b : B) → option_map f o ≡ Some b → (a : A) × (o ≡ Some a) × (f a ≡ b)
-some_of f None b h = absurd cc
-some_of f (Some a) b h = (a, refl, cc)
-
-has_code : {R : Type 0} (fits : R → List Entry → Type 0) (last : R → LastAsks) (passed : R → Passed) (history : List Entry) (k : KeptGroup R) (g : Group) (i : ℕ) (r : RuleState) → KeepsGroup fits last passed k history g
-    → slice_get g.rules i ≡ Some r → HasCode k.def.rules i r.rule
-has_code fits last passed history k g i r h at =
-    let rules : map (λ (x : RuleState). x.rule) g.rules ≡ map rule_of_def k.def.rules = ap (λ (d : Definition). d.rules) h.definition in
-    let there : option_map rule_of_def (slice_get k.def.rules i) ≡ Some r.rule =
-    sym (slice_get-map rule_of_def k.def.rules i) ∙ ap (λ l. slice_get l i) (sym rules) ∙ slice_get-map (λ (x : RuleState). x.rule) g.rules i ∙ ap (option_map (λ (x : RuleState). x.rule)) at in
-    let it = some_of rule_of_def (slice_get k.def.rules i) r.rule there in
-    record { code = it.0; at = it.1; is = sym it.2 }
-
-alerts_are : {R : Type 0} (k : KeptGroup R) (i : ℕ) (code : RuleDef) → slice_get k.def.rules i ≡ Some code → alerts_at k i ≡ alerts_of_rule k.rules i code
-alerts_are k i code at = ap (option_and_then (alerts_of_rule k.rules i)) at
-
--- an alerting rule has alerts
-pub some_alerts : {R : Type 0} (fits : R → List Entry → Type 0) (last : R → LastAsks) (passed : R → Passed) (history : List Entry) (k : KeptGroup R) (g : Group) (i : ℕ) (r : RuleState) (rs : List Record) → KeepsGroup fits last passed k history g
-    → slice_get g.rules i ≡ Some r → alerts_at k i ≡ Some rs → r.rule.alert ≡ true
-some_alerts {R} fits last passed history k g i r rs h at found =
-    let c = has_code fits last passed history k g i r h at in
-    ap (λ (x : Rule). x.alert) c.is ∙ by c.code.alert (sym (alerts_are k i c.code c.at) ∙ found)
-  where
-    by : (b : Bool) → cond b (option_map (λ (m : Remembered R). m.records) (slice_get k.rules i)) None ≡ Some rs → b ≡ true
-    by true e = refl
-    by false e = absurd cc
-
--- and none has a rule that records
-pub not_alert : {R : Type 0} (fits : R → List Entry → Type 0) (last : R → LastAsks) (passed : R → Passed) (history : List Entry) (k : KeptGroup R) (g : Group) (i : ℕ) (r : RuleState) (b : Bool) → KeepsGroup fits last passed k history g
-    → slice_get g.rules i ≡ Some r → ((code : RuleDef) → slice_get k.def.rules i ≡ Some code → b ≡ code.alert) → b ≡ false → r.rule.alert ≡ false
-not_alert fits last passed history k g i r b h at is none =
-    let c = has_code fits last passed history k g i r h at in
-    ap (λ (x : Rule). x.alert) c.is ∙ sym (is c.code c.at) ∙ none
+-- whether a rule alerts, by whether it has alerts
+pub alerting : (g : Group) (i : ℕ) (r : RuleState) (has : Bool) → slice_get g.rules i ≡ Some r → has ≡ option_map_or (λ (x : RuleState). x.rule.alert) (slice_get g.rules i) false → r.rule.alert ≡ has
+alerting g i r has at is = sym (is ∙ ap (λ o. option_map_or (λ (x : RuleState). x.rule.alert) o false) at)
 
 pub on_on : {T E : Type 0} (P Q : Type 0) (result : Result T E) → (P → Q) → OnOk result P → OnOk result Q
 on_on P Q (Ok x) by h = by h

@@ -2,7 +2,6 @@
 ghost use Rattle.std.specs.Prelude.{◌≡◌, ◌++◌, Bool, List, Some, filter, map, slice_get, IfOk, OnOk};
 ghost use Rattle.pr_history.specs.declared.entry.Entry.{Entry};
 ghost use Rattle.pr_rules.specs.Groups.{Group, RuleState};
-ghost use Rattle.pr_rulefile.specs.declared.rules.RuleDef.{RuleDef as Code};
 ghost use Rattle.pr_lineage.specs.Records.{is_living, is_living_state};
 ghost use Rattle.pr_group.specs.Keeping.{KeepsGroup};
 ghost use Rattle.pr_world.specs.Rounds.{alert_line, alerts_of, group_alerts, rule_alerts};
@@ -52,18 +51,7 @@ fn push_living(
     Ok(())
 }
 
-// Whether the rule with a number is an alert.
-fn is_alert<R: Ranges + Drop>(group: &GroupOver<R>, rule: usize) -> bool
-    ensures { (code : Code) → slice_get group.now.def.rules rule ≡ Some code → result ≡ code.alert }
-{
-    match group.def().rules.as_slice().get(rule) {
-        Some(code) => code.alert,
-        None => false,
-    }
-}
-
-// Puts the alerts of a rule behind others. That an alerting rule has alerts is known to pr_group
-// alone: what is answered where it has none never comes.
+// Puts the alerts of a rule behind others, where it is an alert.
 fn push_rule<R: Ranges + Drop>(
     alloc: Global,
     lines: &mut Items<AlertLine>,
@@ -74,12 +62,9 @@ fn push_rule<R: Ranges + Drop>(
         → OnOk result (lines.new ≡ lines.old ++ map alert_line (rule_alerts r)) }
 {
     records_of_a_lineage_stand_for_it();
-    if !is_alert(group, rule) {
-        return Ok(());
-    }
     match group.records(rule) {
         Some(records) => push_living(alloc, lines, records.list()),
-        None => Err(AllocError),
+        None => Ok(()),
     }
 }
 
