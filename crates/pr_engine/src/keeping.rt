@@ -36,7 +36,7 @@ fn point_is_fit(point: Point)
     }
 }
 
-// What the types of its parts say of them makes each value of the type an entry.
+// Each value of the type is an entry: the types of its parts say so.
 fn parts_are_an_entry(entry: &Entry)
     ensures { IsEntry entry.now }
 {

@@ -92,7 +92,7 @@ fn met(
     ensures { IfOk result (λ v. v.items ≡ filter (is_met_by matchers.now head.now) numbers.now) }
 {
     let mut selection = Selection::of(alloc, matchers)?;
-    let mut met = Vec::with_capacity(alloc, numbers.len())?;
+    let mut met = Vec::new(alloc);
     for series in numbers {
         push_met(head, &mut selection, *series, &mut met)?;
     }
