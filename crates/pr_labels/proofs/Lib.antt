@@ -15,3 +15,4 @@ pub mod KnownNames
 pub mod LabelMaps
 pub mod Merged
 pub mod Places
+pub mod OrderKeys

@@ -6,5 +6,5 @@ use Rattle.pr_labels.specs.declared.labels.shared.Held.TheVariants.{Alone, Count
 
 abbrev pub held_pairs : Held → List Pair
 held_pairs (Alone pairs) = pairs.items
-held_pairs (Counted counted) = counted.value.items
-held_pairs (Rest counted) = drop 1 counted.value.items
+held_pairs (Counted counted) = counted.value
+held_pairs (Rest counted) = drop 1 counted.value

@@ -7,3 +7,4 @@ pub mod SeriesText
 pub mod Chosen
 pub mod Places
 pub mod Held
+pub mod OrderKey

@@ -2,6 +2,7 @@
 mod choose;
 mod copies;
 mod edits;
+mod keyed;
 mod known;
 mod made;
 mod place;
@@ -48,7 +49,7 @@ impl PartialEq for Labels {
     ghost laws = { Prim.search (comparing, rules) };
 
     fn eq(&self, other: &Labels) -> bool {
-        self.pairs() == other.pairs()
+        self.pairs.equals(&other.pairs)
     }
 }
 
@@ -87,7 +88,7 @@ impl Ord for Labels {
 
     // Label order.
     fn cmp(&self, other: &Labels) -> Ordering {
-        self.pairs().cmp(other.pairs())
+        self.pairs.compare(&other.pairs)
     }
 }
 

@@ -43,7 +43,8 @@ fn put_in(alloc: Global, pairs: &mut SharedPairs, label: Pair) -> Result<(), All
     put
 }
 
-// Takes out the pair at a place. Where the pairs are shared, the others come in their stead.
+// Takes out the pair at a place. Where the pairs are shared, what is left is shared too if it is
+// all but the first, else others come in their stead.
 fn take_out(alloc: Global, pairs: &mut SharedPairs, place: usize) -> Result<(), AllocError>
     requires { place < length pairs.old }
     ensures ok { OnOk result (pairs.new ≡ remove pairs.old place) }

@@ -1,28 +1,34 @@
-ghost use Rattle.std.specs.Prelude.{◌≡◌, ◌<◌, [], length, drop, IfOk, OnErr, MatchResult};
+ghost use Rattle.std.specs.Prelude.{◌≡◌, ◌<◌, [], length, drop, IfOk, IfSome, OnErr, MatchResult};
 ghost use Rattle.std.specs.List.{remove};
+ghost use Rattle.pr_labels.specs.Order.{labels_cmp, labels_eq};
+ghost use Rattle.pr_labels.specs.OrderKey.{IsOrderKey};
 
 use super::copies::{copy_others, copy_pairs};
+use super::keyed::KeyedPairs;
 use crate::pair::Pair;
 use std::alloc::{AllocError, Global};
+use std::cmp::Ordering;
 use std::marker::Model;
 use std::mem;
 use std::rc::Rc;
 
-/// Pairs that label sets share, so that one more set with the same pairs costs a count. Contracts
-/// see the list of the pairs.
+/// Pairs that label sets share, so that one more set with the same pairs costs a count. With the
+/// count mostly comes an order key, by which they are compared in one go. Contracts see the list of
+/// the pairs.
 #[derive(Debug, Drop)]
 pub(super) struct SharedPairs {
     held: Held,
 }
 
-// Pairs of one set alone, or with a count of the sets that have them. A set can also have all but the
-// first of the pairs that are counted: so does one that lost the metric's name, which mostly stands
-// first. Pairs without a count are those for which there was no memory, and the empty list.
+// Pairs of one set alone, or with a count of the sets that have them. A set can also have all but
+// the first of the pairs that are counted: so does one that lost the metric's name, which mostly
+// stands first. Without a count are pairs for which there was no memory for one, and the empty
+// list, unless it is what is left of one shared pair.
 #[derive(Debug, Drop)]
 enum Held {
     Alone(Vec<Pair>),
-    Counted(Rc<Vec<Pair>>),
-    Rest(Rc<Vec<Pair>>),
+    Counted(Rc<KeyedPairs>),
+    Rest(Rc<KeyedPairs>),
 }
 
 // All but the first pair.
@@ -64,12 +70,12 @@ impl SharedPairs {
                 held: Held::Alone(pairs),
             };
         }
-        match Rc::new(alloc, pairs) {
+        match Rc::new(alloc, KeyedPairs::new(alloc, pairs)) {
             Ok(counted) => SharedPairs {
                 held: Held::Counted(counted),
             },
             Err(refused) => SharedPairs {
-                held: Held::Alone(refused.value),
+                held: Held::Alone(refused.value.into_vec()),
             },
         }
     }
@@ -85,7 +91,40 @@ impl SharedPairs {
         }
     }
 
-    /// The same pairs, shared.
+    // The order key of the pairs, where they have one.
+    fn order_key(&self) -> Option<&str>
+        ensures { IfSome result (λ key. IsOrderKey key.now self.now) }
+    {
+        match &self.held {
+            Held::Alone(_) => None,
+            Held::Counted(counted) => counted.as_ref().order_key(),
+            Held::Rest(counted) => counted.as_ref().rest_order_key(),
+        }
+    }
+
+    /// Whether the pairs are the same as others: by the order keys, where both have one.
+    #[tactic(auto, using(crate::proofs::OrderKeys::same_by_keys))]
+    pub(super) fn equals(&self, other: &SharedPairs) -> bool
+        ensures { result ≡ labels_eq self.now other.now }
+    {
+        match (self.order_key(), other.order_key()) {
+            (Some(key), Some(other_key)) => key == other_key,
+            _ => self.as_slice() == other.as_slice(),
+        }
+    }
+
+    /// How the pairs compare with others in label order: by the order keys, where both have one.
+    #[tactic(auto, using(crate::proofs::OrderKeys::by_keys))]
+    pub(super) fn compare(&self, other: &SharedPairs) -> Ordering
+        ensures { result ≡ labels_cmp self.now other.now }
+    {
+        match (self.order_key(), other.order_key()) {
+            (Some(key), Some(other_key)) => key.cmp(other_key),
+            _ => self.as_slice().cmp(other.as_slice()),
+        }
+    }
+
+    /// The same pairs: shared where they have a count, else with texts of their own.
     pub(super) fn share(&self, alloc: Global) -> Result<SharedPairs, AllocError>
         ensures { IfOk result (λ s. s ≡ self.now) }
     {
@@ -100,8 +139,8 @@ impl SharedPairs {
         }
     }
 
-    /// The pairs but the one at a place. All but the first one are shared where the set shares all of
-    /// its pairs.
+    /// The pairs but the one at a place. All but the first one are shared where the set shares all
+    /// of its pairs.
     pub(super) fn others(&self, alloc: Global, place: usize) -> Result<SharedPairs, AllocError>
         requires { place < length self.now }
         ensures { IfOk result (λ s. s ≡ remove self.now place) }
@@ -117,14 +156,15 @@ impl SharedPairs {
         }
     }
 
-    /// The vector of the pairs, where no other set shares them.
+    /// The vector of the pairs, where no other set shares them and they are all that is held; else
+    /// the same pairs again.
     pub(super) fn into_alone(self) -> Result<Vec<Pair>, SharedPairs>
         ensures { MatchResult result (λ v. v.items ≡ self) (λ s. s ≡ self) }
     {
         match self.held {
             Held::Alone(pairs) => Ok(pairs),
             Held::Counted(counted) => match Rc::try_unwrap(counted) {
-                Ok(pairs) => Ok(pairs),
+                Ok(keyed) => Ok(keyed.into_vec()),
                 Err(counted) => Err(SharedPairs {
                     held: Held::Counted(counted),
                 }),
