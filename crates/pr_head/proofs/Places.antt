@@ -1,5 +1,5 @@
 -- Places among samples whose times rise.
-use Rattle.std.proofs.Common.{◌≡◌, ◌≢◌, ◌-◌, ℕ, zero, suc, ℤ, pos, negsuc, ◌≤◌, ◌<◌, Bool, true, false, cond, List, Option, [], ◌∷◌, length, find, reverse, slice_get, get_or, Some, None, refl, sym, ap, ◌∙◌, arith}
+use Rattle.std.proofs.Common.{◌≡◌, ◌≢◌, ◌+◌, ◌-◌, ℕ, zero, suc, ℤ, pos, negsuc, ◌≤◌, ◌<◌, Bool, true, false, not, cond, List, Option, [], ◌∷◌, length, find, reverse, slice_get, get_or, Some, None, refl, sym, ap, ◌∙◌, arith}
 use Rattle.std.specs.List.{position_or_len, AllWithin}
 use Rattle.std.specs.List.Sorted.{IsNonDecreasingBy, IsPartitionedBy, IsPartitionPoint}
 use Rattle.std.specs.Option.{option_or}
@@ -80,6 +80,11 @@ there time [] i d h = absurd (omega arith)
 there time (x ∷ xs) zero d h = refl
 there time (x ∷ xs) (suc i) d h = there time xs i d (omega arith)
 
+there_within : (time : ℤ) (xs : List Timed) (i : ℕ) → is_there_until time (slice_get xs i) ≡ true → i < length xs
+there_within time [] i h = cc
+there_within time (x ∷ xs) zero h = omega arith
+there_within time (x ∷ xs) (suc i) h = omega (arith, there_within time xs i h)
+
 pub place_is : (time : ℤ) (xs : List Timed) (i : ℕ) → IsNonDecreasingBy (λ x. x.time) xs → i ≤ length xs → is_there_until time (slice_get xs i) ≡ false → (i ≢ 0 → is_there_until time (slice_get xs (i - 1)) ≡ true)
     → position_or_len (λ x. is_after time x.time) xs ≡ i
 place_is time xs i rising within here before = parted_place time xs i within (
@@ -104,3 +109,22 @@ last_newest time (x ∷ (y ∷ ys)) zero many h = absurd (omega (arith, many))
 last_newest time (x ∷ (y ∷ ys)) (suc n) many h =
     ap (find (λ s. is_until time s.time)) (reverse-append (x ∷ []) (y ∷ ys)) ∙ find-append (λ s. is_until time s.time) (reverse (y ∷ ys)) (x ∷ [])
     ∙ (λ i. option_or (last_newest time (y ∷ ys) n (omega (arith, many)) h i) (find (λ s. is_until time s.time) (x ∷ []))) ∙ some_or (y ∷ ys) n (find (λ s. is_until time s.time) (x ∷ [])) (omega (arith, many))
+
+-- a place without a sample, or with one after the time, is not before the first one after it
+pub place_at_most : (time : ℤ) (xs : List Timed) (i : ℕ) → is_there_until time (slice_get xs i) ≡ false → position_or_len (λ x. is_after time x.time) xs ≤ i
+place_at_most time [] i h = omega arith
+place_at_most time (x ∷ xs) zero h = rw (after_else time x.time h) (omega arith)
+place_at_most time (x ∷ xs) (suc i) h = behind (is_after time x.time) (place_at_most time xs i h) where
+  behind : {n : ℕ} (b : Bool) → n ≤ i → cond (not b) (1 + n) 0 ≤ suc i
+  behind true low = omega arith
+  behind false low = omega arith
+
+-- where times rise, a place with a sample until the time is before the first one after it
+pub place_above : (time : ℤ) (xs : List Timed) (i : ℕ) → IsNonDecreasingBy (λ x. x.time) xs → is_there_until time (slice_get xs i) ≡ true → i < position_or_len (λ x. is_after time x.time) xs
+place_above time [] i rising h = cc
+place_above time (x ∷ xs) zero rising h = rw (after_not_until time x.time h) (omega arith)
+place_above time (x ∷ xs) (suc i) rising h =
+    let within : i < length xs = there_within time xs i h in
+    let until : is_until time x.time ≡ true = until_down time _ _ (rising 0 (suc i) x (omega arith) (omega arith)) (sym (there time xs i x within) ∙ h) in
+    let rest = place_above time xs i (λ k j d low below. rising (suc k) (suc j) d (omega arith) (omega arith)) h in
+    rw (after_not_until time x.time until) (omega (arith, rest))

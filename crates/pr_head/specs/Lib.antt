@@ -3,3 +3,4 @@ pub mod Holds
 pub mod Reads
 pub mod Index
 pub mod Oldest
+pub mod Listings

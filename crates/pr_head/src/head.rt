@@ -43,7 +43,7 @@ impl Model for Head {
     ghost invariant = { λ h. IsIndexed h.index.all h.index.by_label (sets_of h.series.entries) × AreSince h.oldest h.series.entries };
 }
 
-ghost use Rattle.std.specs.Prelude.{◌≡◌, ◌↔◌, ◌+◌, ◌<◌, ◌≤◌, ◌≤ℤ◌, true, ◌++◌, ◌∷◌, [], ℤ, length, slice_get, List, Some, None, IfOk, IfSome, IfNone, OnOk, OnErr, option_and_then};
+ghost use Rattle.std.specs.Prelude.{◌≡◌, ◌↔◌, ◌+◌, ◌<◌, ◌≤◌, ◌≤ℤ◌, true, ◌++◌, ◌∷◌, [], ℤ, length, max, slice_get, List, Some, None, IfOk, IfSome, IfNone, OnOk, OnErr, option_and_then};
 ghost use Rattle.std.specs.Map.{lookup};
 ghost use Rattle.std.specs.Option.{option_copied, option_map};
 ghost use Rattle.indexmap.specs.IndexMap.{set_value_at};
@@ -165,6 +165,19 @@ impl Head {
         match self.held(series) {
             Some(held) => held.position_near(time, near),
             None => 0,
+        }
+    }
+
+    /// The place of the first held sample of a series above a time, or the count, but not before a
+    /// place that is given; that place for an unknown series. It takes one look where the place is
+    /// the count or above, or the sample there is above the time.
+    pub fn position_not_before(&self, series: usize, time: i64, place: u64) -> u64
+        ensures known { (e : List Pair × Stored) → slice_get self.now series ≡ Some e → result ≡ max (position_of e.1 time) place }
+        ensures unknown { slice_get self.now series ≡ None → result ≡ place }
+    {
+        match self.held(series) {
+            Some(held) => held.position_not_before(time, place),
+            None => place,
         }
     }
 

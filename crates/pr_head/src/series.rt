@@ -1,5 +1,5 @@
 // The samples of one series.
-ghost use Rattle.std.specs.Prelude.{◌≡◌, true, ◌+◌, ◌<◌, ◌≤◌, drop, length, slice_get, IfOk, IfSome, OnOk, OnErr};
+ghost use Rattle.std.specs.Prelude.{◌≡◌, true, ◌+◌, ◌<◌, ◌≤◌, drop, length, max, slice_get, IfOk, IfSome, OnOk, OnErr};
 ghost use Rattle.std.specs.List.Sorted.{IsNonDecreasingBy};
 ghost use Rattle.pr_history.specs.Lookback.{is_until};
 ghost use Rattle.pr_head.specs.Stored.{admission, after_push, after_trim, begun, count_of, held_before, is_there_until, newest_at, position_of, sample_at};
@@ -53,7 +53,7 @@ impl Series {
     pub(crate) fn begin(alloc: Global, sample: &Timed) -> Result<Series, AllocError>
         ensures { IfOk result (λ s. s ≡ begun sample.now) }
     {
-        let mut samples = VecDeque::new(alloc);
+        let mut samples = VecDeque::with_capacity(alloc, 1)?;
         samples.push_back(sample.copy())?;
         Ok(Series {
             first: 0,
@@ -194,6 +194,19 @@ impl Series {
             Some(until) => self.first + until as u64,
             None => self.position(time),
         }
+    }
+
+    /// The same as `position`, but not before a place that is given.
+    pub(crate) fn position_not_before(&self, time: i64, place: u64) -> u64
+        ensures { result ≡ max (position_of self.now time) place }
+    {
+        if place < self.first {
+            return self.position(time);
+        }
+        if self.is_there_until(time, (place - self.first) as usize) {
+            return self.position_near(time, place);
+        }
+        place
     }
 
     /// The newest held sample at or before a time.

@@ -56,7 +56,9 @@ fn take_away(spots: &mut Vec<Spot>, count: usize)
     requires { count ≤ length spots.old.items }
     ensures { spots.new.items ≡ drop count spots.old.items }
 {
-    spots.drain(..count);
+    let left = spots.len() - count;
+    spots.copy_within(count.., 0);
+    spots.truncate(left);
 }
 
 impl Listed {

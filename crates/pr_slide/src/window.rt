@@ -26,8 +26,6 @@ pub struct Window {
     pub(crate) func: RangeFn,
     pub(crate) from: i64,
     pub(crate) to: i64,
-    // The place after the start of that range, near which that of the next one is looked for.
-    begins: u64,
     pub(crate) passed: u64,
     pub(crate) spots: Spots,
 }
@@ -96,7 +94,6 @@ impl Window {
             func,
             from: 0,
             to: 0,
-            begins: 0,
             passed: 0,
             spots: Spots::new(alloc, func),
         }
@@ -125,15 +122,13 @@ impl Window {
             func,
             ..
         } = *ask;
-        let begins = head.position_near(series, start, self.begins);
-        let from = begins.max(self.passed);
+        let from = head.position_not_before(series, start, self.passed);
         let to = head.position_near(series, end, self.passed);
         self.spots.drop_until(start);
         push_between(&mut self.spots, head, series, from, to, reads)?;
         self.func = func;
         self.from = start;
         self.to = end;
-        self.begins = begins;
         self.passed = to;
         Ok(())
     }

@@ -9,9 +9,8 @@ pub returns-in_err-push_between-clause-reads : goal.returns-in_err-push_between-
 returns-in_err-push_between-clause-reads g c = λ e at.
     let start : to_z w64 (of_z w64 c.args.ask.now.from) ≡ c.args.ask.now.from = grind (arith, to_z-of_z) in
     let end : to_z w64 (of_z w64 c.args.ask.now.to) ≡ c.args.ask.now.to = grind (arith, to_z-of_z) in
-    let from : c.position_near-begins.result ≡ position_of e.1 c.args.ask.now.from = c.position_near-begins.ensures.known e at ∙ ap (position_of e.1) start in
     let to : c.position_near-to.result ≡ position_of e.1 c.args.ask.now.to = c.position_near-to.ensures.known e at ∙ ap (position_of e.1) end in
-    let low : c.max-from.result ≡ max (position_of e.1 c.args.ask.now.from) c.args.self.now.passed = c.max-from.ensures ∙ ap (λ n. max n c.args.self.now.passed) from in
+    let low : c.position_not_before-from.result ≡ max (position_of e.1 c.args.ask.now.from) c.args.self.now.passed = c.position_not_before-from.ensures.known e at ∙ ap (λ t. max (position_of e.1 t) c.args.self.now.passed) start in
     let reads = c.in_err-push_between.ensures.reads in
     omega arith
 
@@ -24,19 +23,17 @@ pub returns-clause-spots : goal.returns-clause-spots
 returns-clause-spots g c = λ e at first last.
     let start : to_z w64 (of_z w64 c.args.ask.now.from) ≡ c.args.ask.now.from = grind (arith, to_z-of_z) in
     let end : to_z w64 (of_z w64 c.args.ask.now.to) ≡ c.args.ask.now.to = grind (arith, to_z-of_z) in
-    let from : c.position_near-begins.result ≡ position_of e.1 c.args.ask.now.from = c.position_near-begins.ensures.known e at ∙ ap (position_of e.1) start in
     let to : c.position_near-to.result ≡ position_of e.1 c.args.ask.now.to = c.position_near-to.ensures.known e at ∙ ap (position_of e.1) end in
-    let low : c.max-from.result ≡ max (position_of e.1 c.args.ask.now.from) c.args.self.now.passed = c.max-from.ensures ∙ ap (λ n. max n c.args.self.now.passed) from in
+    let low : c.position_not_before-from.result ≡ max (position_of e.1 c.args.ask.now.from) c.args.self.now.passed = c.position_not_before-from.ensures.known e at ∙ ap (λ t. max (position_of e.1 t) c.args.self.now.passed) start in
     let read = c.in_ok-push_between.ensures.spots e at (omega arith) (omega arith) in
-    read ∙ ap (λ l. l ++ spots_of (samples_between e.1 c.max-from.result c.position_near-to.result)) (c.drop_until.ensures ∙ ap (λ t. later t c.args.self.now.spots) start)
+    read ∙ ap (λ l. l ++ spots_of (samples_between e.1 c.position_not_before-from.result c.position_near-to.result)) (c.drop_until.ensures ∙ ap (λ t. later t c.args.self.now.spots) start)
     ∙ (λ i. later c.args.ask.now.from c.args.self.now.spots ++ spots_of (samples_between e.1 (low i) (to i)))
 
 pub returns-clause-reads : goal.returns-clause-reads
 returns-clause-reads g c = λ e at.
     let start : to_z w64 (of_z w64 c.args.ask.now.from) ≡ c.args.ask.now.from = grind (arith, to_z-of_z) in
     let end : to_z w64 (of_z w64 c.args.ask.now.to) ≡ c.args.ask.now.to = grind (arith, to_z-of_z) in
-    let from : c.position_near-begins.result ≡ position_of e.1 c.args.ask.now.from = c.position_near-begins.ensures.known e at ∙ ap (position_of e.1) start in
     let to : c.position_near-to.result ≡ position_of e.1 c.args.ask.now.to = c.position_near-to.ensures.known e at ∙ ap (position_of e.1) end in
-    let low : c.max-from.result ≡ max (position_of e.1 c.args.ask.now.from) c.args.self.now.passed = c.max-from.ensures ∙ ap (λ n. max n c.args.self.now.passed) from in
+    let low : c.position_not_before-from.result ≡ max (position_of e.1 c.args.ask.now.from) c.args.self.now.passed = c.position_not_before-from.ensures.known e at ∙ ap (λ t. max (position_of e.1 t) c.args.self.now.passed) start in
     let reads = c.in_ok-push_between.ensures.reads in
     omega arith
