@@ -60,7 +60,7 @@ fn rows_of(alloc: Global, entries: &[Entry]) -> Result<Vec<Row>, AllocError>
     ensures rows { IfOk result (λ rows. rows.items ≡ map encoded entries.now) }
     ensures back { OnOk result (AreRead entries.now) }
 {
-    let mut rows = Vec::new(alloc);
+    let mut rows = Vec::with_capacity(alloc, entries.len())?;
     let mut rest = entries;
     'encoding: while let Some((entry, after)) = rest.split_first() {
         rows.push(row_of(alloc, entry)?)?;
