@@ -13,7 +13,7 @@ use Rattle.pr_lex.specs.declared.fault.LexError.TheVariants.{Fault, Memory}
 use Rattle.pr_lex.specs.declared.part.Lexeme.{Lexeme}
 use Rattle.pr_lex.specs.declared.part.Lexeme.TheVariants.{Text as TextLexeme}
 use Rattle.pr_lex.specs.Number.{production, letter_of, seen, Value, mark, Rule}
-use Rattle.pr_lex.specs.Tokens.{IsTokenOf, IsFaultOf, TextFault, HasTokens, HasFront, HasFault}
+use Rattle.pr_lex.specs.Tokens.{IsTokenOf, IsFaultOf, TextFault, HasTokens, HasFirst, HasFault}
 use Rattle.pr_lex.specs.NumberTable.{table}
 
 -- the language of numbers, over bytes
@@ -73,7 +73,7 @@ kept (Some most) tokens = take most tokens
 
 abbrev pub HasKept : List ℕ → Option ℕ → List Token → Type 0
 HasKept text None found = HasTokens text found
-HasKept text (Some most) found = HasFront text most found
+HasKept text (Some most) found = HasFirst text most found
 
 -- As many tokens are there as are kept.
 abbrev pub is_full : Option ℕ → ℕ → Bool

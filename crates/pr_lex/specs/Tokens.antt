@@ -153,7 +153,7 @@ abbrev pub HasFault : List ℕ → ℕ → LexKind → Type 0
 HasFault text place kind = IsFirstFault false 0 text place kind
 
 -- The first so many tokens of a whole text, or all where it has fewer.
-pub record HasFront (text : List ℕ) (most : ℕ) (front : List Token) : Type 0 where
+pub record HasFirst (text : List ℕ) (most : ℕ) (front : List Token) : Type 0 where
   pub tokens : List Token
   pub has : HasTokens text tokens
   pub is : front ≡ take most tokens

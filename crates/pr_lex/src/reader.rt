@@ -5,7 +5,7 @@ ghost use Rattle.pr_lex.specs.declared.fault.LexError.TheVariants.{Memory};
 ghost use Rattle.pr_lex.specs.declared.part.Lexeme.TheVariants.{Name, Number, Duration, Text as TextLexeme, Sign as SignLexeme};
 ghost use Rattle.pr_lex.specs.declared.part.Part.TheVariants.{Token as TokenPart};
 ghost use Rattle.pr_lex.specs.Bytes.{part_at};
-ghost use Rattle.pr_lex.specs.Tokens.{inside_after, HasTokens, HasFront};
+ghost use Rattle.pr_lex.specs.Tokens.{inside_after, HasTokens, HasFirst};
 ghost use Rattle.pr_lex.specs.SignAt.{two_byte_sign, one_byte_sign, mark_sign, bracket_sign, arithmetic_sign, longer_sign, sign_at};
 ghost use Rattle.pr_lex.specs.Reader.{IsRead, Refuses, Misses, HasText, IsFaulty, IsWithin, Fits, moved, kept, HasKept, is_full};
 ghost use Rattle.std.specs.Str.{IsUtf8};
@@ -313,10 +313,11 @@ pub fn tokens(alloc: Global, text: &str) -> Result<Vec<Token>, LexError>
 }
 
 /// The same, of which the first so many alone are kept: so a text that is judged by its first
-/// tokens takes memory for these alone. The faults are those of the whole text.
+/// tokens takes memory for these, and for one more at a time. The faults are those of the whole
+/// text.
 pub fn first_tokens(alloc: Global, text: &str, most: usize) -> Result<Vec<Token>, LexError>
     // What is answered are the first tokens of the text.
-    ensures tree { IfOk result (λ found. HasFront text.now most found.items) }
+    ensures tree { IfOk result (λ found. HasFirst text.now most found.items) }
     // A text that has tokens is answered with the first of them, unless memory runs out.
     ensures only { (tokens : List TokenValue) → HasTokens text.now tokens → MatchResult result (λ found. found.items ≡ take most tokens) Misses }
     // Else the fault is the first one of the text.

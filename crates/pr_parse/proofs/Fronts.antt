@@ -7,7 +7,7 @@ use Rattle.pr_forms.specs.Form.{rule, Reads}
 use Rattle.pr_lex.specs.declared.token.Token.{Token}
 use Rattle.pr_lex.specs.declared.fault.LexError.{LexError}
 use Rattle.pr_lex.specs.declared.fault.LexError.TheVariants.{Fault as LexFault, Memory as LexMemory}
-use Rattle.pr_lex.specs.Tokens.{HasTokens, HasFront as HasFirst}
+use Rattle.pr_lex.specs.Tokens.{HasTokens, HasFirst}
 use Rattle.pr_lex.specs.Reader.{Refuses as RefusesLex, Misses as MissesLex}
 use Rattle.pr_lex.proofs.Unique.{one_list}
 use Rattle.pr_ast.specs.declared.tree.Expr.{Expr}
