@@ -1,5 +1,6 @@
-// The plain front of a line: a name, labels with no blank and no escape in them, and digits. Most
-// samples are no more than that. Each part is taken at once, and not a character at a time.
+// The plain front of a line: a name, labels without an escape and with no blank but in their
+// values, and digits. Most samples are no more than that. Each part is taken at once, and not a
+// character at a time.
 ghost use Rattle.std.specs.Prelude.{◌≡◌, [], ◌++◌, ◌<◌, ◌≤◌, ℕ, List, IfOk, IfSome, encode_utf8, false, length};
 ghost use Rattle.pr_words.specs.Bytes.{is_letter};
 ghost use Rattle.pr_labels.specs.Names.{is_metric_letter};

@@ -59,8 +59,8 @@ fn entry_of(alloc: Global, labels: &Labels, time: Ms, point: Point) -> Result<En
     })
 }
 
-/// Puts the point of a series into the head; and where rows are told, its entry behind them if it is
-/// added. Where they are not, no entry is made.
+/// Puts the point of a series into the head; and where rows are told, its entry behind them if it
+/// is added. Where they are not, no entry is made.
 pub fn put_if(
     alloc: Global,
     tells: bool,
