@@ -5,3 +5,4 @@ pub mod Files
 pub mod Making
 pub mod InOrder
 pub mod Remembering
+pub mod SettingAtOnce

@@ -6,7 +6,7 @@ ghost use Rattle.pr_rules.specs.Results.{found_by, found_of};
 ghost use Rattle.pr_rule_result.specs.Making.{IsOfRule};
 ghost use Rattle.pr_rule_result.specs.Templates.{IsTemplatesOf};
 
-use crate::labels::{alerting_labels, expanded_notes};
+use crate::labels::{alerting_labels, expanded_pairs};
 use crate::made::MadeLabels;
 use crate::templates::RuleTemplates;
 use pr_labels::Item;
@@ -48,7 +48,7 @@ fn alerting(
         → IfOk result (λ f. f ≡ found_by external.now (rule_of_def rule.now) true item.now) }
 {
     let labels = alerting_labels(alloc, external, rule, templates.labels.as_slice(), item)?;
-    let notes = expanded_notes(alloc, external, templates.notes.as_slice(), item)?;
+    let notes = expanded_pairs(alloc, external, templates.notes.as_slice(), item)?;
     Ok(Found {
         labels,
         notes,

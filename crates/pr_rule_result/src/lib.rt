@@ -10,6 +10,7 @@ mod laws;
 mod made;
 mod rows;
 mod ruled;
+mod setting;
 mod templates;
 
 pub use comes::rule_result;

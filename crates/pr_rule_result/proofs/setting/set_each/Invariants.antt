@@ -1,6 +1,6 @@
 use Rattle.std.proofs.Common.{◌≡◌, fold, take}
 use Rattle.pr_labels.specs.Edits.{set_pair}
-use Rattle.pr_rule_result.proofs.labels.set_all.Given as goal
+use Rattle.pr_rule_result.proofs.setting.set_each.Given as goal
 
 -- the first pairs were set
 abbrev pub invariant-loop-pair : goal.invariant-loop-pair

@@ -1,0 +1,88 @@
+// The labels of a rule, set over those of an element.
+ghost use Rattle.std.specs.Prelude.{◌≡◌, None, not, IfOk, OnOk};
+ghost use Rattle.pr_labels.specs.Edits.{first_fault, has_value, labels_of, set_label, union_labels};
+ghost use Rattle.pr_rule_result.specs.Setting.{emptied};
+
+use pr_labels::{Labels, Pair};
+use pr_words::Text;
+use std::alloc::{AllocError, Global};
+
+// Labels are set one by one where a rule has so few. Else they are made a label set first.
+const FEW: usize = 16;
+
+// Sets the value of a name of the rule's own labels, which is that of a label: a rule file has no
+// others.
+fn set(alloc: Global, labels: &mut Labels, name: &str, value: &str) -> Result<(), AllocError>
+    ensures { OnOk result (labels.new ≡ set_label labels.old name.now value.now) }
+{
+    match labels.set(alloc, name, value) {
+        Ok(()) => Ok(()),
+        Err(_) => Err(AllocError),
+    }
+}
+
+// Sets labels one by one.
+fn set_each(alloc: Global, labels: &mut Labels, over: &[Pair]) -> Result<(), AllocError>
+    ensures { OnOk result (labels.new ≡ union_labels labels.old over.now) }
+{
+    for pair in over {
+        set(alloc, labels, pair.name.as_str(), pair.value.as_str())?;
+    }
+    Ok(())
+}
+
+// Whether the pair's value is empty.
+#[tactic(auto, using(crate::proofs::SettingAtOnce::no_value))]
+fn is_empty(pair: &Pair) -> bool
+    ensures { result ≡ not (has_value pair.now) }
+{
+    pair.value.as_str().is_empty()
+}
+
+// The names whose values are empty, which are taken out.
+fn emptied(alloc: Global, over: &[Pair]) -> Result<Vec<Text>, AllocError>
+    ensures { IfOk result (λ v. v.items ≡ emptied over.now) }
+{
+    let mut names = Vec::new(alloc);
+    for pair in over {
+        if is_empty(pair) {
+            names.push(pair.name.copy(alloc)?)?;
+        }
+    }
+    Ok(names)
+}
+
+// The label set that labels are. They have label names, each once: a rule file has no others.
+fn set_of(alloc: Global, over: &[Pair]) -> Result<Labels, AllocError>
+    ensures set { IfOk result (λ l. l ≡ labels_of over.now) }
+    ensures names { OnOk result (first_fault over.now ≡ None) }
+{
+    match Labels::from_pairs(alloc, over) {
+        Ok(set) => Ok(set),
+        Err(_) => Err(AllocError),
+    }
+}
+
+// Sets labels at once: those whose values are empty are taken out, and the others are gone over
+// once with the labels that stay.
+#[tactic(auto, using(crate::proofs::SettingAtOnce::set_at_once))]
+fn set_at_once(alloc: Global, labels: &mut Labels, over: &[Pair]) -> Result<(), AllocError>
+    ensures { OnOk result (labels.new ≡ union_labels labels.old over.now) }
+{
+    let set = set_of(alloc, over)?;
+    let others = labels.without(alloc, &emptied(alloc, over)?)?;
+    *labels = others.union(alloc, &set)?;
+    Ok(())
+}
+
+/// Sets the labels that a rule gives. Few are set one by one; many take little longer than their
+/// sorting, also where the element has many.
+pub(crate) fn set_all(alloc: Global, labels: &mut Labels, over: &[Pair]) -> Result<(), AllocError>
+    ensures { OnOk result (labels.new ≡ union_labels labels.old over.now) }
+{
+    if over.len() <= FEW {
+        set_each(alloc, labels, over)
+    } else {
+        set_at_once(alloc, labels, over)
+    }
+}
