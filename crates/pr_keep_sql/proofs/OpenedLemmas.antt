@@ -6,10 +6,8 @@ use Rattle.sqlite.specs.Held.{Held, state}
 use Rattle.sqlite.specs.Recovery.{Image}
 use Rattle.sqlite.specs.Start.{FindsIn}
 use Rattle.sqlite.specs.State.{HasCleanDisk, Opens, State}
-use Rattle.sqlite.specs.Steps.{over_memory}
 use Rattle.sqlite.specs.Store.{Ghosts}
 use Rattle.sqlite.specs.View.{doubt}
-use Rattle.sqlite_trees.specs.declared.memory.MemStore.{MemStore}
 use Rattle.pr_outside.specs.Causes.{HasKeepCause}
 use Rattle.pr_outside.specs.Kept.{KeepsRows, StartsRows}
 use Rattle.pr_outside.specs.declared.keeping.KeepError.{KeepError}
@@ -23,11 +21,6 @@ use Rattle.pr_keep_sql.specs.Store.{KeptStore, rows_of}
 use Rattle.pr_keep_sql.specs.Tables.{HasOursFirst, schema_of}
 use Rattle.pr_keep_sql.specs.declared.opened.Opened.{Opened}
 use Rattle.pr_keep_sql.specs.declared.opened.Opened.TheVariants.{Nothing}
-
--- memory returns what was written
-memory_clean : (c : Held MemStore) → HasCleanDisk (state over_memory c)
-unfolding doubt
-memory_clean c = refl
 
 same_rows : (rows : Option (List Line)) → KeepsRows rows rows
 same_rows None = tt
@@ -57,11 +50,6 @@ tells_of g Finds c (Err e) is_sound is_found less over_nothing over_tables = tt
 tells_of g Finds c (Ok k) is_sound is_found less over_nothing over_tables = λ clean.
     let early : HasCleanDisk (state g c) = omega (arith, less, clean) in
     record { db = (state g c).now; sound = is_sound early; found = is_found early; made = over_nothing clean; kept = over_tables clean }
-
-pub empty_in : {E : Type 0} (c : Held MemStore) (r : Result (KeptStore MemStore) E) → (state over_memory c).now.schema ≡ schema_of []
-    → IfOk r (λ k. HasCleanDisk (state over_memory k.conn) → (state over_memory c).now.schema ≡ schema_of [] → rows_of over_memory k ≡ Some []) → IfOk r (λ k. rows_of over_memory k ≡ Some [])
-empty_in c (Err e) bare made = tt
-empty_in c (Ok k) bare made = made (memory_clean k.conn) bare
 
 -- what is open at last had no refusal
 pub counts_first : (own now : ℕ) → own < 2 ^ 64 → now ≡ 0 → faults_of own now ≡ own

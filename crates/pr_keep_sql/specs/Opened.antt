@@ -1,11 +1,10 @@
 -- What a store of a path has opened, and what it tells.
-use Rattle.std.specs.Prelude.{◌≡◌, ℕ, List, [], Option, Some, None, Result}
+use Rattle.std.specs.Prelude.{◌≡◌, ◌++◌, ℕ, List, [], length, Option, Some, None, Result, OnOk, OnErr}
 use Rattle.sqlite.specs.Effect.{Database, IsDatabase}
 use Rattle.sqlite.specs.Files.{AreFoundIn, HoldsDatabase}
 use Rattle.sqlite.specs.Held.{state}
 use Rattle.sqlite.specs.Recovery.{Image}
 use Rattle.sqlite.specs.State.{HasCleanDisk}
-use Rattle.sqlite.specs.Steps.{over_memory}
 use Rattle.sqlite.specs.Store.{Ghosts}
 use Rattle.sqlite.specs.Tree.{Trees}
 use Rattle.pr_outside.specs.declared.keeping.KeepError.{KeepError}
@@ -37,43 +36,43 @@ module _ {S : Type 0} (g : Ghosts S) where
   -- the rows, where they are told
   abbrev pub rows_in : Opened S → Option (List Row)
   rows_in Nothing = None
-  rows_in (Memory kept) = rows_of over_memory kept
+  rows_in (Memory held) = Some held.rows
   rows_in (File kept) = rows_of g kept
 
   -- the disk has returned what was written
   abbrev pub IsTrusted : Opened S → Type 0
   IsTrusted Nothing = Unit {0}
-  IsTrusted (Memory kept) = Unit {0}
+  IsTrusted (Memory held) = Unit {0}
   IsTrusted (File kept) = HasCleanDisk (state g kept.conn)
 
   -- how often the disk has failed, which memory does not
   abbrev pub disk_faults : Opened S → ℕ
   disk_faults Nothing = 0
-  disk_faults (Memory kept) = 0
+  disk_faults (Memory held) = 0
   disk_faults (File kept) = (state g kept.conn).faults
 
   -- what is open has committed these rows, and no other store is open
   abbrev pub CommitsIn : {T : Type 0} → List Row → Result T KeepError → Opened S → Opened S → Type 0
   CommitsIn added result Nothing Nothing = Unit {0}
-  CommitsIn added result (Memory old) (Memory new) = HasCommitted over_memory added result old new
+  CommitsIn added result (Memory old) (Memory new) = OnOk result (new.rows ≡ old.rows ++ added) × OnErr result (new.rows ≡ old.rows)
   CommitsIn added result (File old) (File new) = HasCommitted g added result old new
   CommitsIn added result _ _ = ⊥
 
   -- what is open has loaded the row with this number, and no other store is open
   abbrev pub LoadsIn : ℕ → Result Row KeepError → Opened S → Opened S → Type 0
   LoadsIn index result Nothing Nothing = Unit {0}
-  LoadsIn index result (Memory old) (Memory new) = HasQueried over_memory index result old new
+  LoadsIn index result (Memory old) (Memory new) = new ≡ old
   LoadsIn index result (File old) (File new) = HasQueried g index result old new
   LoadsIn index result _ _ = ⊥
 
 -- how many rows there are
 abbrev pub size_in : {S : Type 0} → Opened S → ℕ
 size_in Nothing = 0
-size_in (Memory kept) = kept.size
+size_in (Memory held) = length held.rows
 size_in (File kept) = kept.size
 
 -- how often a call was refused, by the count of the store's own and that of what is open
 abbrev pub faults_with : {S : Type 0} → ℕ → Opened S → ℕ
 faults_with own Nothing = own
-faults_with own (Memory kept) = faults_of own (faults_in kept)
+faults_with own (Memory held) = own
 faults_with own (File kept) = faults_of own (faults_in kept)

@@ -1,4 +1,4 @@
-ghost use Rattle.std.specs.Prelude.{◌≡◌, ◌≢◌, ◌+◌, ◌<◌, [], length, Some, Err, IfOk, IfSome, IsSome, OnOk, OnErr, slice_get};
+ghost use Rattle.std.specs.Prelude.{◌≡◌, ◌≢◌, ◌+◌, ◌++◌, ◌<◌, [], length, Some, Err, IfOk, IfSome, IsSome, OnOk, OnErr, slice_get};
 ghost use Rattle.pr_outside.specs.Causes.{HasKeepCause};
 ghost use Rattle.pr_outside.specs.Kept.{AppendsRows, KeepsRows};
 ghost use Rattle.pr_outside.specs.Paths.{Opens, StartsPath};
@@ -10,15 +10,15 @@ ghost use Rattle.pr_keep_sql.specs.Opened.{CommitsIn, IsTrusted, LoadsIn, TellsO
 ghost use Rattle.pr_keep_sql.specs.declared.opened.Opened.TheVariants.{Nothing};
 
 use crate::counts::{failed, faults_of};
-use crate::opened::{Opened, in_file, in_memory};
+use crate::opened::{Opened, in_file};
 use crate::opening::Open;
-use pr_outside::{KeepError, Keeper, Row};
+use pr_outside::{KeepError, Keeper, Row, SureKeeper};
 use pr_words::Text;
 use sqlite::Alter;
 use std::alloc::{AllocError, Global};
 
-/// Rows kept in a file of SQLite, by its path, or in memory: `SqlKeeper<_, DiskFile<..>>` over the
-/// files of the disk.
+/// Rows kept in a file of SQLite, by its path, or in memory, which wants no database:
+/// `SqlKeeper<_, DiskFile<..>>` over the files of the disk.
 #[derive(Drop)]
 pub struct SqlKeeper<S: Alter, O: Open<S>> {
     alloc: Global,
@@ -48,6 +48,18 @@ fn with_path(alloc: Global, paths: &[Text], path: &str) -> Result<Vec<Text>, All
     Ok(all)
 }
 
+// Appends rows to those in memory, where there are any to append.
+fn commit_held(held: &mut SureKeeper, added: &[Row]) -> Result<(), KeepError>
+    ensures ok { OnOk result (held.new.rows ≡ held.old.rows ++ added.now) }
+    ensures err { OnErr result (held.new.rows ≡ held.old.rows) }
+    ensures sure { result ≢ Err Failed }
+{
+    if added.is_empty() {
+        return Ok(());
+    }
+    held.commit(added)
+}
+
 impl<S: Alter + Drop, O: Open<S>> SqlKeeper<S, O> {
     /// A store that has opened nothing yet, over these files.
     pub fn new(alloc: Global, files: O) -> SqlKeeper<S, O>
@@ -64,23 +76,15 @@ impl<S: Alter + Drop, O: Open<S>> SqlKeeper<S, O> {
         }
     }
 
-    // Opens tables in memory, after which these are the paths.
-    fn start_in_memory(&mut self, paths: Vec<Text>) -> Result<(), KeepError>
-        requires { self.old.opened ≡ Nothing }
-        ensures empty { OnOk result (rows_in S.Store self.new.opened ≡ Some []) }
-        ensures paths { OnOk result (self.new.paths.items ≡ paths.items) }
-        ensures err { OnErr result ((self.new.opened ≡ self.old.opened) × (self.new.paths.items ≡ self.old.paths.items)) }
-        ensures cause { HasKeepCause self.old.own (faults_with self.new.own self.new.opened) result }
-        ensures own { CountsOne self.old.own self.new.own result }
+    // Opens a store in memory, after which these are the paths.
+    fn start_in_memory(&mut self, paths: Vec<Text>)
+        ensures empty { rows_in S.Store self.new.opened ≡ Some [] }
+        ensures paths { self.new.paths.items ≡ paths.items }
+        ensures own { self.new.own ≡ self.old.own }
+        ensures count { faults_with self.new.own self.new.opened ≡ self.old.own }
     {
-        match in_memory(self.alloc, &mut self.own) {
-            Ok(kept) => {
-                self.opened = Opened::Memory(kept);
-                self.paths = paths;
-                Ok(())
-            }
-            Err(error) => Err(error),
-        }
+        self.opened = Opened::Memory(SureKeeper::new(Vec::new(self.alloc)));
+        self.paths = paths;
     }
 
     // Opens the file at this path, after which these are the paths.
@@ -102,7 +106,7 @@ impl<S: Alter + Drop, O: Open<S>> SqlKeeper<S, O> {
         }
     }
 
-    /// Opens the file at this path, or tables in memory where the path is empty. What stands in the
+    /// Opens the file at this path, or a store in memory where the path is empty. What stands in the
     /// tables of a file stays, and is told where they come first in it.
     ///
     /// # Errors
@@ -125,10 +129,10 @@ impl<S: Alter + Drop, O: Open<S>> SqlKeeper<S, O> {
         }
         let paths = with_path(self.alloc, &self.paths, path)?;
         if path.is_empty() {
-            self.start_in_memory(paths)
-        } else {
-            self.start_at(path, paths)
+            self.start_in_memory(paths);
+            return Ok(());
         }
+        self.start_at(path, paths)
     }
 
     /// How many rows there are: none before a start.
@@ -138,16 +142,16 @@ impl<S: Alter + Drop, O: Open<S>> SqlKeeper<S, O> {
     {
         match &self.opened {
             Opened::Nothing => 0,
-            Opened::Memory(kept) => kept.size(),
+            Opened::Memory(held) => held.size(),
             Opened::File(kept) => kept.size(),
         }
     }
 
-    /// Appends all rows in one transaction. A refused call appends none.
+    /// Appends all rows, in a file by one transaction. A refused call appends none.
     ///
     /// # Errors
-    /// `Failed` before a start, where a number or a time is above 2^63 - 1, and where a statement is
-    /// refused.
+    /// `Failed` before a start; and in a file where a number or a time is above 2^63 - 1, and where a
+    /// statement is refused.
     pub fn commit(&mut self, added: &[Row]) -> Result<(), KeepError>
         ensures ok { OnOk result (AppendsRows (rows_in S.Store self.old.opened) (rows_in S.Store self.new.opened) added.now) }
         ensures ok_count { OnOk result (size_in self.new.opened ≡ size_in self.old.opened + length added.now) }
@@ -165,7 +169,7 @@ impl<S: Alter + Drop, O: Open<S>> SqlKeeper<S, O> {
     {
         match &mut self.opened {
             Opened::Nothing => Err(failed(&mut self.own)),
-            Opened::Memory(kept) => kept.commit(added),
+            Opened::Memory(held) => commit_held(held, added),
             Opened::File(kept) => kept.commit(added),
         }
     }
@@ -173,7 +177,7 @@ impl<S: Alter + Drop, O: Open<S>> SqlKeeper<S, O> {
     /// The row of this index. It changes no rows.
     ///
     /// # Errors
-    /// `Failed` where the query is refused, or the row is none of the store.
+    /// `Failed` in a file where the query is refused, or the row is none of the store.
     pub fn load(&mut self, index: u64) -> Result<Row, KeepError>
         requires { index < size_in self.old.opened }
         ensures row { IfOk result (λ row. IfSome (rows_in S.Store self.new.opened) (λ rows. slice_get rows index ≡ Some row)) }
@@ -190,7 +194,7 @@ impl<S: Alter + Drop, O: Open<S>> SqlKeeper<S, O> {
     {
         match &mut self.opened {
             Opened::Nothing => Err(failed(&mut self.own)),
-            Opened::Memory(kept) => kept.load(index),
+            Opened::Memory(held) => held.load(index),
             Opened::File(kept) => kept.load(index),
         }
     }
@@ -201,7 +205,7 @@ impl<S: Alter + Drop, O: Open<S>> SqlKeeper<S, O> {
     {
         match &self.opened {
             Opened::Nothing => self.own,
-            Opened::Memory(kept) => faults_of(self.own, kept.faults()),
+            Opened::Memory(_) => self.own,
             Opened::File(kept) => faults_of(self.own, kept.faults()),
         }
     }

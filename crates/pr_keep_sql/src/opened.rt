@@ -2,7 +2,6 @@
 ghost use Rattle.std.specs.Prelude.{◌≡◌, ◌↔◌, ◌≤◌, [], IfOk, IsTrue, Some, false};
 ghost use Rattle.sqlite.specs.Held.{state};
 ghost use Rattle.sqlite.specs.State.{HasCleanDisk};
-ghost use Rattle.sqlite.specs.Steps.{over_memory};
 ghost use Rattle.sqlite.specs.View.{doubt};
 ghost use Rattle.pr_outside.specs.Causes.{HasKeepCause};
 ghost use Rattle.pr_keep_sql.specs.Counts.{CountsOne, faults_of};
@@ -15,17 +14,16 @@ ghost use Rattle.pr_keep_sql.specs.declared.opened.Opened.TheVariants.{Nothing};
 use crate::counts::{faults_of, refusal};
 use crate::kept::Kept;
 use crate::opening::Open;
-use pr_outside::KeepError;
-use sqlite::{Alter, Connection, MemStore};
-use std::alloc::Global;
+use pr_outside::{KeepError, SureKeeper};
+use sqlite::{Alter, Connection};
 
 /// What a store of a path has opened.
 #[derive(Drop)]
 pub(crate) enum Opened<S: Alter> {
     /// Nothing yet.
     Nothing,
-    /// Tables in memory.
-    Memory(Kept<MemStore>),
+    /// Rows in memory, which want no tables.
+    Memory(SureKeeper),
     /// The tables of a file.
     File(Kept<S>),
 }
@@ -58,19 +56,6 @@ fn readied<S: Alter + Drop>(conn: Connection<S>, own: &mut u64) -> Result<Kept<S
             *own = faults_of(before, kept.faults());
             Err(error)
         }
-    }
-}
-
-/// Tables in memory, which are empty.
-pub(crate) fn in_memory(alloc: Global, own: &mut u64) -> Result<Kept<MemStore>, KeepError>
-    ensures counts { IfOk result (λ k. faults_of own.new (faults_in k) ≡ own.old) }
-    ensures empty { IfOk result (λ k. rows_of over_memory k ≡ Some []) }
-    ensures cause { HasKeepCause own.old own.new result }
-    ensures once { CountsOne own.old own.new result }
-{
-    match Connection::open_in_memory(alloc) {
-        Ok(conn) => readied(conn, own),
-        Err(error) => Err(KeepError::from(error)),
     }
 }
 
