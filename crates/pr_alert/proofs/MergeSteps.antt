@@ -8,7 +8,7 @@ use Rattle.pr_labels.specs.Order.{labels_cmp}
 use Rattle.pr_lineage.specs.declared.found.Found.{Found}
 use Rattle.pr_lineage.specs.declared.record.Record.{Record}
 use Rattle.pr_alert.specs.Merging.{Moment, found_at, merged, merged_with, met, missing_at}
-use Rattle.pr_alert.specs.Turns.{HasFirst, turn}
+use Rattle.pr_alert.specs.Turns.{HasTurn, turn}
 
 merged_less : (m : Moment) (r : Record) (rs : List Record) (fs : List Found) → turn (r ∷ rs) fs ≡ Less
     → merged m fs (r ∷ rs) ≡ missing_at m r ++ merged m fs rs
@@ -44,7 +44,7 @@ step_high m out f rs fs found d h =
     ∙ (ap (λ l. out ++ l) (sym (high m f rs fs (sym (ap (turn rs) d) ∙ h))) ∙ ap (λ os. out ++ merged m os rs) (sym d))
 
 -- where both lists have a first one, whichever stands first
-pub both_first : (o : Ordering) (n k : ℕ) → 0 < n → 0 < k → HasFirst o n k
+pub both_first : (o : Ordering) (n k : ℕ) → 0 < n → 0 < k → HasTurn o n k
 both_first Less n k h g = h
 both_first Equal n k h g = λ s. (h, g)
 both_first Greater n k h g = g

@@ -14,7 +14,7 @@ turn (r ∷ rs) [] = Less
 turn (r ∷ rs) (f ∷ fs) = labels_cmp r.labels f.labels
 
 -- of which of two lists there is a first one, by which stands first and how many there are
-abbrev pub HasFirst : Ordering → ℕ → ℕ → Type 0
-HasFirst Less n k = 0 < n
-HasFirst Equal n k = 0 < n + k → (0 < n) × (0 < k)
-HasFirst Greater n k = 0 < k
+abbrev pub HasTurn : Ordering → ℕ → ℕ → Type 0
+HasTurn Less n k = 0 < n
+HasTurn Equal n k = 0 < n + k → (0 < n) × (0 < k)
+HasTurn Greater n k = 0 < k

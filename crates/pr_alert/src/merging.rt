@@ -4,7 +4,7 @@ ghost use Rattle.std.specs.Option.{option_to_list};
 ghost use Rattle.std.specs.VecDeque.{deque_len};
 ghost use Rattle.std.specs.declared.cmp.Ordering.TheVariants as order;
 ghost use Rattle.pr_alert.specs.Merging.{merged, moment};
-ghost use Rattle.pr_alert.specs.Turns.{HasFirst, turn};
+ghost use Rattle.pr_alert.specs.Turns.{HasTurn, turn};
 
 use crate::going::{found, missing};
 use pr_lineage::{Found, Record};
@@ -16,7 +16,7 @@ use std::collections::VecDeque;
 #[tactic(auto, using(crate::proofs::MergeSteps::both_first))]
 fn turn_of(old: &VecDeque<Record>, elements: &VecDeque<Found>) -> Ordering
     ensures turn { result ≡ turn old.now.items elements.now.items }
-    ensures first { HasFirst result (deque_len old.now) (deque_len elements.now) }
+    ensures first { HasTurn result (deque_len old.now) (deque_len elements.now) }
 {
     match old.front() {
         None => match elements.front() {
