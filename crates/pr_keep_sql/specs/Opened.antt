@@ -1,5 +1,5 @@
 -- What a store of a path has opened, and what it tells.
-use Rattle.std.specs.Prelude.{◌≡◌, ◌++◌, ℕ, List, [], length, Option, Some, None, Result, OnOk, OnErr}
+use Rattle.std.specs.Prelude.{◌≡◌, ◌≢◌, ◌++◌, ℕ, List, [], length, Option, Some, None, Result, Err, OnOk, OnErr}
 use Rattle.sqlite.specs.Effect.{Database, IsDatabase}
 use Rattle.sqlite.specs.Files.{AreFoundIn, HoldsDatabase}
 use Rattle.sqlite.specs.Held.{state}
@@ -8,6 +8,7 @@ use Rattle.sqlite.specs.State.{HasCleanDisk}
 use Rattle.sqlite.specs.Store.{Ghosts}
 use Rattle.sqlite.specs.Tree.{Trees}
 use Rattle.pr_outside.specs.declared.keeping.KeepError.{KeepError}
+use Rattle.pr_outside.specs.declared.keeping.KeepError.TheVariants.{Failed}
 use Rattle.pr_outside.specs.declared.keeping.Row.{Row}
 use Rattle.pr_keep_sql.specs.Calls.{HasCommitted, HasQueried}
 use Rattle.pr_keep_sql.specs.Counts.{faults_of}
@@ -54,14 +55,14 @@ module _ {S : Type 0} (g : Ghosts S) where
   -- what is open has committed these rows, and no other store is open
   abbrev pub CommitsIn : {T : Type 0} → List Row → Result T KeepError → Opened S → Opened S → Type 0
   CommitsIn added result Nothing Nothing = Unit {0}
-  CommitsIn added result (Memory old) (Memory new) = OnOk result (new.rows ≡ old.rows ++ added) × OnErr result (new.rows ≡ old.rows)
+  CommitsIn added result (Memory old) (Memory new) = OnOk result (new.rows ≡ old.rows ++ added) × OnErr result (new.rows ≡ old.rows) × (result ≢ Err Failed)
   CommitsIn added result (File old) (File new) = HasCommitted g added result old new
   CommitsIn added result _ _ = ⊥
 
   -- what is open has loaded the row with this number, and no other store is open
   abbrev pub LoadsIn : ℕ → Result Row KeepError → Opened S → Opened S → Type 0
   LoadsIn index result Nothing Nothing = Unit {0}
-  LoadsIn index result (Memory old) (Memory new) = new ≡ old
+  LoadsIn index result (Memory old) (Memory new) = (new ≡ old) × (result ≢ Err Failed)
   LoadsIn index result (File old) (File new) = HasQueried g index result old new
   LoadsIn index result _ _ = ⊥
 

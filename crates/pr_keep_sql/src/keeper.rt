@@ -106,8 +106,8 @@ impl<S: Alter + Drop, O: Open<S>> SqlKeeper<S, O> {
         }
     }
 
-    /// Opens the file at this path, or a store in memory where the path is empty. What stands in the
-    /// tables of a file stays, and is told where they come first in it.
+    /// Opens the file at this path, or a store in memory where the path is empty. What stands in
+    /// the tables of a file stays, and is told where they come first in it.
     ///
     /// # Errors
     /// `Failed` where something is open already, where the file cannot be opened, where it has
@@ -123,6 +123,9 @@ impl<S: Alter + Drop, O: Open<S>> SqlKeeper<S, O> {
         ensures cause { HasKeepCause (faults_with self.old.own self.old.opened) (faults_with self.new.own self.new.opened) result }
         // A refusal adds one to its own count, and a start that succeeds leaves it.
         ensures own { CountsOne self.old.own self.new.own result }
+        ensures second { self.old.opened ≢ Nothing → (result ≡ Err Failed) × (self.new.own ≡ one_more self.old.own) }
+        // A store in memory is refused for nothing else.
+        ensures calm { path.now ≡ [] → self.old.opened ≡ Nothing → result ≢ Err Failed }
     {
         if !self.opened.is_nothing() {
             return Err(failed(&mut self.own));
@@ -150,8 +153,8 @@ impl<S: Alter + Drop, O: Open<S>> SqlKeeper<S, O> {
     /// Appends all rows, in a file by one transaction. A refused call appends none.
     ///
     /// # Errors
-    /// `Failed` before a start; and in a file where a number or a time is above 2^63 - 1, and where a
-    /// statement is refused.
+    /// `Failed` before a start; and in a file where a number or a time is above 2^63 - 1, and where
+    /// a statement is refused.
     pub fn commit(&mut self, added: &[Row]) -> Result<(), KeepError>
         ensures ok { OnOk result (AppendsRows (rows_in S.Store self.old.opened) (rows_in S.Store self.new.opened) added.now) }
         ensures ok_count { OnOk result (size_in self.new.opened ≡ size_in self.old.opened + length added.now) }
@@ -204,8 +207,7 @@ impl<S: Alter + Drop, O: Open<S>> SqlKeeper<S, O> {
         ensures { result ≡ faults_with self.now.own self.now.opened }
     {
         match &self.opened {
-            Opened::Nothing => self.own,
-            Opened::Memory(_) => self.own,
+            Opened::Nothing | Opened::Memory(_) => self.own,
             Opened::File(kept) => faults_of(self.own, kept.faults()),
         }
     }

@@ -52,37 +52,42 @@ fn emptied(alloc: Global, over: &[Pair]) -> Result<Vec<Text>, AllocError>
     Ok(names)
 }
 
-// The label set that labels are. They have label names, each once: a rule file has no others.
-fn set_of(alloc: Global, over: &[Pair]) -> Result<Labels, AllocError>
-    ensures set { IfOk result (λ l. l ≡ labels_of over.now) }
-    ensures names { OnOk result (first_fault over.now ≡ None) }
-{
-    match Labels::from_pairs(alloc, over) {
-        Ok(set) => Ok(set),
-        Err(_) => Err(AllocError),
-    }
-}
-
-// Sets labels at once: those whose values are empty are taken out, and the others are gone over
-// once with the labels that stay.
-#[tactic(auto, using(crate::proofs::SettingAtOnce::set_at_once))]
-fn set_at_once(alloc: Global, labels: &mut Labels, over: &[Pair]) -> Result<(), AllocError>
+// Sets the labels of a set, which is that of these labels: those whose values are empty are taken
+// out, and the set is gone over once with the labels that stay.
+#[tactic(auto, using(crate::proofs::SettingAtOnce::in_turn_or_at_once))]
+fn set_at_once(
+    alloc: Global,
+    labels: &mut Labels,
+    over: &[Pair],
+    set: &Labels,
+) -> Result<(), AllocError>
+    requires names { first_fault over.now ≡ None }
+    requires set { set.now ≡ labels_of over.now }
     ensures { OnOk result (labels.new ≡ union_labels labels.old over.now) }
 {
-    let set = set_of(alloc, over)?;
     let others = labels.without(alloc, &emptied(alloc, over)?)?;
-    *labels = others.union(alloc, &set)?;
+    *labels = others.union(alloc, set)?;
     Ok(())
 }
 
-/// Sets the labels that a rule gives. Few are set one by one; many take little longer than their
-/// sorting, also where the element has many.
+// Sets many labels: at once, where they have label names, each once. A rule file has no others.
+fn set_many(alloc: Global, labels: &mut Labels, over: &[Pair]) -> Result<(), AllocError>
+    ensures { OnOk result (labels.new ≡ union_labels labels.old over.now) }
+{
+    match Labels::from_pairs(alloc, over) {
+        Ok(set) => set_at_once(alloc, labels, over, &set),
+        Err(_) => set_each(alloc, labels, over),
+    }
+}
+
+/// Sets the labels that a rule gives: few one by one, and many at once, in time that grows with
+/// those of both.
 pub(crate) fn set_all(alloc: Global, labels: &mut Labels, over: &[Pair]) -> Result<(), AllocError>
     ensures { OnOk result (labels.new ≡ union_labels labels.old over.now) }
 {
     if over.len() <= FEW {
         set_each(alloc, labels, over)
     } else {
-        set_at_once(alloc, labels, over)
+        set_many(alloc, labels, over)
     }
 }
