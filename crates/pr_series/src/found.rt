@@ -1,5 +1,7 @@
 // The labels that a reader has found.
-ghost use Rattle.std.specs.Prelude.{◌≡◌, ◌++◌, ◌∷◌, [], ℕ, List, IfOk};
+ghost use Rattle.std.specs.Prelude.{◌≡◌, ◌++◌, ◌∷◌, [], ℕ, List, OnOk, drop};
+ghost use Rattle.std.specs.List.{list_any};
+ghost use Rattle.std.specs.Str.{bytes_eq};
 ghost use Rattle.pr_words.specs.Names.{knows, is_among};
 ghost use Rattle.pr_series.specs.SeriesReader.{names_of};
 
@@ -7,12 +9,23 @@ use pr_labels::Pair;
 use std::alloc::{AllocError, Global};
 use std::collections::BTreeSet;
 
-/// Labels in the order of their text, and their names, so that a name is looked up in few steps.
+/// How many labels are gone over when a name is looked up.
+const FEW: usize = 16;
+
+/// Labels in the order of their text, and the names of those after the first few, so that a name is
+/// looked up in few steps, and few labels need no set.
 #[derive(Drop)]
 pub(crate) struct Found<'a> {
     pub(crate) pairs: Vec<Pair>,
-    names: BTreeSet<&'a [u8]>,
-    ghost known: { (name : List ℕ) → knows names name ≡ is_among name (names_of pairs.items) },
+    later: BTreeSet<&'a [u8]>,
+    ghost known: { (name : List ℕ) → knows later name ≡ is_among name (names_of (drop 16 pairs.items)) },
+}
+
+/// Whether one of the labels has the name.
+fn is_named(pairs: &[Pair], name: &str) -> bool
+    ensures { result ≡ list_any (λ p. bytes_eq p.name name.now) pairs.now }
+{
+    pairs.iter().any(|pair| pair.name.as_str() == name)
 }
 
 impl<'a> Found<'a> {
@@ -22,7 +35,7 @@ impl<'a> Found<'a> {
     {
         Found {
             pairs: Vec::new(alloc),
-            names: BTreeSet::new(alloc),
+            later: BTreeSet::new(alloc),
         }
     }
 
@@ -30,20 +43,27 @@ impl<'a> Found<'a> {
     pub(crate) fn has(&self, name: &str) -> bool
         ensures { result ≡ is_among name.now (names_of self.now.pairs.items) }
     {
-        self.names.contains(name.as_bytes())
+        if self.pairs.len() <= FEW {
+            return is_named(&self.pairs, name);
+        }
+        is_named(&self.pairs[..FEW], name) || self.later.contains(name.as_bytes())
     }
 
-    /// The labels with one more, whose name stands in the text too.
-    pub(crate) fn with(self, name: &'a [u8], pair: Pair) -> Result<Found<'a>, AllocError>
+    /// Puts one more label at the end, whose name stands in the text too.
+    pub(crate) fn add(&mut self, name: &'a [u8], pair: Pair) -> Result<(), AllocError>
         requires { name.now ≡ pair.name }
-        ensures { IfOk result (λ f. f.pairs.items ≡ self.entry.pairs.items ++ pair ∷ []) }
+        ensures { OnOk result (self.new.pairs.items ≡ self.old.pairs.items ++ pair ∷ []) }
     {
-        let Found {
-            mut pairs,
-            mut names,
-        } = self;
-        names.insert(name)?;
-        pairs.push(pair)?;
-        Ok(Found { pairs, names })
+        if self.pairs.len() < FEW {
+            self.pairs.push(pair)?;
+            return Ok(());
+        }
+        // The set is to know just the names of the pairs, also where memory runs out.
+        self.pairs.reserve(1)?;
+        self.later.insert(name)?;
+        match self.pairs.push(pair) {
+            Ok(()) => Ok(()),
+            Err(_) => unreachable!(),
+        }
     }
 }

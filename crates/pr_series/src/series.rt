@@ -266,7 +266,7 @@ fn list_in<'a>(
     let mut rest = blanks_in(text);
     while let Some((pair, after_pair)) = label_in(alloc, &found, rest)? {
         let name = &rest[..pair.name.as_str().len()];
-        found = found.with(name, pair)?;
+        found.add(name, pair)?;
         let next = blanks_in(after_pair);
         let Some((_comma, after_comma)) = sign_in(Kind::Comma, next) else {
             return closed(found.pairs, next);
@@ -317,12 +317,12 @@ fn series_in(alloc: Global, text: &[u8]) -> Result<(Vec<Pair>, &[u8]), Fault<'_,
     requires { IsUtf8 text.now }
     ensures { MatchResult result (λ x. Gives series (rule Series) text.now (good (listed x.0.items) (seen x.1.now))) (FailsAt series (rule Series) text.now) }
 {
-    let none = Found::empty(alloc);
+    let mut found = Found::empty(alloc);
     let Some((first, after_first)) = part_in(Part::MetricFirst, text) else {
-        return braces_in(alloc, none, text);
+        return braces_in(alloc, found, text);
     };
     let (name, after_name) = name_in(alloc, Part::MetricNext, first, after_first)?;
-    let found = none.with(METRIC_LABEL.as_bytes(), metric_pair(alloc, name)?)?;
+    found.add(METRIC_LABEL.as_bytes(), metric_pair(alloc, name)?)?;
     if starts_list(after_name) {
         braces_in(alloc, found, blanks_in(after_name))
     } else {
