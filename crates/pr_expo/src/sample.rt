@@ -28,7 +28,7 @@ pub(crate) fn labels_of(alloc: Global, head: Head) -> Result<Labels, AllocError>
             value: name,
         },
     )?;
-    Labels::from_distinct(pairs)
+    Labels::from_distinct_without_key(pairs)
 }
 
 // The value of a number text, unless it is too wide.

@@ -15,7 +15,8 @@ const MOST: usize = 64;
 
 /// Pairs, with an order key by which they are compared in one go: their texts one behind the other.
 /// Pairs have none where they are many, where a text of theirs has the byte by which texts end in a
-/// key, or where there was no memory for it. Contracts see the list of the pairs.
+/// key, where there was no memory for it, or where none was asked for. Contracts see the list of
+/// the pairs.
 #[derive(Debug, Drop)]
 pub(super) struct KeyedPairs {
     pairs: Vec<Pair>,
@@ -135,6 +136,13 @@ impl KeyedPairs {
     {
         let key = order_key_of(alloc, &pairs);
         KeyedPairs { pairs, key }
+    }
+
+    /// Pairs without one.
+    pub(super) fn without_key(pairs: Vec<Pair>) -> KeyedPairs
+        ensures { result ≡ pairs.items }
+    {
+        KeyedPairs { pairs, key: None }
     }
 
     /// The pairs.

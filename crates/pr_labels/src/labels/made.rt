@@ -7,6 +7,7 @@ use super::Labels;
 use super::copies::{copy_pairs, push_copies};
 use super::known::add_name;
 use super::place::parted;
+use super::shared::SharedPairs;
 use crate::fault::LabelFault;
 use crate::names::is_label_name;
 use crate::pair::Pair;
@@ -42,6 +43,19 @@ fn drop_empty(pairs: &mut Vec<Pair>)
     ensures { pairs.new.items ≡ filter has_value pairs.old.items }
 {
     pairs.retain(has_value);
+}
+
+// The pairs of the label set of pairs whose names are distinct.
+#[tactic(auto, using(crate::proofs::Distinct::sorted_set, crate::proofs::Distinct::sorted_is_set))]
+fn in_order(pairs: Vec<Pair>) -> Result<Vec<Pair>, AllocError>
+    requires { first_fault pairs.items ≡ None }
+    ensures made { IfOk result (λ v. v.items ≡ labels_of pairs.items) }
+    ensures set { IfOk result (λ v. IsLabelSet v.items) }
+{
+    let mut pairs = pairs;
+    drop_empty(&mut pairs);
+    pairs.sort()?;
+    Ok(pairs)
 }
 
 // The pairs of both, with those of `over` where both have a name.
@@ -87,11 +101,22 @@ impl Labels {
         requires { first_fault pairs.items ≡ None }
         ensures { IfOk result (λ l. l ≡ labels_of pairs.items) }
     {
-        let mut pairs = pairs;
-        drop_empty(&mut pairs);
-        pairs.sort()?;
         let alloc = *pairs.allocator();
-        Ok(Labels::of_pairs(alloc, pairs))
+        let sorted = in_order(pairs)?;
+        Ok(Labels::of_pairs(alloc, sorted))
+    }
+
+    /// The same, for a set that is compared little, since most like it are soon dropped: it gets no
+    /// order key. It is an equal set all the same, and so are those that are made of it.
+    pub fn from_distinct_without_key(pairs: Vec<Pair>) -> Result<Labels, AllocError>
+        requires { first_fault pairs.items ≡ None }
+        ensures { IfOk result (λ l. l ≡ labels_of pairs.items) }
+    {
+        let alloc = *pairs.allocator();
+        let sorted = in_order(pairs)?;
+        Ok(Labels {
+            pairs: SharedPairs::without_key(alloc, sorted),
+        })
     }
 
     /// The labels of both sets, with the values of `over` where both have a name.

@@ -61,16 +61,16 @@ impl SharedPairs {
         }
     }
 
-    /// The pairs of a vector, to be shared where there is memory for a count.
-    pub(super) fn new(alloc: Global, pairs: Vec<Pair>) -> SharedPairs
-        ensures { result ≡ pairs.items }
+    // Pairs to be shared, where there are any, and memory for a count.
+    fn counted(alloc: Global, pairs: KeyedPairs) -> SharedPairs
+        ensures { result ≡ pairs }
     {
-        if pairs.is_empty() {
+        if pairs.as_slice().is_empty() {
             return SharedPairs {
-                held: Held::Alone(pairs),
+                held: Held::Alone(pairs.into_vec()),
             };
         }
-        match Rc::new(alloc, KeyedPairs::new(alloc, pairs)) {
+        match Rc::new(alloc, pairs) {
             Ok(counted) => SharedPairs {
                 held: Held::Counted(counted),
             },
@@ -78,6 +78,20 @@ impl SharedPairs {
                 held: Held::Alone(refused.value.into_vec()),
             },
         }
+    }
+
+    /// The pairs of a vector, to be shared where there is memory for a count.
+    pub(super) fn new(alloc: Global, pairs: Vec<Pair>) -> SharedPairs
+        ensures { result ≡ pairs.items }
+    {
+        SharedPairs::counted(alloc, KeyedPairs::new(alloc, pairs))
+    }
+
+    /// The same, without an order key.
+    pub(super) fn without_key(alloc: Global, pairs: Vec<Pair>) -> SharedPairs
+        ensures { result ≡ pairs.items }
+    {
+        SharedPairs::counted(alloc, KeyedPairs::without_key(pairs))
     }
 
     /// The pairs.
