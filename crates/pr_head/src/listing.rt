@@ -29,7 +29,7 @@ impl Model for Listing {
     ghost view = { λ l. numbers_in l.numbers };
 }
 
-ghost use Rattle.std.specs.Prelude.{◌≡◌, [], ◌∷◌, filter, length, unwrap_or, IfOk, IfErr, OnOk, OnErr};
+ghost use Rattle.std.specs.Prelude.{◌≡◌, [], ◌∷◌, filter, length, unwrap_or, IfOk, IfErr, IsOk, OnOk, OnErr};
 ghost use Rattle.std.specs.Option.{option_copied};
 ghost use Rattle.std.specs.Map.{remove_entry, values_of};
 ghost use Rattle.std.specs.BTreeMap.{insert_entry, is_at};
@@ -148,15 +148,11 @@ impl Listing {
         mem::replace(&mut self.numbers, none)
     }
 
-    /// One more series, at its place in label order. The first one takes no memory.
-    pub(crate) fn insert(&mut self, labels: Labels, number: usize) -> Result<(), AllocError>
+    // One more series beside one that stands alone: a map is made of both.
+    fn insert_in_map(&mut self, labels: Labels, number: usize) -> Result<(), AllocError>
         ensures ok { OnOk result (self.new ≡ insert_entry labels_cmp self.old labels number) }
         ensures err { OnErr result (self.new ≡ self.old) }
     {
-        if self.len() == 0 {
-            self.numbers = Numbers::One { labels, number };
-            return Ok(());
-        }
         match map_of(self.alloc, self.take()) {
             Ok(mut map) => {
                 let inserted = map.insert(labels, number);
@@ -171,25 +167,37 @@ impl Listing {
         }
     }
 
+    /// One more series, at its place in label order. The first one takes no memory.
+    pub(crate) fn insert(&mut self, labels: Labels, number: usize) -> Result<(), AllocError>
+        ensures ok { OnOk result (self.new ≡ insert_entry labels_cmp self.old labels number) }
+        ensures err { OnErr result (self.new ≡ self.old) }
+        ensures first { self.old ≡ [] → IsOk result }
+    {
+        if self.len() == 0 {
+            self.numbers = Numbers::One { labels, number };
+            return Ok(());
+        }
+        match &mut self.numbers {
+            Numbers::Many { numbers } => {
+                numbers.insert(labels, number)?;
+                Ok(())
+            }
+            Numbers::One { .. } => self.insert_in_map(labels, number),
+        }
+    }
+
     /// Without the series with these labels. Takes no memory.
     pub(crate) fn remove(&mut self, labels: &Labels)
         ensures { self.new ≡ remove_entry (is_at (labels_cmp labels.now)) self.old }
     {
-        match self.take() {
-            Numbers::One {
-                labels: one,
-                number,
-            } => {
-                if !labels.cmp(&one).is_eq() {
-                    self.numbers = Numbers::One {
-                        labels: one,
-                        number,
-                    };
+        match &mut self.numbers {
+            Numbers::One { labels: one, .. } => {
+                if labels.cmp(one).is_eq() {
+                    let _one = self.take();
                 }
             }
-            Numbers::Many { mut numbers } => {
+            Numbers::Many { numbers } => {
                 numbers.remove(labels);
-                self.numbers = Numbers::Many { numbers };
             }
         }
     }

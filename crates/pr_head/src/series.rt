@@ -224,7 +224,8 @@ impl Series {
         self.held(until - 1)
     }
 
-    /// A time before which no held sample stands: that of the first, or else the last that there is.
+    /// A time before which no held sample stands: that of the first, or else the last that there
+    /// is.
     pub(crate) fn oldest(&self) -> u64
         ensures { IsSince result self.now }
     {
