@@ -124,8 +124,8 @@ inside_after inside (SignKind LeftBracket) = true
 inside_after inside (SignKind RightBracket) = false
 inside_after inside token = inside
 
--- The tokens of a text that stands at a place: whitespace and comments are passed over, and each token
--- is the longest one where it begins.
+-- The tokens of a text that stands at a place: whitespace and comments are passed over, and each
+-- token is the longest one where it begins.
 pub data AreTokens : Bool → ℕ → List ℕ → List Token → Type 0 where
   no_more : {inside : Bool} {at : ℕ} {text : List ℕ} → part_at inside text ≡ End → AreTokens inside at text []
   past_gap : {inside : Bool} {at : ℕ} {text : List ℕ} {tokens : List Token} (n : ℕ) → part_at inside text ≡ Gap n →

@@ -283,7 +283,7 @@ fn copy_row(alloc: Global, row: &Row) -> Result<Row, AllocError>
 fn copy_rows(alloc: Global, rows: &[Row]) -> Result<Vec<Row>, AllocError>
     ensures { IfOk result (λ v. v.items ≡ rows.now) }
 {
-    let mut copies = Vec::new(alloc);
+    let mut copies = Vec::with_capacity(alloc, rows.len())?;
     for row in rows {
         copies.push(copy_row(alloc, row)?)?;
     }

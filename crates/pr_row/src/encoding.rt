@@ -14,13 +14,13 @@ use std::alloc::{AllocError, Global};
 use std::str;
 
 // Most label sets have a printed text of no more bytes.
-const MOSTLY: usize = 64;
+const LABELS_ROOM: usize = 64;
 
 // The printed text of a label set.
 pub(crate) fn labels_text(alloc: Global, labels: &Labels) -> Result<Text, AllocError>
     ensures { IfOk result (λ t. t ≡ series_text labels.now) }
 {
-    let mut bytes = Vec::with_capacity(alloc, MOSTLY)?;
+    let mut bytes = Vec::with_capacity(alloc, LABELS_ROOM)?;
     labels.write(&mut bytes)?;
     Ok(Text::new(String::from_utf8(bytes).unwrap()))
 }

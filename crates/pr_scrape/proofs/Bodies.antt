@@ -1,5 +1,5 @@
 -- What a body comes to, case by case.
-use Rattle.std.proofs.Common.{◌≡◌, ℕ, List, Option, Some, None, Result, Bor, sym, ap, ◌∙◌, subst}
+use Rattle.std.proofs.Common.{◌≡◌, ℕ, List, Option, Some, None, Result, Bor, sym, subst}
 use Rattle.std.specs.declared.result.Result.TheVariants.{Ok, Err}
 use Rattle.std.specs.Option.{option_copied}
 use Rattle.pr_labels.specs.declared.pair.Pair.{Pair}

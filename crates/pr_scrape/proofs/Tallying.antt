@@ -1,7 +1,7 @@
 -- The samples of a body, in parts.
-use Rattle.std.proofs.Common.{◌≡◌, ℕ, ◌+◌, Result, OnOk, OnErr, zero-add, Bool, true, false, cond, not, ◌&&◌, Option, Some, None, List, [], ◌∷◌, ◌++◌, map, refl, sym, ap, ◌∙◌, subst, append_assoc, append-nil, add_assoc, arith}
+use Rattle.std.proofs.Common.{◌≡◌, ℕ, ◌+◌, Result, OnOk, OnErr, zero-add, Bool, cond, not, Option, List, [], ◌∷◌, ◌++◌, sym, ap, ◌∙◌, subst, append_assoc, append-nil, add_assoc, arith}
 use Rattle.std.specs.Prelude.{count_by, is_none}
-use Rattle.std.specs.List.{cons_option, filter_map}
+use Rattle.std.specs.List.{cons_option}
 use Rattle.std.specs.declared.result.Result.TheVariants.{Ok, Err}
 use Rattle.pr_intake.specs.Intake.{HasTakenFront, Puts, Series}
 use Rattle.std.proofs.lemmas.List.{map-append}
@@ -9,10 +9,10 @@ use Rattle.std.proofs.lemmas.List.Elements.{filter_map-append}
 use Rattle.pr_labels.specs.declared.pair.Pair.{Pair}
 use Rattle.pr_history.specs.declared.append.Append.{Append}
 use Rattle.pr_history.specs.declared.entry.Entry.{Entry}
-use Rattle.pr_history.specs.Admission.{admit, put, put_all}
+use Rattle.pr_history.specs.Admission.{put_all}
 use Rattle.pr_expo.specs.declared.exposition.Line.{Line}
 use Rattle.pr_world.specs.declared.scraped.Offer.{Offer}
-use Rattle.pr_world.specs.Scrapes.{admissions, dropped_count, offered_entries, is_shown, is_tracked, kept_sets, markers, offer_of, offers, refused_count}
+use Rattle.pr_world.specs.Scrapes.{admissions, dropped_count, offered_entries, is_shown, is_tracked, kept_sets, offer_of, offers, refused_count}
 use Rattle.pr_world.proofs.Scraping.{answer_to, answers_parts, counts_parts, kept_first, kept_parts}
 use Rattle.pr_scrape.specs.Tallying.{Tallies}
 use Rattle.pr_scrape.specs.declared.tally.Tally.{Tally}

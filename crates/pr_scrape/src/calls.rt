@@ -99,7 +99,8 @@ fn scrape_lines(
     ensures tracked { (history : List Entry) → Holds head.old history → OnOk result (known.new ≡ (scraped target.now now known.old lines.now history).tracked) }
     ensures front { (history : List Entry) → Holds head.old history → OnErr result (HasTakenFront head.old head.new history (scraped target.now now known.old lines.now history).entries) }
 {
-    let mut rows = Vec::new(alloc);
+    // Room for the samples, and for the two that tell of the scrape.
+    let mut rows = Vec::with_capacity(alloc, lines.len().saturating_add(2))?;
     let tally = known.put_lines(alloc, head, &mut rows, target, now, lines)?;
     let added = rows.len();
     known.track(alloc, head, &mut rows, now, tally.kept)?;

@@ -134,7 +134,7 @@ pub(crate) fn put_lines(
     made.begin(alloc, target)?;
     let mut tally = Tally {
         dropped: 0,
-        kept: Vec::new(alloc),
+        kept: Vec::with_capacity(alloc, lines.len())?,
     };
     for line in lines {
         put_line(alloc, head, rows, &mut tally, made, now, line)?;

@@ -1,8 +1,7 @@
-use Rattle.std.proofs.Common.{◌≡◌, ◌++◌, [], List, map, refl, sym, ap, ◌∙◌, subst}
-use Rattle.pr_labels.specs.declared.pair.Pair.{Pair}
+use Rattle.std.proofs.Common.{◌≡◌, List, map, refl, ap, ◌∙◌, subst}
 use Rattle.pr_history.specs.declared.entry.Entry.{Entry}
 use Rattle.pr_history.specs.Admission.{put_all}
-use Rattle.pr_world.specs.Scrapes.{about, added_count, failure_entries, marker, markers}
+use Rattle.pr_world.specs.Scrapes.{about, failure_entries, marker, markers}
 use Rattle.pr_intake.specs.Intake.{HasTakenFront, Puts}
 use Rattle.pr_scrape.proofs.Answering.{same_answer}
 use Rattle.pr_intake.proofs.Intake.{front_if, front_more, front_then, puts_then, rows_are, rows_counted}

@@ -1,5 +1,4 @@
-use Rattle.std.proofs.Common.{◌≡◌, ◌++◌, [], ◌∷◌, List, map, refl, sym, ap, ◌∙◌, subst}
-use Rattle.pr_labels.specs.declared.pair.Pair.{Pair}
+use Rattle.std.proofs.Common.{◌≡◌, [], ◌∷◌, List, map, refl, sym, ap, ◌∙◌, subst}
 use Rattle.pr_history.specs.declared.entry.Entry.{Entry}
 use Rattle.pr_history.specs.Admission.{put_all}
 use Rattle.pr_world.specs.Scrapes.{end_entries, gone_of, marker, markers, sample_count_of, up_of}

@@ -1,5 +1,5 @@
-use Rattle.std.proofs.Common.{List, OnOk, OnErr, IfOk, ◌≡◌, rules}
-use Rattle.std.specs.declared.result.Result.TheVariants.{Ok, Err}
+use Rattle.std.proofs.Common.{OnOk, OnErr, IfOk, ◌≡◌}
+use Rattle.std.specs.declared.result.Result.TheVariants.{Err}
 use Rattle.pr_expo.specs.declared.exposition.ExpoError.TheVariants.{Fault}
 use Rattle.pr_expo.specs.Families.{exposition_of}
 use Rattle.pr_intake.specs.Intake.{HasTaken, HasTakenFront}

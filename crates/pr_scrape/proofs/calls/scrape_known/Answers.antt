@@ -1,7 +1,4 @@
-use Rattle.std.proofs.Common.{List, OnOk, OnErr, IfOk, ◌≡◌, rules}
-use Rattle.std.specs.declared.result.Result.TheVariants.{Ok, Err}
-use Rattle.pr_expo.specs.declared.exposition.ExpoError.TheVariants.{Fault}
-use Rattle.pr_expo.specs.Families.{exposition_of}
+use Rattle.std.proofs.Common.{OnOk, OnErr, IfOk, ◌≡◌}
 use Rattle.pr_intake.specs.Intake.{HasTaken, HasTakenFront}
 use Rattle.pr_scrape.proofs.Bodies.{by_none, by_some}
 use Rattle.pr_scrape.proofs.calls.scrape_known.Goals as goal

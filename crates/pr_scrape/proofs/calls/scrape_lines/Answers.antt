@@ -16,7 +16,7 @@ returns-in_err-tally-clause-front c = λ history h.
     let now = c.args.now in
     let body : List Entry = offered_entries (offers target now c.args.lines.now) in
     let more : List Entry = markers now c.args.known.now (tracked_after history (offers target now c.args.lines.now)) ++ about target now 1 (length c.args.lines.now) in
-    front_if c.from_residual.result c.args.head.now c.put_lines.new.head history (body ++ more)
+    front_if c.from_residual-in_err-tally.result c.args.head.now c.put_lines.new.head history (body ++ more)
     (front_more c.args.head.now c.put_lines.new.head history body more (c.in_err-tally.ensures.front history h))
 
 pub returns-in_err-track-clause-front : goal.returns-in_err-track-clause-front
@@ -28,7 +28,7 @@ returns-in_err-track-clause-front c = λ history h.
     let tracked : List (List Pair) = tracked_after history (offers target now c.args.lines.now) in
     let ms : List Entry = markers now old tracked in
     let ab : List Entry = about target now 1 (length c.args.lines.now) in
-    let p : Puts c.args.head.now c.put_lines.new.head c.new-rows.result.items c.put_lines.new.rows.items history body = c.in_ok-tally.ensures.puts history h in
+    let p : Puts c.args.head.now c.put_lines.new.head c.in_ok-rows.rows.items c.put_lines.new.rows.items history body = c.in_ok-tally.ensures.puts history h in
     let same : markers now c.put_lines.new.self (fold with_labels [] c.in_ok-tally.tally.kept.items) ≡ ms =
     ap (λ (l : List (List Pair)). markers now l (fold with_labels [] c.in_ok-tally.tally.kept.items)) c.in_ok-tally.ensures.stays
     ∙ ap (λ (l : List (List Pair)). markers now old (fold with_labels [] l)) (c.in_ok-tally.ensures.kept history h) in
@@ -47,7 +47,7 @@ returns-in_err-put_about-clause-front c = λ history h.
     let tracked : List (List Pair) = tracked_after history (offers target now c.args.lines.now) in
     let ms : List Entry = markers now old tracked in
     let ab : List Entry = about target now 1 (length c.args.lines.now) in
-    let p : Puts c.args.head.now c.put_lines.new.head c.new-rows.result.items c.put_lines.new.rows.items history body = c.in_ok-tally.ensures.puts history h in
+    let p : Puts c.args.head.now c.put_lines.new.head c.in_ok-rows.rows.items c.put_lines.new.rows.items history body = c.in_ok-tally.ensures.puts history h in
     let same : markers now c.put_lines.new.self (fold with_labels [] c.in_ok-tally.tally.kept.items) ≡ ms =
     ap (λ (l : List (List Pair)). markers now l (fold with_labels [] c.in_ok-tally.tally.kept.items)) c.in_ok-tally.ensures.stays
     ∙ ap (λ (l : List (List Pair)). markers now old (fold with_labels [] l)) (c.in_ok-tally.ensures.kept history h) in
@@ -68,7 +68,7 @@ returns-clause-taken c = λ history h.
     let tracked : List (List Pair) = tracked_after history (offers target now c.args.lines.now) in
     let ms : List Entry = markers now old tracked in
     let ab : List Entry = about target now 1 (length c.args.lines.now) in
-    let p : Puts c.args.head.now c.put_lines.new.head c.new-rows.result.items c.put_lines.new.rows.items history body = c.in_ok-tally.ensures.puts history h in
+    let p : Puts c.args.head.now c.put_lines.new.head c.in_ok-rows.rows.items c.put_lines.new.rows.items history body = c.in_ok-tally.ensures.puts history h in
     let same : markers now c.put_lines.new.self (fold with_labels [] c.in_ok-tally.tally.kept.items) ≡ ms =
     ap (λ (l : List (List Pair)). markers now l (fold with_labels [] c.in_ok-tally.tally.kept.items)) c.in_ok-tally.ensures.stays
     ∙ ap (λ (l : List (List Pair)). markers now old (fold with_labels [] l)) (c.in_ok-tally.ensures.kept history h) in
@@ -77,8 +77,8 @@ returns-clause-taken c = λ history h.
     (c.in_ok-track.ensures.puts (put_all history body) p.taken.holds) in
     let r : Puts c.track.new.head c.put_about.new.head c.track.new.rows.items c.put_about.new.rows.items (put_all (put_all history body) ms) ab =
     c.in_ok-put_about.ensures.puts (put_all (put_all history body) ms) q.taken.holds in
-    let whole : Puts c.args.head.now c.put_about.new.head c.new-rows.result.items c.put_about.new.rows.items history (body ++ (ms ++ ab)) =
-    puts_then c.args.head.now c.put_lines.new.head c.put_about.new.head c.new-rows.result.items c.put_lines.new.rows.items c.put_about.new.rows.items history body (ms ++ ab) p
+    let whole : Puts c.args.head.now c.put_about.new.head c.in_ok-rows.rows.items c.put_about.new.rows.items history (body ++ (ms ++ ab)) =
+    puts_then c.args.head.now c.put_lines.new.head c.put_about.new.head c.in_ok-rows.rows.items c.put_lines.new.rows.items c.put_about.new.rows.items history body (ms ++ ab) p
     (puts_then c.put_lines.new.head c.track.new.head c.put_about.new.head c.put_lines.new.rows.items c.track.new.rows.items c.put_about.new.rows.items (put_all history body) ms ab q r) in
     whole.taken
 
@@ -91,7 +91,7 @@ returns-clause-answer c = λ history h.
     let tracked : List (List Pair) = tracked_after history (offers target now c.args.lines.now) in
     let ms : List Entry = markers now old tracked in
     let ab : List Entry = about target now 1 (length c.args.lines.now) in
-    let p : Puts c.args.head.now c.put_lines.new.head c.new-rows.result.items c.put_lines.new.rows.items history body = c.in_ok-tally.ensures.puts history h in
+    let p : Puts c.args.head.now c.put_lines.new.head c.in_ok-rows.rows.items c.put_lines.new.rows.items history body = c.in_ok-tally.ensures.puts history h in
     let same : markers now c.put_lines.new.self (fold with_labels [] c.in_ok-tally.tally.kept.items) ≡ ms =
     ap (λ (l : List (List Pair)). markers now l (fold with_labels [] c.in_ok-tally.tally.kept.items)) c.in_ok-tally.ensures.stays
     ∙ ap (λ (l : List (List Pair)). markers now old (fold with_labels [] l)) (c.in_ok-tally.ensures.kept history h) in
@@ -100,12 +100,12 @@ returns-clause-answer c = λ history h.
     (c.in_ok-track.ensures.puts (put_all history body) p.taken.holds) in
     let r : Puts c.track.new.head c.put_about.new.head c.track.new.rows.items c.put_about.new.rows.items (put_all (put_all history body) ms) ab =
     c.in_ok-put_about.ensures.puts (put_all (put_all history body) ms) q.taken.holds in
-    let whole : Puts c.args.head.now c.put_about.new.head c.new-rows.result.items c.put_about.new.rows.items history (body ++ (ms ++ ab)) =
-    puts_then c.args.head.now c.put_lines.new.head c.put_about.new.head c.new-rows.result.items c.put_lines.new.rows.items c.put_about.new.rows.items history body (ms ++ ab) p
+    let whole : Puts c.args.head.now c.put_about.new.head c.in_ok-rows.rows.items c.put_about.new.rows.items history (body ++ (ms ++ ab)) =
+    puts_then c.args.head.now c.put_lines.new.head c.put_about.new.head c.in_ok-rows.rows.items c.put_lines.new.rows.items c.put_about.new.rows.items history body (ms ++ ab) p
     (puts_then c.put_lines.new.head c.track.new.head c.put_about.new.head c.put_lines.new.rows.items c.track.new.rows.items c.put_about.new.rows.items (put_all history body) ms ab q r) in
     same_answer _ _ None _ _ _ _ _ _
-    (c.new.ensures ∙ rows_are c.args.head.now c.put_about.new.head c.new-rows.result.items c.put_about.new.rows.items history (body ++ (ms ++ ab)) whole c.new-rows.ensures.items)
-    (c.len-added.ensures ∙ c.put_lines.new.rows.ok.0 ∙ rows_counted c.args.head.now c.put_lines.new.head c.new-rows.result.items c.put_lines.new.rows.items history body p c.new-rows.ensures.items)
+    (c.new.ensures ∙ rows_are c.args.head.now c.put_about.new.head c.in_ok-rows.rows.items c.put_about.new.rows.items history (body ++ (ms ++ ab)) whole c.in_ok-rows.ensures.items)
+    (c.len-added.ensures ∙ c.put_lines.new.rows.ok.0 ∙ rows_counted c.args.head.now c.put_lines.new.head c.in_ok-rows.rows.items c.put_lines.new.rows.items history body p c.in_ok-rows.ensures.items)
     (c.in_ok-tally.ensures.dropped history h)
     (c.saturating_sub-stale.ensures
     ∙ ap (λ (n : ℕ). n - c.len-added.result) (c.len.ensures ∙ c.track.new.rows.ok.0)

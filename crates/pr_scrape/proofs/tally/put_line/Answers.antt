@@ -1,6 +1,5 @@
-use Rattle.std.proofs.Common.{◌≡◌, List, Option, ap, ◌∙◌}
+use Rattle.std.proofs.Common.{◌≡◌, List, ap, ◌∙◌}
 use Rattle.pr_labels.specs.declared.pair.Pair.{Pair}
-use Rattle.pr_world.specs.declared.scraped.Offer.{Offer}
 use Rattle.pr_world.specs.Scrapes.{offer_of}
 use Rattle.pr_scrape.proofs.Tallying.{one_front, one_puts, one_tallies}
 use Rattle.pr_scrape.proofs.tally.put_line.Goals as goal

@@ -1,4 +1,4 @@
-use Rattle.std.proofs.Common.{◌≡◌, ◌≤◌, ◌+◌, ◌++◌, [], ◌∷◌, List, take, arith, sym, ◌∙◌, subst}
+use Rattle.std.proofs.Common.{◌≤◌, ◌+◌, [], ◌∷◌, List, take, arith, sym, ◌∙◌, subst}
 use Rattle.pr_history.specs.declared.entry.Entry.{Entry}
 use Rattle.pr_history.specs.Admission.{put_all}
 use Rattle.pr_expo.specs.declared.exposition.Line.{Line}
@@ -42,7 +42,7 @@ loop-line-preserved c = record {
       let g : List Line → List Entry = λ lines. offered_entries (offers c.args.target.now c.args.now lines) in
       let i = c.loop-line.line-index in
       let p = c.loop-line.invariant.puts history h in
-      let empty : Tally = record { dropped = 0; kept = c.new.result } in
+      let empty : Tally = record { dropped = 0; kept = c.in_ok-with_capacity.field-0 } in
       subst (λ (ls : List Line). Tallies empty c.put_line.new.tally c.args.target.now c.args.now ls history) (sym (next_of c.args.lines.now i c.line-item.result c.loop-line-test.true c.line-item.is))
       (tallies_then empty c.loop-line.tally c.put_line.new.tally c.args.target.now c.args.now (take i c.args.lines.now) (c.line-item.result ∷ []) history (c.loop-line.invariant.tallies history h)
       (c.in_ok-put_line.ensures.tallies c.args.target.now (put_all history (g (take i c.args.lines.now))) c.loop-line.invariant.fit p.taken.holds));
