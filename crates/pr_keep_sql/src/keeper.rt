@@ -124,7 +124,7 @@ impl<S: Alter + Drop, O: Open<S>> SqlKeeper<S, O> {
         // A refusal adds one to its own count, and a start that succeeds leaves it.
         ensures own { CountsOne self.old.own self.new.own result }
         ensures second { self.old.opened ≢ Nothing → (result ≡ Err Failed) × (self.new.own ≡ one_more self.old.own) }
-        // A store in memory is refused for nothing else.
+        // A first start in memory is refused for nothing but want of memory.
         ensures calm { path.now ≡ [] → self.old.opened ≡ Nothing → result ≢ Err Failed }
     {
         if !self.opened.is_nothing() {

@@ -3,7 +3,7 @@ ghost use Rattle.std.specs.Prelude.{◌≡◌, None, not, IfOk, OnOk};
 ghost use Rattle.pr_labels.specs.Edits.{first_fault, has_value, labels_of, set_label, union_labels};
 ghost use Rattle.pr_rule_result.specs.Setting.{emptied};
 
-use pr_labels::{Labels, Pair};
+use pr_labels::{LabelFault, Labels, Pair};
 use pr_words::Text;
 use std::alloc::{AllocError, Global};
 
@@ -76,6 +76,7 @@ fn set_many(alloc: Global, labels: &mut Labels, over: &[Pair]) -> Result<(), All
 {
     match Labels::from_pairs(alloc, over) {
         Ok(set) => set_at_once(alloc, labels, over, &set),
+        Err(LabelFault::Memory) => Err(AllocError),
         Err(_) => set_each(alloc, labels, over),
     }
 }
