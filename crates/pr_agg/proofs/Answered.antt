@@ -9,9 +9,9 @@ use Rattle.pr_labels.specs.declared.item.Item.{Item}
 use Rattle.pr_labels.specs.declared.grouping.Grouping.{Grouping}
 use Rattle.pr_labels.specs.Rising.{IsRising}
 use Rattle.pr_labels.proofs.LabelOrder.{rising_fold}
-use Rattle.pr_vectors.specs.Vectors.{IsVector, in_label_order, label_sets}
-use Rattle.pr_vectors.specs.Aggregation.{of_groups, always}
-use Rattle.pr_vectors.proofs.Aggregation.{aggregated_alike, always_is_ok}
+use Rattle.pr_folds.specs.pr_vectors.Vectors.{IsVector, in_label_order, label_sets}
+use Rattle.pr_folds.specs.pr_vectors.Aggregation.{of_groups, always}
+use Rattle.pr_folds.proofs.VectorsAggregation.{aggregated_alike, always_is_ok}
 use Rattle.pr_agg.specs.declared.fault.AggFault.{AggFault}
 use Rattle.pr_agg.specs.declared.fault.AggFault.TheVariants as fault
 

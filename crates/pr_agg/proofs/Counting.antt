@@ -10,10 +10,10 @@ use Rattle.pr_labels.specs.declared.pair.Pair.{Pair}
 use Rattle.pr_labels.specs.declared.item.Item.{Item}
 use Rattle.pr_labels.specs.declared.grouping.Grouping.{Grouping}
 use Rattle.pr_labels.specs.Order.{labels_eq}
-use Rattle.pr_vectors.specs.Vectors.{element}
-use Rattle.pr_vectors.specs.Aggregation.{counted, value_count, value_group, values_of}
+use Rattle.pr_folds.specs.pr_vectors.Vectors.{element}
+use Rattle.pr_folds.specs.pr_vectors.Aggregation.{counted, value_count, value_group, values_of}
 use Rattle.pr_labels.proofs.LabelOrder.{labels_total}
-use Rattle.pr_window.specs.Folding.{and_item, folded}
+use Rattle.pr_folds.specs.pr_window.Folding.{and_item, folded}
 use Rattle.pr_agg.specs.Counts.{both_parts, numbered, numbered_all, one_each}
 use Rattle.pr_agg.proofs.Folded.{fold_count}
 use Rattle.pr_agg.specs.Parts.{AreParts, part_by}

@@ -9,8 +9,8 @@ use Rattle.pr_labels.specs.declared.pair.Pair.{Pair}
 use Rattle.pr_labels.specs.declared.item.Item.{Item}
 use Rattle.pr_labels.specs.declared.grouping.Grouping.{Grouping}
 use Rattle.pr_labels.proofs.LabelOrder.{labels_total}
-use Rattle.pr_vectors.specs.Vectors.{element, label_sets}
-use Rattle.pr_vectors.specs.Aggregation.{of_groups, group_answers, behind, group_of, part, prepended, values_of}
+use Rattle.pr_folds.specs.pr_vectors.Vectors.{element, label_sets}
+use Rattle.pr_folds.specs.pr_vectors.Aggregation.{of_groups, group_answers, behind, group_of, part, prepended, values_of}
 use Rattle.pr_agg.specs.Parts.{AreParts, after_items, finished, finished_all, fold_and_finish}
 
 -- one element more before the rest

@@ -5,8 +5,8 @@ use Rattle.std.specs.Ordering.{ord_min}
 use Rattle.std.specs.declared.cmp.Ordering.{Ordering}
 use Rattle.pr_num.specs.declared.value.Num.{Num}
 use Rattle.pr_num.specs.Total.{joined, one_value}
-use Rattle.pr_vectors.specs.Aggregation.{always, count_of_values, first_value, greatest_first, greatest_of_values, least_first, least_of_values, mean_of_values, one_of_values, sum_of_values, with_placed}
-use Rattle.pr_window.specs.Folding.{and_item}
+use Rattle.pr_folds.specs.pr_vectors.Aggregation.{always, count_of_values, first_value, greatest_first, greatest_of_values, least_first, least_of_values, mean_of_values, one_of_values, sum_of_values, with_placed}
+use Rattle.pr_folds.specs.pr_window.Folding.{and_item}
 use Rattle.pr_folds.specs.Extremes.{greater, lesser}
 use Rattle.pr_folds.proofs.Extremes.{first_is_folded}
 use Rattle.pr_agg.specs.Alone.{itself}

@@ -9,10 +9,10 @@ use Rattle.pr_num.specs.Quantile.{quantile_of}
 use Rattle.pr_labels.specs.declared.pair.Pair.{Pair}
 use Rattle.pr_labels.specs.declared.item.Item.{Item}
 use Rattle.pr_labels.specs.declared.grouping.Grouping.{Grouping}
-use Rattle.pr_vectors.specs.Vectors.{element}
-use Rattle.pr_vectors.specs.Aggregation.{of_groups, always, group_answers, group_of, in_value_order, part, prepended, quantile_of_values, values_of}
+use Rattle.pr_folds.specs.pr_vectors.Vectors.{element}
+use Rattle.pr_folds.specs.pr_vectors.Aggregation.{of_groups, always, group_answers, group_of, in_value_order, part, prepended, quantile_of_values, values_of}
 use Rattle.pr_labels.proofs.LabelOrder.{labels_total}
-use Rattle.pr_window.specs.Folding.{and_item, folded}
+use Rattle.pr_folds.specs.pr_window.Folding.{and_item, folded}
 use Rattle.pr_agg.specs.Lists.{alone, one_after_other, quantiles_in}
 use Rattle.pr_agg.specs.Parts.{AreParts}
 

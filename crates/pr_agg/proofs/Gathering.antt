@@ -13,10 +13,10 @@ use Rattle.pr_labels.specs.Order.{labels_cmp, labels_eq}
 use Rattle.pr_labels.specs.Rising.{with_labels}
 use Rattle.pr_labels.proofs.LabelOrder.{labels_decide}
 use Rattle.pr_labels.proofs.LabelMaps.{keys_insert, tie}
-use Rattle.pr_vectors.specs.Vectors.{in_label_order}
-use Rattle.pr_vectors.specs.Aggregation.{values_of}
-use Rattle.pr_window.specs.Folding.{folded, with_next}
-use Rattle.pr_window.proofs.Folding.{folded_more, weight_folded}
+use Rattle.pr_folds.specs.pr_vectors.Vectors.{in_label_order}
+use Rattle.pr_folds.specs.pr_vectors.Aggregation.{values_of}
+use Rattle.pr_folds.specs.pr_window.Folding.{folded, with_next}
+use Rattle.pr_folds.proofs.WindowFolding.{folded_more, weight_folded}
 use Rattle.pr_agg.specs.Parts.{AreParts, part_by}
 
 groups_more : (key : Item Num → List Pair) (front : List (Item Num)) (x : Item Num) → in_label_order (map key (front ++ x ∷ [])) ≡ with_labels (in_label_order (map key front)) (key x)

@@ -17,8 +17,8 @@ use Rattle.pr_labels.specs.Order.{labels_cmp, labels_eq}
 use Rattle.pr_labels.specs.Rising.{IsRising}
 use Rattle.pr_labels.proofs.LabelOrder.{labels_decide}
 use Rattle.pr_labels.proofs.LabelMaps.{tie}
-use Rattle.pr_vectors.specs.Vectors.{label_sets}
-use Rattle.pr_vectors.specs.Aggregation.{group_of, is_within, rank}
+use Rattle.pr_folds.specs.pr_vectors.Vectors.{label_sets}
+use Rattle.pr_folds.specs.pr_vectors.Aggregation.{group_of, is_within, rank}
 use Rattle.pr_agg.specs.declared.firsts.Rank.{Rank}
 use Rattle.pr_agg.specs.Firsts.{AreMarks, AreRanks, AreSeen, IsMarked, in_group, is_first, mark_of, order_toward, rank_at, rank_cmp, rank_of, weigh_at}
 use Rattle.pr_agg.proofs.RanksOf.{equal_if}

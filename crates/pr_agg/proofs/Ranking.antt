@@ -13,8 +13,8 @@ use Rattle.pr_labels.specs.declared.pair.Pair.{Pair}
 use Rattle.pr_labels.specs.declared.item.Item.{Item}
 use Rattle.pr_labels.specs.Order.{labels_cmp}
 use Rattle.pr_labels.specs.Rising.{IsBelowFirstSet, IsRising}
-use Rattle.pr_vectors.specs.Vectors.{label_sets}
-use Rattle.pr_vectors.specs.Aggregation.{comes_before, greatest_first, least_first}
+use Rattle.pr_folds.specs.pr_vectors.Vectors.{label_sets}
+use Rattle.pr_folds.specs.pr_vectors.Aggregation.{comes_before, greatest_first, least_first}
 use Rattle.pr_labels.proofs.LabelOrder.{labels_total}
 use Rattle.pr_agg.specs.Firsts.{class_of, order_toward, rank_cmp, rank_of, ranked, units_of}
 

@@ -13,8 +13,8 @@ use Rattle.pr_labels.specs.declared.item.Item.{Item}
 use Rattle.pr_labels.specs.declared.grouping.Grouping.{Grouping}
 use Rattle.pr_labels.specs.Order.{labels_eq}
 use Rattle.pr_labels.specs.Rising.{IsRising}
-use Rattle.pr_vectors.specs.Vectors.{label_sets}
-use Rattle.pr_vectors.specs.Aggregation.{comes_before, group_of, rank}
+use Rattle.pr_folds.specs.pr_vectors.Vectors.{label_sets}
+use Rattle.pr_folds.specs.pr_vectors.Aggregation.{comes_before, group_of, rank}
 use Rattle.pr_agg.specs.declared.firsts.Rank.{Rank}
 use Rattle.pr_agg.specs.Firsts.{AreRanks, in_group, order_toward, rank_at, rank_cmp, rank_of, weigh_at}
 use Rattle.pr_labels.proofs.Sorted.{before_entry, sum_cons}

@@ -5,7 +5,7 @@ use Rattle.pr_num.specs.declared.value.Num.{Num}
 use Rattle.pr_num.specs.Arithmetic.{whole_of}
 use Rattle.pr_labels.specs.declared.pair.Pair.{Pair}
 use Rattle.pr_labels.specs.declared.item.Item.{Item}
-use Rattle.pr_vectors.specs.Vectors.{element}
+use Rattle.pr_folds.specs.pr_vectors.Vectors.{element}
 
 -- one for each value, the number of two parts, and the number itself as the weight
 abbrev pub one_each : Num → ℕ

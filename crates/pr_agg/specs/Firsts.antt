@@ -12,7 +12,7 @@ use Rattle.pr_labels.specs.declared.pair.Pair.{Pair}
 use Rattle.pr_labels.specs.declared.item.Item.{Item}
 use Rattle.pr_labels.specs.declared.grouping.Grouping.{Grouping}
 use Rattle.pr_labels.specs.Order.{labels_cmp, labels_eq}
-use Rattle.pr_vectors.specs.Aggregation.{greatest_first, least_first, group_of, is_within, rank}
+use Rattle.pr_folds.specs.pr_vectors.Aggregation.{greatest_first, least_first, group_of, is_within, rank}
 use Rattle.pr_agg.specs.declared.firsts.Rank.{Rank}
 
 abbrev pub order_toward : Bool → Num → Num → Ordering

@@ -3,8 +3,8 @@ use Rattle.std.specs.Prelude.{List, [], ◌∷◌, ◌++◌, map}
 use Rattle.pr_num.specs.declared.value.Num.{Num}
 use Rattle.pr_labels.specs.declared.pair.Pair.{Pair}
 use Rattle.pr_labels.specs.declared.item.Item.{Item}
-use Rattle.pr_vectors.specs.Vectors.{element}
-use Rattle.pr_vectors.specs.Aggregation.{quantile_of_values}
+use Rattle.pr_folds.specs.pr_vectors.Vectors.{element}
+use Rattle.pr_folds.specs.pr_vectors.Aggregation.{quantile_of_values}
 
 -- a value alone, and the values of two parts
 abbrev pub alone : Num → List Num

@@ -9,9 +9,9 @@ use Rattle.pr_num.specs.declared.value.TooWide.{TooWide}
 use Rattle.pr_labels.specs.declared.pair.Pair.{Pair}
 use Rattle.pr_labels.specs.declared.item.Item.{Item}
 use Rattle.pr_labels.specs.Order.{labels_cmp, labels_eq}
-use Rattle.pr_vectors.specs.Vectors.{in_label_order}
-use Rattle.pr_vectors.specs.Aggregation.{behind, values_of}
-use Rattle.pr_window.specs.Folding.{folded}
+use Rattle.pr_folds.specs.pr_vectors.Vectors.{in_label_order}
+use Rattle.pr_folds.specs.pr_vectors.Aggregation.{behind, values_of}
+use Rattle.pr_folds.specs.pr_window.Folding.{folded}
 
 -- each call of the closure on a summary answers what the function gives
 pub record Finishes {F A : Type 0} (g : Shared F (Bor A × Unit {0}) (Result Num TooWide)) (finish : F) (f : A → Result Num TooWide) : Type 0 where

@@ -4,9 +4,9 @@ ghost use Rattle.pr_num.specs.declared.value.Num.{Num};
 ghost use Rattle.pr_num.specs.Shown.{shown};
 ghost use Rattle.pr_labels.specs.Edits.{set_label};
 ghost use Rattle.pr_labels.specs.Names.{is_label_name};
-ghost use Rattle.pr_vectors.specs.Vectors.{IsVector};
-ghost use Rattle.pr_vectors.specs.Aggregation.{counted, value_group};
-ghost use Rattle.pr_window.specs.Folding.{with_next};
+ghost use Rattle.pr_folds.specs.pr_vectors.Vectors.{IsVector};
+ghost use Rattle.pr_folds.specs.pr_vectors.Aggregation.{counted, value_group};
+ghost use Rattle.pr_folds.specs.pr_window.Folding.{with_next};
 ghost use Rattle.pr_agg.specs.Counts.{both_parts, numbered_all, one_each};
 ghost use Rattle.pr_agg.specs.Parts.{AreParts};
 

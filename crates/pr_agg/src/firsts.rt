@@ -6,8 +6,8 @@ ghost use Rattle.pr_num.specs.declared.value.Num.{Num};
 ghost use Rattle.pr_labels.specs.declared.pair.Pair.{Pair};
 ghost use Rattle.pr_labels.specs.declared.item.Item.{Item};
 ghost use Rattle.pr_labels.specs.Order.{labels_cmp};
-ghost use Rattle.pr_vectors.specs.Vectors.{IsVector};
-ghost use Rattle.pr_vectors.specs.Aggregation.{first_of_parts, greatest_first, is_within, least_first};
+ghost use Rattle.pr_folds.specs.pr_vectors.Vectors.{IsVector};
+ghost use Rattle.pr_folds.specs.pr_vectors.Aggregation.{first_of_parts, greatest_first, is_within, least_first};
 ghost use Rattle.pr_agg.specs.Firsts.{AreRanks, IsMarked, is_first, order_toward, rank_of, ranked};
 
 use crate::parts::group_of;

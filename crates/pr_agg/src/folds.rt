@@ -4,17 +4,17 @@ ghost use Rattle.std.specs.BTreeMap.{keys};
 ghost use Rattle.pr_num.specs.declared.value.Num.{Num};
 ghost use Rattle.pr_num.specs.declared.value.TooWide.{TooWide};
 ghost use Rattle.pr_num.specs.Arithmetic.{too_wide};
-ghost use Rattle.pr_vectors.specs.Vectors.{IsVector, element, label_sets};
-ghost use Rattle.pr_vectors.specs.Aggregation.{of_groups};
-ghost use Rattle.pr_window.specs.Folding.{Lifts, Combines};
+ghost use Rattle.pr_folds.specs.pr_vectors.Vectors.{IsVector, element, label_sets};
+ghost use Rattle.pr_folds.specs.pr_vectors.Aggregation.{of_groups};
+ghost use Rattle.pr_folds.specs.pr_window.Folding.{Lifts, Combines};
 ghost use Rattle.pr_agg.specs.declared.fault.AggFault.TheVariants as fault;
 ghost use Rattle.pr_agg.specs.Parts.{Finishes, finished_all, fold_and_finish};
 
 use crate::fault::AggFault;
 use crate::parts::fold_parts;
+use pr_folds::window::Fold;
 use pr_labels::{Grouping, Item, Labels};
 use pr_num::{Num, TooWide};
-use pr_window::Fold;
 use std::alloc::{AllocError, Global};
 use std::collections::BTreeMap;
 

@@ -2,7 +2,7 @@
 ghost use Rattle.std.specs.Prelude.{◌≡◌, List, ◌∷◌};
 ghost use Rattle.pr_num.specs.declared.value.Num.{Num};
 ghost use Rattle.pr_num.specs.Total.{joined, one_value};
-ghost use Rattle.pr_vectors.specs.Aggregation.{always, count_of_values, greatest_of_values, least_of_values, mean_of_values, one_of_values, sum_of_values};
+ghost use Rattle.pr_folds.specs.pr_vectors.Aggregation.{always, count_of_values, greatest_of_values, least_of_values, mean_of_values, one_of_values, sum_of_values};
 ghost use Rattle.pr_folds.specs.Extremes.{greater, lesser};
 ghost use Rattle.pr_agg.specs.Alone.{itself};
 ghost use Rattle.pr_agg.specs.Counts.{both_parts, one_each};

@@ -1,12 +1,12 @@
 // The parts of a vector, each folded to a summary.
 ghost use Rattle.std.specs.Prelude.{◌≡◌, ◌+◌, ◌<◌, ◌^◌, IfOk, IfSome};
-ghost use Rattle.pr_vectors.specs.Aggregation.{group_of};
-ghost use Rattle.pr_window.specs.Folding.{Lifts, Combines, with_next};
+ghost use Rattle.pr_folds.specs.pr_vectors.Aggregation.{group_of};
+ghost use Rattle.pr_folds.specs.pr_window.Folding.{Lifts, Combines, with_next};
 ghost use Rattle.pr_agg.specs.Parts.{AreParts};
 
+use pr_folds::window::Fold;
 use pr_labels::{Grouping, Item, Labels};
 use pr_num::Num;
-use pr_window::Fold;
 use std::alloc::{AllocError, Global};
 use std::collections::BTreeMap;
 

@@ -1,17 +1,17 @@
 // Aggregations that fold the values of each part.
 ghost use Rattle.std.specs.Prelude.{◌≡◌, ◌≢◌, Ok, Err, IfOk, IfErr, MatchResult};
 ghost use Rattle.pr_num.specs.Arithmetic.{too_wide, whole_of};
-ghost use Rattle.pr_vectors.specs.Vectors.{IsVector};
-ghost use Rattle.pr_vectors.specs.Aggregation.{of_groups, always, count_of_values, greatest_of_values, least_of_values, mean_of_values, one_of_values, sum_of_values};
+ghost use Rattle.pr_folds.specs.pr_vectors.Vectors.{IsVector};
+ghost use Rattle.pr_folds.specs.pr_vectors.Aggregation.{of_groups, always, count_of_values, greatest_of_values, least_of_values, mean_of_values, one_of_values, sum_of_values};
 ghost use Rattle.pr_agg.specs.declared.fault.AggFault.TheVariants as fault;
 
 use crate::fault::AggFault;
 use crate::folds::group_fold;
 use crate::numbers::whole;
+use pr_folds::window::Fold;
 use pr_folds::{greater, lesser};
 use pr_labels::{Grouping, Item};
 use pr_num::{Num, TooWide, Total};
-use pr_window::Fold;
 use std::alloc::{AllocError, Global};
 
 /// Values are folded to their total, for `sum` and `avg`: lift by `Total::zero().plus(v)`, combine

@@ -11,7 +11,7 @@ use Rattle.pr_labels.specs.declared.pair.Pair.{Pair}
 use Rattle.pr_labels.specs.Order.{labels_cmp}
 use Rattle.pr_labels.specs.Rising.{IsRising, placed, with_labels}
 use Rattle.pr_labels.proofs.LabelOrder.{rising_with}
-use Rattle.pr_history.specs.Series.{element}
+use Rattle.pr_lineage.specs.pr_history.Series.{element}
 use Rattle.pr_lineage.specs.declared.record.Record.{Record}
 use Rattle.pr_lineage.specs.Records.{placed_item, samples, samples_of, with_item, with_samples}
 use Rattle.pr_alert.specs.Sampling.{items_of}

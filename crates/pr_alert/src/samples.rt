@@ -3,7 +3,7 @@ ghost use Rattle.std.specs.Prelude.{◌≡◌, ◌∷◌, [], codes, IfOk, OnOk,
 ghost use Rattle.pr_labels.specs.Rising.{IsRising};
 ghost use Rattle.pr_labels.specs.Edits.{set_label};
 ghost use Rattle.pr_labels.specs.LabelSet.{metric_label};
-ghost use Rattle.pr_history.specs.Series.{element};
+ghost use Rattle.pr_lineage.specs.pr_history.Series.{element};
 ghost use Rattle.pr_lineage.specs.Records.{alert_labels, for_state_labels, samples, samples_of, state_text, with_item, with_samples};
 ghost use Rattle.pr_alert.specs.Sampling.{items_of};
 

@@ -1,7 +1,7 @@
 //! Printing an expression.
 ghost use Rattle.std.specs.Prelude.{◌≡◌, ◌++◌, OnOk, flat_map};
 ghost use Rattle.pr_num.specs.Shown.{shown};
-ghost use Rattle.pr_time.specs.SpanShown.{shown_span};
+ghost use Rattle.pr_lex.specs.pr_time.SpanShown.{shown_span};
 ghost use Rattle.pr_ast.specs.Tree.{tree_of, trees_of};
 ghost use Rattle.pr_ast.specs.Print.{
   following_text,
@@ -31,11 +31,11 @@ ghost use Rattle.pr_ast.specs.Print.{
 
 use crate::selector::{MatchSign, MatchText, Selector};
 use crate::tree::{Expr, ExprKind};
+use pr_labels::words_crate::Text;
 use pr_labels::{Card, Grouping, Matching};
+use pr_lex::strings::write_string;
+use pr_lex::time::{Span, write_span};
 use pr_num::Num;
-use pr_strings::write_string;
-use pr_time::{Span, write_span};
-use pr_words::Text;
 use std::alloc::AllocError;
 
 fn push_number(out: &mut Vec<u8>, value: Num) -> Result<(), AllocError>

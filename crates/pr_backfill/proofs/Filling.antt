@@ -4,15 +4,15 @@ use Rattle.std.specs.Prelude.{Bool, slice_set, fold}
 use Rattle.std.specs.declared.alloc.AllocError.{AllocError}
 use Rattle.std.proofs.lemmas.List.{length-append}
 use Rattle.pr_history.specs.declared.entry.Entry.{Entry}
-use Rattle.pr_intake.specs.Intake.{Series}
-use Rattle.pr_range.specs.Asks.{LastAsks, Passed}
+use Rattle.pr_manager.specs.pr_intake.Intake.{Series}
+use Rattle.pr_manager.specs.pr_range.Asks.{LastAsks, Passed}
 use Rattle.pr_rules.specs.declared.report.GroupReport.{GroupReport}
 use Rattle.pr_rules.specs.Evaluations.{group_step}
 use Rattle.pr_rules.specs.Groups.{Group}
 use Rattle.pr_rules.specs.Settings.{Settings}
 use Rattle.pr_rules.specs.Times.{IsAfter, IsAfterAll}
-use Rattle.pr_group.specs.Keeping.{KeptGroup, MayEvaluateOver}
-use Rattle.pr_world.specs.declared.report.Report.TheVariants as report
+use Rattle.pr_manager.specs.pr_group.Keeping.{KeptGroup, MayEvaluateOver}
+use Rattle.pr_manager.specs.pr_world.declared.report.Report.TheVariants as report
 use Rattle.pr_manager.specs.Coming.{IsEvaluated, history_with}
 use Rattle.pr_manager.specs.Keeping.{HasGoneOn, KeepEach, KeepsUnder}
 use Rattle.pr_manager.proofs.Each.{StaysKept, each_stays}

@@ -5,16 +5,16 @@ use Rattle.std.specs.List.{All}
 use Rattle.std.specs.declared.alloc.AllocError.{AllocError}
 use Rattle.std.proofs.lemmas.List.Elements.{All-weaker, filter_passes}
 use Rattle.pr_history.specs.declared.entry.Entry.{Entry}
-use Rattle.pr_range.specs.Asks.{LastAsks, Passed}
-use Rattle.pr_tmpl.specs.declared.template.External.{External}
-use Rattle.pr_rule_result.specs.Templates.{HasTemplates}
-use Rattle.pr_rulefile.specs.declared.rules.GroupDef.{GroupDef}
-use Rattle.pr_rulefile.specs.declared.rules.RuleDef.{RuleDef}
-use Rattle.pr_rulefile.specs.Groups.{Group as Definition, group_of_def}
-use Rattle.pr_rulefile.specs.Rules.{rule_of_def}
+use Rattle.pr_manager.specs.pr_range.Asks.{LastAsks, Passed}
+use Rattle.pr_rules.specs.pr_tmpl.declared.template.External.{External}
+use Rattle.pr_manager.specs.pr_rule_result.Templates.{HasTemplates}
+use Rattle.pr_rules.specs.pr_rulefile.declared.rules.GroupDef.{GroupDef}
+use Rattle.pr_rules.specs.pr_rulefile.declared.rules.RuleDef.{RuleDef}
+use Rattle.pr_rules.specs.pr_rulefile.Groups.{Group as Definition, group_of_def}
+use Rattle.pr_rules.specs.pr_rulefile.Rules.{rule_of_def}
 use Rattle.pr_rules.specs.Groups.{fresh}
 use Rattle.pr_rules.specs.Settings.{Settings, of_a_run}
-use Rattle.pr_group.specs.Keeping.{KeepsGroup, KeptGroup, settings_of}
+use Rattle.pr_manager.specs.pr_group.Keeping.{KeepsGroup, KeptGroup, settings_of}
 use Rattle.pr_manager.specs.Keeping.{KeepsUnder, settings_with}
 use Rattle.pr_backfill.specs.Filled.{is_recording, recording_only}
 use Rattle.pr_backfill.proofs.Lists.{filter_map_as}

@@ -1,13 +1,13 @@
 -- A small backfill to try the definitions on.
 use Rattle.std.specs.Prelude.{ℕ, List, [], ◌∷◌, codes, None}
-use Rattle.pr_labels.specs.declared.pair.Pair.{Pair}
-use Rattle.pr_labels.specs.LabelSet.{named}
+use Rattle.pr_history.specs.pr_labels.declared.pair.Pair.{Pair}
+use Rattle.pr_history.specs.pr_labels.LabelSet.{named}
 use Rattle.pr_ast.specs.Examples.{metric}
 use Rattle.pr_history.specs.declared.append.Append.{Append}
 use Rattle.pr_history.specs.declared.append.Append.TheVariants.{Added}
 use Rattle.pr_history.specs.declared.entry.Entry.{Entry}
 use Rattle.pr_history.specs.Examples.{entry_at, number, whole}
-use Rattle.pr_rulefile.specs.Rules.{Rule}
+use Rattle.pr_rules.specs.pr_rulefile.Rules.{Rule}
 use Rattle.pr_rules.specs.declared.report.RuleOutcome.TheVariants.{Fine}
 use Rattle.pr_rules.specs.Examples.{recording_as}
 use Rattle.pr_rules.specs.Reloads.{LoadedFile}

@@ -2,8 +2,8 @@
 -- history that takes what they add.
 use Rattle.std.specs.Prelude.{ℕ, not, Bool, List, [], ◌∷◌, ◌++◌, filter, flat_map, fold, map}
 use Rattle.pr_history.specs.declared.entry.Entry.{Entry}
-use Rattle.pr_rulefile.specs.Groups.{Group as Definition, group_of_def}
-use Rattle.pr_rulefile.specs.Rules.{Rule}
+use Rattle.pr_rules.specs.pr_rulefile.Groups.{Group as Definition, group_of_def}
+use Rattle.pr_rules.specs.pr_rulefile.Rules.{Rule}
 use Rattle.pr_rules.specs.declared.report.GroupReport.{GroupReport}
 use Rattle.pr_rules.specs.Evaluations.{GroupStep, group_step}
 use Rattle.pr_rules.specs.Groups.{Group, fresh}

@@ -1,10 +1,10 @@
 -- How what is kept of groups stands for the groups of a backfill.
 use Rattle.std.specs.Prelude.{List}
 use Rattle.pr_history.specs.declared.entry.Entry.{Entry}
-use Rattle.pr_range.specs.Asks.{LastAsks, Passed}
+use Rattle.pr_manager.specs.pr_range.Asks.{LastAsks, Passed}
 use Rattle.pr_rules.specs.Groups.{Group}
 use Rattle.pr_rules.specs.Settings.{of_a_run}
-use Rattle.pr_group.specs.Keeping.{KeptGroup}
+use Rattle.pr_manager.specs.pr_group.Keeping.{KeptGroup}
 use Rattle.pr_manager.specs.Keeping.{KeepEach}
 
 -- each is kept over the history, in order, under the settings of a run

@@ -2,12 +2,12 @@
 use Rattle.std.specs.Prelude.{◌≡◌, ℕ, List, ◌++◌, fold, length, slice_set}
 use Rattle.pr_history.specs.declared.entry.Entry.{Entry}
 use Rattle.pr_rules.specs.Times.{IsAfterAll}
-use Rattle.pr_intake.specs.Intake.{Series}
-use Rattle.pr_range.specs.Asks.{LastAsks, Passed}
+use Rattle.pr_manager.specs.pr_intake.Intake.{Series}
+use Rattle.pr_manager.specs.pr_range.Asks.{LastAsks, Passed}
 use Rattle.pr_rules.specs.Evaluations.{group_step}
 use Rattle.pr_rules.specs.Groups.{Group}
 use Rattle.pr_rules.specs.Settings.{Settings}
-use Rattle.pr_group.specs.Keeping.{KeptGroup}
+use Rattle.pr_manager.specs.pr_group.Keeping.{KeptGroup}
 use Rattle.pr_manager.specs.Coming.{history_with}
 use Rattle.pr_manager.specs.Keeping.{HasGoneOn, KeepEach, KeepsUnder}
 use Rattle.pr_backfill.specs.declared.stepped.Stepped.{Stepped}

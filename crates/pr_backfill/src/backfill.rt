@@ -4,7 +4,7 @@ ghost use Rattle.pr_history.specs.declared.entry.Entry.{Entry};
 ghost use Rattle.pr_rules.specs.Groups.{Group};
 ghost use Rattle.pr_rules.specs.Settings.{of_a_run};
 ghost use Rattle.pr_rules.specs.Times.{IsAfterAll};
-ghost use Rattle.pr_group.specs.Keeping.{MayEvaluateOver};
+ghost use Rattle.pr_manager.specs.pr_group.Keeping.{MayEvaluateOver};
 ghost use Rattle.pr_manager.specs.Keeping.{HasGoneOn};
 ghost use Rattle.pr_backfill.specs.Filled.{group_of_file, round_at};
 ghost use Rattle.pr_backfill.specs.Keeping.{KeepsToFill};
@@ -12,9 +12,9 @@ ghost use Rattle.pr_backfill.specs.Keeping.{KeepsToFill};
 use crate::fresh::fresh_groups;
 use crate::round::evaluate_all;
 use crate::stepped::{FileGroup, Stepped};
-use pr_group::GroupOver;
-use pr_head::Head;
-use pr_range::Ranges;
+use pr_manager::group::GroupOver;
+use pr_manager::head::Head;
+use pr_manager::range::Ranges;
 use pr_time::Ms;
 use pr_words::Steps;
 use std::alloc::{AllocError, Global};
@@ -33,7 +33,7 @@ impl<R> Model for Backfill<R> {
     ghost use Rattle.std.specs.Prelude.{List};
     ghost use Rattle.std.specs.Coded.{codes};
     ghost use Rattle.pr_ast.specs.contracts.tree.ExprKind as expressions;
-    ghost use Rattle.pr_group.specs.Keeping.{KeptGroup};
+    ghost use Rattle.pr_manager.specs.pr_group.Keeping.{KeptGroup};
 
     ghost Value = { List (KeptGroup R) };
 

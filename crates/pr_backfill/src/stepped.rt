@@ -1,6 +1,6 @@
 // What is evaluated, and what is told of it.
-use pr_rulefile::GroupDef;
 use pr_rules::GroupReport;
+use pr_rules::rulefile::GroupDef;
 use pr_words::Text;
 
 /// A group of a rule file.

@@ -1,13 +1,13 @@
 -- Over a head of which nothing is forgotten any time may be evaluated, and nothing is forgotten then.
 use Rattle.std.proofs.Common.{ℕ, List, pos, ◌-ℤ◌, Result, Ok, Err, OnOk}
 use Rattle.pr_history.specs.declared.entry.Entry.{Entry}
-use Rattle.pr_intake.specs.Intake.{Series}
-use Rattle.pr_range.specs.Asks.{LastAsks, Passed}
-use Rattle.pr_rules.specs.Groups.{Group}
-use Rattle.pr_group.specs.Keeping.{MayEvaluateOver}
-use Rattle.pr_manager.specs.Keeping.{HasGoneOn}
+use Rattle.pr_engine.specs.pr_intake.Intake.{Series}
+use Rattle.pr_test_command.specs.pr_range.Asks.{LastAsks, Passed}
+use Rattle.pr_backfill_texts.specs.pr_rules.Groups.{Group}
+use Rattle.pr_test_command.specs.pr_group.Keeping.{MayEvaluateOver}
+use Rattle.pr_engine.specs.pr_manager.Keeping.{HasGoneOn}
 use Rattle.pr_engine.specs.Standing.{HoldsAll}
-use Rattle.pr_backfill.specs.Keeping.{KeepsToFill}
+use Rattle.pr_backfill_texts.specs.pr_backfill.Keeping.{KeepsToFill}
 use Rattle.pr_backfill_command.specs.declared.filling.Filling.{Filling}
 use Rattle.pr_backfill_command.specs.Standing.{Keeps}
 

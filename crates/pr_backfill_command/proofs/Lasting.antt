@@ -1,6 +1,6 @@
 -- The times that are left.
 use Rattle.std.proofs.Common.{◌≡◌, ◌==◌, ◌||◌, ℕ, zero, suc, ◌+◌, ◌-◌, ◌*◌, ◌^◌, ◌<◌, ◌≤◌, ◌↔◌, nat_lt, Bool, true, false, Option, Some, None, arith, if◌then◌else◌}
-use Rattle.pr_backfill.specs.Times.{backfill_times, count_of_times, times_from}
+use Rattle.pr_backfill_texts.specs.pr_backfill.Times.{backfill_times, count_of_times, times_from}
 use Rattle.pr_backfill_command.specs.Times.{AreAfter, AreTimes}
 
 -- those from a moment on are after what is before it

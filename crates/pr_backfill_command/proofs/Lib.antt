@@ -9,3 +9,4 @@ pub mod Over
 pub mod Loaded
 pub mod Meaning
 pub mod Opened
+pub use Rattle.pr_test_command.proofs.KindsPlainTexts

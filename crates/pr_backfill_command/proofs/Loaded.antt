@@ -7,9 +7,9 @@ use Rattle.pr_history.specs.declared.entry.Entry.{Entry}
 use Rattle.pr_outside.specs.Causes.{Rose}
 use Rattle.pr_outside.specs.Meant.{Folder, Output, Store}
 use Rattle.pr_outside.specs.declared.keeping.Row.{Row}
-use Rattle.pr_row.specs.Histories.{history_of}
-use Rattle.pr_row.specs.Rows.{encoded}
-use Rattle.pr_rules.specs.Reloads.{LoadedFile}
+use Rattle.pr_engine.specs.pr_row.Histories.{history_of}
+use Rattle.pr_engine.specs.pr_row.Rows.{encoded}
+use Rattle.pr_backfill_texts.specs.pr_rules.Reloads.{LoadedFile}
 use Rattle.pr_status.specs.Asks.{Asks, AsksBy}
 use Rattle.pr_status.specs.Ends.{Ends, LoadEnds, WriteEnds, at_row, no_row, place_of}
 use Rattle.pr_status.specs.Outside.{Outside}
@@ -17,10 +17,10 @@ use Rattle.pr_status.specs.declared.status.Stop.{Stop}
 use Rattle.pr_status.specs.declared.status.Stop.TheVariants as stop
 use Rattle.pr_status.proofs.Ended.{quiet}
 use Rattle.pr_status.proofs.Streams.{appends_none}
-use Rattle.pr_backfill.specs.Filled.{FillStep, filled, rows_filled}
+use Rattle.pr_backfill_texts.specs.pr_backfill.Filled.{FillStep, filled, rows_filled}
 use Rattle.pr_backfill_texts.specs.Means.{AsksFirst, EndsBy, EndsInto, EndsOver, EndsRefused, EndsWith, IsFront, IsWhole}
-use Rattle.pr_run.specs.Rows.{AreFirst, AreKept, OverRows}
-use Rattle.pr_run.proofs.Rows.{IsDecoding, rows_of}
+use Rattle.pr_backfill_texts.specs.pr_run.Rows.{AreFirst, AreKept, OverRows}
+use Rattle.pr_backfill_texts.proofs.RunRows.{IsDecoding, rows_of}
 
 on_rows : (a : Option (List Row)) (P : List Row → Type 0) → ((rows : List Row) → a ≡ Some rows → P rows) → IfSome a P
 on_rows None P f = tt

@@ -4,17 +4,17 @@ use Rattle.std.specs.Io.KnownBytes.{Appends}
 use Rattle.pr_history.specs.declared.entry.Entry.{Entry}
 use Rattle.pr_outside.specs.Causes.{IsCalm, Rose}
 use Rattle.pr_outside.specs.declared.keeping.Row.{Row}
-use Rattle.pr_row.specs.Histories.{history_of}
-use Rattle.pr_rules.specs.Reloads.{LoadedFile}
+use Rattle.pr_engine.specs.pr_row.Histories.{history_of}
+use Rattle.pr_backfill_texts.specs.pr_rules.Reloads.{LoadedFile}
 use Rattle.pr_status.specs.Ends.{Ends, StopsBy, place_of, status_of, stop_status}
 use Rattle.pr_status.specs.Outside.{Outside, AreCalm}
 use Rattle.pr_status.specs.declared.status.Status.{Status}
 use Rattle.pr_status.specs.declared.status.Status.TheVariants as status
 use Rattle.pr_status.specs.declared.status.Stop.{Stop}
 use Rattle.pr_status.specs.declared.status.Stop.TheVariants as stop
-use Rattle.pr_run.specs.Rows.{OverRows}
-use Rattle.pr_run.specs.Told.{bad_row_text}
-use Rattle.pr_backfill.specs.Filled.{FillStep, filled}
+use Rattle.pr_backfill_texts.specs.pr_run.Rows.{OverRows}
+use Rattle.pr_backfill_texts.specs.pr_run.Told.{bad_row_text}
+use Rattle.pr_backfill_texts.specs.pr_backfill.Filled.{FillStep, filled}
 use Rattle.pr_backfill_texts.specs.Means.{EndsBy, EndsInto, EndsOver, EndsRefused, EndsWith, FillsBy, FillsWith, IsWhole}
 
 no_rise : (before now : ℕ) → IsCalm before now → Rose before now → ⊥

@@ -5,19 +5,19 @@ use Rattle.std.specs.Io.KnownBytes.{Appends}
 use Rattle.pr_history.specs.declared.entry.Entry.{Entry}
 use Rattle.pr_outside.specs.Kept.{StartsRows}
 use Rattle.pr_outside.specs.declared.keeping.Row.{Row}
-use Rattle.pr_row.specs.Histories.{history_of}
-use Rattle.pr_rules.specs.Reloads.{LoadedFile}
+use Rattle.pr_engine.specs.pr_row.Histories.{history_of}
+use Rattle.pr_backfill_texts.specs.pr_rules.Reloads.{LoadedFile}
 use Rattle.pr_engine.specs.Rows.{TellsOf}
-use Rattle.pr_backfill.specs.Filled.{FillStep, filled, rows_filled}
+use Rattle.pr_backfill_texts.specs.pr_backfill.Filled.{FillStep, filled, rows_filled}
 use Rattle.pr_backfill_texts.specs.Means.{EndsBy, EndsOver, IsFront}
 use Rattle.pr_backfill_texts.specs.Text.{backfilled_line, begun_text, fill_text}
 use Rattle.pr_status.specs.Ends.{Ends, at_row, place_of}
 use Rattle.pr_status.specs.Outside.{Outside}
 use Rattle.pr_status.specs.declared.status.Stop.{Stop}
 use Rattle.pr_status.specs.declared.status.Stop.TheVariants as stop
-use Rattle.pr_run.specs.Rows.{AreKept, OverRows}
-use Rattle.pr_run.proofs.Endings.{ends_as}
-use Rattle.pr_run.proofs.Rows.{IsDecoding, kept_by, over_history}
+use Rattle.pr_backfill_texts.specs.pr_run.Rows.{AreKept, OverRows}
+use Rattle.pr_backfill_texts.proofs.RunEndings.{ends_as}
+use Rattle.pr_backfill_texts.proofs.RunRows.{IsDecoding, kept_by, over_history}
 use Rattle.pr_backfill_command.specs.Endings.{ending_of}
 use Rattle.pr_backfill_command.specs.Opening.{IsUnopened}
 use Rattle.pr_backfill_command.specs.Standing.{Finishes, Halts, IsTold}

@@ -9,7 +9,7 @@ use Rattle.pr_status.specs.Outside.{Outside}
 use Rattle.pr_status.specs.declared.status.Stop.{Stop}
 use Rattle.pr_status.specs.declared.status.Stop.TheVariants.{BadRow, Memory}
 use Rattle.pr_status.proofs.Ended.{ends_memory, ends_on, in_time_same, quiet}
-use Rattle.pr_run.proofs.Answering.{ends_behind}
+use Rattle.pr_backfill_texts.proofs.RunAnswering.{ends_behind}
 use Rattle.pr_backfill_command.specs.Standing.{IsPart}
 
 -- nothing was done yet

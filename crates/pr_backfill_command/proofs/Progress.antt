@@ -4,19 +4,19 @@ use Rattle.std.specs.Io.KnownBytes.{Appends}
 use Rattle.pr_history.specs.Admission.{IsLawful}
 use Rattle.pr_history.specs.declared.entry.Entry.{Entry}
 use Rattle.pr_outside.specs.Kept.{AppendsRows, KeepsRows}
-use Rattle.pr_intake.specs.Intake.{Series}
+use Rattle.pr_engine.specs.pr_intake.Intake.{Series}
 use Rattle.pr_outside.specs.Meant.{Store}
-use Rattle.pr_range.specs.Asks.{LastAsks, Passed}
-use Rattle.pr_row.specs.Rows.{encoded}
-use Rattle.pr_rules.specs.Groups.{Group}
-use Rattle.pr_rules.specs.Reloads.{LoadedFile}
-use Rattle.pr_rules.specs.Settings.{of_a_run}
+use Rattle.pr_test_command.specs.pr_range.Asks.{LastAsks, Passed}
+use Rattle.pr_engine.specs.pr_row.Rows.{encoded}
+use Rattle.pr_backfill_texts.specs.pr_rules.Groups.{Group}
+use Rattle.pr_backfill_texts.specs.pr_rules.Reloads.{LoadedFile}
+use Rattle.pr_backfill_texts.specs.pr_rules.Settings.{of_a_run}
 use Rattle.pr_engine.specs.Rows.{AreRead, TellsOf}
 use Rattle.pr_engine.specs.Standing.{HoldsAll}
 use Rattle.pr_engine.proofs.Answering.{tells_still}
 use Rattle.pr_engine.proofs.Steps.{tells_more}
-use Rattle.pr_backfill.specs.declared.stepped.Stepped.{Stepped}
-use Rattle.pr_backfill.specs.Filled.{FillStep, at_time, filled, filled_from, groups_to_fill, round_at, rows_filled}
+use Rattle.pr_backfill_texts.specs.pr_backfill.declared.stepped.Stepped.{Stepped}
+use Rattle.pr_backfill_texts.specs.pr_backfill.Filled.{FillStep, at_time, filled, filled_from, groups_to_fill, round_at, rows_filled}
 use Rattle.pr_backfill_texts.specs.Text.{step_text}
 use Rattle.pr_status.specs.declared.status.Stop.{Stop}
 use Rattle.pr_status.proofs.Streams.{appends_on}

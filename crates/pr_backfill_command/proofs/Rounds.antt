@@ -4,14 +4,14 @@ use Rattle.std.specs.Prelude.{fold}
 use Rattle.std.specs.List.{AllByRecursion}
 use Rattle.std.proofs.lemmas.List.{map_push}
 use Rattle.pr_history.specs.declared.entry.Entry.{Entry}
-use Rattle.pr_puts.specs.Puts.{marker}
-use Rattle.pr_rulefile.specs.Groups.{Group as Definition}
-use Rattle.pr_rules.specs.Evaluations.{all_rules, group_step, restoring}
-use Rattle.pr_rules.specs.Groups.{Group}
-use Rattle.pr_rules.specs.Reloads.{LoadedFile}
-use Rattle.pr_rules.specs.Settings.{Settings}
-use Rattle.pr_rules.specs.Times.{IsAfter, IsAfterAll}
-use Rattle.pr_backfill.specs.Filled.{Round, at_time, group_to_fill, groups_to_fill, one_group, round_at, round_begun, rows_filled, stepped}
+use Rattle.pr_backfill_texts.specs.pr_puts.Puts.{marker}
+use Rattle.pr_backfill_texts.specs.pr_rulefile.Groups.{Group as Definition}
+use Rattle.pr_backfill_texts.specs.pr_rules.Evaluations.{all_rules, group_step, restoring}
+use Rattle.pr_backfill_texts.specs.pr_rules.Groups.{Group}
+use Rattle.pr_backfill_texts.specs.pr_rules.Reloads.{LoadedFile}
+use Rattle.pr_backfill_texts.specs.pr_rules.Settings.{Settings}
+use Rattle.pr_backfill_texts.specs.pr_rules.Times.{IsAfter, IsAfterAll}
+use Rattle.pr_backfill_texts.specs.pr_backfill.Filled.{Round, at_time, group_to_fill, groups_to_fill, one_group, round_at, round_begun, rows_filled, stepped}
 use Rattle.pr_backfill_command.specs.Standing.{AreBefore}
 use Rattle.pr_backfill_command.specs.Times.{AreAfter}
 use Rattle.pr_backfill_command.proofs.Texts.{kept_one}

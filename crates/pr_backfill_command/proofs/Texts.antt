@@ -8,11 +8,11 @@ use Rattle.pr_history.specs.Admission.{IsLawful}
 use Rattle.pr_history.specs.declared.entry.Entry.{Entry}
 use Rattle.pr_history.proofs.Lawful.{after_parts}
 use Rattle.pr_outside.specs.Meant.{Store}
-use Rattle.pr_world.specs.declared.report.Report.TheVariants.{Opened}
+use Rattle.pr_engine.specs.pr_world.declared.report.Report.TheVariants.{Opened}
 use Rattle.pr_engine.specs.Rows.{TellsOf}
-use Rattle.pr_backfill.specs.declared.stepped.Stepped.{Stepped}
-use Rattle.pr_backfill.specs.Filled.{FillStep, at_time, rows_filled}
-use Rattle.pr_text.specs.Printed.{shown_report}
+use Rattle.pr_backfill_texts.specs.pr_backfill.declared.stepped.Stepped.{Stepped}
+use Rattle.pr_backfill_texts.specs.pr_backfill.Filled.{FillStep, at_time, rows_filled}
+use Rattle.pr_backfill_texts.specs.pr_text.Printed.{shown_report}
 use Rattle.pr_backfill_texts.specs.Text.{backfilled_line, begun_text, fill_text, step_text, steps_text}
 use Rattle.pr_status.specs.declared.status.Stop.{Stop}
 use Rattle.pr_status.proofs.Streams.{appends_on}

@@ -6,16 +6,16 @@ use Rattle.pr_outside.specs.Causes.{Rose}
 use Rattle.pr_outside.specs.Kept.{StartsRows}
 use Rattle.pr_outside.specs.Meant.{Output, Store}
 use Rattle.pr_outside.specs.declared.keeping.Row.{Row}
-use Rattle.pr_row.specs.Histories.{history_of}
+use Rattle.pr_engine.specs.pr_row.Histories.{history_of}
 use Rattle.pr_status.specs.Ends.{Ends, WriteEnds, no_row}
 use Rattle.pr_status.specs.Outside.{Outside}
 use Rattle.pr_status.specs.declared.status.Stop.{Stop}
 use Rattle.pr_status.specs.declared.status.Stop.TheVariants as stop
 use Rattle.pr_status.proofs.Ended.{ends_on, in_time_on, in_time_same}
 use Rattle.pr_status.proofs.Streams.{appends_none}
-use Rattle.pr_run.specs.Rows.{IsBadIn}
-use Rattle.pr_run.specs.Told.{bad_row_text, bad_text}
-use Rattle.pr_run.proofs.Endings.{ends_wider}
+use Rattle.pr_backfill_texts.specs.pr_run.Rows.{IsBadIn}
+use Rattle.pr_backfill_texts.specs.pr_run.Told.{bad_row_text, bad_text}
+use Rattle.pr_backfill_texts.proofs.RunEndings.{ends_wider}
 use Rattle.pr_backfill_command.specs.Opening.{IsUnopened}
 
 -- What is written

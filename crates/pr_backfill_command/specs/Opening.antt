@@ -4,7 +4,7 @@ use Rattle.std.specs.Io.KnownBytes.{Appends}
 use Rattle.pr_history.specs.declared.entry.Entry.{Entry}
 use Rattle.pr_status.specs.declared.status.Stop.{Stop}
 use Rattle.pr_status.specs.declared.status.Stop.TheVariants.{BadRow}
-use Rattle.pr_run.specs.Told.{bad_text}
+use Rattle.pr_backfill_texts.specs.pr_run.Told.{bad_text}
 
 -- A front of the line of a bad row: all of it, where a row stopped the call.
 pub record IsUnopened {T : Type 0} (told : Result (List Entry) ℕ) (old new : Option (List ℕ)) (result : Result T Stop) : Type 0 where

@@ -4,13 +4,13 @@ use Rattle.std.specs.Io.KnownBytes.{Appends}
 use Rattle.std.specs.List.{AllByRecursion}
 use Rattle.pr_history.specs.declared.entry.Entry.{Entry}
 use Rattle.pr_outside.specs.Meant.{Output, Store}
-use Rattle.pr_rules.specs.Times.{IsAfterAll}
-use Rattle.pr_range.specs.Asks.{LastAsks, Passed}
-use Rattle.pr_rules.specs.Groups.{Group}
+use Rattle.pr_backfill_texts.specs.pr_rules.Times.{IsAfterAll}
+use Rattle.pr_test_command.specs.pr_range.Asks.{LastAsks, Passed}
+use Rattle.pr_backfill_texts.specs.pr_rules.Groups.{Group}
 use Rattle.pr_engine.specs.Rows.{TellsOf}
 use Rattle.pr_engine.specs.Standing.{HoldsAll}
-use Rattle.pr_backfill.specs.Filled.{FillStep, rows_filled}
-use Rattle.pr_backfill.specs.Keeping.{KeepsToFill}
+use Rattle.pr_backfill_texts.specs.pr_backfill.Filled.{FillStep, rows_filled}
+use Rattle.pr_backfill_texts.specs.pr_backfill.Keeping.{KeepsToFill}
 use Rattle.pr_backfill_texts.specs.Text.{begun_text, fill_text}
 use Rattle.pr_status.specs.Ends.{Ends, no_row}
 use Rattle.pr_status.specs.Outside.{Outside}

@@ -1,17 +1,17 @@
 // The groups of rule files.
 ghost use Rattle.std.specs.Prelude.{◌≡◌, ◌++◌, List, map, IfOk, OnOk};
 ghost use Rattle.pr_history.specs.declared.entry.Entry.{Entry};
-ghost use Rattle.pr_rulefile.specs.File.{groups_given, rule_file_of};
-ghost use Rattle.pr_rulefile.specs.Groups.{group_of_def};
-ghost use Rattle.pr_backfill.specs.Filled.{group_of_file, group_to_fill, groups_to_fill};
-ghost use Rattle.pr_backfill.specs.Keeping.{KeepsToFill};
+ghost use Rattle.pr_backfill_texts.specs.pr_rulefile.File.{groups_given, rule_file_of};
+ghost use Rattle.pr_backfill_texts.specs.pr_rulefile.Groups.{group_of_def};
+ghost use Rattle.pr_backfill_texts.specs.pr_backfill.Filled.{group_of_file, group_to_fill, groups_to_fill};
+ghost use Rattle.pr_backfill_texts.specs.pr_backfill.Keeping.{KeepsToFill};
 ghost use Rattle.pr_test_command.specs.Running.{loaded_of};
 
-use pr_backfill::{Backfill, FileGroup};
-use pr_range::Ranges;
-use pr_rulefile::{GroupDef, RuleError, read};
+use pr_backfill_texts::backfill_crate::{Backfill, FileGroup};
+use pr_backfill_texts::rulefile::{GroupDef, RuleError, read};
+use pr_engine::world::NamedFile;
+use pr_test_command::range::Ranges;
 use pr_words::Text;
-use pr_world::NamedFile;
 use std::alloc::{AllocError, Global};
 
 // A file has fewer bytes, so that its lines can be counted.

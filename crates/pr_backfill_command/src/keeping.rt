@@ -2,11 +2,11 @@
 ghost use Rattle.std.specs.Prelude.{◌++◌, ◌∷◌, [], ℕ, List, Option, map};
 ghost use Rattle.pr_history.specs.Admission.{IsLawful};
 ghost use Rattle.pr_history.specs.declared.entry.Entry.{Entry};
-ghost use Rattle.pr_backfill.specs.Filled.{FillStep, at_time, rows_filled};
+ghost use Rattle.pr_backfill_texts.specs.pr_backfill.Filled.{FillStep, at_time, rows_filled};
 ghost use Rattle.pr_backfill_command.specs.Standing.{Comes, IsPart, Stands};
 
 use crate::telling::tell_step;
-use pr_backfill::Stepped;
+use pr_backfill_texts::backfill_crate::Stepped;
 use pr_engine::keep;
 use pr_outside::{Keeper, Sink};
 use pr_status::Stop;

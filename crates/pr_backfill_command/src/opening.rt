@@ -2,20 +2,20 @@
 ghost use Rattle.std.specs.Prelude.{◌≡◌, ℕ, Err, IfOk, IfSome, OnErr, OnOk};
 ghost use Rattle.std.specs.Io.KnownBytes.{Appends};
 ghost use Rattle.pr_outside.specs.Kept.{StartsRows};
-ghost use Rattle.pr_row.specs.Histories.{history_of};
+ghost use Rattle.pr_engine.specs.pr_row.Histories.{history_of};
 ghost use Rattle.pr_engine.specs.Loading.{IsLoaded};
 ghost use Rattle.pr_status.specs.Ends.{Ends};
 ghost use Rattle.pr_status.specs.Opening.{OpensBy};
 ghost use Rattle.pr_status.specs.Outside.{Outside};
 ghost use Rattle.pr_status.specs.declared.status.Stop.TheVariants as stop;
-ghost use Rattle.pr_run.specs.Rows.{IsBadIn};
-ghost use Rattle.pr_run.specs.Told.{bad_row_text};
+ghost use Rattle.pr_backfill_texts.specs.pr_run.Rows.{IsBadIn};
+ghost use Rattle.pr_backfill_texts.specs.pr_run.Told.{bad_row_text};
 ghost use Rattle.pr_backfill_command.specs.Opening.{IsUnopened};
 
+use pr_backfill_texts::run::tell_bad_row;
+use pr_engine::head::Head;
 use pr_engine::{StartError, history};
-use pr_head::Head;
 use pr_outside::{Keeper, Sink};
-use pr_run::tell_bad_row;
 use pr_status::Stop;
 use std::alloc::Global;
 

@@ -1,25 +1,25 @@
 // The command `backfill`.
 ghost use Rattle.std.specs.Prelude.{◌≡◌, ℕ, List, Err, IfSome, length, map, string_bytes};
 ghost use Rattle.std.specs.Io.KnownBytes.{Appends};
-ghost use Rattle.pr_row.specs.Histories.{history_of};
+ghost use Rattle.pr_engine.specs.pr_row.Histories.{history_of};
 ghost use Rattle.pr_status.specs.Ends.{Ends, WriteEnds};
 ghost use Rattle.pr_status.specs.Outside.{AreTold, Held, Outside};
 ghost use Rattle.pr_status.specs.declared.status.Stop.TheVariants as stop;
-ghost use Rattle.pr_run.specs.Rows.{IsBadIn, OverRows};
-ghost use Rattle.pr_run.specs.Told.{bad_row_text};
-ghost use Rattle.pr_test_texts.specs.TestsTold.{all_rules};
+ghost use Rattle.pr_backfill_texts.specs.pr_run.Rows.{IsBadIn, OverRows};
+ghost use Rattle.pr_backfill_texts.specs.pr_run.Told.{bad_row_text};
+ghost use Rattle.pr_backfill_texts.specs.pr_test_texts.TestsTold.{all_rules};
 ghost use Rattle.pr_test_command.specs.Running.{loaded_of};
 ghost use Rattle.pr_test_command.specs.Taking.{rules_of};
 ghost use Rattle.pr_backfill_texts.specs.Means.{AsksFirst, EndsBy, EndsRefused, EndsWith, FillOpens, MeansBackfill};
 
 use crate::filling::fill;
 use crate::times::Times;
+use pr_engine::row::laws::rows_decode_as_their_entries;
+use pr_engine::world::NamedFile;
 use pr_outside::{Files, Keeper, Sink};
-use pr_range::Ranges;
-use pr_row::laws::rows_decode_as_their_entries;
 use pr_status::{Status, Stop, send, status_of};
+use pr_test_command::range::Ranges;
 use pr_test_command::{Rules, load_rules};
-use pr_world::NamedFile;
 use std::alloc::Global;
 
 // Writes what is wrong with the files.

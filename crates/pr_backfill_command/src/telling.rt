@@ -1,17 +1,17 @@
 // What is told of a backfill.
 ghost use Rattle.std.specs.Prelude.{◌≡◌, ◌++◌, ℕ, take, OnOk};
 ghost use Rattle.std.specs.Io.KnownBytes.{Appends};
-ghost use Rattle.pr_backfill.specs.Filled.{at_time};
+ghost use Rattle.pr_backfill_texts.specs.pr_backfill.Filled.{at_time};
 ghost use Rattle.pr_backfill_texts.specs.Text.{at_line, backfilled_line, step_text};
 ghost use Rattle.pr_status.specs.Ends.{WriteEnds};
 
-use pr_backfill::Stepped;
-use pr_kinds::push_number;
+use pr_backfill_texts::backfill_crate::Stepped;
+use pr_backfill_texts::text_crate::push_report;
+use pr_engine::world::Report;
 use pr_outside::Sink;
 use pr_status::{Stop, send};
-use pr_text::push_report;
+use pr_test_command::kinds::push_number;
 use pr_time::Ms;
-use pr_world::Report;
 use std::alloc::{AllocError, Global};
 
 #[tactic(auto, unfolding(pr_backfill_texts::specs::Text::at_line))]

@@ -1,7 +1,7 @@
 // The times of a backfill.
 ghost use Rattle.std.specs.Prelude.{◌≡◌, ◌∷◌, [], IfNone, IfSome};
 ghost use Rattle.std.specs.Option.{option_map};
-ghost use Rattle.pr_backfill.specs.Times.{backfill_times, times_from};
+ghost use Rattle.pr_backfill_texts.specs.pr_backfill.Times.{backfill_times, times_from};
 ghost use Rattle.pr_backfill_command.specs.Times.{AreAfter};
 
 use pr_time::{Ms, Span};
@@ -18,7 +18,7 @@ pub struct Times {
 
 impl Model for Times {
     ghost use Rattle.std.specs.Prelude.{ℕ, List};
-    ghost use Rattle.pr_backfill.specs.Times.{times_from};
+    ghost use Rattle.pr_backfill_texts.specs.pr_backfill.Times.{times_from};
     ghost use Rattle.pr_backfill_command.specs.Times.{AreTimes};
 
     ghost Value = { List ℕ };
@@ -37,7 +37,7 @@ impl Times {
     {
         // What the last of them is not after is a time.
         let _end = last.get();
-        match pr_backfill::times(first, last, step) {
+        match pr_backfill_texts::backfill_crate::times(first, last, step) {
             Some(left) => Some(Times {
                 next: first.get(),
                 step,

@@ -1,11 +1,11 @@
 -- What `backfill` promises, by what the four objects mean before and after it.
 use Rattle.std.specs.Prelude.{◌≡◌, ◌≢◌, ℕ, ◌+◌, ◌<◌, ◌≤◌, Bool, true, false, List, [], ◌∷◌, ◌++◌, length, take, Result, Ok, Err, IfOk, IfSome, IsErr}
 use Rattle.std.specs.Io.KnownBytes.{Appends}
-use Rattle.pr_history.specs.declared.entry.Entry.{Entry}
+use Rattle.pr_run.specs.pr_history.declared.entry.Entry.{Entry}
 use Rattle.pr_outside.specs.Paths.{Opens, MayOpen}
 use Rattle.pr_outside.specs.declared.keeping.Row.{Row}
-use Rattle.pr_row.specs.Histories.{history_of}
-use Rattle.pr_rules.specs.Reloads.{LoadedFile}
+use Rattle.pr_text.specs.pr_row.Histories.{history_of}
+use Rattle.pr_backfill.specs.pr_rules.Reloads.{LoadedFile}
 use Rattle.pr_backfill.specs.Filled.{FillStep, filled, rows_filled}
 use Rattle.pr_status.specs.Asks.{Asks}
 use Rattle.pr_status.specs.Ends.{Ends, place_of, status_of}

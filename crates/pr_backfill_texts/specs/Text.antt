@@ -1,7 +1,7 @@
 -- What a backfill writes.
 use Rattle.std.specs.Prelude.{ℕ, List, ◌++◌, length, codes, decimal, flat_map}
 use Rattle.pr_text.specs.Printed.{shown_report}
-use Rattle.pr_world.specs.declared.report.Report.TheVariants.{Opened, Evaluated}
+use Rattle.pr_text.specs.pr_world.declared.report.Report.TheVariants.{Opened, Evaluated}
 use Rattle.pr_backfill.specs.Filled.{FillStep, rows_filled}
 
 -- the time of an evaluation, its file and its group

@@ -1,6 +1,6 @@
 //! Worked texts of backfills, each as a clause that the check computes.
 ghost use Rattle.std.specs.Prelude.{◌≡◌, ◌∷◌, [], codes};
-ghost use Rattle.pr_history.specs.declared.append.Append.TheVariants.{OutOfOrder, Same};
+ghost use Rattle.pr_run.specs.pr_history.declared.append.Append.TheVariants.{OutOfOrder, Same};
 ghost use Rattle.pr_backfill.specs.Examples.{added, told_as};
 ghost use Rattle.pr_backfill_texts.specs.Text.{fill_text};
 

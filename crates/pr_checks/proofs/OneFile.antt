@@ -1,6 +1,6 @@
 -- A walk over the name of one rule file.
 use Rattle.std.proofs.Common.{◌≡◌, ℕ, List, [], ◌∷◌, ◌++◌, Bool, true, Option, Result, refl, sym, ap, ◌∙◌, subst, length}
-use Rattle.pr_outside.specs.Meant.{Content}
+use Rattle.pr_status.specs.pr_outside.Meant.{Content}
 use Rattle.pr_status.specs.Asks.{AsksBy}
 use Rattle.pr_status.specs.Outside.{AreTold, Held}
 use Rattle.pr_status.specs.declared.status.Stop.{Stop}

@@ -6,12 +6,12 @@ use Rattle.std.proofs.lemmas.Grind.{common_steps}
 use Rattle.std.proofs.lemmas.List.Folds.{list_all-append}
 use Rattle.std.proofs.lemmas.Fmt.{decimal_by_steps}
 use borrow.Author.Tests.{eqb-true}
-use Rattle.pr_forms.proofs.Readings.{one_reading}
-use Rattle.pr_time.specs.SpanShown.{part_text, parts_text, shown_span}
-use Rattle.pr_time.specs.SpanTable.{table}
-use Rattle.pr_time.specs.SpanText.{ReadsSpan, Text, production, seen, span}
-use Rattle.pr_time.proofs.SpanRead.{shown_reads}
-use Rattle.pr_time.proofs.SpanTable.{known}
+use Rattle.pr_ast.proofs.FormsReadings.{one_reading}
+use Rattle.pr_ast.specs.pr_time.SpanShown.{part_text, parts_text, shown_span}
+use Rattle.pr_ast.specs.pr_time.SpanTable.{table}
+use Rattle.pr_ast.specs.pr_time.SpanText.{ReadsSpan, Text, production, seen, span}
+use Rattle.pr_ast.proofs.TimeSpanRead.{shown_reads}
+use Rattle.pr_ast.proofs.TimeSpanTable.{known}
 use Rattle.pr_ast.specs.declared.selector.Selector.{Selector}
 use Rattle.pr_ast.specs.Print.{offset_text, range_text, selected_text}
 

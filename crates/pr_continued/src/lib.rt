@@ -9,4 +9,6 @@ mod waiting;
 
 pub use choosing::carried;
 pub use laws::equal_texts_have_equal_ranges;
+pub use pr_range as range;
+pub use pr_rules::{parse as parse, rulefile as rulefile};
 pub use waiting::Waiting;

@@ -3,7 +3,7 @@ use Rattle.std.proofs.Common.{◌≡◌, ◌≢◌, ℕ, ◌+◌, Bool, true, fa
 use Rattle.std.specs.Prelude.{IfSome, IsSome}
 use Rattle.pr_history.specs.Admission.{IsLawful}
 use Rattle.pr_history.specs.declared.entry.Entry.{Entry}
-use Rattle.pr_intake.specs.Intake.{Series}
+use Rattle.pr_scrape.specs.pr_intake.Intake.{Series}
 use Rattle.pr_manager.specs.Keeping.{ManagesGroups, KeptManager, settings_in}
 use Rattle.pr_outside.specs.Causes.{HasKeepCause}
 use Rattle.pr_outside.specs.Kept.{AppendsRows, KeepsRows}
@@ -11,7 +11,7 @@ use Rattle.pr_outside.specs.Meant.{Store}
 use Rattle.pr_outside.specs.declared.keeping.KeepError.{KeepError}
 use Rattle.pr_outside.specs.declared.keeping.KeepError.TheVariants as keeping
 use Rattle.pr_outside.specs.declared.keeping.Row.{Row}
-use Rattle.pr_range.specs.Asks.{LastAsks, Passed}
+use Rattle.pr_manager.specs.pr_range.Asks.{LastAsks, Passed}
 use Rattle.pr_row.specs.Histories.{history_of}
 use Rattle.pr_row.specs.Rows.{encoded}
 use Rattle.pr_scrape.specs.Knowing.{Knows, Tracked}

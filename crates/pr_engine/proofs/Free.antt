@@ -6,14 +6,14 @@ use Rattle.pr_history.specs.declared.entry.Entry.{Entry}
 use Rattle.pr_manager.specs.Naming.{passed_by_named}
 use Rattle.pr_manager.specs.Rounds.{cost_after, cost_by}
 use Rattle.pr_outside.specs.Meant.{Store}
-use Rattle.pr_parse.specs.Parsed.{Parsed, gives_tree, gives_lex_fault, gives_fault, parsed}
-use Rattle.pr_range.specs.Asks.{LastAsks, Passed}
-use Rattle.pr_rules.specs.Costs.{PassedByRules, group_cost}
-use Rattle.pr_rules.specs.Evaluations.{group_step}
-use Rattle.pr_rules.specs.Groups.{Group, is_group_named}
-use Rattle.pr_types.specs.Typed.{checked}
-use Rattle.pr_types.specs.declared.kind.TypeFault.{TypeFault}
-use Rattle.pr_types.specs.declared.kind.ValueType.{ValueType}
+use Rattle.pr_world.specs.pr_parse.Parsed.{Parsed, gives_tree, gives_lex_fault, gives_fault, parsed}
+use Rattle.pr_manager.specs.pr_range.Asks.{LastAsks, Passed}
+use Rattle.pr_world.specs.pr_rules.Costs.{PassedByRules, group_cost}
+use Rattle.pr_world.specs.pr_rules.Evaluations.{group_step}
+use Rattle.pr_world.specs.pr_rules.Groups.{Group, is_group_named}
+use Rattle.pr_world.specs.pr_types.Typed.{checked}
+use Rattle.pr_world.specs.pr_types.declared.kind.TypeFault.{TypeFault}
+use Rattle.pr_world.specs.pr_types.declared.kind.ValueType.{ValueType}
 use Rattle.pr_world.specs.Outcome.{IsNotBefore, refuse}
 use Rattle.pr_world.specs.Query.{parsed_outcome, typed_outcome}
 use Rattle.pr_world.specs.Rounds.{eval_after, eval_by, evaluation_outcome}

@@ -10,11 +10,11 @@ use Rattle.pr_history.proofs.Lawful.{after_more}
 use Rattle.pr_history.specs.declared.append.Append.{Append}
 use Rattle.pr_history.specs.declared.append.Append.TheVariants.{Added, Same, OutOfOrder, Conflict}
 use Rattle.pr_history.specs.declared.entry.Entry.{Entry}
-use Rattle.pr_intake.specs.Intake.{Series}
+use Rattle.pr_scrape.specs.pr_intake.Intake.{Series}
 use Rattle.pr_outside.specs.Kept.{KeepsRows}
 use Rattle.pr_outside.specs.Meant.{Store}
 use Rattle.pr_outside.specs.declared.keeping.Row.{Row}
-use Rattle.pr_puts.specs.Puts.{is_added}
+use Rattle.pr_world.specs.pr_puts.Puts.{is_added}
 use Rattle.pr_row.specs.Histories.{history_after, history_of, taken_by}
 use Rattle.pr_row.specs.Rows.{decoded}
 use Rattle.pr_engine.specs.Causes.{HasStartCause}

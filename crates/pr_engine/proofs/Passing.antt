@@ -3,9 +3,9 @@ use Rattle.std.proofs.Common.{◌≡◌, ℕ, Bool, true, List, [], ◌∷◌, �
 use Rattle.std.specs.List.{AllZip}
 use Rattle.std.specs.declared.alloc.AllocError.{AllocError}
 use Rattle.pr_history.specs.declared.entry.Entry.{Entry}
-use Rattle.pr_range.specs.Asks.{LastAsks, Passed}
-use Rattle.pr_rules.specs.Groups.{Group}
-use Rattle.pr_group.specs.Keeping.{KeptGroup}
+use Rattle.pr_manager.specs.pr_range.Asks.{LastAsks, Passed}
+use Rattle.pr_world.specs.pr_rules.Groups.{Group}
+use Rattle.pr_manager.specs.pr_group.Keeping.{KeptGroup}
 use Rattle.pr_manager.specs.Keeping.{KeepsUnder, KeptManager, settings_in}
 use Rattle.pr_manager.specs.Naming.{kept_named, passed_by_any, passed_by_named}
 use Rattle.pr_manager.specs.Passing.{PassedByNames}

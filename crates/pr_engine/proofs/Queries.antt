@@ -7,27 +7,27 @@ use Rattle.pr_head.specs.Stored.{Stored}
 use Rattle.pr_ast.specs.declared.place.Place.{Place}
 use Rattle.pr_ast.specs.Tree.{Tree}
 use Rattle.pr_ast.specs.Reach.{reads_back}
-use Rattle.pr_lex.specs.declared.fault.LexKind.{LexKind}
-use Rattle.pr_group.specs.Keeping.{MayEvaluateOver}
-use Rattle.pr_parse.specs.declared.fault.ParseKind.{ParseKind}
-use Rattle.pr_parse.specs.Parsed.{Parsed, gives_tree, gives_lex_fault, gives_fault}
-use Rattle.pr_types.specs.declared.kind.ValueType.{ValueType}
-use Rattle.pr_types.specs.declared.kind.TypeKind.{TypeKind}
-use Rattle.pr_types.specs.declared.kind.TypeFault.{TypeFault}
-use Rattle.pr_types.specs.Signatures.{fault as type_fault}
-use Rattle.pr_types.specs.Checking.{MayEvaluate}
-use Rattle.pr_types.specs.Typed.{checked}
-use Rattle.pr_query.specs.declared.fault.Fault.{Fault}
-use Rattle.pr_query.specs.declared.fault.FaultKind.{FaultKind}
-use Rattle.pr_query.specs.declared.value.Value.{Value}
-use Rattle.pr_query.specs.Answers.{fault}
-use Rattle.pr_query.specs.Cost.{cost, nothing_passed}
-use Rattle.pr_query.specs.Meaning.{meaning}
-use Rattle.pr_eval.specs.Looks.{KeepsFor}
-use Rattle.pr_eval.specs.Asking.{Sought}
-use Rattle.pr_eval.specs.Evaluated.{AreReady, IsReadyFor, MayBegin, asks_of}
+use Rattle.pr_ast.specs.pr_lex.declared.fault.LexKind.{LexKind}
+use Rattle.pr_manager.specs.pr_group.Keeping.{MayEvaluateOver}
+use Rattle.pr_world.specs.pr_parse.declared.fault.ParseKind.{ParseKind}
+use Rattle.pr_world.specs.pr_parse.Parsed.{Parsed, gives_tree, gives_lex_fault, gives_fault}
+use Rattle.pr_world.specs.pr_types.declared.kind.ValueType.{ValueType}
+use Rattle.pr_world.specs.pr_types.declared.kind.TypeKind.{TypeKind}
+use Rattle.pr_world.specs.pr_types.declared.kind.TypeFault.{TypeFault}
+use Rattle.pr_world.specs.pr_types.Signatures.{fault as type_fault}
+use Rattle.pr_world.specs.pr_types.Checking.{MayEvaluate}
+use Rattle.pr_world.specs.pr_types.Typed.{checked}
+use Rattle.pr_world.specs.pr_query.declared.fault.Fault.{Fault}
+use Rattle.pr_world.specs.pr_query.declared.fault.FaultKind.{FaultKind}
+use Rattle.pr_world.specs.pr_query.declared.value.Value.{Value}
+use Rattle.pr_world.specs.pr_query.Answers.{fault}
+use Rattle.pr_world.specs.pr_query.Cost.{cost, nothing_passed}
+use Rattle.pr_world.specs.pr_query.Meaning.{meaning}
+use Rattle.pr_manager.specs.pr_eval.Looks.{KeepsFor}
+use Rattle.pr_manager.specs.pr_eval.Asking.{Sought}
+use Rattle.pr_manager.specs.pr_eval.Evaluated.{AreReady, IsReadyFor, MayBegin, asks_of}
 use Rattle.pr_world.specs.declared.report.Report.TheVariants.{QueryFault, QueryRefused}
-use Rattle.pr_kinds.specs.declared.kind.QueryKind.TheVariants.{Lex, Parse, Typing}
+use Rattle.pr_world.specs.pr_kinds.declared.kind.QueryKind.TheVariants.{Lex, Parse, Typing}
 use Rattle.pr_world.specs.Outcome.{refuse}
 use Rattle.pr_world.specs.Query.{parsed_outcome, told_answer, told_value, typed_outcome}
 use Rattle.pr_world.specs.Settings.{Settings}

@@ -4,7 +4,7 @@ use Rattle.std.specs.Prelude.{nat_lt}
 use Rattle.std.proofs.lemmas.Grind.{common_steps}
 use Rattle.std.proofs.lemmas.Int.{ints}
 use Rattle.pr_history.specs.declared.entry.Entry.{Entry}
-use Rattle.pr_intake.specs.Intake.{Series}
+use Rattle.pr_scrape.specs.pr_intake.Intake.{Series}
 use Rattle.pr_world.specs.Outcome.{IsNotBefore}
 use Rattle.pr_engine.specs.Standing.{HoldsAll, IsHeadOf}
 use Rattle.pr_engine.specs.Times.{IsKeptAbove}

@@ -4,7 +4,7 @@ use Rattle.std.specs.Int.Signed.{≤ℤ_refl}
 use Rattle.std.specs.declared.alloc.AllocError.{AllocError}
 use Rattle.std.proofs.lemmas.List.Elements.{filter_passes}
 use Rattle.std.specs.List.{All}
-use Rattle.pr_group.specs.Keeping.{MayEvaluateOver}
+use Rattle.pr_manager.specs.pr_group.Keeping.{MayEvaluateOver}
 use Rattle.pr_head.specs.Holds.{Holds, IsWhole}
 use Rattle.pr_head.specs.Stored.{Stored, trimmed}
 use Rattle.pr_head.specs.declared.timed.Timed.{Timed}
@@ -13,9 +13,9 @@ use Rattle.pr_history.specs.Admission.{put_all, IsLawful}
 use Rattle.pr_history.specs.Lookback.{is_after}
 use Rattle.pr_history.specs.declared.entry.Entry.{Entry}
 use Rattle.pr_history.proofs.Lawful.{put_all_lawful}
-use Rattle.pr_intake.specs.Intake.{HasTaken, Series}
+use Rattle.pr_scrape.specs.pr_intake.Intake.{HasTaken, Series}
 use Rattle.pr_manager.specs.Keeping.{HasGoneOn, ManagesGroups, ManagesGroupsOf, KeptManager, settings_in}
-use Rattle.pr_range.specs.Asks.{LastAsks, Passed}
+use Rattle.pr_manager.specs.pr_range.Asks.{LastAsks, Passed}
 use Rattle.pr_scrape.specs.Knowing.{Knows, Tracked}
 use Rattle.pr_world.specs.Outcome.{IsNotBefore, Outcome, refuse, accept, nothing_else, changed_by, is_refusal}
 use Rattle.pr_world.specs.Step.{Step, changes_targets, step_by, time_of}

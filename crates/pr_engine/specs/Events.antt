@@ -3,13 +3,13 @@ use Rattle.std.specs.Prelude.{ℕ, Bool, true, false, List, IsSome, Result, Ok, 
 use Rattle.pr_ast.specs.Tree.{Tree}
 use Rattle.pr_history.specs.declared.entry.Entry.{Entry}
 use Rattle.pr_outside.specs.Meant.{Store}
-use Rattle.pr_parse.specs.Parsed.{Parsed, gives_tree, gives_lex_fault, gives_fault, parsed}
+use Rattle.pr_world.specs.pr_parse.Parsed.{Parsed, gives_tree, gives_lex_fault, gives_fault, parsed}
 use Rattle.pr_manager.specs.Rounds.{eval_cost}
-use Rattle.pr_query.specs.Cost.{cost, nothing_passed}
-use Rattle.pr_rules.specs.Costs.{PassedByRules}
-use Rattle.pr_types.specs.Typed.{checked}
-use Rattle.pr_types.specs.declared.kind.TypeFault.{TypeFault}
-use Rattle.pr_types.specs.declared.kind.ValueType.{ValueType}
+use Rattle.pr_world.specs.pr_query.Cost.{cost, nothing_passed}
+use Rattle.pr_world.specs.pr_rules.Costs.{PassedByRules}
+use Rattle.pr_world.specs.pr_types.Typed.{checked}
+use Rattle.pr_world.specs.pr_types.declared.kind.TypeFault.{TypeFault}
+use Rattle.pr_world.specs.pr_types.declared.kind.ValueType.{ValueType}
 use Rattle.pr_world.specs.Settings.{Settings, of_a_run}
 use Rattle.pr_world.specs.Step.{Step, outcome_in_time, step_by, time_of}
 use Rattle.pr_world.specs.World.{World}

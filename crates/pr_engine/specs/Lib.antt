@@ -7,3 +7,7 @@ pub mod Standing
 pub mod Loading
 pub mod Taken
 pub mod Opening
+pub use Rattle.pr_row.specs as pr_row
+pub use Rattle.pr_world.specs as pr_world
+pub use Rattle.pr_scrape.specs.pr_intake as pr_intake
+pub use Rattle.pr_manager.specs as pr_manager

@@ -2,10 +2,10 @@
 use Rattle.std.specs.Prelude.{◌≡◌, ℕ, List, [], ◌∷◌, ◌++◌, length, cond, drop, map, IfSome, Option, Some, None, Result, Ok, Err}
 use Rattle.pr_history.specs.Admission.{admit}
 use Rattle.pr_history.specs.declared.entry.Entry.{Entry}
-use Rattle.pr_intake.specs.Intake.{Series}
+use Rattle.pr_scrape.specs.pr_intake.Intake.{Series}
 use Rattle.pr_outside.specs.Meant.{Store}
 use Rattle.pr_outside.specs.declared.keeping.Row.{Row}
-use Rattle.pr_puts.specs.Puts.{is_added}
+use Rattle.pr_world.specs.pr_puts.Puts.{is_added}
 use Rattle.pr_row.specs.Histories.{history_after, history_of}
 use Rattle.pr_row.specs.Rows.{decoded}
 use Rattle.pr_engine.specs.Rows.{TellsOf}

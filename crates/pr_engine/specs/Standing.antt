@@ -8,11 +8,11 @@ use Rattle.pr_head.specs.Stored.{Stored}
 use Rattle.pr_history.specs.Admission.{IsLawful}
 use Rattle.pr_history.specs.Lookback.{is_after}
 use Rattle.pr_history.specs.declared.entry.Entry.{Entry}
-use Rattle.pr_intake.specs.Intake.{Series}
+use Rattle.pr_scrape.specs.pr_intake.Intake.{Series}
 use Rattle.pr_labels.specs.declared.pair.Pair.{Pair}
 use Rattle.pr_manager.specs.Keeping.{ManagesGroupsOf, KeptManager, settings_in}
 use Rattle.pr_outside.specs.Meant.{Store}
-use Rattle.pr_range.specs.Asks.{LastAsks, Passed}
+use Rattle.pr_manager.specs.pr_range.Asks.{LastAsks, Passed}
 use Rattle.pr_scrape.specs.Knowing.{Knows, Tracked}
 use Rattle.pr_world.specs.Outcome.{IsNotBefore, is_refusal}
 use Rattle.pr_world.specs.World.{World, begin, start}

@@ -16,8 +16,8 @@ ghost use Rattle.pr_engine.specs.Standing.{Forgets, StandsFor, StandsForSome, St
 use crate::fault::{ApplyError, Cause, StartError};
 use crate::standing::Standing;
 use crate::telling::{is_restart, time_of};
+use pr_manager::range::Ranges;
 use pr_outside::Keeper;
-use pr_range::Ranges;
 use pr_time::{Ms, Span};
 use pr_words::Steps;
 use pr_world::{Event, Report};

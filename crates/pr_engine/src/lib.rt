@@ -16,3 +16,6 @@ pub use engine::Engine;
 pub use fault::{ApplyError, Cause, StartError};
 pub use keeping::keep;
 pub use opening::history;
+pub use pr_head as head;
+pub use pr_row as row;
+pub use pr_world as world;

@@ -4,7 +4,7 @@ ghost use Rattle.pr_history.specs.Admission.{admit};
 ghost use Rattle.pr_history.specs.declared.append.Append.TheVariants.{Added};
 ghost use Rattle.pr_history.specs.declared.entry.Entry.{Entry};
 ghost use Rattle.pr_outside.specs.Kept.{KeepsRows};
-ghost use Rattle.pr_puts.specs.Puts.{is_added};
+ghost use Rattle.pr_world.specs.pr_puts.Puts.{is_added};
 ghost use Rattle.pr_row.specs.Histories.{history_of};
 ghost use Rattle.pr_row.specs.Rows.{decoded};
 ghost use Rattle.pr_engine.specs.Causes.{HasStartCause};

@@ -17,7 +17,7 @@ ghost use Rattle.pr_engine.specs.Times.{forgotten_at};
 use crate::standing::Standing;
 use crate::taken::Taken;
 use pr_head::Head;
-use pr_range::Ranges;
+use pr_manager::range::Ranges;
 use pr_time::Ms;
 use pr_words::{Items, Steps, Text};
 use pr_world::{NamedFile, Report};

@@ -2,19 +2,19 @@
 use Rattle.std.proofs.Common.{◌≡◌, ℕ, zero, suc, ◌+◌, ◌≤◌, max, Bool, true, false, ◌&&◌, List, [], ◌∷◌, ◌++◌, length, take, drop, map, slice_get, Some, Err, refl, sym, ap, subst, ◌∙◌, append_assoc, arith}
 use Rattle.std.proofs.lemmas.List.{take_all}
 use Rattle.pr_labels.specs.declared.pair.Pair.{Pair}
-use Rattle.pr_history.specs.declared.entry.Entry.{Entry}
-use Rattle.pr_head.specs.Stored.{Stored}
+use Rattle.pr_range_calls.specs.pr_history.declared.entry.Entry.{Entry}
+use Rattle.pr_range_calls.specs.pr_head.Stored.{Stored}
 use Rattle.pr_ast.specs.declared.tree.Expr.{Expr}
 use Rattle.pr_ast.specs.Tree.{Tree, more, more_from, none, tree_of, trees_of}
 use Rattle.pr_ast.specs.Reach.{reads_back}
 use Rattle.pr_ast.specs.Steps.{has_steps}
-use Rattle.pr_types.specs.declared.counting.Counts.{Counts}
-use Rattle.pr_types.specs.Built.{tests_in, patterns_in}
-use Rattle.pr_types.specs.Numbers.{ranges_in}
-use Rattle.pr_vectors.specs.declared.range.RangeFn.{RangeFn}
+use Rattle.pr_range_calls.specs.pr_types.declared.counting.Counts.{Counts}
+use Rattle.pr_range_calls.specs.pr_types.Built.{tests_in, patterns_in}
+use Rattle.pr_range_calls.specs.pr_types.Numbers.{ranges_in}
+use Rattle.pr_range_calls.specs.pr_vectors.declared.range.RangeFn.{RangeFn}
 use Rattle.pr_eval.specs.Asking.{asks_in}
-use Rattle.pr_query.specs.Cost.{PassedFor, cost}
-use Rattle.pr_values.specs.declared.error.EvalError.{EvalError}
+use Rattle.pr_range_calls.specs.pr_query.Cost.{PassedFor, cost}
+use Rattle.pr_range_calls.specs.pr_values.declared.error.EvalError.{EvalError}
 use Rattle.pr_eval.specs.Evaluated.{AreAllAsked, AreReady, IsReadyFor, IsEvaluated, KeptOfRanges, MayTake, passed_outside}
 use Rattle.pr_eval.specs.Parts.{AreTwo, IsPartAt, PatternsAt, StandAt}
 use Rattle.pr_eval.proofs.Each.{front_each}

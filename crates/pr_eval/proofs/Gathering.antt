@@ -1,12 +1,12 @@
 -- What is known of the times of a subquery, one after another.
 use Rattle.std.proofs.Common.{◌≡◌, ℕ, suc, ◌+◌, ◌≤◌, List, take, sum_by, slice_get, Some, Result, Ok, Err, arith}
-use Rattle.pr_query.specs.declared.fault.Fault.{Fault}
-use Rattle.pr_query.specs.declared.value.Value.{Value}
-use Rattle.pr_query.specs.Answers.{fault}
-use Rattle.pr_query.specs.Subqueries.{Taken, at_each}
-use Rattle.pr_values.specs.declared.error.EvalError.{EvalError}
-use Rattle.pr_values.specs.declared.error.EvalError.TheVariants as error
-use Rattle.pr_values.specs.Answers.{AnswersTo}
+use Rattle.pr_range_calls.specs.pr_query.declared.fault.Fault.{Fault}
+use Rattle.pr_range_calls.specs.pr_query.declared.value.Value.{Value}
+use Rattle.pr_range_calls.specs.pr_query.Answers.{fault}
+use Rattle.pr_range_calls.specs.pr_query.Subqueries.{Taken, at_each}
+use Rattle.pr_range_calls.specs.pr_values.declared.error.EvalError.{EvalError}
+use Rattle.pr_range_calls.specs.pr_values.declared.error.EvalError.TheVariants as error
+use Rattle.pr_range_calls.specs.pr_values.Answers.{AnswersTo}
 use Rattle.pr_eval.specs.Evaluated.{KeptOfRanges}
 use Rattle.pr_eval.specs.Subqueries.{AreSeriesGathered, TakesInside}
 use Rattle.pr_eval.proofs.EachTime.{each_ends, sum_next, sum_within}

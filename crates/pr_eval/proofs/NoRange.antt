@@ -3,11 +3,11 @@ use Rattle.std.proofs.Common.{◌≡◌, ℕ, Option, true, false, sym, ap, ◌�
 use Rattle.pr_ast.specs.declared.place.Place.{Place}
 use Rattle.pr_ast.specs.declared.selector.Selector.{Selector}
 use Rattle.pr_ast.specs.Tree.{Tree, range, sub}
-use Rattle.pr_types.specs.declared.kind.ValueType.{ValueType}
-use Rattle.pr_types.specs.declared.kind.ValueType.TheVariants.{Range}
-use Rattle.pr_types.specs.Signatures.{is_type}
-use Rattle.pr_types.specs.Typed.{typed}
-use Rattle.pr_types.proofs.Parts.{parts_of_range, parts_of_sub}
+use Rattle.pr_range_calls.specs.pr_types.declared.kind.ValueType.{ValueType}
+use Rattle.pr_range_calls.specs.pr_types.declared.kind.ValueType.TheVariants.{Range}
+use Rattle.pr_range_calls.specs.pr_types.Signatures.{is_type}
+use Rattle.pr_range_calls.specs.pr_types.Typed.{typed}
+use Rattle.pr_range_calls.proofs.TypesParts.{parts_of_range, parts_of_sub}
 use Rattle.pr_eval.specs.Parts.{IsValued}
 
 is_range : (v : ValueType) → v ≡ Range → is_type v Range ≡ false → ⊥

@@ -6,13 +6,13 @@ use Rattle.pr_ast.specs.declared.names.Func.{Func}
 use Rattle.pr_ast.specs.declared.names.Func.TheVariants as fn
 use Rattle.pr_ast.specs.declared.tree.Expr.{Expr}
 use Rattle.pr_ast.specs.Tree.{Tree, call, tree_of, trees_of}
-use Rattle.pr_types.specs.declared.counting.Counts.{Counts}
-use Rattle.pr_types.specs.declared.kind.ValueType.TheVariants.{Range}
-use Rattle.pr_types.specs.Signatures.{func_signature, is_type, wanted}
-use Rattle.pr_types.specs.Typed.{content_at, typed}
-use Rattle.pr_types.specs.Built.{own_patterns, patterns_in}
-use Rattle.pr_types.proofs.Parts.{parts_of_call, text_of_join, texts_of_replace}
-use Rattle.pr_values.specs.Calls.{is_plain_call}
+use Rattle.pr_range_calls.specs.pr_types.declared.counting.Counts.{Counts}
+use Rattle.pr_range_calls.specs.pr_types.declared.kind.ValueType.TheVariants.{Range}
+use Rattle.pr_range_calls.specs.pr_types.Signatures.{func_signature, is_type, wanted}
+use Rattle.pr_range_calls.specs.pr_types.Typed.{content_at, typed}
+use Rattle.pr_range_calls.specs.pr_types.Built.{own_patterns, patterns_in}
+use Rattle.pr_range_calls.proofs.TypesParts.{parts_of_call, text_of_join, texts_of_replace}
+use Rattle.pr_range_calls.specs.pr_values.Calls.{is_plain_call}
 use Rattle.pr_eval.specs.Parts.{IsPartAt, IsValued, PatternsAt, counts_after}
 use Rattle.pr_eval.proofs.Each.{first_of_one, rest_each}
 use Rattle.pr_eval.proofs.Operands.{argument_at}

@@ -5,26 +5,26 @@ use Rattle.std.proofs.lemmas.Bool.{ne_eqb}
 use Rattle.std.proofs.lemmas.Bool.Decides.{eqb_tells}
 use Rattle.pr_num.specs.declared.value.Num.{Num}
 use Rattle.pr_labels.specs.declared.pair.Pair.{Pair}
-use Rattle.pr_history.specs.declared.entry.Entry.{Entry}
-use Rattle.pr_history.specs.Lookback.{entries_until}
-use Rattle.pr_head.specs.Stored.{Stored}
-use Rattle.pr_head.specs.Holds.{IsWhole, arrivals, labels_at, samples_of}
+use Rattle.pr_range_calls.specs.pr_history.declared.entry.Entry.{Entry}
+use Rattle.pr_range_calls.specs.pr_history.Lookback.{entries_until}
+use Rattle.pr_range_calls.specs.pr_head.Stored.{Stored}
+use Rattle.pr_range_calls.specs.pr_head.Holds.{IsWhole, arrivals, labels_at, samples_of}
 use Rattle.pr_ast.specs.declared.place.Place.{Place}
 use Rattle.pr_ast.specs.declared.selector.Selector.{Selector}
 use Rattle.pr_ast.specs.Tree.{Tree, range}
-use Rattle.pr_vectors.specs.declared.range.RangeFn.{RangeFn}
-use Rattle.pr_query.specs.declared.fault.Fault.{Fault}
-use Rattle.pr_query.specs.declared.value.Value.{Value}
-use Rattle.pr_query.specs.Answers.{go_on}
-use Rattle.pr_query.specs.Given.{Ranged, range_at}
-use Rattle.pr_query.specs.Meaning.{ranges}
-use Rattle.pr_query.specs.Selection.{chosen_by, moment_of}
-use Rattle.pr_range.specs.Asks.{IsReadyToAsk, LastAsks, remembered}
-use Rattle.pr_range.proofs.Lawful.{entries_until_is}
-use Rattle.pr_range.proofs.Timeline.{until_grows}
-use Rattle.pr_values.specs.declared.error.EvalError.{EvalError}
-use Rattle.pr_values.specs.declared.error.EvalError.TheVariants as error
-use Rattle.pr_values.specs.Answers.{AnswersTo}
+use Rattle.pr_range_calls.specs.pr_vectors.declared.range.RangeFn.{RangeFn}
+use Rattle.pr_range_calls.specs.pr_query.declared.fault.Fault.{Fault}
+use Rattle.pr_range_calls.specs.pr_query.declared.value.Value.{Value}
+use Rattle.pr_range_calls.specs.pr_query.Answers.{go_on}
+use Rattle.pr_range_calls.specs.pr_query.Given.{Ranged, range_at}
+use Rattle.pr_range_calls.specs.pr_query.Meaning.{ranges}
+use Rattle.pr_range_calls.specs.pr_query.Selection.{chosen_by, moment_of}
+use Rattle.pr_range_calls.specs.pr_range.Asks.{IsReadyToAsk, LastAsks, remembered}
+use Rattle.pr_range_calls.proofs.RangeLawful.{entries_until_is}
+use Rattle.pr_range_calls.proofs.RangeTimeline.{until_grows}
+use Rattle.pr_range_calls.specs.pr_values.declared.error.EvalError.{EvalError}
+use Rattle.pr_range_calls.specs.pr_values.declared.error.EvalError.TheVariants as error
+use Rattle.pr_range_calls.specs.pr_values.Answers.{AnswersTo}
 use Rattle.pr_range_calls.specs.Asking.{AreAsked, MayAskEach, ask_at, asks_cost, is_number_among, numbers_chosen, passed_by}
 use Rattle.pr_eval.specs.Asking.{asks_in, sought}
 use Rattle.pr_eval.specs.Evaluated.{AreAllAsked, AreReady, AreRowsAsked, IsAsked, IsReadyFor, IsSame, IsEvaluated, KeptOfRanges, MayFollow, MayTake}

@@ -6,13 +6,13 @@ use Rattle.pr_ast.specs.declared.names.Func.{Func}
 use Rattle.pr_ast.specs.declared.names.Func.TheVariants as fn
 use Rattle.pr_ast.specs.declared.tree.Expr.{Expr}
 use Rattle.pr_ast.specs.Tree.{Tree, call, more, none, tree_of, trees_of}
-use Rattle.pr_types.specs.declared.kind.ValueType.{ValueType}
-use Rattle.pr_types.specs.declared.kind.ValueType.TheVariants.{Range, Scalar}
-use Rattle.pr_types.specs.Signatures.{func_signature, wanted}
-use Rattle.pr_types.specs.Parts.{AreArguments, arguments}
-use Rattle.pr_types.specs.Typed.{typed}
-use Rattle.pr_types.proofs.Parts.{parts_of_call}
-use Rattle.pr_range.specs.Asks.{takes_argument}
+use Rattle.pr_range_calls.specs.pr_types.declared.kind.ValueType.{ValueType}
+use Rattle.pr_range_calls.specs.pr_types.declared.kind.ValueType.TheVariants.{Range, Scalar}
+use Rattle.pr_range_calls.specs.pr_types.Signatures.{func_signature, wanted}
+use Rattle.pr_range_calls.specs.pr_types.Parts.{AreArguments, arguments}
+use Rattle.pr_range_calls.specs.pr_types.Typed.{typed}
+use Rattle.pr_range_calls.proofs.TypesParts.{parts_of_call}
+use Rattle.pr_range_calls.specs.pr_range.Asks.{takes_argument}
 use Rattle.pr_eval.specs.Asking.{asked_for, takes_range}
 use Rattle.pr_eval.specs.Parts.{IsValued}
 use Rattle.pr_eval.proofs.Operands.{argument_at, arguments_are}

@@ -6,20 +6,20 @@ use Rattle.std.proofs.lemmas.List.{length-map}
 use Rattle.pr_labels.specs.declared.pair.Pair.{Pair}
 use Rattle.pr_labels.specs.declared.item.Item.{Item}
 use Rattle.pr_labels.specs.Rising.{IsBelowFirstSet, IsRising}
-use Rattle.pr_history.specs.declared.entry.Entry.{Entry}
-use Rattle.pr_history.specs.declared.spot.Spot.{Spot}
-use Rattle.pr_history.specs.Lookback.{spot_at}
-use Rattle.pr_head.specs.Stored.{Stored, newest_at}
-use Rattle.pr_head.specs.Holds.{sets_of}
-use Rattle.pr_head.specs.Reads.{spot_shown}
-use Rattle.pr_head.proofs.Newest.{newest_is_shown}
-use Rattle.pr_head.proofs.Simulation.{set_at}
+use Rattle.pr_range_calls.specs.pr_history.declared.entry.Entry.{Entry}
+use Rattle.pr_range_calls.specs.pr_history.declared.spot.Spot.{Spot}
+use Rattle.pr_range_calls.specs.pr_history.Lookback.{spot_at}
+use Rattle.pr_range_calls.specs.pr_head.Stored.{Stored, newest_at}
+use Rattle.pr_range_calls.specs.pr_head.Holds.{sets_of}
+use Rattle.pr_range_calls.specs.pr_head.Reads.{spot_shown}
+use Rattle.pr_range_calls.proofs.HeadNewest.{newest_is_shown}
+use Rattle.pr_range_calls.proofs.HeadSimulation.{set_at}
 use Rattle.pr_ast.specs.declared.selector.Selector.{Selector}
 use Rattle.pr_num.specs.declared.value.Num.{Num}
 use Rattle.pr_labels.proofs.LabelOrder.{below_next}
-use Rattle.pr_vectors.specs.Vectors.{IsVector, label_sets}
-use Rattle.pr_query.specs.Selection.{chosen_by, moment_of, selected_spots, shown_as, spots_at, valued}
-use Rattle.pr_query.proofs.Selecting.{sets_in}
+use Rattle.pr_range_calls.specs.pr_vectors.Vectors.{IsVector, label_sets}
+use Rattle.pr_range_calls.specs.pr_query.Selection.{chosen_by, moment_of, selected_spots, shown_as, spots_at, valued}
+use Rattle.pr_range_calls.proofs.QuerySelecting.{sets_in}
 use Rattle.pr_eval.specs.Looks.{KeepsAt}
 use Rattle.pr_range_calls.specs.Choosing.{labels_of_series}
 use Rattle.pr_eval.specs.Reading.{items_read, spot_read}

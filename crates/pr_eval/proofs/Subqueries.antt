@@ -4,31 +4,31 @@ use Rattle.std.proofs.lemmas.Int.{ints}
 use Rattle.std.proofs.lemmas.Option.{slice_get-get_or, slice_get_within}
 use Rattle.std.specs.BTreeMap.{BTreeMap}
 use Rattle.pr_labels.specs.declared.pair.Pair.{Pair}
-use Rattle.pr_history.specs.declared.entry.Entry.{Entry}
-use Rattle.pr_history.specs.declared.spot.Spot.{Spot}
-use Rattle.pr_head.specs.Stored.{Stored}
+use Rattle.pr_range_calls.specs.pr_history.declared.entry.Entry.{Entry}
+use Rattle.pr_range_calls.specs.pr_history.declared.spot.Spot.{Spot}
+use Rattle.pr_range_calls.specs.pr_head.Stored.{Stored}
 use Rattle.pr_ast.specs.declared.place.Place.{Place}
 use Rattle.pr_ast.specs.Tree.{Tree, sub}
 use Rattle.pr_ast.specs.Reach.{reads_back}
 use Rattle.pr_ast.specs.Steps.{has_steps, is_step}
-use Rattle.pr_types.specs.declared.counting.Counts.{Counts}
-use Rattle.pr_types.specs.Built.{tests_in, patterns_in}
-use Rattle.pr_types.specs.Numbers.{counts_in, exact_counts, ranges_in}
-use Rattle.pr_types.proofs.CountLemmas.{counts_exact, ranges_are_selectors}
-use Rattle.pr_vectors.specs.declared.range.RangeFn.{RangeFn}
-use Rattle.pr_vectors.specs.Ranges.{longest}
-use Rattle.pr_query.specs.declared.fault.Fault.{Fault}
-use Rattle.pr_query.specs.declared.fault.FaultKind.TheVariants as kind
-use Rattle.pr_query.specs.Answers.{fault, go_on}
-use Rattle.pr_query.specs.Cost.{cost, cost_at_each, nothing_passed}
-use Rattle.pr_query.specs.Given.{Ranged}
-use Rattle.pr_query.specs.Meaning.{meaning, ranges}
-use Rattle.pr_query.specs.Subqueries.{at_each, multiples}
+use Rattle.pr_range_calls.specs.pr_types.declared.counting.Counts.{Counts}
+use Rattle.pr_range_calls.specs.pr_types.Built.{tests_in, patterns_in}
+use Rattle.pr_range_calls.specs.pr_types.Numbers.{counts_in, exact_counts, ranges_in}
+use Rattle.pr_range_calls.proofs.TypesCountLemmas.{counts_exact, ranges_are_selectors}
+use Rattle.pr_range_calls.specs.pr_vectors.declared.range.RangeFn.{RangeFn}
+use Rattle.pr_range_calls.specs.pr_vectors.Ranges.{longest}
+use Rattle.pr_range_calls.specs.pr_query.declared.fault.Fault.{Fault}
+use Rattle.pr_range_calls.specs.pr_query.declared.fault.FaultKind.TheVariants as kind
+use Rattle.pr_range_calls.specs.pr_query.Answers.{fault, go_on}
+use Rattle.pr_range_calls.specs.pr_query.Cost.{cost, cost_at_each, nothing_passed}
+use Rattle.pr_range_calls.specs.pr_query.Given.{Ranged}
+use Rattle.pr_range_calls.specs.pr_query.Meaning.{meaning, ranges}
+use Rattle.pr_range_calls.specs.pr_query.Subqueries.{at_each, multiples}
 use Rattle.pr_range_calls.specs.declared.of_subquery.SubqueryRange.{SubqueryRange}
 use Rattle.pr_range_calls.specs.Taken.{ranged_of}
 use Rattle.pr_range_calls.specs.Times.{AreTimesWithin}
-use Rattle.pr_values.specs.declared.error.EvalError.{EvalError}
-use Rattle.pr_values.specs.declared.error.EvalError.TheVariants as error
+use Rattle.pr_range_calls.specs.pr_values.declared.error.EvalError.{EvalError}
+use Rattle.pr_range_calls.specs.pr_values.declared.error.EvalError.TheVariants as error
 use Rattle.pr_eval.specs.Each.{EachAt}
 use Rattle.pr_eval.specs.Evaluated.{IsEvaluated, KeptOfRanges, MayTake}
 use Rattle.pr_eval.specs.Looks.{KeepsFor}

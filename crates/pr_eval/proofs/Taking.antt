@@ -1,20 +1,20 @@
 -- Parts that are evaluated one after another: what is known after both.
 use Rattle.std.proofs.Common.{◌≡◌, ◌≢◌, ℕ, ◌+◌, ◌<◌, ◌≤◌, ◌⊎◌, inl, inr, max, Bool, true, cond, List, [], ◌++◌, length, Option, Result, Ok, Err, is_ok, sym, ap, subst, ◌∙◌, arith}
 use Rattle.pr_labels.specs.declared.pair.Pair.{Pair}
-use Rattle.pr_history.specs.declared.entry.Entry.{Entry}
-use Rattle.pr_head.specs.Stored.{Stored}
-use Rattle.pr_vectors.specs.declared.range.RangeFn.{RangeFn}
+use Rattle.pr_range_calls.specs.pr_history.declared.entry.Entry.{Entry}
+use Rattle.pr_range_calls.specs.pr_head.Stored.{Stored}
+use Rattle.pr_range_calls.specs.pr_vectors.declared.range.RangeFn.{RangeFn}
 use Rattle.pr_num.specs.declared.value.Num.{Num}
 use Rattle.pr_ast.specs.declared.place.Place.{Place}
 use Rattle.pr_ast.specs.declared.names.Func.TheVariants.{Timestamp}
 use Rattle.pr_ast.specs.declared.selector.Selector.{Selector}
 use Rattle.pr_ast.specs.Tree.{Tree, number, text, select, call, none, more}
-use Rattle.pr_query.specs.Selection.{chosen_by}
+use Rattle.pr_range_calls.specs.pr_query.Selection.{chosen_by}
 use Rattle.pr_ast.specs.Reach.{reads_back}
-use Rattle.pr_types.specs.Numbers.{ranges_in}
-use Rattle.pr_query.specs.Cost.{cost}
-use Rattle.pr_values.specs.declared.error.EvalError.{EvalError}
-use Rattle.pr_values.specs.declared.error.EvalError.TheVariants as error
+use Rattle.pr_range_calls.specs.pr_types.Numbers.{ranges_in}
+use Rattle.pr_range_calls.specs.pr_query.Cost.{cost}
+use Rattle.pr_range_calls.specs.pr_values.declared.error.EvalError.{EvalError}
+use Rattle.pr_range_calls.specs.pr_values.declared.error.EvalError.TheVariants as error
 use Rattle.pr_range_calls.specs.Asking.{series_number}
 use Rattle.pr_eval.specs.Asking.{Sought, asks_in}
 use Rattle.pr_eval.specs.Looks.{KeepsFor}

@@ -4,9 +4,9 @@ use Rattle.std.proofs.lemmas.Option.{slice_get_within}
 use Rattle.pr_labels.specs.declared.pair.Pair.{Pair}
 use Rattle.pr_labels.specs.declared.grouping.Grouping.{Grouping}
 use Rattle.pr_labels.specs.declared.matching.Matching.{Matching}
-use Rattle.pr_match.specs.Matcher.{LabelTest}
-use Rattle.pr_history.specs.declared.entry.Entry.{Entry}
-use Rattle.pr_head.specs.Stored.{Stored}
+use Rattle.pr_range_calls.specs.pr_match.Matcher.{LabelTest}
+use Rattle.pr_range_calls.specs.pr_history.declared.entry.Entry.{Entry}
+use Rattle.pr_range_calls.specs.pr_head.Stored.{Stored}
 use Rattle.pr_ast.specs.declared.place.Place.{Place}
 use Rattle.pr_labels.specs.Names.{is_label_name}
 use Rattle.pr_ast.specs.declared.names.AggOp.{AggOp}
@@ -20,24 +20,24 @@ use Rattle.pr_labels.proofs.LabelOrder.{both}
 use Rattle.pr_ast.specs.Tree.{Tree, number, text, select, range, sub, neg, binary, call, aggregate, none, more}
 use Rattle.pr_ast.specs.Reach.{reads_back}
 use Rattle.pr_ast.specs.Steps.{has_steps}
-use Rattle.pr_types.specs.declared.counting.Counts.{Counts}
-use Rattle.pr_types.specs.declared.kind.ValueType.{ValueType}
-use Rattle.pr_types.specs.declared.kind.ValueType.TheVariants.{Scalar, Vector, Range, Text}
-use Rattle.pr_types.specs.Signatures.{agg_signature, is_type, wanted}
-use Rattle.pr_types.specs.Operations.{is_instant}
-use Rattle.pr_types.specs.Selectors.{tests_of}
-use Rattle.pr_types.specs.Built.{tests_in, patterns_in, own_patterns}
-use Rattle.pr_types.specs.Numbers.{ranges_in}
-use Rattle.pr_types.specs.Parts.{AreArguments, AreOperands, arguments}
-use Rattle.pr_types.specs.declared.kind.TypeFault.{TypeFault}
-use Rattle.pr_types.specs.Checking.{MayEvaluate}
-use Rattle.pr_types.specs.Typed.{checked, content_at, typed}
-use Rattle.pr_types.proofs.Whole.{checked_says}
-use Rattle.pr_types.proofs.Parts.{parts_of_aggregate, parts_of_binary, parts_of_neg, parts_of_sub, text_of_count}
-use Rattle.pr_types.proofs.CountLemmas.{ranges_are_selectors}
-use Rattle.pr_vectors.specs.declared.range.RangeFn.{RangeFn}
-use Rattle.pr_query.specs.Cost.{cost}
-use Rattle.pr_query.specs.Selection.{moment_of}
+use Rattle.pr_range_calls.specs.pr_types.declared.counting.Counts.{Counts}
+use Rattle.pr_range_calls.specs.pr_types.declared.kind.ValueType.{ValueType}
+use Rattle.pr_range_calls.specs.pr_types.declared.kind.ValueType.TheVariants.{Scalar, Vector, Range, Text}
+use Rattle.pr_range_calls.specs.pr_types.Signatures.{agg_signature, is_type, wanted}
+use Rattle.pr_range_calls.specs.pr_types.Operations.{is_instant}
+use Rattle.pr_range_calls.specs.pr_types.Selectors.{tests_of}
+use Rattle.pr_range_calls.specs.pr_types.Built.{tests_in, patterns_in, own_patterns}
+use Rattle.pr_range_calls.specs.pr_types.Numbers.{ranges_in}
+use Rattle.pr_range_calls.specs.pr_types.Parts.{AreArguments, AreOperands, arguments}
+use Rattle.pr_range_calls.specs.pr_types.declared.kind.TypeFault.{TypeFault}
+use Rattle.pr_range_calls.specs.pr_types.Checking.{MayEvaluate}
+use Rattle.pr_range_calls.specs.pr_types.Typed.{checked, content_at, typed}
+use Rattle.pr_range_calls.proofs.TypesWhole.{checked_says}
+use Rattle.pr_range_calls.proofs.TypesParts.{parts_of_aggregate, parts_of_binary, parts_of_neg, parts_of_sub, text_of_count}
+use Rattle.pr_range_calls.proofs.TypesCountLemmas.{ranges_are_selectors}
+use Rattle.pr_range_calls.specs.pr_vectors.declared.range.RangeFn.{RangeFn}
+use Rattle.pr_range_calls.specs.pr_query.Cost.{cost}
+use Rattle.pr_range_calls.specs.pr_query.Selection.{moment_of}
 use Rattle.pr_eval.specs.Asking.{asked_for, takes_range}
 use Rattle.pr_eval.specs.Looks.{KeepsAt, KeepsFor}
 use Rattle.pr_eval.specs.Parts.{AreTwo, IsValued, IsOne, IsPartAt, PatternsAt, StandAt, counts_after, with_patterns}

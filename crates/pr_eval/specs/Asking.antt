@@ -1,14 +1,14 @@
 -- What an expression asks of ranges.
 use Rattle.std.specs.Prelude.{ℕ, ℤ, pos, ◌-ℤ◌, Bool, true, cond, List, [], ◌∷◌, ◌++◌, map, Option, Some, None, is_some, unwrap_or}
 use Rattle.pr_labels.specs.declared.pair.Pair.{Pair}
-use Rattle.pr_history.specs.declared.entry.Entry.{Entry}
+use Rattle.pr_range_calls.specs.pr_history.declared.entry.Entry.{Entry}
 use Rattle.pr_ast.specs.declared.names.Func.{Func}
 use Rattle.pr_ast.specs.declared.names.Func.TheVariants.{AbsentOverTime, Rate, Increase, Delta, Irate, Idelta, Deriv, PredictLinear, Changes, Resets, SumOverTime, AvgOverTime, MinOverTime, MaxOverTime, CountOverTime, LastOverTime, PresentOverTime, QuantileOverTime}
 use Rattle.pr_ast.specs.Tree.{Tree, number, text, select, range, sub, neg, binary, call, aggregate, none, more}
-use Rattle.pr_vectors.specs.declared.range.RangeFn.{RangeFn}
-use Rattle.pr_vectors.specs.declared.range.RangeFn.TheVariants as asked
-use Rattle.pr_query.specs.Selection.{chosen_by, moment_of}
-use Rattle.pr_range.specs.Asks.{LastAsk}
+use Rattle.pr_range_calls.specs.pr_vectors.declared.range.RangeFn.{RangeFn}
+use Rattle.pr_range_calls.specs.pr_vectors.declared.range.RangeFn.TheVariants as asked
+use Rattle.pr_range_calls.specs.pr_query.Selection.{chosen_by, moment_of}
+use Rattle.pr_range_calls.specs.pr_range.Asks.{LastAsk}
 use Rattle.pr_range_calls.specs.Asking.{series_number}
 
 -- The function that a call asks ranges for, where it takes one; `absent_over_time` asks whether

@@ -1,17 +1,17 @@
 -- Which expressions may be evaluated, and what is known of ranges and reads after it.
 use Rattle.std.specs.Prelude.{◌≡◌, ◌≢◌, ℕ, ◌+◌, ◌<◌, ◌≤◌, ◌≤ℤ◌, ◌⊎◌, ◌&&◌, Bool, true, false, cond, List, length, take, Option, Some, None, Result, Err, is_ok}
 use Rattle.pr_labels.specs.declared.pair.Pair.{Pair}
-use Rattle.pr_history.specs.declared.entry.Entry.{Entry}
-use Rattle.pr_history.specs.Lookback.{entries_until}
-use Rattle.pr_head.specs.Stored.{Stored}
-use Rattle.pr_head.specs.Holds.{arrivals, labels_at}
+use Rattle.pr_range_calls.specs.pr_history.declared.entry.Entry.{Entry}
+use Rattle.pr_range_calls.specs.pr_history.Lookback.{entries_until}
+use Rattle.pr_range_calls.specs.pr_head.Stored.{Stored}
+use Rattle.pr_range_calls.specs.pr_head.Holds.{arrivals, labels_at}
 use Rattle.pr_ast.specs.Tree.{Tree}
-use Rattle.pr_range.specs.Asks.{LastAsk, LastAsks, Passed}
-use Rattle.pr_query.specs.Cost.{PassedFor, cost}
-use Rattle.pr_values.specs.declared.error.EvalError.{EvalError}
-use Rattle.pr_values.specs.declared.error.EvalError.TheVariants.{Memory}
-use Rattle.pr_vectors.specs.declared.range.RangeFn.{RangeFn}
-use Rattle.pr_vectors.specs.declared.range.RangeFn.TheVariants.{PresentOverTime}
+use Rattle.pr_range_calls.specs.pr_range.Asks.{LastAsk, LastAsks, Passed}
+use Rattle.pr_range_calls.specs.pr_query.Cost.{PassedFor, cost}
+use Rattle.pr_range_calls.specs.pr_values.declared.error.EvalError.{EvalError}
+use Rattle.pr_range_calls.specs.pr_values.declared.error.EvalError.TheVariants.{Memory}
+use Rattle.pr_range_calls.specs.pr_vectors.declared.range.RangeFn.{RangeFn}
+use Rattle.pr_range_calls.specs.pr_vectors.declared.range.RangeFn.TheVariants.{PresentOverTime}
 use Rattle.pr_range_calls.specs.Asking.{is_number_among, series_number}
 use Rattle.pr_eval.specs.Asking.{Sought, asks_in}
 use Rattle.pr_eval.specs.Each.{EachAt}

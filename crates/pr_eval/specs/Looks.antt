@@ -1,11 +1,11 @@
 -- Of which histories a head can tell what an expression gives.
 use Rattle.std.specs.Prelude.{ℕ, ℤ, pos, ◌-ℤ◌, ◌≤ℤ◌, List}
 use Rattle.pr_labels.specs.declared.pair.Pair.{Pair}
-use Rattle.pr_history.specs.declared.entry.Entry.{Entry}
-use Rattle.pr_history.specs.Admission.{IsLawful}
-use Rattle.pr_head.specs.Stored.{Stored}
-use Rattle.pr_head.specs.Holds.{Holds, IsWhole}
-use Rattle.pr_head.specs.Reads.{IsPast}
+use Rattle.pr_range_calls.specs.pr_history.declared.entry.Entry.{Entry}
+use Rattle.pr_range_calls.specs.pr_history.Admission.{IsLawful}
+use Rattle.pr_range_calls.specs.pr_head.Stored.{Stored}
+use Rattle.pr_range_calls.specs.pr_head.Holds.{Holds, IsWhole}
+use Rattle.pr_range_calls.specs.pr_head.Reads.{IsPast}
 use Rattle.pr_ast.specs.Tree.{Tree}
 use Rattle.pr_ast.specs.Reach.{reads_back}
 

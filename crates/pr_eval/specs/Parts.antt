@@ -1,19 +1,19 @@
 -- What is known of a part of an expression, and how a tree is made of its parts.
 use Rattle.std.specs.Prelude.{◌≡◌, ℕ, ◌+◌, ◌≤◌, ◌&&◌, max, Bool, true, false, List, ◌++◌, length, slice_get, Some, Ok}
-use Rattle.pr_match.specs.Matcher.{LabelTest}
-use Rattle.pr_history.specs.declared.entry.Entry.{Entry}
+use Rattle.pr_range_calls.specs.pr_match.Matcher.{LabelTest}
+use Rattle.pr_range_calls.specs.pr_history.declared.entry.Entry.{Entry}
 use Rattle.pr_ast.specs.Tree.{Tree}
 use Rattle.pr_ast.specs.Reach.{reads_back}
 use Rattle.pr_ast.specs.Steps.{has_steps}
-use Rattle.pr_types.specs.declared.kind.ValueType.{ValueType}
-use Rattle.pr_types.specs.declared.counting.Counts.{Counts}
-use Rattle.pr_types.specs.Built.{tests_in, patterns_in}
-use Rattle.pr_types.specs.Numbers.{ranges_in}
-use Rattle.pr_types.specs.declared.kind.ValueType.TheVariants.{Range}
-use Rattle.pr_types.specs.Signatures.{is_type}
-use Rattle.pr_types.specs.Typed.{typed}
-use Rattle.pr_vectors.specs.declared.range.RangeFn.{RangeFn}
-use Rattle.pr_query.specs.Cost.{PassedFor, cost}
+use Rattle.pr_range_calls.specs.pr_types.declared.kind.ValueType.{ValueType}
+use Rattle.pr_range_calls.specs.pr_types.declared.counting.Counts.{Counts}
+use Rattle.pr_range_calls.specs.pr_types.Built.{tests_in, patterns_in}
+use Rattle.pr_range_calls.specs.pr_types.Numbers.{ranges_in}
+use Rattle.pr_range_calls.specs.pr_types.declared.kind.ValueType.TheVariants.{Range}
+use Rattle.pr_range_calls.specs.pr_types.Signatures.{is_type}
+use Rattle.pr_range_calls.specs.pr_types.Typed.{typed}
+use Rattle.pr_range_calls.specs.pr_vectors.declared.range.RangeFn.{RangeFn}
+use Rattle.pr_range_calls.specs.pr_query.Cost.{PassedFor, cost}
 use Rattle.pr_eval.specs.Each.{EachAt}
 use Rattle.pr_eval.specs.Asking.{asks_in}
 

@@ -6,21 +6,21 @@ use Rattle.pr_ast.specs.declared.place.Place.{Place}
 use Rattle.pr_ast.specs.declared.names.Func.{Func}
 use Rattle.pr_ast.specs.declared.names.Func.TheVariants.{AbsentOverTime, PredictLinear, QuantileOverTime}
 use Rattle.pr_ast.specs.Tree.{Tree, none, more, tree_of}
-use Rattle.pr_types.specs.declared.kind.ValueType.TheVariants.{Range, Scalar}
-use Rattle.pr_types.specs.Typed.{typed}
-use Rattle.pr_vectors.specs.declared.range.RangeFn.TheVariants.{PresentOverTime as Present, PredictLinear as Predict, QuantileOverTime as Quantile}
-use Rattle.pr_query.specs.declared.fault.Fault.{Fault}
-use Rattle.pr_query.specs.declared.value.Value.{Value}
-use Rattle.pr_query.specs.declared.value.Value.TheVariants.{Vector}
-use Rattle.pr_query.specs.Absence.{absent_of, labels_of_argument}
-use Rattle.pr_query.specs.Answers.{fault, go_on}
-use Rattle.pr_query.specs.Calls.{vector_at}
-use Rattle.pr_query.specs.Given.{Ranged, scalar_in}
-use Rattle.pr_query.specs.RangeCalls.{answers_over, over_given, question}
-use Rattle.pr_query.specs.Subqueries.{Taken}
-use Rattle.pr_range.specs.Asks.{takes_argument}
-use Rattle.pr_values.specs.declared.error.EvalError.{EvalError}
-use Rattle.pr_values.specs.declared.error.EvalError.TheVariants as error
+use Rattle.pr_range_calls.specs.pr_types.declared.kind.ValueType.TheVariants.{Range, Scalar}
+use Rattle.pr_range_calls.specs.pr_types.Typed.{typed}
+use Rattle.pr_range_calls.specs.pr_vectors.declared.range.RangeFn.TheVariants.{PresentOverTime as Present, PredictLinear as Predict, QuantileOverTime as Quantile}
+use Rattle.pr_range_calls.specs.pr_query.declared.fault.Fault.{Fault}
+use Rattle.pr_range_calls.specs.pr_query.declared.value.Value.{Value}
+use Rattle.pr_range_calls.specs.pr_query.declared.value.Value.TheVariants.{Vector}
+use Rattle.pr_range_calls.specs.pr_query.Absence.{absent_of, labels_of_argument}
+use Rattle.pr_range_calls.specs.pr_query.Answers.{fault, go_on}
+use Rattle.pr_range_calls.specs.pr_query.Calls.{vector_at}
+use Rattle.pr_range_calls.specs.pr_query.Given.{Ranged, scalar_in}
+use Rattle.pr_range_calls.specs.pr_query.RangeCalls.{answers_over, over_given, question}
+use Rattle.pr_range_calls.specs.pr_query.Subqueries.{Taken}
+use Rattle.pr_range_calls.specs.pr_range.Asks.{takes_argument}
+use Rattle.pr_range_calls.specs.pr_values.declared.error.EvalError.{EvalError}
+use Rattle.pr_range_calls.specs.pr_values.declared.error.EvalError.TheVariants as error
 use Rattle.pr_range_calls.specs.declared.call.RangeCall.{RangeCall}
 use Rattle.pr_range_calls.specs.Asking.{presence}
 use Rattle.pr_range_calls.specs.Taken.{AreTaken, ranged_of}

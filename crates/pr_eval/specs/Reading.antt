@@ -4,10 +4,10 @@ use Rattle.std.specs.List.{filter_map}
 use Rattle.std.specs.Option.{option_map}
 use Rattle.pr_labels.specs.declared.pair.Pair.{Pair}
 use Rattle.pr_labels.specs.declared.item.Item.{Item}
-use Rattle.pr_history.specs.declared.spot.Spot.{Spot}
-use Rattle.pr_head.specs.Stored.{Stored, newest_at}
-use Rattle.pr_head.specs.Reads.{spot_shown}
-use Rattle.pr_query.specs.Selection.{shown_as}
+use Rattle.pr_range_calls.specs.pr_history.declared.spot.Spot.{Spot}
+use Rattle.pr_range_calls.specs.pr_head.Stored.{Stored, newest_at}
+use Rattle.pr_range_calls.specs.pr_head.Reads.{spot_shown}
+use Rattle.pr_range_calls.specs.pr_query.Selection.{shown_as}
 use Rattle.pr_range_calls.specs.Choosing.{labels_of_series}
 
 -- what a series shows at a moment, by its newest sample until then

@@ -2,18 +2,18 @@
 use Rattle.std.specs.Prelude.{◌≡◌, ◌≢◌, ◌≤◌, ◌+◌, ℕ, pos, ◌-ℤ◌, List, slice_get, Some, Result, Ok, Err}
 use Rattle.std.specs.BTreeMap.{BTreeMap}
 use Rattle.pr_labels.specs.declared.pair.Pair.{Pair}
-use Rattle.pr_history.specs.declared.entry.Entry.{Entry}
-use Rattle.pr_history.specs.declared.spot.Spot.{Spot}
-use Rattle.pr_head.specs.Stored.{Stored}
+use Rattle.pr_range_calls.specs.pr_history.declared.entry.Entry.{Entry}
+use Rattle.pr_range_calls.specs.pr_history.declared.spot.Spot.{Spot}
+use Rattle.pr_range_calls.specs.pr_head.Stored.{Stored}
 use Rattle.pr_ast.specs.declared.place.Place.{Place}
 use Rattle.pr_ast.specs.Tree.{Tree}
-use Rattle.pr_query.specs.declared.fault.Fault.{Fault}
-use Rattle.pr_query.specs.Answers.{fault}
-use Rattle.pr_query.specs.Subqueries.{Taken}
+use Rattle.pr_range_calls.specs.pr_query.declared.fault.Fault.{Fault}
+use Rattle.pr_range_calls.specs.pr_query.Answers.{fault}
+use Rattle.pr_range_calls.specs.pr_query.Subqueries.{Taken}
 use Rattle.pr_range_calls.specs.declared.of_subquery.SubqueryRange.{SubqueryRange}
 use Rattle.pr_range_calls.specs.Taken.{AreTaken}
-use Rattle.pr_values.specs.declared.error.EvalError.{EvalError}
-use Rattle.pr_values.specs.declared.error.EvalError.TheVariants as error
+use Rattle.pr_range_calls.specs.pr_values.declared.error.EvalError.{EvalError}
+use Rattle.pr_range_calls.specs.pr_values.declared.error.EvalError.TheVariants as error
 use Rattle.pr_eval.specs.Evaluated.{IsSame, KeptOfRanges}
 use Rattle.pr_eval.specs.Looks.{KeepsFor}
 

@@ -1,15 +1,15 @@
 // Aggregations, by the values of their arguments.
 ghost use Rattle.std.specs.Prelude.{◌≡◌, ◌≢◌, ◌++◌, ◌∷◌, ◌<◌, ◌^◌, [], List, true, IfOk, OnOk, None, length};
 ghost use Rattle.pr_labels.specs.Names.{is_label_name};
-ghost use Rattle.pr_history.specs.declared.entry.Entry.{Entry};
+ghost use Rattle.pr_range_calls.specs.pr_history.declared.entry.Entry.{Entry};
 ghost use Rattle.pr_ast.specs.Tree.{Tree, aggregate, more, none, tree_of};
-ghost use Rattle.pr_types.specs.Built.{patterns_in, tests_in};
-ghost use Rattle.pr_types.specs.Typed.{content, content_at};
-ghost use Rattle.pr_vectors.specs.declared.range.RangeFn.{RangeFn};
-ghost use Rattle.pr_query.specs.Answers.{IsAnswer};
-ghost use Rattle.pr_query.specs.Aggregations.{summed_up};
-ghost use Rattle.pr_query.specs.Meaning.{given, meaning};
-ghost use Rattle.pr_values.specs.Answers.{AnswersTo};
+ghost use Rattle.pr_range_calls.specs.pr_types.Built.{patterns_in, tests_in};
+ghost use Rattle.pr_range_calls.specs.pr_types.Typed.{content, content_at};
+ghost use Rattle.pr_range_calls.specs.pr_vectors.declared.range.RangeFn.{RangeFn};
+ghost use Rattle.pr_range_calls.specs.pr_query.Answers.{IsAnswer};
+ghost use Rattle.pr_range_calls.specs.pr_query.Aggregations.{summed_up};
+ghost use Rattle.pr_range_calls.specs.pr_query.Meaning.{given, meaning};
+ghost use Rattle.pr_range_calls.specs.pr_values.Answers.{AnswersTo};
 ghost use Rattle.pr_eval.specs.Evaluated.{IsEvaluated, MayTake, kept_by};
 ghost use Rattle.pr_eval.specs.Parts.{IsPartAt, IsValued, counts_after};
 
@@ -18,10 +18,10 @@ use crate::parts::{is_aggregate, is_aggregate_by, stands_at};
 use crate::scope::Scope;
 use pr_ast::{AggOp, Expr, Place};
 use pr_labels::Grouping;
-use pr_query::Value;
-use pr_range::Ranges;
-use pr_types::{Counts, content};
-use pr_values::{EvalError, aggregated};
+use pr_range_calls::query_crate::Value;
+use pr_range_calls::range::Ranges;
+use pr_range_calls::types::{Counts, content};
+use pr_range_calls::values::{EvalError, aggregated};
 use pr_words::Steps;
 use std::alloc::{AllocError, Global};
 use std::sync::ledger::Ledger;

@@ -13,5 +13,6 @@ mod selected;
 mod subquery;
 
 pub use evaluate::eval;
-pub use pr_query::{FaultKind, Value};
-pub use pr_values::EvalError;
+pub use pr_range_calls::query_crate::{FaultKind, Value};
+pub use pr_range_calls::values::EvalError;
+pub use pr_range_calls::{head as head, range as range};

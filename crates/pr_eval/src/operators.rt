@@ -1,12 +1,12 @@
 // Signs and operations.
 ghost use Rattle.std.specs.Prelude.{◌≡◌, ◌<◌, ◌^◌, List, IfOk, OnOk, length};
-ghost use Rattle.pr_history.specs.declared.entry.Entry.{Entry};
+ghost use Rattle.pr_range_calls.specs.pr_history.declared.entry.Entry.{Entry};
 ghost use Rattle.pr_ast.specs.Tree.{binary, neg, tree_of};
-ghost use Rattle.pr_types.specs.Built.{patterns_in, tests_in};
-ghost use Rattle.pr_vectors.specs.declared.range.RangeFn.{RangeFn};
-ghost use Rattle.pr_query.specs.Answers.{IsAnswer};
-ghost use Rattle.pr_query.specs.Meaning.{meaning};
-ghost use Rattle.pr_values.specs.Answers.{AnswersTo};
+ghost use Rattle.pr_range_calls.specs.pr_types.Built.{patterns_in, tests_in};
+ghost use Rattle.pr_range_calls.specs.pr_vectors.declared.range.RangeFn.{RangeFn};
+ghost use Rattle.pr_range_calls.specs.pr_query.Answers.{IsAnswer};
+ghost use Rattle.pr_range_calls.specs.pr_query.Meaning.{meaning};
+ghost use Rattle.pr_range_calls.specs.pr_values.Answers.{AnswersTo};
 ghost use Rattle.pr_eval.specs.Evaluated.{IsEvaluated, MayTake, kept_by};
 ghost use Rattle.pr_eval.specs.Parts.{IsPartAt, IsValued, counts_after};
 
@@ -15,10 +15,10 @@ use crate::parts::{is_binary, is_neg, stands_at};
 use crate::scope::Scope;
 use pr_ast::{BinOp, Expr};
 use pr_labels::Matching;
-use pr_query::Value;
-use pr_range::Ranges;
-use pr_types::Counts;
-use pr_values::{EvalError, negated_value, operated};
+use pr_range_calls::query_crate::Value;
+use pr_range_calls::range::Ranges;
+use pr_range_calls::types::Counts;
+use pr_range_calls::values::{EvalError, negated_value, operated};
 use pr_words::Steps;
 use std::sync::ledger::Ledger;
 

@@ -1,28 +1,28 @@
 // What is known of an expression by its parts, said for the proofs: functions that do nothing.
 ghost use Rattle.std.specs.Prelude.{◌≡◌, ◌≢◌, ℕ, ◌+◌, ◌<◌, true, false, [], List, Some, Ok, length, slice_get};
 ghost use Rattle.pr_labels.specs.declared.pair.Pair.{Pair};
-ghost use Rattle.pr_history.specs.declared.entry.Entry.{Entry};
-ghost use Rattle.pr_head.specs.Stored.{Stored};
+ghost use Rattle.pr_range_calls.specs.pr_history.declared.entry.Entry.{Entry};
+ghost use Rattle.pr_range_calls.specs.pr_head.Stored.{Stored};
 ghost use Rattle.pr_labels.specs.Names.{is_label_name};
 ghost use Rattle.pr_ast.specs.declared.names.AggOp.TheVariants.{CountValues};
 ghost use Rattle.pr_ast.specs.Tree.{Tree, aggregate, binary, call, more, neg, none, number, range as range_tree, select, sub, text, tree_of, trees_of};
-ghost use Rattle.pr_types.specs.declared.counting.Counts.{Counts};
-ghost use Rattle.pr_types.specs.declared.kind.ValueType.TheVariants.{Range};
-ghost use Rattle.pr_types.specs.Built.{own_patterns, patterns_in, tests_in};
-ghost use Rattle.pr_types.specs.Selectors.{tests_of};
-ghost use Rattle.pr_types.specs.Typed.{content, content_at, typed};
-ghost use Rattle.pr_values.specs.Calls.{is_plain_call};
+ghost use Rattle.pr_range_calls.specs.pr_types.declared.counting.Counts.{Counts};
+ghost use Rattle.pr_range_calls.specs.pr_types.declared.kind.ValueType.TheVariants.{Range};
+ghost use Rattle.pr_range_calls.specs.pr_types.Built.{own_patterns, patterns_in, tests_in};
+ghost use Rattle.pr_range_calls.specs.pr_types.Selectors.{tests_of};
+ghost use Rattle.pr_range_calls.specs.pr_types.Typed.{content, content_at, typed};
+ghost use Rattle.pr_range_calls.specs.pr_values.Calls.{is_plain_call};
 ghost use Rattle.pr_eval.specs.Asking.{asked_for, takes_range};
-ghost use Rattle.pr_query.specs.Selection.{moment_of};
+ghost use Rattle.pr_range_calls.specs.pr_query.Selection.{moment_of};
 ghost use Rattle.pr_eval.specs.Looks.{KeepsAt, KeepsFor};
 ghost use Rattle.pr_eval.specs.Parts.{AreTwo, IsOne, IsPartAt, IsValued, counts_after, with_patterns};
 ghost use Rattle.pr_eval.specs.Sizes.{is_range_node, node_count};
 
+use pr_ast::time::Span;
 use pr_ast::{AggOp, BinOp, Expr, Func, Place, Selector};
 use pr_labels::{Grouping, Matching};
 use pr_num::Num;
-use pr_time::Span;
-use pr_types::{Checked, Counts};
+use pr_range_calls::types::{Checked, Counts};
 use pr_words::Text;
 
 pub(crate) fn is_number(e: &Expr, value: Num)

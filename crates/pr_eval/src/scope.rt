@@ -1,6 +1,6 @@
-use pr_head::Head;
-use pr_time::{Ms, Span};
-use pr_types::Checked;
+use pr_ast::time::{Ms, Span};
+use pr_range_calls::head::Head;
+use pr_range_calls::types::Checked;
 use std::alloc::Global;
 
 /// What an expression is evaluated over, and when, and whether inside a subquery.

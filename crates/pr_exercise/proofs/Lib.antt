@@ -1,1 +1,2 @@
 mod Computing
+pub use Rattle.pr_text.proofs.WorldSteps

@@ -3,14 +3,14 @@ use Rattle.std.specs.Prelude.{ℕ, Bool, ◌&&◌, List, [], ◌∷◌, ◌++◌
 use Rattle.std.specs.Str.{bytes_eq}
 use Rattle.pr_words.specs.Fields.{first_field, after_field}
 use Rattle.pr_words.specs.Lines.{lines_of}
-use Rattle.pr_history.specs.declared.entry.Entry.{Entry}
+use Rattle.pr_text.specs.pr_history.declared.entry.Entry.{Entry}
 use Rattle.pr_text.specs.Printed.{shown_report}
-use Rattle.pr_world.specs.declared.event.Event.{Event}
-use Rattle.pr_world.specs.declared.report.Report.{Report}
-use Rattle.pr_world.specs.declared.report.Report.TheVariants.{Opened}
-use Rattle.pr_rules.specs.Settings.{of_a_run}
-use Rattle.pr_world.specs.Step.{next, rows_of}
-use Rattle.pr_world.specs.World.{World, start}
+use Rattle.pr_text.specs.pr_world.declared.event.Event.{Event}
+use Rattle.pr_text.specs.pr_world.declared.report.Report.{Report}
+use Rattle.pr_text.specs.pr_world.declared.report.Report.TheVariants.{Opened}
+use Rattle.pr_text.specs.pr_rules.Settings.{of_a_run}
+use Rattle.pr_text.specs.pr_world.Step.{next, rows_of}
+use Rattle.pr_text.specs.pr_world.World.{World, start}
 use Rattle.pr_exercise.specs.Exercise.{exercise_events}
 
 -- the lines of a report

@@ -6,3 +6,4 @@ pub mod Meaning
 pub mod Ended
 pub mod Opening
 pub mod Over
+pub use Rattle.pr_run.proofs.ExpressionExamples as RunExpressionExamples

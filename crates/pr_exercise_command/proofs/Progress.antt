@@ -4,13 +4,13 @@ use Rattle.std.proofs.Math.Seq.{take-append_seam}
 use Rattle.std.proofs.lemmas.List.{take-append-le}
 use Rattle.pr_history.specs.declared.entry.Entry.{Entry}
 use Rattle.pr_outside.specs.Meant.{Store}
-use Rattle.pr_rules.specs.Settings.{of_a_run}
-use Rattle.pr_world.proofs.Steps.{history_is_rows}
-use Rattle.pr_world.specs.Step.{next, rows_of, world_after}
-use Rattle.pr_world.specs.World.{World, start}
-use Rattle.pr_world.specs.declared.event.Event.{Event}
-use Rattle.pr_world.specs.declared.report.Report.{Report}
-use Rattle.pr_world.specs.declared.report.Report.TheVariants.{Opened}
+use Rattle.pr_exercise.specs.pr_rules.Settings.{of_a_run}
+use Rattle.pr_exercise.proofs.WorldSteps.{history_is_rows}
+use Rattle.pr_exercise.specs.pr_world.Step.{next, rows_of, world_after}
+use Rattle.pr_exercise.specs.pr_world.World.{World, start}
+use Rattle.pr_exercise.specs.pr_world.declared.event.Event.{Event}
+use Rattle.pr_exercise.specs.pr_world.declared.report.Report.{Report}
+use Rattle.pr_exercise.specs.pr_world.declared.report.Report.TheVariants.{Opened}
 use Rattle.pr_exercise.specs.Summary.{lines_after, lines_told, report_lines}
 use Rattle.pr_status.specs.declared.status.Stop.{Stop}
 use Rattle.pr_run.specs.Keeping.{TellsOf}

@@ -6,9 +6,9 @@ use Rattle.std.specs.List.{IsDistinct}
 use Rattle.pr_labels.specs.declared.pair.Pair.{Pair}
 use Rattle.pr_labels.specs.Edits.{labels_of}
 use Rattle.pr_labels.specs.LabelSet.{pair_of}
-use Rattle.pr_world.specs.declared.event.Event.{Event}
-use Rattle.pr_world.specs.declared.event.Event.TheVariants.{Scrape, Fail, Restart}
-use Rattle.pr_world.specs.Step.{HasDistinctFiles}
+use Rattle.pr_exercise.specs.pr_world.declared.event.Event.{Event}
+use Rattle.pr_exercise.specs.pr_world.declared.event.Event.TheVariants.{Scrape, Fail, Restart}
+use Rattle.pr_exercise.specs.pr_world.Step.{HasDistinctFiles}
 use Rattle.pr_exercise.specs.Exercise.{count_after, divides, drawn, eval_at, exercise_events, next_number, opening, reload_at, target, targets_from, turn_at, turn_events, turns_from}
 use Rattle.pr_exercise_command.specs.Turns.{AreWithin, HaveDistinctFiles}
 

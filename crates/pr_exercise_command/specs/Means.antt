@@ -3,10 +3,10 @@ use Rattle.std.specs.Prelude.{◌≡◌, ◌≢◌, ℕ, ◌<◌, ◌≤◌, Lis
 use Rattle.std.specs.Io.KnownBytes.{Appends}
 use Rattle.pr_history.specs.declared.entry.Entry.{Entry}
 use Rattle.pr_outside.specs.declared.keeping.Row.{Row}
-use Rattle.pr_row.specs.Histories.{history_of}
-use Rattle.pr_rules.specs.Settings.{of_a_run}
-use Rattle.pr_world.specs.Step.{rows_of}
-use Rattle.pr_world.specs.World.{start}
+use Rattle.pr_exercise.specs.pr_row.Histories.{history_of}
+use Rattle.pr_exercise.specs.pr_rules.Settings.{of_a_run}
+use Rattle.pr_exercise.specs.pr_world.Step.{rows_of}
+use Rattle.pr_exercise.specs.pr_world.World.{start}
 use Rattle.pr_exercise.specs.Exercise.{exercise_events}
 use Rattle.pr_exercise.specs.Summary.{exercise_rows, summary}
 use Rattle.pr_status.specs.Ends.{Ends, place_of, stop_status}

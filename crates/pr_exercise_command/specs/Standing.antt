@@ -3,10 +3,10 @@ use Rattle.std.specs.Prelude.{◌≡◌, ℕ, ◌≤◌, List, ◌++◌, length,
 use Rattle.pr_history.specs.declared.entry.Entry.{Entry}
 use Rattle.pr_outside.specs.Meant.{Store}
 use Rattle.pr_status.specs.declared.status.Stop.{Stop}
-use Rattle.pr_rules.specs.Settings.{of_a_run}
-use Rattle.pr_world.specs.Step.{rows_of, world_after}
-use Rattle.pr_world.specs.World.{World, start}
-use Rattle.pr_world.specs.declared.event.Event.{Event}
+use Rattle.pr_exercise.specs.pr_rules.Settings.{of_a_run}
+use Rattle.pr_exercise.specs.pr_world.Step.{rows_of, world_after}
+use Rattle.pr_exercise.specs.pr_world.World.{World, start}
+use Rattle.pr_exercise.specs.pr_world.declared.event.Event.{Event}
 use Rattle.pr_exercise.specs.Summary.{lines_told}
 use Rattle.pr_run.specs.Keeping.{TellsOf}
 use Rattle.pr_exercise_command.specs.Tallies.{tally_of}

@@ -2,8 +2,8 @@
 -- over.
 use Rattle.std.specs.Prelude.{ℕ, ◌*◌, ◌≤◌, List}
 use Rattle.std.specs.List.{AllByRecursion}
-use Rattle.pr_world.specs.Step.{HasDistinctFiles}
-use Rattle.pr_world.specs.declared.event.Event.{Event}
+use Rattle.pr_exercise.specs.pr_world.Step.{HasDistinctFiles}
+use Rattle.pr_exercise.specs.pr_world.declared.event.Event.{Event}
 
 -- each target counts less than a hundred requests a round
 abbrev pub AreWithin : ℕ → List ℕ → Type 0

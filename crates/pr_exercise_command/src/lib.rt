@@ -7,5 +7,6 @@ mod session;
 mod tally;
 mod targets;
 
+pub use pr_run as run;
 pub use rounds::Rounds;
 pub use running::exercise;

@@ -1,21 +1,21 @@
 // What keeps the world of an exercise, and the lines that a run would have written.
 ghost use Rattle.std.specs.Prelude.{◌≡◌, ◌++◌, ◌∷◌, [], List, IfOk, IsSome, OnOk};
 ghost use Rattle.pr_history.specs.declared.entry.Entry.{Entry};
-ghost use Rattle.pr_world.specs.Step.{HasDistinctFiles};
-ghost use Rattle.pr_world.specs.declared.event.Event.{Event};
+ghost use Rattle.pr_exercise.specs.pr_world.Step.{HasDistinctFiles};
+ghost use Rattle.pr_exercise.specs.pr_world.declared.event.Event.{Event};
 ghost use Rattle.pr_exercise.specs.Summary.{report_lines};
 ghost use Rattle.pr_run.specs.Events.{KeepEnds};
-ghost use Rattle.pr_world.specs.declared.report.Report.TheVariants.{Opened};
+ghost use Rattle.pr_exercise.specs.pr_world.declared.report.Report.TheVariants.{Opened};
 ghost use Rattle.pr_exercise_command.specs.Tallies.{counted_all, tally_of};
 ghost use Rattle.pr_exercise_command.specs.Turns.{HaveDistinctFiles};
 ghost use Rattle.pr_exercise_command.specs.Standing.{Comes, Stands};
 
 use crate::tally::Tally;
+use pr_exercise::text_crate::push_report;
+use pr_exercise::world::{Event, Report};
 use pr_outside::Keeper;
 use pr_run::Worlds;
 use pr_status::Stop;
-use pr_text::push_report;
-use pr_world::{Event, Report};
 use std::alloc::{AllocError, Global};
 
 /// What keeps the world, and what is counted of the lines that tell of it.

@@ -5,7 +5,7 @@ ghost use Rattle.pr_words.specs.Lines.{is_feed, lines_of};
 ghost use Rattle.pr_exercise.specs.Summary.{begins_with, number_line, tells_fault};
 ghost use Rattle.pr_exercise_command.specs.Tallies.{counted, counted_all, no_lines, summary_by};
 
-use pr_kinds::push_number;
+use pr_exercise::kinds::push_number;
 use pr_words::{line_len, split_first};
 use std::alloc::{AllocError, Global};
 

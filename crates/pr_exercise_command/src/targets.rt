@@ -3,10 +3,10 @@ ghost use Rattle.std.specs.Prelude.{◌≡◌, ◌++◌, ◌∷◌, ◌+◌, ◌
 ghost use Rattle.pr_exercise.specs.Exercise.{body_of, count_after, counted, divides, drawn, eval_at, exercise_file, exercise_name, next_number, opening, reload_at, target, target_event, targets_from, turn_at, turn_events};
 ghost use Rattle.pr_exercise_command.specs.Turns.{AreWithin};
 
+use pr_exercise::world::{Event, NamedFile};
 use pr_labels::{Labels, Pair};
 use pr_time::Ms;
 use pr_words::{Items, Text};
-use pr_world::{Event, NamedFile};
 use std::alloc::{AllocError, Global};
 
 const FILE: &[u8] =

@@ -1,8 +1,8 @@
 -- The alerts that fire, one after another.
 use Rattle.std.proofs.Common.{◌≡◌, Bool, true, false, cond, List, [], ◌∷◌, ◌++◌, filter, map, refl, ap, ◌∙◌, append_assoc}
-use Rattle.pr_lineage.specs.declared.found.Found.{Found}
-use Rattle.pr_lineage.specs.declared.record.Record.{Record}
-use Rattle.pr_lineage.specs.Records.{is_firing}
+use Rattle.pr_verdict.specs.pr_lineage.declared.found.Found.{Found}
+use Rattle.pr_verdict.specs.pr_lineage.declared.record.Record.{Record}
+use Rattle.pr_verdict.specs.pr_lineage.Records.{is_firing}
 use Rattle.pr_verdict.specs.Verdict.{found_of}
 
 firing_parts : (r : Record) (rs : List Record) → map found_of (filter (λ x. is_firing x.state) (r ∷ [])) ++ map found_of (filter (λ x. is_firing x.state) rs) ≡ map found_of (filter (λ x. is_firing x.state) (r ∷ rs))

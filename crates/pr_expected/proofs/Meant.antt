@@ -5,13 +5,13 @@ use Rattle.pr_labels.specs.declared.item.Item.{Item}
 use Rattle.pr_labels.specs.declared.pair.Pair.{Pair}
 use Rattle.pr_ast.specs.declared.place.Place.{Place}
 use Rattle.pr_ast.specs.Tree.{Tree}
-use Rattle.pr_history.specs.declared.entry.Entry.{Entry}
-use Rattle.pr_head.specs.Stored.{Stored}
-use Rattle.pr_query.specs.declared.fault.Fault.{Fault}
-use Rattle.pr_query.specs.declared.fault.FaultKind.{FaultKind}
-use Rattle.pr_query.specs.declared.value.Value.{Value}
-use Rattle.pr_query.specs.Answers.{fault}
-use Rattle.pr_rules.specs.Results.{value_elements}
+use Rattle.pr_verdict.specs.pr_history.declared.entry.Entry.{Entry}
+use Rattle.pr_eval.specs.pr_head.Stored.{Stored}
+use Rattle.pr_eval.specs.pr_query.declared.fault.Fault.{Fault}
+use Rattle.pr_eval.specs.pr_query.declared.fault.FaultKind.{FaultKind}
+use Rattle.pr_eval.specs.pr_query.declared.value.Value.{Value}
+use Rattle.pr_eval.specs.pr_query.Answers.{fault}
+use Rattle.pr_verdict.specs.pr_rules.Results.{value_elements}
 use Rattle.pr_eval.specs.Asking.{Sought}
 use Rattle.pr_eval.specs.Looks.{KeepsFor}
 use Rattle.pr_eval.specs.Evaluated.{AreReady, IsReadyFor, MayBegin, asks_of}

@@ -5,7 +5,7 @@ ghost use Rattle.pr_verdict.specs.Verdict.{alert_failure, failure};
 
 use crate::compare::are_same_founds;
 use crate::firing::copy_notes;
-use pr_lineage::Found;
+use pr_verdict::lineage::Found;
 use pr_verdict::{Failure, Shown};
 use pr_words::Items;
 use std::alloc::{AllocError, Global};

@@ -5,8 +5,8 @@ ghost use Rattle.pr_num.specs.Same.{same_num};
 ghost use Rattle.pr_verdict.specs.Verdict.{same_found, same_item};
 
 use pr_labels::Item;
-use pr_lineage::Found;
 use pr_num::Num;
+use pr_verdict::lineage::Found;
 
 // Whatever their values are.
 fn is_same_found(a: &Found, b: &Found) -> bool

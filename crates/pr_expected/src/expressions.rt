@@ -1,24 +1,24 @@
 // Checks of expressions.
 ghost use Rattle.std.specs.Prelude.{◌≡◌, ◌<◌, ◌∷◌, [], List, Result, IfOk};
-ghost use Rattle.pr_history.specs.declared.entry.Entry.{Entry};
+ghost use Rattle.pr_verdict.specs.pr_history.declared.entry.Entry.{Entry};
 ghost use Rattle.pr_ast.specs.Tree.{tree_of};
-ghost use Rattle.pr_query.specs.declared.fault.Fault.{Fault};
-ghost use Rattle.pr_query.specs.declared.value.Value.{Value};
-ghost use Rattle.pr_query.specs.Meaning.{meaning};
-ghost use Rattle.pr_rules.specs.Results.{value_elements};
-ghost use Rattle.pr_values.specs.Answers.{AnswersTo};
+ghost use Rattle.pr_eval.specs.pr_query.declared.fault.Fault.{Fault};
+ghost use Rattle.pr_eval.specs.pr_query.declared.value.Value.{Value};
+ghost use Rattle.pr_eval.specs.pr_query.Meaning.{meaning};
+ghost use Rattle.pr_verdict.specs.pr_rules.Results.{value_elements};
+ghost use Rattle.pr_eval.specs.pr_values.Answers.{AnswersTo};
 ghost use Rattle.pr_eval.specs.Looks.{KeepsFor};
 ghost use Rattle.pr_verdict.specs.declared.failure.Shown.TheVariants.{Samples};
 ghost use Rattle.pr_verdict.specs.Verdict.{expr_failure, failure, given_by, meets};
 
 use crate::compare::are_same_items;
+use pr_eval::head::Head;
+use pr_eval::range::PlainRanges;
 use pr_eval::{EvalError, Value, eval};
-use pr_head::Head;
 use pr_labels::{Item, Labels};
 use pr_num::Num;
-use pr_range::PlainRanges;
 use pr_time::{Ms, Span};
-use pr_types::Checked;
+use pr_verdict::types::Checked;
 use pr_verdict::{Failure, Shown};
 use pr_words::{Items, Steps};
 use std::alloc::{AllocError, Global};

@@ -1,10 +1,10 @@
 // The alerts of a rule that fire.
 ghost use Rattle.std.specs.Prelude.{◌≡◌, ◌++◌, ◌∷◌, [], OnOk, IfOk, filter, map};
-ghost use Rattle.pr_lineage.specs.Records.{is_firing};
+ghost use Rattle.pr_verdict.specs.pr_lineage.Records.{is_firing};
 ghost use Rattle.pr_verdict.specs.Verdict.{found_of};
 
 use pr_labels::{Pair, copy_pairs};
-use pr_lineage::{Found, Record, State};
+use pr_verdict::lineage::{Found, Record, State};
 use pr_words::Items;
 use std::alloc::{AllocError, Global};
 

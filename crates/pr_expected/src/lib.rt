@@ -9,3 +9,5 @@ mod firing;
 pub use alerts::alert_failure;
 pub use expressions::{expr_failure, given};
 pub use firing::push_firing;
+pub use pr_verdict as verdict;
+pub use pr_verdict::world as world;

@@ -3,7 +3,7 @@ use Rattle.std.proofs.Common.{◌≡◌, refl, sym, ap, ◌∙◌, ℕ, suc, ◌
 use Rattle.std.specs.Prelude.{◌==◌}
 use Prim.Native.Char.{code}
 use Rattle.std.specs.List.{slice_split, position_or_len, onto_first}
-use Rattle.pr_words.specs.Lines.{is_feed, without_return, ended, text_lines}
+use Rattle.pr_expo_line.specs.pr_words.Lines.{is_feed, without_return, ended, text_lines}
 use Rattle.pr_expo_line.specs.declared.place.Read.{Read}
 use Rattle.pr_expo_line.specs.declared.place.ExpoKind.{ExpoKind}
 use Rattle.pr_expo.specs.declared.exposition.ExpoError.{ExpoError}

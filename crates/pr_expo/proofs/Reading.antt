@@ -1,6 +1,6 @@
 -- Reading line after line.
 use Rattle.std.proofs.Common.{◌≡◌, refl, sym, ap, ◌∙◌, subst, ℕ, ◌+◌, ◌<◌, ◌≤◌, ◌^◌, true, List, [], ◌∷◌, ◌++◌, length, length-append, append-nil, Option, Some, None, IfSome, MatchOption, Bor, Ok, Err, arith, map}
-use Rattle.pr_words.specs.Lines.{text_lines}
+use Rattle.pr_expo_line.specs.pr_words.Lines.{text_lines}
 use Rattle.pr_expo_line.specs.declared.place.Read.{Read}
 use Rattle.pr_expo_line.specs.declared.place.Read.TheVariants.{Nothing}
 use Rattle.std.specs.Str.{chars}

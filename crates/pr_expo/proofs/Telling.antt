@@ -10,8 +10,8 @@ use Rattle.std.proofs.lemmas.List.Elements.{filter-append}
 use Rattle.std.proofs.lemmas.List.Folds.{list_any-append}
 use Rattle.std.proofs.lemmas.List.Sums.{fold-append}
 use Rattle.std.proofs.lemmas.Slice.Eq.{bytes_eq-Decides}
-use Rattle.pr_words.specs.Names.{is_among}
-use Rattle.pr_labels.proofs.LabelLaws.{alike}
+use Rattle.pr_expo_line.specs.pr_words.Names.{is_among}
+use Rattle.pr_expo_line.proofs.LabelsLabelLaws.{alike}
 use Rattle.pr_expo_line.specs.declared.place.FamilyKind.{FamilyKind}
 use Rattle.pr_expo_line.specs.declared.place.Measured.{Measured}
 use Rattle.pr_expo_line.specs.declared.place.Read.{Read}

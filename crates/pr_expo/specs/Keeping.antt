@@ -4,8 +4,8 @@ use Rattle.std.specs.Prelude.{◌≡◌, ℕ, ◌+◌, ◌<◌, ◌≤◌, ◌^�
 use Rattle.std.specs.Map.{lookup, keys_of}
 use Rattle.std.specs.Str.{bytes_eq}
 use Rattle.indexmap.specs.IndexMap.{insert_entry}
-use Rattle.pr_words.specs.Names.{is_among}
-use Rattle.pr_words.specs.Lines.{text_lines}
+use Rattle.pr_expo_line.specs.pr_words.Names.{is_among}
+use Rattle.pr_expo_line.specs.pr_words.Lines.{text_lines}
 use Rattle.pr_expo_line.specs.declared.place.FamilyKind.{FamilyKind}
 use Rattle.pr_expo_line.specs.declared.place.FamilyKind.TheVariants.{Untyped}
 use Rattle.pr_expo_line.specs.declared.place.Read.{Read}

@@ -1,6 +1,6 @@
 -- What the lines of an exposition read as, and the first that is bad.
 use Rattle.std.specs.Prelude.{ℕ, suc, Result, Ok, Err, List, [], ◌∷◌}
-use Rattle.pr_words.specs.Lines.{text_lines}
+use Rattle.pr_expo_line.specs.pr_words.Lines.{text_lines}
 use Rattle.pr_expo_line.specs.declared.place.ExpoKind.{ExpoKind}
 use Rattle.pr_expo_line.specs.declared.place.Read.{Read}
 use Rattle.pr_expo_line.specs.Line.{line_read}

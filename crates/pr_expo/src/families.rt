@@ -3,7 +3,7 @@ use crate::exposition::Family;
 use crate::known::{Known, nothing_known, with_sample};
 use indexmap::IndexMap;
 use pr_expo_line::FamilyKind;
-use pr_words::Text;
+use pr_expo_line::words_crate::Text;
 use std::alloc::{AllocError, Global};
 use std::marker::Model;
 

@@ -13,5 +13,6 @@ mod text;
 
 pub use complaints::lint;
 pub use exposition::{ExpoError, Exposition, Family, Line, LintKind, Problem};
+pub use pr_expo_line as expo_line;
 pub use pr_expo_line::{ExpoKind, FamilyKind};
 pub use reader::read;

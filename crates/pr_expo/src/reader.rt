@@ -10,8 +10,8 @@ use crate::families::Families;
 use crate::known::{with_help, with_type};
 use crate::sample::{labels_of, time_of, value_of};
 use crate::text::next_line;
+use pr_expo_line::words_crate::{Items, Text};
 use pr_expo_line::{FamilyKind, LineFault, Measured, Read, read_line};
-use pr_words::{Items, Text};
 use std::alloc::{AllocError, Global};
 
 // What is kept of the lines so far.

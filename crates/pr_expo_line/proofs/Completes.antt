@@ -10,8 +10,8 @@ use Rattle.std.proofs.lemmas.Slice.Eq.{bytes_eq-Decides, starts_is}
 use Rattle.std.proofs.lemmas.Str.{encode_ascii}
 use Rattle.pr_labels.specs.declared.pair.Pair.{Pair}
 use Rattle.pr_labels.specs.LabelSet.{metric_label}
-use Rattle.pr_words.specs.Fields.{is_field_byte}
-use Rattle.pr_words.specs.Bytes.{is_blank, is_label_byte}
+use Rattle.pr_labels.specs.pr_words.Fields.{is_field_byte}
+use Rattle.pr_labels.specs.pr_words.Bytes.{is_blank, is_label_byte}
 use Rattle.pr_expo_line.specs.declared.number.NumberPlace.{NumberPlace}
 use Rattle.pr_expo_line.specs.declared.number.NumberPlace.TheVariants as np
 use Rattle.pr_expo_line.specs.declared.place.Head.{Head}

@@ -12,8 +12,8 @@ use Rattle.pr_labels.specs.Edits.{fault_after}
 use Rattle.pr_labels.specs.LabelSet.{metric_label, pair_of}
 use Rattle.pr_labels.specs.Names.{is_metric_byte, is_metric_letter, is_metric_name}
 use Rattle.pr_num.specs.Forms.{IsNumberText}
-use Rattle.pr_words.specs.Fields.{is_field_byte}
-use Rattle.pr_words.specs.Bytes.{is_blank, is_label_byte, is_letter}
+use Rattle.pr_labels.specs.pr_words.Fields.{is_field_byte}
+use Rattle.pr_labels.specs.pr_words.Bytes.{is_blank, is_label_byte, is_letter}
 use Rattle.pr_expo_line.specs.Characters.{is_sign}
 use Rattle.pr_expo_line.specs.declared.number.NumberPlace.{NumberPlace}
 use Rattle.pr_expo_line.specs.declared.place.ExpoKind.{ExpoKind}

@@ -1,12 +1,12 @@
 -- One character ahead decides the grammar, and the way through a line is its run.
 use Rattle.std.proofs.Common.{◌≡◌, refl, sym, ap, ◌∙◌, subst, ℕ, ◌-◌, List, [], ◌∷◌, length, Bool, true, false, ◌||◌, Option, Some, None}
 use Rattle.std.specs.Prelude.{is_some}
-use Rattle.pr_forms.specs.Form.{either, chosen, rule, IsFirstBad}
-use Rattle.pr_forms.specs.Table.{empty_of, starts_of, more_of, parts_at, is_solid, Binds, IsDecided}
-use Rattle.pr_forms.specs.Run.{Runs, Outcome, good, bad, left_of, run_rule, run_left, run_right, run_chosen, run_chosen_bad, run_pair, run_second, run_token, run_other, run_end, run_nothing}
-use Rattle.pr_forms.proofs.Decided.{shrinks}
-use Rattle.pr_forms.proofs.Sound.{meets, reads}
-use Rattle.pr_forms.proofs.Places.{run_place, only_reading}
+use Rattle.pr_labels.specs.pr_forms.Form.{either, chosen, rule, IsFirstBad}
+use Rattle.pr_labels.specs.pr_forms.Table.{empty_of, starts_of, more_of, parts_at, is_solid, Binds, IsDecided}
+use Rattle.pr_labels.specs.pr_forms.Run.{Runs, Outcome, good, bad, left_of, run_rule, run_left, run_right, run_chosen, run_chosen_bad, run_pair, run_second, run_token, run_other, run_end, run_nothing}
+use Rattle.pr_labels.proofs.FormsDecided.{shrinks}
+use Rattle.pr_labels.proofs.FormsSound.{meets, reads}
+use Rattle.pr_labels.proofs.FormsPlaces.{run_place, only_reading}
 use Rattle.pr_expo_line.specs.declared.place.Place.{Place}
 use Rattle.pr_expo_line.specs.declared.place.Place.TheVariants.{Start}
 use Rattle.pr_expo_line.specs.declared.place.Read.{Read}

@@ -8,7 +8,7 @@ use Rattle.std.specs.Option.{option_or}
 use Rattle.std.specs.Str.{IsUtf8, bytes_eq, chars, str_to_ascii_lowercase}
 use Rattle.std.proofs.lemmas.Bool.Decides.{nat_tests}
 use Rattle.std.proofs.lemmas.Str.{encode_ascii}
-use Rattle.pr_words.specs.Bytes.{is_blank, is_label_byte, is_letter}
+use Rattle.pr_labels.specs.pr_words.Bytes.{is_blank, is_label_byte, is_letter}
 use Rattle.pr_labels.specs.declared.pair.Pair.{Pair}
 use Rattle.pr_labels.specs.declared.fault.LabelFault.TheVariants.{BadName, Twice}
 use Rattle.pr_labels.specs.LabelSet.{has_name, metric_label, pair_of}

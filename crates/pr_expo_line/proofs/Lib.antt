@@ -13,3 +13,4 @@ pub mod Completes
 pub mod Told
 pub mod FaultParts
 pub mod Faults
+pub use Rattle.pr_labels.proofs.LabelLaws as LabelsLabelLaws

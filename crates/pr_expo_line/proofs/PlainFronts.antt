@@ -6,7 +6,7 @@ use Rattle.std.specs.List.{list_all, position_or_len}
 use Rattle.std.specs.Str.{IsAscii, IsUtf8, chars}
 use Rattle.std.proofs.lemmas.List.{take-append-drop}
 use Rattle.std.proofs.lemmas.Str.{IsUtf8-drop, IsUtf8-from_ascii, chars-IsAscii, chars-append}
-use Rattle.pr_words.specs.Bytes.{is_label_byte, is_letter}
+use Rattle.pr_labels.specs.pr_words.Bytes.{is_label_byte, is_letter}
 use Rattle.pr_labels.specs.Names.{is_label_name, is_metric_byte, is_metric_letter, is_metric_name}
 use Rattle.pr_expo_line.specs.declared.place.Head.{Head}
 use Rattle.pr_expo_line.specs.declared.place.Place.{Place}

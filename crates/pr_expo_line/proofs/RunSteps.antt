@@ -10,7 +10,7 @@ use Rattle.std.proofs.lemmas.List.{take-append-drop}
 use Rattle.std.proofs.lemmas.List.Folds.{list_all-append}
 use Rattle.std.proofs.lemmas.List.Sums.{passes_at_first}
 use Rattle.std.proofs.lemmas.Str.{IsCharBoundary-end, IsCharBoundary-from_take, IsCharBoundary-start, IsUtf8-drop, IsUtf8-from_ascii, IsUtf8-take, chars-IsAscii, chars-append, chars-nil, encode_ascii, encodes-chars, length-encode, len_utf8_bounds}
-use Rattle.pr_words.specs.Bytes.{is_blank, is_label_byte}
+use Rattle.pr_labels.specs.pr_words.Bytes.{is_blank, is_label_byte}
 use Rattle.pr_labels.specs.Names.{is_metric_byte}
 use Rattle.pr_expo_line.specs.declared.number.NumberPlace.{NumberPlace}
 use Rattle.pr_expo_line.specs.declared.number.NumberPlace.TheVariants as np

@@ -10,7 +10,7 @@ use Rattle.std.specs.Str.{IsUtf8, bytes_eq, chars, is_utf8}
 use Rattle.std.proofs.lemmas.Bool.Decides.{nat_tests}
 use Rattle.std.proofs.lemmas.List.Folds.{list_all-append}
 use Rattle.std.proofs.lemmas.Str.{IsUtf8-from_is_utf8, encode_ascii}
-use Rattle.pr_words.specs.Bytes.{is_blank, is_label_byte, is_letter}
+use Rattle.pr_labels.specs.pr_words.Bytes.{is_blank, is_label_byte, is_letter}
 use Rattle.pr_labels.specs.declared.pair.Pair.{Pair}
 use Rattle.pr_labels.specs.LabelSet.{pair_of}
 use Rattle.pr_labels.specs.Names.{is_metric_byte, is_metric_letter, is_metric_name}

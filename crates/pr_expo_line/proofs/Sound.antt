@@ -13,7 +13,7 @@ use Rattle.std.specs.Option.{option_or}
 use Rattle.std.specs.Str.{bytes_eq, chars, is_utf8}
 use Rattle.std.proofs.lemmas.Bool.Decides.{nat_tests}
 use Rattle.std.proofs.lemmas.List.Folds.{list_all-append}
-use Rattle.pr_words.specs.Bytes.{is_blank, is_label_byte, is_letter}
+use Rattle.pr_labels.specs.pr_words.Bytes.{is_blank, is_label_byte, is_letter}
 use Rattle.pr_labels.specs.declared.pair.Pair.{Pair}
 use Rattle.pr_labels.specs.declared.fault.LabelFault.{LabelFault}
 use Rattle.pr_labels.specs.declared.fault.LabelFault.TheVariants.{BadName, Twice}

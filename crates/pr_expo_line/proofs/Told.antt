@@ -11,8 +11,8 @@ use Rattle.std.proofs.lemmas.List.Folds.{list_all-append}
 use Rattle.std.proofs.lemmas.Slice.Eq.{bytes_eq-Decides}
 use Rattle.std.proofs.lemmas.Str.{chars_from_encodes, encode_ascii, encodes-append}
 use Rattle.pr_labels.specs.Names.{is_metric_byte, is_metric_letter, is_metric_name}
-use Rattle.pr_words.specs.Fields.{is_field_byte}
-use Rattle.pr_words.specs.Bytes.{is_blank, is_label_byte, is_letter}
+use Rattle.pr_labels.specs.pr_words.Fields.{is_field_byte}
+use Rattle.pr_labels.specs.pr_words.Bytes.{is_blank, is_label_byte, is_letter}
 use Rattle.pr_expo_line.specs.Characters.{is_sign}
 use Rattle.pr_expo_line.specs.declared.number.NumberPlace.{NumberPlace}
 use Rattle.pr_expo_line.specs.declared.number.NumberPlace.TheVariants as np

@@ -5,7 +5,7 @@ use Rattle.std.specs.Str.{IsUtf8, chars}
 use Rattle.pr_labels.specs.declared.pair.Pair.{Pair}
 use Rattle.pr_labels.specs.Names.{is_label_name, is_metric_name}
 use Rattle.pr_num.specs.Forms.{IsNumberText}
-use Rattle.pr_words.specs.Fields.{is_field_byte}
+use Rattle.pr_labels.specs.pr_words.Fields.{is_field_byte}
 use Rattle.pr_expo_line.specs.declared.place.ExpoKind.{ExpoKind}
 use Rattle.pr_expo_line.specs.declared.place.ExpoKind.TheVariants.{NotText, BadName, BadLabels, DuplicateLabel, BadValue, BadTime, BadType}
 use Rattle.pr_expo_line.specs.declared.place.Head.{Head}

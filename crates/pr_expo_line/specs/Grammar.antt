@@ -1,7 +1,7 @@
 -- The lines of an exposition as a grammar: its rules are the places of a line, and each reads a
 -- character and what stands after it.
 use Rattle.std.specs.Prelude.{ℕ, Bool, true, Option, Some, None, List, []}
-use Rattle.pr_forms.specs.Form.{Form, token, nothing, pair, either, chosen, rule, Reads, IsFirstBad}
+use Rattle.pr_labels.specs.pr_forms.Form.{Form, token, nothing, pair, either, chosen, rule, Reads, IsFirstBad}
 use Rattle.pr_expo_line.specs.declared.place.Place.{Place}
 use Rattle.pr_expo_line.specs.declared.place.Place.TheVariants.{Start}
 use Rattle.pr_expo_line.specs.declared.place.Read.{Read}

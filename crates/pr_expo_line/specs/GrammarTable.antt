@@ -1,6 +1,6 @@
 -- What one character ahead tells of the rules of lines: no part of what a line reads as.
 use Rattle.std.specs.Prelude.{ℕ, Bool, true, false, is_some}
-use Rattle.pr_forms.specs.Table.{Table}
+use Rattle.pr_labels.specs.pr_forms.Table.{Table}
 use Rattle.pr_expo_line.specs.Line.{ends}
 use Rattle.pr_expo_line.specs.Grammar.{Rule, at, by, leads}
 

@@ -8,3 +8,6 @@ pub mod GrammarTable
 pub mod Sound
 pub mod PlainLine
 pub mod Faults
+pub use Rattle.pr_labels.specs.pr_words as pr_words
+pub use Rattle.pr_num.specs as pr_num
+pub use Rattle.pr_labels.specs as pr_labels

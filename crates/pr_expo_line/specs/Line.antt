@@ -23,7 +23,7 @@ use Rattle.pr_expo_line.specs.declared.line.LineFault.{LineFault}
 use Rattle.pr_expo_line.specs.declared.line.LineFault.TheVariants.{Bad, Memory}
 use Prim.Native.Char.{code}
 use Rattle.std.specs.Char.{is_ascii_digit}
-use Rattle.pr_words.specs.Bytes.{is_blank, is_letter, is_label_byte}
+use Rattle.pr_labels.specs.pr_words.Bytes.{is_blank, is_letter, is_label_byte}
 use Rattle.pr_labels.specs.Names.{is_metric_letter, is_metric_byte}
 use Rattle.pr_expo_line.specs.Characters.{is_sign}
 use Rattle.pr_expo_line.specs.Number.{number_start, number_next, is_number_end}

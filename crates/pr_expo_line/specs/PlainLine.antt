@@ -2,7 +2,7 @@
 -- is read of it is kept as bytes.
 use Rattle.std.specs.Prelude.{◌≡◌, ℕ, ◌<◌, ◌==◌, true, false, Option, Some, None, List, [], ◌∷◌, ◌++◌, length, codes, encode_utf8}
 use Prim.Native.Char.{code}
-use Rattle.pr_words.specs.Bytes.{AreBlanks}
+use Rattle.pr_labels.specs.pr_words.Bytes.{AreBlanks}
 use Rattle.pr_labels.specs.declared.pair.Pair.{Pair}
 use Rattle.pr_labels.specs.Names.{is_metric_name}
 use Rattle.pr_num.specs.Forms.{IsNumberText}

@@ -5,7 +5,7 @@ use Rattle.std.specs.List.{list_all}
 use Rattle.std.specs.Char.{is_ascii_digit}
 use Rattle.std.specs.Str.{IsUtf8, chars}
 use Prim.Native.Char.{code}
-use Rattle.pr_words.specs.Bytes.{is_label_byte}
+use Rattle.pr_labels.specs.pr_words.Bytes.{is_label_byte}
 use Rattle.pr_labels.specs.Names.{is_metric_byte}
 use Rattle.pr_expo_line.specs.declared.number.NumberPlace.{NumberPlace}
 use Rattle.pr_expo_line.specs.declared.number.NumberPlace.TheVariants.{Whole, Fraction, ExponentDigits}

@@ -1,6 +1,6 @@
 // The characters of a line.
 ghost use Rattle.std.specs.Prelude.{◌≡◌, ◌++◌, ◌<◌, encode_utf8, length, IfSome, MatchOption};
-ghost use Rattle.pr_words.specs.Bytes.{is_blank, is_letter, is_label_byte};
+ghost use Rattle.pr_labels.specs.pr_words.Bytes.{is_blank, is_letter, is_label_byte};
 ghost use Rattle.pr_labels.specs.Names.{is_metric_letter, is_metric_byte};
 ghost use Rattle.pr_expo_line.specs.Characters.{is_sign};
 

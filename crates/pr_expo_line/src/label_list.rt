@@ -7,7 +7,7 @@ ghost use Rattle.pr_labels.specs.declared.pair.Pair.{Pair};
 ghost use Rattle.pr_expo_line.specs.KnownNames.{knows_name, KnowsNames};
 
 use pr_labels::Pair;
-use pr_words::Text;
+use pr_labels::words_crate::Text;
 use std::alloc::{AllocError, Global};
 use std::collections::BTreeSet;
 use std::marker::Model;

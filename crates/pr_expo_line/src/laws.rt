@@ -1,7 +1,7 @@
 //! The laws of lines, as the contract of a function that does nothing.
 ghost use Rattle.std.specs.Prelude.{◌≡◌, ◌≢◌, ℕ, Err, Ok, List, Option, length};
 ghost use Rattle.std.specs.Str.{IsUtf8, chars};
-ghost use Rattle.pr_forms.specs.Table.{IsDecided};
+ghost use Rattle.pr_labels.specs.pr_forms.Table.{IsDecided};
 ghost use Rattle.pr_num.specs.Reads.{reads};
 ghost use Rattle.pr_num.specs.declared.text.NumFault.{NumFault};
 ghost use Rattle.pr_expo_line.specs.Line.{line_read, text_front};

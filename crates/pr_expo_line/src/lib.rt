@@ -24,3 +24,6 @@ pub use laws::{
 };
 pub use line::{LineFault, read_line};
 pub use place::{ExpoKind, FamilyKind, Head, Measured, Read};
+pub use pr_labels as labels;
+pub use pr_labels::words_crate as words_crate;
+pub use pr_num as num;

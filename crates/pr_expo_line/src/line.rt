@@ -12,7 +12,7 @@ use crate::place::{ExpoKind, Head, Measured, Place, Read, Word};
 use crate::plain::plain_front;
 use crate::runs::{lengthened, run_len};
 use crate::steps::{stands_before, step, type_of};
-use pr_words::Text;
+use pr_labels::words_crate::Text;
 use std::alloc::{AllocError, Global};
 use std::str;
 

@@ -1,7 +1,7 @@
 // The places of a line, what a line reads as, and how it may be bad.
 use crate::label_list::LabelList;
 use crate::number::NumberPlace;
-use pr_words::Text;
+use pr_labels::words_crate::Text;
 
 /// What a family of samples is.
 #[derive(Clone, Copy, Debug, PartialEq, Eq)]

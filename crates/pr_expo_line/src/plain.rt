@@ -2,7 +2,7 @@
 // values, and digits. Most samples are no more than that. Each part is taken at once, and not a
 // character at a time.
 ghost use Rattle.std.specs.Prelude.{◌≡◌, [], ◌++◌, ◌<◌, ◌≤◌, ℕ, List, IfOk, IfSome, encode_utf8, false, length};
-ghost use Rattle.pr_words.specs.Bytes.{is_letter};
+ghost use Rattle.pr_labels.specs.pr_words.Bytes.{is_letter};
 ghost use Rattle.pr_labels.specs.Names.{is_metric_letter};
 ghost use Rattle.pr_expo_line.specs.Line.{stands_before, with_label};
 ghost use Rattle.pr_expo_line.specs.Runs.{begins_with, LeadsTo};
@@ -14,7 +14,7 @@ use crate::number::NumberPlace;
 use crate::place::{Head, Place};
 use crate::runs::{digits, label_bytes, metric_bytes, plain_bytes};
 use crate::steps::{bare, stands_before, with_label};
-use pr_words::Text;
+use pr_labels::words_crate::Text;
 use std::alloc::{AllocError, Global};
 
 fn begins_metric(text: &[u8]) -> bool

@@ -3,14 +3,14 @@ ghost use Rattle.std.specs.Prelude.{◌≡◌, ◌++◌, IfOk, not, position, ta
 ghost use Rattle.std.specs.Char.{is_ascii_digit};
 ghost use Rattle.std.specs.List.{list_all, position_or_len};
 ghost use Rattle.std.specs.Str.{chars, IsCharBoundary};
-ghost use Rattle.pr_words.specs.Bytes.{is_label_byte};
+ghost use Rattle.pr_labels.specs.pr_words.Bytes.{is_label_byte};
 ghost use Rattle.pr_labels.specs.Names.{is_metric_byte};
 ghost use Rattle.pr_expo_line.specs.Runs.{ends_plain, is_plain, lengthens_number, IsRun, longer};
 
 use crate::characters::{is_label_byte, is_metric_byte};
 use crate::number::NumberPlace;
 use crate::place::Place;
-use pr_words::Text;
+use pr_labels::words_crate::Text;
 use std::alloc::AllocError;
 
 fn after_metric(text: &[u8]) -> Option<usize>

@@ -45,8 +45,8 @@ use crate::characters::{
 use crate::label_list::LabelList;
 use crate::number::{NumberPlace, is_number_end, number_next, number_start};
 use crate::place::{FamilyKind, Head, Measured, Place, Word};
+use pr_labels::words_crate::Text;
 use pr_labels::{METRIC_LABEL, Pair};
-use pr_words::Text;
 use std::alloc::{AllocError, Global};
 
 /// The text of a character alone.

@@ -4,8 +4,8 @@ use Rattle.std.specs.Prelude.{slice_set, replicate}
 use Rattle.std.specs.List.{filter_map, cons_option}
 use Rattle.pr_num.specs.declared.value.Point.{Point}
 use Rattle.pr_inputs.specs.declared.input.InputSeries.{InputSeries}
-use Rattle.pr_history.specs.declared.entry.Entry.{Entry}
-use Rattle.pr_history.specs.Admission.{put_all}
+use Rattle.pr_testfile.specs.pr_history.declared.entry.Entry.{Entry}
+use Rattle.pr_testfile.specs.pr_history.Admission.{put_all}
 use Rattle.pr_intake.specs.Intake.{HasTaken, Series}
 use Rattle.pr_intake.proofs.Intake.{taken_then}
 use Rattle.pr_testfile.specs.Series.{entries_at, entry_at, entry_by, point_at}

@@ -2,17 +2,17 @@
 ghost use Rattle.std.specs.Prelude.{◌≡◌, ℕ, ◌+◌, ◌*◌, ◌<◌, ◌∷◌, [], List, length, slice_get, Some, IfOk, IfSome, OnOk};
 ghost use Rattle.std.specs.List.{filter_map};
 ghost use Rattle.pr_inputs.specs.declared.input.InputSeries.{InputSeries};
-ghost use Rattle.pr_history.specs.declared.entry.Entry.{Entry};
-ghost use Rattle.pr_head.specs.Holds.{Holds, sets_of};
+ghost use Rattle.pr_testfile.specs.pr_history.declared.entry.Entry.{Entry};
+ghost use Rattle.pr_intake.specs.pr_head.Holds.{Holds, sets_of};
 ghost use Rattle.pr_intake.specs.Intake.{HasTaken};
 ghost use Rattle.pr_testfile.specs.Series.{entries_at, entry_at};
 ghost use Rattle.pr_feeding.specs.Feeding.{HasFed, IsAt, IsFeeding};
 
 use crate::numbers::number_of;
 use crate::progress::{Progress, next_point};
-use pr_head::{Append, Head};
 use pr_inputs::InputSeries;
-use pr_labels::Labels;
+use pr_intake::head::{Append, Head};
+use pr_intake::labels::Labels;
 use pr_num::Point;
 use pr_time::Ms;
 use std::alloc::{AllocError, Global};

@@ -9,3 +9,6 @@ mod progress;
 
 pub use feed::Feed;
 pub use longest::places;
+pub use pr_inputs as inputs;
+pub use pr_testfile as testfile;
+pub use pr_testfile::tmpl as tmpl;

@@ -1,9 +1,9 @@
 // The numbers that the series of a test have in a head.
 ghost use Rattle.std.specs.Prelude.{◌≡◌, IfSome, Some, slice_get};
-ghost use Rattle.pr_head.specs.Holds.{sets_of};
+ghost use Rattle.pr_intake.specs.pr_head.Holds.{sets_of};
 
-use pr_head::Head;
-use pr_labels::Labels;
+use pr_intake::head::Head;
+use pr_intake::labels::Labels;
 
 /// The number of the series with these labels, where the head has it: the one that is known, where
 /// that is right, so that nothing is searched for.

@@ -7,7 +7,7 @@ use Rattle.std.specs.Str.{bytes_eq}
 use Rattle.std.specs.Cmp.Lexicographic.{bytes_decides}
 use Rattle.std.proofs.lemmas.Bool.{and_parts, and_from, and_left, not-true, cond-true, cond-false, cases_Bool, true≢false}
 use Rattle.std.proofs.lemmas.List.{append-nil}
-use Rattle.pr_words.specs.Names.{is_among}
+use Rattle.pr_strings.specs.pr_words.Names.{is_among}
 use Rattle.pr_yaml.specs.Tree.{Tree, text_node, list_node, map_node, Trees, no_trees, tree_then, trees_in, EntryTree, EntryTrees, no_entries, entry_then, entries_in, is_absent}
 use Rattle.pr_yaml.specs.Distinct.{has_distinct_keys, have_distinct_keys, are_distinct}
 use Rattle.pr_fields.specs.Nodes.{field, fields_of, is_field, value_of}

@@ -1,12 +1,12 @@
 -- What the reader of spans answers, as a function of the text.
 use Rattle.std.proofs.Common.{◌≡◌, ℕ, ◌≤◌, ◌<◌, ◌^◌, Option, Some, None, List, [], refl, arith}
 use Rattle.std.proofs.lemmas.Bool.Decides.{nat_tests}
-use Rattle.pr_forms.specs.Form.{rule, Reads}
-use Rattle.pr_time.specs.declared.text.SpanFault.{SpanFault}
-use Rattle.pr_time.specs.declared.text.SpanFault.TheVariants.{BadSpan, SpanTooLong}
-use Rattle.pr_time.specs.SpanText.{production, seen, Text, Value, span, ReadsSpan, IsTooLong}
-use Rattle.pr_time.specs.SpanAnswer.{span_of}
-use Rattle.pr_time.proofs.SpanTotal.{span_of_reading, reading_of_span}
+use Rattle.pr_strings.specs.pr_forms.Form.{rule, Reads}
+use Rattle.pr_ast.specs.pr_time.declared.text.SpanFault.{SpanFault}
+use Rattle.pr_ast.specs.pr_time.declared.text.SpanFault.TheVariants.{BadSpan, SpanTooLong}
+use Rattle.pr_ast.specs.pr_time.SpanText.{production, seen, Text, Value, span, ReadsSpan, IsTooLong}
+use Rattle.pr_ast.specs.pr_time.SpanAnswer.{span_of}
+use Rattle.pr_ast.proofs.TimeSpanTotal.{span_of_reading, reading_of_span}
 use Rattle.pr_fields.specs.Scalars.{if_short, short_span}
 
 -- a span that is read is short

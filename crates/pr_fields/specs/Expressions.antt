@@ -2,10 +2,10 @@
 use Rattle.std.specs.Prelude.{ℕ, List, [], ◌∷◌, codes, Option, Some, None, Result, Ok, Err, if◌then◌else◌}
 use Rattle.pr_ast.specs.declared.tree.Expr.{Expr}
 use Rattle.pr_ast.specs.Tree.{Tree, tree_of}
-use Rattle.pr_parse.specs.Parsed.{Parsed, gives_tree, gives_lex_fault, gives_fault, parsed}
-use Rattle.pr_types.specs.declared.kind.ValueType.{ValueType}
-use Rattle.pr_types.specs.declared.kind.TypeFault.{TypeFault}
-use Rattle.pr_types.specs.Typed.{checked}
+use Rattle.pr_kinds.specs.pr_parse.Parsed.{Parsed, gives_tree, gives_lex_fault, gives_fault, parsed}
+use Rattle.pr_kinds.specs.pr_types.declared.kind.ValueType.{ValueType}
+use Rattle.pr_kinds.specs.pr_types.declared.kind.TypeFault.{TypeFault}
+use Rattle.pr_kinds.specs.pr_types.Typed.{checked}
 use Rattle.pr_kinds.specs.declared.kind.QueryKind.TheVariants.{Lex, Parse, Typing}
 use Rattle.pr_yaml.specs.Tree.{Tree as Node}
 use Rattle.pr_fields.specs.declared.problem.Problem.{Problem}

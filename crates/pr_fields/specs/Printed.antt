@@ -1,8 +1,8 @@
 -- The printed kinds of problems: the name of the kind, and then what it tells.
 use Rattle.std.specs.Prelude.{ℕ, List, ◌++◌, codes}
 use Rattle.pr_strings.specs.Quoted.{quoted_text}
-use Rattle.pr_yaml_scan.specs.declared.fault.YamlKind.{YamlKind}
-use Rattle.pr_yaml_scan.specs.declared.fault.YamlKind.TheVariants as yaml
+use Rattle.pr_yaml.specs.pr_yaml_scan.declared.fault.YamlKind.{YamlKind}
+use Rattle.pr_yaml.specs.pr_yaml_scan.declared.fault.YamlKind.TheVariants as yaml
 use Rattle.pr_kinds.specs.Kinds.{kind_text, number_text}
 use Rattle.pr_fields.specs.declared.problem.ProblemKind.{ProblemKind}
 use Rattle.pr_fields.specs.declared.problem.ProblemKind.TheVariants as problem

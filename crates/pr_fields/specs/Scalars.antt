@@ -1,7 +1,7 @@
 -- Texts, spans and limits.
 use Rattle.std.specs.Prelude.{ℕ, ◌^◌, nat_le, List, [], ◌∷◌, Option, Some, None, option_and_then, if◌then◌else◌}
-use Rattle.pr_words.specs.Decimals.{plain_decimal}
-use Rattle.pr_time.specs.SpanAnswer.{span_of}
+use Rattle.pr_strings.specs.pr_words.Decimals.{plain_decimal}
+use Rattle.pr_ast.specs.pr_time.SpanAnswer.{span_of}
 use Rattle.pr_yaml.specs.Tree.{Tree}
 use Rattle.pr_fields.specs.declared.problem.Problem.{Problem}
 use Rattle.pr_fields.specs.declared.problem.ProblemKind.TheVariants.{BadSpan, BadLimit}

@@ -1,9 +1,9 @@
 //! What the definitions say of small lists of problems.
 ghost use Rattle.std.specs.Prelude.{◌≡◌, ◌∷◌, [], codes};
-ghost use Rattle.pr_yaml_scan.specs.declared.fault.YamlKind.TheVariants.{Tab};
-ghost use Rattle.pr_lex.specs.declared.fault.LexKind.TheVariants.{BadChar};
-ghost use Rattle.pr_parse.specs.declared.fault.ParseKind.TheVariants.{End};
-ghost use Rattle.pr_types.specs.declared.kind.TypeKind.TheVariants.{BoolNeeded};
+ghost use Rattle.pr_yaml.specs.pr_yaml_scan.declared.fault.YamlKind.TheVariants.{Tab};
+ghost use Rattle.pr_ast.specs.pr_lex.declared.fault.LexKind.TheVariants.{BadChar};
+ghost use Rattle.pr_kinds.specs.pr_parse.declared.fault.ParseKind.TheVariants.{End};
+ghost use Rattle.pr_kinds.specs.pr_types.declared.kind.TypeKind.TheVariants.{BoolNeeded};
 ghost use Rattle.pr_kinds.specs.declared.kind.QueryKind.TheVariants.{Lex, Parse, Typing};
 ghost use Rattle.pr_fields.specs.declared.problem.ProblemKind.TheVariants.{Yaml, WantMap, WantList, WantText, UnknownField, Missing, DuplicateGroup, NoName, TwoNames, BadName, BadLabel, BadSpan, BadLimit, NotForRecording, Expression, BadTemplate, BadSeries, DuplicateSeries, BadValues, TooManyValues, BadValue, FuzzyCompare};
 ghost use Rattle.pr_fields.specs.Problems.{problem};

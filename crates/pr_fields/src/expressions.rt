@@ -2,7 +2,7 @@
 ghost use Rattle.std.specs.Prelude.{◌≡◌, ◌++◌, OnOk, IfOk, map, codes, Option};
 ghost use Rattle.std.specs.Option.{option_map};
 ghost use Rattle.pr_ast.specs.Tree.{tree_of as expression_tree};
-ghost use Rattle.pr_types.specs.Typed.{checked};
+ghost use Rattle.pr_kinds.specs.pr_types.Typed.{checked};
 ghost use Rattle.pr_yaml.specs.Tree.{tree_of, entry_tree_of};
 ghost use Rattle.pr_fields.specs.declared.problem.ProblemKind.TheVariants.{Expression};
 ghost use Rattle.pr_fields.specs.Nodes.{line_of, text_of, written};
@@ -13,8 +13,8 @@ use crate::found::{push, push_missing};
 use crate::problem::{Problem, ProblemKind};
 use pr_ast::Expr;
 use pr_kinds::QueryKind;
-use pr_parse::{ParseError, parse};
-use pr_types::{Checked, TypeError, check};
+use pr_kinds::parse::{ParseError, parse};
+use pr_kinds::types::{Checked, TypeError, check};
 use pr_yaml::{Entry, Node};
 use std::alloc::{AllocError, Global};
 

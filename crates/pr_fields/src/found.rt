@@ -4,8 +4,8 @@ ghost use Rattle.pr_fields.specs.declared.problem.ProblemKind.TheVariants.{WantT
 ghost use Rattle.pr_fields.specs.Problems.{problem};
 
 use crate::problem::{Problem, ProblemKind};
-use pr_words::{Items, Text};
-use pr_yaml_scan::YamlKind;
+use pr_strings::words_crate::{Items, Text};
+use pr_yaml::yaml_scan::YamlKind;
 use std::alloc::{AllocError, Global};
 
 /// Puts a problem behind those found so far.

@@ -12,7 +12,7 @@ use crate::found::{push, push_bad_label};
 use crate::problem::{Problem, ProblemKind};
 use crate::templates::template_fault;
 use pr_labels::{METRIC_LABEL, Pair, is_label_name};
-use pr_words::{Items, Text};
+use pr_strings::words_crate::{Items, Text};
 use pr_yaml::{Entry, Node};
 use std::alloc::{AllocError, Global};
 use std::collections::BTreeMap;

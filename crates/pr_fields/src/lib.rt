@@ -28,6 +28,9 @@ pub use found::{
 pub use labels::{label_value, labels_problems, pairs_of, put_labels};
 pub use maps::{ItemForm, MapForm, list_problems, map_problems, require, texts_problems};
 pub use order::in_order;
+pub use pr_kinds as kinds;
+pub use pr_kinds::{grammar as grammar, parse as parse, types as types};
+pub use pr_tmpl as tmpl;
 pub use print::push_problem_kind;
 pub use problem::{Problem, ProblemKind};
 pub use scalars::{

@@ -4,7 +4,7 @@ ghost use Rattle.pr_fields.specs.Order.{expression_rank, kind_rank, in_order};
 
 use crate::problem::{Problem, ProblemKind};
 use pr_kinds::QueryKind;
-use pr_words::Items;
+use pr_strings::words_crate::Items;
 use std::alloc::AllocError;
 
 // The place of a fault of an expression in the order of kinds.

@@ -7,7 +7,7 @@ ghost use Rattle.pr_fields.specs.Printed.{name_text, own_word, problem_rest, pro
 use crate::problem::ProblemKind;
 use pr_kinds::{push_number_after, push_query_kind};
 use pr_strings::write_string;
-use pr_yaml_scan::YamlKind;
+use pr_yaml::yaml_scan::YamlKind;
 use std::alloc::AllocError;
 
 #[tactic(auto, unfolding(crate::specs::Printed::yaml_word))]

@@ -1,7 +1,7 @@
 // What is wrong with a rule file.
 use pr_kinds::QueryKind;
-use pr_words::Text;
-use pr_yaml_scan::YamlKind;
+use pr_strings::words_crate::Text;
+use pr_yaml::yaml_scan::YamlKind;
 
 /// What is wrong at a line of a rule file or a test file. On one line problems stand in this order.
 /// (The kinds are an own choice.)

@@ -7,8 +7,8 @@ ghost use Rattle.pr_fields.specs.Scalars.{text_problems, short_span, span_proble
 use crate::access::{field, line_of, text_of};
 use crate::found::push;
 use crate::problem::{Problem, ProblemKind};
-use pr_time::{Span, read_span};
-use pr_words::plain_decimal;
+use pr_ast::time::{Span, read_span};
+use pr_strings::words_crate::plain_decimal;
 use pr_yaml::{Entry, Node};
 use std::alloc::AllocError;
 

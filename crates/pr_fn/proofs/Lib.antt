@@ -7,3 +7,4 @@ pub mod Gathering
 pub mod Known
 pub mod BucketLemmas
 pub mod Twice
+pub use Rattle.pr_ordered.proofs.Elements as OrderedElements

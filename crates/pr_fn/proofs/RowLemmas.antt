@@ -8,9 +8,9 @@ use Rattle.pr_labels.specs.declared.pair.Pair.{Pair}
 use Rattle.pr_labels.specs.declared.item.Item.{Item}
 use Rattle.pr_labels.specs.Rising.{is_among, with_labels}
 use Rattle.pr_labels.proofs.LabelMaps.{keys_insert}
-use Rattle.pr_vectors.specs.declared.function_fault.FunctionFault.TheVariants as fault
-use Rattle.pr_vectors.specs.Vectors.{element, in_label_order, in_order, label_sets, with_element}
-use Rattle.pr_vectors.specs.Functions.{least_twice, told_apart, unless_same}
+use Rattle.pr_ordered.specs.pr_vectors.declared.function_fault.FunctionFault.TheVariants as fault
+use Rattle.pr_ordered.specs.pr_vectors.Vectors.{element, in_label_order, in_order, label_sets, with_element}
+use Rattle.pr_ordered.specs.pr_vectors.Functions.{least_twice, told_apart, unless_same}
 use Rattle.pr_ordered.specs.Entries.{IsPut, is_known, items_of}
 use Rattle.pr_ordered.proofs.Elements.{element_put, known_among}
 use Rattle.pr_fn.specs.declared.rows.Rows.{Rows}

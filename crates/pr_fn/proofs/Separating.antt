@@ -3,7 +3,7 @@ use Rattle.std.proofs.Common.{◌≡◌, ℕ, suc, ◌≤◌, ◌-◌, List, [],
 use Rattle.std.proofs.Math.Seq.{take-length}
 use Rattle.pr_labels.specs.declared.pair.Pair.{Pair}
 use Rattle.pr_labels.specs.LabelSet.{text_at}
-use Rattle.pr_vectors.specs.LabelFunctions.{joined_text}
+use Rattle.pr_ordered.specs.pr_vectors.LabelFunctions.{joined_text}
 use Rattle.pr_fn.specs.Separated.{with_rest}
 
 front_stays : (separator : List ℕ) (labels : List Pair) (a b : List ℕ) (names : List (List ℕ)) → with_rest separator labels (a ++ b) names ≡ a ++ with_rest separator labels b names

@@ -13,8 +13,8 @@ use Rattle.pr_labels.specs.Order.{labels_cmp, labels_eq}
 use Rattle.pr_labels.specs.Rising.{IsBelowFirstSet, IsRising, is_among, placed, with_labels}
 use Rattle.pr_labels.proofs.LabelOrder.{among_fold, below_next, labels_decide, labels_total, rising_fold, tied}
 use Rattle.pr_labels.proofs.LabelMaps.{below_some, tie}
-use Rattle.pr_vectors.specs.Vectors.{in_label_order}
-use Rattle.pr_vectors.specs.Functions.{comes_twice, least_twice}
+use Rattle.pr_ordered.specs.pr_vectors.Vectors.{in_label_order}
+use Rattle.pr_ordered.specs.pr_vectors.Functions.{comes_twice, least_twice}
 use Rattle.pr_ordered.proofs.Elements.{equal_turned}
 use Rattle.pr_fn.specs.Rows.{is_below, least_with}
 

@@ -5,9 +5,9 @@ use Rattle.pr_num.specs.declared.value.TooWide.{TooWide}
 use Rattle.pr_num.specs.Total.{Tally, joined, no_values, one_value, total_of, value_of}
 use Rattle.pr_labels.specs.declared.pair.Pair.{Pair}
 use Rattle.pr_labels.specs.declared.item.Item.{Item}
-use Rattle.pr_vectors.specs.declared.bucket.Bucket.{Bucket}
-use Rattle.pr_vectors.specs.declared.function_fault.FunctionFault.{FunctionFault}
-use Rattle.pr_vectors.specs.Histogram.{bucket_of, histogram_value, next_bucket, next_element}
+use Rattle.pr_ordered.specs.pr_vectors.declared.bucket.Bucket.{Bucket}
+use Rattle.pr_ordered.specs.pr_vectors.declared.function_fault.FunctionFault.{FunctionFault}
+use Rattle.pr_ordered.specs.pr_vectors.Histogram.{bucket_of, histogram_value, next_bucket, next_element}
 
 -- the buckets that some elements are
 abbrev pub buckets_of : List (Item Num) → Option (List Bucket)

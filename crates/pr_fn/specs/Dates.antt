@@ -1,7 +1,7 @@
 -- How the dates of jiff stand to those of the definitions.
 use Rattle.std.specs.Prelude.{◌≡◌, ℕ, pos}
 use Rattle.jiff_core.specs.declared.civil.date.Date.{Date}
-use Rattle.pr_vectors.specs.Calendar.{date_after}
+use Rattle.pr_ordered.specs.pr_vectors.Calendar.{date_after}
 
 -- jiff's date has the year, the month and the day of the one so many days after 1 January of the
 -- year 1

@@ -1,7 +1,7 @@
 -- Which fault of the definition a call tells.
 use Rattle.std.specs.Prelude.{Option, Some, None}
-use Rattle.pr_vectors.specs.declared.function_fault.FunctionFault.{FunctionFault}
-use Rattle.pr_vectors.specs.declared.function_fault.FunctionFault.TheVariants as fault
+use Rattle.pr_ordered.specs.pr_vectors.declared.function_fault.FunctionFault.{FunctionFault}
+use Rattle.pr_ordered.specs.pr_vectors.declared.function_fault.FunctionFault.TheVariants as fault
 use Rattle.pr_fn.specs.declared.fn_fault.FnFault.{FnFault}
 use Rattle.pr_fn.specs.declared.fn_fault.FnFault.TheVariants.{SameLabels, TooWide, Memory}
 

@@ -6,3 +6,5 @@ pub mod Separated
 pub mod Gathered
 pub mod Buckets
 pub mod Bounds
+pub use Rattle.pr_match.specs as pr_match
+pub use Rattle.pr_ordered.specs as pr_ordered

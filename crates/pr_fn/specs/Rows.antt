@@ -7,8 +7,8 @@ use Rattle.pr_labels.specs.declared.pair.Pair.{Pair}
 use Rattle.pr_labels.specs.declared.item.Item.{Item}
 use Rattle.pr_labels.specs.Order.{labels_cmp}
 use Rattle.pr_labels.specs.SeriesText.{unnamed}
-use Rattle.pr_vectors.specs.Vectors.{element, in_label_order, in_order, label_sets}
-use Rattle.pr_vectors.specs.Functions.{least_twice}
+use Rattle.pr_ordered.specs.pr_vectors.Vectors.{element, in_label_order, in_order, label_sets}
+use Rattle.pr_ordered.specs.pr_vectors.Functions.{least_twice}
 use Rattle.pr_ordered.specs.Entries.{items_of}
 use Rattle.pr_fn.specs.declared.rows.Rows.{Rows}
 

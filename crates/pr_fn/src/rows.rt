@@ -2,8 +2,8 @@
 ghost use Rattle.std.specs.Prelude.{◌≡◌, List, ◌∷◌, ◌++◌, [], Ok, Err, IfOk, IfSome, OnOk, MatchResult};
 ghost use Rattle.pr_num.specs.declared.value.Num.{Num};
 ghost use Rattle.pr_labels.specs.declared.item.Item.{Item};
-ghost use Rattle.pr_vectors.specs.Vectors.{IsVector, element};
-ghost use Rattle.pr_vectors.specs.Functions.{told_apart};
+ghost use Rattle.pr_ordered.specs.pr_vectors.Vectors.{IsVector, element};
+ghost use Rattle.pr_ordered.specs.pr_vectors.Functions.{told_apart};
 ghost use Rattle.pr_fn.specs.Faults.{function_told};
 ghost use Rattle.pr_fn.specs.Rows.{AreRows, is_below, least_with};
 

@@ -7,7 +7,7 @@ use Rattle.pr_num.specs.declared.value.Num.TheVariants.{Finite, NaN, PosInf, Neg
 use Rattle.pr_num.specs.declared.value.TooWide.{TooWide}
 use Rattle.pr_num.specs.Arithmetic.{whole_of}
 use Rattle.pr_num.specs.Total.{Tally, joined, mean_of, one_value, total_of, value_of}
-use Rattle.pr_history.specs.declared.spot.Spot.{Spot}
+use Rattle.pr_vectors.specs.pr_history.declared.spot.Spot.{Spot}
 use Rattle.pr_vectors.specs.declared.range.Ask.{Ask}
 use Rattle.pr_vectors.specs.declared.range.RangeFn.{RangeFn}
 use Rattle.pr_vectors.specs.declared.range.RangeFn.TheVariants.{Rate, Increase, Delta, Changes, Resets, SumOverTime, AvgOverTime, MinOverTime, MaxOverTime, CountOverTime, LastOverTime, PresentOverTime}

@@ -2,7 +2,7 @@
 use Rattle.std.proofs.Common.{◌≡◌, ℕ, ◌+◌, ◌*◌, ◌<◌, nat_lt, Bool, true, false, not, ◌&&◌, ℤ, pos, negsuc, ◌+ℤ◌, ◌*ℤ◌, refl, sym, ap, ◌∙◌, arith}
 use Rattle.std.specs.Prelude.{int_lt, nat_le, if◌then◌else◌}
 use Rattle.pr_num.specs.Half.{half}
-use Rattle.pr_history.specs.declared.spot.Spot.{Spot}
+use Rattle.pr_vectors.specs.pr_history.declared.spot.Spot.{Spot}
 use Rattle.pr_vectors.specs.Spots.{units_in}
 use Rattle.pr_folds.specs.Gains.{counter_gain_between, covered_between, difference_between, gauge_gain_between, reach_after_last, reach_before_first}
 use Rattle.pr_vectors.specs.Extrapolation.{Fraction, begins_at_zero, extended, fraction, ms_between, plus, reach}

@@ -5,7 +5,7 @@ use Rattle.std.proofs.lemmas.List.Sums.{sum_by-append}
 use Rattle.pr_num.specs.declared.value.Num.{Num}
 use Rattle.pr_num.specs.Total.{joined, no_values, one_value, total_of}
 use Rattle.pr_num.proofs.Algebra.{nothing_joined_left, nothing_joined_right}
-use Rattle.pr_history.specs.declared.spot.Spot.{Spot}
+use Rattle.pr_vectors.specs.pr_history.declared.spot.Spot.{Spot}
 use Rattle.pr_vectors.specs.Aggregation.{greatest_first, greatest_of_values, least_first, least_of_values}
 use Rattle.pr_vectors.specs.Histogram.{is_special}
 use Rattle.pr_vectors.specs.Ranges.{differ}

@@ -8,7 +8,7 @@ use Rattle.std.specs.Ordering.{is_gt, is_lt, ord_min, ordering_reverse}
 use Rattle.std.specs.declared.cmp.Ordering.{Ordering}
 use Rattle.std.specs.declared.cmp.Ordering.TheVariants.{Less, Equal, Greater}
 use Rattle.pr_num.specs.declared.value.Num.{Num}
-use Rattle.pr_history.specs.declared.spot.Spot.{Spot}
+use Rattle.pr_vectors.specs.pr_history.declared.spot.Spot.{Spot}
 use Rattle.pr_num.proofs.Algebra.{order_is_total}
 use Rattle.pr_vectors.specs.Aggregation.{greatest_first, least_first, nan_class}
 

@@ -5,7 +5,7 @@ use Rattle.pr_num.specs.declared.value.Num.{Num}
 use Rattle.pr_num.specs.declared.value.TooWide.{TooWide}
 use Rattle.pr_num.specs.Arithmetic.{fitted}
 use Rattle.pr_num.specs.Half.{half}
-use Rattle.pr_history.specs.declared.spot.Spot.{Spot}
+use Rattle.pr_vectors.specs.pr_history.declared.spot.Spot.{Spot}
 use Rattle.pr_vectors.specs.Extrapolation.{Fraction, begins_at_zero, extended, ms_between, plus, reach, unless_special}
 use Rattle.pr_vectors.specs.Spots.{units_in}
 

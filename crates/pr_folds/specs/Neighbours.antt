@@ -5,7 +5,7 @@ use Rattle.std.proofs.Common.{arith, refl, ap, ◌∙◌}
 use Rattle.pr_num.specs.declared.value.Num.{Num}
 use Rattle.pr_num.proofs.Algebra.{joined_groups}
 use Rattle.pr_num.specs.Total.{Tally, joined, no_values, one_value, total_of}
-use Rattle.pr_history.specs.declared.spot.Spot.{Spot}
+use Rattle.pr_vectors.specs.pr_history.declared.spot.Spot.{Spot}
 use Rattle.pr_vectors.specs.Histogram.{is_special}
 use Rattle.pr_vectors.specs.Ranges.{differ}
 use Rattle.pr_vectors.specs.Spots.{falls, has_special, last_of, neighbours, numbers_of}

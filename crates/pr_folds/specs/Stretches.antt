@@ -1,6 +1,6 @@
 -- The distances of an extrapolation in whole parts of a millisecond, as they are worked out.
 use Rattle.std.specs.Prelude.{◌≡◌, ℕ, ◌*◌, ◌^◌, ◌<◌, ◌≤◌, ℤ}
-use Rattle.pr_history.specs.declared.spot.Spot.{Spot}
+use Rattle.pr_vectors.specs.pr_history.declared.spot.Spot.{Spot}
 use Rattle.pr_vectors.specs.Extrapolation.{Fraction}
 use Rattle.pr_folds.specs.Gains.{covered_between, reach_after_last, reach_before_first}
 use Rattle.pr_folds.specs.declared.gains.Stretch.{Stretch}

@@ -5,7 +5,7 @@ use Rattle.pr_num.specs.declared.value.Num.{Num}
 use Rattle.pr_num.specs.declared.value.Num.TheVariants.{Finite, NaN, PosInf, NegInf}
 use Rattle.pr_num.proofs.Algebra.{joined_groups}
 use Rattle.pr_num.specs.Total.{Tally, joined, one_value}
-use Rattle.pr_history.specs.declared.spot.Spot.{Spot}
+use Rattle.pr_vectors.specs.pr_history.declared.spot.Spot.{Spot}
 
 -- the total of one value
 abbrev pub total_alone : Spot → Tally

@@ -1,7 +1,7 @@
 // The folds of values with their times.
 use crate::neighbours::Neighbours;
-use pr_history::Spot;
 use pr_num::{Num, Total};
+use pr_vectors::history::Spot;
 use pr_window::Fold;
 
 /// Values are folded to their total.

@@ -8,9 +8,9 @@ ghost use Rattle.pr_vectors.specs.Spots.{units_in};
 ghost use Rattle.pr_folds.specs.Gains.{counter_gain_between, covered_between, delta_between, difference_between, gauge_gain_between, increase_between, rate_between};
 ghost use Rattle.pr_folds.specs.Stretches.{IsPartOf, IsStretch};
 
-use pr_history::Spot;
 use pr_num::{Num, TooWide, compare_products, half_product, muldiv_units};
 use pr_vectors::Ask;
+use pr_vectors::history::Spot;
 use std::cmp::Ordering;
 
 /// The units of a finite value, and zero of another one.

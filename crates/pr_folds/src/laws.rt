@@ -2,7 +2,7 @@
 ghost use Rattle.std.specs.Prelude.{◌≡◌, true, List, ◌∷◌, length, Some, Ok};
 ghost use Rattle.pr_num.specs.declared.value.Num.{Num};
 ghost use Rattle.pr_num.specs.Total.{Tally, joined};
-ghost use Rattle.pr_history.specs.declared.spot.Spot.{Spot};
+ghost use Rattle.pr_vectors.specs.pr_history.declared.spot.Spot.{Spot};
 ghost use Rattle.pr_vectors.specs.declared.range.Ask.{Ask};
 ghost use Rattle.pr_vectors.specs.declared.range.RangeFn.{RangeFn};
 ghost use Rattle.pr_vectors.specs.declared.range.RangeFn.TheVariants.{MaxOverTime, MinOverTime};

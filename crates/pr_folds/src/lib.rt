@@ -18,4 +18,6 @@ pub use parts::{
     beside, differ, falls, greater, is_special, joined, lesser, one_if, spot_alone, total_alone,
     value_alone,
 };
+pub use pr_window as window;
+pub use pr_window::words_crate as words_crate;
 pub use summarize::Summarize;

@@ -10,8 +10,8 @@ ghost use Rattle.pr_folds.specs.Neighbours.{beside, loss, meeting, one_if, spot_
 ghost use Rattle.pr_folds.specs.Totals.{total_alone};
 
 use crate::neighbours::Neighbours;
-use pr_history::Spot;
 use pr_num::{Num, Total};
+use pr_vectors::history::Spot;
 use std::cmp::Ordering;
 
 /// The total of one value.

@@ -3,8 +3,8 @@ ghost use Rattle.std.specs.Prelude.{◌≡◌, ◌+◌, ◌^◌, ◌<◌};
 use crate::folds::{Greatest, Least, Sequence, Totals};
 use crate::neighbours::Neighbours;
 use crate::parts::{beside, greater, joined, lesser, spot_alone, total_alone, value_alone};
-use pr_history::Spot;
 use pr_num::{Num, Total};
+use pr_vectors::history::Spot;
 use pr_window::Fold;
 
 /// A fold of values with their times whose summaries are worked out.

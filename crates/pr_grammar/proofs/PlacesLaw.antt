@@ -2,13 +2,13 @@
 use Rattle.std.proofs.Common.{◌≡◌, ℕ, List, [], ◌∷◌, Option, Some, None, Bool, true, false, map, refl, ap, sym, ◌∙◌, subst}
 use Rattle.std.specs.Prelude.{if◌then◌else◌, option_map}
 use Rattle.pr_forms.specs.Form.{token, nothing, pair, either, turns, fold, chosen, rule, Reads, is_token, is_nothing, is_pair, is_left, is_right, is_stop, is_turn, is_fold, is_chosen, is_rule}
-use Rattle.pr_lex.specs.declared.token.Token.{Token}
-use Rattle.pr_lex.specs.declared.token.TokenKind.{TokenKind}
-use Rattle.pr_lex.specs.declared.token.Sign.{Sign as SignKind}
-use Rattle.pr_lex.specs.declared.token.Sign.TheVariants.{LeftBrace, RightBrace, LeftParen, RightParen, LeftBracket, RightBracket, Comma, Colon}
-use Rattle.pr_lex.specs.declared.words.Word.{Word as WordOf}
-use Rattle.pr_lex.specs.declared.words.Word.TheVariants.{Bool as BoolWord, Offset, Inf, NaN}
-use Rattle.pr_lex.specs.Spaced.{kinds}
+use Rattle.pr_ast.specs.pr_lex.declared.token.Token.{Token}
+use Rattle.pr_ast.specs.pr_lex.declared.token.TokenKind.{TokenKind}
+use Rattle.pr_ast.specs.pr_lex.declared.token.Sign.{Sign as SignKind}
+use Rattle.pr_ast.specs.pr_lex.declared.token.Sign.TheVariants.{LeftBrace, RightBrace, LeftParen, RightParen, LeftBracket, RightBracket, Comma, Colon}
+use Rattle.pr_ast.specs.pr_lex.declared.words.Word.{Word as WordOf}
+use Rattle.pr_ast.specs.pr_lex.declared.words.Word.TheVariants.{Bool as BoolWord, Offset, Inf, NaN}
+use Rattle.pr_ast.specs.pr_lex.Spaced.{kinds}
 use Rattle.pr_ast.specs.declared.place.Place.{Place}
 use Rattle.pr_ast.specs.Tree.{Tree, select, sub, call, none}
 use Rattle.pr_ast.specs.Places.{nowhere, forget}

@@ -5,11 +5,11 @@ use Rattle.pr_forms.specs.Run.{good, bad, run_rule, run_left, run_pair, run_firs
 use Rattle.pr_forms.specs.Language.{Gives, Takes, Lacks}
 use Rattle.pr_forms.proofs.Steps.{next_pair}
 use Rattle.pr_forms.proofs.Ways.{take_side, take_side_bad, other_side, value_is}
-use Rattle.pr_lex.specs.declared.token.Sign.TheVariants.{LeftParen, RightParen, Comma}
-use Rattle.pr_lex.specs.declared.words.Word.TheVariants.{Bool as BoolWord}
-use Rattle.pr_labels.specs.declared.matching.Card.{Card}
-use Rattle.pr_labels.specs.declared.matching.Card.TheVariants.{OneToOne}
-use Rattle.pr_labels.specs.declared.matching.Matching.{Matching}
+use Rattle.pr_ast.specs.pr_lex.declared.token.Sign.TheVariants.{LeftParen, RightParen, Comma}
+use Rattle.pr_ast.specs.pr_lex.declared.words.Word.TheVariants.{Bool as BoolWord}
+use Rattle.pr_ast.specs.pr_labels.declared.matching.Card.{Card}
+use Rattle.pr_ast.specs.pr_labels.declared.matching.Card.TheVariants.{OneToOne}
+use Rattle.pr_ast.specs.pr_labels.declared.matching.Matching.{Matching}
 use Rattle.pr_ast.specs.declared.place.Place.{Place}
 use Rattle.pr_ast.specs.declared.selector.MatchText.{MatchText}
 use Rattle.pr_grammar.specs.declared.kind.Lexed.{Lexed}

@@ -4,22 +4,22 @@ use Rattle.std.specs.Prelude.{◌==◌, not, if◌then◌else◌}
 use Rattle.std.specs.Str.{bytes_eq}
 use Rattle.pr_forms.specs.Form.{token, nothing, pair, either, turns, fold, chosen, rule, Reads}
 use Rattle.pr_forms.proofs.ByRules.{Each, Meets, by_token, by_nothing, by_pair, by_left, by_right, by_stop, by_turn, by_fold, by_choice, by_rule, by_rules}
-use Rattle.pr_lex.specs.declared.token.Token.{Token}
-use Rattle.pr_lex.specs.declared.token.TokenKind.{TokenKind}
-use Rattle.pr_lex.specs.declared.token.TokenKind.TheVariants.{Name as NameToken, Number as NumberToken, Duration as DurationToken, Text as TextToken, Sign as SignToken}
-use Rattle.pr_lex.specs.declared.words.Word.{Word as WordOf}
-use Rattle.pr_lex.specs.Words.{word_of}
+use Rattle.pr_ast.specs.pr_lex.declared.token.Token.{Token}
+use Rattle.pr_ast.specs.pr_lex.declared.token.TokenKind.{TokenKind}
+use Rattle.pr_ast.specs.pr_lex.declared.token.TokenKind.TheVariants.{Name as NameToken, Number as NumberToken, Duration as DurationToken, Text as TextToken, Sign as SignToken}
+use Rattle.pr_ast.specs.pr_lex.declared.words.Word.{Word as WordOf}
+use Rattle.pr_ast.specs.pr_lex.Words.{word_of}
 use Rattle.pr_ast.specs.declared.names.Func.{Func}
 use Rattle.pr_ast.specs.Names.{func_of}
 use Rattle.pr_ast.specs.declared.place.Place.{Place}
 use Rattle.pr_ast.specs.Tree.{Tree, number, text, select, range, sub, call}
 use Rattle.pr_ast.specs.Steps.{is_step, has_steps}
 use Rattle.std.specs.Prelude.{option_map}
-use Rattle.pr_num.specs.declared.value.Num.TheVariants.{NaN as NaNValue, PosInf}
-use Rattle.pr_labels.specs.LabelSet.{metric_label}
-use Rattle.pr_lex.specs.declared.token.Sign.{Sign as SignKind}
-use Rattle.pr_lex.specs.declared.token.Sign.TheVariants.{LeftBrace, RightBrace, LeftParen, RightParen, LeftBracket, RightBracket, Comma, Colon}
-use Rattle.pr_lex.specs.declared.words.Word.TheVariants.{Bool as BoolWord, Offset, Inf, NaN}
+use Rattle.pr_ast.specs.pr_num.declared.value.Num.TheVariants.{NaN as NaNValue, PosInf}
+use Rattle.pr_ast.specs.pr_labels.LabelSet.{metric_label}
+use Rattle.pr_ast.specs.pr_lex.declared.token.Sign.{Sign as SignKind}
+use Rattle.pr_ast.specs.pr_lex.declared.token.Sign.TheVariants.{LeftBrace, RightBrace, LeftParen, RightParen, LeftBracket, RightBracket, Comma, Colon}
+use Rattle.pr_ast.specs.pr_lex.declared.words.Word.TheVariants.{Bool as BoolWord, Offset, Inf, NaN}
 use Rattle.pr_grammar.specs.declared.kind.Kind.{Kind}
 use Rattle.pr_grammar.specs.declared.kind.Kind.TheVariants.{Number, Text, Span, ZeroSpan, Word, OwnName, WithColon, Plain}
 use Rattle.pr_grammar.specs.declared.kind.Level.{Level}

@@ -2,8 +2,8 @@
 use Rattle.std.proofs.Common.{◌≡◌, true, false, refl}
 use Rattle.pr_forms.specs.Table.{empty_of, starts_of, more_of, parts_at, is_solid, is_plain, Decides, IsDecided}
 use Rattle.pr_forms.proofs.Decided.{plain_binds}
-use Rattle.pr_lex.specs.declared.token.Sign.TheVariants.{Comma}
-use Rattle.pr_lex.specs.declared.words.Word.TheVariants.{And as AndWord}
+use Rattle.pr_ast.specs.pr_lex.declared.token.Sign.TheVariants.{Comma}
+use Rattle.pr_ast.specs.pr_lex.declared.words.Word.TheVariants.{And as AndWord}
 use Rattle.pr_grammar.specs.declared.kind.Kind.TheVariants.{Word, Sign}
 use Rattle.pr_grammar.specs.declared.kind.Level.TheVariants.{Or, And, Comparison, Sum, Product}
 use Rattle.pr_grammar.specs.declared.kind.Before.TheVariants.{Selector as Selectors, Range as Ranges, Other as Others}

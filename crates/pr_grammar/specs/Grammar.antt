@@ -1,18 +1,18 @@
 -- The grammar of the query language.
 use Rattle.std.specs.Prelude.{ℕ, Bool, true, false, Option, Some, None, List, [], ◌∷◌, option_map, if◌then◌else◌}
-use Rattle.pr_num.specs.declared.value.Num.{Num}
-use Rattle.pr_num.specs.declared.value.Num.TheVariants.{NaN as NaNValue, PosInf}
+use Rattle.pr_ast.specs.pr_num.declared.value.Num.{Num}
+use Rattle.pr_ast.specs.pr_num.declared.value.Num.TheVariants.{NaN as NaNValue, PosInf}
 use Rattle.pr_forms.specs.Form.{Form, token, nothing, pair, either, fold, rule}
-use Rattle.pr_lex.specs.declared.token.TokenKind.{TokenKind}
-use Rattle.pr_lex.specs.declared.token.TokenKind.TheVariants.{Name as NameToken, Number as NumberToken, Duration as DurationToken, Text as TextToken}
-use Rattle.pr_lex.specs.declared.token.Sign.{Sign as SignKind}
-use Rattle.pr_lex.specs.declared.token.Sign.TheVariants.{LeftBrace, RightBrace, LeftParen, RightParen, LeftBracket, RightBracket, Comma, Colon, Assign, NotEqual as NotEqualSign, Like as LikeSign, NotLike as NotLikeSign, Equal as EqualSign, Less as LessSign, LessEqual as LessEqualSign, Greater as GreaterSign, GreaterEqual as GreaterEqualSign, Plus, Minus, Star, Slash, Percent}
-use Rattle.pr_lex.specs.declared.words.Word.{Word as WordKind}
-use Rattle.pr_lex.specs.declared.words.Word.TheVariants.{And as AndWord, Or as OrWord, Unless as UnlessWord, On, Ignoring, GroupLeft, GroupRight, Bool as BoolWord, Offset, By, Without, Sum as SumWord, Avg as AvgWord, Min as MinWord, Max as MaxWord, Count as CountWord, Group as GroupWord, TopK as TopKWord, BottomK as BottomKWord, Quantile as QuantileWord, CountValues as CountValuesWord, Inf, NaN}
-use Rattle.pr_labels.specs.declared.grouping.Grouping.{Grouping}
-use Rattle.pr_labels.specs.declared.matching.Matching.{Matching}
-use Rattle.pr_labels.specs.declared.matching.Card.{Card}
-use Rattle.pr_labels.specs.declared.matching.Card.TheVariants.{OneToOne, ManyToOne, OneToMany}
+use Rattle.pr_ast.specs.pr_lex.declared.token.TokenKind.{TokenKind}
+use Rattle.pr_ast.specs.pr_lex.declared.token.TokenKind.TheVariants.{Name as NameToken, Number as NumberToken, Duration as DurationToken, Text as TextToken}
+use Rattle.pr_ast.specs.pr_lex.declared.token.Sign.{Sign as SignKind}
+use Rattle.pr_ast.specs.pr_lex.declared.token.Sign.TheVariants.{LeftBrace, RightBrace, LeftParen, RightParen, LeftBracket, RightBracket, Comma, Colon, Assign, NotEqual as NotEqualSign, Like as LikeSign, NotLike as NotLikeSign, Equal as EqualSign, Less as LessSign, LessEqual as LessEqualSign, Greater as GreaterSign, GreaterEqual as GreaterEqualSign, Plus, Minus, Star, Slash, Percent}
+use Rattle.pr_ast.specs.pr_lex.declared.words.Word.{Word as WordKind}
+use Rattle.pr_ast.specs.pr_lex.declared.words.Word.TheVariants.{And as AndWord, Or as OrWord, Unless as UnlessWord, On, Ignoring, GroupLeft, GroupRight, Bool as BoolWord, Offset, By, Without, Sum as SumWord, Avg as AvgWord, Min as MinWord, Max as MaxWord, Count as CountWord, Group as GroupWord, TopK as TopKWord, BottomK as BottomKWord, Quantile as QuantileWord, CountValues as CountValuesWord, Inf, NaN}
+use Rattle.pr_ast.specs.pr_labels.declared.grouping.Grouping.{Grouping}
+use Rattle.pr_ast.specs.pr_labels.declared.matching.Matching.{Matching}
+use Rattle.pr_ast.specs.pr_labels.declared.matching.Card.{Card}
+use Rattle.pr_ast.specs.pr_labels.declared.matching.Card.TheVariants.{OneToOne, ManyToOne, OneToMany}
 use Rattle.pr_ast.specs.declared.place.Place.{Place}
 use Rattle.pr_ast.specs.declared.selector.Selector.{Selector}
 use Rattle.pr_ast.specs.declared.selector.MatchText.{MatchText}

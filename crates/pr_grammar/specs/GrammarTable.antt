@@ -2,8 +2,8 @@
 use Rattle.std.specs.Prelude.{ℕ, ◌||◌, ◌&&◌, Bool, true, false, is_some}
 use Rattle.pr_forms.specs.Table.{Table}
 use Rattle.pr_forms.specs.Language.{Language}
-use Rattle.pr_lex.specs.declared.token.Sign.TheVariants.{LeftBrace, LeftParen, LeftBracket, RightBracket, Comma, Colon}
-use Rattle.pr_lex.specs.declared.words.Word.TheVariants.{Bool as BoolWord, Offset, Inf, NaN}
+use Rattle.pr_ast.specs.pr_lex.declared.token.Sign.TheVariants.{LeftBrace, LeftParen, LeftBracket, RightBracket, Comma, Colon}
+use Rattle.pr_ast.specs.pr_lex.declared.words.Word.TheVariants.{Bool as BoolWord, Offset, Inf, NaN}
 use Rattle.pr_grammar.specs.declared.kind.Kind.{Kind}
 use Rattle.pr_grammar.specs.declared.kind.Kind.TheVariants.{Number, Text, Word, Function, Sign}
 use Rattle.pr_grammar.specs.declared.kind.Level.{Level}

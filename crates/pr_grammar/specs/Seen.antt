@@ -3,12 +3,12 @@ use Rattle.std.specs.Prelude.{ℕ, ◌==◌, Bool, Option, Some, None, List, map
 use Prim.Native.Char.{code}
 use Rattle.std.specs.List.{list_any}
 use Rattle.std.specs.Str.{bytes_eq}
-use Rattle.pr_labels.specs.LabelSet.{metric_label}
-use Rattle.pr_lex.specs.declared.token.Token.{Token}
-use Rattle.pr_lex.specs.declared.token.TokenKind.{TokenKind}
-use Rattle.pr_lex.specs.declared.token.TokenKind.TheVariants.{Name, Number as NumberToken, Duration, Text as TextToken, Sign as SignToken}
-use Rattle.pr_lex.specs.declared.words.Word.{Word as WordOf}
-use Rattle.pr_lex.specs.Words.{word_of}
+use Rattle.pr_ast.specs.pr_labels.LabelSet.{metric_label}
+use Rattle.pr_ast.specs.pr_lex.declared.token.Token.{Token}
+use Rattle.pr_ast.specs.pr_lex.declared.token.TokenKind.{TokenKind}
+use Rattle.pr_ast.specs.pr_lex.declared.token.TokenKind.TheVariants.{Name, Number as NumberToken, Duration, Text as TextToken, Sign as SignToken}
+use Rattle.pr_ast.specs.pr_lex.declared.words.Word.{Word as WordOf}
+use Rattle.pr_ast.specs.pr_lex.Words.{word_of}
 use Rattle.pr_ast.specs.declared.names.Func.{Func}
 use Rattle.pr_ast.specs.declared.place.Place.{Place}
 use Rattle.pr_ast.specs.Names.{func_of}

@@ -2,8 +2,8 @@
 ghost use Rattle.std.specs.Prelude.{◌≡◌, List, true};
 ghost use Rattle.pr_forms.specs.Table.{IsDecided};
 ghost use Rattle.pr_forms.specs.Reading.{Ends};
-ghost use Rattle.pr_lex.specs.declared.token.Token.{Token};
-ghost use Rattle.pr_lex.specs.Spaced.{kinds};
+ghost use Rattle.pr_ast.specs.pr_lex.declared.token.Token.{Token};
+ghost use Rattle.pr_ast.specs.pr_lex.Spaced.{kinds};
 ghost use Rattle.pr_ast.specs.Tree.{Tree};
 ghost use Rattle.pr_ast.specs.Places.{IsSameButPlaces};
 ghost use Rattle.pr_ast.specs.Steps.{has_steps};

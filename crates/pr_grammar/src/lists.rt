@@ -10,10 +10,10 @@ ghost use Rattle.pr_grammar.specs.GrammarTable.{queries};
 
 use crate::kind::{Lexed, through};
 use crate::tokens::{after, label_in, match_in, text_in};
+use pr_ast::lex::Sign;
+use pr_ast::words_crate::{Items, Text};
 use pr_ast::{MatchText, Place};
 use pr_forms::Fault;
-use pr_lex::Sign;
-use pr_words::{Items, Text};
 use std::alloc::{AllocError, Global};
 
 /// The labels at the front, with commas between them and maybe one more, and what follows them.

@@ -10,10 +10,10 @@ ghost use Rattle.pr_grammar.specs.Reader.{HasSide};
 use crate::kind::Lexed;
 use crate::lists::labels_in;
 use crate::tokens::{after, after_word, matching_in, side_in};
+use pr_ast::labels::{Card, Matching};
+use pr_ast::lex::{Sign, Word};
+use pr_ast::words_crate::{Items, Text};
 use pr_forms::Fault;
-use pr_labels::{Card, Matching};
-use pr_lex::{Sign, Word};
-use pr_words::{Items, Text};
 use std::alloc::Global;
 
 /// What stands between an operator and its right side.

@@ -61,12 +61,12 @@ ghost use Rattle.pr_grammar.specs.Reader.{argument_starts};
 ghost use Rattle.pr_grammar.specs.GrammarTable.{starts_unary, queries};
 
 use crate::kind::{Kind, Level, Lexed, place_of};
+use pr_ast::labels::Card;
+use pr_ast::lex::{Sign, TokenKind, Word};
+use pr_ast::num::Num;
+use pr_ast::time::Span;
 use pr_ast::{AggOp, BinOp, Func, MatchSign, Place};
 use pr_forms::take;
-use pr_labels::Card;
-use pr_lex::{Sign, TokenKind, Word};
-use pr_num::Num;
-use pr_time::Span;
 
 /// A span with its place.
 #[derive(Clone, Copy, PartialEq, Eq, Debug)]

@@ -4,13 +4,13 @@ use Rattle.std.specs.Prelude.{is_some, option_and_then}
 use Rattle.std.specs.Option.{option_map, option_map_or}
 use Rattle.std.proofs.lemmas.Option.{slice_get-map}
 use Rattle.pr_history.specs.declared.entry.Entry.{Entry}
-use Rattle.pr_lineage.specs.declared.record.Record.{Record}
-use Rattle.pr_range.specs.Asks.{LastAsks, Passed}
-use Rattle.pr_rulefile.specs.Groups.{Group as Definition}
-use Rattle.pr_rulefile.specs.Rules.{Rule, rule_of_def}
-use Rattle.pr_rulefile.specs.declared.rules.RuleDef.{RuleDef}
+use Rattle.pr_rule_step.specs.pr_lineage.declared.record.Record.{Record}
+use Rattle.pr_ready.specs.pr_range.Asks.{LastAsks, Passed}
+use Rattle.pr_rule_step.specs.pr_rulefile.Groups.{Group as Definition}
+use Rattle.pr_rule_step.specs.pr_rulefile.Rules.{Rule, rule_of_def}
+use Rattle.pr_rule_step.specs.pr_rulefile.declared.rules.RuleDef.{RuleDef}
 use Rattle.pr_rule_step.specs.declared.remembered.Remembered.{Remembered}
-use Rattle.pr_rules.specs.Groups.{Group, RuleState}
+use Rattle.pr_rule_step.specs.pr_rules.Groups.{Group, RuleState}
 use Rattle.pr_group.specs.Keeping.{KeepsGroup, KeptGroup, alerts_at, alerts_of_rule}
 
 -- the code of a rule, by its number

@@ -6,12 +6,12 @@ use Rattle.std.proofs.lemmas.Option.{same_Some, slice_get-map}
 use Rattle.pr_labels.specs.declared.pair.Pair.{Pair}
 use Rattle.pr_history.specs.declared.entry.Entry.{Entry}
 use Rattle.pr_ast.specs.Tree.{tree_of}
-use Rattle.pr_rulefile.specs.declared.rules.RuleDef.{RuleDef}
-use Rattle.pr_rulefile.specs.Groups.{Group as Definition, group_of_def}
-use Rattle.pr_rulefile.specs.Rules.{Rule, rule_of_def}
-use Rattle.pr_range.specs.Asks.{LastAsks, Passed}
-use Rattle.pr_range_calls.specs.Asking.{series_number}
-use Rattle.pr_rules.specs.Groups.{RuleState, definition_of, fresh, fresh_rule}
+use Rattle.pr_rule_step.specs.pr_rulefile.declared.rules.RuleDef.{RuleDef}
+use Rattle.pr_rule_step.specs.pr_rulefile.Groups.{Group as Definition, group_of_def}
+use Rattle.pr_rule_step.specs.pr_rulefile.Rules.{Rule, rule_of_def}
+use Rattle.pr_ready.specs.pr_range.Asks.{LastAsks, Passed}
+use Rattle.pr_rule_step.specs.pr_range_calls.Asking.{series_number}
+use Rattle.pr_rule_step.specs.pr_rules.Groups.{RuleState, definition_of, fresh, fresh_rule}
 use Rattle.pr_ready.proofs.Falling.{fresh_within}
 use Rattle.pr_ready.proofs.Ready.{fresh_asked}
 use Rattle.pr_rule_step.specs.declared.remembered.Remembered.{Remembered}

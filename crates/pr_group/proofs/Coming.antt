@@ -7,21 +7,21 @@ use Rattle.std.proofs.lemmas.Option.{same_Some}
 use Rattle.pr_history.specs.declared.entry.Entry.{Entry}
 use Rattle.pr_history.specs.Admission.{IsLawful, put_all}
 use Rattle.pr_history.proofs.Lawful.{put_all_lawful}
-use Rattle.pr_head.specs.Holds.{Holds}
-use Rattle.pr_puts.proofs.Putting.{puts_parts}
-use Rattle.pr_tmpl.specs.declared.template.External.{External}
-use Rattle.pr_rulefile.specs.declared.rules.RuleDef.{RuleDef}
-use Rattle.pr_query.specs.Cost.{PassedFor, cost}
-use Rattle.pr_range.specs.Asks.{LastAsks, Passed}
-use Rattle.pr_eval.specs.Evaluated.{passed_outside}
-use Rattle.pr_intake.specs.Intake.{HasTaken, PutsIf, Series}
-use Rattle.pr_intake.proofs.Intake.{puts_if_none, puts_if_then}
-use Rattle.pr_rules.specs.declared.report.RuleReport.{RuleReport}
-use Rattle.pr_rules.specs.Costs.{PassedByRules, rules_cost}
-use Rattle.pr_rules.specs.Evaluations.{RulesProgress, all_rules, begun, one_rule, rule_step, with_lineage}
-use Rattle.pr_rules.specs.Groups.{Group, RuleState}
-use Rattle.pr_rules.specs.Passed.{ArePassedByRules, IsPassedByRule}
-use Rattle.pr_rules.specs.Settings.{Settings}
+use Rattle.pr_rule_step.specs.pr_head.Holds.{Holds}
+use Rattle.pr_rule_step.proofs.PutsPutting.{puts_parts}
+use Rattle.pr_rule_step.specs.pr_tmpl.declared.template.External.{External}
+use Rattle.pr_rule_step.specs.pr_rulefile.declared.rules.RuleDef.{RuleDef}
+use Rattle.pr_rule_step.specs.pr_query.Cost.{PassedFor, cost}
+use Rattle.pr_ready.specs.pr_range.Asks.{LastAsks, Passed}
+use Rattle.pr_rule_step.specs.pr_eval.Evaluated.{passed_outside}
+use Rattle.pr_rule_step.specs.pr_intake.Intake.{HasTaken, PutsIf, Series}
+use Rattle.pr_rule_step.proofs.IntakeIntake.{puts_if_none, puts_if_then}
+use Rattle.pr_rule_step.specs.pr_rules.declared.report.RuleReport.{RuleReport}
+use Rattle.pr_rule_step.specs.pr_rules.Costs.{PassedByRules, rules_cost}
+use Rattle.pr_rule_step.specs.pr_rules.Evaluations.{RulesProgress, all_rules, begun, one_rule, rule_step, with_lineage}
+use Rattle.pr_rule_step.specs.pr_rules.Groups.{Group, RuleState}
+use Rattle.pr_rule_step.specs.pr_rules.Passed.{ArePassedByRules, IsPassedByRule}
+use Rattle.pr_rule_step.specs.pr_rules.Settings.{Settings}
 use Rattle.pr_rule_step.specs.declared.remembered.Remembered.{Remembered}
 use Rattle.pr_group.specs.Evaluating.{HasCome, HasDone, MayEvaluateRules, come_to}
 use Rattle.pr_group.specs.Keeping.{AreKept, KeepsRule, MayEvaluateOver, passed_for, passed_of}

@@ -8,26 +8,26 @@ use Rattle.std.proofs.lemmas.Option.{get_or_from_slice_get, same_Some, slice_get
 use Rattle.pr_labels.specs.declared.pair.Pair.{Pair}
 use Rattle.pr_history.specs.declared.entry.Entry.{Entry}
 use Rattle.pr_ast.specs.Tree.{tree_of}
-use Rattle.pr_vectors.specs.Vectors.{in_label_order}
-use Rattle.pr_lineage.specs.Lineage.{previous}
-use Rattle.pr_alert.specs.Standing.{StandsFor}
-use Rattle.pr_query.specs.Cost.{PassedFor, nothing_passed}
-use Rattle.pr_rulefile.specs.declared.rules.RuleDef.{RuleDef}
-use Rattle.pr_rulefile.specs.Rules.{Rule, rule_of_def}
-use Rattle.pr_range.specs.Asks.{LastAsks, Passed}
-use Rattle.pr_continued.proofs.Once.{takes}
-use Rattle.pr_range_calls.specs.Asking.{series_number}
-use Rattle.pr_eval.specs.Evaluated.{passed_outside}
-use Rattle.pr_rules.specs.Carried.{carried_by_rules, carried_numbers, carried_passed, passed_for_rule, rules_taken}
-use Rattle.pr_rules.specs.Groups.{RuleState, fresh_rule}
-use Rattle.pr_rules.specs.Reloads.{continued_rule, continued_rules, continues, left_by, same_kind, unused_rules}
-use Rattle.pr_rules.specs.Taking.{numbers_taken, taken}
-use Rattle.pr_rules.proofs.Takes.{taken_under_numbers}
+use Rattle.pr_ready.specs.pr_vectors.Vectors.{in_label_order}
+use Rattle.pr_rule_step.specs.pr_lineage.Lineage.{previous}
+use Rattle.pr_rule_step.specs.pr_alert.Standing.{StandsFor}
+use Rattle.pr_rule_step.specs.pr_query.Cost.{PassedFor, nothing_passed}
+use Rattle.pr_rule_step.specs.pr_rulefile.declared.rules.RuleDef.{RuleDef}
+use Rattle.pr_rule_step.specs.pr_rulefile.Rules.{Rule, rule_of_def}
+use Rattle.pr_ready.specs.pr_range.Asks.{LastAsks, Passed}
+use Rattle.pr_ready.proofs.ContinuedOnce.{takes}
+use Rattle.pr_rule_step.specs.pr_range_calls.Asking.{series_number}
+use Rattle.pr_rule_step.specs.pr_eval.Evaluated.{passed_outside}
+use Rattle.pr_rule_step.specs.pr_rules.Carried.{carried_by_rules, carried_numbers, carried_passed, passed_for_rule, rules_taken}
+use Rattle.pr_rule_step.specs.pr_rules.Groups.{RuleState, fresh_rule}
+use Rattle.pr_rule_step.specs.pr_rules.Reloads.{continued_rule, continued_rules, continues, left_by, same_kind, unused_rules}
+use Rattle.pr_rule_step.specs.pr_rules.Taking.{numbers_taken, taken}
+use Rattle.pr_rule_step.proofs.RulesTakes.{taken_under_numbers}
 use Rattle.pr_ready.specs.Asked.{WasAsked}
 use Rattle.pr_ready.specs.Within.{IsPassedWithin}
 use Rattle.pr_ready.proofs.Carrying.{asks_carried}
 use Rattle.pr_ready.proofs.Falling.{carried_is, carried_within}
-use Rattle.pr_rule_result.specs.Templates.{IsTemplatesOf}
+use Rattle.pr_rule_step.specs.pr_rule_result.Templates.{IsTemplatesOf}
 use Rattle.pr_rule_step.specs.declared.remembered.Remembered.{Remembered}
 use Rattle.pr_group.specs.Carrying.{GoesOn, GoesOnBy, HaveGoneOn, previous_in}
 use Rattle.pr_group.specs.Keeping.{AreKept, KeepsRule, passed_for}

@@ -8,25 +8,25 @@ use Rattle.pr_labels.specs.declared.pair.Pair.{Pair}
 use Rattle.pr_history.specs.declared.entry.Entry.{Entry}
 use Rattle.pr_history.specs.Admission.{put_all}
 use Rattle.pr_history.proofs.Lawful.{put_all_lawful}
-use Rattle.pr_puts.specs.Puts.{admitted, label_sets_of, marker, markers}
-use Rattle.pr_puts.proofs.Putting.{puts_parts}
-use Rattle.pr_rulefile.specs.declared.rules.RuleDef.{RuleDef}
-use Rattle.pr_rulefile.specs.Groups.{Group as Definition}
-use Rattle.pr_rulefile.specs.Rules.{rule_of_def}
-use Rattle.pr_lineage.specs.declared.restored.Restored.{Restored}
-use Rattle.pr_query.specs.Cost.{PassedFor}
-use Rattle.pr_range.specs.Asks.{LastAsks, Passed}
-use Rattle.pr_eval.specs.Evaluated.{passed_outside}
-use Rattle.pr_intake.specs.Intake.{HasTaken, PutsIf, Series}
-use Rattle.pr_intake.proofs.Intake.{puts_if_then}
-use Rattle.pr_rules.specs.declared.report.RuleReport.{RuleReport}
-use Rattle.pr_rules.specs.Costs.{group_cost, restoring_cost, rules_cost}
-use Rattle.pr_rules.specs.Evaluations.{GroupStep, RulesProgress, all_rules, begun, group_ended, group_step, one_rule, restoring}
-use Rattle.pr_rules.specs.Groups.{Group, RuleState, definition_of}
-use Rattle.pr_rules.specs.Passed.{IsPassedAfter, IsPassedByRule}
-use Rattle.pr_rules.specs.Settings.{Settings}
-use Rattle.pr_rules.specs.Times.{IsAfter}
-use Rattle.pr_rules.proofs.Keeping.{definition_stays}
+use Rattle.pr_rule_step.specs.pr_puts.Puts.{admitted, label_sets_of, marker, markers}
+use Rattle.pr_rule_step.proofs.PutsPutting.{puts_parts}
+use Rattle.pr_rule_step.specs.pr_rulefile.declared.rules.RuleDef.{RuleDef}
+use Rattle.pr_rule_step.specs.pr_rulefile.Groups.{Group as Definition}
+use Rattle.pr_rule_step.specs.pr_rulefile.Rules.{rule_of_def}
+use Rattle.pr_rule_step.specs.pr_lineage.declared.restored.Restored.{Restored}
+use Rattle.pr_rule_step.specs.pr_query.Cost.{PassedFor}
+use Rattle.pr_ready.specs.pr_range.Asks.{LastAsks, Passed}
+use Rattle.pr_rule_step.specs.pr_eval.Evaluated.{passed_outside}
+use Rattle.pr_rule_step.specs.pr_intake.Intake.{HasTaken, PutsIf, Series}
+use Rattle.pr_rule_step.proofs.IntakeIntake.{puts_if_then}
+use Rattle.pr_rule_step.specs.pr_rules.declared.report.RuleReport.{RuleReport}
+use Rattle.pr_rule_step.specs.pr_rules.Costs.{group_cost, restoring_cost, rules_cost}
+use Rattle.pr_rule_step.specs.pr_rules.Evaluations.{GroupStep, RulesProgress, all_rules, begun, group_ended, group_step, one_rule, restoring}
+use Rattle.pr_rule_step.specs.pr_rules.Groups.{Group, RuleState, definition_of}
+use Rattle.pr_rule_step.specs.pr_rules.Passed.{IsPassedAfter, IsPassedByRule}
+use Rattle.pr_rule_step.specs.pr_rules.Settings.{Settings}
+use Rattle.pr_rule_step.specs.pr_rules.Times.{IsAfter}
+use Rattle.pr_rule_step.proofs.RulesKeeping.{definition_stays}
 use Rattle.pr_rule_step.specs.declared.remembered.Remembered.{Remembered}
 use Rattle.pr_group.specs.Evaluating.{HasCome, MayEvaluateRules, come_to}
 use Rattle.pr_group.specs.Keeping.{AreKept, KeepsGroup, KeptGroup, MayEvaluateOver, passed_by, passed_for, settings_of}

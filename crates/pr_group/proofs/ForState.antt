@@ -14,13 +14,13 @@ use Rattle.pr_history.specs.declared.entry.Entry.{Entry}
 use Rattle.pr_history.specs.Admission.{IsLawful, is_of, last_entry}
 use Rattle.pr_history.specs.Lookback.{entries_until, is_until}
 use Rattle.pr_history.proofs.Lawful.{of_entries}
-use Rattle.pr_head.specs.declared.timed.Timed.{Timed}
-use Rattle.pr_head.specs.Stored.{Stored, newest_at}
-use Rattle.pr_head.specs.Holds.{Holds, IsKept, samples_of, sets_of, timed}
-use Rattle.pr_head.proofs.Arrivals.{among_arrivals, apart_from, eq_from, eq_same, samples_more, samples_other}
-use Rattle.pr_head.proofs.Newest.{Rises, UpTo, none_later, rising_samples, until_is}
-use Rattle.pr_head.proofs.Simulation.{lookup_none}
-use Rattle.pr_intake.specs.Intake.{Series}
+use Rattle.pr_rule_step.specs.pr_head.declared.timed.Timed.{Timed}
+use Rattle.pr_rule_step.specs.pr_head.Stored.{Stored, newest_at}
+use Rattle.pr_rule_step.specs.pr_head.Holds.{Holds, IsKept, samples_of, sets_of, timed}
+use Rattle.pr_rule_step.proofs.HeadArrivals.{among_arrivals, apart_from, eq_from, eq_same, samples_more, samples_other}
+use Rattle.pr_rule_step.proofs.HeadNewest.{Rises, UpTo, none_later, rising_samples, until_is}
+use Rattle.pr_rule_step.proofs.HeadSimulation.{lookup_none}
+use Rattle.pr_rule_step.specs.pr_intake.Intake.{Series}
 use Rattle.pr_group.specs.Keeping.{MayEvaluateOver}
 use Rattle.pr_group.specs.Restoring.{in_last_hour, kept_of_last_hour}
 

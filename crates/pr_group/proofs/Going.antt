@@ -2,27 +2,27 @@
 use Rattle.std.proofs.Common.{◌≡◌, ℕ, ◌<◌, Bool, true, false, cond, List, [], ◌∷◌, ◌++◌, find, flat_map, fold, length, map, slice_get, Option, Some, None, refl, sym, ap, subst, ◌∙◌, arith}
 use Rattle.pr_labels.specs.declared.pair.Pair.{Pair}
 use Rattle.pr_history.specs.declared.entry.Entry.{Entry}
-use Rattle.pr_rulefile.specs.Groups.{Group as Definition, group_of_def}
-use Rattle.pr_rulefile.specs.Rules.{Rule, rule_of_def}
-use Rattle.pr_rulefile.specs.declared.rules.GroupDef.{GroupDef}
-use Rattle.pr_rulefile.specs.declared.rules.RuleDef.{RuleDef}
-use Rattle.pr_range.specs.Asks.{LastAsks, Passed}
-use Rattle.pr_range.specs.Carried.{IsOnce}
-use Rattle.pr_continued.specs.Named.{AreBelow}
-use Rattle.pr_continued.proofs.Once.{numbers_once, takes}
+use Rattle.pr_rule_step.specs.pr_rulefile.Groups.{Group as Definition, group_of_def}
+use Rattle.pr_rule_step.specs.pr_rulefile.Rules.{Rule, rule_of_def}
+use Rattle.pr_rule_step.specs.pr_rulefile.declared.rules.GroupDef.{GroupDef}
+use Rattle.pr_rule_step.specs.pr_rulefile.declared.rules.RuleDef.{RuleDef}
+use Rattle.pr_ready.specs.pr_range.Asks.{LastAsks, Passed}
+use Rattle.pr_ready.specs.pr_range.Carried.{IsOnce}
+use Rattle.pr_ready.specs.pr_continued.Named.{AreBelow}
+use Rattle.pr_ready.proofs.ContinuedOnce.{numbers_once, takes}
 use Rattle.std.proofs.lemmas.List.{length-map}
 use Rattle.std.proofs.lemmas.Option.{same_Some, slice_get_within}
 use Rattle.std.specs.Prelude.{Result, Ok, Err, IfOk, IfSome, OnOk}
 use Rattle.std.specs.Option.{option_and_then, option_map}
 use Rattle.pr_labels.specs.Rising.{with_labels}
-use Rattle.pr_lineage.specs.declared.record.Record.{Record}
-use Rattle.pr_alert.specs.Standing.{StandsFor}
+use Rattle.pr_rule_step.specs.pr_lineage.declared.record.Record.{Record}
+use Rattle.pr_rule_step.specs.pr_alert.Standing.{StandsFor}
 use Rattle.pr_rule_step.specs.declared.remembered.Remembered.{Remembered}
-use Rattle.pr_vectors.specs.Vectors.{in_label_order}
-use Rattle.pr_rules.specs.Carried.{carried_by_group, carried_by_rules}
-use Rattle.pr_rules.specs.Groups.{Group, RuleState, definition_of, fresh, fresh_rule, rules_of}
-use Rattle.pr_rules.specs.Reloads.{carried, continued_rule, continued_rules, continues, left_by, remains, unused_rules}
-use Rattle.pr_rules.specs.Taking.{numbers_taken, without_first}
+use Rattle.pr_ready.specs.pr_vectors.Vectors.{in_label_order}
+use Rattle.pr_rule_step.specs.pr_rules.Carried.{carried_by_group, carried_by_rules}
+use Rattle.pr_rule_step.specs.pr_rules.Groups.{Group, RuleState, definition_of, fresh, fresh_rule, rules_of}
+use Rattle.pr_rule_step.specs.pr_rules.Reloads.{carried, continued_rule, continued_rules, continues, left_by, remains, unused_rules}
+use Rattle.pr_rule_step.specs.pr_rules.Taking.{numbers_taken, without_first}
 use Rattle.pr_group.specs.Carrying.{HasGoneOn, HaveGoneOn}
 use Rattle.pr_group.specs.Keeping.{AreKept, KeepsGroup, KeptGroup, alerts_at, alerts_of_rule, passed_by}
 use Rattle.pr_group.specs.Matching.{continues_def}

@@ -8,17 +8,17 @@ use Rattle.pr_forms.specs.Form.{rule}
 use Rattle.pr_forms.specs.Table.{is_more, more_of}
 use Rattle.pr_forms.proofs.Decided.{rule_decides}
 use Rattle.pr_forms.proofs.Readings.{Alike, alike, first_goes_on, second_goes_on, readings_alike}
-use Rattle.pr_strings.specs.Quoted.{quoted_text}
-use Rattle.pr_strings.specs.Strings.{IsString, Letter, Text, Value, content, letter, production, seen}
-use Rattle.pr_strings.specs.StringTable.{table}
-use Rattle.pr_strings.proofs.StringTable.{known}
-use Rattle.pr_strings.proofs.Written.{quoted_reads}
+use Rattle.pr_labels.specs.pr_strings.Quoted.{quoted_text}
+use Rattle.pr_labels.specs.pr_strings.Strings.{IsString, Letter, Text, Value, content, letter, production, seen}
+use Rattle.pr_labels.specs.pr_strings.StringTable.{table}
+use Rattle.pr_labels.proofs.StringsStringTable.{known}
+use Rattle.pr_labels.proofs.StringsWritten.{quoted_reads}
 use Rattle.pr_labels.specs.declared.pair.Pair.{Pair}
 use Rattle.pr_labels.specs.Order.{labels_eq}
 use Rattle.pr_labels.proofs.LabelOrder.{labels_decide}
-use Rattle.pr_rulefile.specs.declared.rules.RuleDef.{RuleDef}
-use Rattle.pr_rulefile.specs.Rules.{name_key}
-use Rattle.pr_rules.specs.Reloads.{same_kind}
+use Rattle.pr_rule_step.specs.pr_rulefile.declared.rules.RuleDef.{RuleDef}
+use Rattle.pr_rule_step.specs.pr_rulefile.Rules.{name_key}
+use Rattle.pr_rule_step.specs.pr_rules.Reloads.{same_kind}
 use Rattle.pr_group.specs.Matching.{continues_def, key_of, labels_key}
 
 -- Bytes in double quotes tell what they are, whatever follows.

@@ -3,9 +3,9 @@ use Rattle.std.proofs.Common.{◌≡◌, ℕ, ◌<◌, List, ◌++◌, length, s
 use Rattle.std.proofs.lemmas.Option.{slice_get_within}
 use Rattle.pr_history.specs.declared.entry.Entry.{Entry}
 use Rattle.pr_history.specs.Admission.{IsLawful}
-use Rattle.pr_rulefile.specs.Groups.{Group as Definition}
-use Rattle.pr_range.specs.Asks.{LastAsks, Passed}
-use Rattle.pr_rules.specs.Groups.{Group}
+use Rattle.pr_rule_step.specs.pr_rulefile.Groups.{Group as Definition}
+use Rattle.pr_ready.specs.pr_range.Asks.{LastAsks, Passed}
+use Rattle.pr_rule_step.specs.pr_rules.Groups.{Group}
 use Rattle.pr_ready.specs.Within.{ArePassedWithin}
 use Rattle.pr_rule_step.specs.declared.remembered.Remembered.{Remembered}
 use Rattle.pr_group.specs.Keeping.{KeepsGroup, KeptGroup, passed_by, passed_for}

@@ -16,3 +16,5 @@ pub mod Restored
 pub mod Lasting
 pub mod Ending
 pub mod Beginning
+pub use Rattle.pr_rule_step.proofs.RulefileSomeProblems
+pub use Rattle.pr_rule_step.proofs.RulefileSoundGroups

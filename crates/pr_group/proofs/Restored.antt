@@ -13,25 +13,25 @@ use Rattle.std.proofs.lemmas.List.Elements.{filter-append, filter_map-append}
 use Rattle.std.proofs.lemmas.Option.{get_or_from_slice_get, same_Some, slice_get-map}
 use Rattle.pr_labels.specs.declared.pair.Pair.{Pair}
 use Rattle.pr_history.specs.declared.entry.Entry.{Entry}
-use Rattle.pr_head.specs.declared.timed.Timed.{Timed}
-use Rattle.pr_head.specs.Holds.{timed}
-use Rattle.pr_lineage.specs.declared.record.Record.{Record}
-use Rattle.pr_lineage.specs.declared.restored.Restored.{Restored}
-use Rattle.pr_lineage.specs.Lineage.{Step, moved, previous, previous_from}
-use Rattle.pr_lineage.specs.Records.{is_living, living_count, records}
-use Rattle.pr_lineage.specs.Restoring.{for_state_entry, grace_period, moved_time, restored_alert, restored_of, restored_time}
-use Rattle.pr_alert.specs.Restoring.{moved_at, moves_of, with_active}
-use Rattle.pr_alert.specs.Standing.{StandsFor}
-use Rattle.pr_rulefile.specs.declared.rules.RuleDef.{RuleDef}
-use Rattle.pr_rulefile.specs.Rules.{Rule, rule_of_def}
-use Rattle.pr_range.specs.Asks.{LastAsks, Passed}
-use Rattle.pr_rules.specs.Costs.{restored_reads}
-use Rattle.pr_rules.specs.Evaluations.{restored_by, restores, with_restored}
-use Rattle.pr_rules.specs.Groups.{RuleState}
+use Rattle.pr_rule_step.specs.pr_head.declared.timed.Timed.{Timed}
+use Rattle.pr_rule_step.specs.pr_head.Holds.{timed}
+use Rattle.pr_rule_step.specs.pr_lineage.declared.record.Record.{Record}
+use Rattle.pr_rule_step.specs.pr_lineage.declared.restored.Restored.{Restored}
+use Rattle.pr_rule_step.specs.pr_lineage.Lineage.{Step, moved, previous, previous_from}
+use Rattle.pr_rule_step.specs.pr_lineage.Records.{is_living, living_count, records}
+use Rattle.pr_rule_step.specs.pr_lineage.Restoring.{for_state_entry, grace_period, moved_time, restored_alert, restored_of, restored_time}
+use Rattle.pr_rule_step.specs.pr_alert.Restoring.{moved_at, moves_of, with_active}
+use Rattle.pr_rule_step.specs.pr_alert.Standing.{StandsFor}
+use Rattle.pr_rule_step.specs.pr_rulefile.declared.rules.RuleDef.{RuleDef}
+use Rattle.pr_rule_step.specs.pr_rulefile.Rules.{Rule, rule_of_def}
+use Rattle.pr_ready.specs.pr_range.Asks.{LastAsks, Passed}
+use Rattle.pr_rule_step.specs.pr_rules.Costs.{restored_reads}
+use Rattle.pr_rule_step.specs.pr_rules.Evaluations.{restored_by, restores, with_restored}
+use Rattle.pr_rule_step.specs.pr_rules.Groups.{RuleState}
 use Rattle.pr_ast.specs.Tree.{tree_of}
 use Rattle.pr_ready.specs.Asked.{WasAsked}
 use Rattle.pr_ready.specs.Within.{ArePassedWithin}
-use Rattle.pr_rule_result.specs.declared.templates.RuleTemplates.{RuleTemplates}
+use Rattle.pr_rule_step.specs.pr_rule_result.declared.templates.RuleTemplates.{RuleTemplates}
 use Rattle.pr_rule_step.specs.declared.remembered.Remembered.{Remembered}
 use Rattle.pr_rule_step.specs.Standing.{StandsForRule}
 use Rattle.pr_group.specs.Keeping.{AreKept, KeepsRule}

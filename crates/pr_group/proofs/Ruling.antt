@@ -5,26 +5,26 @@ use Rattle.std.proofs.lemmas.Int.{ints}
 use Rattle.pr_history.specs.declared.entry.Entry.{Entry}
 use Rattle.pr_ast.specs.Reach.{reads_back}
 use Rattle.pr_ast.specs.Tree.{Tree, tree_of}
-use Rattle.pr_types.specs.Checking.{MayEvaluate}
-use Rattle.pr_tmpl.specs.declared.template.External.{External}
-use Rattle.pr_rulefile.specs.declared.rules.RuleDef.{RuleDef}
-use Rattle.pr_rulefile.specs.Rules.{Rule, rule_of_def}
-use Rattle.pr_query.specs.declared.fault.Fault.{Fault}
-use Rattle.pr_query.specs.declared.value.Value.{Value}
-use Rattle.pr_query.specs.Cost.{PassedFor, cost}
-use Rattle.pr_query.specs.Meaning.{meaning}
-use Rattle.pr_lineage.specs.declared.found.Found.{Found}
-use Rattle.pr_range.specs.Asks.{LastAsks, Passed}
-use Rattle.pr_eval.specs.Evaluated.{AreAllAsked, AreReady, KeptOfRanges, MayBegin, asks_of, kept_by, passed_outside}
-use Rattle.pr_intake.specs.Intake.{Series}
-use Rattle.pr_rules.specs.declared.fault.RuleFailure.{RuleFailure}
-use Rattle.pr_rules.specs.declared.report.RuleReport.{RuleReport}
-use Rattle.pr_rules.specs.Evaluations.{rule_outcome, rule_step, with_lineage, within_alerts}
-use Rattle.pr_rules.specs.Groups.{Group, RuleState}
-use Rattle.pr_rules.specs.Passed.{ArePassed, IsPassedByRule}
-use Rattle.pr_rules.specs.Results.{failed_by, rule_result, rule_result_by}
-use Rattle.pr_rules.specs.Settings.{Settings}
-use Rattle.pr_rules.specs.Times.{IsAfter}
+use Rattle.pr_rule_step.specs.pr_types.Checking.{MayEvaluate}
+use Rattle.pr_rule_step.specs.pr_tmpl.declared.template.External.{External}
+use Rattle.pr_rule_step.specs.pr_rulefile.declared.rules.RuleDef.{RuleDef}
+use Rattle.pr_rule_step.specs.pr_rulefile.Rules.{Rule, rule_of_def}
+use Rattle.pr_rule_step.specs.pr_query.declared.fault.Fault.{Fault}
+use Rattle.pr_rule_step.specs.pr_query.declared.value.Value.{Value}
+use Rattle.pr_rule_step.specs.pr_query.Cost.{PassedFor, cost}
+use Rattle.pr_rule_step.specs.pr_query.Meaning.{meaning}
+use Rattle.pr_rule_step.specs.pr_lineage.declared.found.Found.{Found}
+use Rattle.pr_ready.specs.pr_range.Asks.{LastAsks, Passed}
+use Rattle.pr_rule_step.specs.pr_eval.Evaluated.{AreAllAsked, AreReady, KeptOfRanges, MayBegin, asks_of, kept_by, passed_outside}
+use Rattle.pr_rule_step.specs.pr_intake.Intake.{Series}
+use Rattle.pr_rule_step.specs.pr_rules.declared.fault.RuleFailure.{RuleFailure}
+use Rattle.pr_rule_step.specs.pr_rules.declared.report.RuleReport.{RuleReport}
+use Rattle.pr_rule_step.specs.pr_rules.Evaluations.{rule_outcome, rule_step, with_lineage, within_alerts}
+use Rattle.pr_rule_step.specs.pr_rules.Groups.{Group, RuleState}
+use Rattle.pr_rule_step.specs.pr_rules.Passed.{ArePassed, IsPassedByRule}
+use Rattle.pr_rule_step.specs.pr_rules.Results.{failed_by, rule_result, rule_result_by}
+use Rattle.pr_rule_step.specs.pr_rules.Settings.{Settings}
+use Rattle.pr_rule_step.specs.pr_rules.Times.{IsAfter}
 use Rattle.pr_ready.specs.Asked.{WasAsked}
 use Rattle.pr_ready.specs.Within.{ArePassedWithin}
 use Rattle.pr_ready.proofs.Falling.{asked_falls_not, asked_within}

@@ -7,14 +7,14 @@ use Rattle.pr_labels.specs.Order.{labels_eq}
 use Rattle.pr_history.specs.declared.entry.Entry.{Entry}
 use Rattle.pr_history.specs.Admission.{IsLawful, put_all}
 use Rattle.pr_history.proofs.Lawful.{after_parts, put_all_lawful}
-use Rattle.pr_head.specs.Holds.{arrivals}
-use Rattle.pr_puts.specs.Puts.{admitted}
-use Rattle.pr_puts.proofs.Putting.{puts_admitted}
-use Rattle.pr_range.specs.Asks.{LastAsk, LastAsks, Passed}
-use Rattle.pr_range_calls.specs.Asking.{series_number}
-use Rattle.pr_eval.specs.Evaluated.{passed_outside}
-use Rattle.pr_rulefile.specs.declared.rules.RuleDef.{RuleDef}
-use Rattle.pr_rules.specs.Groups.{RuleState}
+use Rattle.pr_rule_step.specs.pr_head.Holds.{arrivals}
+use Rattle.pr_rule_step.specs.pr_puts.Puts.{admitted}
+use Rattle.pr_rule_step.proofs.PutsPutting.{puts_admitted}
+use Rattle.pr_ready.specs.pr_range.Asks.{LastAsk, LastAsks, Passed}
+use Rattle.pr_rule_step.specs.pr_range_calls.Asking.{series_number}
+use Rattle.pr_rule_step.specs.pr_eval.Evaluated.{passed_outside}
+use Rattle.pr_rule_step.specs.pr_rulefile.declared.rules.RuleDef.{RuleDef}
+use Rattle.pr_rule_step.specs.pr_rules.Groups.{RuleState}
 use Rattle.pr_ready.specs.Within.{ArePassedWithin, IsPassedWithin}
 use Rattle.pr_ready.proofs.Falling.{later_within}
 use Rattle.pr_ready.proofs.Lists.{first_stays}

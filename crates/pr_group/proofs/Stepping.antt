@@ -5,10 +5,10 @@ use Rattle.std.proofs.lemmas.List.{length-set}
 use Rattle.std.proofs.lemmas.Option.{same_Some}
 use borrow.Author.Tests.{eqb-true}
 use Rattle.pr_history.specs.declared.entry.Entry.{Entry}
-use Rattle.pr_rulefile.specs.declared.rules.RuleDef.{RuleDef}
-use Rattle.pr_range.specs.Asks.{LastAsks, Passed}
-use Rattle.pr_range.specs.Carried.{IsOnce}
-use Rattle.pr_continued.specs.Named.{AreBelow}
+use Rattle.pr_rule_step.specs.pr_rulefile.declared.rules.RuleDef.{RuleDef}
+use Rattle.pr_ready.specs.pr_range.Asks.{LastAsks, Passed}
+use Rattle.pr_ready.specs.pr_range.Carried.{IsOnce}
+use Rattle.pr_ready.specs.pr_continued.Named.{AreBelow}
 use Rattle.pr_rule_step.specs.declared.remembered.Remembered.{Remembered}
 use Rattle.pr_group.specs.Carrying.{GoesOnBy, GoneSoFar, MayGoOn, without_named}
 use Rattle.pr_group.specs.Matching.{spared}

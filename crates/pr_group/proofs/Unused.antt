@@ -2,7 +2,7 @@
 use Rattle.std.proofs.Common.{◌≡◌, ℕ, suc, ◌+◌, ◌<◌, ◌≤◌, nat_eq, Bool, true, false, not, cond, ◌||◌, List, [], ◌∷◌, filter, map, Option, Some, None, refl, sym, ap, subst, ◌∙◌, arith}
 use Rattle.std.specs.Prelude.{find}
 use Rattle.std.specs.Option.{option_map}
-use Rattle.pr_rules.specs.Taking.{Numbered, numbered, numbered_from, numbers_taken, taken, untaken, without_first}
+use Rattle.pr_rule_step.specs.pr_rules.Taking.{Numbered, numbered, numbered_from, numbers_taken, taken, untaken, without_first}
 use Rattle.pr_group.proofs.Spared.{alike, apart, apart_too}
 use Rattle.pr_group.specs.Matching.{is_named, kept_if, names, spared, spared_from}
 

@@ -4,9 +4,9 @@ use Rattle.std.proofs.lemmas.List.Sums.{fold-append}
 use Rattle.std.specs.Prelude.{Result, Ok, Err, IfOk}
 use Rattle.pr_labels.specs.declared.pair.Pair.{Pair}
 use Rattle.pr_labels.specs.Rising.{with_labels}
-use Rattle.pr_vectors.specs.Vectors.{in_label_order}
-use Rattle.pr_lineage.specs.Lineage.{previous}
-use Rattle.pr_rules.specs.Groups.{RuleState}
+use Rattle.pr_ready.specs.pr_vectors.Vectors.{in_label_order}
+use Rattle.pr_rule_step.specs.pr_lineage.Lineage.{previous}
+use Rattle.pr_rule_step.specs.pr_rules.Groups.{RuleState}
 use Rattle.pr_rule_step.specs.declared.remembered.Remembered.{Remembered}
 use Rattle.pr_group.specs.Carrying.{previous_in}
 use Rattle.pr_group.specs.Matching.{is_named, kept_if, spared_from}

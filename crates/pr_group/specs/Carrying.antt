@@ -3,13 +3,13 @@ use Rattle.std.specs.Prelude.{◌≡◌, ℕ, ◌≤◌, ◌++◌, List, [], fla
 use Rattle.pr_labels.specs.declared.pair.Pair.{Pair}
 use Rattle.pr_history.specs.declared.entry.Entry.{Entry}
 use Rattle.pr_ast.specs.Tree.{Tree, tree_of}
-use Rattle.pr_types.specs.Checking.{MayEvaluate}
-use Rattle.pr_rulefile.specs.declared.rules.RuleDef.{RuleDef}
-use Rattle.pr_range.specs.Asks.{LastAsks, Passed}
-use Rattle.pr_range.specs.Carried.{IsCarried}
-use Rattle.pr_vectors.specs.Vectors.{in_label_order}
-use Rattle.pr_rules.specs.Carried.{carried_numbers}
-use Rattle.pr_rules.specs.Taking.{numbers_taken}
+use Rattle.pr_rule_step.specs.pr_types.Checking.{MayEvaluate}
+use Rattle.pr_rule_step.specs.pr_rulefile.declared.rules.RuleDef.{RuleDef}
+use Rattle.pr_ready.specs.pr_range.Asks.{LastAsks, Passed}
+use Rattle.pr_ready.specs.pr_range.Carried.{IsCarried}
+use Rattle.pr_ready.specs.pr_vectors.Vectors.{in_label_order}
+use Rattle.pr_rule_step.specs.pr_rules.Carried.{carried_numbers}
+use Rattle.pr_rule_step.specs.pr_rules.Taking.{numbers_taken}
 use Rattle.pr_rule_step.specs.declared.remembered.Remembered.{Remembered}
 use Rattle.pr_group.specs.Keeping.{KeptGroup}
 use Rattle.pr_group.specs.Matching.{continues_def, spared}

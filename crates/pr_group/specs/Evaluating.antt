@@ -2,18 +2,18 @@
 use Rattle.std.specs.Prelude.{◌≡◌, ℕ, ◌≤◌, ◌<◌, Bool, true, false, List, length, take, slice_get, fold, Option, Some, IfSome}
 use Rattle.pr_history.specs.declared.entry.Entry.{Entry}
 use Rattle.pr_history.specs.Admission.{put_all}
-use Rattle.pr_tmpl.specs.declared.template.External.{External}
-use Rattle.pr_rulefile.specs.declared.rules.RuleDef.{RuleDef}
-use Rattle.pr_rulefile.specs.Rules.{rule_of_def}
-use Rattle.pr_range.specs.Asks.{LastAsks, Passed}
-use Rattle.pr_range.specs.Carried.{IsFresh}
-use Rattle.pr_eval.specs.Evaluated.{passed_outside}
-use Rattle.pr_intake.specs.Intake.{PutsIf, Series}
-use Rattle.pr_rules.specs.declared.report.RuleReport.{RuleReport}
-use Rattle.pr_rules.specs.Evaluations.{RulesProgress, begun, one_rule, rule_step, with_lineage}
-use Rattle.pr_rules.specs.Groups.{Group, RuleState, fresh_rule}
-use Rattle.pr_rules.specs.Passed.{IsPassedByRule}
-use Rattle.pr_rules.specs.Settings.{Settings}
+use Rattle.pr_rule_step.specs.pr_tmpl.declared.template.External.{External}
+use Rattle.pr_rule_step.specs.pr_rulefile.declared.rules.RuleDef.{RuleDef}
+use Rattle.pr_rule_step.specs.pr_rulefile.Rules.{rule_of_def}
+use Rattle.pr_ready.specs.pr_range.Asks.{LastAsks, Passed}
+use Rattle.pr_ready.specs.pr_range.Carried.{IsFresh}
+use Rattle.pr_rule_step.specs.pr_eval.Evaluated.{passed_outside}
+use Rattle.pr_rule_step.specs.pr_intake.Intake.{PutsIf, Series}
+use Rattle.pr_rule_step.specs.pr_rules.declared.report.RuleReport.{RuleReport}
+use Rattle.pr_rule_step.specs.pr_rules.Evaluations.{RulesProgress, begun, one_rule, rule_step, with_lineage}
+use Rattle.pr_rule_step.specs.pr_rules.Groups.{Group, RuleState, fresh_rule}
+use Rattle.pr_rule_step.specs.pr_rules.Passed.{IsPassedByRule}
+use Rattle.pr_rule_step.specs.pr_rules.Settings.{Settings}
 use Rattle.pr_rule_step.specs.declared.remembered.Remembered.{Remembered}
 use Rattle.pr_rule_step.specs.Standing.{HasStepped, IsEvaluationOf, StandsForRule}
 use Rattle.pr_group.specs.Keeping.{AreKept, KeepsRule, MayEvaluateOver}

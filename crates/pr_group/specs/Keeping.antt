@@ -4,21 +4,21 @@ use Rattle.std.specs.Option.{option_map}
 use Rattle.pr_labels.specs.declared.pair.Pair.{Pair}
 use Rattle.pr_history.specs.declared.entry.Entry.{Entry}
 use Rattle.pr_history.specs.Admission.{IsLawful}
-use Rattle.pr_head.specs.Holds.{Holds, IsWhole}
+use Rattle.pr_rule_step.specs.pr_head.Holds.{Holds, IsWhole}
 use Rattle.pr_ast.specs.Tree.{tree_of}
-use Rattle.pr_tmpl.specs.declared.template.External.{External}
-use Rattle.pr_rulefile.specs.declared.rules.GroupDef.{GroupDef}
-use Rattle.pr_rulefile.specs.declared.rules.RuleDef.{RuleDef}
-use Rattle.pr_rulefile.specs.Groups.{group_of_def}
-use Rattle.pr_rulefile.specs.Rules.{rule_of_def}
-use Rattle.pr_lineage.specs.declared.record.Record.{Record}
-use Rattle.pr_query.specs.Cost.{PassedFor, nothing_passed}
-use Rattle.pr_range.specs.Asks.{LastAsks, Passed}
-use Rattle.pr_eval.specs.Evaluated.{passed_outside}
-use Rattle.pr_intake.specs.Intake.{Series}
-use Rattle.pr_rules.specs.Costs.{PassedByRules}
-use Rattle.pr_rules.specs.Groups.{Group, RuleState, definition_of}
-use Rattle.pr_rules.specs.Settings.{Settings}
+use Rattle.pr_rule_step.specs.pr_tmpl.declared.template.External.{External}
+use Rattle.pr_rule_step.specs.pr_rulefile.declared.rules.GroupDef.{GroupDef}
+use Rattle.pr_rule_step.specs.pr_rulefile.declared.rules.RuleDef.{RuleDef}
+use Rattle.pr_rule_step.specs.pr_rulefile.Groups.{group_of_def}
+use Rattle.pr_rule_step.specs.pr_rulefile.Rules.{rule_of_def}
+use Rattle.pr_rule_step.specs.pr_lineage.declared.record.Record.{Record}
+use Rattle.pr_rule_step.specs.pr_query.Cost.{PassedFor, nothing_passed}
+use Rattle.pr_ready.specs.pr_range.Asks.{LastAsks, Passed}
+use Rattle.pr_rule_step.specs.pr_eval.Evaluated.{passed_outside}
+use Rattle.pr_rule_step.specs.pr_intake.Intake.{Series}
+use Rattle.pr_rule_step.specs.pr_rules.Costs.{PassedByRules}
+use Rattle.pr_rule_step.specs.pr_rules.Groups.{Group, RuleState, definition_of}
+use Rattle.pr_rule_step.specs.pr_rules.Settings.{Settings}
 use Rattle.pr_ready.specs.Asked.{WasAsked}
 use Rattle.pr_ready.specs.Within.{ArePassedWithin}
 use Rattle.pr_rule_step.specs.declared.remembered.Remembered.{Remembered}

@@ -1,12 +1,12 @@
 -- Which older rules new ones go on from, as their definitions tell.
 use Rattle.std.specs.Prelude.{ℕ, ◌+◌, nat_eq, Bool, false, cond, List, [], ◌∷◌, ◌++◌, flat_map, Option, Some, None}
 use Rattle.std.specs.List.{list_any}
-use Rattle.pr_strings.specs.Quoted.{quoted_text}
+use Rattle.pr_labels.specs.pr_strings.Quoted.{quoted_text}
 use Rattle.pr_labels.specs.declared.pair.Pair.{Pair}
-use Rattle.pr_rulefile.specs.declared.rules.RuleDef.{RuleDef}
-use Rattle.pr_rulefile.specs.Rules.{name_key, rule_of_def}
-use Rattle.pr_rules.specs.Groups.{fresh_rule}
-use Rattle.pr_rules.specs.Reloads.{continues}
+use Rattle.pr_rule_step.specs.pr_rulefile.declared.rules.RuleDef.{RuleDef}
+use Rattle.pr_rule_step.specs.pr_rulefile.Rules.{name_key, rule_of_def}
+use Rattle.pr_rule_step.specs.pr_rules.Groups.{fresh_rule}
+use Rattle.pr_rule_step.specs.pr_rules.Reloads.{continues}
 
 -- a rule goes on from one of its kind with its name and its labels
 abbrev pub continues_def : RuleDef → RuleDef → Bool

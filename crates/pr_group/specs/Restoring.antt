@@ -3,16 +3,16 @@ use Rattle.std.specs.Prelude.{◌≡◌, ℕ, ◌+◌, ◌≤◌, ◌<◌, Bool,
 use Rattle.std.specs.List.{filter_map}
 use Rattle.std.specs.Option.{option_to_list}
 use Rattle.pr_history.specs.declared.entry.Entry.{Entry}
-use Rattle.pr_head.specs.declared.timed.Timed.{Timed}
-use Rattle.pr_lineage.specs.declared.record.Record.{Record}
-use Rattle.pr_lineage.specs.declared.restored.Restored.{Restored}
-use Rattle.pr_lineage.specs.Lineage.{Step, moved}
-use Rattle.pr_lineage.specs.Restoring.{restored_alert}
-use Rattle.pr_alert.specs.Standing.{StandsFor}
-use Rattle.pr_rulefile.specs.declared.rules.RuleDef.{RuleDef}
-use Rattle.pr_range.specs.Asks.{LastAsks, Passed}
-use Rattle.pr_rules.specs.Evaluations.{restores, with_restored}
-use Rattle.pr_rules.specs.Groups.{RuleState}
+use Rattle.pr_rule_step.specs.pr_head.declared.timed.Timed.{Timed}
+use Rattle.pr_rule_step.specs.pr_lineage.declared.record.Record.{Record}
+use Rattle.pr_rule_step.specs.pr_lineage.declared.restored.Restored.{Restored}
+use Rattle.pr_rule_step.specs.pr_lineage.Lineage.{Step, moved}
+use Rattle.pr_rule_step.specs.pr_lineage.Restoring.{restored_alert}
+use Rattle.pr_rule_step.specs.pr_alert.Standing.{StandsFor}
+use Rattle.pr_rule_step.specs.pr_rulefile.declared.rules.RuleDef.{RuleDef}
+use Rattle.pr_ready.specs.pr_range.Asks.{LastAsks, Passed}
+use Rattle.pr_rule_step.specs.pr_rules.Evaluations.{restores, with_restored}
+use Rattle.pr_rule_step.specs.pr_rules.Groups.{RuleState}
 use Rattle.pr_rule_step.specs.declared.remembered.Remembered.{Remembered}
 use Rattle.pr_group.specs.Keeping.{KeepsRule}
 

@@ -2,13 +2,13 @@
 ghost use Rattle.std.specs.Prelude.{◌≡◌, ℕ, List, false, is_some, option_copied, slice_get, Some, IfSome};
 ghost use Rattle.std.specs.Option.{option_map_or};
 ghost use Rattle.pr_history.specs.declared.entry.Entry.{Entry};
-ghost use Rattle.pr_alert.specs.Standing.{StandsFor};
-ghost use Rattle.pr_rules.specs.Groups.{Group, RuleState};
+ghost use Rattle.pr_rule_step.specs.pr_alert.Standing.{StandsFor};
+ghost use Rattle.pr_rule_step.specs.pr_rules.Groups.{Group, RuleState};
 ghost use Rattle.pr_group.specs.Keeping.{KeepsGroup, alerts_at};
 
 use crate::group::GroupOver;
-use pr_alert::Records;
-use pr_range::Ranges;
+use pr_ready::range::Ranges;
+use pr_rule_step::alert::Records;
 
 impl<R: Ranges + Drop> GroupOver<R> {
     // The alerts of the rule with a number, where it is an alert.

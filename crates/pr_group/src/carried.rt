@@ -1,16 +1,16 @@
 // What is remembered of rules goes on from that of older ones.
 ghost use Rattle.std.specs.Prelude.{◌≡◌, ℕ, ◌<◌, List, Option, Some, None, IfOk, OnOk, length, map, slice_get, slice_set};
 ghost use Rattle.pr_ast.specs.Tree.{tree_of};
-ghost use Rattle.pr_range.specs.Carried.{IsOnce};
-ghost use Rattle.pr_continued.specs.Named.{AreBelow};
+ghost use Rattle.pr_ready.specs.pr_range.Carried.{IsOnce};
+ghost use Rattle.pr_ready.specs.pr_continued.Named.{AreBelow};
 ghost use Rattle.pr_rule_step.specs.declared.remembered.Remembered.{Remembered as Kept};
 ghost use Rattle.pr_group.specs.Carrying.{GoesOn, HaveGoneOn, MayGoOn, without_named};
 ghost use Rattle.pr_group.specs.Matching.{spared};
 
-use pr_continued::carried;
-use pr_range::Ranges;
+use pr_ready::continued::carried;
+use pr_ready::range::Ranges;
 use pr_rule_step::Remembered;
-use pr_rulefile::RuleDef;
+use pr_rule_step::rulefile::RuleDef;
 use std::alloc::{AllocError, Global};
 
 /// What is remembered of older rules, to be taken one by one.

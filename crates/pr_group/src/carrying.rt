@@ -2,11 +2,11 @@
 ghost use Rattle.std.specs.Prelude.{◌≡◌, ◌++◌, ℕ, List, IfOk, OnOk, flat_map};
 ghost use Rattle.pr_labels.specs.declared.pair.Pair.{Pair};
 ghost use Rattle.pr_history.specs.declared.entry.Entry.{Entry};
-ghost use Rattle.pr_vectors.specs.Vectors.{in_label_order};
-ghost use Rattle.pr_rulefile.specs.Groups.{group_of_def};
-ghost use Rattle.pr_rules.specs.Carried.{carried_by_group};
-ghost use Rattle.pr_rules.specs.Groups.{Group, fresh};
-ghost use Rattle.pr_rules.specs.Reloads.{carried};
+ghost use Rattle.pr_ready.specs.pr_vectors.Vectors.{in_label_order};
+ghost use Rattle.pr_rule_step.specs.pr_rulefile.Groups.{group_of_def};
+ghost use Rattle.pr_rule_step.specs.pr_rules.Carried.{carried_by_group};
+ghost use Rattle.pr_rule_step.specs.pr_rules.Groups.{Group, fresh};
+ghost use Rattle.pr_rule_step.specs.pr_rules.Reloads.{carried};
 ghost use Rattle.pr_group.specs.Keeping.{KeepsGroup, passed_by, settings_of};
 ghost use Rattle.pr_group.specs.Carrying.{HasGoneOn, previous_in};
 
@@ -15,7 +15,7 @@ use crate::group::GroupOver;
 use crate::matching::continued_numbers;
 use crate::written::{add_all, add_spared, listed};
 use pr_labels::Labels;
-use pr_range::Ranges;
+use pr_ready::range::Ranges;
 use pr_rule_step::Remembered;
 use pr_words::Items;
 use std::alloc::{AllocError, Global};

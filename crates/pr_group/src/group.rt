@@ -3,32 +3,32 @@ ghost use Rattle.std.specs.Prelude.{◌≡◌, ℕ, ◌+◌, ◌<◌, ◌≤◌,
 ghost use Rattle.pr_labels.specs.declared.pair.Pair.{Pair};
 ghost use Rattle.pr_history.specs.declared.entry.Entry.{Entry};
 ghost use Rattle.pr_history.specs.Admission.{put_all};
-ghost use Rattle.pr_rulefile.specs.Groups.{group_of_def};
-ghost use Rattle.pr_intake.specs.Intake.{HasTaken};
-ghost use Rattle.pr_rulefile.specs.Rules.{rule_of_def};
-ghost use Rattle.pr_rule_result.specs.Templates.{HasTemplates, HaveTemplates};
-ghost use Rattle.pr_rules.specs.Costs.{group_cost, restored_reads, restoring_cost, rules_cost};
-ghost use Rattle.pr_rules.specs.Evaluations.{all_rules, begun, group_step, restores, with_restored};
-ghost use Rattle.pr_rules.specs.Groups.{Group, RuleState, fresh};
-ghost use Rattle.pr_rules.specs.Passed.{IsPassedAfter};
-ghost use Rattle.pr_rules.specs.Times.{IsAfter};
+ghost use Rattle.pr_rule_step.specs.pr_rulefile.Groups.{group_of_def};
+ghost use Rattle.pr_rule_step.specs.pr_intake.Intake.{HasTaken};
+ghost use Rattle.pr_rule_step.specs.pr_rulefile.Rules.{rule_of_def};
+ghost use Rattle.pr_rule_step.specs.pr_rule_result.Templates.{HasTemplates, HaveTemplates};
+ghost use Rattle.pr_rule_step.specs.pr_rules.Costs.{group_cost, restored_reads, restoring_cost, rules_cost};
+ghost use Rattle.pr_rule_step.specs.pr_rules.Evaluations.{all_rules, begun, group_step, restores, with_restored};
+ghost use Rattle.pr_rule_step.specs.pr_rules.Groups.{Group, RuleState, fresh};
+ghost use Rattle.pr_rule_step.specs.pr_rules.Passed.{IsPassedAfter};
+ghost use Rattle.pr_rule_step.specs.pr_rules.Times.{IsAfter};
 ghost use Rattle.pr_group.specs.Keeping.{AreKept, KeepsGroup, MayEvaluateOver, passed_by, settings_of, waits_of};
 ghost use Rattle.pr_group.specs.Evaluating.{AreNew, HasCome};
 ghost use Rattle.pr_group.specs.Restoring.{ranges_of, restored_alerts, restored_rules};
 
 use crate::restoring::restore_rules;
 use crate::rules::evaluate_rules;
-use pr_head::Head;
 use pr_history::Entry;
-use pr_intake::mark_if;
+use pr_history::time::{Ms, Span};
 use pr_labels::Labels;
-use pr_lineage::Restored;
-use pr_range::Ranges;
+use pr_ready::range::Ranges;
+use pr_rule_step::head::Head;
+use pr_rule_step::intake::mark_if;
+use pr_rule_step::lineage::Restored;
+use pr_rule_step::rulefile::{GroupDef, RuleDef};
+use pr_rule_step::rules_crate::{GroupReport, RuleReport};
+use pr_rule_step::tmpl::External;
 use pr_rule_step::{Evaluation, Remembered};
-use pr_rulefile::{GroupDef, RuleDef};
-use pr_rules::{GroupReport, RuleReport};
-use pr_time::{Ms, Span};
-use pr_tmpl::External;
 use pr_words::{Items, Steps, Text};
 use std::alloc::{AllocError, Global};
 use std::marker::Model;
@@ -52,7 +52,7 @@ pub struct GroupOver<R> {
 
 impl<R> Model for GroupOver<R> {
     ghost use Rattle.std.specs.Prelude.{◌≡◌, ◌<◌, length};
-    ghost use Rattle.pr_rule_result.specs.Templates.{HaveTemplates};
+    ghost use Rattle.pr_rule_step.specs.pr_rule_result.Templates.{HaveTemplates};
     ghost use Rattle.pr_group.specs.Keeping.{KeptGroup};
     ghost use Rattle.pr_ast.specs.contracts.tree.ExprKind as kinds;
     ghost use Rattle.std.specs.Coded.{codes};

@@ -1,11 +1,11 @@
 // What tells a rule's kind, its name and its labels, as one text.
 ghost use Rattle.std.specs.Prelude.{◌≡◌, ◌++◌, IfOk, OnOk};
-ghost use Rattle.pr_rulefile.specs.Rules.{name_key};
+ghost use Rattle.pr_rule_step.specs.pr_rulefile.Rules.{name_key};
 ghost use Rattle.pr_group.specs.Matching.{key_of, labels_key, pair_key};
 
 use pr_labels::Pair;
-use pr_rulefile::RuleDef;
-use pr_strings::write_string;
+use pr_labels::strings::write_string;
+use pr_rule_step::rulefile::RuleDef;
 use pr_words::Text;
 use std::alloc::{AllocError, Global};
 

@@ -15,3 +15,8 @@ mod written;
 
 pub use group::GroupOver;
 pub use laws::a_kept_group_stays;
+pub use pr_ready::range as range;
+pub use pr_rule_step::{
+    alert as alert, eval as eval, head as head, intake as intake, lineage as lineage,
+    rule_result as rule_result, rulefile as rulefile,
+};

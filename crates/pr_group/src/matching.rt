@@ -1,14 +1,14 @@
 // Which older rules new ones go on from.
 ghost use Rattle.std.specs.Prelude.{◌≡◌, IfOk, length};
-ghost use Rattle.pr_range.specs.Carried.{IsOnce};
-ghost use Rattle.pr_rules.specs.Taking.{numbered, numbers_taken};
-ghost use Rattle.pr_continued.specs.Named.{AreBelow};
-ghost use Rattle.pr_continued.specs.Waiting.{AreWaiting};
+ghost use Rattle.pr_ready.specs.pr_range.Carried.{IsOnce};
+ghost use Rattle.pr_rule_step.specs.pr_rules.Taking.{numbered, numbers_taken};
+ghost use Rattle.pr_ready.specs.pr_continued.Named.{AreBelow};
+ghost use Rattle.pr_ready.specs.pr_continued.Waiting.{AreWaiting};
 ghost use Rattle.pr_group.specs.Matching.{continues_def, key_of};
 
 use crate::key::key;
-use pr_continued::Waiting;
-use pr_rulefile::RuleDef;
+use pr_ready::continued::Waiting;
+use pr_rule_step::rulefile::RuleDef;
 use std::alloc::{AllocError, Global};
 
 // All older ones wait.

@@ -1,14 +1,14 @@
 // The series that remain of a group that is gone.
 ghost use Rattle.std.specs.Prelude.{◌≡◌, List, IfOk};
 ghost use Rattle.pr_history.specs.declared.entry.Entry.{Entry};
-ghost use Rattle.pr_rules.specs.Groups.{Group};
-ghost use Rattle.pr_rules.specs.Reloads.{remains};
+ghost use Rattle.pr_rule_step.specs.pr_rules.Groups.{Group};
+ghost use Rattle.pr_rule_step.specs.pr_rules.Reloads.{remains};
 ghost use Rattle.pr_group.specs.Keeping.{KeepsGroup};
 
 use crate::group::GroupOver;
 use crate::written::{add_all, add_written, listed};
 use pr_labels::Labels;
-use pr_range::Ranges;
+use pr_ready::range::Ranges;
 use std::alloc::{AllocError, Global};
 use std::collections::BTreeSet;
 

@@ -5,31 +5,31 @@ ghost use Rattle.std.specs.Option.{option_map, option_to_list};
 ghost use Rattle.pr_labels.specs.declared.pair.Pair.{Pair};
 ghost use Rattle.pr_history.specs.declared.entry.Entry.{Entry};
 ghost use Rattle.pr_history.specs.Admission.{is_of, last_entry};
-ghost use Rattle.pr_head.specs.Holds.{timed};
-ghost use Rattle.pr_lineage.specs.declared.record.Record.{Record};
-ghost use Rattle.pr_lineage.specs.Lineage.{Step, moved};
-ghost use Rattle.pr_lineage.specs.Records.{for_state_labels, is_living, living_count};
-ghost use Rattle.pr_lineage.specs.Restoring.{for_state_entry, restored_alert, restored_of, restored_time};
-ghost use Rattle.pr_alert.specs.Standing.{StandsFor};
-ghost use Rattle.pr_rulefile.specs.Rules.{rule_of_def};
-ghost use Rattle.pr_rules.specs.Costs.{restored_reads};
-ghost use Rattle.pr_rules.specs.Evaluations.{restores, with_restored};
-ghost use Rattle.pr_rules.specs.Groups.{RuleState};
+ghost use Rattle.pr_rule_step.specs.pr_head.Holds.{timed};
+ghost use Rattle.pr_rule_step.specs.pr_lineage.declared.record.Record.{Record};
+ghost use Rattle.pr_rule_step.specs.pr_lineage.Lineage.{Step, moved};
+ghost use Rattle.pr_rule_step.specs.pr_lineage.Records.{for_state_labels, is_living, living_count};
+ghost use Rattle.pr_rule_step.specs.pr_lineage.Restoring.{for_state_entry, restored_alert, restored_of, restored_time};
+ghost use Rattle.pr_rule_step.specs.pr_alert.Standing.{StandsFor};
+ghost use Rattle.pr_rule_step.specs.pr_rulefile.Rules.{rule_of_def};
+ghost use Rattle.pr_rule_step.specs.pr_rules.Costs.{restored_reads};
+ghost use Rattle.pr_rule_step.specs.pr_rules.Evaluations.{restores, with_restored};
+ghost use Rattle.pr_rule_step.specs.pr_rules.Groups.{RuleState};
 ghost use Rattle.pr_rule_step.specs.Standing.{StandsForRule};
 ghost use Rattle.pr_group.specs.Keeping.{AreKept, MayEvaluateOver};
 ghost use Rattle.pr_group.specs.Restoring.{IsRestored, OnlyChanges, in_last_hour, kept_of_last_hour, ranges_of};
 
-use pr_alert::{
+use pr_history::time::{Ms, Span};
+use pr_labels::Labels;
+use pr_ready::range::Ranges;
+use pr_rule_step::Remembered;
+use pr_rule_step::alert::{
     a_move_of_no_alerts_leaves_the_records, a_restored_record_is_moved, for_state_labels,
     is_living, records_of_a_lineage_stand_for_it,
 };
-use pr_head::{Head, Timed};
-use pr_labels::Labels;
-use pr_lineage::Restored;
-use pr_range::Ranges;
-use pr_rule_step::Remembered;
-use pr_rulefile::RuleDef;
-use pr_time::{Ms, Span};
+use pr_rule_step::head::{Head, Timed};
+use pr_rule_step::lineage::Restored;
+use pr_rule_step::rulefile::RuleDef;
 use pr_words::Steps;
 use std::alloc::{AllocError, Global};
 use std::sync::ledger::Ledger;

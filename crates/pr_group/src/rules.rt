@@ -1,22 +1,22 @@
 // The rules of a group, one after the other.
 ghost use Rattle.std.specs.Prelude.{◌≡◌, ℕ, ◌+◌, ◌++◌, ◌∷◌, [], ◌<◌, ◌≤◌, false, true, List, Option, IfOk, IfSome, OnOk, length};
 ghost use Rattle.pr_history.specs.declared.entry.Entry.{Entry};
-ghost use Rattle.pr_query.specs.Cost.{cost};
-ghost use Rattle.pr_eval.specs.Evaluated.{passed_outside};
+ghost use Rattle.pr_rule_step.specs.pr_query.Cost.{cost};
+ghost use Rattle.pr_rule_step.specs.pr_eval.Evaluated.{passed_outside};
 ghost use Rattle.pr_rule_step.specs.Standing.{IsEvaluationOf};
-ghost use Rattle.pr_rules.specs.Costs.{rules_cost};
-ghost use Rattle.pr_rules.specs.Evaluations.{all_rules, begun};
-ghost use Rattle.pr_rules.specs.Groups.{Group, RuleState};
-ghost use Rattle.pr_rules.specs.Settings.{Settings};
+ghost use Rattle.pr_rule_step.specs.pr_rules.Costs.{rules_cost};
+ghost use Rattle.pr_rule_step.specs.pr_rules.Evaluations.{all_rules, begun};
+ghost use Rattle.pr_rule_step.specs.pr_rules.Groups.{Group, RuleState};
+ghost use Rattle.pr_rule_step.specs.pr_rules.Settings.{Settings};
 ghost use Rattle.pr_group.specs.Evaluating.{HasCome, HasDone, MayEvaluateRules};
 ghost use Rattle.pr_group.specs.Keeping.{KeepsRule, MayEvaluateOver, passed_of};
 
-use pr_head::Head;
 use pr_history::Entry;
-use pr_range::Ranges;
+use pr_ready::range::Ranges;
+use pr_rule_step::head::Head;
+use pr_rule_step::rulefile::RuleDef;
+use pr_rule_step::rules_crate::RuleReport;
 use pr_rule_step::{Evaluation, Remembered};
-use pr_rulefile::RuleDef;
-use pr_rules::RuleReport;
 use pr_words::Steps;
 use std::alloc::AllocError;
 use std::sync::ledger::Ledger;

@@ -3,10 +3,10 @@ ghost use Rattle.std.specs.Prelude.{◌≡◌, List, IfOk, OnOk, flat_map, fold}
 ghost use Rattle.pr_labels.specs.Rising.{with_labels};
 ghost use Rattle.pr_group.specs.Carrying.{previous_in};
 
-use pr_intake::add_labels;
 use pr_labels::Labels;
-use pr_range::Ranges;
+use pr_ready::range::Ranges;
 use pr_rule_step::Remembered;
+use pr_rule_step::intake::add_labels;
 use std::alloc::{AllocError, Global};
 use std::collections::BTreeSet;
 

@@ -6,3 +6,5 @@ pub mod Simulation
 pub mod Trimming
 pub mod Indexing
 pub mod Oldest
+pub use Rattle.pr_history.proofs.Choosing as HistoryChoosing
+pub use Rattle.pr_history.proofs.Lawful as HistoryLawful

@@ -3,7 +3,7 @@ use Rattle.std.proofs.Common.{◌≡◌, ◌≢◌, ◌↔◌, ◌&&◌, ℤ, �
 use Rattle.std.specs.List.{position_from}
 use Rattle.std.proofs.lemmas.Iterator.Adapters.{position_from-zero}
 use Rattle.std.proofs.lemmas.Grind.{common_steps}
-use Rattle.pr_num.specs.Same.{same_point}
+use Rattle.pr_history.specs.pr_num.Same.{same_point}
 use Rattle.std.specs.Map.{lookup}
 use Rattle.std.proofs.lemmas.List.Elements.{filter-append}
 use Rattle.pr_history.specs.Lookback.{entries_until, is_until}
@@ -12,7 +12,7 @@ use Rattle.std.proofs.lemmas.Option.{slice_get-map}
 use Rattle.pr_labels.proofs.LabelOrder.{labels_decide}
 use Rattle.std.proofs.lemmas.List.{map-append, length-append, drop-append-le}
 use Rattle.indexmap.specs.IndexMap.{set_value_at}
-use Rattle.pr_num.specs.declared.value.Point.{Point}
+use Rattle.pr_history.specs.pr_num.declared.value.Point.{Point}
 use Rattle.pr_labels.specs.declared.pair.Pair.{Pair}
 use Rattle.pr_labels.specs.Order.{labels_eq}
 use Rattle.pr_history.specs.declared.entry.Entry.{Entry}

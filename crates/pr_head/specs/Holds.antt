@@ -2,7 +2,7 @@
 -- series.
 use Rattle.std.specs.Prelude.{◌≡◌, ℕ, ◌≤◌, Bool, cond, ℤ, List, [], ◌∷◌, ◌++◌, length, get_or, map, filter, fold, drop, slice_get, Some}
 use Rattle.std.specs.Option.{option_map}
-use Rattle.pr_num.specs.declared.value.Point.{Point}
+use Rattle.pr_history.specs.pr_num.declared.value.Point.{Point}
 use Rattle.pr_labels.specs.declared.pair.Pair.{Pair}
 use Rattle.pr_history.specs.declared.entry.Entry.{Entry}
 use Rattle.pr_history.specs.Admission.{is_of, entries_of, last_entry}

@@ -4,3 +4,5 @@ pub mod Reads
 pub mod Index
 pub mod Oldest
 pub mod Listings
+pub use Rattle.pr_labels.specs as pr_labels
+pub use Rattle.pr_history.specs as pr_history

@@ -2,8 +2,8 @@
 use Rattle.std.specs.Prelude.{ℕ, zero, suc, ℤ, Bool, false, ◌+◌, ◌-◌, ◌≤◌, nat_lt, cond, ◌==◌, List, [], ◌∷◌, ◌++◌, length, slice_get, filter, find, map, reverse, Option, Some, None}
 use Rattle.std.specs.List.{position_or_len, All}
 use Rattle.std.specs.List.Sorted.{IsNonDecreasingBy}
-use Rattle.pr_num.specs.declared.value.Point.{Point}
-use Rattle.pr_num.specs.Same.{same_point}
+use Rattle.pr_history.specs.pr_num.declared.value.Point.{Point}
+use Rattle.pr_history.specs.pr_num.Same.{same_point}
 use Rattle.pr_history.specs.declared.append.Append.{Append}
 use Rattle.pr_history.specs.declared.append.Append.TheVariants.{Added, Same, OutOfOrder, Conflict}
 use Rattle.pr_history.specs.Lookback.{is_after, is_until}

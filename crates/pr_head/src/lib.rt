@@ -12,5 +12,6 @@ mod timed;
 
 pub use head::Head;
 pub use laws::{places_are_those_of_the_history, the_newest_sample_is_what_is_shown};
-pub use pr_history::Append;
+pub use pr_history as history;
+pub use pr_history::{Append, num as num, time as time};
 pub use timed::Timed;

@@ -7,8 +7,8 @@ ghost use Rattle.pr_head.specs.Oldest.{IsSince};
 
 use crate::timed::Timed;
 use pr_history::Append;
-use pr_num::{Num, Point};
-use pr_time::Ms;
+use pr_history::num::{Num, Point};
+use pr_history::time::Ms;
 use std::alloc::{AllocError, Global};
 use std::collections::VecDeque;
 use std::marker::Model;

@@ -1,8 +1,8 @@
 ghost use Rattle.std.specs.Prelude.{◌≡◌};
 ghost use Rattle.pr_history.specs.Lookback.{number_in};
 
-use pr_num::{Num, Point};
-use pr_time::Ms;
+use pr_history::num::{Num, Point};
+use pr_history::time::Ms;
 
 /// A point with its time.
 #[derive(Debug, Drop)]

@@ -19,4 +19,8 @@ pub use laws::{
     chosen_are_those_that_pass, more_entries_keep_lawful, put_keeps_lawful, selected_series_rise,
     times_of_a_series_rise,
 };
+pub use pr_labels as labels;
+pub use pr_labels::words_crate as words_crate;
+pub use pr_num as num;
+pub use pr_time as time;
 pub use spot::Spot;

@@ -1,2 +1,3 @@
 pub mod Decimals
 pub mod Humanized
+pub use Rattle.pr_num.specs as pr_num

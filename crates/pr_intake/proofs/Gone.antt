@@ -6,7 +6,7 @@ use Rattle.std.specs.declared.alloc.Global.{Global}
 use Rattle.pr_labels.specs.declared.pair.Pair.{Pair}
 use Rattle.pr_labels.specs.Rising.{is_among, with_labels}
 use Rattle.pr_labels.proofs.LabelOrder.{among_fold}
-use Rattle.pr_history.specs.declared.entry.Entry.{Entry}
+use Rattle.pr_head.specs.pr_history.declared.entry.Entry.{Entry}
 use Rattle.pr_puts.specs.Puts.{admitted, label_sets_of, marker, markers}
 use Rattle.pr_puts.proofs.Putting.{picks}
 use Rattle.pr_intake.specs.Intake.{Puts, Series}

@@ -1,8 +1,8 @@
 -- Entries that are put in parts.
 use Rattle.std.proofs.Common.{◌≡◌, ℕ, ◌+◌, ◌-◌, ◌<◌, ℤ, Bool, true, false, Result, OnOk, OnErr, length, get_or, take, drop, arith, List, [], ◌∷◌, ◌++◌, refl, sym, ap, ◌∙◌, subst, append_assoc, append-nil}
 use Rattle.std.specs.declared.result.Result.TheVariants.{Ok, Err}
-use Rattle.pr_history.specs.declared.entry.Entry.{Entry}
-use Rattle.pr_history.specs.Admission.{put_all}
+use Rattle.pr_head.specs.pr_history.declared.entry.Entry.{Entry}
+use Rattle.pr_head.specs.pr_history.Admission.{put_all}
 use Rattle.pr_head.specs.Holds.{Holds, IsWhole}
 use Rattle.std.proofs.lemmas.List.{length-append, take_more, take-append-drop}
 use Rattle.pr_puts.specs.Puts.{added_count, admitted}

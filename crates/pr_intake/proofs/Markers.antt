@@ -4,7 +4,7 @@ use Rattle.std.proofs.lemmas.List.{map-append}
 use Rattle.std.proofs.lemmas.List.Elements.{filter-append}
 use Rattle.pr_labels.specs.declared.pair.Pair.{Pair}
 use Rattle.pr_labels.specs.Rising.{is_among}
-use Rattle.pr_history.specs.declared.entry.Entry.{Entry}
+use Rattle.pr_head.specs.pr_history.declared.entry.Entry.{Entry}
 use Rattle.pr_puts.specs.Puts.{marker, markers}
 
 pub markers_parts : (now : ℕ) (new xs ys : List (List Pair)) → markers now (xs ++ ys) new ≡ markers now xs new ++ markers now ys new

@@ -10,4 +10,6 @@ mod untold;
 
 pub use marked::{mark, mark_if};
 pub use marking::{add_labels, put_markers, set_of};
+pub use pr_head as head;
+pub use pr_labels as labels;
 pub use taking::{is_shown, marker, put, put_if};

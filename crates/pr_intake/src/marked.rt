@@ -1,6 +1,6 @@
 // Markers for the series that are gone, and which series got one.
 ghost use Rattle.std.specs.Prelude.{◌≡◌, true, ◌++◌, List, OnOk, IfOk};
-ghost use Rattle.pr_history.specs.declared.entry.Entry.{Entry};
+ghost use Rattle.pr_head.specs.pr_history.declared.entry.Entry.{Entry};
 ghost use Rattle.pr_puts.specs.Puts.{admitted, label_sets_of, markers};
 ghost use Rattle.pr_head.specs.Holds.{Holds};
 ghost use Rattle.pr_intake.specs.Intake.{Puts, PutsIf};
@@ -9,9 +9,9 @@ use crate::marking::{put_markers, set_of};
 use crate::same::are_same;
 use crate::untold::mark_untold;
 use pr_head::Head;
-use pr_history::Entry;
+use pr_head::history::Entry;
+use pr_head::time::Ms;
 use pr_labels::Labels;
-use pr_time::Ms;
 use std::alloc::{AllocError, Global};
 
 // Puts rows behind others, and tells their series.

@@ -1,16 +1,16 @@
 // Entries that are put into a head, one after another.
 ghost use Rattle.std.specs.Prelude.{◌≡◌, [], ◌∷◌, ◌++◌, List, IfOk, OnOk, OnErr};
-ghost use Rattle.pr_history.specs.declared.entry.Entry.{Entry};
-ghost use Rattle.pr_history.specs.Admission.{admit};
+ghost use Rattle.pr_head.specs.pr_history.declared.entry.Entry.{Entry};
+ghost use Rattle.pr_head.specs.pr_history.Admission.{admit};
 ghost use Rattle.pr_head.specs.Holds.{Holds, entry_of};
 ghost use Rattle.pr_puts.specs.Puts.{is_added, is_shown, marker};
 ghost use Rattle.pr_intake.specs.Intake.{HasTaken, HasTakenFront, Puts, PutsIf};
 
 use pr_head::Head;
-use pr_history::{Append, Entry};
+use pr_head::history::{Append, Entry};
+use pr_head::num::Point;
+use pr_head::time::Ms;
 use pr_labels::Labels;
-use pr_num::Point;
-use pr_time::Ms;
 use std::alloc::{AllocError, Global};
 
 fn is_added(answer: &Append) -> bool

@@ -1,6 +1,6 @@
 // Markers of which nothing is told.
 ghost use Rattle.std.specs.Prelude.{[], ◌∷◌, List, OnOk};
-ghost use Rattle.pr_history.specs.declared.entry.Entry.{Entry};
+ghost use Rattle.pr_head.specs.pr_history.declared.entry.Entry.{Entry};
 ghost use Rattle.pr_head.specs.Holds.{Holds};
 ghost use Rattle.pr_puts.specs.Puts.{markers};
 ghost use Rattle.pr_intake.specs.Intake.{HasTaken};
@@ -9,8 +9,8 @@ use crate::marking::{is_among, set_of};
 use crate::same::are_same;
 use crate::taking::{append, marker};
 use pr_head::Head;
+use pr_head::time::Ms;
 use pr_labels::Labels;
-use pr_time::Ms;
 use std::alloc::{AllocError, Global};
 use std::collections::BTreeSet;
 

@@ -10,7 +10,7 @@ use Rattle.pr_labels.specs.declared.pair.Pair.{Pair}
 use Rattle.pr_labels.specs.declared.item.Item.{Item}
 use Rattle.pr_labels.specs.Order.{labels_cmp}
 use Rattle.pr_labels.specs.Rising.{IsBelowFirstSet}
-use Rattle.pr_vectors.specs.Vectors.{IsVector, label_sets}
+use Rattle.pr_ordered.specs.pr_vectors.Vectors.{IsVector, label_sets}
 use Rattle.pr_ordered.specs.Entries.{items_of}
 
 -- what equals a vector is one

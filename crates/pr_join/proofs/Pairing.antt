@@ -13,14 +13,14 @@ use Rattle.pr_labels.specs.declared.item.Item.{Item}
 use Rattle.pr_labels.specs.declared.matching.Card.{Card}
 use Rattle.pr_labels.specs.declared.matching.Card.TheVariants.{OneToOne, ManyToOne, OneToMany}
 use Rattle.pr_labels.specs.declared.matching.Matching.{Matching}
-use Rattle.pr_vectors.specs.declared.match_fault.MatchFault.{MatchFault}
-use Rattle.pr_vectors.specs.declared.match_fault.MatchFault.TheVariants as fault
+use Rattle.pr_ordered.specs.pr_vectors.declared.match_fault.MatchFault.{MatchFault}
+use Rattle.pr_ordered.specs.pr_vectors.declared.match_fault.MatchFault.TheVariants as fault
 use Rattle.pr_join.specs.declared.join_fault.JoinFault.{JoinFault}
 use Rattle.pr_join.specs.declared.join_fault.JoinFault.TheVariants.{Memory}
 use Rattle.pr_join.specs.declared.join_fault.JoinFault.TheVariants as cause
 use Rattle.pr_join.specs.Faults.{match_told}
-use Rattle.pr_vectors.specs.Vectors.{in_order}
-use Rattle.pr_vectors.specs.Matching.{Kept, Operator, Paired, has_key, items_kept, joined, joined_sides, many_side, one_side, kept_pairs, kept_of, kept_if, key_of, least_shared, pair_outcome, outcomes_of, paired, pairs, pairs_with, outcome_fault, fault_of_outcomes, joined_result, side_fault, unless_fault}
+use Rattle.pr_ordered.specs.pr_vectors.Vectors.{in_order}
+use Rattle.pr_ordered.specs.pr_vectors.Matching.{Kept, Operator, Paired, has_key, items_kept, joined, joined_sides, many_side, one_side, kept_pairs, kept_of, kept_if, key_of, least_shared, pair_outcome, outcomes_of, paired, pairs, pairs_with, outcome_fault, fault_of_outcomes, joined_result, side_fault, unless_fault}
 use Rattle.pr_ordered.specs.Entries.{items_of}
 use Rattle.pr_join.specs.declared.rows.Rows.{Rows}
 use Rattle.pr_join.specs.declared.places.Place.{Place}

@@ -20,7 +20,7 @@ use Rattle.pr_labels.proofs.LabelOrder.{labels_decide}
 use Rattle.pr_labels.proofs.LabelOrder.{labels_total}
 use Rattle.pr_labels.specs.Rising.{with_labels}
 use Rattle.pr_labels.proofs.LabelMaps.{keys_insert, tie}
-use Rattle.pr_vectors.specs.Matching.{has_key, is_shared, key_of, key_set, least_shared}
+use Rattle.pr_ordered.specs.pr_vectors.Matching.{has_key, is_shared, key_of, key_set, least_shared}
 use Rattle.pr_join.specs.declared.places.Place.{Place}
 use Rattle.pr_join.specs.Places.{IsPlaceOf, IsIndexOf, IsOnlyAt, IsPlaced, place_with, is_flagged}
 

@@ -15,10 +15,10 @@ use Rattle.pr_labels.specs.declared.matching.Card.TheVariants.{OneToOne, ManyToO
 use Rattle.pr_labels.specs.declared.matching.Matching.{Matching}
 use Rattle.pr_labels.specs.Order.{labels_eq}
 use Rattle.pr_labels.proofs.LabelOrder.{labels_decide}
-use Rattle.pr_vectors.specs.declared.match_fault.MatchFault.{MatchFault}
-use Rattle.pr_vectors.specs.declared.match_fault.MatchFault.TheVariants as fault
-use Rattle.pr_vectors.specs.Vectors.{element, in_order, with_element}
-use Rattle.pr_vectors.specs.Matching.{Kept, items_kept, key_fault, key_of, labels_fault, outcome_fault}
+use Rattle.pr_ordered.specs.pr_vectors.declared.match_fault.MatchFault.{MatchFault}
+use Rattle.pr_ordered.specs.pr_vectors.declared.match_fault.MatchFault.TheVariants as fault
+use Rattle.pr_ordered.specs.pr_vectors.Vectors.{element, in_order, with_element}
+use Rattle.pr_ordered.specs.pr_vectors.Matching.{Kept, items_kept, key_fault, key_of, labels_fault, outcome_fault}
 use Rattle.pr_ordered.specs.Entries.{IsPut, is_known, items_of}
 use Rattle.pr_ordered.proofs.Elements.{element_put}
 use Rattle.pr_join.specs.declared.join_fault.JoinFault.{JoinFault}

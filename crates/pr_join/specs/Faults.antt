@@ -1,7 +1,7 @@
 -- Which fault of the definition a call tells.
 use Rattle.std.specs.Prelude.{Option, Some, None}
-use Rattle.pr_vectors.specs.declared.match_fault.MatchFault.{MatchFault}
-use Rattle.pr_vectors.specs.declared.match_fault.MatchFault.TheVariants as fault
+use Rattle.pr_ordered.specs.pr_vectors.declared.match_fault.MatchFault.{MatchFault}
+use Rattle.pr_ordered.specs.pr_vectors.declared.match_fault.MatchFault.TheVariants as fault
 use Rattle.pr_join.specs.declared.join_fault.JoinFault.{JoinFault}
 use Rattle.pr_join.specs.declared.join_fault.JoinFault.TheVariants.{ManyToMany, NotUnique, TooWide, Memory}
 

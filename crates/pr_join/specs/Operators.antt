@@ -3,7 +3,7 @@ use Rattle.std.specs.Prelude.{◌≡◌, Option, Result}
 use Rattle.std.specs.Fn.{Shared}
 use Rattle.pr_num.specs.declared.value.Num.{Num}
 use Rattle.pr_num.specs.declared.value.TooWide.{TooWide}
-use Rattle.pr_vectors.specs.Matching.{Operator}
+use Rattle.pr_ordered.specs.pr_vectors.Matching.{Operator}
 
 -- each call of the closure on two values answers what the operator gives
 pub record AnswersBy {O : Type 0} (g : Shared O (Num × (Num × Unit {0})) (Result (Option Num) TooWide)) (op : O) (f : Operator) : Type 0 where

@@ -10,8 +10,8 @@ use Rattle.pr_labels.specs.declared.item.Item.{Item}
 use Rattle.pr_labels.specs.declared.matching.Card.{Card}
 use Rattle.pr_labels.specs.declared.matching.Card.TheVariants.{OneToOne, ManyToOne, OneToMany}
 use Rattle.pr_labels.specs.Order.{labels_eq}
-use Rattle.pr_vectors.specs.Vectors.{element, in_order}
-use Rattle.pr_vectors.specs.Matching.{Kept, Operator, fault_of_outcomes, items_kept, key_of, kept_pairs, pair_outcome, pairs_with}
+use Rattle.pr_ordered.specs.pr_vectors.Vectors.{element, in_order}
+use Rattle.pr_ordered.specs.pr_vectors.Matching.{Kept, Operator, fault_of_outcomes, items_kept, key_of, kept_pairs, pair_outcome, pairs_with}
 use Rattle.pr_ordered.specs.Entries.{items_of}
 use Rattle.pr_join.specs.Keys.{HasKeys}
 use Rattle.pr_join.specs.declared.rows.Rows.{Rows}

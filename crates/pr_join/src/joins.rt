@@ -3,8 +3,8 @@ ghost use Rattle.std.specs.Prelude.{◌≡◌, ◌≢◌, ◌<◌, length, List,
 ghost use Rattle.pr_join.specs.declared.join_fault.JoinFault.TheVariants.{Memory};
 ghost use Rattle.pr_labels.specs.declared.item.Item.{Item};
 ghost use Rattle.pr_num.specs.declared.value.Num.{Num};
-ghost use Rattle.pr_vectors.specs.Vectors.{IsVector};
-ghost use Rattle.pr_vectors.specs.Matching.{Operator, Kept, worked, paired, pair_outcome, fault_of_outcomes, key_of, outcomes_of, joined, joined_sides};
+ghost use Rattle.pr_ordered.specs.pr_vectors.Vectors.{IsVector};
+ghost use Rattle.pr_ordered.specs.pr_vectors.Matching.{Operator, Kept, worked, paired, pair_outcome, fault_of_outcomes, key_of, outcomes_of, joined, joined_sides};
 ghost use Rattle.pr_join.specs.Faults.{match_told};
 ghost use Rattle.pr_join.specs.Operators.{AnswersBy};
 ghost use Rattle.pr_join.specs.Places.{IsIndexOf, IsOnlyAt, is_flagged};

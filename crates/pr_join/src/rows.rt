@@ -6,8 +6,8 @@ ghost use Rattle.std.specs.Prelude.{◌≡◌, ◌≢◌, ◌<◌, length, List,
 ghost use Rattle.std.specs.BTreeMap.{IsOrdered, insert_entry};
 ghost use Rattle.pr_labels.specs.Order.{labels_cmp};
 ghost use Rattle.pr_join.specs.declared.join_fault.JoinFault.TheVariants.{Memory};
-ghost use Rattle.pr_vectors.specs.Vectors.{IsVector, element};
-ghost use Rattle.pr_vectors.specs.Matching.{Kept, key_fault, labels_fault, outcome_fault};
+ghost use Rattle.pr_ordered.specs.pr_vectors.Vectors.{IsVector, element};
+ghost use Rattle.pr_ordered.specs.pr_vectors.Matching.{Kept, key_fault, labels_fault, outcome_fault};
 ghost use Rattle.pr_join.specs.Faults.{match_told};
 ghost use Rattle.pr_join.specs.Places.{IsOnlyAt};
 ghost use Rattle.pr_join.specs.Rows.{HasTakenKeys, HasItems, HasKept, elements, is_one_to_one, kept_with};

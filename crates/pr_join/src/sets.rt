@@ -2,8 +2,8 @@
 ghost use Rattle.std.specs.Prelude.{◌≡◌, IfOk, OnOk, fold, List};
 ghost use Rattle.pr_labels.specs.declared.item.Item.{Item};
 ghost use Rattle.pr_num.specs.declared.value.Num.{Num};
-ghost use Rattle.pr_vectors.specs.Vectors.{IsVector, with_element};
-ghost use Rattle.pr_vectors.specs.Matching.{both_sides, left_alone, either_side, is_matched};
+ghost use Rattle.pr_ordered.specs.pr_vectors.Vectors.{IsVector, with_element};
+ghost use Rattle.pr_ordered.specs.pr_vectors.Matching.{both_sides, left_alone, either_side, is_matched};
 ghost use Rattle.pr_join.specs.Sets.{IsKeySetOf, with_match};
 ghost use Rattle.pr_join.specs.Rows.{elements};
 

@@ -2,8 +2,8 @@
 use Rattle.std.specs.Prelude.{ℕ, List, [], ◌++◌, codes, decimal}
 use Rattle.pr_expo_line.specs.declared.place.ExpoKind.{ExpoKind}
 use Rattle.pr_expo_line.specs.declared.place.ExpoKind.TheVariants as expo
-use Rattle.pr_lex.specs.declared.fault.LexKind.{LexKind}
-use Rattle.pr_lex.specs.declared.fault.LexKind.TheVariants as lex
+use Rattle.pr_types.specs.pr_lex.declared.fault.LexKind.{LexKind}
+use Rattle.pr_types.specs.pr_lex.declared.fault.LexKind.TheVariants as lex
 use Rattle.pr_parse.specs.declared.fault.ParseKind.{ParseKind}
 use Rattle.pr_parse.specs.declared.fault.ParseKind.TheVariants as parse
 use Rattle.pr_types.specs.declared.kind.TypeKind.{TypeKind}

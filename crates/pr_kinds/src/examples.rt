@@ -1,7 +1,7 @@
 // What the definitions say of some kinds.
 ghost use Rattle.std.specs.Prelude.{◌≡◌, codes};
 ghost use Rattle.pr_expo_line.specs.declared.place.ExpoKind.TheVariants.{BadLabels};
-ghost use Rattle.pr_lex.specs.declared.fault.LexKind.TheVariants as lex;
+ghost use Rattle.pr_types.specs.pr_lex.declared.fault.LexKind.TheVariants as lex;
 ghost use Rattle.pr_parse.specs.declared.fault.ParseKind.TheVariants as parse;
 ghost use Rattle.pr_types.specs.declared.kind.TypeKind.TheVariants as typing;
 ghost use Rattle.pr_kinds.specs.declared.kind.QueryKind.TheVariants.{Lex, Parse, Typing};

@@ -1,6 +1,6 @@
-use pr_lex::LexKind;
 use pr_parse::ParseKind;
 use pr_types::TypeKind;
+use pr_types::lex::LexKind;
 
 /// Why a text is no expression that can be asked for, or that a rule can have.
 #[derive(Clone, Copy, PartialEq, Eq, Debug)]

@@ -7,9 +7,9 @@ ghost use Rattle.pr_kinds.specs.Kinds.{lex_word, parse_word, type_word, expo_wor
 use crate::appending::{push_number_after, whole_or_none};
 use crate::kind::QueryKind;
 use pr_expo_line::ExpoKind;
-use pr_lex::LexKind;
 use pr_parse::ParseKind;
 use pr_types::TypeKind;
+use pr_types::lex::LexKind;
 use std::alloc::AllocError;
 
 #[tactic(auto, unfolding(crate::specs::Kinds::lex_word))]

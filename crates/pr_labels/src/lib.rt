@@ -28,3 +28,5 @@ pub use order_laws::{
     label_order_is_total, label_sets_are_put_in_order, rising_lists_are_told_by_their_label_sets,
 };
 pub use pair::Pair;
+pub use pr_strings as strings;
+pub use pr_strings::words_crate as words_crate;

@@ -6,8 +6,8 @@ use Rattle.std.proofs.lemmas.List.Sums.{prefix_len-le-length}
 use Rattle.std.specs.List.{prefix_len}
 use Rattle.std.proofs.lemmas.Bool.Decides.{nat_tests}
 use Rattle.std.specs.Char.{is_ascii_digit}
-use Rattle.pr_words.specs.Bytes.{is_whitespace}
-use Rattle.pr_forms.specs.Form.{Reads, is_rule, is_left, is_right, is_pair, is_fold, rule}
+use Rattle.pr_strings.specs.pr_words.Bytes.{is_whitespace}
+use Rattle.pr_strings.specs.pr_forms.Form.{Reads, is_rule, is_left, is_right, is_pair, is_fold, rule}
 use Rattle.pr_num.specs.declared.value.Num.{Num}
 use Rattle.pr_num.specs.Reads.{reads}
 use Rattle.pr_time.specs.SpanText.{production, Text as SpanText, Value, ReadsSpan}

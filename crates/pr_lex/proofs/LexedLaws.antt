@@ -3,10 +3,10 @@ use Rattle.std.proofs.Common.{◌≡◌, ℕ, zero, suc, ◌+◌, ◌-◌, ◌<�
 use Rattle.std.specs.Prelude.{◌⊎◌, ◌==◌, ◌||◌, nat_le, Option, is_some}
 use Rattle.std.proofs.lemmas.List.{length-map, drop-map, take-map, map-append, append-nil, take-append-drop}
 use Rattle.std.proofs.lemmas.Bool.Decides.{nat_tests}
-use Rattle.pr_forms.specs.Form.{rule, Reads}
-use Rattle.pr_forms.specs.Reading.{reading}
-use Rattle.pr_forms.proofs.Ending.{given_reads, reads_given, given_place}
-use Rattle.pr_forms.proofs.Parts.{other_rest}
+use Rattle.pr_strings.specs.pr_forms.Form.{rule, Reads}
+use Rattle.pr_strings.specs.pr_forms.Reading.{reading}
+use Rattle.pr_strings.proofs.FormsEnding.{given_reads, reads_given, given_place}
+use Rattle.pr_strings.proofs.FormsParts.{other_rest}
 use Rattle.pr_num.specs.declared.value.Num.{Num}
 use Rattle.pr_num.specs.declared.text.NumFault.{NumFault}
 use Rattle.pr_num.specs.declared.text.NumFault.TheVariants.{NotNumber, TooWide as WideNumber}

@@ -26,3 +26,6 @@ pub mod TakenSigns
 pub mod OpenStrings
 pub mod LexedLaws
 mod WorkedTexts
+pub use Rattle.pr_time.proofs.SpanRead as TimeSpanRead
+pub use Rattle.pr_time.proofs.SpanTable as TimeSpanTable
+pub use Rattle.pr_time.proofs.SpanTotal as TimeSpanTotal

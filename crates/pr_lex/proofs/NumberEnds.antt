@@ -1,6 +1,6 @@
 -- The grammar of numbers ends: each rule comes to a byte in a few steps.
 use Rattle.std.proofs.Common.{◌≡◌, ℕ, suc, nat_le, true, refl}
-use Rattle.pr_forms.specs.Reading.{EndsIn, Ends}
+use Rattle.pr_strings.specs.pr_forms.Reading.{EndsIn, Ends}
 use Rattle.pr_lex.specs.Number.{production, Rule, Number, Tail, Fraction, Power, Exponent, Digits}
 use Rattle.pr_lex.specs.NumberTable.{table}
 

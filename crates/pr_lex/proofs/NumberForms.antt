@@ -3,7 +3,7 @@ use Rattle.std.proofs.Common.{◌≡◌, ℕ, ◌<◌, Some, true, List, [], ◌
 use Rattle.std.specs.List.{list_all}
 use Rattle.std.specs.Char.{is_ascii_digit}
 use Rattle.std.proofs.lemmas.List.{append-nil}
-use Rattle.pr_forms.specs.Form.{Reads, rule, is_token, is_nothing, is_pair, is_left, is_right, is_stop, is_turn, is_rule}
+use Rattle.pr_strings.specs.pr_forms.Form.{Reads, rule, is_token, is_nothing, is_pair, is_left, is_right, is_stop, is_turn, is_rule}
 use Rattle.pr_num.specs.Forms.{Sign, no_sign, plus, minus, Fraction, no_point, point, Exponent, no_exponent, small_e, capital_e, sign_text, fraction_part, decimals, exponent_part, AreDigits, IsExponent, IsUnsignedForm, unsigned_text}
 use Rattle.pr_num.proofs.RoundTrip.{and_first, and_second}
 use Rattle.pr_lex.specs.Number.{production, letter_of, seen, mark, Number, Fraction as FractionRule, Power, Exponent as ExponentRule, Digits, digits, digit_at}

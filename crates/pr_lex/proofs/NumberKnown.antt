@@ -4,7 +4,7 @@ use Rattle.std.specs.Prelude.{◌⊎◌, ◌||◌, ◌==◌, if◌then◌else◌
 use Rattle.std.specs.List.{list_all}
 use Rattle.std.specs.Char.{is_ascii_digit}
 use Rattle.std.proofs.lemmas.List.{append_assoc, append-nil}
-use Rattle.pr_forms.specs.Form.{Reads, token, turns, rule, is_token, is_nothing, is_pair, is_left, is_right, is_stop, is_turn, is_rule}
+use Rattle.pr_strings.specs.pr_forms.Form.{Reads, token, turns, rule, is_token, is_nothing, is_pair, is_left, is_right, is_stop, is_turn, is_rule}
 use Rattle.pr_num.specs.Forms.{Sign, no_sign, plus, minus, Fraction, no_point, point, Exponent, no_exponent, small_e, capital_e, sign_text, fraction_part, decimals, exponent_part, AreDigits, IsExponent, HasUnsignedForm}
 use Rattle.pr_num.proofs.RoundTrip.{and_first, and_second}
 use Rattle.pr_lex.specs.declared.number.Letter.{Letter}

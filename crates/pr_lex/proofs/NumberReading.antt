@@ -1,13 +1,13 @@
 -- The ways of the functions that read a number.
 use Rattle.std.proofs.Common.{ℕ, ◌-◌, ◌≤◌, List, Result, Ok, Err, length, refl}
 use Rattle.std.specs.Borrow.{Bor}
-use Rattle.pr_forms.specs.Form.{token, rule}
-use Rattle.pr_forms.specs.Run.{good, bad, run_rule, run_pair, run_first, run_second, run_nothing}
-use Rattle.pr_forms.proofs.Ways.{take_side, take_side_bad, other_side, take_pair, no_pair}
-use Rattle.pr_forms.proofs.Carrying.{carry_start, turn_taken, tokens_over}
-use Rattle.pr_forms.proofs.Public.{rest_place, bad_place, left_short}
+use Rattle.pr_strings.specs.pr_forms.Form.{token, rule}
+use Rattle.pr_strings.specs.pr_forms.Run.{good, bad, run_rule, run_pair, run_first, run_second, run_nothing}
+use Rattle.pr_strings.proofs.FormsWays.{take_side, take_side_bad, other_side, take_pair, no_pair}
+use Rattle.pr_strings.proofs.FormsCarrying.{carry_start, turn_taken, tokens_over}
+use Rattle.pr_strings.proofs.FormsPublic.{rest_place, bad_place, left_short}
 use Rattle.pr_lex.specs.Number.{production, letter_of, seen, mark, Number, Fraction, Power, Exponent, Digits, Tail, digit_at, point_at, e_at, plus_minus_at, digits, IsNumberEnd}
-use Rattle.pr_forms.specs.Language.{Gives, Takes, Lacks, Leads}
+use Rattle.pr_strings.specs.pr_forms.Language.{Gives, Takes, Lacks, Leads}
 use Rattle.pr_lex.specs.Reader.{numbers, Ends}
 use Rattle.pr_lex.proofs.NumberTable.{known}
 use Rattle.pr_lex.specs.NumberTable.{table}

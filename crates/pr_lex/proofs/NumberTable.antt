@@ -1,7 +1,7 @@
 -- One byte ahead decides the grammar of numbers.
 use Rattle.std.proofs.Common.{◌≡◌, true, refl}
-use Rattle.pr_forms.specs.Table.{empty_of, starts_of, more_of, parts_at, Decides, IsDecided}
-use Rattle.pr_forms.proofs.Decided.{plain_binds}
+use Rattle.pr_strings.specs.pr_forms.Table.{empty_of, starts_of, more_of, parts_at, Decides, IsDecided}
+use Rattle.pr_strings.proofs.FormsDecided.{plain_binds}
 use Rattle.pr_lex.specs.declared.number.Letter.{Letter}
 use Rattle.pr_lex.specs.declared.number.Letter.TheVariants.{Digit}
 use Rattle.pr_lex.specs.Number.{production, Rule, Number, Fraction, Power, Exponent, Digits, Tail}

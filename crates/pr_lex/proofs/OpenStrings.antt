@@ -3,11 +3,11 @@ use Rattle.std.proofs.Common.{◌≡◌, ℕ, zero, suc, ◌+◌, ◌-◌, ◌<�
 use Rattle.std.specs.Prelude.{Option, is_some}
 use Rattle.std.proofs.lemmas.List.{drop-map, map-append, take-append-drop}
 use Rattle.std.proofs.Math.Seq.{drop-append_seam}
-use Rattle.pr_forms.specs.Form.{rule, turns, Reads, is_rule, is_left, is_right, is_pair, is_token}
-use Rattle.pr_forms.specs.Reading.{reading}
-use Rattle.pr_forms.proofs.Ending.{given_reads, reads_given}
-use Rattle.pr_forms.proofs.Parts.{other_rest}
-use Rattle.pr_forms.proofs.Suffixes.{suffix_drop, suffix_length, reads_suffix}
+use Rattle.pr_strings.specs.pr_forms.Form.{rule, turns, Reads, is_rule, is_left, is_right, is_pair, is_token}
+use Rattle.pr_strings.specs.pr_forms.Reading.{reading}
+use Rattle.pr_strings.proofs.FormsEnding.{given_reads, reads_given}
+use Rattle.pr_strings.proofs.FormsParts.{other_rest}
+use Rattle.pr_strings.proofs.FormsSuffixes.{suffix_drop, suffix_length, reads_suffix}
 use Rattle.pr_strings.specs.declared.kind.Mark.{Mark}
 use Rattle.pr_strings.specs.declared.kind.Mark.TheVariants.{Double, Single, Back}
 use Rattle.pr_strings.specs.declared.kind.Kind.{Kind}

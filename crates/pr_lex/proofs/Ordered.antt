@@ -5,10 +5,10 @@ use Rattle.std.proofs.lemmas.List.Sums.{prefix_len-le-length}
 use Rattle.std.proofs.lemmas.Bool.Decides.{nat_tests}
 use Rattle.std.specs.Prelude.{if◌then◌else◌, ◌==◌}
 use Rattle.std.specs.List.{prefix_len}
-use Rattle.pr_words.specs.Bytes.{is_whitespace}
+use Rattle.pr_strings.specs.pr_words.Bytes.{is_whitespace}
 use Rattle.pr_lex.specs.declared.part.Class.TheVariants.{Whitespace, Line}
-use Rattle.pr_forms.specs.Form.{Reads, rule, is_rule, is_left, is_right, is_pair, is_token}
-use Rattle.pr_forms.proofs.Suffixes.{reads_suffix, suffix_length}
+use Rattle.pr_strings.specs.pr_forms.Form.{Reads, rule, is_rule, is_left, is_right, is_pair, is_token}
+use Rattle.pr_strings.proofs.FormsSuffixes.{reads_suffix, suffix_length}
 use Rattle.pr_strings.specs.Strings.{production, Text as StringText, Letter, letter_of, seen, Value}
 use Rattle.pr_time.specs.SpanText as spans
 use Rattle.pr_lex.specs.Number as numbers

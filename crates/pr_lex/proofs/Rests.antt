@@ -4,8 +4,8 @@ use Rattle.std.proofs.lemmas.List.{length-map, drop-map}
 use Rattle.std.specs.Prelude.{MatchResult}
 use Rattle.std.specs.Result.{IsOk}
 use Rattle.std.specs.Str.{IsUtf8}
-use Rattle.pr_forms.proofs.Suffixes.{reads_suffix, suffix_drop}
-use Rattle.pr_forms.specs.Form.{Reads, rule}
+use Rattle.pr_strings.proofs.FormsSuffixes.{reads_suffix, suffix_drop}
+use Rattle.pr_strings.specs.pr_forms.Form.{Reads, rule}
 use Rattle.pr_strings.specs.Strings.{production, Text, letter_of, seen, IsString}
 use Rattle.pr_strings.specs.Strings.{content as content_value}
 

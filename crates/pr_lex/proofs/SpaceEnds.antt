@@ -4,12 +4,12 @@ use Rattle.std.specs.Prelude.{if◌then◌else◌, ◌==◌}
 use Rattle.std.specs.List.{prefix_len}
 use Rattle.std.proofs.lemmas.List.{length-map, map-append}
 use Rattle.std.proofs.Math.Seq.{take-append_seam}
-use Rattle.pr_forms.specs.Form.{rule, Reads}
-use Rattle.pr_forms.specs.Run.{Outcome, left_of}
-use Rattle.pr_forms.proofs.Ending.{rule_answered}
-use Rattle.pr_forms.proofs.Places.{run_place}
-use Rattle.pr_forms.proofs.Parts.{other_rest}
-use Rattle.pr_forms.proofs.Decided.{Agrees, same, goes_on, agrees, rule_decides}
+use Rattle.pr_strings.specs.pr_forms.Form.{rule, Reads}
+use Rattle.pr_strings.specs.pr_forms.Run.{Outcome, left_of}
+use Rattle.pr_strings.proofs.FormsEnding.{rule_answered}
+use Rattle.pr_strings.proofs.FormsPlaces.{run_place}
+use Rattle.pr_strings.proofs.FormsParts.{other_rest}
+use Rattle.pr_strings.proofs.FormsDecided.{Agrees, same, goes_on, agrees, rule_decides}
 use Rattle.pr_num.specs.Reads.{reads}
 use Rattle.pr_time.specs.SpanText as spans
 use Rattle.pr_strings.specs.Strings as strings

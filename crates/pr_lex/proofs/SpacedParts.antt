@@ -5,8 +5,8 @@ use Rattle.std.proofs.lemmas.List.{length-map, drop-map, drop-drop}
 use Rattle.std.proofs.lemmas.Bool.{cases_lt}
 use Rattle.std.proofs.lemmas.Bool.Decides.{nat_tests}
 use Rattle.std.specs.Char.{is_ascii_digit}
-use Rattle.pr_words.specs.Bytes.{is_whitespace}
-use Rattle.pr_forms.specs.Form.{Form, either, pair, rule, turns, Reads, is_token, is_stop, is_turn, is_fold, Begins, at_whole, in_first, in_second, in_left, in_right, in_rule}
+use Rattle.pr_strings.specs.pr_words.Bytes.{is_whitespace}
+use Rattle.pr_strings.specs.pr_forms.Form.{Form, either, pair, rule, turns, Reads, is_token, is_stop, is_turn, is_fold, Begins, at_whole, in_first, in_second, in_left, in_right, in_rule}
 use Rattle.pr_time.specs.SpanText as spans
 use Rattle.pr_lex.specs.declared.part.Class.TheVariants.{Digit, Whitespace, Line}
 use Rattle.pr_lex.specs.declared.part.Lexeme.{Lexeme}

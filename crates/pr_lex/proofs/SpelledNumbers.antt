@@ -6,12 +6,12 @@ use Rattle.std.specs.Char.{is_ascii_digit}
 use Rattle.std.proofs.lemmas.List.{length-map, map-append, append-nil}
 use Rattle.std.proofs.lemmas.Fmt.{decimal_is_IsNumeral_wide}
 use Rattle.std.proofs.lemmas.Bool.Decides.{nat_tests}
-use Rattle.pr_words.proofs.Decimals.{own}
-use Rattle.pr_words.specs.Bytes.{is_whitespace}
-use Rattle.pr_forms.specs.Form.{rule, Reads}
-use Rattle.pr_forms.specs.Table.{is_more}
-use Rattle.pr_forms.proofs.Ending.{rule_answered}
-use Rattle.pr_forms.proofs.Parts.{other_rest}
+use Rattle.pr_strings.proofs.WordsDecimals.{own}
+use Rattle.pr_strings.specs.pr_words.Bytes.{is_whitespace}
+use Rattle.pr_strings.specs.pr_forms.Form.{rule, Reads}
+use Rattle.pr_strings.specs.pr_forms.Table.{is_more}
+use Rattle.pr_strings.proofs.FormsEnding.{rule_answered}
+use Rattle.pr_strings.proofs.FormsParts.{other_rest}
 use Rattle.pr_num.specs.declared.value.Num.{Num}
 use Rattle.pr_num.specs.declared.value.Num.TheVariants.{Finite}
 use Rattle.pr_num.specs.Forms.{Sign, no_sign, plus, minus, sign_text, Fraction, no_point, point, Exponent, no_exponent, small_e, capital_e, IsUnsignedForm, HasUnsignedForm, IsNumberText, IsInfinityWord, unsigned_text, fraction_part, exponent_part}

@@ -5,10 +5,10 @@ use Rattle.std.specs.List.{list_all}
 use Rattle.std.proofs.lemmas.List.{length-map, map-append, append-nil}
 use Rattle.std.proofs.lemmas.Bool.Decides.{nat_tests}
 use Rattle.std.specs.Char.{is_ascii_digit}
-use Rattle.pr_forms.specs.Form.{rule, Reads}
-use Rattle.pr_forms.specs.Table.{is_more}
-use Rattle.pr_forms.proofs.Ending.{rule_answered}
-use Rattle.pr_forms.proofs.Parts.{other_rest}
+use Rattle.pr_strings.specs.pr_forms.Form.{rule, Reads}
+use Rattle.pr_strings.specs.pr_forms.Table.{is_more}
+use Rattle.pr_strings.proofs.FormsEnding.{rule_answered}
+use Rattle.pr_strings.proofs.FormsParts.{other_rest}
 use Rattle.pr_time.specs.SpanText.{production, letter_of, seen, Value, span, Text, ReadsSpan, IsBadPlace}
 use Rattle.pr_time.specs.SpanShown.{part_text, parts_text, shown_span}
 use Rattle.pr_time.proofs.SpanTable.{known}

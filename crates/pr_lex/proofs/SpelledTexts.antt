@@ -2,12 +2,12 @@
 -- far as can be.
 use Rattle.std.proofs.Common.{◌≡◌, ℕ, ◌-◌, ◌+◌, Bool, true, false, List, [], ◌∷◌, ◌++◌, length, refl, sym, subst, arith}
 use Rattle.std.proofs.lemmas.List.{length-map}
-use Rattle.pr_forms.specs.Form.{Form, rule, Reads, IsFirstBad}
-use Rattle.pr_forms.specs.Table.{Table, IsDecided, is_more}
-use Rattle.pr_forms.specs.Run.{Runs, Outcome}
-use Rattle.pr_forms.proofs.Decided.{rule_decides, Agrees, same, goes_on, agrees}
-use Rattle.pr_forms.proofs.Places.{run_place}
-use Rattle.pr_forms.proofs.Ending.{rule_answered}
+use Rattle.pr_strings.specs.pr_forms.Form.{Form, rule, Reads, IsFirstBad}
+use Rattle.pr_strings.specs.pr_forms.Table.{Table, IsDecided, is_more}
+use Rattle.pr_strings.specs.pr_forms.Run.{Runs, Outcome}
+use Rattle.pr_strings.proofs.FormsDecided.{rule_decides, Agrees, same, goes_on, agrees}
+use Rattle.pr_strings.proofs.FormsPlaces.{run_place}
+use Rattle.pr_strings.proofs.FormsEnding.{rule_answered}
 use Rattle.pr_strings.specs.Strings.{IsString, IsBadPlace, Letter, letter_of, seen, production, Text, content, Value}
 use Rattle.pr_strings.specs.Quoted.{quoted_text}
 use Rattle.pr_strings.proofs.StringTable.{known}

@@ -3,13 +3,13 @@ use Rattle.std.proofs.Common.{◌≡◌, ℕ, zero, suc, ◌+◌, ◌-◌, ◌<�
 use Rattle.std.specs.Prelude.{◌⊎◌}
 use Rattle.std.proofs.lemmas.Bool.{cases_lt}
 use Rattle.std.proofs.lemmas.List.{length-map, drop-map}
-use Rattle.pr_forms.specs.Form.{Reads, rule, is_stop, is_turn}
-use Rattle.pr_forms.specs.Run.{Runs, Outcome, good, bad, left_of}
-use Rattle.pr_forms.proofs.Ending.{Answered, form_answered, rule_answered, consumes}
-use Rattle.pr_forms.proofs.Places.{run_place}
-use Rattle.pr_forms.proofs.Sound.{meets, reads}
-use Rattle.pr_forms.proofs.Decided.{Agrees, goes_on, agrees, rule_decides, decides_first, decides_turn}
-use Rattle.pr_forms.proofs.Suffixes.{Suffix, here, there, suffix_trans, suffix_drop, suffix_length, reads_suffix, drop_suffix}
+use Rattle.pr_strings.specs.pr_forms.Form.{Reads, rule, is_stop, is_turn}
+use Rattle.pr_strings.specs.pr_forms.Run.{Runs, Outcome, good, bad, left_of}
+use Rattle.pr_strings.proofs.FormsEnding.{Answered, form_answered, rule_answered, consumes}
+use Rattle.pr_strings.proofs.FormsPlaces.{run_place}
+use Rattle.pr_strings.proofs.FormsSound.{meets, reads}
+use Rattle.pr_strings.proofs.FormsDecided.{Agrees, goes_on, agrees, rule_decides, decides_first, decides_turn}
+use Rattle.pr_strings.proofs.FormsSuffixes.{Suffix, here, there, suffix_trans, suffix_drop, suffix_length, reads_suffix, drop_suffix}
 use Rattle.pr_num.specs.declared.value.Num.{Num}
 use Rattle.pr_num.specs.declared.text.NumFault.{NumFault}
 use Rattle.pr_num.specs.declared.text.NumFault.TheVariants.{NotNumber, TooWide as WideNumber}

@@ -1,10 +1,10 @@
 -- A text has one list of tokens or one first fault, and not both.
 use Rattle.std.proofs.Common.{◌≡◌, ℕ, ◌+◌, ◌<◌, ◌≤◌, ◌^◌, List, [], ◌∷◌, take, drop, refl, ap, sym, ◌∙◌, subst, Bool, true, Result, Ok, Err, arith}
-use Rattle.pr_forms.specs.Form.{rule}
-use Rattle.pr_forms.specs.Table.{is_more}
-use Rattle.pr_forms.proofs.Places.{one_place}
-use Rattle.pr_forms.proofs.Readings.{Alike, alike, first_goes_on, second_goes_on, readings_alike, one_reading}
-use Rattle.pr_forms.proofs.Decided.{rule_decides}
+use Rattle.pr_strings.specs.pr_forms.Form.{rule}
+use Rattle.pr_strings.specs.pr_forms.Table.{is_more}
+use Rattle.pr_strings.proofs.FormsPlaces.{one_place}
+use Rattle.pr_strings.proofs.FormsReadings.{Alike, alike, first_goes_on, second_goes_on, readings_alike, one_reading}
+use Rattle.pr_strings.proofs.FormsDecided.{rule_decides}
 use Rattle.pr_num.specs.declared.value.Num.{Num}
 use Rattle.pr_num.specs.declared.text.NumFault.{NumFault}
 use Rattle.pr_num.specs.declared.text.NumFault.TheVariants.{NotNumber, TooWide as WideNumber}

@@ -3,10 +3,10 @@ use Rattle.std.proofs.Common.{◌≡◌, ℕ, zero, suc, ◌+◌, ◌-◌, ◌*�
 use Rattle.std.specs.Prelude.{◌⊎◌, ◌==◌, ◌||◌}
 use Rattle.std.specs.List.{list_all}
 use Rattle.std.specs.Char.{is_ascii_digit}
-use Rattle.pr_forms.specs.Form.{Form, token, pair, either, turns, rule, Reads, Begins, is_token, is_nothing, is_pair, is_left, is_right, is_stop, is_turn, is_fold, is_rule}
-use Rattle.pr_forms.specs.Table.{Table}
-use Rattle.pr_forms.specs.Run.{Runs, Outcome, good, bad, left_of, run_rule, run_left, run_right, run_pair, run_first, run_second, run_token, run_other, run_nothing, run_stop, run_turn, run_fold}
-use Rattle.pr_forms.proofs.Places.{no_beginning_passes}
+use Rattle.pr_strings.specs.pr_forms.Form.{Form, token, pair, either, turns, rule, Reads, Begins, is_token, is_nothing, is_pair, is_left, is_right, is_stop, is_turn, is_fold, is_rule}
+use Rattle.pr_strings.specs.pr_forms.Table.{Table}
+use Rattle.pr_strings.specs.pr_forms.Run.{Runs, Outcome, good, bad, left_of, run_rule, run_left, run_right, run_pair, run_first, run_second, run_token, run_other, run_nothing, run_stop, run_turn, run_fold}
+use Rattle.pr_strings.proofs.FormsPlaces.{no_beginning_passes}
 use Rattle.pr_num.proofs.RoundTrip.{and_first, and_second}
 use Rattle.pr_time.specs.SpanText.{production, letter_of, seen, Text, AfterZero, count, scaled, span, mark, digit, digit_at, zero_at, other_digit_at, shifted, ReadsSpan}
 use Rattle.pr_time.proofs.SpanTable.{known}

@@ -1,11 +1,11 @@
 -- A letter that no test of a grammar takes ends whatever goes on before it.
 use Rattle.std.proofs.Common.{◌≡◌, ℕ, ◌<◌, ◌≤◌, List, [], ◌∷◌, ◌++◌, map, length, drop, Option, Some, None, refl, sym, subst, arith, length-append, length-drop}
 use Rattle.std.proofs.lemmas.List.{length-map, map-append}
-use Rattle.pr_forms.specs.Form.{Form, token, nothing, pair, either, turns, fold, rule, chosen, IsFirstBad, Reads, is_chosen, is_token, is_nothing, is_pair, is_left, is_right, is_stop, is_turn, is_fold, is_rule}
-use Rattle.pr_forms.specs.Form.{Begins, in_chosen, at_start, at_whole, in_first, in_second, in_left, in_right, in_turn, after_turn, in_base, after_base, in_rule}
-use Rattle.pr_forms.proofs.Suffixes.{Suffix, here, there, suffix_length}
-use Rattle.pr_forms.proofs.Places.{cut_short}
-use Rattle.pr_forms.proofs.Parts.{begins_other_rest}
+use Rattle.pr_strings.specs.pr_forms.Form.{Form, token, nothing, pair, either, turns, fold, rule, chosen, IsFirstBad, Reads, is_chosen, is_token, is_nothing, is_pair, is_left, is_right, is_stop, is_turn, is_fold, is_rule}
+use Rattle.pr_strings.specs.pr_forms.Form.{Begins, in_chosen, at_start, at_whole, in_first, in_second, in_left, in_right, in_turn, after_turn, in_base, after_base, in_rule}
+use Rattle.pr_strings.proofs.FormsSuffixes.{Suffix, here, there, suffix_length}
+use Rattle.pr_strings.proofs.FormsPlaces.{cut_short}
+use Rattle.pr_strings.proofs.FormsParts.{begins_other_rest}
 
 -- no test within the form takes the letter
 abbrev pub Untaken : {T N V : Type 0} → T → Form T N V → Type 0

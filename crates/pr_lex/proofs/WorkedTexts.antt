@@ -1,7 +1,7 @@
 -- Worked texts.
 use Rattle.std.proofs.Common.{◌≡◌, [], ◌∷◌, refl}
 use Rattle.std.specs.Prelude.{codes}
-use Rattle.pr_forms.specs.Reading.{reading, bad_place}
+use Rattle.pr_strings.specs.pr_forms.Reading.{reading, bad_place}
 use Rattle.pr_num.specs.Half.{half_abs}
 use Rattle.pr_num.specs.Reads.{reads}
 use Rattle.pr_time.specs.SpanAnswer.{span_of, bad_span_place}

@@ -3,7 +3,7 @@ use Rattle.std.specs.Prelude.{ℕ, ◌==◌, ◌&&◌, ◌||◌, not, Bool, fals
 use Prim.Native.Char.{code}
 use Rattle.std.specs.List.{prefix_len}
 use Rattle.std.specs.Char.{is_ascii_digit}
-use Rattle.pr_words.specs.Bytes.{is_whitespace, is_letter, is_label_byte}
+use Rattle.pr_strings.specs.pr_words.Bytes.{is_whitespace, is_letter, is_label_byte}
 use Rattle.pr_lex.specs.declared.part.Class.{Class}
 use Rattle.pr_lex.specs.declared.part.Class.TheVariants.{Whitespace, Line, Digit, Name, NameInBrackets}
 use Rattle.pr_lex.specs.declared.part.Lexeme.{Lexeme}

@@ -1,8 +1,8 @@
 -- What a text gives, as a function of it. The law lexed_is_tokens_or_fault of the crate above says
 -- that these are its tokens, or its first fault.
 use Rattle.std.specs.Prelude.{ℕ, zero, suc, ◌+◌, ◌^◌, ◌==◌, ◌||◌, nat_le, Bool, false, List, [], ◌∷◌, ◌++◌, length, take, drop, Option, Some, None, is_some, Result, Ok, Err, if◌then◌else◌}
-use Rattle.pr_forms.specs.Form.{rule}
-use Rattle.pr_forms.specs.Reading.{reading, bad_place}
+use Rattle.pr_strings.specs.pr_forms.Form.{rule}
+use Rattle.pr_strings.specs.pr_forms.Reading.{reading, bad_place}
 use Rattle.pr_num.specs.declared.value.Num.{Num}
 use Rattle.pr_num.specs.declared.text.NumFault.{NumFault}
 use Rattle.pr_num.specs.declared.text.NumFault.TheVariants.{NotNumber, TooWide as WideNumber}

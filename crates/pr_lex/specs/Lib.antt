@@ -11,3 +11,5 @@ pub mod Spelled
 pub mod SignAt
 pub mod Lexed
 pub mod Worked
+pub use Rattle.pr_time.specs as pr_time
+pub use Rattle.pr_strings.specs as pr_strings

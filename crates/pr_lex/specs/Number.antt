@@ -2,7 +2,7 @@
 -- exponent. What a whole one is worth is a definition of pr_num.
 use Rattle.std.specs.Prelude.{ℕ, ◌==◌, nat_le, ◌&&◌, ◌||◌, Option, Some, None, List, map, if◌then◌else◌}
 use Prim.Native.Char.{code}
-use Rattle.pr_forms.specs.Form.{Form, token, nothing, pair, either, turns, rule, IsFirstBad}
+use Rattle.pr_strings.specs.pr_forms.Form.{Form, token, nothing, pair, either, turns, rule, IsFirstBad}
 use Rattle.pr_lex.specs.declared.number.Letter.{Letter}
 use Rattle.pr_lex.specs.declared.number.Letter.TheVariants.{Digit, Point, E, PlusMinus, Other}
 

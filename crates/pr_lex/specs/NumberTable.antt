@@ -1,6 +1,6 @@
 -- What one byte ahead tells of the rules of numbers: no part of what a text means.
 use Rattle.std.specs.Prelude.{Bool, true, false}
-use Rattle.pr_forms.specs.Table.{Table}
+use Rattle.pr_strings.specs.pr_forms.Table.{Table}
 use Rattle.pr_lex.specs.declared.number.Letter.{Letter}
 use Rattle.pr_lex.specs.declared.number.Letter.TheVariants.{Digit, Point, E, PlusMinus}
 use Rattle.pr_lex.specs.Number.{Rule, Number, Fraction, Power, Exponent, Digits, Tail}

@@ -1,7 +1,7 @@
 -- How tokens lie in a text.
 use Rattle.std.specs.Prelude.{◌≡◌, ℕ, ◌<◌, ◌≤◌, true, List, [], ◌∷◌, length, drop}
 use Prim.Native.Char.{code}
-use Rattle.pr_words.specs.Bytes.{is_whitespace}
+use Rattle.pr_strings.specs.pr_words.Bytes.{is_whitespace}
 use Rattle.pr_lex.specs.declared.token.Token.{Token}
 use Rattle.pr_lex.specs.declared.part.Class.TheVariants.{Line}
 use Rattle.pr_lex.specs.Bytes.{front_len}

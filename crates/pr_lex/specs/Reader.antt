@@ -2,9 +2,9 @@
 use Rattle.std.specs.Prelude.{ℕ, ◌+◌, ◌^◌, ◌<◌, ◌≤◌, List, length, take, Bool, false, nat_le, Option, Some, None, Result, Ok, Err}
 use Rattle.std.specs.Borrow.{Bor}
 use Rattle.std.specs.Str.{IsUtf8}
-use Rattle.pr_forms.specs.Form.{rule}
-use Rattle.pr_forms.specs.Run.{good, bad}
-use Rattle.pr_forms.specs.Language.{Language, Gives}
+use Rattle.pr_strings.specs.pr_forms.Form.{rule}
+use Rattle.pr_strings.specs.pr_forms.Run.{good, bad}
+use Rattle.pr_strings.specs.pr_forms.Language.{Language, Gives}
 use Rattle.pr_lex.specs.declared.number.Letter.{Letter}
 use Rattle.pr_lex.specs.declared.token.Token.{Token}
 use Rattle.pr_lex.specs.declared.token.TokenKind.{TokenKind}

@@ -3,7 +3,7 @@ use Rattle.std.specs.Prelude.{◌≡◌, ℕ, ◌==◌, ◌&&◌, ◌||◌, Bool
 use Prim.Native.Char.{code}
 use Rattle.std.specs.List.{list_all}
 use Rattle.std.specs.Char.{is_ascii_digit}
-use Rattle.pr_words.specs.Bytes.{is_whitespace}
+use Rattle.pr_strings.specs.pr_words.Bytes.{is_whitespace}
 use Rattle.pr_lex.specs.declared.token.TokenKind.{TokenKind}
 use Rattle.pr_lex.specs.declared.token.Sign.{Sign}
 use Rattle.pr_lex.specs.declared.token.Sign.TheVariants.{Colon, Assign, Less, Greater}

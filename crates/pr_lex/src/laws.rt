@@ -1,6 +1,6 @@
 //! The laws of tokens, each as the contract of a function that does nothing.
 ghost use Rattle.std.specs.Prelude.{◌≡◌, ◌≤◌, ◌^◌, ℕ, List, ◌∷◌, ◌++◌, length, ◌⊎◌, Ok, Err, Bool, true, false, pos, ◌↔◌};
-ghost use Rattle.pr_forms.specs.Table.{IsDecided};
+ghost use Rattle.pr_strings.specs.pr_forms.Table.{IsDecided};
 ghost use Rattle.pr_lex.specs.declared.token.Token.{Token};
 ghost use Rattle.pr_lex.specs.declared.fault.LexKind.{LexKind};
 ghost use Rattle.pr_lex.specs.Number.{production};

@@ -15,6 +15,8 @@ mod words;
 
 pub use examples::{signs_by_example, words_by_example};
 pub use fault::{LexError, LexKind};
+pub use pr_strings as strings;
+pub use pr_time as time;
 pub use reader::{first_tokens, tokens};
 pub use text_examples::{texts_give_these_faults, texts_give_these_tokens};
 pub use ties::{numbers_are_the_unsigned_forms, unit_letters_go_on};

@@ -1,12 +1,12 @@
 // How far a number goes on.
 ghost use Rattle.std.specs.Prelude.{◌≡◌, ◌<◌, ◌≤◌, length, IfOk, IfSome, MatchOption, MatchResult, option_map};
-ghost use Rattle.pr_forms.specs.Form.{Form, token, rule};
-ghost use Rattle.pr_forms.specs.Run.{good, bad};
+ghost use Rattle.pr_strings.specs.pr_forms.Form.{Form, token, rule};
+ghost use Rattle.pr_strings.specs.pr_forms.Run.{good, bad};
 ghost use Rattle.pr_lex.specs.Number.{letter_of, seen, mark, Value, Rule, digit_at, point_at, e_at, plus_minus_at, digits, Number, Fraction, Power, Exponent, Digits, Tail, IsNumberEnd};
-ghost use Rattle.pr_forms.specs.Language.{Gives, Takes, Lacks};
+ghost use Rattle.pr_strings.specs.pr_forms.Language.{Gives, Takes, Lacks};
 ghost use Rattle.pr_lex.specs.Reader.{numbers, Ends};
 
-use pr_forms::{place_of, take};
+use pr_strings::forms::{place_of, take};
 
 /// What a byte is to a number.
 #[derive(Clone, Copy, PartialEq, Eq, Debug)]

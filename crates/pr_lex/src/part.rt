@@ -1,6 +1,6 @@
 // What a text begins with, by its first bytes.
 ghost use Rattle.std.specs.Prelude.{◌≡◌, ◌≤◌, length};
-ghost use Rattle.pr_words.specs.Bytes.{is_whitespace, is_letter};
+ghost use Rattle.pr_strings.specs.pr_words.Bytes.{is_whitespace, is_letter};
 ghost use Rattle.pr_lex.specs.Bytes.{is_of, front_len, name_class, starts_name, is_unit_letter, starts_unit, digits_lexeme, is_quote, lexeme_at, part_at};
 
 /// The bytes that stand beside each other in a text.

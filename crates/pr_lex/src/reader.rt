@@ -14,11 +14,11 @@ use crate::fault::{LexError, LexKind};
 use crate::number::number_end;
 use crate::part::{Lexeme, Part, front_len, name_class, part_at};
 use crate::token::{Sign, Token, TokenKind};
-use pr_forms::{Fault, place_of};
 use pr_num::NumFault;
+use pr_strings::forms::{Fault, place_of};
+use pr_strings::words_crate::Text;
 use pr_strings::{is_open_at, read_string};
 use pr_time::{SpanFault, read_span, span_end};
-use pr_words::Text;
 use std::alloc::Global;
 
 /// The name at the front, and its length.

@@ -3,7 +3,7 @@
 ghost use Rattle.std.specs.Prelude.{◌≡◌, ◌<◌, ℕ, List, [], ◌∷◌, ◌++◌, length, true, false};
 ghost use Rattle.std.specs.List.{list_all};
 ghost use Rattle.std.specs.Char.{is_ascii_digit};
-ghost use Rattle.pr_forms.specs.Form.{Reads, Begins, rule};
+ghost use Rattle.pr_strings.specs.pr_forms.Form.{Reads, Begins, rule};
 ghost use Rattle.pr_num.specs.Forms.{Fraction, Exponent, IsUnsignedForm, HasUnsignedForm, unsigned_text};
 ghost use Rattle.pr_time.specs.SpanText as spans;
 ghost use Rattle.pr_time.specs.SpanText.{Text, ReadsSpan};

@@ -1,6 +1,6 @@
 use pr_num::Num;
+use pr_strings::words_crate::Text;
 use pr_time::Span;
-use pr_words::Text;
 
 /// A token of the query language.
 #[derive(Debug, Drop)]

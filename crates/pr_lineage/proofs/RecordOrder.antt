@@ -2,10 +2,10 @@
 use Rattle.std.proofs.Common.{◌≡◌, ◌∙◌, ℕ, List, [], ◌∷◌, map, fold, Option, Some, None, refl, sym, ap, subst}
 use Rattle.std.specs.List.{cons_option, filter_map}
 use Rattle.std.specs.declared.cmp.Ordering.TheVariants.{Less}
-use Rattle.pr_labels.specs.declared.pair.Pair.{Pair}
-use Rattle.pr_labels.specs.Order.{labels_cmp}
-use Rattle.pr_labels.specs.Rising.{IsBelowFirstSet, IsRising}
-use Rattle.pr_labels.proofs.LabelOrder.{below_next, rising_fold}
+use Rattle.pr_history.specs.pr_labels.declared.pair.Pair.{Pair}
+use Rattle.pr_history.specs.pr_labels.Order.{labels_cmp}
+use Rattle.pr_history.specs.pr_labels.Rising.{IsBelowFirstSet, IsRising}
+use Rattle.pr_history.proofs.LabelsLabelOrder.{below_next, rising_fold}
 use Rattle.pr_lineage.specs.declared.found.Found.{Found}
 use Rattle.pr_lineage.specs.declared.record.Record.{Record}
 use Rattle.pr_lineage.specs.declared.record.State.{State}

@@ -1,9 +1,9 @@
 -- Small lineages to try the definitions on.
 use Rattle.std.specs.Prelude.{ℕ, true, false, List, [], ◌∷◌, ◌++◌, codes, Option, Some, None}
 use Rattle.pr_num.specs.declared.value.Point.{Point}
-use Rattle.pr_labels.specs.declared.pair.Pair.{Pair}
-use Rattle.pr_labels.specs.Edits.{set_label}
-use Rattle.pr_labels.specs.LabelSet.{metric_label, pair_of}
+use Rattle.pr_history.specs.pr_labels.declared.pair.Pair.{Pair}
+use Rattle.pr_history.specs.pr_labels.Edits.{set_label}
+use Rattle.pr_history.specs.pr_labels.LabelSet.{metric_label, pair_of}
 use Rattle.pr_history.specs.declared.entry.Entry.{Entry}
 use Rattle.pr_history.specs.Examples.{number}
 use Rattle.pr_lineage.specs.declared.found.Found.{Found}

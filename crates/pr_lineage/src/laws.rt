@@ -1,6 +1,6 @@
 // Laws of lineages.
 ghost use Rattle.std.specs.Prelude.{◌≡◌, ℕ, false, List, filter, map};
-ghost use Rattle.pr_labels.specs.Rising.{IsRising};
+ghost use Rattle.pr_history.specs.pr_labels.Rising.{IsRising};
 ghost use Rattle.pr_lineage.specs.declared.record.Record.{Record};
 ghost use Rattle.pr_lineage.specs.declared.record.State.TheVariants.{Pending};
 ghost use Rattle.pr_lineage.specs.Lineage.{Step};

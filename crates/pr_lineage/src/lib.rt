@@ -17,6 +17,8 @@ pub use examples::{
 };
 pub use found::Found;
 pub use laws::{no_pending_alert_is_sent, records_are_in_label_order};
+pub use pr_history as history;
+pub use pr_history::{labels as labels, time as time, words_crate as words_crate};
 pub use record::{Record, State};
 pub use restored::Restored;
 pub use sending::Sending;

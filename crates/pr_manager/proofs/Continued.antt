@@ -2,12 +2,12 @@
 use Rattle.std.proofs.Common.{◌≡◌, ℕ, true, cond, List, [], ◌∷◌, ◌++◌, append_assoc, append-nil, map, Option, Some, None, refl, sym, ap, subst, ◌∙◌}
 use Rattle.pr_labels.specs.declared.pair.Pair.{Pair}
 use Rattle.pr_history.specs.declared.entry.Entry.{Entry}
-use Rattle.pr_range.specs.Asks.{LastAsks, Passed}
-use Rattle.pr_rulefile.specs.Groups.{Group as Definition, group_of_def}
-use Rattle.pr_rulefile.specs.Rules.{Rule}
-use Rattle.pr_rules.specs.Carried.{carried_by_group}
-use Rattle.pr_rules.specs.Groups.{Group, RuleState, definition_of, fresh, fresh_rule}
-use Rattle.pr_rules.specs.Reloads.{carried, continued_by}
+use Rattle.pr_group.specs.pr_range.Asks.{LastAsks, Passed}
+use Rattle.pr_world.specs.pr_rulefile.Groups.{Group as Definition, group_of_def}
+use Rattle.pr_world.specs.pr_rulefile.Rules.{Rule}
+use Rattle.pr_world.specs.pr_rules.Carried.{carried_by_group}
+use Rattle.pr_world.specs.pr_rules.Groups.{Group, RuleState, definition_of, fresh, fresh_rule}
+use Rattle.pr_world.specs.pr_rules.Reloads.{carried, continued_by}
 use Rattle.pr_group.specs.Keeping.{KeepsGroup, KeptGroup, passed_by, settings_of}
 use Rattle.pr_manager.specs.declared.naming.GroupName.{GroupName}
 use Rattle.pr_manager.specs.Continuing.{EachContinues, Continues, KeepsAny}

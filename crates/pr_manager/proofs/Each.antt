@@ -2,9 +2,9 @@
 use Rattle.std.proofs.Common.{List, ◌++◌, Bool}
 use Rattle.pr_history.specs.Admission.{IsLawful}
 use Rattle.pr_history.specs.declared.entry.Entry.{Entry}
-use Rattle.pr_range.specs.Asks.{LastAsks, Passed}
-use Rattle.pr_rules.specs.Groups.{Group}
-use Rattle.pr_rules.specs.Settings.{Settings}
+use Rattle.pr_group.specs.pr_range.Asks.{LastAsks, Passed}
+use Rattle.pr_world.specs.pr_rules.Groups.{Group}
+use Rattle.pr_world.specs.pr_rules.Settings.{Settings}
 use Rattle.pr_group.specs.Keeping.{KeepsGroup, KeptGroup}
 use Rattle.pr_manager.specs.Keeping.{KeepEach, ManagesGroups, KeepsUnder, KeptManager, settings_in}
 use Rattle.pr_manager.proofs.Places.{zip_map}

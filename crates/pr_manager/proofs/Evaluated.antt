@@ -6,22 +6,22 @@ use Rattle.std.specs.Option.{option_map}
 use Rattle.std.specs.declared.alloc.AllocError.{AllocError}
 use Rattle.std.specs.Str.{bytes_eq}
 use Rattle.std.proofs.lemmas.Slice.Eq.{bytes_eq-Decides}
-use Rattle.pr_rulefile.specs.declared.rules.GroupDef.{GroupDef}
+use Rattle.pr_world.specs.pr_rulefile.declared.rules.GroupDef.{GroupDef}
 use Rattle.pr_history.specs.Admission.{IsLawful, put_all}
 use Rattle.pr_history.specs.declared.entry.Entry.{Entry}
 use Rattle.pr_history.proofs.Lawful.{put_all_lawful}
-use Rattle.pr_puts.proofs.Putting.{puts_admitted}
-use Rattle.pr_head.specs.Holds.{Holds, IsWhole}
-use Rattle.pr_intake.specs.Intake.{HasTaken, Series}
-use Rattle.pr_range.specs.Asks.{LastAsks, Passed}
-use Rattle.pr_rules.proofs.Putting.{evaluation_admits}
-use Rattle.pr_rules.specs.declared.report.GroupReport.{GroupReport}
-use Rattle.pr_rules.specs.Costs.{PassedByRules, group_cost}
-use Rattle.pr_rules.specs.Evaluations.{GroupStep, group_step}
-use Rattle.pr_rules.specs.Groups.{Group, is_group_named}
-use Rattle.pr_rules.specs.Passed.{IsPassedAfter}
-use Rattle.pr_rules.specs.Settings.{Settings}
-use Rattle.pr_rules.specs.Times.{IsAfter}
+use Rattle.pr_world.proofs.PutsPutting.{puts_admitted}
+use Rattle.pr_group.specs.pr_head.Holds.{Holds, IsWhole}
+use Rattle.pr_group.specs.pr_intake.Intake.{HasTaken, Series}
+use Rattle.pr_group.specs.pr_range.Asks.{LastAsks, Passed}
+use Rattle.pr_world.proofs.RulesPutting.{evaluation_admits}
+use Rattle.pr_world.specs.pr_rules.declared.report.GroupReport.{GroupReport}
+use Rattle.pr_world.specs.pr_rules.Costs.{PassedByRules, group_cost}
+use Rattle.pr_world.specs.pr_rules.Evaluations.{GroupStep, group_step}
+use Rattle.pr_world.specs.pr_rules.Groups.{Group, is_group_named}
+use Rattle.pr_world.specs.pr_rules.Passed.{IsPassedAfter}
+use Rattle.pr_world.specs.pr_rules.Settings.{Settings}
+use Rattle.pr_world.specs.pr_rules.Times.{IsAfter}
 use Rattle.pr_group.specs.Keeping.{KeepsGroup, KeptGroup, MayEvaluateOver, passed_by, settings_of}
 use Rattle.pr_world.specs.declared.report.Report.{Report}
 use Rattle.pr_world.specs.declared.report.Report.TheVariants as report

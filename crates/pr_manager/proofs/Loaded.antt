@@ -5,13 +5,13 @@ use Rattle.std.specs.List.{AllZip}
 use Rattle.std.specs.declared.alloc.AllocError.{AllocError}
 use Rattle.pr_labels.specs.declared.pair.Pair.{Pair}
 use Rattle.pr_history.specs.declared.entry.Entry.{Entry}
-use Rattle.pr_query.specs.Answers.{go_on}
-use Rattle.pr_range.specs.Asks.{LastAsks, Passed}
-use Rattle.pr_rulefile.specs.File.{groups_given, rule_file_of}
-use Rattle.pr_rulefile.specs.Groups.{Group as Definition}
-use Rattle.pr_rules.specs.Groups.{Group, fresh}
-use Rattle.pr_rules.specs.Reloads.{LoadedFile, fresh_groups, waits_at_first}
-use Rattle.pr_rules.specs.Settings.{Settings}
+use Rattle.pr_world.specs.pr_query.Answers.{go_on}
+use Rattle.pr_group.specs.pr_range.Asks.{LastAsks, Passed}
+use Rattle.pr_world.specs.pr_rulefile.File.{groups_given, rule_file_of}
+use Rattle.pr_world.specs.pr_rulefile.Groups.{Group as Definition}
+use Rattle.pr_world.specs.pr_rules.Groups.{Group, fresh}
+use Rattle.pr_world.specs.pr_rules.Reloads.{LoadedFile, fresh_groups, waits_at_first}
+use Rattle.pr_world.specs.pr_rules.Settings.{Settings}
 use Rattle.pr_group.specs.Keeping.{KeepsGroup, KeptGroup, passed_by, settings_of, waits_of}
 use Rattle.pr_world.specs.Rounds.{all_loaded, groups_by, with_groups}
 use Rattle.pr_world.specs.declared.event.NamedFile.{NamedFile}

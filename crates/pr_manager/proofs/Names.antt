@@ -3,9 +3,9 @@ use Rattle.std.proofs.Common.{◌≡◌, ℕ, Bool, true, false, ◌&&◌, List,
 use Rattle.std.specs.Str.{bytes_eq}
 use Rattle.std.proofs.lemmas.Slice.Eq.{bytes_eq-Decides}
 use Rattle.pr_history.specs.declared.entry.Entry.{Entry}
-use Rattle.pr_range.specs.Asks.{LastAsks, Passed}
-use Rattle.pr_rulefile.specs.Groups.{Group as Definition}
-use Rattle.pr_rules.specs.Groups.{Group, is_group_named}
+use Rattle.pr_group.specs.pr_range.Asks.{LastAsks, Passed}
+use Rattle.pr_world.specs.pr_rulefile.Groups.{Group as Definition}
+use Rattle.pr_world.specs.pr_rules.Groups.{Group, is_group_named}
 use Rattle.pr_group.specs.Keeping.{KeepsGroup, KeptGroup}
 use Rattle.pr_manager.specs.declared.naming.GroupName.{GroupName}
 use Rattle.pr_manager.specs.Naming.{is_kept_named, name_of, same_name, site_of}

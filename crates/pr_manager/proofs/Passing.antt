@@ -5,12 +5,12 @@ use Rattle.std.specs.Str.{bytes_eq}
 use Rattle.std.specs.declared.alloc.AllocError.{AllocError}
 use Rattle.std.proofs.lemmas.Slice.Eq.{bytes_eq-Decides}
 use Rattle.pr_history.specs.declared.entry.Entry.{Entry}
-use Rattle.pr_rulefile.specs.declared.rules.GroupDef.{GroupDef}
-use Rattle.pr_intake.specs.Intake.{Series}
-use Rattle.pr_range.specs.Asks.{LastAsks, Passed}
-use Rattle.pr_rules.specs.Evaluations.{group_step}
-use Rattle.pr_rules.specs.Groups.{Group, is_group_named}
-use Rattle.pr_rules.specs.Settings.{Settings}
+use Rattle.pr_world.specs.pr_rulefile.declared.rules.GroupDef.{GroupDef}
+use Rattle.pr_group.specs.pr_intake.Intake.{Series}
+use Rattle.pr_group.specs.pr_range.Asks.{LastAsks, Passed}
+use Rattle.pr_world.specs.pr_rules.Evaluations.{group_step}
+use Rattle.pr_world.specs.pr_rules.Groups.{Group, is_group_named}
+use Rattle.pr_world.specs.pr_rules.Settings.{Settings}
 use Rattle.pr_group.specs.Keeping.{KeepsGroup, KeptGroup, MayEvaluateOver, passed_by}
 use Rattle.pr_world.specs.Step.{Step}
 use Rattle.pr_world.specs.World.{World}

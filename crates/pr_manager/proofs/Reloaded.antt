@@ -3,12 +3,12 @@ use Rattle.std.proofs.Common.{◌≡◌, ℕ, Bool, true, false, not, List, [], 
 use Rattle.std.specs.Prelude.{find}
 use Rattle.std.specs.declared.alloc.AllocError.{AllocError}
 use Rattle.pr_history.specs.declared.entry.Entry.{Entry}
-use Rattle.pr_intake.specs.Intake.{Series}
+use Rattle.pr_group.specs.pr_intake.Intake.{Series}
 use Rattle.pr_history.specs.Admission.{IsLawful}
-use Rattle.pr_head.specs.Holds.{Holds}
-use Rattle.pr_range.specs.Asks.{LastAsks, Passed}
-use Rattle.pr_rules.specs.Groups.{is_group_named}
-use Rattle.pr_rules.specs.Reloads.{reload_by, reload_step}
+use Rattle.pr_group.specs.pr_head.Holds.{Holds}
+use Rattle.pr_group.specs.pr_range.Asks.{LastAsks, Passed}
+use Rattle.pr_world.specs.pr_rules.Groups.{is_group_named}
+use Rattle.pr_world.specs.pr_rules.Reloads.{reload_by, reload_step}
 use Rattle.pr_group.specs.Keeping.{waits_of}
 use Rattle.pr_world.specs.Rounds.{all_loaded, reload_accepted, reload_outcome, reload_outcome_by}
 use Rattle.pr_world.specs.Step.{Step, step_by}

@@ -3,12 +3,12 @@ use Rattle.std.proofs.Common.{◌≡◌, ℕ, List, [], ◌∷◌, ◌++◌, len
 use Rattle.std.specs.Prelude.{flat_map}
 use Rattle.pr_labels.specs.declared.pair.Pair.{Pair}
 use Rattle.pr_history.specs.declared.entry.Entry.{Entry}
-use Rattle.pr_intake.specs.Intake.{HasTaken, Puts, Series}
-use Rattle.pr_puts.specs.Puts.{admitted, marker, markers}
-use Rattle.pr_range.specs.Asks.{LastAsks, Passed}
-use Rattle.pr_rules.specs.Groups.{Group}
-use Rattle.pr_rules.specs.Reloads.{remains}
-use Rattle.pr_rules.specs.Settings.{Settings}
+use Rattle.pr_group.specs.pr_intake.Intake.{HasTaken, Puts, Series}
+use Rattle.pr_world.specs.pr_puts.Puts.{admitted, marker, markers}
+use Rattle.pr_group.specs.pr_range.Asks.{LastAsks, Passed}
+use Rattle.pr_world.specs.pr_rules.Groups.{Group}
+use Rattle.pr_world.specs.pr_rules.Reloads.{remains}
+use Rattle.pr_world.specs.pr_rules.Settings.{Settings}
 use Rattle.pr_group.specs.Keeping.{KeepsGroup, KeptGroup}
 use Rattle.pr_manager.specs.Keeping.{KeepEach}
 

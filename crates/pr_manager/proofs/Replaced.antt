@@ -10,19 +10,19 @@ use Rattle.std.proofs.lemmas.List.Sums.{sum_by-cons}
 use Rattle.pr_history.specs.Admission.{IsLawful, put_all}
 use Rattle.pr_history.proofs.Lawful.{put_all_lawful}
 use Rattle.pr_history.specs.declared.entry.Entry.{Entry}
-use Rattle.pr_head.specs.Holds.{Holds, IsWhole}
-use Rattle.pr_intake.specs.Intake.{HasTaken, Series}
-use Rattle.pr_puts.proofs.Putting.{admitted_counted, puts_admitted}
-use Rattle.pr_puts.specs.Puts.{added_count, admitted, marker}
-use Rattle.pr_range.specs.Asks.{LastAsks, Passed}
-use Rattle.pr_rulefile.specs.declared.rules.GroupDef.{GroupDef}
-use Rattle.pr_rulefile.specs.Groups.{Group as Definition, group_of_def}
-use Rattle.pr_rulefile.specs.Rules.{rule_of_def}
-use Rattle.pr_rules.specs.Carried.{carried_by_rules}
-use Rattle.pr_rules.specs.Costs.{PassedByRules}
-use Rattle.pr_rules.specs.Groups.{Group, RuleState, definition_of, fresh, is_group_named}
-use Rattle.pr_rules.specs.Reloads.{LoadedFile, continued, continued_by, gone_groups, is_gone, reload_by, remains, rules_in}
-use Rattle.pr_rules.specs.Settings.{Settings}
+use Rattle.pr_group.specs.pr_head.Holds.{Holds, IsWhole}
+use Rattle.pr_group.specs.pr_intake.Intake.{HasTaken, Series}
+use Rattle.pr_world.proofs.PutsPutting.{admitted_counted, puts_admitted}
+use Rattle.pr_world.specs.pr_puts.Puts.{added_count, admitted, marker}
+use Rattle.pr_group.specs.pr_range.Asks.{LastAsks, Passed}
+use Rattle.pr_world.specs.pr_rulefile.declared.rules.GroupDef.{GroupDef}
+use Rattle.pr_world.specs.pr_rulefile.Groups.{Group as Definition, group_of_def}
+use Rattle.pr_world.specs.pr_rulefile.Rules.{rule_of_def}
+use Rattle.pr_world.specs.pr_rules.Carried.{carried_by_rules}
+use Rattle.pr_world.specs.pr_rules.Costs.{PassedByRules}
+use Rattle.pr_world.specs.pr_rules.Groups.{Group, RuleState, definition_of, fresh, is_group_named}
+use Rattle.pr_world.specs.pr_rules.Reloads.{LoadedFile, continued, continued_by, gone_groups, is_gone, reload_by, remains, rules_in}
+use Rattle.pr_world.specs.pr_rules.Settings.{Settings}
 use Rattle.pr_group.specs.Keeping.{KeepsGroup, KeptGroup, passed_by}
 use Rattle.pr_world.specs.declared.report.Report.{Report}
 use Rattle.pr_world.specs.declared.report.Report.TheVariants as report

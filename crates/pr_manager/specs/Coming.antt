@@ -2,13 +2,13 @@
 -- it over.
 use Rattle.std.specs.Prelude.{◌≡◌, ℕ, ◌+◌, ◌≤◌, Bool, true, MatchBool, cond, nat_lt, List, ◌++◌, slice_set, Option, Some, None}
 use Rattle.pr_history.specs.declared.entry.Entry.{Entry}
-use Rattle.pr_intake.specs.Intake.{Series}
-use Rattle.pr_range.specs.Asks.{LastAsks, Passed}
-use Rattle.pr_rules.specs.Costs.{group_cost}
-use Rattle.pr_rules.specs.Evaluations.{GroupStep, group_step}
-use Rattle.pr_rules.specs.Groups.{Group}
-use Rattle.pr_rules.specs.Passed.{IsPassedAfter}
-use Rattle.pr_rules.specs.Settings.{Settings}
+use Rattle.pr_group.specs.pr_intake.Intake.{Series}
+use Rattle.pr_group.specs.pr_range.Asks.{LastAsks, Passed}
+use Rattle.pr_world.specs.pr_rules.Costs.{group_cost}
+use Rattle.pr_world.specs.pr_rules.Evaluations.{GroupStep, group_step}
+use Rattle.pr_world.specs.pr_rules.Groups.{Group}
+use Rattle.pr_world.specs.pr_rules.Passed.{IsPassedAfter}
+use Rattle.pr_world.specs.pr_rules.Settings.{Settings}
 use Rattle.pr_group.specs.Keeping.{KeptGroup, passed_by}
 use Rattle.pr_world.specs.declared.report.Report.{Report}
 use Rattle.pr_world.specs.declared.report.Report.TheVariants as report

@@ -2,10 +2,10 @@
 use Rattle.std.specs.Prelude.{◌≡◌, ℕ, List, Option, Some, None}
 use Rattle.std.specs.List.{AllZip}
 use Rattle.pr_history.specs.declared.entry.Entry.{Entry}
-use Rattle.pr_range.specs.Asks.{LastAsks, Passed}
-use Rattle.pr_rulefile.specs.Groups.{Group as Definition}
-use Rattle.pr_rules.specs.Groups.{Group, fresh}
-use Rattle.pr_rules.specs.Reloads.{continued_by}
+use Rattle.pr_group.specs.pr_range.Asks.{LastAsks, Passed}
+use Rattle.pr_world.specs.pr_rulefile.Groups.{Group as Definition}
+use Rattle.pr_world.specs.pr_rules.Groups.{Group, fresh}
+use Rattle.pr_world.specs.pr_rules.Reloads.{continued_by}
 use Rattle.pr_group.specs.Keeping.{KeepsGroup, KeptGroup, passed_by, settings_of}
 use Rattle.pr_manager.specs.declared.naming.GroupName.{GroupName}
 use Rattle.pr_manager.specs.Loading.{HasPassedNothing}

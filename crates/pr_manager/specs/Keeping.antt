@@ -1,14 +1,14 @@
 -- How what is kept of all groups stands for them.
 use Rattle.std.specs.Prelude.{◌≡◌, ℕ, ℤ, Bool, List}
 use Rattle.std.specs.List.{AllZip}
-use Rattle.pr_tmpl.specs.declared.template.External.{External}
+use Rattle.pr_world.specs.pr_tmpl.declared.template.External.{External}
 use Rattle.pr_history.specs.Admission.{IsLawful}
 use Rattle.pr_history.specs.declared.entry.Entry.{Entry}
-use Rattle.pr_head.specs.Holds.{Holds, IsWhole}
-use Rattle.pr_intake.specs.Intake.{Series}
-use Rattle.pr_range.specs.Asks.{LastAsks, Passed}
-use Rattle.pr_rules.specs.Groups.{Group}
-use Rattle.pr_rules.specs.Settings.{Settings}
+use Rattle.pr_group.specs.pr_head.Holds.{Holds, IsWhole}
+use Rattle.pr_group.specs.pr_intake.Intake.{Series}
+use Rattle.pr_group.specs.pr_range.Asks.{LastAsks, Passed}
+use Rattle.pr_world.specs.pr_rules.Groups.{Group}
+use Rattle.pr_world.specs.pr_rules.Settings.{Settings}
 use Rattle.pr_group.specs.Keeping.{KeepsGroup, KeptGroup, settings_of}
 use Rattle.pr_world.specs.World.{World}
 

@@ -2,10 +2,10 @@
 use Rattle.std.specs.Prelude.{◌≡◌, ℕ, List, flat_map, map, Result, Err}
 use Rattle.pr_labels.specs.declared.pair.Pair.{Pair}
 use Rattle.pr_history.specs.declared.entry.Entry.{Entry}
-use Rattle.pr_rulefile.specs.File.{groups_given, rule_file_of}
-use Rattle.pr_range.specs.Asks.{Passed}
-use Rattle.pr_rules.specs.Groups.{Group, fresh}
-use Rattle.pr_rules.specs.Reloads.{LoadedFile}
+use Rattle.pr_world.specs.pr_rulefile.File.{groups_given, rule_file_of}
+use Rattle.pr_group.specs.pr_range.Asks.{Passed}
+use Rattle.pr_world.specs.pr_rules.Groups.{Group, fresh}
+use Rattle.pr_world.specs.pr_rules.Reloads.{LoadedFile}
 use Rattle.pr_group.specs.Keeping.{KeptGroup, passed_by}
 use Rattle.pr_world.specs.declared.event.NamedFile.{NamedFile}
 use Rattle.pr_world.specs.declared.report.Report.{Report}

@@ -4,10 +4,10 @@ use Rattle.std.specs.List.{list_any}
 use Rattle.std.specs.Map.{lookup}
 use Rattle.std.specs.Str.{bytes_eq}
 use Rattle.pr_history.specs.declared.entry.Entry.{Entry}
-use Rattle.pr_range.specs.Asks.{Passed}
-use Rattle.pr_query.specs.Cost.{nothing_passed}
-use Rattle.pr_rules.specs.Costs.{PassedByRules}
-use Rattle.pr_rules.specs.Groups.{Group}
+use Rattle.pr_group.specs.pr_range.Asks.{Passed}
+use Rattle.pr_world.specs.pr_query.Cost.{nothing_passed}
+use Rattle.pr_world.specs.pr_rules.Costs.{PassedByRules}
+use Rattle.pr_world.specs.pr_rules.Groups.{Group}
 use Rattle.pr_group.specs.Keeping.{KeptGroup, passed_by}
 use Rattle.pr_manager.specs.declared.naming.GroupName.{GroupName}
 use Rattle.pr_manager.specs.Keeping.{KeptManager}

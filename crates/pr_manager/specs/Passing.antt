@@ -2,13 +2,13 @@
 -- and its name.
 use Rattle.std.specs.Prelude.{◌≡◌, ℕ, Bool, true, false, ◌&&◌, List, find, Option, Some, None}
 use Rattle.std.specs.Str.{bytes_eq}
-use Rattle.pr_query.specs.Cost.{nothing_passed}
-use Rattle.pr_rules.specs.Carried.{carried_by_group}
-use Rattle.pr_rules.specs.Costs.{PassedByRules}
-use Rattle.pr_rules.specs.Groups.{Group, is_group_named}
-use Rattle.pr_rules.specs.Passed.{IsPassedAfter}
-use Rattle.pr_rules.specs.Settings.{Settings}
-use Rattle.pr_rules.specs.Times.{IsAfter}
+use Rattle.pr_world.specs.pr_query.Cost.{nothing_passed}
+use Rattle.pr_world.specs.pr_rules.Carried.{carried_by_group}
+use Rattle.pr_world.specs.pr_rules.Costs.{PassedByRules}
+use Rattle.pr_world.specs.pr_rules.Groups.{Group, is_group_named}
+use Rattle.pr_world.specs.pr_rules.Passed.{IsPassedAfter}
+use Rattle.pr_world.specs.pr_rules.Settings.{Settings}
+use Rattle.pr_world.specs.pr_rules.Times.{IsAfter}
 use Rattle.pr_world.specs.World.{World}
 use Rattle.pr_world.specs.declared.event.NamedFile.{NamedFile}
 use Rattle.pr_manager.specs.Rounds.{eval_step, files_step}

@@ -1,12 +1,12 @@
 -- What a reload that is accepted comes to. Private contracts cite this: a reader can pass it over.
 use Rattle.std.specs.Prelude.{◌≡◌, ℕ, ◌++◌, List, find, length}
 use Rattle.pr_history.specs.declared.entry.Entry.{Entry}
-use Rattle.pr_intake.specs.Intake.{Series}
-use Rattle.pr_puts.specs.Puts.{added_count, admitted}
-use Rattle.pr_range.specs.Asks.{LastAsks, Passed}
-use Rattle.pr_rules.specs.Groups.{Group, is_group_named}
-use Rattle.pr_rules.specs.Reloads.{ReloadStep, rules_in}
-use Rattle.pr_rules.specs.Settings.{Settings}
+use Rattle.pr_group.specs.pr_intake.Intake.{Series}
+use Rattle.pr_world.specs.pr_puts.Puts.{added_count, admitted}
+use Rattle.pr_group.specs.pr_range.Asks.{LastAsks, Passed}
+use Rattle.pr_world.specs.pr_rules.Groups.{Group, is_group_named}
+use Rattle.pr_world.specs.pr_rules.Reloads.{ReloadStep, rules_in}
+use Rattle.pr_world.specs.pr_rules.Settings.{Settings}
 use Rattle.pr_group.specs.Keeping.{KeptGroup}
 use Rattle.pr_world.specs.declared.report.Report.TheVariants as report
 use Rattle.pr_manager.specs.declared.answered.Answered.{Answered}

@@ -1,9 +1,9 @@
 -- What becomes of a world by an evaluation and by a reload, and what an evaluation may read.
 use Rattle.std.specs.Prelude.{ℕ, cond, nat_lt, List, [], find, Option, Some, None}
 use Rattle.pr_history.specs.declared.entry.Entry.{Entry}
-use Rattle.pr_rules.specs.Costs.{PassedByRules, group_cost}
-use Rattle.pr_rules.specs.Groups.{Group, is_group_named}
-use Rattle.pr_rules.specs.Settings.{Settings}
+use Rattle.pr_world.specs.pr_rules.Costs.{PassedByRules, group_cost}
+use Rattle.pr_world.specs.pr_rules.Groups.{Group, is_group_named}
+use Rattle.pr_world.specs.pr_rules.Settings.{Settings}
 use Rattle.pr_world.specs.Rounds.{eval_outcome, reload_outcome}
 use Rattle.pr_world.specs.Step.{Step, step_by}
 use Rattle.pr_world.specs.World.{World}

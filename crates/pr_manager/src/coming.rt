@@ -1,16 +1,16 @@
 // The evaluation of a group, unless it is refused.
 ghost use Rattle.std.specs.Prelude.{◌≡◌, ◌+◌, ◌≤◌, List, IfOk};
 ghost use Rattle.pr_history.specs.declared.entry.Entry.{Entry};
-ghost use Rattle.pr_rules.specs.Groups.{Group};
-ghost use Rattle.pr_rules.specs.Settings.{Settings};
+ghost use Rattle.pr_world.specs.pr_rules.Groups.{Group};
+ghost use Rattle.pr_world.specs.pr_rules.Settings.{Settings};
 ghost use Rattle.pr_group.specs.Keeping.{MayEvaluateOver, passed_by};
 ghost use Rattle.pr_manager.specs.Coming.{Comes, too_late};
 ghost use Rattle.pr_manager.specs.Keeping.{KeepsUnder};
 ghost use Rattle.pr_manager.specs.Rounds.{cost_after};
 
 use pr_group::GroupOver;
-use pr_head::Head;
-use pr_range::Ranges;
+use pr_group::head::Head;
+use pr_group::range::Ranges;
 use pr_time::Ms;
 use pr_words::Steps;
 use pr_world::Report;

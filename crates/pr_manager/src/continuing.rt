@@ -7,7 +7,7 @@ ghost use Rattle.pr_manager.specs.Naming.{AreApart, name_of, names_of, same_name
 use crate::naming::name_of;
 use crate::waiting::Waiting;
 use pr_group::GroupOver;
-use pr_range::Ranges;
+use pr_group::range::Ranges;
 use std::alloc::{AllocError, Global};
 
 // A new group goes on from an old one.

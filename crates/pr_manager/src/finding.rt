@@ -4,7 +4,7 @@ ghost use Rattle.pr_manager.specs.Finding.{place_of};
 ghost use Rattle.pr_manager.specs.Naming.{is_kept_named};
 
 use pr_group::GroupOver;
-use pr_range::Ranges;
+use pr_group::range::Ranges;
 
 fn is_named<R: Ranges + Drop>(group: &GroupOver<R>, file: &str, name: &str) -> bool
     ensures { result ≡ is_kept_named file.now name.now group.now }

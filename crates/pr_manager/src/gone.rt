@@ -1,20 +1,20 @@
 // What remains of groups that are gone.
 ghost use Rattle.std.specs.Prelude.{◌≡◌, ◌++◌, [], List, map, flat_map, IfOk, OnOk};
 ghost use Rattle.pr_history.specs.declared.entry.Entry.{Entry};
-ghost use Rattle.pr_head.specs.Holds.{Holds};
-ghost use Rattle.pr_intake.specs.Intake.{HasTaken};
-ghost use Rattle.pr_puts.specs.Puts.{admitted, marker};
-ghost use Rattle.pr_rules.specs.Groups.{Group};
-ghost use Rattle.pr_rules.specs.Reloads.{remains};
-ghost use Rattle.pr_rules.specs.Settings.{Settings};
+ghost use Rattle.pr_group.specs.pr_head.Holds.{Holds};
+ghost use Rattle.pr_group.specs.pr_intake.Intake.{HasTaken};
+ghost use Rattle.pr_world.specs.pr_puts.Puts.{admitted, marker};
+ghost use Rattle.pr_world.specs.pr_rules.Groups.{Group};
+ghost use Rattle.pr_world.specs.pr_rules.Reloads.{remains};
+ghost use Rattle.pr_world.specs.pr_rules.Settings.{Settings};
 ghost use Rattle.pr_manager.specs.Keeping.{KeepEach};
 
 use pr_group::GroupOver;
-use pr_head::Head;
+use pr_group::head::Head;
+use pr_group::intake::mark;
+use pr_group::range::Ranges;
 use pr_history::Entry;
-use pr_intake::mark;
 use pr_labels::Labels;
-use pr_range::Ranges;
 use pr_time::Ms;
 use std::alloc::{AllocError, Global};
 

@@ -2,12 +2,12 @@
 ghost use Rattle.std.specs.Prelude.{◌≡◌, ◌++◌, Bool, List};
 ghost use Rattle.pr_history.specs.Admission.{IsLawful};
 ghost use Rattle.pr_history.specs.declared.entry.Entry.{Entry};
-ghost use Rattle.pr_rules.specs.Groups.{Group};
+ghost use Rattle.pr_world.specs.pr_rules.Groups.{Group};
 ghost use Rattle.pr_manager.specs.Keeping.{ManagesGroups, KeptManager};
 ghost use Rattle.pr_manager.specs.Naming.{passed_by_named};
 
 use pr_group::a_kept_group_stays;
-use pr_range::Ranges;
+use pr_group::range::Ranges;
 
 /// What is kept of all groups stands for them over each later history too, and as much counts as
 /// passed then.

@@ -20,3 +20,5 @@ pub use answered::{Answered, admitted_in};
 pub use laws::kept_groups_stay;
 pub use loading::no_external;
 pub use manager::Manager;
+pub use pr_group as group;
+pub use pr_group::{eval as eval, head as head, range as range};

@@ -1,16 +1,16 @@
 // The alerts of all groups.
 ghost use Rattle.std.specs.Prelude.{◌≡◌, ◌++◌, Bool, List, Some, filter, map, slice_get, IfOk, OnOk};
 ghost use Rattle.pr_history.specs.declared.entry.Entry.{Entry};
-ghost use Rattle.pr_rules.specs.Groups.{Group, RuleState};
-ghost use Rattle.pr_lineage.specs.Records.{is_living, is_living_state};
+ghost use Rattle.pr_world.specs.pr_rules.Groups.{Group, RuleState};
+ghost use Rattle.pr_group.specs.pr_lineage.Records.{is_living, is_living_state};
 ghost use Rattle.pr_group.specs.Keeping.{KeepsGroup};
 ghost use Rattle.pr_world.specs.Rounds.{alert_line, alerts_of, group_alerts, rule_alerts};
 ghost use Rattle.pr_manager.specs.Keeping.{ManagesGroups};
 
 use crate::manager::Manager;
-use pr_alert::{Record, State, records_of_a_lineage_stand_for_it};
 use pr_group::GroupOver;
-use pr_range::Ranges;
+use pr_group::alert::{Record, State, records_of_a_lineage_stand_for_it};
+use pr_group::range::Ranges;
 use pr_words::Items;
 use pr_world::AlertLine;
 use std::alloc::{AllocError, Global};

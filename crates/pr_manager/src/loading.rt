@@ -2,27 +2,27 @@
 ghost use Rattle.std.specs.Prelude.{◌≡◌, ◌≢◌, ◌<◌, ◌++◌, [], List, map, IfOk, IfErr, OnOk, Ok};
 ghost use Rattle.std.specs.List.{All};
 ghost use Rattle.pr_history.specs.declared.entry.Entry.{Entry};
-ghost use Rattle.pr_rulefile.specs.Groups.{group_of_def};
-ghost use Rattle.pr_rulefile.specs.File.{groups_given, groups_of_file, rule_file_of};
-ghost use Rattle.pr_rules.specs.Settings.{of_a_run};
-ghost use Rattle.pr_rule_result.specs.Templates.{HaveTemplates};
-ghost use Rattle.pr_rules.specs.Groups.{Group, fresh};
+ghost use Rattle.pr_world.specs.pr_rulefile.Groups.{group_of_def};
+ghost use Rattle.pr_world.specs.pr_rulefile.File.{groups_given, groups_of_file, rule_file_of};
+ghost use Rattle.pr_world.specs.pr_rules.Settings.{of_a_run};
+ghost use Rattle.pr_group.specs.pr_rule_result.Templates.{HaveTemplates};
+ghost use Rattle.pr_world.specs.pr_rules.Groups.{Group, fresh};
 ghost use Rattle.pr_group.specs.Keeping.{waits_of};
 ghost use Rattle.pr_world.specs.Rounds.{all_loaded, first_problem, groups_by};
 ghost use Rattle.pr_manager.specs.Keeping.{KeepEach, KeepsUnder, settings_with};
 ghost use Rattle.pr_manager.specs.Loading.{HasPassedNothing, IsRefusalOf, fresh_by, loaded_files};
 
-use pr_fields::{Problem, ProblemKind};
 use pr_group::GroupOver;
+use pr_group::range::Ranges;
+use pr_group::rule_result::rules_that_read_have_templates;
 use pr_labels::Labels;
-use pr_range::Ranges;
-use pr_rule_result::rules_that_read_have_templates;
-use pr_rulefile::laws::a_refused_file_has_a_problem;
-use pr_rulefile::{GroupDef, RuleError, RuleFile, read};
 use pr_time::Span;
-use pr_tmpl::External;
 use pr_words::{Items, Text};
 use pr_world::NamedFile;
+use pr_world::fields_crate::{Problem, ProblemKind};
+use pr_world::rulefile::laws::a_refused_file_has_a_problem;
+use pr_world::rulefile::{GroupDef, RuleError, RuleFile, read};
+use pr_world::tmpl::External;
 use std::alloc::{AllocError, Global};
 
 // A file has fewer bytes, so that its lines can be counted.

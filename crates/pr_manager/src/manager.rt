@@ -2,7 +2,7 @@
 ghost use Rattle.std.specs.Prelude.{◌≡◌, ◌+◌, ◌<◌, ◌≤◌, false, true, Bool, List, [], length, slice_get, IfOk, OnOk, Some};
 ghost use Rattle.pr_history.specs.declared.entry.Entry.{Entry};
 ghost use Rattle.pr_group.specs.Keeping.{KeptGroup, MayEvaluateOver, passed_by};
-ghost use Rattle.pr_rules.specs.Groups.{Group};
+ghost use Rattle.pr_world.specs.pr_rules.Groups.{Group};
 ghost use Rattle.pr_world.specs.World.{World};
 ghost use Rattle.pr_manager.specs.Keeping.{HasGoneOn, ManagesGroups, ManagesGroupsOf, KeepsUnder, settings_in};
 ghost use Rattle.pr_manager.specs.Coming.{ComesAt};
@@ -12,13 +12,13 @@ ghost use Rattle.pr_manager.specs.Rounds.{admitted_in, cost_after, eval_cost, ev
 
 use crate::coming::evaluate_group;
 use crate::finding::place_of;
+use pr_group::head::Head;
+use pr_group::range::Ranges;
 use pr_group::{GroupOver, a_kept_group_stays};
-use pr_head::Head;
-use pr_range::Ranges;
 use pr_time::{Ms, Span};
-use pr_tmpl::External;
 use pr_words::{Steps, Text};
 use pr_world::Report;
+use pr_world::tmpl::External;
 use std::alloc::{AllocError, Global};
 use std::marker::Model;
 use std::sync::ledger::Ledger;

@@ -3,7 +3,7 @@ ghost use Rattle.std.specs.Prelude.{◌≡◌, IfOk};
 ghost use Rattle.pr_manager.specs.Naming.{name_of};
 
 use pr_group::GroupOver;
-use pr_range::Ranges;
+use pr_group::range::Ranges;
 use pr_words::Text;
 use std::alloc::{AllocError, Global};
 

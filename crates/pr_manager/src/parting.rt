@@ -6,7 +6,7 @@ ghost use Rattle.pr_manager.specs.Naming.{first_of, is_among, kept_under, name_o
 use crate::naming::{GroupName, name_of};
 use crate::waiting::Waiting;
 use pr_group::GroupOver;
-use pr_range::Ranges;
+use pr_group::range::Ranges;
 use std::alloc::{AllocError, Global};
 
 /// Old groups, by whether new ones have their names.

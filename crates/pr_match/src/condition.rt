@@ -5,7 +5,7 @@ ghost use Rattle.pr_match.specs.Matcher.{may_follow, passes};
 use crate::fault::MatchError;
 use crate::op::MatchOp;
 use crate::pattern::{Pattern, Searcher};
-use pr_words::Text;
+use pr_labels::words_crate::Text;
 use std::alloc::{AllocError, Global};
 
 /// A condition on a value: the operator of a matcher with its text, which is a pattern where the

@@ -6,7 +6,7 @@ use crate::condition::{Condition, ValueSearcher};
 use crate::fault::MatchError;
 use crate::op::MatchOp;
 use pr_labels::Labels;
-use pr_words::Text;
+use pr_labels::words_crate::Text;
 use std::alloc::{AllocError, Global};
 use std::marker::Model;
 

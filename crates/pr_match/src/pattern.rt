@@ -4,7 +4,7 @@ ghost use Rattle.pr_match.specs.Pattern.{is_readable, is_pattern, anchored, matc
 ghost use Rattle.pr_match.specs.Compiled.{IsFrom, fault_of, syntax_fault};
 
 use crate::fault::MatchError;
-use pr_words::Text;
+use pr_labels::words_crate::Text;
 use regex::{Error, Matcher, Regex, Template};
 use regex_syntax::{Config, ErrorKind, parse};
 use std::alloc::{AllocError, Global};

@@ -15,7 +15,7 @@ use Rattle.pr_notices.specs.declared.joined.Joined.TheVariants.{New, Known, Full
 use Rattle.pr_notices.specs.Accounts.{AccountsFor, IsAccounted, Part, part_batch, part_notices}
 use Rattle.pr_notices.specs.Calls.{Call, add, offer, flush, clear, after, after_all, batches, batches_at, forgets, is_clear, offered_at, offers}
 use Rattle.pr_notices.specs.Receivers.{Receiver, after_add, batch, batch_of, flushed, flushed_if, given, is_known, is_named, joined_by, joins, most_at_once, most_counted, most_receivers, offered, place_after, receiver}
-use Rattle.pr_labels.proofs.LabelLaws.{alike}
+use Rattle.pr_lineage.proofs.LabelsLabelLaws.{alike}
 use Rattle.pr_notices.proofs.Kept.{length-given, name-flushed_if}
 use Rattle.pr_notices.proofs.Names.{find-map, find_none, left_false, passes_found, right_false, same_bytes, turned}
 

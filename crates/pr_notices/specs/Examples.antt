@@ -1,6 +1,6 @@
 -- Small notices and receivers to try the definitions on.
 use Rattle.std.specs.Prelude.{ℕ, zero, suc, true, List, [], ◌∷◌}
-use Rattle.pr_history.specs.Examples.{number}
+use Rattle.pr_lineage.specs.pr_history.Examples.{number}
 use Rattle.pr_lineage.specs.declared.sending.Sending.{Sending}
 use Rattle.pr_notices.specs.declared.batch.Batch.{Batch}
 use Rattle.pr_notices.specs.Receivers.{Receiver, receiver}

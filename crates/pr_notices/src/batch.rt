@@ -1,5 +1,5 @@
 use pr_lineage::Sending;
-use pr_words::Items;
+use pr_lineage::words_crate::Items;
 
 /// What a receiver is given at once. (Own choice.)
 #[derive(Debug, Drop)]

@@ -18,3 +18,5 @@ pub use laws::{
     a_receiver_is_given_its_stream_in_order, notices_may_be_offered_in_parts,
     receivers_stay_within_their_bounds,
 };
+pub use pr_lineage as lineage;
+pub use pr_lineage::labels as labels;

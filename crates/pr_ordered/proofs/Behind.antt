@@ -6,12 +6,12 @@ use Rattle.std.specs.Ordering.{is_lt, ordering_reverse}
 use Rattle.std.specs.declared.cmp.Ordering.{Ordering}
 use Rattle.std.specs.declared.cmp.Ordering.TheVariants.{Less, Equal, Greater}
 use Rattle.std.specs.BTreeMap.{insert_entry, is_at}
-use Rattle.pr_labels.specs.declared.pair.Pair.{Pair}
-use Rattle.pr_labels.specs.declared.item.Item.{Item}
-use Rattle.pr_labels.specs.Order.{labels_cmp}
-use Rattle.pr_labels.specs.Rising.{IsBelowFirstSet, IsRising}
-use Rattle.pr_labels.proofs.LabelOrder.{labels_total, below_next, rising_with}
-use Rattle.pr_labels.proofs.LabelMaps.{keys_insert}
+use Rattle.pr_vectors.specs.pr_labels.declared.pair.Pair.{Pair}
+use Rattle.pr_vectors.specs.pr_labels.declared.item.Item.{Item}
+use Rattle.pr_vectors.specs.pr_labels.Order.{labels_cmp}
+use Rattle.pr_vectors.specs.pr_labels.Rising.{IsBelowFirstSet, IsRising}
+use Rattle.pr_vectors.proofs.LabelsLabelOrder.{labels_total, below_next, rising_with}
+use Rattle.pr_vectors.proofs.LabelsLabelMaps.{keys_insert}
 use Rattle.pr_ordered.specs.Entries.{AreBelow, IsPut, entries_of, entry_item, is_known, item_entries, item_entry, items_of, label_sets_of}
 
 pub less_of : (o : Ordering) → is_lt o ≡ true → o ≡ Less

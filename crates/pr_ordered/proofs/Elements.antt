@@ -7,13 +7,13 @@ use Rattle.std.specs.Ordering.{match_ordering}
 use Rattle.std.specs.declared.cmp.Ordering.{Ordering}
 use Rattle.std.specs.declared.cmp.Ordering.TheVariants.{Less, Equal, Greater}
 use Rattle.std.specs.BTreeMap.{insert_entry, is_at}
-use Rattle.pr_num.specs.declared.value.Num.{Num}
-use Rattle.pr_labels.specs.declared.pair.Pair.{Pair}
-use Rattle.pr_labels.specs.declared.item.Item.{Item}
-use Rattle.pr_labels.specs.Order.{labels_cmp, labels_eq}
-use Rattle.pr_labels.specs.Rising.{is_among}
-use Rattle.pr_labels.proofs.LabelOrder.{among_with, labels_decide, tied}
-use Rattle.pr_labels.proofs.LabelMaps.{keys_insert, tie}
+use Rattle.pr_vectors.specs.pr_num.declared.value.Num.{Num}
+use Rattle.pr_vectors.specs.pr_labels.declared.pair.Pair.{Pair}
+use Rattle.pr_vectors.specs.pr_labels.declared.item.Item.{Item}
+use Rattle.pr_vectors.specs.pr_labels.Order.{labels_cmp, labels_eq}
+use Rattle.pr_vectors.specs.pr_labels.Rising.{is_among}
+use Rattle.pr_vectors.proofs.LabelsLabelOrder.{among_with, labels_decide, tied}
+use Rattle.pr_vectors.proofs.LabelsLabelMaps.{keys_insert, tie}
 use Rattle.pr_vectors.specs.Vectors.{element, item_placed, with_element}
 use Rattle.pr_ordered.specs.Entries.{entry_item, is_known, items_of}
 

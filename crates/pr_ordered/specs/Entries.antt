@@ -4,9 +4,9 @@ use Rattle.std.specs.List.{AllByRecursion}
 use Rattle.std.specs.Map.{lookup}
 use Rattle.std.specs.BTreeMap.{insert_entry, is_at}
 use Rattle.std.specs.declared.cmp.Ordering.TheVariants.{Less}
-use Rattle.pr_labels.specs.declared.pair.Pair.{Pair}
-use Rattle.pr_labels.specs.declared.item.Item.{Item}
-use Rattle.pr_labels.specs.Order.{labels_cmp}
+use Rattle.pr_vectors.specs.pr_labels.declared.pair.Pair.{Pair}
+use Rattle.pr_vectors.specs.pr_labels.declared.item.Item.{Item}
+use Rattle.pr_vectors.specs.pr_labels.Order.{labels_cmp}
 
 -- whether a label set has something
 abbrev pub is_known : {X : Type 0} → List Pair → List (List Pair × X) → Bool

@@ -1,1 +1,2 @@
 pub mod Entries
+pub use Rattle.pr_vectors.specs as pr_vectors

@@ -6,3 +6,4 @@ mod ordered;
 mod places;
 
 pub use ordered::Ordered;
+pub use pr_vectors as vectors_crate;

@@ -1,9 +1,9 @@
 ghost use Rattle.std.specs.Prelude.{◌≡◌, [], IfOk};
-ghost use Rattle.pr_labels.specs.Rising.{IsRising};
+ghost use Rattle.pr_vectors.specs.pr_labels.Rising.{IsRising};
 ghost use Rattle.pr_ordered.specs.Entries.{IsPut, items_of, label_sets_of};
 
 use crate::places::{goes_behind, move_all, place, with_placed};
-use pr_labels::{Item, Labels};
+use pr_vectors::labels::{Item, Labels};
 use std::alloc::{AllocError, Global};
 use std::collections::BTreeMap;
 use std::marker::Model;
@@ -22,8 +22,8 @@ pub struct Ordered<V> {
 impl<V> Model for Ordered<V> {
     ghost use Rattle.std.specs.Prelude.{List};
     ghost use Rattle.std.specs.Map.{keys_of};
-    ghost use Rattle.pr_labels.specs.declared.pair.Pair.{Pair};
-    ghost use Rattle.pr_labels.specs.Rising.{IsRising};
+    ghost use Rattle.pr_vectors.specs.pr_labels.declared.pair.Pair.{Pair};
+    ghost use Rattle.pr_vectors.specs.pr_labels.Rising.{IsRising};
     ghost use Rattle.pr_ordered.specs.Entries.{entries_of};
 
     ghost Value = { List (List Pair × V) };

@@ -1,10 +1,10 @@
 // Where a label set goes: behind items that rise, or into an ordered map.
 ghost use Rattle.std.specs.Prelude.{◌≡◌, ◌++◌, [], true, IfOk, OnOk, OnErr};
 ghost use Rattle.std.specs.Map.{keys_of};
-ghost use Rattle.pr_labels.specs.Rising.{IsRising};
+ghost use Rattle.pr_vectors.specs.pr_labels.Rising.{IsRising};
 ghost use Rattle.pr_ordered.specs.Entries.{AreBelow, IsPut, entries_of, item_entries, items_of};
 
-use pr_labels::{Item, Labels};
+use pr_vectors::labels::{Item, Labels};
 use std::alloc::AllocError;
 use std::collections::BTreeMap;
 

@@ -4,12 +4,12 @@ use Rattle.std.specs.Prelude.{slice_get, Result, MatchResult, IfOk, IfErr}
 use Rattle.std.proofs.lemmas.List.{take-append-le, take-append-drop, map-append, length-map, take-map, length-take, length-append, take_all}
 use Rattle.std.proofs.lemmas.Result.{MatchResult-weaker, IfOk-weaker, IfErr-weaker}
 use Rattle.pr_forms.specs.Form.{rule, Reads}
-use Rattle.pr_lex.specs.declared.token.Token.{Token}
-use Rattle.pr_lex.specs.declared.fault.LexError.{LexError}
-use Rattle.pr_lex.specs.declared.fault.LexError.TheVariants.{Fault as LexFault, Memory as LexMemory}
-use Rattle.pr_lex.specs.Tokens.{HasTokens, HasFirst}
-use Rattle.pr_lex.specs.Reader.{Refuses as RefusesLex, Misses as MissesLex}
-use Rattle.pr_lex.proofs.Unique.{one_list}
+use Rattle.pr_ast.specs.pr_lex.declared.token.Token.{Token}
+use Rattle.pr_ast.specs.pr_lex.declared.fault.LexError.{LexError}
+use Rattle.pr_ast.specs.pr_lex.declared.fault.LexError.TheVariants.{Fault as LexFault, Memory as LexMemory}
+use Rattle.pr_ast.specs.pr_lex.Tokens.{HasTokens, HasFirst}
+use Rattle.pr_ast.specs.pr_lex.Reader.{Refuses as RefusesLex, Misses as MissesLex}
+use Rattle.pr_ast.proofs.LexUnique.{one_list}
 use Rattle.pr_ast.specs.declared.tree.Expr.{Expr}
 use Rattle.pr_ast.specs.Tree.{Tree, tree_of}
 use Rattle.pr_grammar.specs.declared.kind.Kind.{Kind}

@@ -2,9 +2,9 @@
 use Rattle.std.proofs.Common.{◌≡◌, refl, None, false, [], ◌∷◌}
 use Rattle.std.specs.Prelude.{codes}
 use Rattle.pr_forms.specs.Reading.{reading, bad_place}
-use Rattle.pr_lex.specs.Words.{word_of, words, is_word, word_text}
-use Rattle.pr_lex.specs.Worked.{name, duration, sign}
-use Rattle.pr_lex.specs.declared.token.Sign.TheVariants as signs
+use Rattle.pr_ast.specs.pr_lex.Words.{word_of, words, is_word, word_text}
+use Rattle.pr_ast.specs.pr_lex.Worked.{name, duration, sign}
+use Rattle.pr_ast.specs.pr_lex.declared.token.Sign.TheVariants as signs
 use Rattle.pr_ast.specs.Names.{func_of, funcs, is_func, func_text}
 use Rattle.pr_ast.specs.declared.names.BinOp.TheVariants as op
 use Rattle.pr_ast.specs.declared.names.AggOp.TheVariants as agg

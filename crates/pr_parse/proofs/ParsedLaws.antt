@@ -8,10 +8,10 @@ use Rattle.pr_forms.specs.Form.{rule, Reads, Begins, at_whole}
 use Rattle.pr_forms.specs.Reading.{reading, bad_place}
 use Rattle.pr_forms.proofs.Ending.{given_reads, reads_given, given_place}
 use Rattle.pr_forms.proofs.Places.{one_place, cut_short}
-use Rattle.pr_lex.specs.declared.fault.LexKind.{LexKind}
-use Rattle.pr_lex.specs.Tokens.{HasFault}
-use Rattle.pr_lex.specs.Lexed.{Lexed, gives_tokens, gives_fault as gives_first_fault, lexed}
-use Rattle.pr_lex.proofs.LexedLaws.{tokens_both, fault_both}
+use Rattle.pr_ast.specs.pr_lex.declared.fault.LexKind.{LexKind}
+use Rattle.pr_ast.specs.pr_lex.Tokens.{HasFault}
+use Rattle.pr_ast.specs.pr_lex.Lexed.{Lexed, gives_tokens, gives_fault as gives_first_fault, lexed}
+use Rattle.pr_ast.proofs.LexLexedLaws.{tokens_both, fault_both}
 use Rattle.pr_ast.specs.declared.place.Place.{Place}
 use Rattle.pr_ast.specs.declared.tree.Expr.{Expr}
 use Rattle.pr_ast.specs.Tree.{Tree, tree_of}

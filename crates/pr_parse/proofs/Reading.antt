@@ -3,7 +3,7 @@ use Rattle.std.proofs.Common.{◌≡◌, List, Bool, true}
 use Rattle.pr_forms.specs.Form.{rule}
 use Rattle.pr_forms.specs.Run.{good, bad, run_rule}
 use Rattle.pr_forms.specs.Language.{Gives, Takes}
-use Rattle.pr_lex.specs.declared.token.Sign.TheVariants.{LeftParen}
+use Rattle.pr_ast.specs.pr_lex.declared.token.Sign.TheVariants.{LeftParen}
 use Rattle.pr_ast.specs.declared.place.Place.{Place}
 use Rattle.pr_grammar.specs.declared.kind.Lexed.{Lexed}
 use Rattle.pr_grammar.specs.declared.kind.Before.TheVariants.{Other as Others}

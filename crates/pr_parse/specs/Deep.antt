@@ -1,6 +1,6 @@
 -- How deep a text is, by its tokens alone.
 use Rattle.std.specs.Prelude.{◌≡◌, ℕ, ◌+◌, ◌-◌, ◌≤◌, ◌<◌, suc, max, Bool, true, false, ◌||◌, is_some, List, [], ◌∷◌, length, take, if◌then◌else◌}
-use Rattle.pr_lex.specs.declared.token.Sign.TheVariants.{LeftBrace, RightBrace, LeftParen, RightParen, Comma, Colon}
+use Rattle.pr_ast.specs.pr_lex.declared.token.Sign.TheVariants.{LeftBrace, RightBrace, LeftParen, RightParen, Comma, Colon}
 use Rattle.pr_grammar.specs.declared.kind.Kind.{Kind}
 use Rattle.pr_grammar.specs.declared.kind.Kind.TheVariants.{Sign}
 use Rattle.pr_grammar.specs.declared.kind.Level.TheVariants.{Or, And, Comparison, Sum, Product}

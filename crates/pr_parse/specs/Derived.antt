@@ -1,8 +1,8 @@
 -- What a text is as an expression, and its first bad place.
 use Rattle.std.specs.Prelude.{◌≡◌, ℕ, suc, ◌≤◌, ◌<◌, Option, Some, None, Result, Ok, Err, List, [], length, take, drop, map, slice_get}
 use Rattle.pr_forms.specs.Form.{rule, Begins}
-use Rattle.pr_lex.specs.declared.token.Token.{Token}
-use Rattle.pr_lex.specs.Tokens.{HasTokens, HasFault}
+use Rattle.pr_ast.specs.pr_lex.declared.token.Token.{Token}
+use Rattle.pr_ast.specs.pr_lex.Tokens.{HasTokens, HasFault}
 use Rattle.pr_ast.specs.declared.tree.Expr.{Expr}
 use Rattle.pr_ast.specs.Tree.{Tree}
 use Rattle.pr_parse.specs.declared.whole.TreeFault.{TreeFault}

@@ -1,7 +1,7 @@
 -- Why a text has no tree: the kind of the first bad token.
 use Rattle.std.specs.Prelude.{ℕ, zero, suc, Bool, true, false, Option, Some, None, List, [], ◌∷◌, take, map, slice_get, if◌then◌else◌}
-use Rattle.pr_lex.specs.declared.token.Sign.TheVariants.{LeftBrace, RightBrace, LeftParen, RightParen, LeftBracket, RightBracket, Comma, Colon}
-use Rattle.pr_lex.specs.declared.words.Word.TheVariants.{On, Ignoring, GroupLeft, GroupRight, Offset, By, Without}
+use Rattle.pr_ast.specs.pr_lex.declared.token.Sign.TheVariants.{LeftBrace, RightBrace, LeftParen, RightParen, LeftBracket, RightBracket, Comma, Colon}
+use Rattle.pr_ast.specs.pr_lex.declared.words.Word.TheVariants.{On, Ignoring, GroupLeft, GroupRight, Offset, By, Without}
 use Rattle.pr_grammar.specs.declared.kind.Kind.{Kind}
 use Rattle.pr_grammar.specs.declared.kind.Kind.TheVariants.{Span, ZeroSpan, Word, Function, OwnName, WithColon, Plain, Sign}
 use Rattle.pr_parse.specs.declared.fault.ParseKind.{ParseKind}

@@ -1,9 +1,9 @@
 -- The first tokens of a text, or why it has none.
 use Rattle.std.specs.Prelude.{◌≡◌, ℕ, List, take}
-use Rattle.pr_lex.specs.declared.token.Token.{Token}
-use Rattle.pr_lex.specs.declared.fault.LexError.{LexError}
-use Rattle.pr_lex.specs.declared.fault.LexError.TheVariants.{Fault, Memory as LexMemory}
-use Rattle.pr_lex.specs.Tokens.{HasTokens}
+use Rattle.pr_ast.specs.pr_lex.declared.token.Token.{Token}
+use Rattle.pr_ast.specs.pr_lex.declared.fault.LexError.{LexError}
+use Rattle.pr_ast.specs.pr_lex.declared.fault.LexError.TheVariants.{Fault, Memory as LexMemory}
+use Rattle.pr_ast.specs.pr_lex.Tokens.{HasTokens}
 use Rattle.pr_grammar.specs.Seen.{Seen, seen_tokens}
 use Rattle.pr_parse.specs.declared.fault.ParseError.{ParseError}
 use Rattle.pr_parse.specs.declared.fault.ParseError.TheVariants.{Lex, Memory}

@@ -8,3 +8,4 @@ pub mod Derived
 pub mod Front
 pub mod Parsed
 pub mod Examples
+pub use Rattle.pr_grammar.specs as pr_grammar

@@ -3,8 +3,8 @@
 use Rattle.std.specs.Prelude.{◌≡◌, ℕ, zero, suc, nat_lt, Bool, true, false, Option, Some, None, List, [], ◌∷◌, length, slice_get, if◌then◌else◌}
 use Rattle.pr_forms.specs.Form.{rule}
 use Rattle.pr_forms.specs.Reading.{reading, bad_place}
-use Rattle.pr_lex.specs.declared.fault.LexKind.{LexKind}
-use Rattle.pr_lex.specs.Lexed.{Lexed, gives_tokens, gives_fault as gives_first_fault, lexed}
+use Rattle.pr_ast.specs.pr_lex.declared.fault.LexKind.{LexKind}
+use Rattle.pr_ast.specs.pr_lex.Lexed.{Lexed, gives_tokens, gives_fault as gives_first_fault, lexed}
 use Rattle.pr_ast.specs.Tree.{Tree}
 use Rattle.pr_grammar.specs.declared.kind.Kind.{Kind}
 use Rattle.pr_grammar.specs.Seen.{Seen, seen_tokens, kinds_seen}

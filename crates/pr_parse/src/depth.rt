@@ -4,8 +4,8 @@ ghost use Rattle.pr_grammar.specs.Seen.{kinds_of};
 ghost use Rattle.pr_parse.specs.Deep.{is_counted, fresh, height, counting, around, grown, close, close_and_open, count, after_kind, in_braces, greatest_from, greatest_height, operators, depth_now, depth, IsTooDeep};
 ghost use Rattle.pr_parse.specs.DeepReader.{parts_of};
 
+use pr_ast::lex::{Sign, Word};
 use pr_grammar::{Kind, Lexed};
-use pr_lex::{Sign, Word};
 use std::alloc::{AllocError, Global};
 
 /// A part of a text that is open.

@@ -1,9 +1,9 @@
 //! What the definitions say of the tokens of small texts. An example is a function that does
 //! nothing, and its contract is what it shows: the texts are those of its comments.
 ghost use Rattle.std.specs.Prelude.{◌≡◌, codes, None, false, [], ◌∷◌};
-ghost use Rattle.pr_lex.specs.Worked.{name, duration, sign};
-ghost use Rattle.pr_lex.specs.declared.token.Sign.TheVariants as signs;
-ghost use Rattle.pr_lex.specs.declared.words.Word.TheVariants.{And};
+ghost use Rattle.pr_ast.specs.pr_lex.Worked.{name, duration, sign};
+ghost use Rattle.pr_ast.specs.pr_lex.declared.token.Sign.TheVariants as signs;
+ghost use Rattle.pr_ast.specs.pr_lex.declared.words.Word.TheVariants.{And};
 ghost use Rattle.pr_ast.specs.declared.names.BinOp.TheVariants as op;
 ghost use Rattle.pr_ast.specs.declared.names.AggOp.TheVariants as agg;
 ghost use Rattle.pr_ast.specs.Tree.{binary, aggregate};

@@ -6,8 +6,8 @@ ghost use Rattle.pr_grammar.specs.Seen.{kinds_of};
 ghost use Rattle.pr_parse.specs.Faults.{begins_labels, names_after, names_from, is_called, begins_matcher, begins_span, ends_range, kind_by, kind_before, second_before, kind_at};
 
 use crate::fault::{Names, ParseKind};
+use pr_ast::lex::{Sign, Word};
 use pr_grammar::{Kind, Lexed};
-use pr_lex::{Sign, Word};
 
 fn begins_labels(before: Option<Kind>) -> bool
     ensures { result ≡ begins_labels before }

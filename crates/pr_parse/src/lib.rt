@@ -15,3 +15,4 @@ mod whole;
 
 pub use fault::{ParseError, ParseKind};
 pub use parsing::parse;
+pub use pr_grammar as grammar;

@@ -5,13 +5,13 @@ ghost use Rattle.pr_grammar.specs.Seen.{see};
 ghost use Rattle.pr_grammar.specs.Grammar.{part, at, operand, turn, operation, signed, through, joined, turned, signed_by, opened_by, closed_by, literal_at, selector_of, moved, range_made, offset_set, arguments, parameter, bare, grouping_by};
 ghost use Rattle.pr_parse.specs.Reader.{value_of, parameters_of};
 
+use pr_ast::labels::{Grouping, Matching};
+use pr_ast::lex::Word;
+use pr_ast::num::Num;
+use pr_ast::time::Span;
+use pr_ast::words_crate::{Items, Text};
 use pr_ast::{AggOp, BinOp, Expr, ExprKind, Func, MatchText, Place, Selector};
 use pr_grammar::{Kind, Lexed, no_span, number_of, place_of, text_of, through};
-use pr_labels::{Grouping, Matching};
-use pr_lex::Word;
-use pr_num::Num;
-use pr_time::Span;
-use pr_words::{Items, Text};
 use std::alloc::{AllocError, Global};
 
 /// An expression, with the place of its text, parentheses and signs around it included.

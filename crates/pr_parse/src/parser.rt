@@ -37,14 +37,14 @@ use crate::made::{
 };
 use crate::selection::{literal_in, selection_in, unnamed_in};
 use crate::suffix::after_other;
+use pr_ast::lex::Sign;
+use pr_ast::words_crate::Items;
 use pr_ast::{AggOp, Expr, Func, Place};
 use pr_forms::Fault;
 use pr_grammar::{
     Level, Lexed, after, aggregate_in, function_in, grouping_in, labels_in, metric_in, minus_in,
     modifiers_in, operator_in, starts_argument,
 };
-use pr_lex::Sign;
-use pr_words::Items;
 use std::alloc::Global;
 
 #[cycle(parser)]

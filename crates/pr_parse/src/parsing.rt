@@ -1,8 +1,8 @@
 //! Parsing a text.
 ghost use Rattle.std.specs.Prelude.{◌≡◌, ◌≤◌, ◌<◌, true, List, length, slice_get, [], ◌++◌, IfOk, IfErr, IfSome, MatchResult};
 ghost use Rattle.pr_forms.specs.Form.{rule, Reads};
-ghost use Rattle.pr_lex.specs.declared.token.Token.{Token};
-ghost use Rattle.pr_lex.specs.Tokens.{HasTokens};
+ghost use Rattle.pr_ast.specs.pr_lex.declared.token.Token.{Token};
+ghost use Rattle.pr_ast.specs.pr_lex.Tokens.{HasTokens};
 ghost use Rattle.pr_ast.specs.Tree.{Tree, tree_of};
 ghost use Rattle.pr_ast.specs.Steps.{has_steps};
 ghost use Rattle.pr_grammar.specs.Seen.{Seen, seen, kinds_of, kinds_seen};
@@ -21,8 +21,8 @@ use crate::fault::{ParseError, ParseKind};
 use crate::kinds::kind_at;
 use crate::whole::{TreeFault, whole_tree};
 use pr_ast::Expr;
+use pr_ast::lex::{first_tokens, tokens};
 use pr_grammar::{Lexed, with_kinds};
-use pr_lex::{first_tokens, tokens};
 use std::alloc::Global;
 
 /// So many tokens are looked at before the others are kept: most texts have fewer, and one that is

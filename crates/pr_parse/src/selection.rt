@@ -11,11 +11,11 @@ ghost use Rattle.pr_parse.specs.Reader.{value_of, braced_value};
 
 use crate::made::{Part, literal_made, selector_made};
 use crate::suffix::after_selector;
+use pr_ast::lex::Sign;
+use pr_ast::words_crate::{Items, Text};
 use pr_ast::{MatchText, Place};
 use pr_forms::Fault;
 use pr_grammar::{Lexed, after, braces_in, through};
-use pr_lex::Sign;
-use pr_words::{Items, Text};
 use std::alloc::{AllocError, Global};
 
 /// The number or string at the front, where there is one, and what follows it.

@@ -8,10 +8,10 @@ ghost use Rattle.pr_grammar.specs.GrammarTable.{queries};
 ghost use Rattle.pr_parse.specs.Reader.{Follows, StepFollows, EndFollows};
 
 use crate::made::{Part, subquery_made, with_offset, with_range};
+use pr_ast::lex::{Sign, Word};
+use pr_ast::time::Span;
 use pr_forms::Fault;
 use pr_grammar::{Lexed, after, after_word, shift_in, span_in};
-use pr_lex::{Sign, Word};
-use pr_time::Span;
 use std::alloc::Global;
 
 /// The selector at the front with the brackets and the offset that follow it.

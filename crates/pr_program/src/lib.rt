@@ -5,6 +5,7 @@
 use pr_keep_sql::{DiskFile, SqlKeeper};
 use pr_outside::{DiskFiles, StdSink, StdSource};
 use pr_status::{RuntimeLine, Status, exit_of, words_of};
+pub use pr_top as top;
 use pr_top::promtool;
 use sqlite::Start;
 use std::process::ExitCode;

@@ -1,9 +1,9 @@
 -- What becomes of entries that are put one after another.
 use Rattle.std.specs.Prelude.{ℕ, Bool, true, false, not, List, [], ◌∷◌, map, filter, count_by}
 use Rattle.std.specs.List.{zip}
-use Rattle.pr_num.specs.declared.value.Point.TheVariants.{Stale}
-use Rattle.pr_labels.specs.declared.pair.Pair.{Pair}
-use Rattle.pr_labels.specs.Rising.{is_among}
+use Rattle.pr_history.specs.pr_num.declared.value.Point.TheVariants.{Stale}
+use Rattle.pr_history.specs.pr_labels.declared.pair.Pair.{Pair}
+use Rattle.pr_history.specs.pr_labels.Rising.{is_among}
 use Rattle.pr_history.specs.declared.append.Append.{Append}
 use Rattle.pr_history.specs.declared.append.Append.TheVariants as append
 use Rattle.pr_history.specs.declared.entry.Entry.{Entry}

@@ -1,6 +1,6 @@
 // What the definitions say of small lists of entries.
 ghost use Rattle.std.specs.Prelude.{◌≡◌, [], ◌∷◌};
-ghost use Rattle.pr_num.specs.declared.value.Point.TheVariants.{Stale};
+ghost use Rattle.pr_history.specs.pr_num.declared.value.Point.TheVariants.{Stale};
 ghost use Rattle.pr_history.specs.Examples.{entry_at, m, marked, one, whole};
 ghost use Rattle.pr_puts.specs.Puts.{added_count, admitted, shown_entries, markers, refused_count, label_sets_of};
 

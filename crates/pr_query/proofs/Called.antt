@@ -3,9 +3,9 @@ use Rattle.std.proofs.Common.{◌≡◌, ℕ, pos, drop, List, [], ◌∷◌, ma
 use Rattle.std.specs.Option.{option_map}
 use Rattle.pr_num.specs.declared.value.Num.{Num}
 use Rattle.pr_num.specs.declared.value.TooWide.{TooWide}
-use Rattle.pr_labels.specs.declared.grouping.Grouping.{Grouping}
-use Rattle.pr_labels.specs.declared.item.Item.{Item}
-use Rattle.pr_history.specs.declared.entry.Entry.{Entry}
+use Rattle.pr_ast.specs.pr_labels.declared.grouping.Grouping.{Grouping}
+use Rattle.pr_ast.specs.pr_labels.declared.item.Item.{Item}
+use Rattle.pr_vectors.specs.pr_history.declared.entry.Entry.{Entry}
 use Rattle.pr_ast.specs.declared.place.Place.{Place}
 use Rattle.pr_ast.specs.declared.names.AggOp.{AggOp}
 use Rattle.pr_ast.specs.declared.names.AggOp.TheVariants as agg
@@ -27,7 +27,7 @@ use Rattle.pr_query.specs.Selection.{selected_spots}
 use Rattle.pr_vectors.specs.Functions.{ValueFunction, at_least, at_most, clamped, mapped, sign_of, told_apart}
 use Rattle.pr_vectors.specs.Histogram.{buckets_in, histogram_labels, histogram_quantiles, histogram_value, histograms, is_bucket}
 use Rattle.pr_vectors.specs.Vectors.{IsVector}
-use Rattle.pr_labels.proofs.LabelOrder.{rising_fold}
+use Rattle.pr_ast.proofs.LabelsLabelOrder.{rising_fold}
 use Rattle.pr_vectors.proofs.Aggregation.{aggregated_is_vector, counted_is_vector}
 use Rattle.pr_vectors.proofs.FunctionAnswers.{apart_vector, clamped_vector, mapped_vector, rising_answer}
 use Rattle.pr_vectors.proofs.Vectors.{vector_filter}

@@ -1,6 +1,6 @@
 -- What an expression gives is a vector or a scalar.
 use Rattle.std.proofs.Common.{ℕ, zero, suc, List, [], ◌∷◌, ◌++◌, Option, Result, Ok, Err, IfOk, IfSome, subst}
-use Rattle.pr_history.specs.declared.entry.Entry.{Entry}
+use Rattle.pr_vectors.specs.pr_history.declared.entry.Entry.{Entry}
 use Rattle.pr_ast.specs.Tree.{Tree, number, text, select, range, sub, neg, binary, call, aggregate, none, more}
 use Rattle.pr_query.specs.Answers.{IsAnswer, go_on}
 use Rattle.pr_query.specs.declared.fault.Fault.{Fault}

@@ -2,14 +2,14 @@
 use Rattle.std.proofs.Common.{◌≡◌, ℕ, ℤ, List, [], ◌∷◌, map, Option, Some, None, refl, ap, subst, sym}
 use Rattle.std.specs.List.{cons_option}
 use Rattle.std.specs.Option.{option_map}
-use Rattle.pr_labels.specs.declared.pair.Pair.{Pair}
-use Rattle.pr_labels.specs.declared.item.Item.{Item}
-use Rattle.pr_labels.specs.Rising.{IsBelowFirstSet, IsRising}
-use Rattle.pr_labels.proofs.LabelOrder.{below_next}
-use Rattle.pr_history.specs.declared.entry.Entry.{Entry}
-use Rattle.pr_history.specs.declared.spot.Spot.{Spot}
-use Rattle.pr_history.specs.Lookback.{spot_at}
-use Rattle.pr_history.proofs.Choosing.{chosen_rising}
+use Rattle.pr_ast.specs.pr_labels.declared.pair.Pair.{Pair}
+use Rattle.pr_ast.specs.pr_labels.declared.item.Item.{Item}
+use Rattle.pr_ast.specs.pr_labels.Rising.{IsBelowFirstSet, IsRising}
+use Rattle.pr_ast.proofs.LabelsLabelOrder.{below_next}
+use Rattle.pr_vectors.specs.pr_history.declared.entry.Entry.{Entry}
+use Rattle.pr_vectors.specs.pr_history.declared.spot.Spot.{Spot}
+use Rattle.pr_vectors.specs.pr_history.Lookback.{spot_at}
+use Rattle.pr_vectors.proofs.HistoryChoosing.{chosen_rising}
 use Rattle.pr_ast.specs.declared.selector.Selector.{Selector}
 use Rattle.pr_match.specs.Matcher.{meets_all}
 use Rattle.pr_types.specs.Selectors.{tests_of}

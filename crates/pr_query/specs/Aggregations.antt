@@ -2,8 +2,8 @@
 use Rattle.std.specs.Prelude.{List, Result, Ok, Err}
 use Rattle.pr_num.specs.declared.value.Num.{Num}
 use Rattle.pr_num.specs.declared.value.TooWide.{TooWide}
-use Rattle.pr_labels.specs.declared.grouping.Grouping.{Grouping}
-use Rattle.pr_labels.specs.declared.item.Item.{Item}
+use Rattle.pr_ast.specs.pr_labels.declared.grouping.Grouping.{Grouping}
+use Rattle.pr_ast.specs.pr_labels.declared.item.Item.{Item}
 use Rattle.pr_ast.specs.declared.place.Place.{Place}
 use Rattle.pr_ast.specs.declared.names.AggOp.{AggOp}
 use Rattle.pr_ast.specs.declared.names.AggOp.TheVariants.{Sum, Avg, Min, Max, Count, Group, TopK, BottomK, Quantile, CountValues}

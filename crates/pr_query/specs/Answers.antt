@@ -2,7 +2,7 @@
 use Rattle.std.specs.Prelude.{List, Result, Ok, Err}
 use Rattle.pr_num.specs.declared.value.Num.{Num}
 use Rattle.pr_num.specs.declared.value.TooWide.{TooWide}
-use Rattle.pr_labels.specs.declared.item.Item.{Item}
+use Rattle.pr_ast.specs.pr_labels.declared.item.Item.{Item}
 use Rattle.pr_ast.specs.declared.place.Place.{Place}
 use Rattle.pr_vectors.specs.declared.match_fault.MatchFault.{MatchFault}
 use Rattle.pr_vectors.specs.declared.match_fault.MatchFault.TheVariants as match

@@ -3,10 +3,10 @@ use Rattle.std.specs.Prelude.{ℕ, ◌*◌, ◌^◌, pos, drop, List, [], ◌∷
 use Rattle.pr_num.specs.declared.value.Num.{Num}
 use Rattle.pr_num.specs.declared.value.Num.TheVariants.{Finite}
 use Rattle.pr_num.specs.Arithmetic.{whole_of}
-use Rattle.pr_labels.specs.declared.item.Item.{Item}
-use Rattle.pr_labels.specs.SeriesText.{unnamed}
-use Rattle.pr_history.specs.declared.entry.Entry.{Entry}
-use Rattle.pr_history.specs.declared.spot.Spot.{Spot}
+use Rattle.pr_ast.specs.pr_labels.declared.item.Item.{Item}
+use Rattle.pr_ast.specs.pr_labels.SeriesText.{unnamed}
+use Rattle.pr_vectors.specs.pr_history.declared.entry.Entry.{Entry}
+use Rattle.pr_vectors.specs.pr_history.declared.spot.Spot.{Spot}
 use Rattle.pr_match.specs.Pattern.{expanded}
 use Rattle.pr_ast.specs.declared.place.Place.{Place}
 use Rattle.pr_ast.specs.declared.selector.Selector.{Selector}

@@ -3,11 +3,11 @@ use Rattle.std.specs.Prelude.{ℕ, ℤ, ◌-ℤ◌, pos, List, [], map, slice_ge
 use Rattle.std.specs.Option.{option_map}
 use Rattle.pr_num.specs.declared.value.Num.{Num}
 use Rattle.pr_num.specs.declared.value.Num.TheVariants.{NaN}
-use Rattle.pr_labels.specs.declared.pair.Pair.{Pair}
-use Rattle.pr_labels.specs.declared.item.Item.{Item}
-use Rattle.pr_history.specs.declared.entry.Entry.{Entry}
-use Rattle.pr_history.specs.declared.spot.Spot.{Spot}
-use Rattle.pr_history.specs.Lookback.{spots_within}
+use Rattle.pr_ast.specs.pr_labels.declared.pair.Pair.{Pair}
+use Rattle.pr_ast.specs.pr_labels.declared.item.Item.{Item}
+use Rattle.pr_vectors.specs.pr_history.declared.entry.Entry.{Entry}
+use Rattle.pr_vectors.specs.pr_history.declared.spot.Spot.{Spot}
+use Rattle.pr_vectors.specs.pr_history.Lookback.{spots_within}
 use Rattle.pr_ast.specs.declared.place.Place.{Place}
 use Rattle.pr_ast.specs.declared.selector.Selector.{Selector}
 use Rattle.pr_query.specs.declared.value.Value.{Value}

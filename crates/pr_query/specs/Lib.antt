@@ -12,3 +12,6 @@ pub mod Meaning
 pub mod Cost
 pub mod Examples
 pub mod RowExamples
+pub use Rattle.pr_types.specs as pr_types
+pub use Rattle.pr_vectors.specs.pr_history as pr_history
+pub use Rattle.pr_vectors.specs as pr_vectors

@@ -1,6 +1,6 @@
 -- What an expression gives at a moment: a value, or the first fault.
 use Rattle.std.specs.Prelude.{ℕ, pos, ◌-ℤ◌, List, [], ◌∷◌, ◌++◌, unwrap_or, Option, Some, None, Result, Ok}
-use Rattle.pr_history.specs.declared.entry.Entry.{Entry}
+use Rattle.pr_vectors.specs.pr_history.declared.entry.Entry.{Entry}
 use Rattle.pr_ast.specs.Tree.{Tree, number, text, select, range, sub, neg, binary, call, aggregate, none, more}
 use Rattle.pr_query.specs.declared.fault.Fault.{Fault}
 use Rattle.pr_query.specs.declared.value.Value.{Value}

@@ -2,8 +2,8 @@
 use Rattle.std.specs.Prelude.{Bool, if◌then◌else◌, List, Option, Result, Ok}
 use Rattle.pr_num.specs.declared.value.Num.{Num}
 use Rattle.pr_num.specs.Arithmetic.{negated}
-use Rattle.pr_labels.specs.declared.item.Item.{Item}
-use Rattle.pr_labels.specs.declared.matching.Matching.{Matching}
+use Rattle.pr_ast.specs.pr_labels.declared.item.Item.{Item}
+use Rattle.pr_ast.specs.pr_labels.declared.matching.Matching.{Matching}
 use Rattle.pr_ast.specs.declared.place.Place.{Place}
 use Rattle.pr_ast.specs.declared.names.BinOp.{BinOp}
 use Rattle.pr_ast.specs.declared.names.BinOp.TheVariants.{Or, And, Unless}

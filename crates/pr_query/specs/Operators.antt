@@ -4,8 +4,8 @@ use Rattle.pr_num.specs.declared.value.Num.{Num}
 use Rattle.pr_num.specs.declared.value.Num.TheVariants.{NaN}
 use Rattle.pr_num.specs.declared.value.TooWide.{TooWide}
 use Rattle.pr_num.specs.Arithmetic.{sum_of, difference_of, product_of, quotient_of, remainder_of}
-use Rattle.pr_labels.specs.declared.matching.Card.TheVariants.{OneToOne}
-use Rattle.pr_labels.specs.declared.matching.Matching.{Matching}
+use Rattle.pr_ast.specs.pr_labels.declared.matching.Card.TheVariants.{OneToOne}
+use Rattle.pr_ast.specs.pr_labels.declared.matching.Matching.{Matching}
 use Rattle.pr_ast.specs.declared.names.BinOp.{BinOp}
 use Rattle.pr_ast.specs.declared.names.BinOp.TheVariants as op
 use Rattle.pr_types.specs.Operations.{compares}

@@ -1,10 +1,10 @@
 -- Functions of ranges.
 use Rattle.std.specs.Prelude.{Bool, true, false, cond, List, [], ◌∷◌, Option, Some, None, Result, Ok, Err}
 use Rattle.pr_num.specs.declared.value.Num.{Num}
-use Rattle.pr_labels.specs.declared.pair.Pair.{Pair}
-use Rattle.pr_labels.specs.declared.item.Item.{Item}
-use Rattle.pr_labels.specs.SeriesText.{unnamed}
-use Rattle.pr_history.specs.declared.spot.Spot.{Spot}
+use Rattle.pr_ast.specs.pr_labels.declared.pair.Pair.{Pair}
+use Rattle.pr_ast.specs.pr_labels.declared.item.Item.{Item}
+use Rattle.pr_ast.specs.pr_labels.SeriesText.{unnamed}
+use Rattle.pr_vectors.specs.pr_history.declared.spot.Spot.{Spot}
 use Rattle.pr_ast.specs.declared.place.Place.{Place}
 use Rattle.pr_vectors.specs.declared.range.Ask.{Ask}
 use Rattle.pr_vectors.specs.declared.range.AskFault.{AskFault}

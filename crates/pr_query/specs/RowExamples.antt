@@ -2,10 +2,10 @@
 use Rattle.std.specs.Prelude.{ℕ, ◌*◌, ◌^◌, ◌-◌, negsuc, List, [], ◌∷◌, codes, Some, Result, Ok}
 use Rattle.pr_num.specs.declared.value.Num.{Num}
 use Rattle.pr_num.specs.declared.value.Num.TheVariants.{Finite}
-use Rattle.pr_labels.specs.declared.item.Item.{Item}
-use Rattle.pr_labels.specs.LabelSet.{pair_of}
-use Rattle.pr_history.specs.Examples.{entry_at, whole as held, three as m_three_times}
-use Rattle.pr_history.specs.declared.entry.Entry.{Entry}
+use Rattle.pr_ast.specs.pr_labels.declared.item.Item.{Item}
+use Rattle.pr_ast.specs.pr_labels.LabelSet.{pair_of}
+use Rattle.pr_vectors.specs.pr_history.Examples.{entry_at, whole as held, three as m_three_times}
+use Rattle.pr_vectors.specs.pr_history.declared.entry.Entry.{Entry}
 use Rattle.pr_ast.specs.declared.selector.MatchText.{MatchText}
 use Rattle.pr_ast.specs.declared.names.AggOp.{AggOp}
 use Rattle.pr_ast.specs.declared.names.Func.{Func}

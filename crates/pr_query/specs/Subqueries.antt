@@ -3,11 +3,11 @@ use Rattle.std.specs.Prelude.{ℕ, ◌+◌, ◌*◌, ◌/◌, ℤ, pos, negsuc, 
 use Rattle.std.specs.List.{filter_map, range_with_len}
 use Rattle.std.specs.Option.{option_map}
 use Rattle.pr_num.specs.declared.value.Num.{Num}
-use Rattle.pr_labels.specs.declared.pair.Pair.{Pair}
-use Rattle.pr_labels.specs.declared.item.Item.{Item}
-use Rattle.pr_labels.specs.Order.{labels_eq}
-use Rattle.pr_history.specs.declared.spot.Spot.{Spot}
-use Rattle.pr_history.specs.Lookback.{is_after, spot_of}
+use Rattle.pr_ast.specs.pr_labels.declared.pair.Pair.{Pair}
+use Rattle.pr_ast.specs.pr_labels.declared.item.Item.{Item}
+use Rattle.pr_ast.specs.pr_labels.Order.{labels_eq}
+use Rattle.pr_vectors.specs.pr_history.declared.spot.Spot.{Spot}
+use Rattle.pr_vectors.specs.pr_history.Lookback.{is_after, spot_of}
 use Rattle.pr_ast.specs.declared.place.Place.{Place}
 use Rattle.pr_vectors.specs.Ranges.{longest}
 use Rattle.pr_vectors.specs.Vectors.{in_label_order, label_sets}

@@ -1,14 +1,14 @@
 // What the definitions say of aggregations, functions, ranges and subqueries.
 ghost use Rattle.std.specs.Prelude.{◌≡◌, pos, negsuc, codes, true, false, [], ◌∷◌, Ok, Err, Some, None, ◌^◌, ◌*◌, ◌-◌};
 ghost use Rattle.pr_num.specs.declared.value.Num.TheVariants.{Finite, NaN};
-ghost use Rattle.pr_labels.specs.LabelSet.{metric_label, pair_of};
+ghost use Rattle.pr_ast.specs.pr_labels.LabelSet.{metric_label, pair_of};
 ghost use Rattle.pr_ast.specs.declared.names.AggOp.TheVariants as agg;
 ghost use Rattle.pr_ast.specs.declared.names.Func.TheVariants as func;
 ghost use Rattle.pr_ast.specs.declared.names.BinOp.TheVariants as op;
 ghost use Rattle.pr_ast.specs.Tree.{none as no_arguments};
 ghost use Rattle.pr_ast.specs.Examples.{one, two};
 ghost use Rattle.pr_ast.specs.Places.{nowhere};
-ghost use Rattle.pr_history.specs.Examples.{marked as m_then_marker, three as m_three_times, m as m_labels, number};
+ghost use Rattle.pr_vectors.specs.pr_history.Examples.{marked as m_then_marker, three as m_three_times, m as m_labels, number};
 ghost use Rattle.pr_vectors.specs.Vectors.{element};
 ghost use Rattle.pr_vectors.specs.Examples.{x};
 ghost use Rattle.pr_vectors.specs.AggregationExamples.{by_nothing};

@@ -1,6 +1,6 @@
 // How many samples are read for small expressions.
 ghost use Rattle.std.specs.Prelude.{ℕ, ◌≡◌, true, cond, ◌==◌, List, length, nat_lt, Some, None};
-ghost use Rattle.pr_history.specs.Examples.{three as m_three_times};
+ghost use Rattle.pr_vectors.specs.pr_history.Examples.{three as m_three_times};
 ghost use Rattle.pr_ast.specs.declared.names.BinOp.TheVariants as op;
 ghost use Rattle.pr_ast.specs.Tree.{sub};
 ghost use Rattle.pr_ast.specs.Places.{nowhere};

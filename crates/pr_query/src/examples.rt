@@ -1,12 +1,12 @@
 // What the definitions say of small expressions over small histories.
 ghost use Rattle.std.specs.Prelude.{◌≡◌, pos, negsuc, codes, true, false, [], ◌∷◌, Ok, Err, Some, None, ◌^◌, ◌*◌, ◌-◌};
 ghost use Rattle.pr_num.specs.declared.value.Num.TheVariants.{Finite, NaN, PosInf};
-ghost use Rattle.pr_labels.specs.declared.matching.Card.TheVariants as card;
-ghost use Rattle.pr_labels.specs.LabelSet.{metric_label};
+ghost use Rattle.pr_ast.specs.pr_labels.declared.matching.Card.TheVariants as card;
+ghost use Rattle.pr_ast.specs.pr_labels.LabelSet.{metric_label};
 ghost use Rattle.pr_ast.specs.declared.names.BinOp.TheVariants as op;
 ghost use Rattle.pr_ast.specs.Tree.{neg};
 ghost use Rattle.pr_ast.specs.Places.{nowhere};
-ghost use Rattle.pr_history.specs.Examples.{one as m_at_0, marked as m_then_marker, three as m_three_times, m as m_labels, number};
+ghost use Rattle.pr_vectors.specs.pr_history.Examples.{one as m_at_0, marked as m_then_marker, three as m_three_times, m as m_labels, number};
 ghost use Rattle.pr_vectors.specs.Vectors.{element};
 ghost use Rattle.pr_vectors.specs.Examples.{x, y, z, on_names};
 ghost use Rattle.pr_query.specs.declared.fault.FaultKind.TheVariants as kind;

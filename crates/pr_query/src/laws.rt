@@ -1,12 +1,12 @@
 // Laws of what expressions give.
 ghost use Rattle.std.specs.Prelude.{◌≡◌, ℕ, List, IfOk, map};
-ghost use Rattle.pr_labels.specs.declared.pair.Pair.{Pair};
-ghost use Rattle.pr_labels.specs.Rising.{IsRising};
+ghost use Rattle.pr_ast.specs.pr_labels.declared.pair.Pair.{Pair};
+ghost use Rattle.pr_ast.specs.pr_labels.Rising.{IsRising};
 ghost use Rattle.pr_match.specs.Matcher.{equality, meets_all};
 ghost use Rattle.pr_ast.specs.declared.selector.Selector.{Selector};
 ghost use Rattle.pr_ast.specs.Tree.{Tree};
-ghost use Rattle.pr_history.specs.declared.entry.Entry.{Entry};
-ghost use Rattle.pr_history.specs.Series.{chosen, has_values};
+ghost use Rattle.pr_vectors.specs.pr_history.declared.entry.Entry.{Entry};
+ghost use Rattle.pr_vectors.specs.pr_history.Series.{chosen, has_values};
 ghost use Rattle.pr_query.specs.Answers.{IsAnswer};
 ghost use Rattle.pr_query.specs.Selection.{chosen_by, selected_spots};
 ghost use Rattle.pr_query.specs.Meaning.{meaning};

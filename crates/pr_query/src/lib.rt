@@ -24,6 +24,8 @@ pub use fault::{Fault, FaultKind};
 pub use laws::{
     answers_are_vectors, chosen_series_are_in_label_order, equalities_choose_series_with_pairs,
 };
+pub use pr_types as types;
+pub use pr_vectors::history as history;
 pub use range_examples::{each_function_of_a_range_has_its_row, ranges_have_offsets_and_faults};
 pub use row_examples::{
     each_aggregation_has_its_row, each_function_of_values_has_its_row,

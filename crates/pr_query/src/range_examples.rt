@@ -3,7 +3,7 @@ ghost use Rattle.std.specs.Prelude.{◌≡◌, pos, codes, [], ◌∷◌, Ok, Er
 ghost use Rattle.pr_num.specs.declared.value.Num.TheVariants.{Finite};
 ghost use Rattle.pr_ast.specs.declared.names.Func.TheVariants as func;
 ghost use Rattle.pr_ast.specs.Examples.{one, two};
-ghost use Rattle.pr_history.specs.Examples.{m as m_labels, three as m_three_times, number};
+ghost use Rattle.pr_vectors.specs.pr_history.Examples.{m as m_labels, three as m_three_times, number};
 ghost use Rattle.pr_vectors.specs.declared.range.AskFault.TheVariants as ask;
 ghost use Rattle.pr_vectors.specs.RangeExamples.{falling};
 ghost use Rattle.pr_vectors.specs.Vectors.{element};

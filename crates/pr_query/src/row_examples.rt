@@ -1,7 +1,7 @@
 // What single functions, aggregations and operators of the language give.
 ghost use Rattle.std.specs.Prelude.{◌≡◌, pos, codes, [], ◌∷◌, Ok, Some, ◌^◌, ◌*◌};
 ghost use Rattle.pr_num.specs.declared.value.Num.TheVariants.{Finite};
-ghost use Rattle.pr_labels.specs.LabelSet.{metric_label};
+ghost use Rattle.pr_ast.specs.pr_labels.LabelSet.{metric_label};
 ghost use Rattle.pr_match.specs.Pattern.{expanded};
 ghost use Rattle.pr_ast.specs.declared.names.AggOp.TheVariants as agg;
 ghost use Rattle.pr_ast.specs.declared.names.Func.TheVariants as func;
@@ -9,7 +9,7 @@ ghost use Rattle.pr_ast.specs.declared.names.BinOp.TheVariants as op;
 ghost use Rattle.pr_ast.specs.declared.selector.MatchSign.TheVariants.{Equal, NotEqual};
 ghost use Rattle.pr_ast.specs.Tree.{none as no_arguments};
 ghost use Rattle.pr_ast.specs.Examples.{metric, matcher, one, two};
-ghost use Rattle.pr_history.specs.Examples.{number};
+ghost use Rattle.pr_vectors.specs.pr_history.Examples.{number};
 ghost use Rattle.pr_vectors.specs.Vectors.{element};
 ghost use Rattle.pr_vectors.specs.Examples.{x, y};
 ghost use Rattle.pr_query.specs.declared.value.Value.TheVariants.{Vector};

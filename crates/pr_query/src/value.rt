@@ -1,6 +1,6 @@
-use pr_labels::Item;
+use pr_ast::labels::Item;
+use pr_ast::words_crate::Items;
 use pr_num::Num;
-use pr_words::Items;
 
 /// What an expression gives at a moment. (Prometheus: Querying basics, "Expression language data
 /// types".)

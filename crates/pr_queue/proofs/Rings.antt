@@ -1,7 +1,7 @@
 -- What is put into a ring, and what is taken out.
 use Rattle.std.proofs.Common.{◌≡◌, ℕ, ◌+◌, ◌-◌, ◌≤◌, min, List, [], ◌∷◌, ◌++◌, length, take, drop, map, ap, ◌∙◌, refl, subst, arith, append_assoc}
 use Rattle.circular_buffer.specs.Buffer.{Buffer, buffer, keep_last}
-use Rattle.pr_lineage.specs.declared.sending.Sending.{Sending}
+use Rattle.pr_notices.specs.pr_lineage.declared.sending.Sending.{Sending}
 use Rattle.pr_notices.specs.declared.batch.Batch.{Batch}
 use Rattle.pr_notices.specs.Receivers.{most_at_once, most_counted, most_waiting}
 use Rattle.pr_queue.specs.Queues.{Queued, Waiting, next_batch, taken_in, waiting_in, with_coming, without_batch}

@@ -5,7 +5,7 @@ use Rattle.std.specs.Option.{option_map}
 use Rattle.std.proofs.lemmas.List.{drop-append-le, drop-drop, drop_min, length-map, length-take, map-append}
 use Rattle.std.proofs.lemmas.Bool.Decides.{nat_tests}
 use Rattle.circular_buffer.specs.Buffer.{keep_last}
-use Rattle.pr_lineage.specs.declared.sending.Sending.{Sending}
+use Rattle.pr_notices.specs.pr_lineage.declared.sending.Sending.{Sending}
 use Rattle.pr_notices.specs.declared.joined.Joined.{Joined}
 use Rattle.pr_notices.specs.declared.joined.Joined.TheVariants.{New, Known, Full}
 use Rattle.pr_notices.specs.Calls.{offer, flush}

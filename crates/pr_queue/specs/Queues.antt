@@ -2,7 +2,7 @@
 use Rattle.std.specs.Prelude.{ℕ, ◌+◌, ◌-◌, min, Bool, List, [], ◌++◌, length, take, drop, map}
 use Rattle.std.specs.Str.{bytes_eq}
 use Rattle.circular_buffer.specs.Buffer.{keep_last}
-use Rattle.pr_lineage.specs.declared.sending.Sending.{Sending}
+use Rattle.pr_notices.specs.pr_lineage.declared.sending.Sending.{Sending}
 use Rattle.pr_notices.specs.declared.batch.Batch.{Batch}
 use Rattle.pr_notices.specs.Receivers.{most_at_once, most_counted, most_waiting}
 

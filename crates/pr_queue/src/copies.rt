@@ -1,8 +1,8 @@
 // Copies of notices.
 ghost use Rattle.std.specs.Prelude.{◌≡◌, IfOk};
 
-use pr_labels::copy_pairs;
-use pr_lineage::Sending;
+use pr_notices::labels::copy_pairs;
+use pr_notices::lineage::Sending;
 use pr_words::Items;
 use std::alloc::{AllocError, Global};
 

@@ -6,7 +6,7 @@ ghost use Rattle.pr_queue.specs.Standing.{StandsFor};
 
 use crate::notice::{Notice, notices_of};
 use crate::queue::{MOST_WAITING, Queue};
-use pr_lineage::Sending;
+use pr_notices::lineage::Sending;
 use pr_notices::{Batch, Joined};
 use std::alloc::{AllocError, Global};
 use std::marker::Model;

@@ -5,8 +5,8 @@ ghost use Rattle.pr_queue.specs.Queues.{empty_queue, is_queue_for, next_batch, t
 
 use crate::notice::{Notice, shares_of};
 use circular_buffer::HeapCircularBuffer;
-use pr_lineage::Sending;
 use pr_notices::Batch;
+use pr_notices::lineage::Sending;
 use pr_words::{Items, Text};
 use std::alloc::{AllocError, Global};
 use std::marker::Model;

@@ -3,12 +3,12 @@ use Rattle.std.proofs.Common.{◌≡◌, ℕ, ◌<◌, ◌≤◌, List, length, 
 use Rattle.pr_num.specs.declared.value.Num.{Num}
 use Rattle.pr_num.specs.declared.value.TooWide.{TooWide}
 use Rattle.pr_num.specs.Total.{Tally, joined}
-use Rattle.pr_history.specs.declared.spot.Spot.{Spot}
+use Rattle.pr_head.specs.pr_history.declared.spot.Spot.{Spot}
 use Rattle.pr_vectors.specs.declared.range.Ask.{Ask}
 use Rattle.pr_vectors.specs.declared.range.AskFault.TheVariants as fault
 use Rattle.pr_vectors.specs.declared.range.RangeFn.TheVariants.{MaxOverTime, MinOverTime}
 use Rattle.pr_vectors.specs.Ranges.{longest, over, with_fault}
-use Rattle.pr_window.specs.Folding.{folded}
+use Rattle.pr_folds.specs.pr_window.Folding.{folded}
 use Rattle.pr_folds.specs.declared.neighbours.Neighbours.{Neighbours}
 use Rattle.pr_folds.specs.Answers.{from_neighbours, from_total, is_of_neighbours, is_of_total}
 use Rattle.pr_folds.specs.Extremes.{greater, lesser, value_alone}

@@ -4,14 +4,14 @@ use Rattle.std.specs.List.{cons_option, filter_map}
 use Rattle.std.proofs.lemmas.Grind.{common_steps}
 use Rattle.pr_num.specs.Same.{same_point}
 use Rattle.pr_num.specs.declared.value.Point.{Point}
-use Rattle.pr_labels.specs.declared.pair.Pair.{Pair}
-use Rattle.pr_labels.specs.Order.{labels_eq}
-use Rattle.pr_history.specs.declared.entry.Entry.{Entry}
-use Rattle.pr_history.specs.declared.append.Append.TheVariants.{Added, Same, OutOfOrder, Conflict}
-use Rattle.pr_history.specs.Admission.{is_of, last_entry, admit, admit_after, IsLawful, IsLawfulAfter}
-use Rattle.pr_history.specs.Lookback.{entries_until, is_after, is_until, spot_in, spots_within}
+use Rattle.pr_head.specs.pr_labels.declared.pair.Pair.{Pair}
+use Rattle.pr_head.specs.pr_labels.Order.{labels_eq}
+use Rattle.pr_head.specs.pr_history.declared.entry.Entry.{Entry}
+use Rattle.pr_head.specs.pr_history.declared.append.Append.TheVariants.{Added, Same, OutOfOrder, Conflict}
+use Rattle.pr_head.specs.pr_history.Admission.{is_of, last_entry, admit, admit_after, IsLawful, IsLawfulAfter}
+use Rattle.pr_head.specs.pr_history.Lookback.{entries_until, is_after, is_until, spot_in, spots_within}
 use Rattle.pr_head.specs.Holds.{timed, samples_of}
-use Rattle.pr_history.proofs.Lawful.{of_entries}
+use Rattle.pr_head.proofs.HistoryLawful.{of_entries}
 use Rattle.pr_head.proofs.Arrivals.{samples_more, samples_other, last_more, last_other, eq_from, apart_from}
 use Rattle.pr_head.proofs.Newest.{Rises, UpTo}
 use Rattle.pr_range.specs.Spots.{spots_of}

@@ -9,3 +9,10 @@ pub mod Spreads
 pub mod Slopes
 pub mod Rising
 pub mod Finishing
+pub use Rattle.pr_head.proofs.HistoryChoosing
+pub use Rattle.pr_head.proofs.HistoryLawful
+pub use Rattle.pr_folds.proofs.Over as FoldsOver
+pub use Rattle.pr_folds.proofs.Summaries as FoldsSummaries
+pub use Rattle.pr_head.proofs.Arrivals as HeadArrivals
+pub use Rattle.pr_head.proofs.Newest as HeadNewest
+pub use Rattle.pr_head.proofs.Simulation as HeadSimulation

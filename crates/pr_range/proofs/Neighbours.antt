@@ -2,7 +2,7 @@
 use Rattle.std.proofs.Common.{◌≡◌, ℕ, suc, ◌+◌, ◌-◌, ◌<◌, ◌≤◌, List, [], ◌∷◌, length, get_or, drop, slice_get, Some, None, refl, ap, ◌∙◌, arith}
 use Rattle.std.proofs.lemmas.List.{drop_more}
 use Rattle.pr_num.specs.declared.value.Num.{Num}
-use Rattle.pr_history.specs.declared.spot.Spot.{Spot}
+use Rattle.pr_head.specs.pr_history.declared.spot.Spot.{Spot}
 use Rattle.pr_vectors.specs.Extrapolation.{last_two}
 use Rattle.pr_vectors.specs.Spots.{last_of, neighbours, numbers_of}
 

@@ -6,9 +6,9 @@ use Rattle.std.proofs.lemmas.Grind.{common_steps}
 use Rattle.std.proofs.lemmas.Int.{ints}
 use Rattle.pr_num.specs.declared.value.Point.{Point}
 use Rattle.pr_num.specs.declared.value.Point.TheVariants.{Value, Stale}
-use Rattle.pr_labels.specs.declared.pair.Pair.{Pair}
-use Rattle.pr_history.specs.declared.entry.Entry.{Entry}
-use Rattle.pr_history.specs.Lookback.{entries_until, is_after, is_until, spots_within}
+use Rattle.pr_head.specs.pr_labels.declared.pair.Pair.{Pair}
+use Rattle.pr_head.specs.pr_history.declared.entry.Entry.{Entry}
+use Rattle.pr_head.specs.pr_history.Lookback.{entries_until, is_after, is_until, spots_within}
 use Rattle.pr_head.specs.declared.timed.Timed.{Timed}
 use Rattle.pr_head.specs.Stored.{Stored, count_of, position_of}
 use Rattle.pr_head.specs.Holds.{samples_of}
@@ -16,7 +16,7 @@ use Rattle.pr_head.proofs.Simulation.{entry_at}
 use Rattle.pr_vectors.specs.declared.range.Ask.{Ask}
 use Rattle.pr_vectors.specs.Ranges.{ask_cost}
 use Rattle.pr_range.specs.Asks.{MayAsk, passed_for}
-use Rattle.pr_history.specs.declared.spot.Spot.{Spot}
+use Rattle.pr_head.specs.pr_history.declared.spot.Spot.{Spot}
 use Rattle.pr_range.specs.Spots.{AreWithin, samples_between, spots_of}
 use Rattle.pr_range.proofs.Timeline.{StrictlyRises, until, between, between_is, place_behind, until_grows}
 use Rattle.pr_range.proofs.Lawful.{rising_samples, strict_samples, entries_until_is, spots_within_is}

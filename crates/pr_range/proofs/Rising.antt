@@ -1,13 +1,13 @@
 -- Values of a range have rising times.
 use Rattle.std.proofs.Common.{◌≡◌, ◌<◌, ◌≤◌, ℤ, pos, ◌<ℤ◌, Bool, true, false, Some, None, Result, Ok, List, [], ◌∷◌, length, refl, sym, subst, ◌∙◌, arith}
 use Rattle.std.proofs.lemmas.Int.{ints}
-use Rattle.pr_history.specs.declared.spot.Spot.{Spot}
+use Rattle.pr_head.specs.pr_history.declared.spot.Spot.{Spot}
 use Rattle.pr_vectors.specs.Extrapolation.{last_two}
 use Rattle.pr_vectors.specs.Spots.{last_of, of_two}
 use Rattle.pr_num.specs.declared.value.Num.{Num}
 use Rattle.pr_num.specs.declared.value.TooWide.{TooWide}
 use Rattle.pr_vectors.specs.declared.range.Ask.{Ask}
-use Rattle.pr_window.specs.Folding.{folded}
+use Rattle.pr_folds.specs.pr_window.Folding.{folded}
 use Rattle.pr_folds.specs.declared.neighbours.Neighbours.{Neighbours}
 use Rattle.pr_folds.specs.Answers.{IsSpread}
 use Rattle.pr_folds.specs.Neighbours.{beside, neighbours_of, spot_alone}

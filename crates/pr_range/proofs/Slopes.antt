@@ -7,7 +7,7 @@ use Rattle.std.proofs.lemmas.Int.{ints}
 use Rattle.std.proofs.lemmas.Grind.{common_steps}
 use Rattle.pr_num.specs.Arithmetic.{fitted, too_wide}
 use Rattle.pr_num.specs.declared.value.Num.TheVariants.{Finite}
-use Rattle.pr_history.specs.declared.spot.Spot.{Spot}
+use Rattle.pr_head.specs.pr_history.declared.spot.Spot.{Spot}
 use Rattle.pr_vectors.specs.Regression.{count, is_slope_wide, sum_abs_xy, sum_abs_y, sum_x}
 use Rattle.pr_range.specs.Parted.{IsParted}
 use Rattle.pr_range.specs.declared.lines.Parted.{Parted}

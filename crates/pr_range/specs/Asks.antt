@@ -1,10 +1,10 @@
 -- What may be asked of ranges, and what is known after it.
 use Rattle.std.specs.Prelude.{◌≡◌, ℕ, ℤ, ◌+◌, ◌≤◌, ◌≤ℤ◌, Bool, true, false, not, cond, ◌&&◌, ◌==◌, is_some, List, slice_get, Option, Some, Result}
 use Rattle.pr_num.specs.declared.value.Num.{Num}
-use Rattle.pr_labels.specs.declared.pair.Pair.{Pair}
-use Rattle.pr_history.specs.declared.entry.Entry.{Entry}
-use Rattle.pr_history.specs.Admission.{IsLawful}
-use Rattle.pr_history.specs.Lookback.{entries_until}
+use Rattle.pr_head.specs.pr_labels.declared.pair.Pair.{Pair}
+use Rattle.pr_head.specs.pr_history.declared.entry.Entry.{Entry}
+use Rattle.pr_head.specs.pr_history.Admission.{IsLawful}
+use Rattle.pr_head.specs.pr_history.Lookback.{entries_until}
 use Rattle.pr_head.specs.Stored.{Stored}
 use Rattle.pr_head.specs.Holds.{Holds, sets_of}
 use Rattle.pr_vectors.specs.declared.range.Ask.{Ask}

@@ -3,7 +3,7 @@ use Rattle.std.specs.Prelude.{Bool, true, false, Result, Ok}
 use Rattle.pr_num.specs.declared.value.Num.{Num}
 use Rattle.pr_num.specs.declared.value.Num.TheVariants.{NaN}
 use Rattle.pr_num.specs.declared.value.TooWide.{TooWide}
-use Rattle.pr_history.specs.declared.spot.Spot.{Spot}
+use Rattle.pr_head.specs.pr_history.declared.spot.Spot.{Spot}
 use Rattle.std.specs.Prelude.{List}
 use Rattle.pr_vectors.specs.declared.range.Ask.{Ask}
 use Rattle.pr_vectors.specs.declared.range.RangeFn.{RangeFn}

@@ -1,7 +1,7 @@
 -- Values with their times, in a range and in a head.
 use Rattle.std.specs.Prelude.{ℕ, ◌-◌, ℤ, pos, ◌<ℤ◌, ◌≤ℤ◌, List, [], ◌∷◌, take, drop}
 use Rattle.std.specs.List.{filter_map}
-use Rattle.pr_history.specs.declared.spot.Spot.{Spot}
+use Rattle.pr_head.specs.pr_history.declared.spot.Spot.{Spot}
 use Rattle.pr_head.specs.declared.timed.Timed.{Timed}
 use Rattle.pr_head.specs.Stored.{Stored}
 use Rattle.pr_head.specs.Reads.{shown_of}

@@ -1,11 +1,11 @@
 // What the summary of the values of a range answers.
 ghost use Rattle.std.specs.Prelude.{◌≡◌, ◌≢◌, ◌<◌, ◌≤◌, ◌^◌, true, List, length, Err, IfSome};
 ghost use Rattle.pr_num.specs.Total.{joined};
-ghost use Rattle.pr_history.specs.declared.spot.Spot.{Spot};
+ghost use Rattle.pr_head.specs.pr_history.declared.spot.Spot.{Spot};
 ghost use Rattle.pr_vectors.specs.declared.range.Ask.{Ask};
 ghost use Rattle.pr_vectors.specs.declared.range.RangeFn.TheVariants.{MaxOverTime, MinOverTime};
 ghost use Rattle.pr_vectors.specs.Ranges.{over, with_fault};
-ghost use Rattle.pr_window.specs.Folding.{folded};
+ghost use Rattle.pr_folds.specs.pr_window.Folding.{folded};
 ghost use Rattle.pr_folds.specs.Answers.{is_of_neighbours, is_of_total};
 ghost use Rattle.pr_folds.specs.Extremes.{greater, lesser, value_alone};
 ghost use Rattle.pr_folds.specs.Neighbours.{beside, spot_alone, weight_of};

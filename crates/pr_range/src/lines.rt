@@ -9,7 +9,7 @@ ghost use Rattle.pr_vectors.specs.Spots.{has_special, last_of, numbers_of, units
 ghost use Rattle.pr_range.specs.Parted.{IsParted};
 
 use pr_folds::{is_special, units_of};
-use pr_history::Spot;
+use pr_head::history::Spot;
 use pr_num::{Num, TooWide, half, half_product};
 use pr_vectors::Ask;
 

@@ -16,14 +16,14 @@ use crate::finishes::{LONGEST, answer_from_extreme, answer_from_neighbours, answ
 use crate::lines::{deriv, predicted};
 use crate::steps::{idelta, irate, last_two};
 use crate::values::{last_of, quantile};
+use pr_folds::window::fold_items;
 use pr_folds::{
     Greatest, Least, Neighbours, Sequence, Totals, beside, greater, joined, lesser, some_value,
     spot_alone, total_alone, value_alone,
 };
-use pr_history::Spot;
+use pr_head::history::Spot;
 use pr_num::{Num, TooWide, Total};
 use pr_vectors::{Ask, RangeFn};
-use pr_window::fold_items;
 use std::alloc::Global;
 
 // A function of the total of the values.

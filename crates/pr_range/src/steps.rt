@@ -5,7 +5,7 @@ ghost use Rattle.pr_vectors.specs.Extrapolation.{idelta_of, idelta_step, irate_o
 ghost use Rattle.pr_vectors.specs.Spots.{has_special};
 
 use pr_folds::{falls, is_special, units_of};
-use pr_history::Spot;
+use pr_head::history::Spot;
 use pr_num::{Num, TooWide, muldiv_units};
 
 /// The value before the last one, and the last; of one alone, that one twice.

@@ -4,7 +4,7 @@ ghost use Rattle.pr_num.specs.Order.{order_of};
 ghost use Rattle.pr_vectors.specs.Aggregation.{quantile_of_values, in_value_order};
 ghost use Rattle.pr_vectors.specs.Spots.{last_of, numbers_of};
 
-use pr_history::Spot;
+use pr_head::history::Spot;
 use pr_num::Num;
 use std::alloc::{AllocError, Global};
 

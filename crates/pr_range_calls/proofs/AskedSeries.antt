@@ -15,18 +15,18 @@ use Rattle.pr_labels.specs.declared.pair.Pair.{Pair}
 use Rattle.pr_labels.specs.Order.{labels_cmp}
 use Rattle.pr_labels.specs.Rising.{IsBelowFirstSet, IsRising}
 use Rattle.pr_labels.proofs.LabelOrder.{labels_total}
-use Rattle.pr_history.specs.declared.entry.Entry.{Entry}
-use Rattle.pr_history.specs.Lookback.{entries_until}
-use Rattle.pr_head.specs.Stored.{Stored}
-use Rattle.pr_head.specs.Holds.{arrivals, labels_at, sets_of}
-use Rattle.pr_head.proofs.Simulation.{entry_at}
-use Rattle.pr_vectors.specs.declared.range.Ask.{Ask}
-use Rattle.pr_vectors.specs.declared.range.AskFault.{AskFault}
-use Rattle.pr_vectors.specs.declared.range.AskFault.TheVariants as fault
+use Rattle.pr_range.specs.pr_history.declared.entry.Entry.{Entry}
+use Rattle.pr_range.specs.pr_history.Lookback.{entries_until}
+use Rattle.pr_range.specs.pr_head.Stored.{Stored}
+use Rattle.pr_range.specs.pr_head.Holds.{arrivals, labels_at, sets_of}
+use Rattle.pr_range.proofs.HeadSimulation.{entry_at}
+use Rattle.pr_range.specs.pr_vectors.declared.range.Ask.{Ask}
+use Rattle.pr_range.specs.pr_vectors.declared.range.AskFault.{AskFault}
+use Rattle.pr_range.specs.pr_vectors.declared.range.AskFault.TheVariants as fault
 use Rattle.pr_range.specs.declared.fault.RangeFault.{RangeFault}
 use Rattle.pr_range.specs.declared.fault.RangeFault.TheVariants.{TooWide, RangeTooLong, Memory}
 use Rattle.pr_range.specs.Answers.{AnswersAsk}
-use Rattle.pr_vectors.specs.Ranges.{ask_cost}
+use Rattle.pr_range.specs.pr_vectors.Ranges.{ask_cost}
 use Rattle.pr_range.specs.Asks.{AreMoved, IsLater, IsReadyToAsk, LastAsk, LastAsks, MayAsk, Passed, keeps_passed, passed_for, remembered}
 use Rattle.pr_range_calls.specs.declared.asking.Answer.{Answer}
 use Rattle.pr_range_calls.specs.Answering.{FaultIs, after, answer, answers_of, one_answer}

@@ -8,20 +8,20 @@ use Rattle.pr_labels.specs.Rising.{IsBelowFirstSet, IsRising, is_among}
 use Rattle.pr_labels.proofs.LabelOrder.{among_filter, labels_total, same_rising, both}
 use Rattle.pr_labels.specs.Order.{labels_cmp}
 use Rattle.std.specs.declared.cmp.Ordering.TheVariants.{Less}
-use Rattle.pr_history.specs.declared.entry.Entry.{Entry}
-use Rattle.pr_history.specs.Series.{chosen, has_values}
-use Rattle.pr_history.proofs.Choosing.{chosen_among, chosen_rising}
-use Rattle.pr_match.specs.Matcher.{LabelTest, meets, meets_all, passes}
-use Rattle.pr_match.specs.declared.op.MatchOp.TheVariants as op
-use Rattle.pr_head.specs.Stored.{Stored}
-use Rattle.pr_head.specs.Holds.{Holds, arrivals, labels_at}
+use Rattle.pr_range.specs.pr_history.declared.entry.Entry.{Entry}
+use Rattle.pr_range.specs.pr_history.Series.{chosen, has_values}
+use Rattle.pr_range.proofs.HistoryChoosing.{chosen_among, chosen_rising}
+use Rattle.pr_values.specs.pr_match.Matcher.{LabelTest, meets, meets_all, passes}
+use Rattle.pr_values.specs.pr_match.declared.op.MatchOp.TheVariants as op
+use Rattle.pr_range.specs.pr_head.Stored.{Stored}
+use Rattle.pr_range.specs.pr_head.Holds.{Holds, arrivals, labels_at}
 use Rattle.pr_range_calls.specs.Choosing.{is_met_by, labels_of_series}
 use Rattle.pr_ast.specs.declared.selector.Selector.{Selector}
 use Rattle.pr_ast.specs.declared.selector.MatchText.{MatchText}
 use Rattle.pr_ast.specs.declared.selector.MatchSign.{MatchSign}
 use Rattle.pr_ast.specs.declared.selector.MatchSign.TheVariants.{Equal, NotEqual, Like, NotLike}
-use Rattle.pr_types.specs.Selectors.{match_op, name_tests, test_of, tests_of}
-use Rattle.pr_query.specs.Selection.{chosen_by}
+use Rattle.pr_values.specs.pr_types.Selectors.{match_op, name_tests, test_of, tests_of}
+use Rattle.pr_values.specs.pr_query.Selection.{chosen_by}
 use Rattle.pr_range_calls.specs.Equalities.{asked_pair, asked_pairs, is_asked, name_pairs, pair_by}
 
 abbrev Series : Type 0

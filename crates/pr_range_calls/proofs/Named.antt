@@ -7,28 +7,28 @@ use Rattle.pr_num.specs.Arithmetic.{whole_of}
 use Rattle.pr_labels.specs.declared.pair.Pair.{Pair}
 use Rattle.pr_labels.specs.Rising.{IsRising}
 use Rattle.pr_labels.specs.declared.item.Item.{Item}
-use Rattle.pr_history.specs.declared.entry.Entry.{Entry}
-use Rattle.pr_history.specs.declared.spot.Spot.{Spot}
-use Rattle.pr_head.specs.Stored.{Stored}
-use Rattle.pr_head.specs.Holds.{arrivals, labels_at, sets_of}
+use Rattle.pr_range.specs.pr_history.declared.entry.Entry.{Entry}
+use Rattle.pr_range.specs.pr_history.declared.spot.Spot.{Spot}
+use Rattle.pr_range.specs.pr_head.Stored.{Stored}
+use Rattle.pr_range.specs.pr_head.Holds.{arrivals, labels_at, sets_of}
 use Rattle.pr_ast.specs.declared.place.Place.{Place}
-use Rattle.pr_vectors.specs.declared.range.Ask.{Ask}
-use Rattle.pr_vectors.specs.declared.range.AskFault.{AskFault}
-use Rattle.pr_vectors.specs.declared.range.AskFault.TheVariants as fault
-use Rattle.pr_vectors.specs.declared.range.RangeFn.{RangeFn}
-use Rattle.pr_vectors.specs.declared.range.RangeFn.TheVariants.{Rate, Increase, Delta, Irate, Idelta, Deriv, PredictLinear, Changes, Resets, SumOverTime, AvgOverTime, MinOverTime, MaxOverTime, CountOverTime, LastOverTime, PresentOverTime, QuantileOverTime}
-use Rattle.pr_vectors.specs.Functions.{told_apart}
-use Rattle.pr_vectors.specs.Ranges.{answer_to, function_of, longest, over, with_fault}
-use Rattle.pr_vectors.specs.Vectors.{IsVector, element, label_sets}
-use Rattle.pr_fn.specs.Rows.{without_metric}
-use Rattle.pr_query.specs.declared.fault.Fault.{Fault}
-use Rattle.pr_query.specs.Answers.{function_at, go_on}
-use Rattle.pr_query.specs.declared.value.Value.TheVariants.{Vector}
-use Rattle.pr_query.specs.Absence.{absent_of}
-use Rattle.pr_query.specs.Calls.{vector_at}
-use Rattle.pr_query.specs.Selection.{chosen_by}
-use Rattle.pr_query.specs.Given.{Ranged, range_at, series_within}
-use Rattle.pr_query.specs.RangeCalls.{answered_labels, answers_over, answer_before, over_ranges, question}
+use Rattle.pr_range.specs.pr_vectors.declared.range.Ask.{Ask}
+use Rattle.pr_range.specs.pr_vectors.declared.range.AskFault.{AskFault}
+use Rattle.pr_range.specs.pr_vectors.declared.range.AskFault.TheVariants as fault
+use Rattle.pr_range.specs.pr_vectors.declared.range.RangeFn.{RangeFn}
+use Rattle.pr_range.specs.pr_vectors.declared.range.RangeFn.TheVariants.{Rate, Increase, Delta, Irate, Idelta, Deriv, PredictLinear, Changes, Resets, SumOverTime, AvgOverTime, MinOverTime, MaxOverTime, CountOverTime, LastOverTime, PresentOverTime, QuantileOverTime}
+use Rattle.pr_range.specs.pr_vectors.Functions.{told_apart}
+use Rattle.pr_range.specs.pr_vectors.Ranges.{answer_to, function_of, longest, over, with_fault}
+use Rattle.pr_range.specs.pr_vectors.Vectors.{IsVector, element, label_sets}
+use Rattle.pr_values.specs.pr_fn.Rows.{without_metric}
+use Rattle.pr_values.specs.pr_query.declared.fault.Fault.{Fault}
+use Rattle.pr_values.specs.pr_query.Answers.{function_at, go_on}
+use Rattle.pr_values.specs.pr_query.declared.value.Value.TheVariants.{Vector}
+use Rattle.pr_values.specs.pr_query.Absence.{absent_of}
+use Rattle.pr_values.specs.pr_query.Calls.{vector_at}
+use Rattle.pr_values.specs.pr_query.Selection.{chosen_by}
+use Rattle.pr_values.specs.pr_query.Given.{Ranged, range_at, series_within}
+use Rattle.pr_values.specs.pr_query.RangeCalls.{answered_labels, answers_over, answer_before, over_ranges, question}
 use Rattle.pr_range.specs.Answers.{AnswersAsk}
 use Rattle.pr_range.specs.declared.fault.RangeFault.{RangeFault}
 use Rattle.pr_range.specs.declared.fault.RangeFault.TheVariants.{TooWide, RangeTooLong, Memory}

@@ -6,12 +6,12 @@ use Rattle.std.proofs.lemmas.List.Sums.{position_or_len_is, sum_by-cons}
 use Rattle.std.proofs.lemmas.Option.{slice_get-get_or}
 use Rattle.pr_labels.specs.declared.pair.Pair.{Pair}
 use Rattle.pr_labels.specs.Order.{labels_eq}
-use Rattle.pr_history.specs.declared.entry.Entry.{Entry}
-use Rattle.pr_head.specs.Stored.{Stored}
-use Rattle.pr_head.specs.Holds.{arrivals, labels_at, sets_of}
-use Rattle.pr_head.proofs.Arrivals.{arrivals_apart, eq_from, eq_same}
-use Rattle.pr_vectors.specs.declared.range.Ask.{Ask}
-use Rattle.pr_vectors.specs.Ranges.{ask_cost}
+use Rattle.pr_range.specs.pr_history.declared.entry.Entry.{Entry}
+use Rattle.pr_range.specs.pr_head.Stored.{Stored}
+use Rattle.pr_range.specs.pr_head.Holds.{arrivals, labels_at, sets_of}
+use Rattle.pr_range.proofs.HeadArrivals.{arrivals_apart, eq_from, eq_same}
+use Rattle.pr_range.specs.pr_vectors.declared.range.Ask.{Ask}
+use Rattle.pr_range.specs.pr_vectors.Ranges.{ask_cost}
 use Rattle.pr_range.specs.Asks.{passed_for}
 use Rattle.pr_range_calls.specs.Asking.{asks_cost, series_number, numbers_cost}
 

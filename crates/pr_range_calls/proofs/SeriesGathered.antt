@@ -21,14 +21,14 @@ use Rattle.pr_labels.specs.Order.{labels_cmp, labels_eq}
 use Rattle.pr_labels.specs.Rising.{IsBelowFirstSet, IsRising}
 use Rattle.pr_labels.proofs.LabelOrder.{labels_decide, labels_total}
 use Rattle.pr_labels.proofs.LabelMaps.{tie, same_labels}
-use Rattle.pr_history.specs.declared.spot.Spot.{Spot}
-use Rattle.pr_history.specs.Lookback.{spot_of}
-use Rattle.pr_vectors.specs.Vectors.{IsVector, element, in_label_order, label_sets}
-use Rattle.pr_query.specs.Subqueries.{Taken, all_taken, series_taken, spot_taken}
+use Rattle.pr_range.specs.pr_history.declared.spot.Spot.{Spot}
+use Rattle.pr_range.specs.pr_history.Lookback.{spot_of}
+use Rattle.pr_range.specs.pr_vectors.Vectors.{IsVector, element, in_label_order, label_sets}
+use Rattle.pr_values.specs.pr_query.Subqueries.{Taken, all_taken, series_taken, spot_taken}
 use Rattle.pr_range.specs.Spots.{AreWithin}
-use Rattle.pr_fn.specs.Gathered.{of_key, with_key}
-use Rattle.pr_fn.proofs.Gathering.{gathered_more}
-use Rattle.pr_fn.proofs.LabelKeys.{labels_key}
+use Rattle.pr_values.specs.pr_fn.Gathered.{of_key, with_key}
+use Rattle.pr_values.proofs.FnGathering.{gathered_more}
+use Rattle.pr_values.proofs.FnLabelKeys.{labels_key}
 use Rattle.pr_range_calls.specs.Taken.{AreAllWithin, AreTaken, IsGathered, all_timed, entry_series, spot_labels, series_in, spots_listed, spots_with, taken, item_at, timed_in}
 use Rattle.pr_range_calls.specs.Times.{AreTimesWithin}
 use Rattle.pr_range_calls.proofs.AskedSeries.{rising_without}

@@ -2,15 +2,15 @@
 use Rattle.std.proofs.Common.{◌≡◌, List, None, ap, sym, ◌∙◌}
 use Rattle.std.specs.BTreeMap.{BTreeMap}
 use Rattle.pr_labels.specs.declared.pair.Pair.{Pair}
-use Rattle.pr_history.specs.declared.spot.Spot.{Spot}
+use Rattle.pr_range.specs.pr_history.declared.spot.Spot.{Spot}
 use Rattle.pr_ast.specs.declared.place.Place.{Place}
-use Rattle.pr_vectors.specs.declared.range.RangeFn.TheVariants.{PresentOverTime}
-use Rattle.pr_vectors.specs.Functions.{told_apart}
-use Rattle.pr_query.specs.Absence.{absent_of}
-use Rattle.pr_query.specs.Answers.{function_at, go_on}
-use Rattle.pr_query.specs.Calls.{vector_at}
-use Rattle.pr_query.specs.RangeCalls.{answers_over, over_ranges, question}
-use Rattle.pr_query.specs.Subqueries.{Taken}
+use Rattle.pr_range.specs.pr_vectors.declared.range.RangeFn.TheVariants.{PresentOverTime}
+use Rattle.pr_range.specs.pr_vectors.Functions.{told_apart}
+use Rattle.pr_values.specs.pr_query.Absence.{absent_of}
+use Rattle.pr_values.specs.pr_query.Answers.{function_at, go_on}
+use Rattle.pr_values.specs.pr_query.Calls.{vector_at}
+use Rattle.pr_values.specs.pr_query.RangeCalls.{answers_over, over_ranges, question}
+use Rattle.pr_values.specs.pr_query.Subqueries.{Taken}
 use Rattle.pr_range_calls.specs.declared.call.RangeCall.{RangeCall}
 use Rattle.pr_range_calls.specs.declared.of_subquery.SubqueryRange.{SubqueryRange}
 use Rattle.pr_range_calls.specs.Answering.{elements_of, relabelled, fault_placed}

@@ -5,8 +5,8 @@ use Rattle.std.proofs.lemmas.Bool.{le-ltb, lt-ltb, ltb-false, ltb-true}
 use Rattle.std.proofs.lemmas.Int.{ints}
 use Rattle.std.proofs.lemmas.List.FromFn.{get_or-map-range_with_len, length-map-range_with_len}
 use Rattle.std.proofs.lemmas.Option.{slice_get-get_or}
-use Rattle.pr_history.specs.Lookback.{is_after}
-use Rattle.pr_query.specs.Subqueries.{multiples}
+use Rattle.pr_range.specs.pr_history.Lookback.{is_after}
+use Rattle.pr_values.specs.pr_query.Subqueries.{multiples}
 use Rattle.pr_range_calls.specs.Times.{AreTimesWithin, multiples_until, steps_from}
 
 -- a multiple is after a moment where it is none of those until then

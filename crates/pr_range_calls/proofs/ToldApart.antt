@@ -10,8 +10,8 @@ use Rattle.pr_labels.specs.declared.item.Item.{Item}
 use Rattle.pr_labels.specs.Order.{labels_cmp, labels_eq}
 use Rattle.pr_labels.specs.Rising.{IsRising}
 use Rattle.pr_labels.proofs.LabelOrder.{labels_decide, labels_total}
-use Rattle.pr_vectors.specs.Functions.{comes_twice, told_apart, unless_same}
-use Rattle.pr_vectors.specs.Vectors.{IsVector, in_label_order, in_order, item_placed, label_sets, with_element}
+use Rattle.pr_range.specs.pr_vectors.Functions.{comes_twice, told_apart, unless_same}
+use Rattle.pr_range.specs.pr_vectors.Vectors.{IsVector, in_label_order, in_order, item_placed, label_sets, with_element}
 
 -- in order
 first_below : (l : List Pair) (mid : List (Item Num)) (e : Item Num) (rest : List (Item Num)) → IsRising (l ∷ label_sets (mid ++ e ∷ rest)) → labels_cmp l e.labels ≡ Less

@@ -3,19 +3,19 @@ use Rattle.std.specs.Prelude.{◌≡◌, ◌++◌, ℕ, List, [], ◌∷◌, map
 use Rattle.pr_num.specs.declared.value.Num.{Num}
 use Rattle.pr_labels.specs.declared.pair.Pair.{Pair}
 use Rattle.pr_labels.specs.declared.item.Item.{Item}
-use Rattle.pr_history.specs.declared.spot.Spot.{Spot}
-use Rattle.pr_vectors.specs.declared.range.Ask.{Ask}
-use Rattle.pr_vectors.specs.declared.range.AskFault.{AskFault}
-use Rattle.pr_vectors.specs.declared.range.AskFault.TheVariants as fault
-use Rattle.pr_vectors.specs.Ranges.{over}
-use Rattle.pr_vectors.specs.Vectors.{element}
+use Rattle.pr_range.specs.pr_history.declared.spot.Spot.{Spot}
+use Rattle.pr_range.specs.pr_vectors.declared.range.Ask.{Ask}
+use Rattle.pr_range.specs.pr_vectors.declared.range.AskFault.{AskFault}
+use Rattle.pr_range.specs.pr_vectors.declared.range.AskFault.TheVariants as fault
+use Rattle.pr_range.specs.pr_vectors.Ranges.{over}
+use Rattle.pr_range.specs.pr_vectors.Vectors.{element}
 use Rattle.pr_range.specs.declared.fault.RangeFault.{RangeFault}
 use Rattle.pr_range.specs.declared.fault.RangeFault.TheVariants.{TooWide, RangeTooLong, Memory}
-use Rattle.pr_head.specs.Stored.{Stored}
+use Rattle.pr_range.specs.pr_head.Stored.{Stored}
 use Rattle.pr_ast.specs.declared.place.Place.{Place}
-use Rattle.pr_vectors.specs.declared.range.RangeFn.{RangeFn}
-use Rattle.pr_query.specs.declared.fault.Fault.{Fault}
-use Rattle.pr_query.specs.RangeCalls.{answered_labels, range_fault}
+use Rattle.pr_range.specs.pr_vectors.declared.range.RangeFn.{RangeFn}
+use Rattle.pr_values.specs.pr_query.declared.fault.Fault.{Fault}
+use Rattle.pr_values.specs.pr_query.RangeCalls.{answered_labels, range_fault}
 use Rattle.pr_range_calls.specs.Choosing.{labels_of_series}
 use Rattle.pr_range_calls.specs.declared.asking.Answer.{Answer}
 

@@ -4,18 +4,18 @@ use Rattle.std.specs.List.{list_any, position_or_len}
 use Rattle.pr_num.specs.declared.value.Num.{Num}
 use Rattle.pr_labels.specs.declared.pair.Pair.{Pair}
 use Rattle.pr_labels.specs.Order.{labels_eq}
-use Rattle.pr_history.specs.declared.entry.Entry.{Entry}
-use Rattle.pr_history.specs.Admission.{IsLawful}
-use Rattle.pr_history.specs.Lookback.{entries_until}
-use Rattle.pr_head.specs.Stored.{Stored}
-use Rattle.pr_head.specs.Holds.{Holds, IsWhole, arrivals, labels_at}
+use Rattle.pr_range.specs.pr_history.declared.entry.Entry.{Entry}
+use Rattle.pr_range.specs.pr_history.Admission.{IsLawful}
+use Rattle.pr_range.specs.pr_history.Lookback.{entries_until}
+use Rattle.pr_range.specs.pr_head.Stored.{Stored}
+use Rattle.pr_range.specs.pr_head.Holds.{Holds, IsWhole, arrivals, labels_at}
 use Rattle.pr_ast.specs.declared.place.Place.{Place}
 use Rattle.pr_ast.specs.declared.selector.Selector.{Selector}
-use Rattle.pr_vectors.specs.declared.range.Ask.{Ask}
-use Rattle.pr_vectors.specs.declared.range.RangeFn.{RangeFn}
-use Rattle.pr_vectors.specs.declared.range.RangeFn.TheVariants.{PresentOverTime}
-use Rattle.pr_vectors.specs.Ranges.{ask_cost}
-use Rattle.pr_query.specs.Selection.{chosen_by, moment_of}
+use Rattle.pr_range.specs.pr_vectors.declared.range.Ask.{Ask}
+use Rattle.pr_range.specs.pr_vectors.declared.range.RangeFn.{RangeFn}
+use Rattle.pr_range.specs.pr_vectors.declared.range.RangeFn.TheVariants.{PresentOverTime}
+use Rattle.pr_range.specs.pr_vectors.Ranges.{ask_cost}
+use Rattle.pr_values.specs.pr_query.Selection.{chosen_by, moment_of}
 use Rattle.pr_range.specs.Asks.{IsReadyToAsk, LastAsks, Passed, passed_for, remembered}
 use Rattle.pr_range_calls.specs.declared.call.RangeCall.{RangeCall}
 use Rattle.pr_range_calls.specs.declared.call.RangeAt.{RangeAt}

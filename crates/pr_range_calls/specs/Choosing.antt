@@ -1,9 +1,9 @@
 -- The series that a selector chooses, said of the head alone.
 use Rattle.std.specs.Prelude.{ℕ, Bool, List}
 use Rattle.pr_labels.specs.declared.pair.Pair.{Pair}
-use Rattle.pr_match.specs.Matcher.{LabelTest, meets_all}
-use Rattle.pr_head.specs.Stored.{Stored}
-use Rattle.pr_head.specs.Holds.{labels_at, sets_of}
+use Rattle.pr_values.specs.pr_match.Matcher.{LabelTest, meets_all}
+use Rattle.pr_range.specs.pr_head.Stored.{Stored}
+use Rattle.pr_range.specs.pr_head.Holds.{labels_at, sets_of}
 
 -- the labels of a series
 abbrev pub labels_of_series : List (List Pair × Stored) → ℕ → List Pair

@@ -5,13 +5,13 @@ use Rattle.pr_num.specs.declared.value.Num.{Num}
 use Rattle.pr_labels.specs.declared.pair.Pair.{Pair}
 use Rattle.pr_labels.specs.declared.item.Item.{Item}
 use Rattle.pr_labels.specs.Order.{labels_cmp}
-use Rattle.pr_history.specs.declared.spot.Spot.{Spot}
-use Rattle.pr_history.specs.Lookback.{spot_of}
-use Rattle.pr_vectors.specs.Vectors.{IsVector}
-use Rattle.pr_query.specs.Given.{Ranged}
-use Rattle.pr_query.specs.Subqueries.{Taken, all_taken}
+use Rattle.pr_range.specs.pr_history.declared.spot.Spot.{Spot}
+use Rattle.pr_range.specs.pr_history.Lookback.{spot_of}
+use Rattle.pr_range.specs.pr_vectors.Vectors.{IsVector}
+use Rattle.pr_values.specs.pr_query.Given.{Ranged}
+use Rattle.pr_values.specs.pr_query.Subqueries.{Taken, all_taken}
 use Rattle.pr_range.specs.Spots.{AreWithin}
-use Rattle.pr_fn.specs.Gathered.{AreGathered}
+use Rattle.pr_values.specs.pr_fn.Gathered.{AreGathered}
 use Rattle.pr_range_calls.specs.declared.of_subquery.SubqueryRange.{SubqueryRange}
 
 -- the elements that an expression has at a time

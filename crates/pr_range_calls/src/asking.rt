@@ -4,19 +4,19 @@ ghost use Rattle.std.specs.List.{All};
 ghost use Rattle.std.specs.Option.{option_map};
 ghost use Rattle.pr_labels.specs.declared.pair.Pair.{Pair};
 ghost use Rattle.pr_labels.specs.Rising.{IsRising};
-ghost use Rattle.pr_history.specs.declared.entry.Entry.{Entry};
-ghost use Rattle.pr_head.specs.Holds.{arrivals, labels_at};
-ghost use Rattle.pr_vectors.specs.Ranges.{answer_to};
+ghost use Rattle.pr_range.specs.pr_history.declared.entry.Entry.{Entry};
+ghost use Rattle.pr_range.specs.pr_head.Holds.{arrivals, labels_at};
+ghost use Rattle.pr_range.specs.pr_vectors.Ranges.{answer_to};
 ghost use Rattle.pr_range.specs.declared.fault.RangeFault.TheVariants.{Memory};
 ghost use Rattle.pr_range.specs.Asks.{HasArgument};
 ghost use Rattle.pr_range_calls.specs.Asking.{AreAsked, MayAskEach, AreOnce, numbers_cost};
 ghost use Rattle.pr_range_calls.specs.Answering.{FaultIs, answer, answers_of};
 
-use pr_head::Head;
+use pr_labels::words_crate::Steps;
 use pr_num::Num;
+use pr_range::head::Head;
+use pr_range::vectors_crate::Ask;
 use pr_range::{RangeFault, Ranges};
-use pr_vectors::Ask;
-use pr_words::Steps;
 use std::alloc::{AllocError, Global};
 use std::sync::ledger::Ledger;
 

@@ -1,8 +1,8 @@
+use pr_ast::time::{Ms, Span};
 use pr_ast::{Place, Selector};
-use pr_match::Matcher;
 use pr_num::Num;
-use pr_time::{Ms, Span};
-use pr_vectors::RangeFn;
+use pr_range::vectors_crate::RangeFn;
+use pr_values::matching::Matcher;
 
 /// A function of a range at its node: the place of the call, and the argument of
 /// `quantile_over_time` or `predict_linear`.

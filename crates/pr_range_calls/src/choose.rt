@@ -3,19 +3,19 @@ ghost use Rattle.std.specs.Prelude.{◌≡◌, ◌<◌, ◌++◌, ◌∷◌, [],
 ghost use Rattle.std.specs.List.{All, filter_map, list_all};
 ghost use Rattle.pr_labels.specs.LabelSet.{pair_of};
 ghost use Rattle.pr_labels.specs.Rising.{IsRising};
-ghost use Rattle.pr_history.specs.declared.entry.Entry.{Entry};
-ghost use Rattle.pr_history.specs.Series.{chosen, has_values};
-ghost use Rattle.pr_head.specs.Holds.{Holds, arrivals, labels_at};
-ghost use Rattle.pr_types.specs.Selectors.{tests_of};
-ghost use Rattle.pr_query.specs.Selection.{chosen_by};
+ghost use Rattle.pr_range.specs.pr_history.declared.entry.Entry.{Entry};
+ghost use Rattle.pr_range.specs.pr_history.Series.{chosen, has_values};
+ghost use Rattle.pr_range.specs.pr_head.Holds.{Holds, arrivals, labels_at};
+ghost use Rattle.pr_values.specs.pr_types.Selectors.{tests_of};
+ghost use Rattle.pr_values.specs.pr_query.Selection.{chosen_by};
 ghost use Rattle.pr_range_calls.specs.Equalities.{asked_pair, asked_pairs, is_asked, name_pairs};
 ghost use Rattle.pr_range_calls.specs.Choosing.{is_met_by, labels_of_series};
 
 use pr_ast::{MatchSign, MatchText, Selector};
-use pr_head::Head;
+use pr_labels::words_crate::Text;
 use pr_labels::{Labels, METRIC_LABEL, Pair};
-use pr_match::{Matcher, Selection};
-use pr_words::Text;
+use pr_range::head::Head;
+use pr_values::matching::{Matcher, Selection};
 use std::alloc::{AllocError, Global};
 
 fn pair_of(alloc: Global, name: &str, value: &str) -> Result<Pair, AllocError>

@@ -3,26 +3,26 @@ ghost use Rattle.std.specs.Prelude.{◌≡◌, ◌∷◌, [], pos, List, map, le
 ghost use Rattle.pr_num.specs.declared.value.Num.{Num};
 ghost use Rattle.pr_num.specs.Arithmetic.{whole_of};
 ghost use Rattle.pr_labels.specs.declared.item.Item.{Item};
-ghost use Rattle.pr_vectors.specs.declared.range.AskFault.{AskFault};
-ghost use Rattle.pr_vectors.specs.Functions.{told_apart};
-ghost use Rattle.pr_vectors.specs.Vectors.{IsVector, element};
-ghost use Rattle.pr_fn.specs.Rows.{without_metric};
-ghost use Rattle.pr_query.specs.declared.fault.Fault.{Fault};
-ghost use Rattle.pr_query.specs.declared.value.Value.{Value};
-ghost use Rattle.pr_query.specs.Absence.{absent_of};
-ghost use Rattle.pr_query.specs.Answers.{IsAnswer, function_at, go_on};
-ghost use Rattle.pr_query.specs.Calls.{vector_at};
+ghost use Rattle.pr_range.specs.pr_vectors.declared.range.AskFault.{AskFault};
+ghost use Rattle.pr_range.specs.pr_vectors.Functions.{told_apart};
+ghost use Rattle.pr_range.specs.pr_vectors.Vectors.{IsVector, element};
+ghost use Rattle.pr_values.specs.pr_fn.Rows.{without_metric};
+ghost use Rattle.pr_values.specs.pr_query.declared.fault.Fault.{Fault};
+ghost use Rattle.pr_values.specs.pr_query.declared.value.Value.{Value};
+ghost use Rattle.pr_values.specs.pr_query.Absence.{absent_of};
+ghost use Rattle.pr_values.specs.pr_query.Answers.{IsAnswer, function_at, go_on};
+ghost use Rattle.pr_values.specs.pr_query.Calls.{vector_at};
 ghost use Rattle.pr_values.specs.Answers.{AnswersTo};
 ghost use Rattle.pr_range_calls.specs.Answering.{FaultIs, relabelled, fault_placed};
 
 use pr_ast::Place;
-use pr_fn::without_metrics;
 use pr_labels::{Item, Labels};
 use pr_num::Num;
-use pr_query::{FaultKind, Value};
 use pr_range::RangeFault;
+use pr_range::vectors_crate::RangeFn;
+use pr_values::functions::without_metrics;
+use pr_values::query_crate::{FaultKind, Value};
 use pr_values::{EvalError, made_at, vector};
-use pr_vectors::RangeFn;
 use std::alloc::{AllocError, Global};
 
 fn fault_at(place: Place, kind: FaultKind) -> EvalError

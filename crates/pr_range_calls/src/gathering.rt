@@ -3,18 +3,18 @@ ghost use Rattle.std.specs.Prelude.{◌≡◌, ◌++◌, ◌∷◌, [], List, tr
 ghost use Rattle.std.specs.BTreeMap.{IsOrdered, Updates, get, keys};
 ghost use Rattle.pr_labels.specs.declared.item.Item.{Item};
 ghost use Rattle.pr_labels.specs.Order.{labels_cmp};
-ghost use Rattle.pr_history.specs.declared.spot.Spot.{Spot};
-ghost use Rattle.pr_history.specs.Lookback.{spot_of};
-ghost use Rattle.pr_vectors.specs.Vectors.{IsVector};
-ghost use Rattle.pr_fn.specs.Gathered.{with_key};
-ghost use Rattle.pr_query.specs.Subqueries.{Taken};
+ghost use Rattle.pr_range.specs.pr_history.declared.spot.Spot.{Spot};
+ghost use Rattle.pr_range.specs.pr_history.Lookback.{spot_of};
+ghost use Rattle.pr_range.specs.pr_vectors.Vectors.{IsVector};
+ghost use Rattle.pr_values.specs.pr_fn.Gathered.{with_key};
+ghost use Rattle.pr_values.specs.pr_query.Subqueries.{Taken};
 ghost use Rattle.pr_range_calls.specs.Taken.{AreTaken, IsGathered, spots_with, taken, item_at, timed_in};
 
-use pr_history::Spot;
+use pr_ast::time::Ms;
+use pr_labels::words_crate::Items;
 use pr_labels::{Item, Labels};
 use pr_num::Num;
-use pr_time::Ms;
-use pr_words::Items;
+use pr_range::history::Spot;
 use std::alloc::{AllocError, Global};
 use std::collections::BTreeMap;
 

@@ -17,4 +17,8 @@ pub use choose::{chosen_series, labels_of_series};
 pub use gathering::{no_series, take_elements};
 pub use of_selector::{absent_over_selector, over_selector};
 pub use of_subquery::{SubqueryRange, absent_over_series, over_series};
+pub use pr_range as range;
+pub use pr_range::{head as head, history as history, vectors_crate as vectors_crate};
+pub use pr_values as values;
+pub use pr_values::{matching as matching, query_crate as query_crate, types as types};
 pub use times::{SubqueryTimes, subquery_times};

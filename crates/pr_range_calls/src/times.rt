@@ -1,9 +1,9 @@
 // The times of a subquery.
 ghost use Rattle.std.specs.Prelude.{◌≡◌, ◌<◌, ◌<ℤ◌, ◌^◌, Some, length, pos, slice_get};
-ghost use Rattle.pr_query.specs.Subqueries.{multiples};
+ghost use Rattle.pr_values.specs.pr_query.Subqueries.{multiples};
 ghost use Rattle.pr_range_calls.specs.Times.{AreTimesWithin, multiples_until};
 
-use pr_time::{Ms, Span};
+use pr_ast::time::{Ms, Span};
 use std::marker::Model;
 
 /// Times that are multiples of a step, one after another. Contracts see the list, which is never

@@ -4,4 +4,5 @@
 mod lines;
 mod reader;
 
+pub use pr_script as script;
 pub use reader::Reader;

@@ -9,10 +9,10 @@ ghost use Rattle.pr_reader.specs.Reading.{unread, IsReady, HandsOrder, FinishesO
 
 use crate::lines::{LineReader, without_feed};
 use pr_outside::Source;
+use pr_script::world::Event;
 use pr_script::{Numbered, Order, Started, is_passed_over, push_body_line, read_order};
 use pr_status::Stop;
 use pr_words::Items;
-use pr_world::Event;
 use std::alloc::Global;
 use std::mem::swap;
 

@@ -7,11 +7,11 @@ use Rattle.pr_ast.specs.declared.names.Func.{Func}
 use Rattle.pr_ast.specs.Names.{func_of, func_text, funcs, is_func}
 use Rattle.pr_ast.specs.Tree.{Tree}
 use Rattle.pr_ast.proofs.NameLaws.{func_read}
-use Rattle.pr_types.specs.Checking.{MayEvaluate}
-use Rattle.pr_types.specs.Typed.{kept}
-use Rattle.pr_range.specs.Asks.{LastAsk, LastAsks, Passed}
-use Rattle.pr_range.specs.Carried.{IsCarried, named_in, older_of}
-use Rattle.pr_rules.specs.Carried.{RangeUse, carried_numbers, func_name, range_uses, same_use}
+use Rattle.pr_continued.specs.pr_types.Checking.{MayEvaluate}
+use Rattle.pr_continued.specs.pr_types.Typed.{kept}
+use Rattle.pr_continued.specs.pr_range.Asks.{LastAsk, LastAsks, Passed}
+use Rattle.pr_continued.specs.pr_range.Carried.{IsCarried, named_in, older_of}
+use Rattle.pr_continued.specs.pr_rules.Carried.{RangeUse, carried_numbers, func_name, range_uses, same_use}
 use Rattle.pr_continued.proofs.Once.{Takes, takes}
 use Rattle.pr_continued.proofs.Ranges.{ranges_same}
 use Rattle.pr_eval.specs.Asking.{asked_for}

@@ -1,9 +1,9 @@
 -- What holds of each ask of two parts.
 use Rattle.std.proofs.Common.{◌≡◌, ℕ, suc, ◌+◌, Bool, true, List, [], ◌∷◌, ◌++◌, length, length-append, slice_get, refl, ap, subst, ◌∙◌, arith}
-use Rattle.pr_history.specs.declared.entry.Entry.{Entry}
+use Rattle.pr_continued.specs.pr_history.declared.entry.Entry.{Entry}
 use Rattle.pr_ast.specs.Tree.{Tree, number, text, select, range, sub, neg, binary, call, aggregate, none, more}
-use Rattle.pr_types.specs.Numbers.{ranges_in}
-use Rattle.pr_vectors.specs.declared.range.RangeFn.{RangeFn}
+use Rattle.pr_continued.specs.pr_types.Numbers.{ranges_in}
+use Rattle.pr_continued.specs.pr_vectors.declared.range.RangeFn.{RangeFn}
 use Rattle.pr_eval.specs.Asking.{asked_for, asks_in}
 use Rattle.pr_eval.specs.Each.{EachAt}
 use Rattle.pr_ready.proofs.Lists.{front_get}

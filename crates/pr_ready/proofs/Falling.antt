@@ -7,18 +7,18 @@ use Rattle.std.proofs.lemmas.Bool.Decides.{nat_tests}
 use Rattle.std.proofs.lemmas.Int.{ints}
 use borrow.Author.Tests.{leb-true}
 use Rattle.std.proofs.lemmas.Option.{get_or_from_slice_get, slice_get-get_or}
-use Rattle.pr_labels.specs.declared.pair.Pair.{Pair}
-use Rattle.pr_history.specs.declared.entry.Entry.{Entry}
-use Rattle.pr_history.specs.Admission.{is_of}
-use Rattle.pr_history.specs.Lookback.{entries_until, is_until}
+use Rattle.pr_ast.specs.pr_labels.declared.pair.Pair.{Pair}
+use Rattle.pr_continued.specs.pr_history.declared.entry.Entry.{Entry}
+use Rattle.pr_continued.specs.pr_history.Admission.{is_of}
+use Rattle.pr_continued.specs.pr_history.Lookback.{entries_until, is_until}
 use Rattle.pr_ast.specs.Tree.{Tree}
-use Rattle.pr_vectors.specs.declared.range.RangeFn.TheVariants.{PresentOverTime}
-use Rattle.pr_head.specs.Holds.{arrivals, labels_at}
-use Rattle.pr_range.specs.Asks.{LastAsk, LastAsks, Passed}
-use Rattle.pr_range.specs.Carried.{IsCarried, IsFresh, older_of}
-use Rattle.pr_rules.specs.Carried.{carried_numbers, carried_passed, passed_for_selector}
-use Rattle.pr_rules.specs.Passed.{NoneFalls}
-use Rattle.pr_range_calls.specs.Asking.{is_number_among, series_number}
+use Rattle.pr_continued.specs.pr_vectors.declared.range.RangeFn.TheVariants.{PresentOverTime}
+use Rattle.pr_continued.specs.pr_head.Holds.{arrivals, labels_at}
+use Rattle.pr_continued.specs.pr_range.Asks.{LastAsk, LastAsks, Passed}
+use Rattle.pr_continued.specs.pr_range.Carried.{IsCarried, IsFresh, older_of}
+use Rattle.pr_continued.specs.pr_rules.Carried.{carried_numbers, carried_passed, passed_for_selector}
+use Rattle.pr_continued.specs.pr_rules.Passed.{NoneFalls}
+use Rattle.pr_eval.specs.pr_range_calls.Asking.{is_number_among, series_number}
 use Rattle.pr_eval.specs.Asking.{Sought}
 use Rattle.pr_eval.specs.Evaluated.{AreAllAsked, AreAskedSeries, AreReady, AreRowsAsked, IsReadyFor, IsSame, KeptOfRanges, MayFollow, asks_of, passed_outside}
 use Rattle.pr_ready.specs.Asked.{RangeSelector, range_selectors}

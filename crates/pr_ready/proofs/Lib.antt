@@ -7,3 +7,5 @@ pub mod Uses
 pub mod Carrying
 pub mod Falling
 pub mod Passing
+pub use Rattle.pr_continued.proofs.Once as ContinuedOnce
+pub use Rattle.pr_continued.proofs.Taking as ContinuedTaking

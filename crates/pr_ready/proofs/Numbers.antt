@@ -4,19 +4,19 @@ use Rattle.std.proofs.lemmas.Grind.{common_steps}
 use Rattle.std.specs.List.{position_or_len}
 use Rattle.std.proofs.lemmas.Option.{slice_get-get_or, slice_get_within}
 use borrow.Author.Tests.{eqb-true}
-use Rattle.pr_labels.specs.declared.pair.Pair.{Pair}
-use Rattle.pr_labels.specs.Order.{labels_eq}
-use Rattle.pr_labels.specs.Rising.{is_among}
-use Rattle.pr_history.specs.declared.entry.Entry.{Entry}
-use Rattle.pr_history.proofs.Choosing.{chosen_among}
-use Rattle.pr_history.proofs.Lawful.{by_entries}
+use Rattle.pr_ast.specs.pr_labels.declared.pair.Pair.{Pair}
+use Rattle.pr_ast.specs.pr_labels.Order.{labels_eq}
+use Rattle.pr_ast.specs.pr_labels.Rising.{is_among}
+use Rattle.pr_continued.specs.pr_history.declared.entry.Entry.{Entry}
+use Rattle.pr_continued.proofs.HistoryChoosing.{chosen_among}
+use Rattle.pr_continued.proofs.HistoryLawful.{by_entries}
 use Rattle.pr_ast.specs.declared.selector.Selector.{Selector}
-use Rattle.pr_match.specs.Matcher.{meets_all}
-use Rattle.pr_types.specs.Selectors.{tests_of}
-use Rattle.pr_head.specs.Holds.{arrivals, labels_at}
-use Rattle.pr_head.proofs.Arrivals.{among_arrivals, arrivals_more, eq_from, eq_same}
-use Rattle.pr_query.specs.Selection.{chosen_by}
-use Rattle.pr_range_calls.specs.Asking.{is_number_among, series_number}
+use Rattle.pr_continued.specs.pr_match.Matcher.{meets_all}
+use Rattle.pr_continued.specs.pr_types.Selectors.{tests_of}
+use Rattle.pr_continued.specs.pr_head.Holds.{arrivals, labels_at}
+use Rattle.pr_continued.proofs.HeadArrivals.{among_arrivals, arrivals_more, eq_from, eq_same}
+use Rattle.pr_continued.specs.pr_query.Selection.{chosen_by}
+use Rattle.pr_eval.specs.pr_range_calls.Asking.{is_number_among, series_number}
 use Rattle.pr_ready.proofs.Lists.{first_passes, first_stays, first_within, front_get, or_true}
 
 both_true : (a b : Bool) → (a && b) ≡ true → b ≡ true

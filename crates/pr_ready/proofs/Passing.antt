@@ -1,15 +1,15 @@
 -- After an evaluation without fault all is passed that was asked.
 use Rattle.std.proofs.Common.{◌≡◌, ℕ, ◌+◌, pos, ◌-ℤ◌, true, false, List, ◌++◌, map, Some, sym, ap, ◌∙◌, cond}
-use Rattle.pr_history.specs.declared.entry.Entry.{Entry}
-use Rattle.pr_history.specs.Lookback.{entries_until}
+use Rattle.pr_continued.specs.pr_history.declared.entry.Entry.{Entry}
+use Rattle.pr_continued.specs.pr_history.Lookback.{entries_until}
 use Rattle.pr_ast.specs.Tree.{Tree, number, text, select, range, sub, neg, binary, call, aggregate, none, more}
-use Rattle.pr_types.specs.Numbers.{ranges_in}
-use Rattle.pr_vectors.specs.declared.range.RangeFn.{RangeFn}
-use Rattle.pr_vectors.specs.declared.range.RangeFn.TheVariants.{PresentOverTime}
-use Rattle.pr_head.specs.Holds.{arrivals, labels_at}
-use Rattle.pr_query.specs.Selection.{chosen_by, moment_of}
-use Rattle.pr_rules.specs.Passed.{ArePassed}
-use Rattle.pr_range_calls.specs.Asking.{is_number_among, series_number}
+use Rattle.pr_continued.specs.pr_types.Numbers.{ranges_in}
+use Rattle.pr_continued.specs.pr_vectors.declared.range.RangeFn.{RangeFn}
+use Rattle.pr_continued.specs.pr_vectors.declared.range.RangeFn.TheVariants.{PresentOverTime}
+use Rattle.pr_continued.specs.pr_head.Holds.{arrivals, labels_at}
+use Rattle.pr_continued.specs.pr_query.Selection.{chosen_by, moment_of}
+use Rattle.pr_continued.specs.pr_rules.Passed.{ArePassed}
+use Rattle.pr_eval.specs.pr_range_calls.Asking.{is_number_among, series_number}
 use Rattle.pr_eval.specs.Asking.{asked_for, asks_in, sought}
 use Rattle.pr_eval.specs.Each.{EachAt}
 use Rattle.pr_eval.specs.Evaluated.{AreAllAsked, IsAsked, KeptOfRanges, asks_of, passed_outside}

@@ -2,12 +2,12 @@
 use Rattle.std.proofs.Common.{◌≡◌, ℕ, ◌+◌, ◌≤◌, ◌⊎◌, inl, inr, pos, ◌-ℤ◌, ◌≤ℤ◌, Bool, true, false, ◌&&◌, cond, List, length, slice_get, take, Option, Some, None, refl, sym, ap, subst, ◌∙◌, arith}
 use Rattle.std.specs.Prelude.{IfSome}
 use Rattle.std.proofs.lemmas.Int.{ints}
-use Rattle.pr_history.specs.declared.entry.Entry.{Entry}
+use Rattle.pr_continued.specs.pr_history.declared.entry.Entry.{Entry}
 use Rattle.pr_ast.specs.Tree.{Tree}
-use Rattle.pr_vectors.specs.declared.range.RangeFn.TheVariants.{PresentOverTime}
-use Rattle.pr_range.specs.Asks.{LastAsk, LastAsks, Passed}
-use Rattle.pr_range.specs.Carried.{IsFresh}
-use Rattle.pr_range_calls.specs.Asking.{is_number_among}
+use Rattle.pr_continued.specs.pr_vectors.declared.range.RangeFn.TheVariants.{PresentOverTime}
+use Rattle.pr_continued.specs.pr_range.Asks.{LastAsk, LastAsks, Passed}
+use Rattle.pr_continued.specs.pr_range.Carried.{IsFresh}
+use Rattle.pr_eval.specs.pr_range_calls.Asking.{is_number_among}
 use Rattle.pr_eval.specs.Asking.{Sought}
 use Rattle.pr_eval.specs.Evaluated.{AreAllAsked, AreAskedSeries, AreReady, AreRowsAsked, IsAsked, IsReadyFor, IsSame, KeptOfRanges, asks_of}
 use Rattle.pr_ready.specs.Asked.{RangeSelector, WasAsked, WasAskedUntil, ask_of, range_selectors}

@@ -1,10 +1,10 @@
 -- What an expression asks is what its range selectors are asked.
 use Rattle.std.proofs.Common.{◌≡◌, ℕ, zero, suc, Bool, true, false, List, [], ◌∷◌, ◌++◌, map, slice_get, Option, Some, None, refl, subst}
-use Rattle.pr_history.specs.declared.entry.Entry.{Entry}
+use Rattle.pr_continued.specs.pr_history.declared.entry.Entry.{Entry}
 use Rattle.pr_ast.specs.Tree.{Tree, number, text, select, range, sub, neg, binary, call, aggregate, none, more}
-use Rattle.pr_vectors.specs.declared.range.RangeFn.{RangeFn}
-use Rattle.pr_query.specs.Selection.{chosen_by}
-use Rattle.pr_range_calls.specs.Asking.{series_number}
+use Rattle.pr_continued.specs.pr_vectors.declared.range.RangeFn.{RangeFn}
+use Rattle.pr_continued.specs.pr_query.Selection.{chosen_by}
+use Rattle.pr_eval.specs.pr_range_calls.Asking.{series_number}
 use Rattle.pr_eval.specs.Asking.{Sought, asked_for, asks_in}
 use Rattle.pr_ready.specs.Asked.{RangeSelector, ask_of, selectors_under}
 

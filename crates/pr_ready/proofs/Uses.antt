@@ -7,19 +7,19 @@ use Rattle.pr_ast.specs.declared.names.Func.{Func}
 use Rattle.pr_ast.specs.Print.{range_text}
 use Rattle.pr_ast.specs.Reach.{reads_back}
 use Rattle.pr_ast.specs.Tree.{Tree, number, text, select, range, sub, neg, binary, call, aggregate, none, more}
-use Rattle.pr_types.specs.declared.kind.ValueType.{ValueType}
-use Rattle.pr_types.specs.declared.kind.ValueType.TheVariants.{Range, Vector}
-use Rattle.pr_types.specs.declared.kind.TypeFault.{TypeFault}
-use Rattle.pr_types.specs.declared.signature.Operand.{Operand}
-use Rattle.pr_types.specs.Operations.{is_instant}
-use Rattle.pr_types.specs.Checking.{MayEvaluate}
-use Rattle.pr_types.specs.Parts.{AreArguments, arguments}
-use Rattle.pr_types.specs.Signatures.{agg_signature, is_type, wanted}
-use Rattle.pr_types.specs.Typed.{content_at, go_on, kept, operand, operands, start, typed, typed_aggregation, typed_call}
-use Rattle.pr_types.proofs.Parts.{parts_of_aggregate, parts_of_binary, parts_of_neg, parts_of_range, parts_of_sub, went_on}
-use Rattle.pr_vectors.specs.declared.range.RangeFn.{RangeFn}
-use Rattle.pr_vectors.specs.declared.range.RangeFn.TheVariants.{PresentOverTime}
-use Rattle.pr_rules.specs.Carried.{RangeUse, range_uses, uses_under}
+use Rattle.pr_continued.specs.pr_types.declared.kind.ValueType.{ValueType}
+use Rattle.pr_continued.specs.pr_types.declared.kind.ValueType.TheVariants.{Range, Vector}
+use Rattle.pr_continued.specs.pr_types.declared.kind.TypeFault.{TypeFault}
+use Rattle.pr_continued.specs.pr_types.declared.signature.Operand.{Operand}
+use Rattle.pr_continued.specs.pr_types.Operations.{is_instant}
+use Rattle.pr_continued.specs.pr_types.Checking.{MayEvaluate}
+use Rattle.pr_continued.specs.pr_types.Parts.{AreArguments, arguments}
+use Rattle.pr_continued.specs.pr_types.Signatures.{agg_signature, is_type, wanted}
+use Rattle.pr_continued.specs.pr_types.Typed.{content_at, go_on, kept, operand, operands, start, typed, typed_aggregation, typed_call}
+use Rattle.pr_continued.proofs.TypesParts.{parts_of_aggregate, parts_of_binary, parts_of_neg, parts_of_range, parts_of_sub, went_on}
+use Rattle.pr_continued.specs.pr_vectors.declared.range.RangeFn.{RangeFn}
+use Rattle.pr_continued.specs.pr_vectors.declared.range.RangeFn.TheVariants.{PresentOverTime}
+use Rattle.pr_continued.specs.pr_rules.Carried.{RangeUse, range_uses, uses_under}
 use Rattle.pr_eval.specs.Asking.{asked_for}
 use Rattle.pr_ready.specs.Asked.{RangeSelector, range_selectors, selectors_under}
 use Rattle.pr_ready.proofs.Lists.{front_get, seam_get}

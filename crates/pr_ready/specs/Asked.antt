@@ -2,10 +2,10 @@
 use Rattle.std.specs.Prelude.{◌≡◌, ℕ, ◌≤◌, pos, ◌-ℤ◌, List, [], ◌∷◌, ◌++◌, slice_get, Option, Some, None}
 use Rattle.pr_ast.specs.declared.selector.Selector.{Selector}
 use Rattle.pr_ast.specs.Tree.{Tree, number, text, select, range, sub, neg, binary, call, aggregate, none, more}
-use Rattle.pr_vectors.specs.declared.range.RangeFn.{RangeFn}
-use Rattle.pr_vectors.specs.declared.range.RangeFn.TheVariants.{PresentOverTime}
-use Rattle.pr_query.specs.Selection.{moment_of}
-use Rattle.pr_range.specs.Asks.{LastAsk, LastAsks}
+use Rattle.pr_continued.specs.pr_vectors.declared.range.RangeFn.{RangeFn}
+use Rattle.pr_continued.specs.pr_vectors.declared.range.RangeFn.TheVariants.{PresentOverTime}
+use Rattle.pr_continued.specs.pr_query.Selection.{moment_of}
+use Rattle.pr_continued.specs.pr_range.Asks.{LastAsk, LastAsks}
 use Rattle.pr_eval.specs.Asking.{asked_for}
 
 -- A range selector with its span, and the function that it is asked for.

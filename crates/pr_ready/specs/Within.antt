@@ -1,10 +1,10 @@
 -- How much counts as passed, as it is known of a rule between its evaluations.
 use Rattle.std.specs.Prelude.{◌≡◌, ℕ, ◌≤◌, List, slice_get, Option, Some, None}
-use Rattle.pr_labels.specs.declared.pair.Pair.{Pair}
-use Rattle.pr_history.specs.declared.entry.Entry.{Entry}
-use Rattle.pr_history.specs.Lookback.{entries_until}
-use Rattle.pr_head.specs.Holds.{arrivals}
-use Rattle.pr_range.specs.Asks.{LastAsk, LastAsks, Passed}
+use Rattle.pr_ast.specs.pr_labels.declared.pair.Pair.{Pair}
+use Rattle.pr_continued.specs.pr_history.declared.entry.Entry.{Entry}
+use Rattle.pr_continued.specs.pr_history.Lookback.{entries_until}
+use Rattle.pr_continued.specs.pr_head.Holds.{arrivals}
+use Rattle.pr_continued.specs.pr_range.Asks.{LastAsk, LastAsks, Passed}
 
 -- No more of a series of the history was passed than stands until the end of the last ask.
 pub record IsPassedUntil (history : List Entry) (series : ℕ) (b : LastAsk) (u : ℕ) : Type 0 where

@@ -1,11 +1,11 @@
 // What was asked, and what may be asked next.
 ghost use Rattle.std.specs.Prelude.{◌≡◌, ℕ, ◌≤◌, Bool, List, Option, Some, IfSome};
-ghost use Rattle.pr_history.specs.declared.entry.Entry.{Entry};
+ghost use Rattle.pr_continued.specs.pr_history.declared.entry.Entry.{Entry};
 ghost use Rattle.pr_ast.specs.Tree.{Tree};
-ghost use Rattle.pr_types.specs.Checking.{MayEvaluate};
-ghost use Rattle.pr_range.specs.Asks.{LastAsks, Passed};
-ghost use Rattle.pr_range.specs.Carried.{IsCarried, IsFresh};
-ghost use Rattle.pr_rules.specs.Carried.{carried_numbers};
+ghost use Rattle.pr_continued.specs.pr_types.Checking.{MayEvaluate};
+ghost use Rattle.pr_continued.specs.pr_range.Asks.{LastAsks, Passed};
+ghost use Rattle.pr_continued.specs.pr_range.Carried.{IsCarried, IsFresh};
+ghost use Rattle.pr_continued.specs.pr_rules.Carried.{carried_numbers};
 ghost use Rattle.pr_eval.specs.Evaluated.{AreAllAsked, AreReady, KeptOfRanges, asks_of};
 ghost use Rattle.pr_ready.specs.Asked.{WasAsked};
 

@@ -13,3 +13,5 @@ pub use passed::{
     a_carry_keeps_what_was_passed, a_later_history_has_no_less, all_that_is_asked_is_passed,
     none_falls, nothing_passed_fits_all, what_is_passed_is_within,
 };
+pub use pr_continued as continued;
+pub use pr_continued::range as range;

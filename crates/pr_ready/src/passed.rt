@@ -1,12 +1,12 @@
 // What was passed, and that it never falls.
 ghost use Rattle.std.specs.Prelude.{◌≡◌, ℕ, ◌++◌, Bool, true, false, List, Option};
-ghost use Rattle.pr_labels.specs.declared.pair.Pair.{Pair};
-ghost use Rattle.pr_history.specs.declared.entry.Entry.{Entry};
+ghost use Rattle.pr_ast.specs.pr_labels.declared.pair.Pair.{Pair};
+ghost use Rattle.pr_continued.specs.pr_history.declared.entry.Entry.{Entry};
 ghost use Rattle.pr_ast.specs.Tree.{Tree};
-ghost use Rattle.pr_range.specs.Asks.{LastAsks, Passed};
-ghost use Rattle.pr_range.specs.Carried.{IsCarried, IsFresh};
-ghost use Rattle.pr_rules.specs.Carried.{carried_numbers, carried_passed};
-ghost use Rattle.pr_rules.specs.Passed.{ArePassed, NoneFalls};
+ghost use Rattle.pr_continued.specs.pr_range.Asks.{LastAsks, Passed};
+ghost use Rattle.pr_continued.specs.pr_range.Carried.{IsCarried, IsFresh};
+ghost use Rattle.pr_continued.specs.pr_rules.Carried.{carried_numbers, carried_passed};
+ghost use Rattle.pr_continued.specs.pr_rules.Passed.{ArePassed, NoneFalls};
 ghost use Rattle.pr_eval.specs.Evaluated.{AreAllAsked, AreReady, KeptOfRanges, asks_of, passed_outside};
 ghost use Rattle.pr_ready.specs.Within.{ArePassedWithin};
 

@@ -6,9 +6,9 @@ use Rattle.std.proofs.lemmas.Slice.Eq.{bytes_eq-Decides}
 use Rattle.std.proofs.lemmas.Bool.{ltb-true, lt-ltb}
 use Rattle.pr_num.specs.Shown.{shown, fraction_text}
 use Rattle.pr_num.specs.declared.value.Point.{Point}
-use Rattle.pr_labels.specs.declared.pair.Pair.{Pair}
-use Rattle.pr_labels.specs.LabelSet.{IsLabelSet}
-use Rattle.pr_labels.specs.SeriesText.{series_text}
+use Rattle.pr_history.specs.pr_labels.declared.pair.Pair.{Pair}
+use Rattle.pr_history.specs.pr_labels.LabelSet.{IsLabelSet}
+use Rattle.pr_history.specs.pr_labels.SeriesText.{series_text}
 use Rattle.pr_series.proofs.SeriesWritten.{written_reads}
 use Rattle.pr_series.proofs.SeriesEnds.{reading_given}
 use Rattle.pr_history.specs.declared.entry.Entry.{Entry}

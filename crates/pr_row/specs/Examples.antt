@@ -3,7 +3,7 @@ use Rattle.std.specs.Prelude.{ℕ, pos, [], ◌∷◌, List, codes}
 use Rattle.pr_num.specs.declared.value.Num.TheVariants.{Finite}
 use Rattle.pr_num.specs.declared.value.Point.{Point}
 use Rattle.pr_num.specs.declared.value.Point.TheVariants.{Value, Stale}
-use Rattle.pr_labels.specs.LabelSet.{metric_label, pair_of}
+use Rattle.pr_history.specs.pr_labels.LabelSet.{metric_label, pair_of}
 use Rattle.pr_history.specs.declared.entry.Entry.{Entry}
 use Rattle.pr_outside.specs.declared.keeping.Row.{Row}
 

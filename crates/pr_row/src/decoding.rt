@@ -9,11 +9,11 @@ ghost use Rattle.pr_row.specs.Faults.{Lacks, IsWant};
 use crate::encoding::labels_text;
 use crate::points::{read_point, write_point};
 use pr_history::Entry;
-use pr_labels::Labels;
+use pr_history::labels::Labels;
+use pr_history::time::Ms;
 use pr_num::Point;
 use pr_outside::Row;
 use pr_series::{TextFault, read_series_text};
-use pr_time::Ms;
 use std::alloc::{AllocError, Global};
 
 /// Why a row gives no entry.

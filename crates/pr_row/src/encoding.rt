@@ -1,15 +1,15 @@
 // The row of an entry.
 ghost use Rattle.std.specs.Prelude.{◌≡◌, IfOk, take};
-ghost use Rattle.pr_labels.specs.SeriesText.{series_text};
+ghost use Rattle.pr_history.specs.pr_labels.SeriesText.{series_text};
 ghost use Rattle.pr_row.specs.Points.{shown_point};
 ghost use Rattle.pr_row.specs.Rows.{encoded};
 
 use crate::points::write_point;
-use pr_labels::Labels;
+use pr_history::labels::Labels;
+use pr_history::time::Ms;
 use pr_num::Point;
 use pr_outside::Row;
-use pr_time::Ms;
-use pr_words::Text;
+use pr_series::words_crate::Text;
 use std::alloc::{AllocError, Global};
 use std::str;
 

@@ -2,10 +2,10 @@
 use Rattle.std.proofs.Common.{List, [], ◌∷◌, map}
 use Rattle.std.specs.List.{All, AllByRecursion}
 use Rattle.std.proofs.lemmas.List.Elements.{All-from_recursion, recursion_from_All}
-use Rattle.pr_rulefile.specs.declared.rules.GroupDef.{GroupDef}
-use Rattle.pr_rulefile.specs.declared.rules.RuleDef.{RuleDef}
-use Rattle.pr_rulefile.specs.Rules.{rule_of_def}
-use Rattle.pr_rulefile.specs.Groups.{Group, group_of_def}
+use Rattle.pr_rules.specs.pr_rulefile.declared.rules.GroupDef.{GroupDef}
+use Rattle.pr_rules.specs.pr_rulefile.declared.rules.RuleDef.{RuleDef}
+use Rattle.pr_rules.specs.pr_rulefile.Rules.{rule_of_def}
+use Rattle.pr_rules.specs.pr_rulefile.Groups.{Group, group_of_def}
 use Rattle.pr_rule_result.specs.Templates.{HasTemplates, HaveTemplates}
 
 back : {A B : Type 0} (P : B → Type 0) (Q : A → Type 0) (f : A → B) → ((a : A) → P (f a) → Q a) → (xs : List A) → AllByRecursion P (map f xs) → AllByRecursion Q xs

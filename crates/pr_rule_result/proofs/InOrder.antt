@@ -12,14 +12,14 @@ use Rattle.pr_labels.specs.declared.pair.Pair.{Pair}
 use Rattle.pr_labels.specs.Order.{labels_cmp, labels_eq, labels_tie}
 use Rattle.pr_labels.specs.Rising.{IsRising, is_among}
 use Rattle.pr_labels.proofs.LabelOrder.{among_fold, labels_total}
-use Rattle.pr_vectors.specs.Functions.{least_twice}
-use Rattle.pr_vectors.specs.Vectors.{in_label_order}
-use Rattle.pr_fn.proofs.Twice.{least_stays}
-use Rattle.pr_lineage.specs.declared.found.Found.{Found}
-use Rattle.pr_query.specs.Answers.{go_on}
-use Rattle.pr_rulefile.specs.Rules.{Rule}
+use Rattle.pr_values.specs.pr_vectors.Functions.{least_twice}
+use Rattle.pr_values.specs.pr_vectors.Vectors.{in_label_order}
+use Rattle.pr_values.proofs.FnTwice.{least_stays}
+use Rattle.pr_rules.specs.pr_lineage.declared.found.Found.{Found}
+use Rattle.pr_values.specs.pr_query.Answers.{go_on}
+use Rattle.pr_rules.specs.pr_rulefile.Rules.{Rule}
 use Rattle.pr_rules.specs.Results.{FoundsRise, found_by, found_of, found_placed, founds_apart, ruled, sets_in, unless_twice, with_found, within_limit, without_place}
-use Rattle.pr_tmpl.specs.declared.template.External.{External}
+use Rattle.pr_rules.specs.pr_tmpl.declared.template.External.{External}
 use Rattle.pr_rule_result.specs.declared.error.RuleError.{RuleError}
 use Rattle.pr_rule_result.specs.Coming.{ComesTo}
 use Rattle.pr_rule_result.specs.Making.{AreRecorded, IsOfRule, recorded_under}

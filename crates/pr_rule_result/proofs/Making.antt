@@ -8,7 +8,7 @@ use Rattle.pr_labels.specs.declared.item.Item.{Item}
 use Rattle.pr_labels.specs.declared.pair.Pair.{Pair}
 use Rattle.pr_labels.specs.Order.{labels_eq}
 use Rattle.pr_labels.proofs.LabelOrder.{labels_decide}
-use Rattle.pr_rulefile.specs.Rules.{Rule}
+use Rattle.pr_rules.specs.pr_rulefile.Rules.{Rule}
 use Rattle.pr_rules.specs.Results.{made_labels, recorded_labels}
 use Rattle.pr_rule_result.specs.declared.made.Made.{Made}
 use Rattle.pr_rule_result.specs.Making.{AreMade}

@@ -13,7 +13,7 @@ use Rattle.pr_labels.specs.declared.item.Item.{Item}
 use Rattle.pr_labels.specs.declared.pair.Pair.{Pair}
 use Rattle.pr_labels.specs.Order.{labels_cmp}
 use Rattle.pr_labels.specs.Rising.{IsRising}
-use Rattle.pr_lineage.specs.declared.found.Found.{Found}
+use Rattle.pr_rules.specs.pr_lineage.declared.found.Found.{Found}
 use Rattle.pr_rules.specs.Results.{made_labels, sets_in}
 use Rattle.pr_rule_result.specs.declared.made.Made.{Made}
 use Rattle.pr_rule_result.specs.Making.{AreRecorded, recorded_under, sets_made}

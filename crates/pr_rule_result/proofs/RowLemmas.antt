@@ -13,14 +13,14 @@ use Rattle.pr_labels.specs.Order.{labels_cmp}
 use Rattle.pr_labels.specs.Rising.{IsRising, is_among, with_labels}
 use Rattle.pr_labels.proofs.LabelMaps.{keys_insert}
 use Rattle.pr_labels.proofs.LabelOrder.{tied}
-use Rattle.pr_vectors.specs.Vectors.{in_label_order}
-use Rattle.pr_vectors.specs.Functions.{least_twice}
-use Rattle.pr_lineage.specs.declared.found.Found.{Found}
+use Rattle.pr_values.specs.pr_vectors.Vectors.{in_label_order}
+use Rattle.pr_values.specs.pr_vectors.Functions.{least_twice}
+use Rattle.pr_rules.specs.pr_lineage.declared.found.Found.{Found}
 use Rattle.pr_rules.specs.Results.{FoundsRise, found_placed, in_found_order, sets_in, with_found}
-use Rattle.pr_ordered.specs.Entries.{IsPut, entry_item, is_known, items_of, label_sets_of}
-use Rattle.pr_ordered.proofs.Elements.{known_among}
-use Rattle.pr_fn.specs.Rows.{least_with}
-use Rattle.pr_fn.proofs.Twice.{least_again, least_stays, order_stays}
+use Rattle.pr_values.specs.pr_ordered.Entries.{IsPut, entry_item, is_known, items_of, label_sets_of}
+use Rattle.pr_values.proofs.OrderedElements.{known_among}
+use Rattle.pr_values.specs.pr_fn.Rows.{least_with}
+use Rattle.pr_values.proofs.FnTwice.{least_again, least_stays, order_stays}
 use Rattle.pr_rule_result.specs.declared.rows.Row.{Row}
 use Rattle.pr_rule_result.specs.declared.rows.Rows.{Rows}
 use Rattle.pr_rule_result.specs.Rows.{AreRows, found_in}

@@ -3,13 +3,13 @@ use Rattle.std.proofs.Common.{◌≡◌, ℕ, Result, Ok, Err, sym, ap, subst}
 use Rattle.std.specs.Prelude.{Vec}
 use Rattle.std.specs.declared.alloc.Global.{Global}
 use Rattle.pr_ast.specs.declared.place.Place.{Place}
-use Rattle.pr_tmpl.specs.declared.template.External.{External}
-use Rattle.pr_rulefile.specs.Rules.{Rule}
-use Rattle.pr_lineage.specs.declared.found.Found.{Found}
-use Rattle.pr_query.specs.declared.fault.Fault.{Fault}
-use Rattle.pr_query.specs.declared.fault.FaultKind.{FaultKind}
-use Rattle.pr_query.specs.declared.value.Value.{Value}
-use Rattle.pr_query.specs.Answers.{fault}
+use Rattle.pr_rules.specs.pr_tmpl.declared.template.External.{External}
+use Rattle.pr_rules.specs.pr_rulefile.Rules.{Rule}
+use Rattle.pr_rules.specs.pr_lineage.declared.found.Found.{Found}
+use Rattle.pr_values.specs.pr_query.declared.fault.Fault.{Fault}
+use Rattle.pr_values.specs.pr_query.declared.fault.FaultKind.{FaultKind}
+use Rattle.pr_values.specs.pr_query.declared.value.Value.{Value}
+use Rattle.pr_values.specs.pr_query.Answers.{fault}
 use Rattle.pr_rules.specs.declared.fault.RuleFault.TheVariants.{Eval}
 use Rattle.pr_rules.specs.Results.{failed_by, failure, rule_result_by, ruled, value_elements, without_place}
 use Rattle.pr_rule_result.specs.declared.error.RuleError.{RuleError}

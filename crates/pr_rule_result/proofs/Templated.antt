@@ -7,10 +7,10 @@ use Rattle.pr_labels.specs.declared.item.Item.{Item}
 use Rattle.pr_labels.specs.declared.pair.Pair.{Pair}
 use Rattle.pr_labels.specs.Edits.{set_label, union_labels, without_name}
 use Rattle.pr_labels.specs.LabelSet.{metric_label, pair_of}
-use Rattle.pr_tmpl.specs.declared.template.External.{External}
-use Rattle.pr_tmpl.specs.declared.template.Part.{Part}
-use Rattle.pr_tmpl.specs.Expansion.{expansion}
-use Rattle.pr_rulefile.specs.Rules.{Rule}
+use Rattle.pr_rules.specs.pr_tmpl.declared.template.External.{External}
+use Rattle.pr_rules.specs.pr_tmpl.declared.template.Part.{Part}
+use Rattle.pr_rules.specs.pr_tmpl.Expansion.{expansion}
+use Rattle.pr_rules.specs.pr_rulefile.Rules.{Rule}
 use Rattle.pr_rules.specs.Results.{alerting_labels, all_expanded, expanded_by, expanded_pair}
 use Rattle.pr_rule_result.specs.declared.templates.NamedTemplate.{NamedTemplate}
 use Rattle.pr_rule_result.specs.Templates.{AreTemplatesOf, IsTemplateOf, all_expanded_by, expanded_pair_by}

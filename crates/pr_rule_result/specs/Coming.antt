@@ -1,7 +1,7 @@
 -- How an answer stands to what a rule comes to.
 use Rattle.std.specs.Prelude.{◌≡◌, List, Result, Ok, Err, Vec}
 use Rattle.std.specs.declared.alloc.Global.{Global}
-use Rattle.pr_lineage.specs.declared.found.Found.{Found}
+use Rattle.pr_rules.specs.pr_lineage.declared.found.Found.{Found}
 use Rattle.pr_rules.specs.declared.fault.RuleFailure.{RuleFailure}
 use Rattle.pr_rule_result.specs.declared.error.RuleError.{RuleError}
 use Rattle.pr_rule_result.specs.declared.error.RuleError.TheVariants.{Failed, Memory}

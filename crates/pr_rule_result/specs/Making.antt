@@ -4,8 +4,8 @@ use Rattle.pr_num.specs.declared.value.Num.{Num}
 use Rattle.pr_labels.specs.declared.item.Item.{Item}
 use Rattle.pr_labels.specs.declared.pair.Pair.{Pair}
 use Rattle.pr_labels.specs.Rising.{IsRising}
-use Rattle.pr_lineage.specs.declared.found.Found.{Found}
-use Rattle.pr_rulefile.specs.Rules.{Rule}
+use Rattle.pr_rules.specs.pr_lineage.declared.found.Found.{Found}
+use Rattle.pr_rules.specs.pr_rulefile.Rules.{Rule}
 use Rattle.pr_rules.specs.Results.{FoundsRise, made_labels}
 use Rattle.pr_rule_result.specs.declared.made.Made.{Made}
 

@@ -2,11 +2,11 @@
 use Rattle.std.specs.Prelude.{◌≡◌, List, map, None}
 use Rattle.std.specs.Map.{keys_of}
 use Rattle.pr_labels.specs.declared.item.Item.{Item}
-use Rattle.pr_vectors.specs.Vectors.{in_label_order}
-use Rattle.pr_vectors.specs.Functions.{least_twice}
-use Rattle.pr_lineage.specs.declared.found.Found.{Found}
+use Rattle.pr_values.specs.pr_vectors.Vectors.{in_label_order}
+use Rattle.pr_values.specs.pr_vectors.Functions.{least_twice}
+use Rattle.pr_rules.specs.pr_lineage.declared.found.Found.{Found}
 use Rattle.pr_rules.specs.Results.{in_found_order, sets_in}
-use Rattle.pr_ordered.specs.Entries.{items_of}
+use Rattle.pr_values.specs.pr_ordered.Entries.{items_of}
 use Rattle.pr_rule_result.specs.declared.rows.Row.{Row}
 use Rattle.pr_rule_result.specs.declared.rows.Rows.{Rows}
 

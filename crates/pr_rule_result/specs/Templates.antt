@@ -5,12 +5,12 @@ use Rattle.pr_num.specs.declared.value.Num.{Num}
 use Rattle.pr_labels.specs.declared.item.Item.{Item}
 use Rattle.pr_labels.specs.declared.pair.Pair.{Pair}
 use Rattle.pr_labels.specs.LabelSet.{pair_of}
-use Rattle.pr_tmpl.specs.declared.template.External.{External}
-use Rattle.pr_tmpl.specs.Expansion.{expansion}
-use Rattle.pr_tmpl.specs.TemplateReading.{template_parts}
-use Rattle.pr_fields.specs.Labels.{AreTemplates}
-use Rattle.pr_rulefile.specs.declared.rules.GroupDef.{GroupDef}
-use Rattle.pr_rulefile.specs.Rules.{Rule, rule_of_def}
+use Rattle.pr_rules.specs.pr_tmpl.declared.template.External.{External}
+use Rattle.pr_rules.specs.pr_tmpl.Expansion.{expansion}
+use Rattle.pr_rules.specs.pr_tmpl.TemplateReading.{template_parts}
+use Rattle.pr_rules.specs.pr_fields.Labels.{AreTemplates}
+use Rattle.pr_rules.specs.pr_rulefile.declared.rules.GroupDef.{GroupDef}
+use Rattle.pr_rules.specs.pr_rulefile.Rules.{Rule, rule_of_def}
 use Rattle.pr_rule_result.specs.declared.templates.NamedTemplate.{NamedTemplate}
 use Rattle.pr_rule_result.specs.declared.templates.RuleTemplates.{RuleTemplates}
 

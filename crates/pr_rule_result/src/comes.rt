@@ -1,10 +1,10 @@
 // What the answer of its expression comes to in a rule.
 ghost use Rattle.std.specs.Prelude.{◌≡◌, IfOk, Err, Result};
-ghost use Rattle.pr_query.specs.declared.fault.Fault.{Fault};
-ghost use Rattle.pr_query.specs.declared.value.Value.{Value};
+ghost use Rattle.pr_values.specs.pr_query.declared.fault.Fault.{Fault};
+ghost use Rattle.pr_values.specs.pr_query.declared.value.Value.{Value};
 ghost use Rattle.pr_values.specs.Answers.{AnswersTo};
 ghost use Rattle.pr_values.specs.declared.error.EvalError.TheVariants as evaluation;
-ghost use Rattle.pr_rulefile.specs.Rules.{rule_of_def};
+ghost use Rattle.pr_rules.specs.pr_rulefile.Rules.{rule_of_def};
 ghost use Rattle.pr_rules.specs.declared.fault.RuleFault.TheVariants.{Eval};
 ghost use Rattle.pr_rules.specs.Results.{FoundsRise, failed_by, failure, rule_result_by, value_elements};
 ghost use Rattle.pr_rule_result.specs.declared.error.RuleError.TheVariants.{Memory};
@@ -17,13 +17,13 @@ use crate::ruled::ruled;
 use crate::templates::RuleTemplates;
 use pr_ast::Place;
 use pr_labels::{Item, Labels};
-use pr_lineage::Found;
 use pr_num::Num;
-use pr_query::{FaultKind, Value};
-use pr_rulefile::RuleDef;
+use pr_rules::lineage::Found;
+use pr_rules::rulefile::RuleDef;
+use pr_rules::tmpl::External;
 use pr_rules::{RuleFailure, RuleFault};
-use pr_tmpl::External;
 use pr_values::EvalError;
+use pr_values::query_crate::{FaultKind, Value};
 use std::alloc::{AllocError, Global};
 
 // The elements of a value: a number is one without labels.

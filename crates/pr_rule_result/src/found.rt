@@ -1,7 +1,7 @@
 // What a rule makes of an element.
 ghost use Rattle.std.specs.Prelude.{◌≡◌, false, true, IfOk};
-ghost use Rattle.pr_rulefile.specs.Rules.{Rule, rule_of_def};
-ghost use Rattle.pr_tmpl.specs.declared.template.External.{External};
+ghost use Rattle.pr_rules.specs.pr_rulefile.Rules.{Rule, rule_of_def};
+ghost use Rattle.pr_rules.specs.pr_tmpl.declared.template.External.{External};
 ghost use Rattle.pr_rules.specs.Results.{found_by, found_of};
 ghost use Rattle.pr_rule_result.specs.Making.{IsOfRule};
 ghost use Rattle.pr_rule_result.specs.Templates.{IsTemplatesOf};
@@ -10,10 +10,10 @@ use crate::labels::{alerting_labels, expanded_pairs};
 use crate::made::MadeLabels;
 use crate::templates::RuleTemplates;
 use pr_labels::Item;
-use pr_lineage::Found;
 use pr_num::Num;
-use pr_rulefile::RuleDef;
-use pr_tmpl::External;
+use pr_rules::lineage::Found;
+use pr_rules::rulefile::RuleDef;
+use pr_rules::tmpl::External;
 use pr_words::Items;
 use std::alloc::{AllocError, Global};
 

@@ -1,7 +1,7 @@
 // The labels and annotations that a rule gives an element.
 ghost use Rattle.std.specs.Prelude.{◌≡◌, IfOk};
-ghost use Rattle.pr_tmpl.specs.Expansion.{expansion};
-ghost use Rattle.pr_rulefile.specs.Rules.{rule_of_def};
+ghost use Rattle.pr_rules.specs.pr_tmpl.Expansion.{expansion};
+ghost use Rattle.pr_rules.specs.pr_rulefile.Rules.{rule_of_def};
 ghost use Rattle.pr_rules.specs.Results.{alerting_labels, made_labels};
 ghost use Rattle.pr_rule_result.specs.Templates.{AreTemplatesOf, all_expanded_by, expanded_pair_by};
 
@@ -9,8 +9,8 @@ use crate::setting::set_all;
 use crate::templates::NamedTemplate;
 use pr_labels::{Item, Labels, METRIC_LABEL, Pair};
 use pr_num::Num;
-use pr_rulefile::RuleDef;
-use pr_tmpl::{External, Template};
+use pr_rules::rulefile::RuleDef;
+use pr_rules::tmpl::{External, Template};
 use pr_words::{Items, Text};
 use std::alloc::{AllocError, Global};
 

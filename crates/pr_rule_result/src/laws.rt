@@ -1,8 +1,8 @@
 // Laws of the templates of rules.
 ghost use Rattle.std.specs.Prelude.{◌≡◌, ℕ, List, All};
-ghost use Rattle.pr_rulefile.specs.declared.rules.RuleFile.{RuleFile};
-ghost use Rattle.pr_rulefile.specs.File.{gives_file, groups_of_file, rule_file_of};
-ghost use Rattle.pr_rulefile.specs.Sound.{HoldsOfRules};
+ghost use Rattle.pr_rules.specs.pr_rulefile.declared.rules.RuleFile.{RuleFile};
+ghost use Rattle.pr_rules.specs.pr_rulefile.File.{gives_file, groups_of_file, rule_file_of};
+ghost use Rattle.pr_rules.specs.pr_rulefile.Sound.{HoldsOfRules};
 ghost use Rattle.pr_rule_result.specs.Templates.{HasTemplates, HaveTemplates};
 
 /// The labels and annotations of the alerts of a rule file are templates.

@@ -17,5 +17,7 @@ pub use comes::rule_result;
 pub use error::RuleError;
 pub use laws::rules_that_read_have_templates;
 pub use made::MadeLabels;
+pub use pr_rules as rules_crate;
+pub use pr_rules::{rulefile as rulefile, tmpl as tmpl};
 pub use ruled::limit_exceeded;
 pub use templates::{NamedTemplate, RuleTemplates, templates_of};

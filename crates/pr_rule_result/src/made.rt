@@ -2,15 +2,15 @@
 ghost use Rattle.std.specs.Prelude.{◌≡◌, [], ℕ, true, List, IfOk, IfSome, OnOk, length, map, slice_get, Some};
 ghost use Rattle.pr_labels.specs.declared.pair.Pair.{Pair};
 ghost use Rattle.pr_labels.specs.Rising.{IsRising};
-ghost use Rattle.pr_rulefile.specs.Rules.{rule_of_def};
+ghost use Rattle.pr_rules.specs.pr_rulefile.Rules.{rule_of_def};
 ghost use Rattle.pr_rules.specs.Results.{made_labels, sets_in};
 ghost use Rattle.pr_rule_result.specs.Making.{AreMade, AreRecorded, IsOfRule, recorded_under, sets_made};
 
 use crate::labels::made_labels;
 use pr_labels::{Item, Labels, Pair, copy_pairs};
-use pr_lineage::Found;
 use pr_num::Num;
-use pr_rulefile::RuleDef;
+use pr_rules::lineage::Found;
+use pr_rules::rulefile::RuleDef;
 use pr_words::{Items, Text};
 use std::alloc::{AllocError, Global};
 use std::marker::Model;

@@ -1,18 +1,18 @@
 // What a rule makes of elements, by their labels, so that equal labels are seen.
 ghost use Rattle.std.specs.Prelude.{◌≡◌, List, [], ◌∷◌, ◌++◌, IfOk, OnOk, map};
-ghost use Rattle.pr_lineage.specs.declared.found.Found.{Found};
+ghost use Rattle.pr_rules.specs.pr_lineage.declared.found.Found.{Found};
 ghost use Rattle.pr_rules.specs.declared.fault.RuleFault.TheVariants.{SameAfterRule};
 ghost use Rattle.pr_rules.specs.Results.{FoundsRise, failure, founds_apart, without_place};
 ghost use Rattle.pr_rule_result.specs.Coming.{ComesTo};
 ghost use Rattle.pr_rule_result.specs.Rows.{AreRows, found_in};
 
 use crate::error::RuleError;
-use pr_fn::keep_least;
 use pr_labels::{Item, Labels, Pair};
-use pr_lineage::Found;
 use pr_num::Num;
-use pr_ordered::Ordered;
+use pr_rules::lineage::Found;
 use pr_rules::{RuleFailure, RuleFault};
+use pr_values::functions::keep_least;
+use pr_values::ordered::Ordered;
 use pr_words::Items;
 use std::alloc::{AllocError, Global};
 

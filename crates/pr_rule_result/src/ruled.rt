@@ -1,7 +1,7 @@
 // What a rule makes of a vector.
 ghost use Rattle.std.specs.Prelude.{◌≡◌, ◌++◌, false, List, [], ◌∷◌, IfOk, OnOk, map};
-ghost use Rattle.pr_lineage.specs.declared.found.Found.{Found};
-ghost use Rattle.pr_rulefile.specs.Rules.{rule_of_def};
+ghost use Rattle.pr_rules.specs.pr_lineage.declared.found.Found.{Found};
+ghost use Rattle.pr_rules.specs.pr_rulefile.Rules.{rule_of_def};
 ghost use Rattle.pr_rules.specs.declared.fault.RuleFault.TheVariants.{LimitExceeded};
 ghost use Rattle.pr_rules.specs.Results.{FoundsRise, failure, found_of, ruled, within_limit, without_place};
 ghost use Rattle.pr_rule_result.specs.Coming.{ComesTo};
@@ -15,11 +15,11 @@ use crate::made::MadeLabels;
 use crate::rows::{Rows, founds_apart, no_rows, put};
 use crate::templates::RuleTemplates;
 use pr_labels::Item;
-use pr_lineage::Found;
 use pr_num::Num;
-use pr_rulefile::RuleDef;
+use pr_rules::lineage::Found;
+use pr_rules::rulefile::RuleDef;
+use pr_rules::tmpl::External;
 use pr_rules::{RuleFailure, RuleFault};
-use pr_tmpl::External;
 use std::alloc::{AllocError, Global};
 
 // Puts what the rule makes of the element at a place.

@@ -1,13 +1,13 @@
 // The templates of an alert's labels and annotations.
 ghost use Rattle.std.specs.Prelude.{◌≡◌, IfOk, IsSome, Some};
-ghost use Rattle.pr_tmpl.specs.TemplateReading.{template_parts};
-ghost use Rattle.pr_fields.specs.Labels.{AreTemplates};
-ghost use Rattle.pr_rulefile.specs.Rules.{rule_of_def};
+ghost use Rattle.pr_rules.specs.pr_tmpl.TemplateReading.{template_parts};
+ghost use Rattle.pr_rules.specs.pr_fields.Labels.{AreTemplates};
+ghost use Rattle.pr_rules.specs.pr_rulefile.Rules.{rule_of_def};
 ghost use Rattle.pr_rule_result.specs.Templates.{AreTemplatesOf, HasTemplates, IsTemplateOf, IsTemplatesOf};
 
 use pr_labels::Pair;
-use pr_rulefile::RuleDef;
-use pr_tmpl::{Template, TmplError};
+use pr_rules::rulefile::RuleDef;
+use pr_rules::tmpl::{Template, TmplError};
 use pr_words::{Items, Text};
 use std::alloc::{AllocError, Global};
 

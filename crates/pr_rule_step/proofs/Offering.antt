@@ -2,13 +2,13 @@
 use Rattle.std.proofs.Common.{◌≡◌, ℕ, Bool, true, false, List, [], ◌∷◌, ◌++◌, map, Option, Some, None, Result, Ok, Err, refl, sym, ap, ◌∙◌, subst}
 use Rattle.std.specs.Prelude.{nat_lt, unwrap_or}
 use Rattle.pr_labels.specs.declared.pair.Pair.{Pair}
-use Rattle.pr_history.specs.declared.entry.Entry.{Entry}
-use Rattle.pr_query.specs.declared.fault.Fault.{Fault}
-use Rattle.pr_query.specs.declared.value.Value.{Value}
-use Rattle.pr_query.specs.Answers.{go_on}
-use Rattle.pr_query.specs.Meaning.{meaning}
-use Rattle.pr_vectors.specs.Functions.{least_twice}
-use Rattle.pr_tmpl.specs.declared.template.External.{External}
+use Rattle.pr_lineage.specs.pr_history.declared.entry.Entry.{Entry}
+use Rattle.pr_rule_result.specs.pr_query.declared.fault.Fault.{Fault}
+use Rattle.pr_rule_result.specs.pr_query.declared.value.Value.{Value}
+use Rattle.pr_rule_result.specs.pr_query.Answers.{go_on}
+use Rattle.pr_rule_result.specs.pr_query.Meaning.{meaning}
+use Rattle.pr_rule_result.specs.pr_vectors.Functions.{least_twice}
+use Rattle.pr_rule_result.specs.pr_tmpl.declared.template.External.{External}
 use Rattle.pr_lineage.specs.declared.found.Found.{Found}
 use Rattle.pr_lineage.specs.declared.record.Record.{Record}
 use Rattle.pr_lineage.specs.Lineage.{Outcome, Step, came_to, exceeded, failed}
@@ -16,13 +16,13 @@ use Rattle.pr_lineage.specs.Records.{evaluation, exceeding, records, records_aft
 use Rattle.pr_alert.specs.declared.fault.AlertFault.{AlertFault}
 use Rattle.pr_alert.specs.declared.fault.AlertFault.TheVariants as alert
 use Rattle.pr_alert.specs.Standing.{Exceeds, StandsFor, StandsUnsent, marked_if}
-use Rattle.pr_rulefile.specs.Rules.{Rule}
-use Rattle.pr_rules.specs.declared.fault.RuleFailure.{RuleFailure}
-use Rattle.pr_rules.specs.declared.fault.RuleFault.TheVariants.{Eval, SameAfterRule, LimitExceeded}
-use Rattle.pr_rules.specs.Evaluations.{evaluated, fault_outcome, recorded, rule_outcome, rule_samples_by, sent_by, within_alerts}
-use Rattle.pr_rules.specs.Groups.{Group, RuleState, interval_of}
-use Rattle.pr_rules.specs.Results.{failed_by, failure, found_of, in_found_order, rule_result, rule_result_by, sets_in, unless_beyond, unless_twice, value_elements, within_limit, without_place}
-use Rattle.pr_rules.specs.Settings.{Settings}
+use Rattle.pr_rule_result.specs.pr_rulefile.Rules.{Rule}
+use Rattle.pr_rule_result.specs.pr_rules.declared.fault.RuleFailure.{RuleFailure}
+use Rattle.pr_rule_result.specs.pr_rules.declared.fault.RuleFault.TheVariants.{Eval, SameAfterRule, LimitExceeded}
+use Rattle.pr_rule_result.specs.pr_rules.Evaluations.{evaluated, fault_outcome, recorded, rule_outcome, rule_samples_by, sent_by, within_alerts}
+use Rattle.pr_rule_result.specs.pr_rules.Groups.{Group, RuleState, interval_of}
+use Rattle.pr_rule_result.specs.pr_rules.Results.{failed_by, failure, found_of, in_found_order, rule_result, rule_result_by, sets_in, unless_beyond, unless_twice, value_elements, within_limit, without_place}
+use Rattle.pr_rule_result.specs.pr_rules.Settings.{Settings}
 use Rattle.pr_rule_result.specs.declared.error.RuleError.TheVariants.{Failed}
 use Rattle.pr_rule_step.specs.declared.offered.Offered.{Offered}
 use Rattle.pr_rule_step.specs.Outcomes.{HasFailed, Offers}

@@ -1,21 +1,21 @@
 -- What an expression gives, and what a rule makes of it.
 use Rattle.std.proofs.Common.{◌≡◌, ◌≢◌, ℕ, Bool, true, List, Option, Result, Ok, Err, refl, sym, ap}
 use Rattle.std.specs.Prelude.{is_ok}
-use Rattle.pr_history.specs.declared.entry.Entry.{Entry}
-use Rattle.pr_query.specs.declared.fault.Fault.{Fault}
-use Rattle.pr_query.specs.declared.value.Value.{Value}
-use Rattle.pr_query.specs.Meaning.{meaning}
-use Rattle.pr_tmpl.specs.declared.template.External.{External}
+use Rattle.pr_lineage.specs.pr_history.declared.entry.Entry.{Entry}
+use Rattle.pr_rule_result.specs.pr_query.declared.fault.Fault.{Fault}
+use Rattle.pr_rule_result.specs.pr_query.declared.value.Value.{Value}
+use Rattle.pr_rule_result.specs.pr_query.Meaning.{meaning}
+use Rattle.pr_rule_result.specs.pr_tmpl.declared.template.External.{External}
 use Rattle.pr_lineage.specs.declared.record.Record.{Record}
-use Rattle.pr_values.specs.Answers.{AnswersTo}
-use Rattle.pr_values.specs.declared.error.EvalError.{EvalError}
-use Rattle.pr_values.specs.declared.error.EvalError.TheVariants as evaluation
+use Rattle.pr_rule_result.specs.pr_values.Answers.{AnswersTo}
+use Rattle.pr_rule_result.specs.pr_values.declared.error.EvalError.{EvalError}
+use Rattle.pr_rule_result.specs.pr_values.declared.error.EvalError.TheVariants as evaluation
 use Rattle.pr_alert.specs.Standing.{StandsFor}
-use Rattle.pr_rulefile.specs.Rules.{Rule}
-use Rattle.pr_rules.specs.Evaluations.{rule_outcome}
-use Rattle.pr_rules.specs.Groups.{Group, RuleState}
-use Rattle.pr_rules.specs.Results.{failed_by, rule_result, rule_result_by}
-use Rattle.pr_rules.specs.Settings.{Settings}
+use Rattle.pr_rule_result.specs.pr_rulefile.Rules.{Rule}
+use Rattle.pr_rule_result.specs.pr_rules.Evaluations.{rule_outcome}
+use Rattle.pr_rule_result.specs.pr_rules.Groups.{Group, RuleState}
+use Rattle.pr_rule_result.specs.pr_rules.Results.{failed_by, rule_result, rule_result_by}
+use Rattle.pr_rule_result.specs.pr_rules.Settings.{Settings}
 use Rattle.pr_rule_result.specs.declared.error.RuleError.{RuleError}
 use Rattle.pr_rule_result.specs.declared.error.RuleError.TheVariants.{Failed, Memory}
 use Rattle.pr_rule_result.specs.Coming.{ComesTo}

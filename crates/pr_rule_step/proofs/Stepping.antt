@@ -4,23 +4,23 @@ use Rattle.std.proofs.lemmas.List.{reverse-append}
 use Rattle.pr_num.specs.declared.value.Num.{Num}
 use Rattle.pr_labels.specs.declared.item.Item.{Item}
 use Rattle.pr_labels.specs.declared.pair.Pair.{Pair}
-use Rattle.pr_history.specs.declared.entry.Entry.{Entry}
-use Rattle.pr_history.specs.Admission.{put_all}
-use Rattle.pr_head.specs.Holds.{Holds}
-use Rattle.pr_puts.specs.Puts.{admitted, label_sets_of, markers}
+use Rattle.pr_lineage.specs.pr_history.declared.entry.Entry.{Entry}
+use Rattle.pr_lineage.specs.pr_history.Admission.{put_all}
+use Rattle.pr_intake.specs.pr_head.Holds.{Holds}
+use Rattle.pr_intake.specs.pr_puts.Puts.{admitted, label_sets_of, markers}
 use Rattle.pr_lineage.specs.declared.found.Found.{Found}
 use Rattle.pr_lineage.specs.declared.record.Record.{Record}
 use Rattle.pr_lineage.specs.declared.sending.Sending.{Sending}
 use Rattle.pr_lineage.specs.Lineage.{Step, came_to, previous, previous_from}
-use Rattle.pr_rulefile.specs.Rules.{Rule}
-use Rattle.pr_rules.specs.declared.fault.RuleFailure.{RuleFailure}
-use Rattle.pr_rules.specs.declared.report.Put.{Put}
-use Rattle.pr_rules.specs.declared.report.RuleOutcome.TheVariants.{Fine}
-use Rattle.pr_rules.specs.declared.report.RuleReport.{RuleReport}
-use Rattle.pr_rules.specs.Evaluations.{RuleStep, evaluated, failed_step, fine_step, rule_outcome, rule_samples, rule_step, rule_step_by, sent_by, with_lineage}
-use Rattle.pr_rules.specs.Groups.{Group, RuleState, interval_of}
-use Rattle.pr_rules.specs.Settings.{Settings}
-use Rattle.pr_rules.proofs.Faults.{fault_keeps}
+use Rattle.pr_rule_result.specs.pr_rulefile.Rules.{Rule}
+use Rattle.pr_rule_result.specs.pr_rules.declared.fault.RuleFailure.{RuleFailure}
+use Rattle.pr_rule_result.specs.pr_rules.declared.report.Put.{Put}
+use Rattle.pr_rule_result.specs.pr_rules.declared.report.RuleOutcome.TheVariants.{Fine}
+use Rattle.pr_rule_result.specs.pr_rules.declared.report.RuleReport.{RuleReport}
+use Rattle.pr_rule_result.specs.pr_rules.Evaluations.{RuleStep, evaluated, failed_step, fine_step, rule_outcome, rule_samples, rule_step, rule_step_by, sent_by, with_lineage}
+use Rattle.pr_rule_result.specs.pr_rules.Groups.{Group, RuleState, interval_of}
+use Rattle.pr_rule_result.specs.pr_rules.Settings.{Settings}
+use Rattle.pr_rule_result.proofs.RulesFaults.{fault_keeps}
 use Rattle.pr_intake.specs.Intake.{PutsIf, Series}
 use Rattle.pr_intake.proofs.Intake.{puts_if_none, puts_if_then}
 use Rattle.pr_rule_result.specs.declared.error.RuleError.{RuleError}

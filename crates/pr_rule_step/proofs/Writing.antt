@@ -5,13 +5,13 @@ use Rattle.std.proofs.lemmas.List.{map-append}
 use Rattle.pr_num.specs.declared.value.Num.{Num}
 use Rattle.pr_labels.specs.declared.item.Item.{Item}
 use Rattle.pr_labels.specs.declared.pair.Pair.{Pair}
-use Rattle.pr_history.specs.declared.append.Append.{Append}
-use Rattle.pr_history.specs.declared.entry.Entry.{Entry}
-use Rattle.pr_history.specs.Admission.{put, put_all}
-use Rattle.pr_puts.specs.Puts.{admissions, is_shown, label_sets_of, shown_entries}
-use Rattle.pr_puts.proofs.Putting.{answer_to, picks}
-use Rattle.pr_rules.specs.declared.report.Put.{Put}
-use Rattle.pr_rules.specs.Evaluations.{sample_entry, put_of}
+use Rattle.pr_lineage.specs.pr_history.declared.append.Append.{Append}
+use Rattle.pr_lineage.specs.pr_history.declared.entry.Entry.{Entry}
+use Rattle.pr_lineage.specs.pr_history.Admission.{put, put_all}
+use Rattle.pr_intake.specs.pr_puts.Puts.{admissions, is_shown, label_sets_of, shown_entries}
+use Rattle.pr_intake.proofs.PutsPutting.{answer_to, picks}
+use Rattle.pr_rule_result.specs.pr_rules.declared.report.Put.{Put}
+use Rattle.pr_rule_result.specs.pr_rules.Evaluations.{sample_entry, put_of}
 use Rattle.pr_intake.specs.Intake.{PutsIf, Series}
 use Rattle.pr_rule_step.specs.Written.{Writes, entries_of, told_of, wrote_of}
 use Rattle.pr_intake.proofs.Intake.{puts_if_then}

@@ -4,9 +4,9 @@ use Rattle.pr_labels.specs.declared.pair.Pair.{Pair}
 use Rattle.pr_lineage.specs.declared.found.Found.{Found}
 use Rattle.pr_lineage.specs.declared.record.Record.{Record}
 use Rattle.pr_lineage.specs.Lineage.{came_to}
-use Rattle.pr_rules.specs.declared.fault.RuleFailure.{RuleFailure}
-use Rattle.pr_rules.specs.Evaluations.{evaluated, fault_outcome, rule_samples, sent_by}
-use Rattle.pr_rules.specs.Groups.{Group, RuleState, interval_of}
+use Rattle.pr_rule_result.specs.pr_rules.declared.fault.RuleFailure.{RuleFailure}
+use Rattle.pr_rule_result.specs.pr_rules.Evaluations.{evaluated, fault_outcome, rule_samples, sent_by}
+use Rattle.pr_rule_result.specs.pr_rules.Groups.{Group, RuleState, interval_of}
 use Rattle.pr_alert.specs.Standing.{StandsFor}
 use Rattle.pr_rule_result.specs.declared.error.RuleError.{RuleError}
 use Rattle.pr_rule_result.specs.declared.error.RuleError.TheVariants.{Failed, Memory}

@@ -1,15 +1,15 @@
 -- How what is remembered of a rule stands for it, and the step of a rule in code.
 use Rattle.std.specs.Prelude.{◌≡◌, ℕ, Bool, true, nat_lt, List, Option}
 use Rattle.pr_labels.specs.declared.pair.Pair.{Pair}
-use Rattle.pr_history.specs.declared.entry.Entry.{Entry}
-use Rattle.pr_tmpl.specs.declared.template.External.{External}
+use Rattle.pr_lineage.specs.pr_history.declared.entry.Entry.{Entry}
+use Rattle.pr_rule_result.specs.pr_tmpl.declared.template.External.{External}
 use Rattle.pr_lineage.specs.declared.record.Record.{Record}
 use Rattle.pr_lineage.specs.Lineage.{previous}
-use Rattle.pr_rulefile.specs.Rules.{Rule}
-use Rattle.pr_rules.specs.declared.report.RuleReport.{RuleReport}
-use Rattle.pr_rules.specs.Evaluations.{RuleStep}
-use Rattle.pr_rules.specs.Groups.{Group, RuleState}
-use Rattle.pr_rules.specs.Settings.{Settings}
+use Rattle.pr_rule_result.specs.pr_rulefile.Rules.{Rule}
+use Rattle.pr_rule_result.specs.pr_rules.declared.report.RuleReport.{RuleReport}
+use Rattle.pr_rule_result.specs.pr_rules.Evaluations.{RuleStep}
+use Rattle.pr_rule_result.specs.pr_rules.Groups.{Group, RuleState}
+use Rattle.pr_rule_result.specs.pr_rules.Settings.{Settings}
 use Rattle.pr_intake.specs.Intake.{PutsIf, Series}
 use Rattle.pr_alert.specs.Standing.{StandsFor}
 use Rattle.pr_rule_result.specs.declared.templates.RuleTemplates.{RuleTemplates}

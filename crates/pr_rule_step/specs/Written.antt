@@ -4,11 +4,11 @@ use Rattle.std.specs.List.{zip}
 use Rattle.pr_num.specs.declared.value.Num.{Num}
 use Rattle.pr_labels.specs.declared.item.Item.{Item}
 use Rattle.pr_labels.specs.declared.pair.Pair.{Pair}
-use Rattle.pr_history.specs.declared.entry.Entry.{Entry}
-use Rattle.pr_history.specs.Admission.{put_all}
-use Rattle.pr_puts.specs.Puts.{admissions, admitted, label_sets_of, markers, shown_entries}
-use Rattle.pr_rules.specs.declared.report.Put.{Put}
-use Rattle.pr_rules.specs.Evaluations.{put_of, sample_entry}
+use Rattle.pr_lineage.specs.pr_history.declared.entry.Entry.{Entry}
+use Rattle.pr_lineage.specs.pr_history.Admission.{put_all}
+use Rattle.pr_intake.specs.pr_puts.Puts.{admissions, admitted, label_sets_of, markers, shown_entries}
+use Rattle.pr_rule_result.specs.pr_rules.declared.report.Put.{Put}
+use Rattle.pr_rule_result.specs.pr_rules.Evaluations.{put_of, sample_entry}
 use Rattle.pr_intake.specs.Intake.{PutsIf, Series}
 
 abbrev pub entries_of : ℕ → List (Item Num) → List Entry

@@ -1,5 +1,5 @@
-use pr_time::{Ms, Span};
-use pr_tmpl::External;
+use pr_lineage::time::{Ms, Span};
+use pr_rule_result::tmpl::External;
 use std::alloc::Global;
 
 /// An evaluation of a group, as its rules see it.

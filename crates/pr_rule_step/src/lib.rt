@@ -10,4 +10,11 @@ mod sending;
 mod written;
 
 pub use evaluation::Evaluation;
+pub use pr_alert as alert;
+pub use pr_eval as eval;
+pub use pr_intake as intake;
+pub use pr_intake::head as head;
+pub use pr_lineage as lineage;
+pub use pr_rule_result as rule_result;
+pub use pr_rule_result::{rulefile as rulefile, rules_crate as rules_crate, tmpl as tmpl};
 pub use remembered::Remembered;

@@ -1,14 +1,14 @@
 // What a rule comes to before anything is put.
 ghost use Rattle.std.specs.Prelude.{◌≡◌, [], map, true, unwrap_or, List, IfOk, OnOk, Ok};
-ghost use Rattle.pr_history.specs.declared.entry.Entry.{Entry};
+ghost use Rattle.pr_lineage.specs.pr_history.declared.entry.Entry.{Entry};
 ghost use Rattle.pr_lineage.specs.declared.found.Found.{Found};
 ghost use Rattle.pr_lineage.specs.Records.{sendings_at};
 ghost use Rattle.pr_alert.specs.Standing.{StandsFor, marked_if};
-ghost use Rattle.pr_rulefile.specs.Rules.{rule_of_def};
-ghost use Rattle.pr_rules.specs.Evaluations.{recorded, rule_outcome, rule_samples_by};
-ghost use Rattle.pr_rules.specs.Groups.{Group, RuleState};
-ghost use Rattle.pr_rules.specs.Results.{FoundsRise, rule_result};
-ghost use Rattle.pr_rules.specs.Settings.{Settings};
+ghost use Rattle.pr_rule_result.specs.pr_rulefile.Rules.{rule_of_def};
+ghost use Rattle.pr_rule_result.specs.pr_rules.Evaluations.{recorded, rule_outcome, rule_samples_by};
+ghost use Rattle.pr_rule_result.specs.pr_rules.Groups.{Group, RuleState};
+ghost use Rattle.pr_rule_result.specs.pr_rules.Results.{FoundsRise, rule_result};
+ghost use Rattle.pr_rule_result.specs.pr_rules.Settings.{Settings};
 ghost use Rattle.pr_rule_step.specs.Outcomes.{Offers};
 ghost use Rattle.pr_rule_step.specs.Standing.{IsEvaluationOf};
 
@@ -21,8 +21,8 @@ use pr_alert::{
 use pr_labels::Item;
 use pr_lineage::{Found, Sending};
 use pr_num::Num;
+use pr_rule_result::rulefile::RuleDef;
 use pr_rule_result::{RuleError, limit_exceeded};
-use pr_rulefile::RuleDef;
 use pr_words::Items;
 use std::alloc::{AllocError, Global};
 

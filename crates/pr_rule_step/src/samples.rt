@@ -1,18 +1,18 @@
 // The samples of a rule are put, and what becomes of each is told.
 ghost use Rattle.std.specs.Prelude.{◌≡◌, ◌++◌, ◌∷◌, [], true, cond, List, IfOk, OnOk};
-ghost use Rattle.pr_history.specs.declared.entry.Entry.{Entry};
-ghost use Rattle.pr_head.specs.Holds.{Holds};
-ghost use Rattle.pr_puts.specs.Puts.{is_shown};
-ghost use Rattle.pr_rules.specs.Evaluations.{put_of};
+ghost use Rattle.pr_lineage.specs.pr_history.declared.entry.Entry.{Entry};
+ghost use Rattle.pr_intake.specs.pr_head.Holds.{Holds};
+ghost use Rattle.pr_intake.specs.pr_puts.Puts.{is_shown};
+ghost use Rattle.pr_rule_result.specs.pr_rules.Evaluations.{put_of};
 ghost use Rattle.pr_rule_step.specs.Written.{Writes};
 
 use crate::evaluation::Evaluation;
-use pr_head::Head;
-use pr_history::{Append, Entry};
+use pr_intake::head::Head;
 use pr_intake::{is_shown, put_if};
 use pr_labels::{Item, Labels};
+use pr_lineage::history::{Append, Entry};
 use pr_num::{Num, Point};
-use pr_rules::Put;
+use pr_rule_result::rules_crate::Put;
 use std::alloc::{AllocError, Global};
 
 // Notes the series of a sample that it shows.

@@ -1,13 +1,13 @@
 // What a rule comes to is put.
 ghost use Rattle.std.specs.Prelude.{◌≡◌, ℕ, List, IfOk, OnOk};
-ghost use Rattle.pr_history.specs.declared.entry.Entry.{Entry};
-ghost use Rattle.pr_head.specs.Holds.{Holds};
+ghost use Rattle.pr_lineage.specs.pr_history.declared.entry.Entry.{Entry};
+ghost use Rattle.pr_intake.specs.pr_head.Holds.{Holds};
 ghost use Rattle.pr_lineage.specs.declared.found.Found.{Found};
 ghost use Rattle.pr_lineage.specs.declared.record.Record.{Record};
 ghost use Rattle.pr_lineage.specs.Lineage.{previous};
-ghost use Rattle.pr_rules.specs.declared.fault.RuleFailure.{RuleFailure};
-ghost use Rattle.pr_rules.specs.Evaluations.{failed_step, fine_step, rule_samples};
-ghost use Rattle.pr_rules.specs.Groups.{Group, RuleState};
+ghost use Rattle.pr_rule_result.specs.pr_rules.declared.fault.RuleFailure.{RuleFailure};
+ghost use Rattle.pr_rule_result.specs.pr_rules.Evaluations.{failed_step, fine_step, rule_samples};
+ghost use Rattle.pr_rule_result.specs.pr_rules.Groups.{Group, RuleState};
 ghost use Rattle.pr_rule_step.specs.Outcomes.{IsOffered};
 ghost use Rattle.pr_rule_step.specs.Standing.{HasStepped};
 ghost use Rattle.pr_rule_step.specs.Written.{HasWritten};
@@ -15,12 +15,12 @@ ghost use Rattle.pr_rule_step.specs.Written.{HasWritten};
 use crate::evaluation::Evaluation;
 use crate::offered::Offered;
 use crate::samples::put_samples;
-use pr_head::Head;
-use pr_history::Entry;
+use pr_intake::head::Head;
 use pr_intake::mark_if;
 use pr_labels::{Item, Labels};
+use pr_lineage::history::Entry;
 use pr_num::Num;
-use pr_rules::{Put, RuleFailure, RuleOutcome, RuleReport};
+use pr_rule_result::rules_crate::{Put, RuleFailure, RuleOutcome, RuleReport};
 use pr_words::Items;
 use std::alloc::{AllocError, Global};
 

@@ -5,3 +5,4 @@ pub mod Whole
 pub mod SoundRules
 pub mod SoundGroups
 pub mod SomeProblems
+pub use Rattle.pr_fields.proofs.KindsPlainTexts

@@ -7,9 +7,9 @@ use Rattle.std.specs.Str.{bytes_eq}
 use Rattle.std.specs.Cmp.Lexicographic.{bytes_decides}
 use Rattle.std.proofs.lemmas.Bool.{cases_Bool, cond-false, leb-true}
 use Rattle.std.proofs.lemmas.List.Elements.{All-from_recursion}
-use Rattle.pr_words.specs.Decimals.{plain_decimal}
-use Rattle.pr_words.proofs.Decimals.{printed_of_read}
-use Rattle.pr_time.specs.SpanAnswer.{span_of}
+use Rattle.pr_labels.specs.pr_words.Decimals.{plain_decimal}
+use Rattle.pr_labels.proofs.WordsDecimals.{printed_of_read}
+use Rattle.pr_ast.specs.pr_time.SpanAnswer.{span_of}
 use Rattle.pr_yaml.specs.Tree.{Tree, text_node, list_node, map_node, EntryTree, trees_in, entries_in, is_absent}
 use Rattle.pr_yaml.specs.Read.{Reading, gives_tree as reads_tree, gives_fault as reads_fault, read_of}
 use Rattle.pr_yaml.specs.Distinct.{has_distinct_keys}

@@ -4,13 +4,13 @@ use Rattle.std.specs.Prelude.{codes, nat_le, unwrap_or, option_and_then}
 use Rattle.std.specs.List.{AllByRecursion, flat_map}
 use Rattle.std.proofs.lemmas.Bool.{cond-false, leb-true}
 use Rattle.pr_labels.specs.Names.{is_metric_name}
-use Rattle.pr_time.specs.SpanAnswer.{span_of}
+use Rattle.pr_ast.specs.pr_time.SpanAnswer.{span_of}
 use Rattle.pr_yaml.specs.Tree.{Tree, EntryTree, is_absent}
 use Rattle.pr_ast.specs.Tree.{Tree as Expression}
-use Rattle.pr_parse.specs.Parsed.{Parsed, gives_tree, gives_lex_fault, gives_fault, parsed}
-use Rattle.pr_types.specs.declared.kind.ValueType.{ValueType}
-use Rattle.pr_types.specs.declared.kind.TypeFault.{TypeFault}
-use Rattle.pr_types.specs.Typed.{checked}
+use Rattle.pr_fields.specs.pr_parse.Parsed.{Parsed, gives_tree, gives_lex_fault, gives_fault, parsed}
+use Rattle.pr_fields.specs.pr_types.declared.kind.ValueType.{ValueType}
+use Rattle.pr_fields.specs.pr_types.declared.kind.TypeFault.{TypeFault}
+use Rattle.pr_fields.specs.pr_types.Typed.{checked}
 use Rattle.pr_rulefile.specs.declared.fields.RuleField.{RuleField}
 use Rattle.pr_rulefile.specs.declared.fields.RuleField.TheVariants as kind
 use Rattle.pr_rulefile.specs.declared.fields.Naming.{Naming}

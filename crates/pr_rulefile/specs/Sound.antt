@@ -2,9 +2,9 @@
 use Rattle.std.specs.Prelude.{◌≡◌, ◌≢◌, ℕ, true, List, [], All, MatchBool, Ok}
 use Rattle.pr_ast.specs.Tree.{Tree as Expression}
 use Rattle.pr_labels.specs.Names.{is_metric_name}
-use Rattle.pr_parse.specs.Parsed.{gives_tree, parsed}
-use Rattle.pr_types.specs.declared.kind.ValueType.{ValueType}
-use Rattle.pr_types.specs.Typed.{checked}
+use Rattle.pr_fields.specs.pr_parse.Parsed.{gives_tree, parsed}
+use Rattle.pr_fields.specs.pr_types.declared.kind.ValueType.{ValueType}
+use Rattle.pr_fields.specs.pr_types.Typed.{checked}
 use Rattle.pr_rulefile.specs.Rules.{Rule}
 use Rattle.pr_rulefile.specs.Groups.{Group}
 use Rattle.pr_rulefile.specs.File.{rule_file_of, gives_file}

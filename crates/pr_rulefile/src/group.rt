@@ -3,7 +3,7 @@ ghost use Rattle.std.specs.Prelude.{◌≡◌, ◌++◌, ◌∷◌, [], ◌||◌
 ghost use Rattle.std.specs.List.{flat_map, filter_map, list_any};
 ghost use Rattle.std.specs.Option.{option_copied, option_map};
 ghost use Rattle.std.specs.Str.{bytes_eq};
-ghost use Rattle.pr_words.specs.Names.{knows};
+ghost use Rattle.pr_labels.specs.pr_words.Names.{knows};
 ghost use Rattle.pr_yaml.specs.Tree.{tree_of, entry_tree_of};
 ghost use Rattle.pr_fields.specs.Nodes.{line_of, text_of, items_of, written};
 ghost use Rattle.pr_fields.specs.Problems.{by_items};
@@ -20,7 +20,7 @@ use pr_fields::{
     push_unknown, span_problems, span_under, text_of, text_problems, value_of, written,
     written_text,
 };
-use pr_words::{Items, Text};
+use pr_labels::words_crate::{Items, Text};
 use pr_yaml::{Entry, Node};
 use std::alloc::{AllocError, Global};
 use std::collections::BTreeSet;

@@ -10,7 +10,7 @@ use crate::file::file_at;
 use crate::gather::{GroupSink, RuleCount};
 use crate::rules::RuleFile;
 use pr_fields::{in_order, no_tree};
-use pr_words::Items;
+use pr_labels::words_crate::Items;
 use pr_yaml::{Node, YamlError, read as read_tree};
 use std::alloc::Global;
 

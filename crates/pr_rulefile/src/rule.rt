@@ -12,16 +12,16 @@ ghost use Rattle.pr_rulefile.specs.Rules.{naming_by, naming_of, is_alert, record
 
 use crate::fields::{Naming, RuleField, rule_field};
 use crate::rules::RuleDef;
+use pr_ast::time::Span;
+use pr_fields::grammar::no_span;
+use pr_fields::types::Checked;
 use pr_fields::{
     Problem, ProblemKind, expression_under, fields_of, fields_under, key_line_of, key_of,
     labels_problems, line_of, pairs_of, push, push_not_for_recording, push_unknown, put_labels,
     span_problems, span_under, text_of, text_problems, value_of, written, written_text,
 };
-use pr_grammar::no_span;
+use pr_labels::words_crate::{Items, Text};
 use pr_labels::{Pair, is_metric_name};
-use pr_time::Span;
-use pr_types::Checked;
-use pr_words::{Items, Text};
 use pr_yaml::{Entry, Node};
 use std::alloc::{AllocError, Global};
 use std::collections::BTreeMap;

@@ -3,11 +3,11 @@ use Rattle.std.proofs.Common.{◌≡◌, ℕ, Bool, true, false, cond, ◌||◌,
 use Rattle.std.specs.Prelude.{find}
 use Rattle.std.proofs.lemmas.List.{map-append}
 use Rattle.std.specs.List.{list_any}
-use Rattle.pr_labels.specs.declared.pair.Pair.{Pair}
-use Rattle.pr_labels.specs.Order.{labels_eq}
-use Rattle.pr_labels.specs.Rising.{IsRising, is_among}
-use Rattle.pr_labels.proofs.LabelOrder.{among_fold, rising_fold}
-use Rattle.pr_vectors.specs.Vectors.{in_label_order}
+use Rattle.pr_ast.specs.pr_labels.declared.pair.Pair.{Pair}
+use Rattle.pr_ast.specs.pr_labels.Order.{labels_eq}
+use Rattle.pr_ast.specs.pr_labels.Rising.{IsRising, is_among}
+use Rattle.pr_ast.proofs.LabelsLabelOrder.{among_fold, rising_fold}
+use Rattle.pr_query.specs.pr_vectors.Vectors.{in_label_order}
 use Rattle.pr_lineage.specs.Lineage.{previous}
 use Rattle.pr_rulefile.specs.Groups.{Group as Definition}
 use Rattle.pr_rulefile.specs.Rules.{Rule}

@@ -1,8 +1,8 @@
 -- What a rule's evaluation leaves of what was written before.
 use Rattle.std.proofs.Common.{◌≡◌, ℕ, List, [], ◌∷◌, ◌++◌, map, Result, Ok, Err, refl, sym, ap, ◌∙◌, reverse}
 use Rattle.std.proofs.lemmas.List.{reverse-append}
-use Rattle.pr_labels.specs.declared.pair.Pair.{Pair}
-use Rattle.pr_history.specs.declared.entry.Entry.{Entry}
+use Rattle.pr_ast.specs.pr_labels.declared.pair.Pair.{Pair}
+use Rattle.pr_lineage.specs.pr_history.declared.entry.Entry.{Entry}
 use Rattle.pr_puts.specs.Puts.{shown_entries, label_sets_of}
 use Rattle.pr_lineage.specs.declared.found.Found.{Found}
 use Rattle.pr_lineage.specs.Lineage.{Step, previous, previous_from}

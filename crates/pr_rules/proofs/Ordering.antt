@@ -4,20 +4,20 @@ use Rattle.std.specs.Prelude.{length}
 use Rattle.std.specs.declared.cmp.Ordering.{Ordering}
 use Rattle.std.specs.declared.cmp.Ordering.TheVariants.{Less, Equal, Greater}
 use Rattle.pr_num.specs.declared.value.Num.{Num}
-use Rattle.pr_labels.specs.declared.item.Item.{Item}
-use Rattle.pr_labels.specs.declared.pair.Pair.{Pair}
-use Rattle.pr_labels.specs.Order.{labels_cmp}
-use Rattle.pr_labels.specs.Rising.{IsRising, placed as placed_labels, with_labels}
-use Rattle.pr_labels.proofs.LabelOrder.{rising_fold, tied}
-use Rattle.pr_history.specs.declared.entry.Entry.{Entry}
-use Rattle.pr_vectors.specs.Functions.{least_twice}
+use Rattle.pr_ast.specs.pr_labels.declared.item.Item.{Item}
+use Rattle.pr_ast.specs.pr_labels.declared.pair.Pair.{Pair}
+use Rattle.pr_ast.specs.pr_labels.Order.{labels_cmp}
+use Rattle.pr_ast.specs.pr_labels.Rising.{IsRising, placed as placed_labels, with_labels}
+use Rattle.pr_ast.proofs.LabelsLabelOrder.{rising_fold, tied}
+use Rattle.pr_lineage.specs.pr_history.declared.entry.Entry.{Entry}
+use Rattle.pr_query.specs.pr_vectors.Functions.{least_twice}
 use Rattle.pr_query.specs.declared.value.Value.{Value}
 use Rattle.pr_query.specs.Answers.{go_on}
 use Rattle.pr_query.specs.Meaning.{meaning}
 use Rattle.pr_rulefile.specs.Rules.{Rule}
 use Rattle.pr_lineage.specs.declared.found.Found.{Found}
 use Rattle.pr_lineage.specs.Records.{beyond, exceeding}
-use Rattle.pr_tmpl.specs.declared.template.External.{External}
+use Rattle.pr_rulefile.specs.pr_tmpl.declared.template.External.{External}
 use Rattle.pr_rules.specs.declared.fault.RuleFailure.{RuleFailure}
 use Rattle.pr_rules.specs.declared.fault.RuleFault.{RuleFault}
 use Rattle.pr_rules.specs.Evaluations.{within_alerts, rule_outcome}

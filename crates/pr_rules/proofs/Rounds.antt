@@ -2,8 +2,8 @@
 use Rattle.std.proofs.Common.{◌≡◌, ℕ, List, [], ◌∷◌, ◌++◌, map, flat_map, fold, refl, sym, ap, ◌∙◌, append_assoc, append-nil}
 use Rattle.std.specs.Prelude.{◌==◌}
 use Rattle.std.proofs.lemmas.List.{map-append}
-use Rattle.pr_history.specs.declared.entry.Entry.{Entry}
-use Rattle.pr_history.specs.Admission.{put_all}
+use Rattle.pr_lineage.specs.pr_history.declared.entry.Entry.{Entry}
+use Rattle.pr_lineage.specs.pr_history.Admission.{put_all}
 use Rattle.pr_puts.proofs.Putting.{puts_admitted}
 use Rattle.pr_rulefile.specs.Groups.{Group as Definition}
 use Rattle.pr_rules.specs.declared.report.GroupReport.{GroupReport}

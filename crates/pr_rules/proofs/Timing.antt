@@ -3,9 +3,9 @@ use Rattle.std.proofs.Common.{◌≡◌, ℕ, ◌+◌, ◌<◌, ◌≤◌, Bool,
 use Rattle.std.specs.Prelude.{◌==◌, find}
 use Rattle.std.specs.List.{AllByRecursion, zip}
 use Rattle.std.proofs.lemmas.List.{reverse-append}
-use Rattle.pr_labels.specs.declared.pair.Pair.{Pair}
-use Rattle.pr_history.specs.declared.entry.Entry.{Entry}
-use Rattle.pr_history.specs.Admission.{put_all}
+use Rattle.pr_ast.specs.pr_labels.declared.pair.Pair.{Pair}
+use Rattle.pr_lineage.specs.pr_history.declared.entry.Entry.{Entry}
+use Rattle.pr_lineage.specs.pr_history.Admission.{put_all}
 use Rattle.pr_puts.specs.Puts.{marker}
 use Rattle.pr_rulefile.specs.Groups.{Group as Definition}
 use Rattle.pr_rulefile.specs.Rules.{Rule}

@@ -1,6 +1,6 @@
 -- How many samples an evaluation of a group reads at most.
 use Rattle.std.specs.Prelude.{ℕ, ◌+◌, ◌==◌, Bool, ◌&&◌, cond, nat_le, List, [], ◌∷◌, sum_by}
-use Rattle.pr_history.specs.declared.entry.Entry.{Entry}
+use Rattle.pr_lineage.specs.pr_history.declared.entry.Entry.{Entry}
 use Rattle.pr_query.specs.Cost.{PassedFor, cost}
 use Rattle.pr_lineage.specs.Records.{living_count, records}
 use Rattle.pr_lineage.specs.Restoring.{grace_period}

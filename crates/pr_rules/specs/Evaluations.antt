@@ -4,13 +4,13 @@ use Rattle.std.specs.Prelude.{ℕ, pred, Bool, true, false, cond, ◌==◌, nat_
 use Rattle.std.specs.List.{zip}
 use Rattle.pr_num.specs.declared.value.Num.{Num}
 use Rattle.pr_num.specs.declared.value.Point.TheVariants.{Value}
-use Rattle.pr_labels.specs.declared.item.Item.{Item}
-use Rattle.pr_labels.specs.declared.pair.Pair.{Pair}
-use Rattle.pr_history.specs.declared.append.Append.{Append}
-use Rattle.pr_history.specs.declared.entry.Entry.{Entry}
-use Rattle.pr_history.specs.Admission.{put_all}
+use Rattle.pr_ast.specs.pr_labels.declared.item.Item.{Item}
+use Rattle.pr_ast.specs.pr_labels.declared.pair.Pair.{Pair}
+use Rattle.pr_lineage.specs.pr_history.declared.append.Append.{Append}
+use Rattle.pr_lineage.specs.pr_history.declared.entry.Entry.{Entry}
+use Rattle.pr_lineage.specs.pr_history.Admission.{put_all}
 use Rattle.pr_puts.specs.Puts.{admitted, admissions, shown_entries, marker, markers, label_sets_of}
-use Rattle.pr_vectors.specs.Vectors.{element}
+use Rattle.pr_query.specs.pr_vectors.Vectors.{element}
 use Rattle.pr_query.specs.Answers.{go_on}
 use Rattle.pr_rulefile.specs.Rules.{Rule}
 use Rattle.pr_lineage.specs.declared.found.Found.{Found}

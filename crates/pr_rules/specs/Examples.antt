@@ -1,18 +1,18 @@
 -- Small rules to try the definitions on.
 use Rattle.std.specs.Prelude.{ℕ, ◌==◌, cond, true, false, List, [], ◌∷◌, codes, map, None, Some}
 use Rattle.pr_num.specs.declared.value.Num.{Num}
-use Rattle.pr_labels.specs.declared.item.Item.{Item}
-use Rattle.pr_labels.specs.declared.pair.Pair.{Pair}
-use Rattle.pr_labels.specs.LabelSet.{metric_label, named, pair_of}
+use Rattle.pr_ast.specs.pr_labels.declared.item.Item.{Item}
+use Rattle.pr_ast.specs.pr_labels.declared.pair.Pair.{Pair}
+use Rattle.pr_ast.specs.pr_labels.LabelSet.{metric_label, named, pair_of}
 use Rattle.pr_ast.specs.declared.names.BinOp.TheVariants as op
 use Rattle.pr_ast.specs.declared.names.Func.{Func}
 use Rattle.pr_ast.specs.declared.names.Func.TheVariants as func
 use Rattle.pr_ast.specs.Examples.{chosen, metric, one, whole_number}
 use Rattle.pr_ast.specs.Places.{nowhere}
 use Rattle.pr_ast.specs.Tree.{Tree, binary, call, range, sub}
-use Rattle.pr_history.specs.declared.entry.Entry.{Entry}
-use Rattle.pr_history.specs.Examples.{number, whole}
-use Rattle.pr_vectors.specs.Vectors.{element}
+use Rattle.pr_lineage.specs.pr_history.declared.entry.Entry.{Entry}
+use Rattle.pr_lineage.specs.pr_history.Examples.{number, whole}
+use Rattle.pr_query.specs.pr_vectors.Vectors.{element}
 use Rattle.pr_rulefile.specs.Rules.{Rule}
 use Rattle.pr_lineage.specs.Lineage.{came_to}
 use Rattle.pr_lineage.specs.Records.{evaluation}

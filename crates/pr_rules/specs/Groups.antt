@@ -1,7 +1,7 @@
 -- Groups of rules, with what happened to each rule.
 use Rattle.std.specs.Prelude.{ℕ, Bool, ◌&&◌, List, [], map, Option, Some, None, unwrap_or}
 use Rattle.std.specs.Str.{bytes_eq}
-use Rattle.pr_labels.specs.declared.pair.Pair.{Pair}
+use Rattle.pr_ast.specs.pr_labels.declared.pair.Pair.{Pair}
 use Rattle.pr_lineage.specs.Lineage.{Step}
 use Rattle.pr_rulefile.specs.Groups.{Group as Definition}
 use Rattle.pr_rulefile.specs.Rules.{Rule}

@@ -1,11 +1,11 @@
 -- How far samples are passed by an evaluation of a group, so that they are not read again.
 use Rattle.std.specs.Prelude.{◌≡◌, ℕ, ◌+◌, ◌≤◌, true, List, [], ◌∷◌, IfOk}
-use Rattle.pr_labels.specs.declared.pair.Pair.{Pair}
-use Rattle.pr_labels.specs.Rising.{is_among}
+use Rattle.pr_ast.specs.pr_labels.declared.pair.Pair.{Pair}
+use Rattle.pr_ast.specs.pr_labels.Rising.{is_among}
 use Rattle.pr_ast.specs.Tree.{Tree, number, text, select, range, sub, neg, binary, call, aggregate, none, more}
-use Rattle.pr_types.specs.Numbers.{ranges_in}
-use Rattle.pr_history.specs.declared.entry.Entry.{Entry}
-use Rattle.pr_history.specs.Lookback.{entries_until}
+use Rattle.pr_query.specs.pr_types.Numbers.{ranges_in}
+use Rattle.pr_lineage.specs.pr_history.declared.entry.Entry.{Entry}
+use Rattle.pr_lineage.specs.pr_history.Lookback.{entries_until}
 use Rattle.pr_query.specs.Cost.{PassedFor}
 use Rattle.pr_query.specs.Selection.{chosen_by, moment_of}
 use Rattle.pr_rules.specs.Costs.{PassedByRules}

@@ -2,11 +2,11 @@
 use Rattle.std.specs.Prelude.{ℕ, Bool, true, false, not, ◌&&◌, List, ◌++◌, map, filter, flat_map, find, length, sum_by, Option, Some, None}
 use Rattle.std.specs.List.{list_any, zip}
 use Rattle.std.specs.Str.{bytes_eq}
-use Rattle.pr_labels.specs.declared.pair.Pair.{Pair}
-use Rattle.pr_labels.specs.Order.{labels_eq}
-use Rattle.pr_history.specs.declared.entry.Entry.{Entry}
+use Rattle.pr_ast.specs.pr_labels.declared.pair.Pair.{Pair}
+use Rattle.pr_ast.specs.pr_labels.Order.{labels_eq}
+use Rattle.pr_lineage.specs.pr_history.declared.entry.Entry.{Entry}
 use Rattle.pr_puts.specs.Puts.{marker}
-use Rattle.pr_vectors.specs.Vectors.{in_label_order}
+use Rattle.pr_query.specs.pr_vectors.Vectors.{in_label_order}
 use Rattle.pr_lineage.specs.Lineage.{previous}
 use Rattle.pr_rulefile.specs.Groups.{Group as Definition}
 use Rattle.pr_rulefile.specs.Rules.{Rule}

@@ -1,8 +1,8 @@
 -- A replay: the groups of files are evaluated one after another, by their places, over a history.
 -- None of them waits.
 use Rattle.std.specs.Prelude.{ℕ, true, List, [], ◌∷◌, ◌++◌, fold}
-use Rattle.pr_history.specs.declared.entry.Entry.{Entry}
-use Rattle.pr_history.specs.Admission.{put_all}
+use Rattle.pr_lineage.specs.pr_history.declared.entry.Entry.{Entry}
+use Rattle.pr_lineage.specs.pr_history.Admission.{put_all}
 use Rattle.pr_rules.specs.declared.report.GroupReport.{GroupReport}
 use Rattle.pr_rules.specs.Evaluations.{GroupStep, group_step}
 use Rattle.pr_rules.specs.Groups.{Group}

@@ -3,24 +3,24 @@ use Rattle.std.specs.Prelude.{ℕ, Bool, true, false, List, [], ◌∷◌, codes
 use Rattle.std.specs.declared.cmp.Ordering.{Ordering}
 use Rattle.std.specs.declared.cmp.Ordering.TheVariants.{Less, Equal, Greater}
 use Rattle.pr_num.specs.declared.value.Num.{Num}
-use Rattle.pr_labels.specs.declared.item.Item.{Item}
-use Rattle.pr_labels.specs.declared.pair.Pair.{Pair}
-use Rattle.pr_labels.specs.Edits.{set_label, union_labels, without_name}
-use Rattle.pr_labels.specs.LabelSet.{metric_label, pair_of}
-use Rattle.pr_labels.specs.Order.{labels_cmp}
-use Rattle.pr_labels.specs.Rising.{IsRising}
-use Rattle.pr_history.specs.declared.entry.Entry.{Entry}
-use Rattle.pr_vectors.specs.Functions.{least_twice}
-use Rattle.pr_vectors.specs.Vectors.{element}
+use Rattle.pr_ast.specs.pr_labels.declared.item.Item.{Item}
+use Rattle.pr_ast.specs.pr_labels.declared.pair.Pair.{Pair}
+use Rattle.pr_ast.specs.pr_labels.Edits.{set_label, union_labels, without_name}
+use Rattle.pr_ast.specs.pr_labels.LabelSet.{metric_label, pair_of}
+use Rattle.pr_ast.specs.pr_labels.Order.{labels_cmp}
+use Rattle.pr_ast.specs.pr_labels.Rising.{IsRising}
+use Rattle.pr_lineage.specs.pr_history.declared.entry.Entry.{Entry}
+use Rattle.pr_query.specs.pr_vectors.Functions.{least_twice}
+use Rattle.pr_query.specs.pr_vectors.Vectors.{element}
 use Rattle.pr_query.specs.declared.fault.Fault.{Fault}
 use Rattle.pr_query.specs.declared.value.Value.{Value}
 use Rattle.pr_query.specs.declared.value.Value.TheVariants.{Scalar, Vector}
 use Rattle.pr_query.specs.Answers.{go_on}
 use Rattle.pr_query.specs.Meaning.{meaning}
-use Rattle.pr_tmpl.specs.declared.template.External.{External}
-use Rattle.pr_tmpl.specs.declared.template.Part.{Part}
-use Rattle.pr_tmpl.specs.Expansion.{expansion}
-use Rattle.pr_tmpl.specs.TemplateReading.{template_parts}
+use Rattle.pr_rulefile.specs.pr_tmpl.declared.template.External.{External}
+use Rattle.pr_rulefile.specs.pr_tmpl.declared.template.Part.{Part}
+use Rattle.pr_rulefile.specs.pr_tmpl.Expansion.{expansion}
+use Rattle.pr_rulefile.specs.pr_tmpl.TemplateReading.{template_parts}
 use Rattle.pr_rulefile.specs.Rules.{Rule}
 use Rattle.pr_lineage.specs.declared.found.Found.{Found}
 use Rattle.pr_lineage.specs.Records.{beyond}

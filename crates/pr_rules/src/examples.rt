@@ -1,7 +1,7 @@
 // What the definitions say of small rules.
 ghost use Rattle.std.specs.Prelude.{◌≡◌, codes, [], ◌∷◌, map, reverse, None, Some, false, true};
-ghost use Rattle.pr_labels.specs.LabelSet.{pair_of};
-ghost use Rattle.pr_history.specs.Examples.{m};
+ghost use Rattle.pr_ast.specs.pr_labels.LabelSet.{pair_of};
+ghost use Rattle.pr_lineage.specs.pr_history.Examples.{m};
 ghost use Rattle.pr_puts.specs.Puts.{marker};
 ghost use Rattle.pr_rules.specs.declared.fault.RuleFault.TheVariants.{LimitExceeded};
 ghost use Rattle.pr_rules.specs.Carried.{carried_by_rules, carried_numbers, carried_passed};

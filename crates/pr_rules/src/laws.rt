@@ -2,10 +2,10 @@
 ghost use Rattle.std.specs.Prelude.{◌≡◌, ℕ, ◌++◌, Bool, List, [], flat_map, map, slice_get, None, Some, Err, Ok, IfOk};
 ghost use Rattle.std.specs.List.{AllByRecursion, zip};
 ghost use Rattle.std.specs.Option.{option_and_then};
-ghost use Rattle.pr_history.specs.Admission.{put_all};
-ghost use Rattle.pr_history.specs.declared.entry.Entry.{Entry};
-ghost use Rattle.pr_labels.specs.declared.pair.Pair.{Pair};
-ghost use Rattle.pr_labels.specs.Rising.{IsRising, is_among};
+ghost use Rattle.pr_lineage.specs.pr_history.Admission.{put_all};
+ghost use Rattle.pr_lineage.specs.pr_history.declared.entry.Entry.{Entry};
+ghost use Rattle.pr_ast.specs.pr_labels.declared.pair.Pair.{Pair};
+ghost use Rattle.pr_ast.specs.pr_labels.Rising.{IsRising, is_among};
 ghost use Rattle.pr_lineage.specs.declared.found.Found.{Found};
 ghost use Rattle.pr_lineage.specs.Lineage.{previous};
 ghost use Rattle.pr_puts.specs.Puts.{admitted, shown_entries, label_sets_of};

@@ -18,4 +18,8 @@ pub use laws::{
     a_round_puts_what_is_admitted, an_evaluation_puts_its_entries, nothing_is_left_over_twice,
     results_are_in_label_order, rules_are_evaluated_at_rising_times, what_is_taken_has_its_number,
 };
+pub use pr_lineage as lineage;
+pub use pr_query as query_crate;
+pub use pr_rulefile as rulefile;
+pub use pr_rulefile::{fields_crate as fields_crate, kinds as kinds, parse as parse, tmpl as tmpl};
 pub use report::{GroupReport, Put, RuleOutcome, RuleReport};

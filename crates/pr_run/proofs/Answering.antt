@@ -8,10 +8,10 @@ use Rattle.pr_history.specs.declared.entry.Entry.{Entry}
 use Rattle.pr_outside.specs.Causes.{Rose}
 use Rattle.pr_outside.specs.Courses.{GoesOn, IsInTime}
 use Rattle.pr_outside.specs.Meant.{Folder, Store}
-use Rattle.pr_script.specs.FileNames.{have_distinct_names, is_name_of}
-use Rattle.pr_script.specs.declared.order.Numbered.{Numbered}
-use Rattle.pr_script.specs.declared.order.Order.{Order}
-use Rattle.pr_script.specs.declared.order.Order.TheVariants as order
+use Rattle.pr_reader.specs.pr_script.FileNames.{have_distinct_names, is_name_of}
+use Rattle.pr_reader.specs.pr_script.declared.order.Numbered.{Numbered}
+use Rattle.pr_reader.specs.pr_script.declared.order.Order.{Order}
+use Rattle.pr_reader.specs.pr_script.declared.order.Order.TheVariants as order
 use Rattle.pr_status.specs.Asks.{Asks, AsksBy}
 use Rattle.pr_status.specs.Ends.{Ends, LoadEnds, StopsBy, no_row}
 use Rattle.pr_status.specs.Outside.{AreTold, Held, NoneRose, Outside}
@@ -19,21 +19,21 @@ use Rattle.pr_status.specs.declared.status.Stop.{Stop}
 use Rattle.pr_status.specs.declared.status.Stop.TheVariants as stop
 use Rattle.pr_status.proofs.Ended.{ends_memory, ends_on, in_time_on, quiet, stops_on}
 use Rattle.pr_status.proofs.Streams.{appends_none}
-use Rattle.pr_notices.specs.Receivers.{Receiver}
+use Rattle.pr_text.specs.pr_notices.Receivers.{Receiver}
 use Rattle.pr_queue.specs.Queues.{Waiting}
 use Rattle.pr_queue.specs.Standing as waiting
 use Rattle.pr_text.specs.Printed.{shown_report}
-use Rattle.pr_world.proofs.Refusals.{reload_of_found}
-use Rattle.pr_world.specs.Loading.{FileToLoad, all_found, found_outcome, reload_asked}
-use Rattle.pr_world.specs.Outcome.{IsNotBefore, is_refusal, refuse, unless_backwards}
-use Rattle.pr_world.specs.Settings.{of_a_run}
-use Rattle.pr_world.specs.Step.{Step, next, step_by}
-use Rattle.pr_world.specs.World.{World}
-use Rattle.pr_world.specs.declared.event.Event.{Event}
-use Rattle.pr_world.specs.declared.event.Event.TheVariants as event
-use Rattle.pr_world.specs.declared.event.NamedFile.{NamedFile}
-use Rattle.pr_world.specs.declared.report.Report.{Report}
-use Rattle.pr_world.specs.declared.report.Report.TheVariants.{Backwards}
+use Rattle.pr_text.proofs.WorldRefusals.{reload_of_found}
+use Rattle.pr_text.specs.pr_world.Loading.{FileToLoad, all_found, found_outcome, reload_asked}
+use Rattle.pr_text.specs.pr_world.Outcome.{IsNotBefore, is_refusal, refuse, unless_backwards}
+use Rattle.pr_text.specs.pr_world.Settings.{of_a_run}
+use Rattle.pr_text.specs.pr_world.Step.{Step, next, step_by}
+use Rattle.pr_text.specs.pr_world.World.{World}
+use Rattle.pr_text.specs.pr_world.declared.event.Event.{Event}
+use Rattle.pr_text.specs.pr_world.declared.event.Event.TheVariants as event
+use Rattle.pr_text.specs.pr_world.declared.event.NamedFile.{NamedFile}
+use Rattle.pr_text.specs.pr_world.declared.report.Report.{Report}
+use Rattle.pr_text.specs.pr_world.declared.report.Report.TheVariants.{Backwards}
 use Rattle.pr_run.specs.Events.{KeepEnds}
 use Rattle.pr_run.specs.Files.{HasNames}
 use Rattle.pr_run.specs.Keeping.{KeepsProgress, Progress, Run, TellsOf, progress_after}

@@ -3,7 +3,7 @@ use Rattle.std.proofs.Common.{◌≡◌, ◌≢◌, ℕ, ◌≤◌, List, [], Op
 use Rattle.std.specs.Io.KnownBytes.{Appends}
 use Rattle.pr_history.specs.declared.entry.Entry.{Entry}
 use Rattle.pr_outside.specs.declared.keeping.Row.{Row}
-use Rattle.pr_row.specs.Histories.{history_of}
+use Rattle.pr_text.specs.pr_row.Histories.{history_of}
 use Rattle.pr_status.specs.Ends.{StopsBy, WriteEnds, no_row}
 use Rattle.pr_outside.specs.Meant.{Output}
 use Rattle.pr_status.specs.Outside.{Outside}
@@ -11,7 +11,7 @@ use Rattle.pr_status.specs.declared.status.Stop.{Stop}
 use Rattle.pr_status.specs.declared.status.Stop.TheVariants as stop
 use Rattle.pr_status.proofs.Ended.{quiet}
 use Rattle.pr_text.specs.Printed.{shown_report}
-use Rattle.pr_world.specs.declared.report.Report.TheVariants.{Opened}
+use Rattle.pr_text.specs.pr_world.declared.report.Report.TheVariants.{Opened}
 use Rattle.pr_run.specs.Beginning.{first_text}
 use Rattle.pr_run.specs.Told.{bad_row_text, told_of}
 use Rattle.pr_run.proofs.Turns.{told_none}

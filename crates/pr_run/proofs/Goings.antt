@@ -5,9 +5,9 @@ use Rattle.std.specs.Io.KnownBytes.{Appends, IsAtEnd}
 use Rattle.pr_words.specs.Lines.{lines_of}
 use Rattle.pr_history.specs.declared.entry.Entry.{Entry}
 use Rattle.pr_outside.specs.Meant.{Store}
-use Rattle.pr_script.specs.declared.order.Numbered.{Numbered}
-use Rattle.pr_script.specs.Orders.{orders_of, orders_after}
-use Rattle.pr_script.proofs.Blocks.{orders_none}
+use Rattle.pr_reader.specs.pr_script.declared.order.Numbered.{Numbered}
+use Rattle.pr_reader.specs.pr_script.Orders.{orders_of, orders_after}
+use Rattle.pr_reader.proofs.ScriptBlocks.{orders_none}
 use Rattle.pr_status.specs.Asks.{Asks, AsksAt}
 use Rattle.pr_status.specs.Ends.{Place, at_input, at_file, at_store, at_output, anywhere, place_of}
 use Rattle.pr_status.specs.Outside.{AreTold, Held, Outside}
@@ -20,7 +20,7 @@ use Rattle.pr_reader.specs.Reading.{HandsOrder, Takes, TakesOrders, IsCutAt}
 use Rattle.pr_reader.specs.Taken.{IsPrompt}
 use Rattle.pr_reader.proofs.Whole.{prompt_all, prompt_on}
 use Rattle.pr_reader.proofs.Orders.{takes_none, takes_on, follow}
-use Rattle.pr_world.specs.World.{World, start}
+use Rattle.pr_text.specs.pr_world.World.{World, start}
 use Rattle.pr_run.specs.Front.{IsFront, IsPromptAt}
 use Rattle.pr_run.specs.Keeping.{KeepsProgress, Progress, Run, TellsOf, progress_after, unanswered}
 use Rattle.pr_run.specs.Rows.{AreKept}

@@ -1,12 +1,12 @@
 -- The notices of rules, offered one rule after another.
 use Rattle.std.proofs.Common.{◌≡◌, ℕ, suc, ◌+◌, ◌<◌, List, [], ◌∷◌, ◌++◌, length, drop, get_or, refl, sym, ap, ◌∙◌, subst, append_assoc, append-nil, arith}
 use Rattle.std.proofs.Math.Seq.{drop-cons}
-use Rattle.pr_lineage.specs.declared.sending.Sending.{Sending}
-use Rattle.pr_notices.specs.Receivers.{Receiver, after_offer}
-use Rattle.pr_notices.proofs.Offers.{all_offered_on, none_offered}
+use Rattle.pr_text.specs.pr_lineage.declared.sending.Sending.{Sending}
+use Rattle.pr_text.specs.pr_notices.Receivers.{Receiver, after_offer}
+use Rattle.pr_text.proofs.NoticesOffers.{all_offered_on, none_offered}
 use Rattle.pr_queue.specs.Queues.{Waiting}
 use Rattle.pr_queue.specs.Standing.{StandsFor}
-use Rattle.pr_rules.specs.declared.report.RuleReport.{RuleReport}
+use Rattle.pr_text.specs.pr_rules.declared.report.RuleReport.{RuleReport}
 use Rattle.pr_run.specs.Replies.{all_sent}
 
 -- some notices were offered, and with those that are to come they are all

@@ -9,8 +9,8 @@ use Rattle.pr_history.specs.declared.entry.Entry.{Entry}
 use Rattle.pr_outside.specs.Kept.{StartsRows}
 use Rattle.pr_outside.specs.Meant.{Store}
 use Rattle.pr_outside.specs.declared.keeping.Row.{Row}
-use Rattle.pr_row.specs.Histories.{history_after, history_of, taken_by}
-use Rattle.pr_row.specs.Rows.{decoded, encoded}
+use Rattle.pr_text.specs.pr_row.Histories.{history_after, history_of, taken_by}
+use Rattle.pr_text.specs.pr_row.Rows.{decoded, encoded}
 use Rattle.pr_run.specs.Keeping.{TellsOf}
 use Rattle.pr_run.specs.Rows.{AreFirst, AreKept, OverRows}
 

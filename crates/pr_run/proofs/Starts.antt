@@ -6,7 +6,7 @@ use Rattle.pr_outside.specs.Causes.{Rose}
 use Rattle.pr_outside.specs.Kept.{StartsRows}
 use Rattle.pr_outside.specs.Meant.{Folder, Store}
 use Rattle.pr_outside.specs.declared.keeping.Row.{Row}
-use Rattle.pr_row.specs.Histories.{history_of}
+use Rattle.pr_text.specs.pr_row.Histories.{history_of}
 use Rattle.pr_status.specs.Asks.{Asks}
 use Rattle.pr_status.specs.Ends.{Ends, Place, at_row, place_of}
 use Rattle.pr_status.specs.Outside.{Outside}

@@ -6,8 +6,8 @@ use Rattle.std.specs.Io.KnownBytes.{Appends}
 use Rattle.pr_words.specs.Lines.{lines_of}
 use Rattle.pr_history.specs.declared.entry.Entry.{Entry}
 use Rattle.pr_outside.specs.Meant.{Input, Store}
-use Rattle.pr_script.specs.declared.order.Numbered.{Numbered}
-use Rattle.pr_script.specs.Orders.{orders_of}
+use Rattle.pr_reader.specs.pr_script.declared.order.Numbered.{Numbered}
+use Rattle.pr_reader.specs.pr_script.Orders.{orders_of}
 use Rattle.pr_status.specs.Asks.{AsksAt}
 use Rattle.pr_status.specs.Ends.{Place, at_input, at_file, at_store, at_output, anywhere, place_of}
 use Rattle.pr_status.specs.Outside.{AreTold, Held, Outside}
@@ -15,7 +15,7 @@ use Rattle.pr_status.specs.declared.status.Stop.{Stop}
 use Rattle.pr_status.specs.declared.status.Stop.TheVariants as stop
 use Rattle.pr_outside.specs.Causes.{Rose}
 use Rattle.pr_outside.specs.declared.keeping.Row.{Row}
-use Rattle.pr_row.specs.Histories.{history_of}
+use Rattle.pr_text.specs.pr_row.Histories.{history_of}
 use Rattle.pr_status.specs.Ends.{ReadEnds}
 use Rattle.pr_status.proofs.Ended.{quiet}
 use Rattle.pr_status.proofs.Streams.{appends_on}
@@ -23,7 +23,7 @@ use Rattle.pr_reader.specs.LineReading.{ahead}
 use Rattle.pr_reader.specs.Reading.{HandsOrder, Takes, TakesOrders, IsCutAt}
 use Rattle.pr_reader.specs.Taken.{IsPrompt}
 use Rattle.pr_reader.proofs.Whole.{prompt_all, prompt_on}
-use Rattle.pr_world.specs.World.{World}
+use Rattle.pr_text.specs.pr_world.World.{World}
 use Rattle.pr_run.specs.Front.{IsFront, IsPromptAt, TellsRow, is_between}
 use Rattle.pr_run.specs.Keeping.{KeepsProgress, Progress, Run, TellsOf, unanswered}
 use Rattle.pr_run.specs.Rows.{AreKept, IsBadIn}

@@ -3,18 +3,18 @@ use Rattle.std.proofs.Common.{◌≡◌, ℕ, zero, suc, ◌+◌, ◌≤◌, Boo
 use Rattle.std.specs.Prelude.{flat_map}
 use Rattle.pr_history.specs.declared.entry.Entry.{Entry}
 use Rattle.pr_outside.specs.Meant.{Content}
-use Rattle.pr_world.specs.Outcome.{Outcome, refuse, accept, Change, nothing_else, targets_become, groups_become, reloads, begins_anew}
-use Rattle.pr_world.specs.Settings.{of_a_run}
-use Rattle.pr_world.specs.Step.{Step, next, outcome, step_by, time_of}
-use Rattle.pr_world.specs.Loading.{FileToLoad, all_found, found_outcome, reload_asked}
-use Rattle.pr_world.specs.Outcome.{unless_backwards}
-use Rattle.pr_world.specs.World.{World}
-use Rattle.pr_world.specs.declared.event.Event.{Event}
-use Rattle.pr_world.specs.declared.report.Report.{Report}
-use Rattle.pr_world.specs.declared.report.Report.TheVariants.{Opened}
-use Rattle.pr_script.specs.declared.order.Numbered.{Numbered}
-use Rattle.pr_script.specs.declared.order.Order.{Order}
-use Rattle.pr_script.specs.declared.order.Order.TheVariants as order
+use Rattle.pr_text.specs.pr_world.Outcome.{Outcome, refuse, accept, Change, nothing_else, targets_become, groups_become, reloads, begins_anew}
+use Rattle.pr_text.specs.pr_world.Settings.{of_a_run}
+use Rattle.pr_text.specs.pr_world.Step.{Step, next, outcome, step_by, time_of}
+use Rattle.pr_text.specs.pr_world.Loading.{FileToLoad, all_found, found_outcome, reload_asked}
+use Rattle.pr_text.specs.pr_world.Outcome.{unless_backwards}
+use Rattle.pr_text.specs.pr_world.World.{World}
+use Rattle.pr_text.specs.pr_world.declared.event.Event.{Event}
+use Rattle.pr_text.specs.pr_world.declared.report.Report.{Report}
+use Rattle.pr_text.specs.pr_world.declared.report.Report.TheVariants.{Opened}
+use Rattle.pr_reader.specs.pr_script.declared.order.Numbered.{Numbered}
+use Rattle.pr_reader.specs.pr_script.declared.order.Order.{Order}
+use Rattle.pr_reader.specs.pr_script.declared.order.Order.TheVariants as order
 use Rattle.pr_text.specs.Printed.{shown_report}
 use Rattle.pr_status.specs.Asks.{asked_by}
 use Rattle.pr_status.specs.Outside.{AreTold, Held}

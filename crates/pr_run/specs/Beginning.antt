@@ -3,7 +3,7 @@ use Rattle.std.specs.Prelude.{ℕ, List, [], Option, Result, Ok, Err}
 use Rattle.std.specs.Io.KnownBytes.{Appends}
 use Rattle.pr_history.specs.declared.entry.Entry.{Entry}
 use Rattle.pr_outside.specs.Meant.{Store}
-use Rattle.pr_world.specs.World.{World}
+use Rattle.pr_text.specs.pr_world.World.{World}
 use Rattle.pr_run.specs.Keeping.{KeepsProgress, Run, unanswered}
 use Rattle.pr_run.specs.Told.{bad_row_text, told_of}
 

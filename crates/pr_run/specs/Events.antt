@@ -4,8 +4,8 @@ use Rattle.pr_outside.specs.Meant.{Store}
 use Rattle.pr_status.specs.Ends.{Ends}
 use Rattle.pr_status.specs.Outside.{Outside}
 use Rattle.pr_status.specs.declared.status.Stop.{Stop}
-use Rattle.pr_world.specs.declared.event.Event.{Event}
-use Rattle.pr_world.specs.declared.event.Event.TheVariants as event
+use Rattle.pr_text.specs.pr_world.declared.event.Event.{Event}
+use Rattle.pr_text.specs.pr_world.declared.event.Event.TheVariants as event
 use Rattle.pr_run.specs.Rows.{IsBadIn}
 
 -- whether it names files

@@ -2,9 +2,9 @@
 -- pass it over.
 use Rattle.std.specs.Prelude.{◌≡◌, List, [], ◌∷◌, ◌++◌, map, Option, Some, None, Result, Ok, Err}
 use Rattle.pr_loading.specs.Loading.{Holding, Made, goes_on, stops_at}
-use Rattle.pr_world.specs.Loading.{FileToLoad, file_found}
-use Rattle.pr_world.specs.declared.event.NamedFile.{NamedFile}
-use Rattle.pr_world.specs.declared.report.Report.{Report}
+use Rattle.pr_text.specs.pr_world.Loading.{FileToLoad, file_found}
+use Rattle.pr_text.specs.pr_world.declared.event.NamedFile.{NamedFile}
+use Rattle.pr_text.specs.pr_world.declared.report.Report.{Report}
 use Rattle.pr_run.specs.Told.{holding_of}
 use Rattle.pr_run.specs.declared.files.Loaded.{Loaded}
 

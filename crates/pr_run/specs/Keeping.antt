@@ -4,9 +4,9 @@ use Rattle.pr_history.specs.declared.entry.Entry.{Entry}
 use Rattle.pr_outside.specs.Meant.{Store}
 use Rattle.pr_queue.specs.Queues.{Waiting}
 use Rattle.pr_queue.specs.Standing as waiting
-use Rattle.pr_row.specs.Histories.{history_of}
-use Rattle.pr_world.specs.World.{World, start}
-use Rattle.pr_script.specs.declared.order.Numbered.{Numbered}
+use Rattle.pr_text.specs.pr_row.Histories.{history_of}
+use Rattle.pr_text.specs.pr_world.World.{World, start}
+use Rattle.pr_reader.specs.pr_script.declared.order.Numbered.{Numbered}
 use Rattle.pr_status.specs.Outside.{Held}
 use Rattle.pr_run.specs.Told.{State, begun, turn}
 

@@ -8,3 +8,5 @@ pub mod Files
 pub mod Keeping
 pub mod Standing
 pub mod Beginning
+pub use Rattle.pr_history.specs as pr_history
+pub use Rattle.pr_reader.specs.pr_script as pr_script

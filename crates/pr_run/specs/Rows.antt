@@ -3,8 +3,8 @@ use Rattle.std.specs.Prelude.{◌≡◌, ℕ, ◌≤◌, List, length, map, take
 use Rattle.pr_history.specs.declared.entry.Entry.{Entry}
 use Rattle.pr_outside.specs.Meant.{Store}
 use Rattle.pr_outside.specs.declared.keeping.Row.{Row}
-use Rattle.pr_row.specs.Rows.{encoded}
-use Rattle.pr_row.specs.Histories.{history_of}
+use Rattle.pr_text.specs.pr_row.Rows.{encoded}
+use Rattle.pr_text.specs.pr_row.Histories.{history_of}
 
 -- Whether these rows may be those at the start of a command, by the rows that its store tells before
 -- it, and by those that it tells at its end. A store that tells them before the command begins with

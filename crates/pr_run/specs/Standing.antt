@@ -2,7 +2,7 @@
 use Rattle.std.specs.Prelude.{◌≡◌, ◌⊎◌, ℕ, ◌≤◌, ◌||◌, List, [], ◌∷◌, ◌++◌, length, take, Option, Result, Ok, Err}
 use Rattle.std.specs.Io.KnownBytes.{Appends}
 use Rattle.pr_history.specs.declared.entry.Entry.{Entry}
-use Rattle.pr_script.specs.declared.order.Numbered.{Numbered}
+use Rattle.pr_reader.specs.pr_script.declared.order.Numbered.{Numbered}
 use Rattle.pr_outside.specs.Meant.{Store}
 use Rattle.pr_queue.specs.Standing as waiting
 use Rattle.pr_reader.specs.Reading.{Takes}
@@ -10,9 +10,9 @@ use Rattle.pr_status.specs.Asks.{Asks}
 use Rattle.pr_status.specs.Outside.{Held, Outside}
 use Rattle.pr_status.specs.declared.status.Stop.{Stop}
 use Rattle.pr_status.specs.declared.status.Stop.TheVariants as stop
-use Rattle.pr_world.specs.Step.{Step}
-use Rattle.pr_world.specs.World.{World}
-use Rattle.pr_world.specs.declared.report.Report.{Report}
+use Rattle.pr_text.specs.pr_world.Step.{Step}
+use Rattle.pr_text.specs.pr_world.World.{World}
+use Rattle.pr_text.specs.pr_world.declared.report.Report.{Report}
 use Rattle.pr_run.specs.Keeping.{KeepsProgress, Progress, Run, TellsOf, unanswered, progress_after}
 use Rattle.pr_run.specs.Replies.{Reply}
 use Rattle.pr_run.specs.Told.{Turn, answers, asks_of, begun, told_of, turn}

@@ -4,18 +4,18 @@ use Rattle.std.specs.Prelude.{ℕ, Bool, cond, nat_lt, List, [], ◌∷◌, ◌+
 use Rattle.std.specs.List.{list_any}
 use Rattle.pr_words.specs.Lines.{lines_of}
 use Rattle.pr_history.specs.declared.entry.Entry.{Entry}
-use Rattle.pr_notices.specs.Receivers.{Receiver}
-use Rattle.pr_world.specs.declared.event.NamedFile.{NamedFile}
-use Rattle.pr_world.specs.declared.report.Report.{Report}
-use Rattle.pr_world.specs.declared.report.Report.TheVariants.{Opened}
-use Rattle.pr_world.specs.Loading.{FileToLoad, Holding, holds, is_missing, is_too_large, file_found, reload_asked}
-use Rattle.pr_world.specs.Settings.{of_a_run}
-use Rattle.pr_world.specs.Step.{Step, next}
-use Rattle.pr_world.specs.World.{World, start}
-use Rattle.pr_script.specs.declared.order.Order.{Order}
-use Rattle.pr_script.specs.declared.order.Order.TheVariants as order
-use Rattle.pr_script.specs.declared.order.Numbered.{Numbered}
-use Rattle.pr_script.specs.Orders.{orders_of}
+use Rattle.pr_text.specs.pr_notices.Receivers.{Receiver}
+use Rattle.pr_text.specs.pr_world.declared.event.NamedFile.{NamedFile}
+use Rattle.pr_text.specs.pr_world.declared.report.Report.{Report}
+use Rattle.pr_text.specs.pr_world.declared.report.Report.TheVariants.{Opened}
+use Rattle.pr_text.specs.pr_world.Loading.{FileToLoad, Holding, holds, is_missing, is_too_large, file_found, reload_asked}
+use Rattle.pr_text.specs.pr_world.Settings.{of_a_run}
+use Rattle.pr_text.specs.pr_world.Step.{Step, next}
+use Rattle.pr_text.specs.pr_world.World.{World, start}
+use Rattle.pr_reader.specs.pr_script.declared.order.Order.{Order}
+use Rattle.pr_reader.specs.pr_script.declared.order.Order.TheVariants as order
+use Rattle.pr_reader.specs.pr_script.declared.order.Numbered.{Numbered}
+use Rattle.pr_reader.specs.pr_script.Orders.{orders_of}
 use Rattle.pr_text.specs.Printed.{shown_report}
 use Rattle.pr_loading.specs.Loading as loading
 use Rattle.pr_loading.specs.Loading.{holding_by}

@@ -3,24 +3,24 @@ ghost use Rattle.std.specs.Prelude.{◌≡◌, ℕ, ◌<◌, ◌≤◌, ◌^◌,
 ghost use Rattle.std.specs.declared.option.Option.{Option};
 ghost use Rattle.pr_outside.specs.Contents.{IsFound, IsWithinLimit, file_limit};
 ghost use Rattle.pr_loading.specs.Loading.{holding_by};
-ghost use Rattle.pr_rulefile.specs.File.{rule_file_of};
+ghost use Rattle.pr_text.specs.pr_rulefile.File.{rule_file_of};
 ghost use Rattle.pr_status.specs.Asks.{AsksBy};
 ghost use Rattle.pr_status.specs.Ends.{LoadEnds};
 ghost use Rattle.pr_status.specs.Outside.{AreTold, Held};
-ghost use Rattle.pr_world.specs.Loading.{all_found, file_found, read_first, with_bytes};
-ghost use Rattle.pr_world.specs.Rounds.{first_problem, groups_by};
-ghost use Rattle.pr_world.specs.declared.event.NamedFile as named;
+ghost use Rattle.pr_text.specs.pr_world.Loading.{all_found, file_found, read_first, with_bytes};
+ghost use Rattle.pr_text.specs.pr_world.Rounds.{first_problem, groups_by};
+ghost use Rattle.pr_text.specs.pr_world.declared.event.NamedFile as named;
 ghost use Rattle.pr_run.specs.Files.{HasNames, found_of, read_as};
 ghost use Rattle.pr_run.specs.Told.{asks_for, content_by, holding_of};
 
-use pr_fields::Problem;
 use pr_loading::{Taker, load_each};
 use pr_outside::{Files, Found};
-use pr_rulefile::{RuleError, read};
-use pr_script::FileToLoad;
+use pr_reader::script::FileToLoad;
 use pr_status::Stop;
+use pr_text::fields_crate::Problem;
+use pr_text::rulefile::{RuleError, read};
+use pr_text::world::{NamedFile, Report};
 use pr_words::{Items, Text};
-use pr_world::{NamedFile, Report};
 use std::alloc::{AllocError, Global};
 
 // The refusal of a file with these problems.
@@ -114,7 +114,7 @@ impl Loaded {
 }
 
 impl Taker<FileToLoad> for Loaded {
-    ghost use Rattle.pr_world.specs.Loading.{FileToLoad};
+    ghost use Rattle.pr_text.specs.pr_world.Loading.{FileToLoad};
     ghost use Rattle.pr_run.specs.Files.{FitsLoaded, with_file};
 
     ghost file = { λ (f : FileToLoad). f.file };

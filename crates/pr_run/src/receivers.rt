@@ -1,12 +1,12 @@
 // What orders do to the receivers of notices.
 ghost use Rattle.std.specs.Prelude.{◌≡◌, List, OnOk};
-ghost use Rattle.pr_notices.specs.Receivers.{Receiver, after_offer};
+ghost use Rattle.pr_text.specs.pr_notices.Receivers.{Receiver, after_offer};
 ghost use Rattle.pr_queue.specs.Standing as waiting;
 ghost use Rattle.pr_run.specs.Replies.{all_sent, is_not_new, receivers_after};
 
 use pr_queue::{Joined, Notifier};
-use pr_rules::RuleReport;
-use pr_world::Report;
+use pr_text::rules_crate::RuleReport;
+use pr_text::world::Report;
 use std::alloc::AllocError;
 
 /// Whether a name that was to be added is refused.

@@ -3,13 +3,13 @@ ghost use Rattle.std.specs.Prelude.{◌≡◌, ◌≢◌, ◌++◌, ℕ, List, [
 ghost use Rattle.std.specs.Io.KnownBytes.{Appends};
 ghost use Rattle.pr_history.specs.declared.entry.Entry.{Entry};
 ghost use Rattle.pr_outside.specs.Kept.{StartsRows};
-ghost use Rattle.pr_row.specs.Histories.{history_of};
+ghost use Rattle.pr_text.specs.pr_row.Histories.{history_of};
 ghost use Rattle.pr_status.specs.Ends.{Ends, KnowsLength, WriteEnds};
 ghost use Rattle.pr_status.specs.Opening.{OpensBy};
 ghost use Rattle.pr_status.specs.Outside.{AreTold, Held, Outside};
 ghost use Rattle.pr_status.specs.Status.{IsLong};
 ghost use Rattle.pr_status.specs.declared.status.Stop.TheVariants as stop;
-ghost use Rattle.pr_world.specs.World.{World};
+ghost use Rattle.pr_text.specs.pr_world.World.{World};
 ghost use Rattle.pr_run.specs.Beginning.{Begins, first_text};
 ghost use Rattle.pr_run.specs.Front.{TellsRow};
 ghost use Rattle.pr_run.specs.Keeping.{KeepsProgress, Progress, unanswered};
@@ -18,18 +18,18 @@ ghost use Rattle.pr_run.specs.Runs.{EndsBy, EndsOver};
 ghost use Rattle.pr_run.specs.Standing.{Grows, HasGrown, Leaves, Sends};
 ghost use Rattle.pr_run.specs.Told.{bad_row_text, told_of, turn};
 ghost use Rattle.pr_text.specs.Printed.{shown_report};
-ghost use Rattle.pr_world.specs.declared.report.Report.TheVariants.{Opened};
+ghost use Rattle.pr_text.specs.pr_world.declared.report.Report.TheVariants.{Opened};
 
 use crate::session::Session;
 use crate::worlds::Worlds;
-use pr_kinds::push_number;
 use pr_outside::{Files, Keeper, Sink, Source};
 use pr_reader::Reader;
-use pr_row::laws::rows_decode_as_their_entries;
-use pr_script::Numbered;
+use pr_reader::script::Numbered;
 use pr_status::{Stop, send};
+use pr_text::kinds::push_number;
 use pr_text::push_report;
-use pr_world::Report;
+use pr_text::row::laws::rows_decode_as_their_entries;
+use pr_text::world::Report;
 use std::alloc::{AllocError, Global};
 
 /// Writes the line that a command begins with which opened a store of so many rows.

@@ -1,16 +1,16 @@
 // A run of the script, order by order.
 ghost use Rattle.std.specs.Prelude.{◌≡◌, ◌++◌, ◌||◌, ℕ, List, [], length, nat_lt, false, true, Some, IfSome, IfNone, IsSome, OnOk, IfErr};
-ghost use Rattle.pr_notices.specs.Receivers.{Receiver};
+ghost use Rattle.pr_text.specs.pr_notices.Receivers.{Receiver};
 ghost use Rattle.pr_queue.specs.Standing as waiting;
 ghost use Rattle.pr_status.specs.Ends.{Ends};
 ghost use Rattle.pr_status.specs.Outside.{AreTold, Held, Outside};
-ghost use Rattle.pr_world.specs.Outcome.{IsNotBefore, is_refusal};
-ghost use Rattle.pr_world.specs.Settings.{of_a_run};
-ghost use Rattle.pr_world.specs.Loading.{reload_asked};
-ghost use Rattle.pr_world.specs.Step.{HasDistinctFiles, next};
-ghost use Rattle.pr_world.specs.World.{World};
+ghost use Rattle.pr_text.specs.pr_world.Outcome.{IsNotBefore, is_refusal};
+ghost use Rattle.pr_text.specs.pr_world.Settings.{of_a_run};
+ghost use Rattle.pr_text.specs.pr_world.Loading.{reload_asked};
+ghost use Rattle.pr_text.specs.pr_world.Step.{HasDistinctFiles, next};
+ghost use Rattle.pr_text.specs.pr_world.World.{World};
 ghost use Rattle.pr_text.specs.Printed.{shown_report};
-ghost use Rattle.pr_script.specs.declared.order.Order.TheVariants as order;
+ghost use Rattle.pr_reader.specs.pr_script.declared.order.Order.TheVariants as order;
 ghost use Rattle.pr_run.specs.Events.{has_files};
 ghost use Rattle.pr_run.specs.Keeping.{KeepsProgress, Progress};
 ghost use Rattle.pr_run.specs.Replies.{bad_line_reply, flush_reply, receiver_reply, receivers_after};
@@ -23,11 +23,11 @@ use crate::receivers::{is_not_new, notify};
 use crate::worlds::Worlds;
 use pr_outside::{Files, Keeper};
 use pr_queue::Notifier;
-use pr_script::{FilesToLoad, Numbered, Order};
+use pr_reader::script::{FilesToLoad, Numbered, Order};
 use pr_status::Stop;
+use pr_text::world::{Event, Report};
 use pr_text::{push_bad_line, push_batch, push_joined, push_no_receiver, push_report};
 use pr_time::Ms;
-use pr_world::{Event, Report};
 use std::alloc::{AllocError, Global};
 use std::marker::Model;
 

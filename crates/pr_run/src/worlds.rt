@@ -3,16 +3,16 @@ ghost use Rattle.std.specs.Prelude.{◌≡◌, IfOk, IsSome, OnErr, OnOk};
 ghost use Rattle.pr_outside.specs.Kept.{StartsRows};
 ghost use Rattle.pr_outside.specs.Meant.{Store};
 ghost use Rattle.pr_status.specs.Opening.{OpensBy};
-ghost use Rattle.pr_world.specs.Settings.{of_a_run};
-ghost use Rattle.pr_world.specs.Step.{HasDistinctFiles, next};
-ghost use Rattle.pr_world.specs.World.{World};
+ghost use Rattle.pr_text.specs.pr_world.Settings.{of_a_run};
+ghost use Rattle.pr_text.specs.pr_world.Step.{HasDistinctFiles, next};
+ghost use Rattle.pr_text.specs.pr_world.World.{World};
 ghost use Rattle.pr_run.specs.Events.{KeepEnds};
 ghost use Rattle.pr_run.specs.Keeping.{Starts, TellsOf};
 
 use pr_outside::Keeper;
 use pr_status::Stop;
+use pr_text::world::{Event, Report};
 use pr_time::Ms;
-use pr_world::{Event, Report};
 use std::alloc::Global;
 
 /// What keeps a world over the rows of a store, which is handed to it at each call, and answers the

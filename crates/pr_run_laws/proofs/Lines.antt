@@ -5,11 +5,11 @@ use Rattle.std.proofs.lemmas.List.{length-take}
 use Rattle.pr_history.specs.declared.entry.Entry.{Entry}
 use Rattle.pr_outside.specs.declared.keeping.Row.{Row}
 use Rattle.pr_row.specs.Rows.{encoded}
-use Rattle.pr_text.specs.Printed.{shown_report}
+use Rattle.pr_top.specs.pr_text.Printed.{shown_report}
 use Rattle.pr_status.specs.Asks.{Asks, AsksAt, asked_by}
 use Rattle.pr_status.specs.Ends.{at_file}
-use Rattle.pr_run.specs.Front.{TellsRow}
-use Rattle.pr_run.specs.Told.{bad_row_text, kept_after, told_of}
+use Rattle.pr_top.specs.pr_run.Front.{TellsRow}
+use Rattle.pr_top.specs.pr_run.Told.{bad_row_text, kept_after, told_of}
 use Rattle.pr_run_laws.specs.Examples.{added, reloaded}
 
 pub none : decimal 0 ≡ 48 ∷ []

@@ -4,7 +4,7 @@ use Rattle.pr_history.specs.declared.entry.Entry.{Entry}
 use Rattle.pr_outside.specs.declared.course.Course.TheVariants.{Going}
 use Rattle.pr_outside.specs.declared.keeping.Row.{Row}
 use Rattle.pr_status.specs.Outside.{Outside}
-use Rattle.pr_run.specs.Told.{Answer}
+use Rattle.pr_top.specs.pr_run.Told.{Answer}
 
 -- these bytes were taken, these rows are kept, and so many files were asked for
 abbrev pub outside_of : List ℕ → List Row → ℕ → Outside

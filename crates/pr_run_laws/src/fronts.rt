@@ -5,7 +5,7 @@ ghost use Rattle.pr_history.specs.declared.entry.Entry.{Entry};
 ghost use Rattle.pr_outside.specs.declared.keeping.Row.{Row};
 ghost use Rattle.pr_row.specs.Rows.{encoded};
 ghost use Rattle.pr_status.specs.Ends.{at_file, at_output, at_row, at_store, anywhere};
-ghost use Rattle.pr_run.specs.Front.{IsBadStart, IsFront, TellsRow};
+ghost use Rattle.pr_top.specs.pr_run.Front.{IsBadStart, IsFront, TellsRow};
 ghost use Rattle.pr_run_laws.specs.Examples.{added, outside_of, reloaded};
 
 /// A store that refuses the third order's rows leaves the rows and the texts of the two before.

@@ -1,8 +1,8 @@
 //! What a run begins with.
 ghost use Rattle.std.specs.Prelude.{◌≡◌, List, codes, [], ◌∷◌, None, Some};
 ghost use Rattle.pr_outside.specs.declared.keeping.Row.{Row};
-ghost use Rattle.pr_run.specs.Rows.{AreFirst};
-ghost use Rattle.pr_run.specs.Told.{bad_row_text};
+ghost use Rattle.pr_top.specs.pr_run.Rows.{AreFirst};
+ghost use Rattle.pr_top.specs.pr_run.Told.{bad_row_text};
 
 /// A bad row is told by its index.
 pub fn a_bad_row_is_told_by_its_index()

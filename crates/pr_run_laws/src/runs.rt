@@ -1,6 +1,6 @@
 //! What the definitions say of small runs: over rows, anew, and where something is refused.
 ghost use Rattle.std.specs.Prelude.{◌≡◌, codes, [], None, true};
-ghost use Rattle.pr_run.specs.Told.{kept, refuses, told};
+ghost use Rattle.pr_top.specs.pr_run.Told.{kept, refuses, told};
 
 /// What was kept is told again after a restart.
 pub fn a_restart_tells_what_was_kept()

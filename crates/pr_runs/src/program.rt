@@ -1,6 +1,6 @@
 // The program, as rows run it.
+use pr_program::top::promtool;
 use pr_run_rows::{Outside, Program};
-use pr_top::promtool;
 use std::alloc::Global;
 
 /// The program.

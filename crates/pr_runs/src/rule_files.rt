@@ -1,6 +1,6 @@
 // The groups of rule files.
 use pr_labels::Pair;
-use pr_rulefile::{RuleDef, read};
+use pr_slide_rows::rulefile::{RuleDef, read};
 use std::alloc::{AllocError, Global};
 
 fn show_pairs(alloc: Global, out: &mut String, pairs: &[Pair]) -> Result<(), AllocError> {

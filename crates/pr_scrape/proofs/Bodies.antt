@@ -4,7 +4,7 @@ use Rattle.std.specs.declared.result.Result.TheVariants.{Ok, Err}
 use Rattle.std.specs.Option.{option_copied}
 use Rattle.pr_labels.specs.declared.pair.Pair.{Pair}
 use Rattle.pr_history.specs.declared.entry.Entry.{Entry}
-use Rattle.pr_expo_line.specs.declared.place.ExpoKind.{ExpoKind}
+use Rattle.pr_expo.specs.pr_expo_line.declared.place.ExpoKind.{ExpoKind}
 use Rattle.pr_expo.specs.declared.exposition.ExpoError.{ExpoError}
 use Rattle.pr_expo.specs.declared.exposition.ExpoError.TheVariants.{Fault}
 use Rattle.pr_expo.specs.declared.exposition.Exposition.{Exposition}

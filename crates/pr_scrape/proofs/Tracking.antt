@@ -9,7 +9,7 @@ use Rattle.pr_labels.specs.Order.{labels_eq}
 use Rattle.pr_labels.specs.Rising.{is_among, with_labels}
 use Rattle.pr_labels.proofs.LabelOrder.{labels_decide}
 use Rattle.pr_history.specs.declared.entry.Entry.{Entry}
-use Rattle.pr_head.specs.Holds.{Holds}
+use Rattle.pr_intake.specs.pr_head.Holds.{Holds}
 use Rattle.pr_world.specs.Scrapes.{marker, markers}
 use Rattle.pr_intake.specs.Intake.{Puts, Series}
 use Rattle.pr_intake.proofs.Intake.{puts_none}

@@ -2,7 +2,7 @@
 ghost use Rattle.std.specs.Prelude.{◌≡◌, [], ◌∷◌, ◌<◌, ◌^◌, List, None, OnOk, OnErr, IfOk, length};
 ghost use Rattle.std.specs.Option.{ForSome, option_copied};
 ghost use Rattle.pr_history.specs.declared.entry.Entry.{Entry};
-ghost use Rattle.pr_head.specs.Holds.{Holds};
+ghost use Rattle.pr_intake.specs.pr_head.Holds.{Holds};
 ghost use Rattle.pr_expo.specs.Families.{exposition_of};
 ghost use Rattle.pr_world.specs.Scrapes.{about, failed, gone_of, marker, reported, sample_count_of, scrape_of, scraped, scraped_by, up_of};
 ghost use Rattle.pr_intake.specs.Intake.{HasTaken, HasTakenFront, Puts};
@@ -10,8 +10,8 @@ ghost use Rattle.pr_intake.specs.Intake.{HasTaken, HasTakenFront, Puts};
 use crate::known::Known;
 use crate::named::metric_of;
 use pr_expo::{ExpoError, Line};
-use pr_head::Head;
 use pr_history::Entry;
+use pr_intake::head::Head;
 use pr_intake::{marker, put, put_markers};
 use pr_labels::Labels;
 use pr_num::{Num, Point};

@@ -3,15 +3,15 @@ ghost use Rattle.std.specs.Prelude.{◌≡◌, [], List, true, IfOk, IfSome, OnO
 ghost use Rattle.pr_labels.specs.declared.pair.Pair.{Pair};
 ghost use Rattle.pr_labels.specs.Rising.{with_labels};
 ghost use Rattle.pr_history.specs.declared.entry.Entry.{Entry};
-ghost use Rattle.pr_head.specs.Holds.{Holds};
+ghost use Rattle.pr_intake.specs.pr_head.Holds.{Holds};
 ghost use Rattle.pr_world.specs.Scrapes.{dropped_count, kept_sets, markers, offered_entries, offers};
 ghost use Rattle.pr_intake.specs.Intake.{HasTakenFront, Puts};
 
 use crate::made::ScrapedLabels;
 use crate::tally::{Tally, put_lines};
 use pr_expo::Line;
-use pr_head::Head;
 use pr_history::Entry;
+use pr_intake::head::Head;
 use pr_intake::{put_markers, set_of};
 use pr_labels::Labels;
 use pr_time::Ms;

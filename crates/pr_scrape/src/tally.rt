@@ -3,7 +3,7 @@ ghost use Rattle.std.specs.Prelude.{◌≡◌, [], ◌∷◌, ◌++◌, ◌+◌,
 ghost use Rattle.std.specs.List.{cons_option};
 ghost use Rattle.pr_labels.specs.declared.pair.Pair.{Pair};
 ghost use Rattle.pr_history.specs.declared.entry.Entry.{Entry};
-ghost use Rattle.pr_head.specs.Holds.{Holds};
+ghost use Rattle.pr_intake.specs.pr_head.Holds.{Holds};
 ghost use Rattle.pr_world.specs.Scrapes.{dropped_count, offered_entries, is_shown, kept_sets, offers, refused_count};
 ghost use Rattle.pr_intake.specs.Intake.{HasTakenFront, Puts};
 ghost use Rattle.pr_scrape.specs.Tallying.{Tallies};
@@ -11,8 +11,8 @@ ghost use Rattle.pr_scrape.specs.Tallying.{Tallies};
 use crate::made::ScrapedLabels;
 use crate::offered::offer_of;
 use pr_expo::Line;
-use pr_head::Head;
 use pr_history::{Append, Entry};
+use pr_intake::head::Head;
 use pr_intake::{is_shown, put};
 use pr_labels::Labels;
 use pr_time::Ms;

@@ -2,7 +2,7 @@
 ghost use Rattle.std.specs.Prelude.{◌≡◌, [], ◌<◌, ◌^◌, List, OnOk, OnErr, IfOk, length};
 ghost use Rattle.std.specs.Option.{ForSome, option_copied};
 ghost use Rattle.pr_history.specs.declared.entry.Entry.{Entry};
-ghost use Rattle.pr_head.specs.Holds.{Holds};
+ghost use Rattle.pr_intake.specs.pr_head.Holds.{Holds};
 ghost use Rattle.pr_world.specs.Scrapes.{gone_of, scrape_of};
 ghost use Rattle.pr_world.specs.Targets.{Target, fail_step, gone_step, tracked_at, nothing_scraped, scrape_step, tracked_of, with_tracked, without_target};
 ghost use Rattle.pr_intake.specs.Intake.{HasTaken, HasTakenFront};
@@ -11,7 +11,7 @@ ghost use Rattle.pr_scrape.specs.Knowing.{Knows};
 use crate::calls;
 use crate::known::Known;
 use indexmap::IndexMap;
-use pr_head::Head;
+use pr_intake::head::Head;
 use pr_labels::Labels;
 use pr_time::Ms;
 use pr_words::Items;

@@ -18,7 +18,7 @@ use Rattle.pr_num.proofs.FormsOnly.{only_number_texts}
 use Rattle.pr_labels.specs.declared.pair.Pair.{Pair}
 use Rattle.pr_words.specs.Fields.{without_trailing, first_field, after_field, last_field, before_last_field}
 use Rattle.pr_words.proofs.Decimals.{printed_of_read}
-use Rattle.pr_series.specs.SeriesReading.{series_labels}
+use Rattle.pr_row.specs.pr_series.SeriesReading.{series_labels}
 use Rattle.pr_row.specs.Points.{point_read, point_of}
 use Rattle.pr_script.specs.Script.{is_comment_line, is_passed_over, written_time, series_of, some_text, add_of, query_of, add_in, query_in, target_by, target_of, occasion_by, occasion_of, scrape_in, eval_of, eval_in, restart_in, alerts_in, fail_in, gone_in, group_event, whole_event, takes_body, is_body_line}
 use Rattle.pr_script.specs.declared.script.Occasion.{Occasion}
@@ -26,7 +26,7 @@ use Rattle.pr_script.proofs.Blocks.{both_left, both_right}
 use Rattle.pr_script.proofs.FieldTexts.{trailing_text, first_text, last_text}
 use Rattle.pr_script.proofs.NamedFiles.{split_at_place}
 use Rattle.pr_script.proofs.NumberTexts.{number_ascii}
-use Rattle.pr_kinds.proofs.PlainTexts.{plain_text}
+use Rattle.pr_world.proofs.KindsPlainTexts.{plain_text}
 use Rattle.pr_world.specs.declared.event.Event.{Event}
 use Rattle.pr_world.specs.declared.event.Event.TheVariants.{Scrape, Fail, Gone, Restart, Alerts}
 use Rattle.pr_world.specs.Loading.{FileToLoad}

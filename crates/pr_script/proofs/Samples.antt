@@ -3,9 +3,9 @@ use Rattle.std.proofs.Common.{◌≡◌, ℕ, List, Some, None, Bool, true, fals
 use Rattle.std.specs.Prelude.{cond}
 use Rattle.std.specs.Str.{is_utf8}
 use Rattle.pr_labels.specs.declared.pair.Pair.{Pair}
-use Rattle.pr_series.specs.SeriesGrammar.{ReadsLabels}
-use Rattle.pr_series.specs.SeriesReading.{series_labels}
-use Rattle.pr_series.proofs.SeriesEnds.{labels_read, reading_given}
+use Rattle.pr_row.specs.pr_series.SeriesGrammar.{ReadsLabels}
+use Rattle.pr_row.specs.pr_series.SeriesReading.{series_labels}
+use Rattle.pr_row.proofs.SeriesSeriesEnds.{labels_read, reading_given}
 use Rattle.pr_script.specs.Script.{series_of}
 
 of_read : (text : List ℕ) (b : Bool) (ls : List Pair) → cond b (series_labels text) None ≡ Some ls → ReadsLabels text ls

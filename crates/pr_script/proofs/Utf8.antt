@@ -1,7 +1,7 @@
 -- Whether bytes are a text, by what reading them answers.
 use Rattle.std.proofs.Common.{◌≡◌, ℕ, Bool, true, false, List, [], ◌∷◌, length, ◌==◌, Some, None, sym, refl}
 use Rattle.std.specs.Str.{IsUtf8, is_utf8}
-use Rattle.pr_series.specs.SeriesReading.{series_labels}
+use Rattle.pr_row.specs.pr_series.SeriesReading.{series_labels}
 use Rattle.pr_script.specs.Script.{some_text, series_of}
 use Rattle.std.proofs.lemmas.Str.{IsUtf8-from_is_utf8, is_utf8-from_IsUtf8}
 

@@ -6,7 +6,7 @@ use Rattle.std.specs.Str.{bytes_eq, is_utf8}
 use Rattle.pr_num.specs.declared.value.Point.{Point}
 use Rattle.pr_labels.specs.declared.pair.Pair.{Pair}
 use Rattle.pr_labels.specs.LabelSet.{metric_label, value_of}
-use Rattle.pr_series.specs.SeriesReading.{series_labels}
+use Rattle.pr_row.specs.pr_series.SeriesReading.{series_labels}
 use Rattle.pr_words.specs.Decimals.{plain_decimal}
 use Rattle.pr_words.specs.Fields.{without_trailing, first_field, after_field, last_field, before_last_field}
 use Rattle.pr_row.specs.Points.{point_of}

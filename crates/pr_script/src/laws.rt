@@ -1,7 +1,7 @@
 // Laws of the definitions that the program's contract cites.
 ghost use Rattle.std.specs.Prelude.{◌≡◌, ℕ, ◌+◌, List, ◌∷◌, ◌++◌, length, Some, true, false};
 ghost use Rattle.std.specs.Str.{is_utf8};
-ghost use Rattle.pr_series.specs.SeriesGrammar.{ReadsLabels};
+ghost use Rattle.pr_row.specs.pr_series.SeriesGrammar.{ReadsLabels};
 ghost use Rattle.pr_labels.specs.declared.pair.Pair.{Pair};
 ghost use Rattle.pr_script.specs.Orders.{order_of, orders_of, orders_after};
 ghost use Rattle.pr_script.specs.Script.{series_of, is_passed_over, is_body_line};

@@ -16,4 +16,5 @@ pub use examples::{
 pub use file_names::{FileToLoad, FilesToLoad};
 pub use laws::{lines_that_are_no_text_are_refused, samples_have_label_sets};
 pub use order::{Numbered, Order, Started, read_order};
+pub use pr_world as world;
 pub use script::{is_passed_over, push_body_line};

@@ -1,12 +1,12 @@
 // The lines of a script, and the events that they spell.
 ghost use Rattle.std.specs.Prelude.{◌≡◌, ◌++◌, IfOk, OnErr, MatchOption, codes, string_bytes, true, false};
 ghost use Rattle.std.specs.Str.{bytes_eq, is_utf8};
-ghost use Rattle.pr_series.specs.SeriesReading.{series_labels};
+ghost use Rattle.pr_row.specs.pr_series.SeriesReading.{series_labels};
 ghost use Rattle.pr_script.specs.Script.{is_comment_line, is_passed_over, written_time, series_of, some_text, add_of, query_of, add_in, query_in, target_by, target_of, occasion_of, eval_in, restart_in, alerts_in, fail_in, gone_in, group_event, whole_event, is_body_line, body_text};
 
 use pr_labels::{Labels, METRIC_LABEL};
 use pr_row::read_point;
-use pr_series::{TextFault, read_series_text};
+use pr_row::series::{TextFault, read_series_text};
 use pr_time::Ms;
 use pr_words::{Text, plain_decimal, split_first, split_last, without_trailing};
 use pr_world::Event;

@@ -14,4 +14,6 @@ mod successive;
 mod window;
 
 pub use laws::what_was_passed_is_no_more_than_the_range;
+pub use pr_head as head;
+pub use pr_range as range;
 pub use sliding::SlidingRanges;

@@ -1,16 +1,16 @@
 // A head with ranges of both kinds over it, and how they answer the lines of a row.
 ghost use Rattle.std.specs.Prelude.{◌≡◌, ◌<◌, ◌≤ℤ◌, false, length, IfSome};
-ghost use Rattle.pr_range.specs.Asks.{HasArgument, takes_argument};
+ghost use Rattle.pr_continued.specs.pr_range.Asks.{HasArgument, takes_argument};
 
 use pr_ast::Expr;
 use pr_continued::carried;
-use pr_head::{Append, Head};
+use pr_continued::parse::parse;
+use pr_continued::range::{Ask, PlainRanges, RangeFault, RangeFn, Ranges};
 use pr_labels::Labels;
 use pr_num::{Num, Point, read, write};
-use pr_parse::parse;
-use pr_range::{Ask, PlainRanges, RangeFault, RangeFn, Ranges};
 use pr_series::read_series_text;
 use pr_slide::SlidingRanges;
+use pr_slide::head::{Append, Head};
 use pr_time::Ms;
 use pr_words::Steps;
 use std::alloc::{AllocError, Global};

@@ -4,4 +4,5 @@
 mod both;
 mod row;
 
+pub use pr_continued::{parse as parse, rulefile as rulefile};
 pub use row::tell_ranges;

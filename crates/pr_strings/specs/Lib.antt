@@ -5,3 +5,5 @@ pub mod Language
 pub mod Quoted
 pub mod StringAnswer
 pub mod Escapes
+pub use Rattle.pr_words.specs as pr_words
+pub use Rattle.pr_forms.specs as pr_forms

@@ -13,5 +13,7 @@ pub use laws::{
     digits_go_on_while_a_character_can_come, digits_of_an_escape_write_its_character,
     one_byte_decides, quoted_texts_read_back, strings_are_functions_of_their_texts,
 };
+pub use pr_forms as forms;
+pub use pr_words as words_crate;
 pub use reader::{is_open_at, read_string};
 pub use writer::write_string;

@@ -6,8 +6,8 @@ use Rattle.std.specs.Str.{bytes_eq}
 use Rattle.std.proofs.lemmas.Bool.{false≢true}
 use Rattle.std.proofs.lemmas.List.{map-append}
 use Rattle.pr_words.specs.Names.{is_among}
-use Rattle.pr_world.specs.declared.event.NamedFile.{NamedFile}
-use Rattle.pr_verdict.specs.RuleFiles.{beside, rule_file_names, with_name}
+use Rattle.pr_test_texts.specs.pr_world.declared.event.NamedFile.{NamedFile}
+use Rattle.pr_test_texts.specs.pr_verdict.RuleFiles.{beside, rule_file_names, with_name}
 use Rattle.pr_test_command.specs.Running.{IsRuleFile}
 use Rattle.pr_test_command.specs.Taking.{AreKept, with_wrong}
 use Rattle.pr_test_command.specs.declared.rules.Rules.{Rules}

@@ -7,7 +7,7 @@ use Rattle.std.proofs.lemmas.Bool.Decides.{nat_tests}
 use Rattle.std.proofs.lemmas.List.{get_or-reverse, length-reverse}
 use Rattle.std.proofs.lemmas.List.Sums.{passes_at_first}
 use Rattle.std.proofs.lemmas.Str.{IsCharBoundary-after_ascii, IsCharBoundary-start}
-use Rattle.pr_verdict.specs.RuleFiles.{is_slash}
+use Rattle.pr_test_texts.specs.pr_verdict.RuleFiles.{is_slash}
 
 slash_is_ascii : (b : ℕ) → is_slash b ≡ true → b < 128
 slash_is_ascii b e = grind (arith, nat_tests)

@@ -5,12 +5,12 @@ use Rattle.std.proofs.lemmas.List.{map-append}
 use Rattle.pr_outside.specs.Meant.{Content}
 use Rattle.pr_status.specs.Outside.{AreTold, Held}
 use Rattle.pr_loading.specs.Loading.{Holding, holds, is_missing, is_too_large, Walk, holding_by, walk}
-use Rattle.pr_rulefile.specs.File.{RuleReading, gives_file, gives_problems, groups_given, rule_file_of, rules_given}
-use Rattle.pr_checks.specs.Problems.{problem_line}
-use Rattle.pr_checks.specs.RuleFiles.{missing, too_large}
-use Rattle.pr_rules.specs.Reloads.{LoadedFile}
-use Rattle.pr_world.specs.Rounds.{all_loaded}
-use Rattle.pr_world.specs.declared.event.NamedFile.{NamedFile}
+use Rattle.pr_test_texts.specs.pr_rulefile.File.{RuleReading, gives_file, gives_problems, groups_given, rule_file_of, rules_given}
+use Rattle.pr_test_texts.specs.pr_checks.Problems.{problem_line}
+use Rattle.pr_test_texts.specs.pr_checks.RuleFiles.{missing, too_large}
+use Rattle.pr_test_texts.specs.pr_rules.Reloads.{LoadedFile}
+use Rattle.pr_test_texts.specs.pr_world.Rounds.{all_loaded}
+use Rattle.pr_test_texts.specs.pr_world.declared.event.NamedFile.{NamedFile}
 use Rattle.pr_unit.specs.Loaded.{AreShort}
 use Rattle.pr_test_texts.specs.TestsTold.{RulesLoaded, and_rules, all_rules, none_loaded, rules_by, rules_held}
 use Rattle.pr_test_command.specs.Running.{IsRuleFile, loaded_of}

@@ -2,10 +2,10 @@
 use Rattle.std.specs.Prelude.{◌≡◌, ◌<◌, ◌^◌, List, length, map}
 use Rattle.std.specs.List.{AllByRecursion, IsDistinct}
 use Rattle.std.specs.Str.{bytes_eq}
-use Rattle.pr_rulefile.specs.File.{gives_file, groups_given, rule_file_of}
-use Rattle.pr_rules.specs.Reloads.{LoadedFile}
+use Rattle.pr_test_texts.specs.pr_rulefile.File.{gives_file, groups_given, rule_file_of}
+use Rattle.pr_test_texts.specs.pr_rules.Reloads.{LoadedFile}
 use Rattle.pr_testfile.specs.declared.tests.TestFile.{TestFile}
-use Rattle.pr_world.specs.declared.event.NamedFile.{NamedFile}
+use Rattle.pr_test_texts.specs.pr_world.declared.event.NamedFile.{NamedFile}
 
 -- a rule file with its groups; bytes that are none have none
 abbrev pub loaded_of : NamedFile → LoadedFile

@@ -3,11 +3,11 @@ use Rattle.std.specs.Prelude.{ℕ, ◌<◌, List, [], ◌∷◌, ◌++◌, flat_
 use Rattle.std.specs.List.{AllByRecursion, IsDistinct}
 use Rattle.std.specs.Str.{bytes_eq}
 use Rattle.pr_loading.specs.Loading.{Holding, holds, is_missing, is_too_large, Made, goes_on}
-use Rattle.pr_rulefile.specs.File.{RuleReading, gives_file, gives_problems, rule_file_of}
-use Rattle.pr_checks.specs.Problems.{problem_line}
-use Rattle.pr_checks.specs.RuleFiles.{missing, too_large}
+use Rattle.pr_test_texts.specs.pr_rulefile.File.{RuleReading, gives_file, gives_problems, rule_file_of}
+use Rattle.pr_test_texts.specs.pr_checks.Problems.{problem_line}
+use Rattle.pr_test_texts.specs.pr_checks.RuleFiles.{missing, too_large}
 use Rattle.pr_testfile.specs.File.{plain_file}
-use Rattle.pr_world.specs.declared.event.NamedFile.{NamedFile}
+use Rattle.pr_test_texts.specs.pr_world.declared.event.NamedFile.{NamedFile}
 use Rattle.pr_test_texts.specs.TestsTold.{RulesLoaded, TestsFound, these_tests, no_tests}
 use Rattle.pr_test_command.specs.Running.{IsRuleFile, loaded_of}
 use Rattle.pr_test_command.specs.declared.reading.Tests.{Tests}

@@ -6,8 +6,8 @@ ghost use Rattle.pr_status.specs.Outside.{AreTold, Held, Outside};
 ghost use Rattle.pr_check_loops.specs.FileChecks.{MeansFileCheck};
 ghost use Rattle.pr_loading.specs.Loading.{holding_by};
 ghost use Rattle.pr_testfile.specs.File.{plain_file};
-ghost use Rattle.pr_verdict.specs.RuleFiles.{rule_file_names};
-ghost use Rattle.pr_verdict.specs.Verdict.{verdict};
+ghost use Rattle.pr_test_texts.specs.pr_verdict.RuleFiles.{rule_file_names};
+ghost use Rattle.pr_test_texts.specs.pr_verdict.Verdict.{verdict};
 ghost use Rattle.pr_test_texts.specs.FailureText.{failure_text};
 ghost use Rattle.pr_test_texts.specs.TestsTold.{all_rules, are_failures, lines_of, lines_text, lines_with, rule_names, success_line, testing_text, tests_in, tests_told};
 ghost use Rattle.pr_test_command.specs.Running.{CanRun, loaded_of};
@@ -17,14 +17,14 @@ use crate::names::rule_file_names;
 use crate::reading::{Tests, tests_in};
 use crate::rules::{Rules, load_rules};
 use pr_check_loops::{FileCheck, check_files};
-use pr_checks::push_failed;
 use pr_outside::{Files, Sink};
 use pr_status::{Status, Stop};
 use pr_test_print::write_failure;
+use pr_test_texts::checks::push_failed;
+use pr_test_texts::verdict::Failure;
+use pr_test_texts::world::NamedFile;
 use pr_testfile::TestFile;
 use pr_unit::run_tests;
-use pr_verdict::Failure;
-use pr_world::NamedFile;
 use std::alloc::{AllocError, Global};
 
 /// The check of test files: each is read whole with its rule files, and its tests are run.

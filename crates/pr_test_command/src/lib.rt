@@ -7,4 +7,6 @@ mod reading;
 mod rules;
 
 pub use check::{RuleTests, test_rules};
+pub use pr_testfile::kinds as kinds;
+pub use pr_unit::{range as range, slide as slide};
 pub use rules::{Rules, load_rules};

@@ -2,7 +2,7 @@
 ghost use Rattle.std.specs.Prelude.{◌≡◌, ◌≤◌, IfOk, OnOk, length, map, position, reverse, string_bytes};
 ghost use Rattle.std.specs.List.{position_or_len};
 ghost use Rattle.pr_words.specs.Names.{is_among};
-ghost use Rattle.pr_verdict.specs.RuleFiles.{beside, folder, is_slash, rule_file_names, with_name};
+ghost use Rattle.pr_test_texts.specs.pr_verdict.RuleFiles.{beside, folder, is_slash, rule_file_names, with_name};
 ghost use Rattle.pr_test_command.specs.Names.{is_absolute};
 
 use pr_words::Text;

@@ -2,13 +2,13 @@
 ghost use Rattle.std.specs.Prelude.{◌≡◌, ◌++◌, ◌<◌, ◌^◌, ℕ, List, Option, Some, IfOk, length, flat_map};
 ghost use Rattle.pr_outside.specs.Contents.{IsFound, IsWithinLimit};
 ghost use Rattle.pr_loading.specs.Loading.{holding_by};
-ghost use Rattle.pr_checks.specs.Problems.{problem_line};
+ghost use Rattle.pr_test_texts.specs.pr_checks.Problems.{problem_line};
 ghost use Rattle.pr_testfile.specs.Reading.{test_file_of};
 ghost use Rattle.pr_test_texts.specs.TestsTold.{no_tests, tests_by, tests_in};
 ghost use Rattle.pr_test_command.specs.Taking.{found_of, HasInterval};
 
-use pr_checks::{missing, push_lines, too_large};
 use pr_outside::Found;
+use pr_test_texts::checks::{missing, push_lines, too_large};
 use pr_testfile::{Problem, TestError, TestFile, read};
 use pr_words::Items;
 use std::alloc::{AllocError, Global};

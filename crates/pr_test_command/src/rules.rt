@@ -1,22 +1,22 @@
 // The rule files of names: each is read, and what is wrong is told of all of them.
 ghost use Rattle.std.specs.Prelude.{◌≡◌, ◌++◌, ◌∷◌, ◌<◌, ◌^◌, [], ℕ, List, Option, Some, IfOk, OnOk, flat_map, length, map, string_bytes};
 ghost use Rattle.pr_outside.specs.Contents.{IsFound, IsWithinLimit};
-ghost use Rattle.pr_checks.specs.Problems.{problem_line};
+ghost use Rattle.pr_test_texts.specs.pr_checks.Problems.{problem_line};
 ghost use Rattle.pr_loading.specs.Loading.{holding_by};
-ghost use Rattle.pr_rulefile.specs.File.{rule_file_of};
+ghost use Rattle.pr_test_texts.specs.pr_rulefile.File.{rule_file_of};
 ghost use Rattle.pr_status.specs.Asks.{AsksBy};
 ghost use Rattle.pr_status.specs.Ends.{LoadEnds};
 ghost use Rattle.pr_status.specs.Outside.{AreTold, Held};
 ghost use Rattle.pr_test_texts.specs.TestsTold.{all_rules};
 ghost use Rattle.pr_test_command.specs.Taking.{AreKept, rules_of, with_held, with_reading, with_wrong};
 
-use pr_checks::{missing, push_lines, too_large};
 use pr_loading::{Taker, load_each};
 use pr_outside::{Files, Found};
-use pr_rulefile::{Problem, RuleError, check};
 use pr_status::Stop;
+use pr_test_texts::checks::{missing, push_lines, too_large};
+use pr_test_texts::rulefile::{Problem, RuleError, check};
+use pr_test_texts::world::NamedFile;
 use pr_words::{Items, Text};
-use pr_world::NamedFile;
 use std::alloc::{AllocError, Global};
 use std::mem::replace;
 

@@ -2,16 +2,16 @@
 #![tactic(auto, using(pr_labels::proofs::Fronts::front_on, pr_strings::proofs::Fronts::front_after))]
 
 ghost use Rattle.std.specs.Prelude.{◌≡◌, ◌-◌, ◌++◌, OnOk, OnErr, codes, decimal, length, map, take};
-ghost use Rattle.pr_testfile.specs.File.{plain_file};
-ghost use Rattle.pr_testfile.specs.Tests.{plain_test};
+ghost use Rattle.pr_test_texts.specs.pr_testfile.File.{plain_file};
+ghost use Rattle.pr_test_texts.specs.pr_testfile.Tests.{plain_test};
 ghost use Rattle.pr_test_texts.specs.FailureText.{check_line, expected_word, failure_text, got_word, kind_of, time_by, time_of, time_text};
 
 use crate::shown::push_shown;
 use crate::times::push_time;
-use pr_kinds::{push_number, whole_or_none};
-use pr_testfile::{Test, TestFile};
+use pr_test_texts::kinds::{push_number, whole_or_none};
+use pr_test_texts::testfile::{Test, TestFile};
+use pr_test_texts::verdict::{Failure, Shown};
 use pr_time::Ms;
-use pr_verdict::{Failure, Shown};
 use std::alloc::AllocError;
 
 #[tactic(auto, unfolding(pr_test_texts::specs::FailureText::expected_word))]

@@ -8,10 +8,10 @@ ghost use Rattle.pr_test_texts.specs.FailureText.{alert_line, sample_line, line,
 
 use crate::labels::push_list;
 use pr_labels::{Item, Labels};
-use pr_lineage::Found;
 use pr_num::Num;
-use pr_text::{push_query_fault, push_value};
-use pr_verdict::Shown;
+use pr_test_texts::lineage::Found;
+use pr_test_texts::text_crate::{push_query_fault, push_value};
+use pr_test_texts::verdict::Shown;
 use std::alloc::AllocError;
 
 // A label set behind the word that begins its line.

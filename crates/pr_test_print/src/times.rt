@@ -4,7 +4,7 @@
 ghost use Rattle.std.specs.Prelude.{◌≡◌, ◌++◌, ◌/◌, ◌%◌, OnOk, codes, length, take};
 ghost use Rattle.pr_time.specs.SpanShown.{part_text, parts_text, shown_span};
 
-use pr_kinds::push_number;
+use pr_test_texts::kinds::push_number;
 use std::alloc::AllocError;
 
 // A number with its unit, or nothing where the number is 0.

@@ -1,16 +1,16 @@
 -- The world after samples.
 use Rattle.std.proofs.Common.{◌≡◌, ℕ, ◌≤◌, Bool, false, cond, nat_lt, List, [], ◌∷◌, ◌++◌, map, Option, Some, None, refl, sym, ap, subst, ◌∙◌, arith}
 use Rattle.std.proofs.lemmas.Bool.Decides.{nat_tests}
-use Rattle.pr_history.specs.Admission.{admit, put, put_all}
-use Rattle.pr_history.specs.declared.entry.Entry.{Entry}
-use Rattle.pr_rules.specs.Settings.{Settings}
-use Rattle.pr_world.specs.declared.event.Event.{Event}
-use Rattle.pr_world.specs.declared.event.Event.TheVariants.{Add}
-use Rattle.pr_world.specs.declared.report.Report.TheVariants as report
-use Rattle.pr_world.specs.Outcome.{Outcome, refuse, unless_backwards}
-use Rattle.pr_world.specs.Step.{next, outcome_in_time, step_by, world_after}
-use Rattle.pr_world.specs.World.{World}
-use Rattle.pr_world.proofs.Steps.{put_is}
+use Rattle.pr_verdict.specs.pr_history.Admission.{admit, put, put_all}
+use Rattle.pr_verdict.specs.pr_history.declared.entry.Entry.{Entry}
+use Rattle.pr_verdict.specs.pr_rules.Settings.{Settings}
+use Rattle.pr_verdict.specs.pr_world.declared.event.Event.{Event}
+use Rattle.pr_verdict.specs.pr_world.declared.event.Event.TheVariants.{Add}
+use Rattle.pr_verdict.specs.pr_world.declared.report.Report.TheVariants as report
+use Rattle.pr_verdict.specs.pr_world.Outcome.{Outcome, refuse, unless_backwards}
+use Rattle.pr_verdict.specs.pr_world.Step.{next, outcome_in_time, step_by, world_after}
+use Rattle.pr_verdict.specs.pr_world.World.{World}
+use Rattle.pr_verdict.proofs.WorldSteps.{put_is}
 use Rattle.pr_verdict.specs.Events.{add_of}
 use Rattle.pr_test_rounds.specs.Sooner.{AllAt}
 use Rattle.pr_test_rounds.specs.Rounds.{IsUpTo}

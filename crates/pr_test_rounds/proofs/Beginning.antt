@@ -4,10 +4,10 @@ use Rattle.std.specs.Prelude.{count_by}
 use Rattle.std.specs.List.{AllByRecursion, IsDistinct, flat_map}
 use Rattle.std.specs.Str.{bytes_eq}
 use Rattle.std.proofs.lemmas.Slice.Eq.{bytes_eq-Decides}
-use Rattle.pr_rulefile.specs.Groups.{Group as Definition}
-use Rattle.pr_rules.specs.Groups.{Group, fresh, is_group_named}
-use Rattle.pr_rules.specs.Reloads.{LoadedFile}
-use Rattle.pr_rules.specs.Replays.{unwaiting_groups}
+use Rattle.pr_verdict.specs.pr_rulefile.Groups.{Group as Definition}
+use Rattle.pr_verdict.specs.pr_rules.Groups.{Group, fresh, is_group_named}
+use Rattle.pr_verdict.specs.pr_rules.Reloads.{LoadedFile}
+use Rattle.pr_verdict.specs.pr_rules.Replays.{unwaiting_groups}
 use Rattle.pr_verdict.specs.Events.{by_names, is_called}
 use Rattle.pr_test_rounds.specs.Rounds.{AreApart, AreNew, AreToldApart}
 use Rattle.pr_test_rounds.proofs.Merging.{all_joined}

@@ -3,19 +3,19 @@ use Rattle.std.proofs.Common.{◌≡◌, ℕ, zero, suc, ◌+◌, ◌-◌, ◌*�
 use Rattle.std.specs.List.{AllByRecursion, cons_option, filter_map, flat_map, range_with_len}
 use Rattle.std.proofs.lemmas.List.{map-append}
 use Rattle.pr_num.specs.declared.value.Point.{Point}
-use Rattle.pr_labels.specs.declared.pair.Pair.{Pair}
-use Rattle.pr_inputs.specs.declared.input.Input.{Input}
-use Rattle.pr_inputs.specs.declared.input.InputSeries.{InputSeries}
-use Rattle.pr_history.specs.declared.entry.Entry.{Entry}
-use Rattle.pr_fields.specs.Order.{ordered}
-use Rattle.pr_rules.specs.Groups.{Group}
-use Rattle.pr_rules.specs.Settings.{Settings}
-use Rattle.pr_rules.specs.Times.{IsAfter, IsAfterAll}
-use Rattle.pr_world.specs.declared.event.Event.{Event}
-use Rattle.pr_world.specs.Step.{time_of, world_after}
-use Rattle.pr_world.specs.World.{World}
-use Rattle.pr_testfile.specs.Series.{entries_at, entries_of, entry_at, entry_by, places, point_at}
-use Rattle.pr_testfile.specs.Tests.{PlainTest}
+use Rattle.pr_verdict.specs.pr_labels.declared.pair.Pair.{Pair}
+use Rattle.pr_verdict.specs.pr_inputs.declared.input.Input.{Input}
+use Rattle.pr_verdict.specs.pr_inputs.declared.input.InputSeries.{InputSeries}
+use Rattle.pr_verdict.specs.pr_history.declared.entry.Entry.{Entry}
+use Rattle.pr_verdict.specs.pr_fields.Order.{ordered}
+use Rattle.pr_verdict.specs.pr_rules.Groups.{Group}
+use Rattle.pr_verdict.specs.pr_rules.Settings.{Settings}
+use Rattle.pr_verdict.specs.pr_rules.Times.{IsAfter, IsAfterAll}
+use Rattle.pr_verdict.specs.pr_world.declared.event.Event.{Event}
+use Rattle.pr_verdict.specs.pr_world.Step.{time_of, world_after}
+use Rattle.pr_verdict.specs.pr_world.World.{World}
+use Rattle.pr_verdict.specs.pr_testfile.Series.{entries_at, entries_of, entry_at, entry_by, places, point_at}
+use Rattle.pr_verdict.specs.pr_testfile.Tests.{PlainTest}
 use Rattle.pr_verdict.specs.Events.{add_of, begun, eval_at, evaluations_until, events_of, is_earlier, is_until, last_check, settings_of, world_at}
 use Rattle.pr_test_rounds.specs.Sooner.{AllAbove, AllAt, AllFrom, AllUntil}
 use Rattle.pr_test_rounds.specs.Rounds.{AreNew, HasCome, HaveSites, IsInRound, IsUpTo, events_left, place_events, round_events, rounds_left, samples_left}

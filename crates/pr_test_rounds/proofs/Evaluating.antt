@@ -3,22 +3,22 @@ use Rattle.std.proofs.Common.{◌≡◌, ◌≢◌, ℕ, zero, suc, ◌+◌, ◌
 use Rattle.std.specs.Prelude.{◌==◌, find, slice_set}
 use Rattle.std.specs.List.{AllByRecursion}
 use Rattle.std.proofs.lemmas.Bool.Decides.{nat_tests}
-use Rattle.pr_history.specs.Admission.{put_all}
-use Rattle.pr_history.specs.declared.entry.Entry.{Entry}
-use Rattle.pr_puts.specs.Puts.{marker}
-use Rattle.pr_puts.proofs.Putting.{puts_admitted}
-use Rattle.pr_rules.specs.Evaluations.{GroupStep, RulesProgress, all_rules, group_step, restoring}
-use Rattle.pr_rules.specs.Groups.{Group, is_group_named}
-use Rattle.pr_rules.specs.Settings.{Settings}
-use Rattle.pr_rules.specs.Times.{IsAfter, IsAfterAll}
-use Rattle.pr_rules.proofs.Putting.{evaluation_admits}
-use Rattle.pr_world.specs.declared.event.Event.TheVariants.{Eval}
-use Rattle.pr_world.specs.declared.event.Event.{Event}
-use Rattle.pr_world.specs.declared.report.Report.TheVariants as report
-use Rattle.pr_world.specs.Outcome.{Outcome, refuse}
-use Rattle.pr_world.specs.Rounds.{eval_after, eval_by, evaluation_outcome, with_group}
-use Rattle.pr_world.specs.Step.{next, outcome_in_time, step_by, world_after}
-use Rattle.pr_world.specs.World.{World}
+use Rattle.pr_verdict.specs.pr_history.Admission.{put_all}
+use Rattle.pr_verdict.specs.pr_history.declared.entry.Entry.{Entry}
+use Rattle.pr_verdict.specs.pr_puts.Puts.{marker}
+use Rattle.pr_verdict.proofs.PutsPutting.{puts_admitted}
+use Rattle.pr_verdict.specs.pr_rules.Evaluations.{GroupStep, RulesProgress, all_rules, group_step, restoring}
+use Rattle.pr_verdict.specs.pr_rules.Groups.{Group, is_group_named}
+use Rattle.pr_verdict.specs.pr_rules.Settings.{Settings}
+use Rattle.pr_verdict.specs.pr_rules.Times.{IsAfter, IsAfterAll}
+use Rattle.pr_verdict.proofs.RulesPutting.{evaluation_admits}
+use Rattle.pr_verdict.specs.pr_world.declared.event.Event.TheVariants.{Eval}
+use Rattle.pr_verdict.specs.pr_world.declared.event.Event.{Event}
+use Rattle.pr_verdict.specs.pr_world.declared.report.Report.TheVariants as report
+use Rattle.pr_verdict.specs.pr_world.Outcome.{Outcome, refuse}
+use Rattle.pr_verdict.specs.pr_world.Rounds.{eval_after, eval_by, evaluation_outcome, with_group}
+use Rattle.pr_verdict.specs.pr_world.Step.{next, outcome_in_time, step_by, world_after}
+use Rattle.pr_verdict.specs.pr_world.World.{World}
 use Rattle.pr_verdict.specs.Events.{eval_at}
 use Rattle.pr_test_rounds.specs.Rounds.{AreApart, HaveSites, IsInRound, IsUpTo, site}
 use Rattle.pr_test_rounds.proofs.Adding.{in_time}

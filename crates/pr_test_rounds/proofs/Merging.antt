@@ -2,7 +2,7 @@
 use Rattle.std.proofs.Common.{◌≡◌, ℕ, ◌<◌, ◌≤◌, Bool, true, false, cond, nat_lt, nat_le, List, [], ◌∷◌, ◌++◌, filter, refl, ap, ◌∙◌, arith}
 use Rattle.std.specs.List.{AllByRecursion}
 use Rattle.std.proofs.lemmas.Bool.Decides.{nat_tests}
-use Rattle.pr_fields.specs.Order.{inserted, ordered}
+use Rattle.pr_verdict.specs.pr_fields.Order.{inserted, ordered}
 use Rattle.pr_test_rounds.specs.Sooner.{sooner, AllAt, AllFrom, AllAbove, AllUntil}
 
 not_sooner : (a b : ℕ) → b ≤ a → nat_lt a b ≡ false

@@ -6,8 +6,8 @@ use Rattle.std.specs.Str.{bytes_eq}
 use Rattle.std.proofs.lemmas.Slice.Eq.{bytes_eq-Decides}
 use Rattle.std.proofs.lemmas.List.Recursion.{is_count_by}
 use Rattle.std.proofs.lemmas.Option.{slice_get-map}
-use Rattle.pr_rules.specs.Groups.{Group, is_group_named}
-use Rattle.pr_world.specs.Rounds.{with_group}
+use Rattle.pr_verdict.specs.pr_rules.Groups.{Group, is_group_named}
+use Rattle.pr_verdict.specs.pr_world.Rounds.{with_group}
 use Rattle.pr_test_rounds.specs.Rounds.{AreApart, HaveSites, site}
 
 -- Lists of which at most one element passes a test

@@ -2,16 +2,16 @@
 use Rattle.std.specs.Prelude.{◌≡◌, ℕ, ◌-◌, ◌*◌, ◌<◌, ◌≤◌, List, ◌++◌, map, count_by, slice_get, Option, Some, None}
 use Rattle.std.specs.List.{AllByRecursion, IsDistinct, flat_map, range_with_len}
 use Rattle.std.specs.Str.{bytes_eq}
-use Rattle.pr_inputs.specs.declared.input.Input.{Input}
-use Rattle.pr_fields.specs.Order.{ordered}
-use Rattle.pr_rules.specs.Groups.{Group, is_group_named}
-use Rattle.pr_rules.specs.Reloads.{LoadedFile}
-use Rattle.pr_rules.specs.Settings.{Settings}
-use Rattle.pr_rules.specs.Times.{IsAfter, IsAfterAll}
-use Rattle.pr_world.specs.declared.event.Event.{Event}
-use Rattle.pr_world.specs.Step.{time_of, world_after}
-use Rattle.pr_world.specs.World.{World}
-use Rattle.pr_testfile.specs.Series.{entries_at, places}
+use Rattle.pr_verdict.specs.pr_inputs.declared.input.Input.{Input}
+use Rattle.pr_verdict.specs.pr_fields.Order.{ordered}
+use Rattle.pr_verdict.specs.pr_rules.Groups.{Group, is_group_named}
+use Rattle.pr_verdict.specs.pr_rules.Reloads.{LoadedFile}
+use Rattle.pr_verdict.specs.pr_rules.Settings.{Settings}
+use Rattle.pr_verdict.specs.pr_rules.Times.{IsAfter, IsAfterAll}
+use Rattle.pr_verdict.specs.pr_world.declared.event.Event.{Event}
+use Rattle.pr_verdict.specs.pr_world.Step.{time_of, world_after}
+use Rattle.pr_verdict.specs.pr_world.World.{World}
+use Rattle.pr_verdict.specs.pr_testfile.Series.{entries_at, places}
 use Rattle.pr_verdict.specs.Events.{add_of, begun, eval_at, is_earlier}
 use Rattle.pr_test_rounds.specs.Sooner.{AllUntil}
 

@@ -1,14 +1,14 @@
 //! Laws of tests, as the contracts of functions that do nothing.
 ghost use Rattle.std.specs.Prelude.{◌≡◌, ◌+◌, ◌*◌, ◌/◌, ◌<◌, ◌≤◌, ℕ, suc, List, Some, None};
-ghost use Rattle.pr_inputs.specs.declared.input.Input.{Input};
-ghost use Rattle.pr_rules.specs.Groups.{Group};
-ghost use Rattle.pr_rules.specs.Reloads.{LoadedFile};
-ghost use Rattle.pr_rules.specs.Settings.{Settings};
-ghost use Rattle.pr_rules.specs.Replays.{unwaiting_groups};
-ghost use Rattle.pr_world.specs.Step.{world_after};
-ghost use Rattle.pr_world.specs.World.{World};
-ghost use Rattle.pr_testfile.specs.Series.{entries_of, places};
-ghost use Rattle.pr_testfile.specs.Tests.{PlainTest};
+ghost use Rattle.pr_verdict.specs.pr_inputs.declared.input.Input.{Input};
+ghost use Rattle.pr_verdict.specs.pr_rules.Groups.{Group};
+ghost use Rattle.pr_verdict.specs.pr_rules.Reloads.{LoadedFile};
+ghost use Rattle.pr_verdict.specs.pr_rules.Settings.{Settings};
+ghost use Rattle.pr_verdict.specs.pr_rules.Replays.{unwaiting_groups};
+ghost use Rattle.pr_verdict.specs.pr_world.Step.{world_after};
+ghost use Rattle.pr_verdict.specs.pr_world.World.{World};
+ghost use Rattle.pr_verdict.specs.pr_testfile.Series.{entries_of, places};
+ghost use Rattle.pr_verdict.specs.pr_testfile.Tests.{PlainTest};
 ghost use Rattle.pr_verdict.specs.Events.{begun, by_names, last_check, settings_of, world_at};
 ghost use Rattle.pr_test_rounds.specs.Rounds.{AreApart, AreNew, AreToldApart, HasCome, place_events};
 

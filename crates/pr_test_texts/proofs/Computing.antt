@@ -7,17 +7,17 @@ use Rattle.pr_num.specs.Arithmetic.{sum_of, product_of}
 use Rattle.pr_num.specs.Half.{half, half_abs}
 use Rattle.pr_num.specs.Order.{compared}
 use Rattle.pr_num.specs.Shown.{fraction_text, shown}
-use Rattle.pr_strings.specs.StringAnswer.{bad_string_place, string_of}
-use Rattle.pr_labels.specs.SeriesText.{series_text}
-use Rattle.pr_match.specs.Matcher.{meets, meets_all}
-use Rattle.pr_tmpl.specs.Expansion.{expansion, through}
-use Rattle.pr_tmpl.specs.Pieces.{pieces}
-use Rattle.pr_tmpl.specs.TemplateReading.{template_parts}
-use Rattle.pr_inputs.specs.Points.{points_in, points}
-use Rattle.pr_rules.specs.Results.{rule_result}
-use Rattle.pr_rules.specs.Evaluations.{rule_outcome, rule_step, group_step}
-use Rattle.pr_world.specs.Step.{next}
-use Rattle.pr_testfile.specs.Series.{point_at, entries_at, places, entries_of}
+use Rattle.pr_text.specs.pr_strings.StringAnswer.{bad_string_place, string_of}
+use Rattle.pr_text.specs.pr_labels.SeriesText.{series_text}
+use Rattle.pr_text.specs.pr_match.Matcher.{meets, meets_all}
+use Rattle.pr_checks.specs.pr_tmpl.Expansion.{expansion, through}
+use Rattle.pr_checks.specs.pr_tmpl.Pieces.{pieces}
+use Rattle.pr_checks.specs.pr_tmpl.TemplateReading.{template_parts}
+use Rattle.pr_verdict.specs.pr_inputs.Points.{points_in, points}
+use Rattle.pr_text.specs.pr_rules.Results.{rule_result}
+use Rattle.pr_text.specs.pr_rules.Evaluations.{rule_outcome, rule_step, group_step}
+use Rattle.pr_text.specs.pr_world.Step.{next}
+use Rattle.pr_verdict.specs.pr_testfile.Series.{point_at, entries_at, places, entries_of}
 use Rattle.pr_verdict.specs.Events.{events_of, world_at}
 use Rattle.pr_verdict.specs.Verdict.{test_verdict, verdict}
 use Rattle.pr_checks.specs.RuleFiles.{failed_line, missing, too_large}

@@ -1,7 +1,7 @@
 -- Nothing is told of a test file exactly where nothing is wrong with it.
 use Rattle.std.proofs.Common.{◌≡◌, ℕ, Bool, true, false, List, [], ◌∷◌, ◌++◌, flat_map, refl, sym, ap, ◌∙◌, subst}
-use Rattle.pr_rules.specs.Reloads.{LoadedFile}
-use Rattle.pr_testfile.specs.File.{PlainFile}
+use Rattle.pr_text.specs.pr_rules.Reloads.{LoadedFile}
+use Rattle.pr_verdict.specs.pr_testfile.File.{PlainFile}
 use Rattle.pr_verdict.specs.declared.failure.Failure.{Failure}
 use Rattle.pr_verdict.specs.Verdict.{verdict}
 use Rattle.pr_test_texts.specs.FailureText.{failure_text}

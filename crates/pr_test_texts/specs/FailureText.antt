@@ -4,13 +4,13 @@ use Rattle.std.specs.List.{slice_get}
 use Rattle.std.specs.Option.{option_map}
 use Rattle.pr_num.specs.declared.value.Num.{Num}
 use Rattle.pr_num.specs.Shown.{shown}
-use Rattle.pr_time.specs.SpanShown.{shown_span}
-use Rattle.pr_labels.specs.declared.item.Item.{Item}
-use Rattle.pr_labels.specs.SeriesText.{series_text, list_text}
-use Rattle.pr_lineage.specs.declared.found.Found.{Found}
+use Rattle.pr_checks.specs.pr_time.SpanShown.{shown_span}
+use Rattle.pr_text.specs.pr_labels.declared.item.Item.{Item}
+use Rattle.pr_text.specs.pr_labels.SeriesText.{series_text, list_text}
+use Rattle.pr_text.specs.pr_lineage.declared.found.Found.{Found}
 use Rattle.pr_text.specs.Printed.{query_fault_text}
-use Rattle.pr_testfile.specs.Tests.{PlainTest}
-use Rattle.pr_testfile.specs.File.{PlainFile}
+use Rattle.pr_verdict.specs.pr_testfile.Tests.{PlainTest}
+use Rattle.pr_verdict.specs.pr_testfile.File.{PlainFile}
 use Rattle.pr_verdict.specs.declared.failure.Shown.{Shown}
 use Rattle.pr_verdict.specs.declared.failure.Shown.TheVariants.{Alerts, Samples, Fault}
 use Rattle.pr_verdict.specs.declared.failure.Failure.{Failure}

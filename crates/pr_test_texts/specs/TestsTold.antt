@@ -1,14 +1,14 @@
 -- What `test rules` tells of a file.
 use Rattle.std.specs.Prelude.{ℕ, Bool, true, false, List, [], ◌∷◌, ◌++◌, codes, flat_map}
-use Rattle.pr_status.specs.Outside.{Held}
-use Rattle.pr_check_loops.specs.FileChecks.{Told}
-use Rattle.pr_loading.specs.Loading.{Holding, holds, is_missing, is_too_large, holding_by}
+use Rattle.pr_checks.specs.pr_status.Outside.{Held}
+use Rattle.pr_checks.specs.pr_check_loops.FileChecks.{Told}
+use Rattle.pr_checks.specs.pr_loading.Loading.{Holding, holds, is_missing, is_too_large, holding_by}
 use Rattle.pr_checks.specs.Problems.{problem_line}
 use Rattle.pr_checks.specs.RuleFiles.{problems_text, missing, too_large}
-use Rattle.pr_rulefile.specs.File.{RuleReading, gives_file, gives_problems, rule_file_of}
-use Rattle.pr_rules.specs.Reloads.{LoadedFile}
-use Rattle.pr_testfile.specs.File.{PlainFile}
-use Rattle.pr_testfile.specs.Reading.{TestReading, gives_file as reads_file, gives_problems as has_problems, test_file_of}
+use Rattle.pr_checks.specs.pr_rulefile.File.{RuleReading, gives_file, gives_problems, rule_file_of}
+use Rattle.pr_text.specs.pr_rules.Reloads.{LoadedFile}
+use Rattle.pr_verdict.specs.pr_testfile.File.{PlainFile}
+use Rattle.pr_verdict.specs.pr_testfile.Reading.{TestReading, gives_file as reads_file, gives_problems as has_problems, test_file_of}
 use Rattle.pr_verdict.specs.RuleFiles.{rule_file_names}
 use Rattle.pr_verdict.specs.Verdict.{verdict}
 use Rattle.pr_test_texts.specs.FailureText.{failure_text}

@@ -1,9 +1,9 @@
 //! What is told of small test files.
 ghost use Rattle.std.specs.Prelude.{◌≡◌, true, false, [], ◌∷◌, codes};
-ghost use Rattle.pr_loading.specs.Loading.{is_too_large};
+ghost use Rattle.pr_checks.specs.pr_loading.Loading.{is_too_large};
 ghost use Rattle.pr_num.specs.declared.value.Num.TheVariants.{NaN};
-ghost use Rattle.pr_history.specs.Examples.{number};
-ghost use Rattle.pr_testfile.specs.File.{PlainFile};
+ghost use Rattle.pr_text.specs.pr_history.Examples.{number};
+ghost use Rattle.pr_verdict.specs.pr_testfile.File.{PlainFile};
 ghost use Rattle.pr_verdict.specs.Verdict.{verdict};
 ghost use Rattle.pr_verdict.specs.Worked.{down_failure, down_file, down_tests, x_failure, x_file};
 ghost use Rattle.pr_test_texts.specs.FailureText.{failure_text};

@@ -4,3 +4,4 @@ pub mod Files
 pub mod Exprs
 pub mod Intervals
 pub mod LabelSets
+pub use Rattle.pr_fields.proofs.KindsPlainTexts

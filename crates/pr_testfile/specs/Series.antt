@@ -15,7 +15,7 @@ use Rattle.pr_fields.specs.declared.problem.ProblemKind.TheVariants.{DuplicateSe
 use Rattle.pr_fields.specs.Nodes.{line_of, items_in, fields_of, fields_in, field}
 use Rattle.pr_fields.specs.Problems.{problem}
 use Rattle.pr_fields.specs.Maps.{required, map_problems, list_problems}
-use Rattle.pr_history.specs.declared.entry.Entry.{Entry}
+use Rattle.pr_lineage.specs.pr_history.declared.entry.Entry.{Entry}
 use Rattle.pr_testfile.specs.declared.fields.SeriesField.{SeriesField}
 use Rattle.pr_testfile.specs.declared.fields.SeriesField.TheVariants as kind
 use Rattle.pr_testfile.specs.Fields.{series_field}

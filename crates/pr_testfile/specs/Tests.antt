@@ -9,7 +9,7 @@ use Rattle.pr_fields.specs.Nodes.{fields_of, fields_in, field, text_or_empty, it
 use Rattle.pr_fields.specs.Scalars.{text_problems}
 use Rattle.pr_fields.specs.Labels.{labels_problems}
 use Rattle.pr_fields.specs.Maps.{none_missing, map_problems, list_problems}
-use Rattle.pr_history.specs.declared.entry.Entry.{Entry}
+use Rattle.pr_lineage.specs.pr_history.declared.entry.Entry.{Entry}
 use Rattle.pr_testfile.specs.declared.fields.TestField.{TestField}
 use Rattle.pr_testfile.specs.declared.fields.TestField.TheVariants.{Interval, Name, InputSeries, AlertRuleTest, PromqlExprTest, ExternalLabels, ExternalUrl}
 use Rattle.pr_testfile.specs.declared.tests.AlertCheck.{AlertCheck}

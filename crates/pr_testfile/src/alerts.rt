@@ -17,10 +17,10 @@ use pr_fields::{
     ItemForm, MapForm, Problem, field, fields_of, fields_under, items_under, labels_problems,
     list_problems, map_problems, require, span_problems, span_under, text_problems,
 };
+use pr_inputs::time::Ms;
 use pr_labels::Labels;
 use pr_lineage::Found;
 use pr_num::Num;
-use pr_time::Ms;
 use pr_words::{Items, Text};
 use pr_yaml::{Entry, Node};
 use std::alloc::{AllocError, Global};

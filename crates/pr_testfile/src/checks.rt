@@ -10,12 +10,12 @@ use crate::alerts::time_under;
 use crate::fields::{CheckField, check_field};
 use crate::samples::{SampleItems, samples_of};
 use crate::tests::ExprCheck;
+use pr_fields::types::Checked;
 use pr_fields::{
     ItemForm, MapForm, Problem, expression_value_problems, field, fields_of, items_under,
     list_problems, map_problems, require, span_problems, text_of, typed_expression, written,
     written_text,
 };
-use pr_types::Checked;
 use pr_words::{Items, Text};
 use pr_yaml::{Entry, Node};
 use std::alloc::{AllocError, Global};

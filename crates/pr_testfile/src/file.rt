@@ -12,7 +12,7 @@ use crate::words::{evaluation_interval, group_eval_order};
 use pr_fields::{
     MapForm, Problem, field, fields_in, items_under, list_problems, map_problems, texts_problems,
 };
-use pr_time::Span;
+use pr_inputs::time::Span;
 use pr_yaml::{Entry, Node};
 use std::alloc::{AllocError, Global};
 

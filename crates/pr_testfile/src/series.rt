@@ -11,7 +11,7 @@ use pr_fields::{
     ItemForm, MapForm, Problem, field, fields_of, items_in, list_problems, map_problems, require,
 };
 use pr_inputs::InputSeries;
-use pr_time::Span;
+use pr_inputs::time::Span;
 use pr_words::Items;
 use pr_yaml::{Entry, Node};
 use std::alloc::{AllocError, Global};

@@ -17,13 +17,13 @@ use crate::tests::Test;
 use crate::words::{
     alert_rule_test, external_labels, external_url, input_series, promql_expr_test,
 };
+use pr_fields::tmpl::External;
 use pr_fields::{
     ItemForm, MapForm, Problem, field, fields_in, fields_of, fields_under, items_under,
     labels_problems, list_problems, map_problems, text_problems,
 };
 use pr_inputs::Input;
-use pr_time::Span;
-use pr_tmpl::External;
+use pr_inputs::time::Span;
 use pr_words::{Items, Text};
 use pr_yaml::{Entry, Node};
 use std::alloc::{AllocError, Global};

@@ -1,11 +1,11 @@
 // Test files as values.
+use pr_fields::tmpl::External;
+use pr_fields::types::Checked;
 use pr_inputs::Input;
+use pr_inputs::time::{Ms, Span};
 use pr_labels::Item;
 use pr_lineage::Found;
 use pr_num::Num;
-use pr_time::{Ms, Span};
-use pr_tmpl::External;
-use pr_types::Checked;
 use pr_words::{Items, Text};
 
 /// Which alerts of a name are to fire at a time. (Prometheus: Unit testing for rules,

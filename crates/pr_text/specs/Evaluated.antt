@@ -5,19 +5,19 @@ use Rattle.pr_num.specs.declared.value.Point.{Point}
 use Rattle.pr_num.specs.Shown.{shown}
 use Rattle.pr_labels.specs.declared.pair.Pair.{Pair}
 use Rattle.pr_labels.specs.SeriesText.{series_text}
-use Rattle.pr_kinds.specs.Kinds.{number_text}
-use Rattle.pr_history.specs.declared.append.Append.{Append}
-use Rattle.pr_history.specs.declared.append.Append.TheVariants.{Added, Same, OutOfOrder, Conflict}
+use Rattle.pr_world.specs.pr_kinds.Kinds.{number_text}
+use Rattle.pr_row.specs.pr_history.declared.append.Append.{Append}
+use Rattle.pr_row.specs.pr_history.declared.append.Append.TheVariants.{Added, Same, OutOfOrder, Conflict}
 use Rattle.pr_row.specs.Points.{shown_point}
-use Rattle.pr_lineage.specs.declared.restored.Restored.{Restored}
-use Rattle.pr_lineage.specs.Records.{state_text}
-use Rattle.pr_rules.specs.declared.fault.RuleFault.{RuleFault}
-use Rattle.pr_rules.specs.declared.fault.RuleFault.TheVariants.{Eval, SameAfterRule, LimitExceeded}
-use Rattle.pr_rules.specs.declared.report.GroupReport.{GroupReport}
-use Rattle.pr_rules.specs.declared.report.Put.{Put}
-use Rattle.pr_rules.specs.declared.report.RuleOutcome.{RuleOutcome}
-use Rattle.pr_rules.specs.declared.report.RuleOutcome.TheVariants.{Fine, Fault}
-use Rattle.pr_rules.specs.declared.report.RuleReport.{RuleReport}
+use Rattle.pr_notices.specs.pr_lineage.declared.restored.Restored.{Restored}
+use Rattle.pr_notices.specs.pr_lineage.Records.{state_text}
+use Rattle.pr_world.specs.pr_rules.declared.fault.RuleFault.{RuleFault}
+use Rattle.pr_world.specs.pr_rules.declared.fault.RuleFault.TheVariants.{Eval, SameAfterRule, LimitExceeded}
+use Rattle.pr_world.specs.pr_rules.declared.report.GroupReport.{GroupReport}
+use Rattle.pr_world.specs.pr_rules.declared.report.Put.{Put}
+use Rattle.pr_world.specs.pr_rules.declared.report.RuleOutcome.{RuleOutcome}
+use Rattle.pr_world.specs.pr_rules.declared.report.RuleOutcome.TheVariants.{Fine, Fault}
+use Rattle.pr_world.specs.pr_rules.declared.report.RuleReport.{RuleReport}
 use Rattle.pr_world.specs.declared.report.AlertLine.{AlertLine}
 use Rattle.pr_text.specs.Answers.{evaluated_rules, limit_exceeded, late_after, same_after_rule}
 use Rattle.pr_text.specs.Faults.{fault_text}

@@ -4,7 +4,7 @@ use Rattle.pr_num.specs.Shown.{shown}
 use Rattle.pr_strings.specs.Quoted.{quoted_text}
 use Rattle.pr_labels.specs.declared.pair.Pair.{Pair}
 use Rattle.pr_labels.specs.SeriesText.{series_text}
-use Rattle.pr_lineage.specs.declared.sending.Sending.{Sending}
+use Rattle.pr_notices.specs.pr_lineage.declared.sending.Sending.{Sending}
 use Rattle.pr_notices.specs.declared.batch.Batch.{Batch}
 use Rattle.pr_notices.specs.declared.joined.Joined.{Joined}
 use Rattle.pr_notices.specs.declared.joined.Joined.TheVariants.{New, Known, Full}

@@ -6,17 +6,17 @@ use Rattle.pr_num.specs.Shown.{shown}
 use Rattle.pr_strings.specs.Quoted.{quoted_text}
 use Rattle.pr_labels.specs.declared.item.Item.{Item}
 use Rattle.pr_labels.specs.SeriesText.{series_text}
-use Rattle.pr_kinds.specs.declared.kind.QueryKind.{QueryKind}
-use Rattle.pr_kinds.specs.Kinds.{expo_word, kind_text}
-use Rattle.pr_fields.specs.declared.problem.ProblemKind.{ProblemKind}
-use Rattle.pr_fields.specs.Printed.{problem_text}
+use Rattle.pr_world.specs.pr_kinds.declared.kind.QueryKind.{QueryKind}
+use Rattle.pr_world.specs.pr_kinds.Kinds.{expo_word, kind_text}
+use Rattle.pr_world.specs.pr_fields.declared.problem.ProblemKind.{ProblemKind}
+use Rattle.pr_world.specs.pr_fields.Printed.{problem_text}
 use Rattle.pr_row.specs.Points.{shown_point}
 use Rattle.pr_text.specs.Answers.{dropped_conflict, dropped_out_of_order, backwards_last, scraped_added, bad_scrape_line, not_later_last, reloaded_groups}
 use Rattle.pr_text.specs.Evaluated.{alerts_text, evaluated_text}
 use Rattle.pr_world.specs.declared.report.Report.{Report}
 use Rattle.pr_world.specs.declared.report.Report.TheVariants.{Opened, Added, Same, OutOfOrder, Conflict, Scraped, BadScrape, Failed, Gone, Evaluated, NoGroup, NotLater, Reloaded, Missing, TooLarge, Refused, Restarted, Alerts, Scalar, Vector, QueryFault, QueryRefused, Backwards}
-use Rattle.pr_expo_line.specs.declared.place.ExpoKind.{ExpoKind}
-use Rattle.pr_query.specs.declared.fault.FaultKind.{FaultKind}
+use Rattle.pr_world.specs.pr_expo_line.declared.place.ExpoKind.{ExpoKind}
+use Rattle.pr_world.specs.pr_query.declared.fault.FaultKind.{FaultKind}
 use Rattle.pr_text.specs.Faults.{fault_text}
 use Rattle.pr_text.specs.Values.{place_text}
 

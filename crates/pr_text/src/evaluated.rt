@@ -4,9 +4,9 @@
 ghost use Rattle.std.specs.Prelude.{◌≡◌, ◌++◌, ◌+◌, OnOk, codes, decimal, flat_map, length, take};
 ghost use Rattle.pr_num.specs.Shown.{shown};
 ghost use Rattle.pr_labels.specs.SeriesText.{series_text};
-ghost use Rattle.pr_kinds.specs.Kinds.{number_text};
+ghost use Rattle.pr_world.specs.pr_kinds.Kinds.{number_text};
 ghost use Rattle.pr_row.specs.Points.{shown_point};
-ghost use Rattle.pr_lineage.specs.Records.{state_text};
+ghost use Rattle.pr_notices.specs.pr_lineage.Records.{state_text};
 ghost use Rattle.pr_text.specs.Answers.{evaluated_rules, limit_exceeded, late_after, same_after_rule};
 ghost use Rattle.pr_text.specs.Evaluated.{alert_text, alerts_text, conflict_line, counts_text, evaluated_text, fault_count, has_failed, late_line, outcome_text, put_line, put_line_by, restored_line, rule_fault_text, rule_lines, rules_text, sample_line, stale_line};
 ghost use Rattle.pr_text.specs.Notices.{sending_lines};
@@ -15,14 +15,14 @@ ghost use Rattle.pr_text.specs.Values.{place_text};
 use crate::faults::push_fault_kind;
 use crate::notices::push_sendings;
 use crate::values::{push_place, push_point, push_value};
-use pr_history::Append;
-use pr_kinds::{push_number, push_number_after};
 use pr_labels::Labels;
-use pr_lineage::{Restored, State};
+use pr_notices::lineage::{Restored, State};
 use pr_num::{Num, Point};
-use pr_rules::{GroupReport, Put, RuleFault, RuleOutcome, RuleReport};
-use pr_time::Ms;
+use pr_row::history::Append;
+use pr_row::time::Ms;
 use pr_world::AlertLine;
+use pr_world::kinds::{push_number, push_number_after};
+use pr_world::rules_crate::{GroupReport, Put, RuleFault, RuleOutcome, RuleReport};
 use std::alloc::AllocError;
 
 #[tactic(auto, unfolding(crate::specs::Answers::evaluated_rules))]

@@ -5,9 +5,9 @@ ghost use Rattle.std.specs.Prelude.{◌≡◌, ◌++◌, OnOk, codes, length, ta
 ghost use Rattle.pr_labels.specs.SeriesText.{series_text};
 ghost use Rattle.pr_text.specs.Faults.{fault_word, fault_rest, fault_text};
 
-use pr_kinds::push_number_after;
 use pr_labels::Labels;
-use pr_query::FaultKind;
+use pr_world::kinds::push_number_after;
+use pr_world::query_crate::FaultKind;
 use std::alloc::AllocError;
 
 #[tactic(auto, unfolding(crate::specs::Faults::fault_word))]

@@ -7,13 +7,13 @@ ghost use Rattle.pr_text.specs.Answers.{deliver_firing, deliver_resolved, send_f
 ghost use Rattle.pr_text.specs.Notices.{batch_line, batch_text, delivery_lines, delivery_word, joined_text, no_receiver_text, note_line, notice_text, sending_lines, sending_word};
 
 use crate::values::push_value;
-use pr_kinds::{push_number, whole_or_none};
 use pr_labels::Pair;
-use pr_lineage::Sending;
+use pr_notices::lineage::Sending;
 use pr_notices::{Batch, Joined};
 use pr_num::Num;
+use pr_row::time::Ms;
 use pr_strings::write_string;
-use pr_time::Ms;
+use pr_world::kinds::{push_number, whole_or_none};
 use std::alloc::AllocError;
 
 #[tactic(auto, unfolding(crate::specs::Answers::send_firing))]

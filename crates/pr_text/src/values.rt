@@ -6,9 +6,9 @@ ghost use Rattle.pr_num.specs.Shown.{shown};
 ghost use Rattle.pr_row.specs.Points.{shown_point};
 ghost use Rattle.pr_text.specs.Values.{place_text};
 
-use pr_kinds::push_number;
 use pr_num::{Num, Point};
 use pr_row::write_point;
+use pr_world::kinds::push_number;
 use std::alloc::AllocError;
 
 /// Appends a number. Want of memory alone is an error, and then what stood there stays.

@@ -2,17 +2,17 @@
 use Rattle.std.proofs.Common.{◌≡◌, ◌<◌, ◌≤◌, ℕ, zero, suc, ◌-◌, true, false, Option, Some, None, List, [], ◌∷◌, ◌++◌, length, drop, refl, sym, ap, subst, ◌∙◌, arith, ◌==◌, nat_le, length-append, length-take, min}
 use Rattle.std.proofs.lemmas.Bool.Decides.{nat_tests}
 use Rattle.std.specs.Prelude.{codes}
-use Rattle.pr_strings.specs.StringAnswer.{string_of, bad_string_place}
-use Rattle.pr_strings.specs.Strings.{IsString as IsStringText, IsBadPlace, production, seen, Text, content}
-use Rattle.pr_strings.specs.Language.{text_strings}
-use Rattle.pr_strings.proofs.StringPublic.{unread}
-use Rattle.pr_strings.proofs.StringTable.{known as string_known}
+use Rattle.pr_labels.specs.pr_strings.StringAnswer.{string_of, bad_string_place}
+use Rattle.pr_labels.specs.pr_strings.Strings.{IsString as IsStringText, IsBadPlace, production, seen, Text, content}
+use Rattle.pr_labels.specs.pr_strings.Language.{text_strings}
+use Rattle.pr_labels.proofs.StringsStringPublic.{unread}
+use Rattle.pr_labels.proofs.StringsStringTable.{known as string_known}
 use Rattle.pr_forms.specs.Language.{Gives as StringGives}
 use Rattle.pr_forms.specs.Run.{good, bad}
 use Rattle.pr_forms.specs.Form.{rule}
 use Rattle.pr_forms.proofs.Places.{one_place, only_reading}
-use Rattle.pr_strings.proofs.StringAnswers.{string_of_reading, reading_of_string, place_of_text}
-use Rattle.pr_strings.specs.StringTable.{table as string_table}
+use Rattle.pr_labels.proofs.StringsStringAnswers.{string_of_reading, reading_of_string, place_of_text}
+use Rattle.pr_labels.specs.pr_strings.StringTable.{table as string_table}
 use Rattle.pr_tmpl.specs.declared.kind.Kind.{Kind}
 use Rattle.pr_tmpl.specs.Pieces.{Piece, plain, kind_of, kind_of_all, escape_bytes, escape_quoted, escape_parts, escaped, pieces}
 use Rattle.pr_tmpl.specs.declared.letter.Letter.{Letter}

@@ -2,7 +2,7 @@
 use Rattle.std.proofs.Common.{◌≡◌, ℕ, Bool, true, false, Option, Some, None, List, [], ◌∷◌, ◌++◌, map, refl, sym, ap, subst, ◌∙◌, append_assoc, append-nil, ◌==◌}
 use Rattle.std.specs.Prelude.{is_some}
 use Prim.Native.Char.{code}
-use Rattle.pr_strings.specs.StringAnswer.{string_of}
+use Rattle.pr_labels.specs.pr_strings.StringAnswer.{string_of}
 use Rattle.pr_forms.specs.Form.{Form, token, pair, either, rule, nothing}
 use Rattle.pr_forms.specs.Run.{Runs, Outcome, good, bad, run_token, run_other, run_end, run_pair, run_first, run_second, run_left, run_right, run_rule, run_nothing}
 use Rattle.pr_forms.specs.Table.{is_next}

@@ -6,8 +6,8 @@ use Rattle.std.proofs.lemmas.Bool.{cases_lt}
 use Rattle.std.proofs.Common.{inl, inr}
 use Rattle.std.specs.Prelude.{codes, nat_le, nat_lt, ◌&&◌, ◌⊎◌, IfOk, if◌then◌else◌}
 use Rattle.std.specs.Str.{IsUtf8}
-use Rattle.pr_strings.specs.Reader.{KeepsText, KeepsFront, SplitsText}
-use Rattle.pr_strings.proofs.StringUtf8.{before_byte, after_byte, keeps_after, byte_text}
+use Rattle.pr_labels.specs.pr_strings.Reader.{KeepsText, KeepsFront, SplitsText}
+use Rattle.pr_labels.proofs.StringsStringUtf8.{before_byte, after_byte, keeps_after, byte_text}
 use Rattle.pr_tmpl.specs.declared.kind.Kind.{Kind}
 use Rattle.pr_tmpl.specs.declared.kind.Kind.TheVariants.{Open, Digit, SmallV, SmallS, Other}
 use Rattle.pr_tmpl.specs.declared.letter.Letter.{Letter}

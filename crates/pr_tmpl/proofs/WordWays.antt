@@ -1,7 +1,7 @@
 -- The ways of a reader of templates through signs, blanks, words and names.
 use Rattle.std.proofs.Common.{◌≡◌, ◌<◌, ◌≤◌, ℕ, Bool, true, false, Option, Some, None, List, [], ◌∷◌, ◌++◌, length, refl, sym, ap, subst, ◌∙◌, arith, ◌==◌, inl, inr, Result, Ok, Err}
 use Rattle.std.specs.Result.{MatchResult, IsErrAnd}
-use Rattle.pr_strings.specs.Reader.{IsMemory}
+use Rattle.pr_labels.specs.pr_strings.Reader.{IsMemory}
 use Rattle.pr_forms.specs.declared.reader.Fault.{Fault}
 use Rattle.pr_forms.specs.declared.reader.Fault.TheVariants.{Bad, Memory}
 use Rattle.std.proofs.lemmas.Bool.{cases_lt}

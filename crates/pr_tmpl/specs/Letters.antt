@@ -1,8 +1,8 @@
 -- What stands at the front of a text: the letters that the pieces are read by.
 use Rattle.std.specs.Prelude.{◌≡◌, ◌<◌, ◌≤◌, ◌-◌, nat_lt, ◌&&◌, Bool, true, ℕ, Some, None, List, [], ◌∷◌, ◌++◌, length, drop, map, codes}
 use Rattle.std.specs.Str.{IsUtf8}
-use Rattle.pr_strings.specs.Reader.{KeepsText}
-use Rattle.pr_strings.specs.StringAnswer.{string_of, bad_string_place}
+use Rattle.pr_labels.specs.pr_strings.Reader.{KeepsText}
+use Rattle.pr_labels.specs.pr_strings.StringAnswer.{string_of, bad_string_place}
 use Rattle.pr_tmpl.specs.declared.kind.Kind.{Kind}
 use Rattle.pr_tmpl.specs.declared.letter.Letter.{Letter}
 use Rattle.pr_tmpl.specs.declared.letter.Letter.TheVariants.{Plain, Escape, Broken}

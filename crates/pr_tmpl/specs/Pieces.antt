@@ -4,7 +4,7 @@ use Rattle.std.specs.Prelude.{Bool, ℕ, zero, suc, ◌-◌, ◌==◌, nat_le, �
 use Prim.Native.Char.{code}
 use Rattle.pr_tmpl.specs.declared.kind.Kind.{Kind}
 use Rattle.pr_tmpl.specs.declared.kind.Kind.TheVariants.{Quote, Feed, Blank, Open, Close, Bar, Dollar, Point, Percent, Digit, SmallE, SmallF, SmallH, SmallL, SmallP, SmallS, SmallV, CapitalD, CapitalE, CapitalL, CapitalP, CapitalU, CapitalV, OtherLetter, Other}
-use Rattle.pr_strings.specs.StringAnswer.{string_of, bad_string_place}
+use Rattle.pr_labels.specs.pr_strings.StringAnswer.{string_of, bad_string_place}
 
 abbrev pub is_other_letter : ℕ → Bool
 is_other_letter b = (nat_le (code "A") b && nat_le b (code "Z")) || (nat_le (code "a") b && nat_le b (code "z")) || b == code "_"

@@ -6,7 +6,7 @@ use Rattle.pr_forms.specs.Run.{Runs, Outcome}
 use Rattle.pr_forms.specs.Carries.{Carries}
 use Rattle.pr_forms.specs.Reader.{FailsBy}
 use Rattle.pr_forms.specs.declared.reader.Fault.{Fault}
-use Rattle.pr_strings.specs.Reader.{KeepsText}
+use Rattle.pr_labels.specs.pr_strings.Reader.{KeepsText}
 use Rattle.pr_tmpl.specs.declared.kind.Kind.{Kind}
 use Rattle.pr_tmpl.specs.declared.kind.Kind.TheVariants.{Other}
 use Rattle.pr_tmpl.specs.Pieces.{Piece, pieces}

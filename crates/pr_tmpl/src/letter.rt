@@ -1,13 +1,13 @@
 //! The pieces of a text, one after the other.
 ghost use Rattle.std.specs.Prelude.{◌≡◌, List, ◌<◌, ◌≤◌, [], drop, length, IfOk, IfErr, IfSome, MatchOption, MatchResult, string_bytes};
-ghost use Rattle.pr_strings.specs.Reader.{IsMemory, KeepsText};
+ghost use Rattle.pr_labels.specs.pr_strings.Reader.{IsMemory, KeepsText};
 ghost use Rattle.pr_tmpl.specs.Reader.{KeepsTextBy};
 ghost use Rattle.pr_tmpl.specs.Pieces.{escape_length, escape_bytes, escape_quoted, ascii_front};
 ghost use Rattle.pr_tmpl.specs.Letters.{IsPlain, HasNoPlain, IsAscii, HasNoAscii, IsString, IsNoString, FollowsBackslash, IsLetter, MeansText, LetterText};
 
 use crate::kind::{Kind, kind_of, kind_of_all};
 use pr_forms::Fault;
-use pr_strings::read_string;
+use pr_labels::strings::read_string;
 use std::alloc::{AllocError, Global};
 
 /// What stands at the front of a text.

@@ -3,7 +3,7 @@ ghost use Rattle.std.specs.Prelude.{◌≡◌, ◌<◌, ◌≤◌, ◌++◌, [],
 ghost use Rattle.pr_forms.specs.Form.{rule};
 ghost use Rattle.pr_forms.specs.Run.{good};
 ghost use Rattle.std.specs.Str.{IsUtf8};
-ghost use Rattle.pr_strings.specs.Reader.{IsMemory, KeepsText, SplitsText};
+ghost use Rattle.pr_labels.specs.pr_strings.Reader.{IsMemory, KeepsText, SplitsText};
 ghost use Rattle.pr_tmpl.specs.Reader.{Gives, FailsAt, CutsText};
 ghost use Rattle.pr_tmpl.specs.Parsed.{opens, words_part, IsStep, IsTurn, IsOpened, IsAllWords};
 ghost use Rattle.pr_tmpl.specs.Faults.{IsNoTemplate};
@@ -15,7 +15,7 @@ use crate::letter::{Letter, letter_in};
 use crate::pipe::pipe_in;
 use crate::template::{Part, Template};
 use pr_forms::{Fault, place_of};
-use pr_words::Text;
+use pr_labels::words_crate::Text;
 use std::alloc::{AllocError, Global};
 
 /// Why a text is no template.

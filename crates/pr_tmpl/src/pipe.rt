@@ -6,7 +6,7 @@ ghost use Rattle.pr_forms.specs.Run.{good, bad};
 ghost use Rattle.pr_tmpl.specs.Pieces.{pieces};
 ghost use Rattle.pr_tmpl.specs.declared.kind.Kind.TheVariants.{Bar};
 ghost use Rattle.pr_tmpl.specs.TemplateText.{operand, call, parts, piped, spelled, production, AnOperand, ACall, Scale, Formatted, FromOperand, FromCall, After, Next, Text as TextRule, dollar_rule, dot_rule, external_rule, name_goes_on};
-ghost use Rattle.pr_strings.specs.Reader.{KeepsText};
+ghost use Rattle.pr_labels.specs.pr_strings.Reader.{KeepsText};
 ghost use Rattle.pr_tmpl.specs.Letters.{IsNoSign, are_ascii};
 ghost use Rattle.pr_tmpl.specs.Reader.{Gives, FailsAt, Hands};
 ghost use Rattle.pr_tmpl.specs.Pipes.{after_gap, after_bar, a_pipe, IsCall, IsCalls, IsFromOperand, IsPipe};
@@ -17,7 +17,7 @@ use crate::quoted::{content_in, format_in};
 use crate::template::{Call, Operand};
 use crate::words::{blanks_in, gap_in, label_in, sign_in, word_in};
 use pr_forms::Fault;
-use pr_words::Items;
+use pr_labels::words_crate::Items;
 use std::alloc::Global;
 
 /// The operand whose word ends here.

@@ -7,7 +7,7 @@ ghost use Rattle.pr_tmpl.specs.Pieces.{pieces};
 ghost use Rattle.pr_tmpl.specs.declared.template.Verb.TheVariants.{Fixed};
 ghost use Rattle.pr_tmpl.specs.declared.template.Call.TheVariants.{Printf};
 ghost use Rattle.pr_tmpl.specs.TemplateText.{bytes as bytes_value, verb, format, call, bytes_joined, leading, Content as ContentRule, Before as BeforeRule, Wanted as WantedRule, Places as PlacesRule, LetterF, AfterVerb, SecondPercent, Formatted};
-ghost use Rattle.pr_strings.specs.Reader.{KeepsText, KeepsFront};
+ghost use Rattle.pr_labels.specs.pr_strings.Reader.{KeepsText, KeepsFront};
 ghost use Rattle.pr_tmpl.specs.Reader.{Gives, FailsAt, Leads, Hands, KeepsTextBy, BeginsText};
 ghost use Rattle.pr_tmpl.specs.Quotes.{is_own, means_of, rule_of, ReachesAsOwn, Stops, first_byte, IsControl, IsNoControl, BreaksOffAt, verb_wanted, HasFewPlaces, IsWanted, LeadsUpTo, GoesOnBehind};
 
@@ -16,7 +16,7 @@ use crate::letter::{Letter, letter_in};
 use crate::template::{Format, Places, Verb};
 use crate::words::sign_in;
 use pr_forms::Fault;
-use pr_words::Text;
+use pr_labels::words_crate::Text;
 use std::alloc::{AllocError, Global};
 
 /// A part of a string whose letters stand for themselves: of a text, and of a format before its

@@ -5,14 +5,14 @@ ghost use Rattle.pr_forms.specs.Run.{good, bad};
 ghost use Rattle.pr_tmpl.specs.Pieces.{Piece, pieces};
 ghost use Rattle.pr_tmpl.specs.TemplateText.{Rule, Value, bytes, mark, blanks, blank_at, spelled, second_of, is_name_start, is_name_part, Name, NameRest};
 ghost use Rattle.pr_tmpl.specs.Letters.{IsSign, IsNoSign, are_ascii};
-ghost use Rattle.pr_strings.specs.Reader.{KeepsText};
+ghost use Rattle.pr_labels.specs.pr_strings.Reader.{KeepsText};
 ghost use Rattle.pr_tmpl.specs.Reader.{Gives, FailsAt, Leads, KeepsTextBy};
 
 use crate::kind::Kind;
 use crate::letter::front;
 use pr_forms::Fault;
 use pr_humanize::push_byte;
-use pr_words::Text;
+use pr_labels::words_crate::Text;
 use std::alloc::Global;
 
 /// What follows the byte of this kind at the front.

@@ -1,10 +1,10 @@
 -- What each command promises, by how it ended; and the cause of its status.
 use Rattle.std.proofs.Common.{◌≡◌, ◌≢◌, ℕ, ◌<◌, ◌≤◌, ◌^◌, Bool, true, false, List, [], Option, None, Some, IfSome, Result, Ok, Err, IfOk, OnOk, inl, inr, refl, sym, ap, ◌∙◌, subst, length, take, take_all, arith}
 use Rattle.std.specs.Io.KnownBytes.{Appends}
-use Rattle.pr_history.specs.declared.entry.Entry.{Entry}
+use Rattle.pr_backfill_command.specs.pr_history.declared.entry.Entry.{Entry}
 use Rattle.pr_outside.specs.Causes.{IsCalm, Rose}
 use Rattle.pr_outside.specs.declared.keeping.Row.{Row}
-use Rattle.pr_row.specs.Histories.{history_of}
+use Rattle.pr_backfill_command.specs.pr_row.Histories.{history_of}
 use Rattle.pr_status.specs.Ends.{Ends, KnowsLength, StopsBy, no_row, place_of, status_of, stop_status}
 use Rattle.pr_status.specs.Opening.{OpensBy}
 use Rattle.pr_status.specs.Outside.{Outside, AreCalm, AreTold, Held}
@@ -21,15 +21,15 @@ use Rattle.pr_check_loops.specs.FileChecks.{MeansFileCheck, Telling}
 use Rattle.pr_check_loops.specs.InputChecks.{MeansInputCheck}
 use Rattle.pr_check_loops.specs.declared.verdict.Verdict.{Verdict}
 use Rattle.pr_check_loops.specs.declared.verdict.Verdict.TheVariants.{Good, Complaints, Refused}
-use Rattle.pr_checks.specs.Metrics.{metrics_told}
-use Rattle.pr_checks.specs.RuleFiles.{rules_told}
-use Rattle.pr_test_texts.specs.TestsTold.{tests_told}
-use Rattle.pr_run.specs.Front.{TellsRow}
-use Rattle.pr_run.specs.Rows.{IsBadIn, OverRows}
-use Rattle.pr_run.specs.Runs.{EndsBy, EndsInto, EndsOver, IsStopped, IsWholeRun, MeansRun, RunsBy}
-use Rattle.pr_run.specs.Told.{answers_to, asks_of, bad_row_text, refuses}
+use Rattle.pr_backfill_command.specs.pr_checks.Metrics.{metrics_told}
+use Rattle.pr_backfill_command.specs.pr_checks.RuleFiles.{rules_told}
+use Rattle.pr_backfill_command.specs.pr_test_texts.TestsTold.{tests_told}
+use Rattle.pr_exercise_command.specs.pr_run.Front.{TellsRow}
+use Rattle.pr_exercise_command.specs.pr_run.Rows.{IsBadIn, OverRows}
+use Rattle.pr_exercise_command.specs.pr_run.Runs.{EndsBy, EndsInto, EndsOver, IsStopped, IsWholeRun, MeansRun, RunsBy}
+use Rattle.pr_exercise_command.specs.pr_run.Told.{answers_to, asks_of, bad_row_text, refuses}
 use Rattle.pr_exercise_command.specs.Means.{MeansExercise, exercise_status}
-use Rattle.pr_backfill_texts.specs.Means.{MeansBackfill}
+use Rattle.pr_backfill_command.specs.pr_backfill_texts.Means.{MeansBackfill}
 use Rattle.pr_top.specs.Command.{Command, runs, tests_rules, checks_rules, checks_metrics, exercises, backfills}
 use Rattle.pr_top.specs.Means.{HasBadRow, MeansCommand, MeansUsage, usage_status}
 use Rattle.pr_top.specs.Usage.{usage_text}

@@ -1,31 +1,31 @@
 -- How calls of the engine end, as stops of a run.
 use Rattle.std.proofs.Common.{◌≡◌, ◌≢◌, ℕ, Bool, true, false, cond, List, Option, Some, None, Result, Ok, Err, IfSome, IsSome, IfOk, OnOk, OnErr, refl, sym, ap, ◌∙◌, subst}
-use Rattle.pr_engine.specs.Causes.{HasApplyCause, HasStartCause, broken_after}
-use Rattle.pr_engine.specs.Events.{IsKnownAfter, settings_of}
-use Rattle.pr_engine.specs.Opening.{StartOpens}
-use Rattle.pr_engine.specs.Standing.{Kept, StandsFor}
-use Rattle.pr_history.specs.declared.entry.Entry.{Entry}
-use Rattle.pr_range.specs.Asks.{LastAsks, Passed}
-use Rattle.pr_engine.specs.declared.fault.ApplyError.{ApplyError}
-use Rattle.pr_engine.specs.declared.fault.ApplyError.TheVariants as apply
-use Rattle.pr_engine.specs.declared.fault.StartError.{StartError}
-use Rattle.pr_engine.specs.declared.fault.StartError.TheVariants as start
+use Rattle.pr_backfill_command.specs.pr_engine.Causes.{HasApplyCause, HasStartCause, broken_after}
+use Rattle.pr_backfill_command.specs.pr_engine.Events.{IsKnownAfter, settings_of}
+use Rattle.pr_backfill_command.specs.pr_engine.Opening.{StartOpens}
+use Rattle.pr_backfill_command.specs.pr_engine.Standing.{Kept, StandsFor}
+use Rattle.pr_backfill_command.specs.pr_history.declared.entry.Entry.{Entry}
+use Rattle.pr_backfill_command.specs.pr_range.Asks.{LastAsks, Passed}
+use Rattle.pr_backfill_command.specs.pr_engine.declared.fault.ApplyError.{ApplyError}
+use Rattle.pr_backfill_command.specs.pr_engine.declared.fault.ApplyError.TheVariants as apply
+use Rattle.pr_backfill_command.specs.pr_engine.declared.fault.StartError.{StartError}
+use Rattle.pr_backfill_command.specs.pr_engine.declared.fault.StartError.TheVariants as start
 use Rattle.pr_outside.specs.Meant.{Store}
-use Rattle.pr_row.specs.Histories.{history_of}
-use Rattle.pr_run.specs.Events.{KeepEnds}
-use Rattle.pr_run.specs.Keeping.{TellsOf}
+use Rattle.pr_backfill_command.specs.pr_row.Histories.{history_of}
+use Rattle.pr_exercise_command.specs.pr_run.Events.{KeepEnds}
+use Rattle.pr_exercise_command.specs.pr_run.Keeping.{TellsOf}
 use Rattle.pr_status.specs.Opening.{OpensBy}
 use Rattle.pr_status.proofs.Ended.{in_time_same}
 use Rattle.pr_status.specs.declared.status.Stop.{Stop}
 use Rattle.pr_top.specs.Engine.{IsRunning}
 use Rattle.pr_top.specs.EngineStops.{apply_stop, start_stop}
-use Rattle.pr_world.specs.Outcome.{is_refusal}
-use Rattle.pr_world.specs.Settings.{of_a_run}
-use Rattle.pr_world.specs.Step.{next}
-use Rattle.pr_world.specs.World.{World}
-use Rattle.pr_world.specs.declared.event.Event.{Event}
-use Rattle.pr_world.specs.declared.event.Event.TheVariants as event
-use Rattle.pr_world.specs.declared.report.Report.{Report}
+use Rattle.pr_backfill_command.specs.pr_world.Outcome.{is_refusal}
+use Rattle.pr_backfill_command.specs.pr_world.Settings.{of_a_run}
+use Rattle.pr_backfill_command.specs.pr_world.Step.{next}
+use Rattle.pr_backfill_command.specs.pr_world.World.{World}
+use Rattle.pr_backfill_command.specs.pr_world.declared.event.Event.{Event}
+use Rattle.pr_backfill_command.specs.pr_world.declared.event.Event.TheVariants as event
+use Rattle.pr_backfill_command.specs.pr_world.declared.report.Report.{Report}
 
 pub settings_same : (step : ℕ) → step ≡ 60000 → settings_of step ≡ of_a_run
 settings_same step is = ap settings_of is

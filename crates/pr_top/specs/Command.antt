@@ -6,8 +6,8 @@ use Rattle.std.specs.Option.{option_map}
 use Rattle.std.specs.Str.{bytes_eq}
 use Rattle.pr_words.specs.Decimals.{plain_decimal}
 use Rattle.pr_time.specs.SpanAnswer.{span_of}
-use Rattle.pr_script.specs.Script.{written_time}
-use Rattle.pr_backfill.specs.Times.{backfill_times, times_from}
+use Rattle.pr_exercise_command.specs.pr_script.Script.{written_time}
+use Rattle.pr_backfill_command.specs.pr_backfill.Times.{backfill_times, times_from}
 
 -- All that the words may ask for. Names are those of files, and a path is that of a store; the empty
 -- path is a store in memory.

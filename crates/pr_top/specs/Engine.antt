@@ -1,10 +1,10 @@
 -- Which world the engine of a run stands for.
 use Rattle.std.specs.Prelude.{◌≡◌, ℕ, List, None}
-use Rattle.pr_engine.specs.Standing.{Kept, StandsFor}
-use Rattle.pr_history.specs.declared.entry.Entry.{Entry}
+use Rattle.pr_backfill_command.specs.pr_engine.Standing.{Kept, StandsFor}
+use Rattle.pr_backfill_command.specs.pr_history.declared.entry.Entry.{Entry}
 use Rattle.pr_outside.specs.Meant.{Store}
-use Rattle.pr_range.specs.Asks.{LastAsks, Passed}
-use Rattle.pr_world.specs.World.{World}
+use Rattle.pr_backfill_command.specs.pr_range.Asks.{LastAsks, Passed}
+use Rattle.pr_backfill_command.specs.pr_world.World.{World}
 
 -- The engine stands for it, nothing broke it, and a subquery that names no step has one of a minute.
 pub record IsRunning {R : Type 0} (fits : R → List Entry → Type 0) (asked : R → LastAsks) (passed : R → Passed) (k : Kept R) (store : Store) (w : World) : Type 0 where

@@ -1,8 +1,8 @@
 -- What stops a run whose engine answers an error.
-use Rattle.pr_engine.specs.declared.fault.ApplyError.{ApplyError}
-use Rattle.pr_engine.specs.declared.fault.ApplyError.TheVariants as apply
-use Rattle.pr_engine.specs.declared.fault.StartError.{StartError}
-use Rattle.pr_engine.specs.declared.fault.StartError.TheVariants as start
+use Rattle.pr_backfill_command.specs.pr_engine.declared.fault.ApplyError.{ApplyError}
+use Rattle.pr_backfill_command.specs.pr_engine.declared.fault.ApplyError.TheVariants as apply
+use Rattle.pr_backfill_command.specs.pr_engine.declared.fault.StartError.{StartError}
+use Rattle.pr_backfill_command.specs.pr_engine.declared.fault.StartError.TheVariants as start
 use Rattle.pr_status.specs.declared.status.Stop.{Stop}
 use Rattle.pr_status.specs.declared.status.Stop.TheVariants.{Store, BadRow, Memory}
 

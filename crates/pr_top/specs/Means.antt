@@ -9,13 +9,13 @@ use Rattle.pr_status.specs.declared.status.Status.TheVariants as status
 use Rattle.pr_status.specs.declared.status.Stop.{Stop}
 use Rattle.pr_check_loops.specs.FileChecks.{MeansFileCheck}
 use Rattle.pr_check_loops.specs.InputChecks.{MeansInputCheck}
-use Rattle.pr_checks.specs.Metrics.{metrics_told}
-use Rattle.pr_checks.specs.RuleFiles.{rules_told}
-use Rattle.pr_test_texts.specs.TestsTold.{tests_told}
-use Rattle.pr_run.specs.Rows.{IsBadIn}
-use Rattle.pr_run.specs.Runs.{MeansRun}
+use Rattle.pr_backfill_command.specs.pr_checks.Metrics.{metrics_told}
+use Rattle.pr_backfill_command.specs.pr_checks.RuleFiles.{rules_told}
+use Rattle.pr_backfill_command.specs.pr_test_texts.TestsTold.{tests_told}
+use Rattle.pr_exercise_command.specs.pr_run.Rows.{IsBadIn}
+use Rattle.pr_exercise_command.specs.pr_run.Runs.{MeansRun}
 use Rattle.pr_exercise_command.specs.Means.{MeansExercise}
-use Rattle.pr_backfill_texts.specs.Means.{MeansBackfill}
+use Rattle.pr_backfill_command.specs.pr_backfill_texts.Means.{MeansBackfill}
 use Rattle.pr_top.specs.Command.{Command, runs, tests_rules, checks_rules, checks_metrics, exercises, backfills}
 use Rattle.pr_top.specs.Usage.{usage_text}
 

@@ -1,7 +1,7 @@
 // The commands, by the words of the command line.
 ghost use Rattle.std.specs.Prelude.{◌≡◌, map, string_bytes};
 ghost use Rattle.std.specs.List.{list_all};
-ghost use Rattle.pr_script.specs.Script.{written_time};
+ghost use Rattle.pr_exercise_command.specs.pr_script.Script.{written_time};
 ghost use Rattle.pr_top.specs.Command.{are_names, backfill_by, backfill_of, check_of, command_of, exercise_of, is_file_word, run_of, step_of, test_of, times_by, times_of};
 ghost use Rattle.pr_top.specs.Words.{asks_for};
 

@@ -1,21 +1,21 @@
 // The engine, as what keeps the world of a run.
 ghost use Rattle.std.specs.Prelude.{◌≡◌, ◌<◌, IfOk, IsSome, OnErr, OnOk};
-ghost use Rattle.pr_world.specs.Settings.{of_a_run};
-ghost use Rattle.pr_world.specs.Step.{HasDistinctFiles, next};
-ghost use Rattle.pr_world.specs.World.{World};
-ghost use Rattle.pr_run.specs.Events.{KeepEnds};
-ghost use Rattle.pr_run.specs.Keeping.{TellsOf};
+ghost use Rattle.pr_backfill_command.specs.pr_world.Settings.{of_a_run};
+ghost use Rattle.pr_backfill_command.specs.pr_world.Step.{HasDistinctFiles, next};
+ghost use Rattle.pr_backfill_command.specs.pr_world.World.{World};
+ghost use Rattle.pr_exercise_command.specs.pr_run.Events.{KeepEnds};
+ghost use Rattle.pr_exercise_command.specs.pr_run.Keeping.{TellsOf};
 ghost use Rattle.pr_top.specs.Engine.{IsRunning};
 ghost use Rattle.pr_top.specs.EngineStops.{apply_stop, start_stop};
 
-use pr_engine::{ApplyError, Engine, StartError};
+use pr_backfill_command::engine::{ApplyError, Engine, StartError};
+use pr_backfill_command::range::Ranges;
+use pr_backfill_command::world::{Event, Report};
+use pr_exercise_command::run::Worlds;
 use pr_outside::Keeper;
-use pr_range::Ranges;
-use pr_run::Worlds;
 use pr_status::Stop;
 use pr_time::{Ms, Span};
 use pr_words::Steps;
-use pr_world::{Event, Report};
 use std::alloc::Global;
 use std::marker::Brand;
 use std::sync::ledger::{Blank, Ledger};

@@ -3,9 +3,9 @@ use Rattle.std.proofs.Common.{◌≡◌, ◌≤◌, ℕ, zero, suc, nat_eq, nat_
 use Rattle.std.proofs.lemmas.Bool.Decides.{nat_tests}
 use Rattle.std.proofs.lemmas.List.{map-append, length-map}
 use Rattle.std.proofs.lemmas.Option.{slice_get-map}
-use Rattle.pr_labels.specs.Names.{is_label_name}
-use Rattle.pr_labels.specs.declared.grouping.Grouping.{Grouping}
-use Rattle.pr_labels.specs.declared.matching.Matching.{Matching}
+use Rattle.pr_ast.specs.pr_labels.Names.{is_label_name}
+use Rattle.pr_ast.specs.pr_labels.declared.grouping.Grouping.{Grouping}
+use Rattle.pr_ast.specs.pr_labels.declared.matching.Matching.{Matching}
 use Rattle.pr_match.specs.Matcher.{LabelTest}
 use Rattle.pr_match.specs.Pattern.{is_pattern}
 use Rattle.pr_ast.specs.declared.place.Place.{Place}

@@ -1,8 +1,8 @@
 -- Small trees, for worked examples. Each has its start; where it ends is of no account.
 use Rattle.std.specs.Prelude.{ℕ, Bool, true, false, List, [], codes, Option, None, Some}
-use Rattle.pr_num.specs.declared.value.Num.TheVariants.{NaN}
-use Rattle.pr_labels.specs.declared.matching.Card.{Card}
-use Rattle.pr_labels.specs.declared.matching.Matching.{Matching}
+use Rattle.pr_ast.specs.pr_num.declared.value.Num.TheVariants.{NaN}
+use Rattle.pr_ast.specs.pr_labels.declared.matching.Card.{Card}
+use Rattle.pr_ast.specs.pr_labels.declared.matching.Matching.{Matching}
 use Rattle.pr_ast.specs.declared.place.Place.{Place}
 use Rattle.pr_ast.specs.declared.names.BinOp.{BinOp}
 use Rattle.pr_ast.specs.declared.names.AggOp.{AggOp}

@@ -2,9 +2,9 @@
 use Rattle.std.specs.Prelude.{ℕ, Bool, true, false, not, ◌&&◌, ◌||◌, List, Option, None, Some, is_some, Result, Ok, Err, if◌then◌else◌}
 use Rattle.std.specs.List.{list_any}
 use Rattle.std.specs.Str.{bytes_eq}
-use Rattle.pr_labels.specs.declared.matching.Matching.{Matching}
-use Rattle.pr_labels.specs.declared.matching.Card.{Card}
-use Rattle.pr_labels.specs.declared.matching.Card.TheVariants.{OneToOne, ManyToOne, OneToMany}
+use Rattle.pr_ast.specs.pr_labels.declared.matching.Matching.{Matching}
+use Rattle.pr_ast.specs.pr_labels.declared.matching.Card.{Card}
+use Rattle.pr_ast.specs.pr_labels.declared.matching.Card.TheVariants.{OneToOne, ManyToOne, OneToMany}
 use Rattle.pr_ast.specs.declared.names.BinOp.{BinOp}
 use Rattle.pr_ast.specs.declared.names.BinOp.TheVariants.{Or, And, Unless, Equal, NotEqual, LessEqual, Less, GreaterEqual, Greater}
 use Rattle.pr_types.specs.declared.kind.ValueType.{ValueType}

@@ -1,6 +1,6 @@
 -- What is known of the parts of a tree that has a type.
 use Rattle.std.specs.Prelude.{◌≡◌, ℕ, ◌≤◌, Bool, true, false, List, [], ◌∷◌, ◌++◌, length, slice_get, Option, None, Some, Ok}
-use Rattle.pr_labels.specs.declared.matching.Matching.{Matching}
+use Rattle.pr_ast.specs.pr_labels.declared.matching.Matching.{Matching}
 use Rattle.pr_ast.specs.declared.names.BinOp.{BinOp}
 use Rattle.pr_ast.specs.Tree.{Tree, number, text, select, range, sub, neg, binary, call, aggregate, none, more}
 use Rattle.pr_types.specs.declared.kind.ValueType.{ValueType}

@@ -1,7 +1,7 @@
 -- What a selector asks of label sets, and which selectors are faulty.
 use Rattle.std.specs.Prelude.{ℕ, Bool, ◌&&◌, List, [], ◌∷◌, ◌++◌, map, Option, None, Some, is_none, Result, Ok, Err, if◌then◌else◌}
 use Rattle.std.specs.List.{list_all}
-use Rattle.pr_labels.specs.LabelSet.{metric_label}
+use Rattle.pr_ast.specs.pr_labels.LabelSet.{metric_label}
 use Rattle.pr_match.specs.declared.op.MatchOp.{MatchOp}
 use Rattle.pr_match.specs.declared.op.MatchOp.TheVariants as op
 use Rattle.pr_match.specs.Matcher.{LabelTest, label_test, may_follow, meets_all}

@@ -1,7 +1,7 @@
 -- The type of a tree, or its first fault.
 use Rattle.std.specs.Prelude.{ℕ, nat_eq, nat_le, Bool, true, false, List, [], ◌∷◌, ◌++◌, slice_get, unwrap_or, Option, None, Some, Result, Ok, Err, if◌then◌else◌}
-use Rattle.pr_labels.specs.declared.matching.Matching.{Matching}
-use Rattle.pr_labels.specs.Names.{is_label_name}
+use Rattle.pr_ast.specs.pr_labels.declared.matching.Matching.{Matching}
+use Rattle.pr_ast.specs.pr_labels.Names.{is_label_name}
 use Rattle.pr_match.specs.Pattern.{is_pattern}
 use Rattle.pr_ast.specs.declared.names.BinOp.{BinOp}
 use Rattle.pr_ast.specs.declared.names.AggOp.{AggOp}

@@ -11,9 +11,9 @@ use crate::building::Built;
 use crate::counting::{Counts, counts_in};
 use crate::kind::{TypeError, TypeFault, TypeKind, ValueType};
 use crate::typing::{start, type_of};
+use pr_ast::words_crate::Items;
 use pr_ast::{Expr, reach};
 use pr_match::{Matcher, Pattern};
-use pr_words::Items;
 use std::alloc::Global;
 use std::marker::Model;
 

@@ -1,7 +1,7 @@
 //! What the definitions say of small expressions. An example is a function that does nothing, and
 //! its contract is what it shows.
 ghost use Rattle.std.specs.Prelude.{◌≡◌, codes, Some, None, Ok, Err, true, false, [], ◌∷◌};
-ghost use Rattle.pr_labels.specs.declared.matching.Card.TheVariants as card;
+ghost use Rattle.pr_ast.specs.pr_labels.declared.matching.Card.TheVariants as card;
 ghost use Rattle.pr_ast.specs.Tree.{call, none};
 ghost use Rattle.pr_ast.specs.Examples.{matcher, one, two};
 ghost use Rattle.pr_ast.specs.declared.names.BinOp.TheVariants as op;

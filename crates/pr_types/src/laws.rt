@@ -1,9 +1,9 @@
 //! Laws of the definitions that contracts of this crate cite. A law is a function that does
 //! nothing, and its contract is the theorem.
 ghost use Rattle.std.specs.Prelude.{◌≡◌, ◌≤◌, ◌<◌, ◌^◌, ◌-◌, ◌++◌, ◌∷◌, [], ℕ, Bool, true, List, length, Option, None, Some, Ok};
-ghost use Rattle.pr_labels.specs.Names.{is_label_name};
-ghost use Rattle.pr_labels.specs.declared.grouping.Grouping.{Grouping};
-ghost use Rattle.pr_labels.specs.declared.matching.Matching.{Matching};
+ghost use Rattle.pr_ast.specs.pr_labels.Names.{is_label_name};
+ghost use Rattle.pr_ast.specs.pr_labels.declared.grouping.Grouping.{Grouping};
+ghost use Rattle.pr_ast.specs.pr_labels.declared.matching.Matching.{Matching};
 ghost use Rattle.pr_match.specs.Pattern.{is_pattern};
 ghost use Rattle.pr_ast.specs.declared.place.Place.{Place};
 ghost use Rattle.pr_ast.specs.declared.names.BinOp.{BinOp};

@@ -27,5 +27,6 @@ pub use laws::{
     texts_of_typed_expressions_are_good,
 };
 pub use operation::compares;
+pub use pr_ast::lex as lex;
 pub use signature::Signature;
 pub use texts::{content, content_at};

@@ -7,9 +7,9 @@ ghost use Rattle.pr_types.specs.Typed.{typed_operation, step_fault, typed_subque
 use crate::kind::{TypeFault, TypeKind, ValueType};
 use crate::signature::{Operand, is_type, wanting};
 use pr_ast::BinOp;
-use pr_labels::{Card, Matching};
-use pr_time::Span;
-use pr_words::Text;
+use pr_ast::labels::{Card, Matching};
+use pr_ast::time::Span;
+use pr_ast::words_crate::Text;
 
 /// Whether an operator is a comparison. (Prometheus: Operators, "Comparison binary operators".)
 pub fn compares(op: BinOp) -> bool

@@ -12,8 +12,8 @@ use crate::operation::{instant, typed_operation, typed_subquery};
 use crate::selection::checked_tests;
 use crate::signature::Operand;
 use crate::texts::{content, typed_aggregation, typed_call};
+use pr_ast::words_crate::Items;
 use pr_ast::{Expr, ExprKind, Selector};
-use pr_words::Items;
 use std::alloc::Global;
 
 /// Where an expression starts.

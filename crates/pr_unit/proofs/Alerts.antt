@@ -7,16 +7,16 @@ use Rattle.std.specs.Str.{bytes_eq}
 use Rattle.std.proofs.lemmas.List.{length-map}
 use Rattle.std.proofs.lemmas.Option.{slice_get-map}
 use Rattle.pr_history.specs.declared.entry.Entry.{Entry}
-use Rattle.pr_lineage.specs.declared.found.Found.{Found}
-use Rattle.pr_lineage.specs.declared.record.Record.{Record}
-use Rattle.pr_lineage.specs.Records.{is_firing, records}
-use Rattle.pr_range.specs.Asks.{LastAsks, Passed}
-use Rattle.pr_rulefile.specs.declared.rules.RuleDef.{RuleDef}
-use Rattle.pr_rulefile.specs.Groups.{Group as Definition}
-use Rattle.pr_rulefile.specs.Rules.{Rule, rule_of_def}
-use Rattle.pr_rules.specs.Groups.{Group, RuleState, rules_of}
-use Rattle.pr_verdict.specs.Verdict.{firing_by, firing_of, found_of}
-use Rattle.pr_rule_step.specs.declared.remembered.Remembered.{Remembered}
+use Rattle.pr_group.specs.pr_lineage.declared.found.Found.{Found}
+use Rattle.pr_group.specs.pr_lineage.declared.record.Record.{Record}
+use Rattle.pr_group.specs.pr_lineage.Records.{is_firing, records}
+use Rattle.pr_slide.specs.pr_range.Asks.{LastAsks, Passed}
+use Rattle.pr_group.specs.pr_rulefile.declared.rules.RuleDef.{RuleDef}
+use Rattle.pr_group.specs.pr_rulefile.Groups.{Group as Definition}
+use Rattle.pr_group.specs.pr_rulefile.Rules.{Rule, rule_of_def}
+use Rattle.pr_group.specs.pr_rules.Groups.{Group, RuleState, rules_of}
+use Rattle.pr_expected.specs.pr_verdict.Verdict.{firing_by, firing_of, found_of}
+use Rattle.pr_group.specs.pr_rule_step.declared.remembered.Remembered.{Remembered}
 use Rattle.pr_group.specs.Keeping.{KeepsGroup, KeptGroup, alerts_at, alerts_of_rule}
 use Rattle.pr_unit.proofs.Lists.{IsThere, flat_joined, take_there, there_within, within_list}
 

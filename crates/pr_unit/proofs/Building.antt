@@ -1,14 +1,14 @@
 -- The groups of files, one after another.
 use Rattle.std.proofs.Common.{◌≡◌, ℕ, List, [], ◌∷◌, ◌++◌, map, refl, sym, ap, subst, ◌∙◌, append_assoc, append-nil}
 use Rattle.pr_history.specs.declared.entry.Entry.{Entry}
-use Rattle.pr_range.specs.Asks.{LastAsks, Passed}
-use Rattle.pr_rulefile.specs.declared.rules.GroupDef.{GroupDef}
-use Rattle.pr_rulefile.specs.Groups.{group_of_def}
-use Rattle.pr_rules.specs.Groups.{Group, fresh}
-use Rattle.pr_rules.specs.Reloads.{LoadedFile}
-use Rattle.pr_rules.specs.Settings.{Settings}
-use Rattle.pr_rules.specs.Replays.{unwaiting_groups}
-use Rattle.pr_world.specs.declared.event.NamedFile.{NamedFile}
+use Rattle.pr_slide.specs.pr_range.Asks.{LastAsks, Passed}
+use Rattle.pr_group.specs.pr_rulefile.declared.rules.GroupDef.{GroupDef}
+use Rattle.pr_group.specs.pr_rulefile.Groups.{group_of_def}
+use Rattle.pr_group.specs.pr_rules.Groups.{Group, fresh}
+use Rattle.pr_group.specs.pr_rules.Reloads.{LoadedFile}
+use Rattle.pr_group.specs.pr_rules.Settings.{Settings}
+use Rattle.pr_group.specs.pr_rules.Replays.{unwaiting_groups}
+use Rattle.pr_expected.specs.pr_world.declared.event.NamedFile.{NamedFile}
 use Rattle.pr_group.specs.Keeping.{KeepsGroup, KeptGroup, settings_of}
 use Rattle.pr_unit.specs.Kept.{KeepsGroups}
 use Rattle.pr_unit.specs.Loaded.{LoadAs, LoadsAs}

@@ -3,10 +3,10 @@ use Rattle.std.proofs.Common.{◌≡◌, ◌≢◌, ℕ, zero, suc, ◌+◌, ◌
 use Rattle.std.specs.Prelude.{◌==◌, not, false, slice_set}
 use Rattle.std.proofs.lemmas.Bool.Decides.{nat_tests}
 use Rattle.std.specs.List.{AllByRecursion, enumerate_from, flat_map}
-use Rattle.pr_verdict.specs.declared.failure.Failure.{Failure}
-use Rattle.pr_rules.specs.Groups.{Group}
-use Rattle.pr_testfile.specs.Tests.{PlainTest}
-use Rattle.pr_verdict.specs.Verdict.{alert_check, expr_check, test_verdict}
+use Rattle.pr_expected.specs.pr_verdict.declared.failure.Failure.{Failure}
+use Rattle.pr_group.specs.pr_rules.Groups.{Group}
+use Rattle.pr_feeding.specs.pr_testfile.Tests.{PlainTest}
+use Rattle.pr_expected.specs.pr_verdict.Verdict.{alert_check, expr_check, test_verdict}
 use Rattle.pr_test_rounds.proofs.Evaluating.{same_or_not, set_other}
 use Rattle.pr_unit.specs.Run.{IsOutside}
 use Rattle.pr_unit.specs.Slots.{AreAllFilled, AreFilled, AreFilling, empty_slots}

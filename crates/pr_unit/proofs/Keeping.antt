@@ -3,11 +3,11 @@ use Rattle.std.proofs.Common.{◌≡◌, ℕ, zero, suc, not, List, [], ◌∷�
 use Rattle.std.specs.List.{AllZip}
 use Rattle.std.specs.Str.{bytes_eq}
 use Rattle.pr_history.specs.declared.entry.Entry.{Entry}
-use Rattle.pr_range.specs.Asks.{LastAsks, Passed}
-use Rattle.pr_rulefile.specs.Groups.{Group as Definition}
-use Rattle.pr_rules.specs.Groups.{Group}
-use Rattle.pr_rules.specs.Settings.{Settings}
-use Rattle.pr_verdict.specs.Events.{by_names, is_called}
+use Rattle.pr_slide.specs.pr_range.Asks.{LastAsks, Passed}
+use Rattle.pr_group.specs.pr_rulefile.Groups.{Group as Definition}
+use Rattle.pr_group.specs.pr_rules.Groups.{Group}
+use Rattle.pr_group.specs.pr_rules.Settings.{Settings}
+use Rattle.pr_expected.specs.pr_verdict.Events.{by_names, is_called}
 use Rattle.pr_group.specs.Keeping.{KeepsGroup, KeptGroup, settings_of}
 use Rattle.pr_unit.specs.Kept.{KeepsGroups, name_of}
 use Rattle.pr_unit.specs.Ordered.{is_so_named, named_first}

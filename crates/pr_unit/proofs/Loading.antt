@@ -4,19 +4,19 @@ use Rattle.std.specs.Prelude.{All}
 use Rattle.std.specs.List.{AllByRecursion, IsDistinct}
 use Rattle.std.specs.Str.{bytes_eq}
 use Rattle.std.proofs.lemmas.List.Elements.{All-from_recursion, recursion_from_All}
-use Rattle.pr_query.specs.Answers.{go_on}
-use Rattle.pr_rulefile.specs.declared.rules.GroupDef.{GroupDef}
-use Rattle.pr_rulefile.specs.declared.rules.RuleDef.{RuleDef}
-use Rattle.pr_rulefile.specs.File.{RuleReading, gives_file, gives_problems, rule_file_of}
-use Rattle.pr_rulefile.specs.Groups.{Group as Definition, group_of_def}
-use Rattle.pr_rulefile.specs.Rules.{rule_of_def}
-use Rattle.pr_rulefile.proofs.SomeProblems.{problem_is_told}
-use Rattle.pr_rulefile.proofs.SoundGroups.{all_rules, sound_file}
-use Rattle.pr_rule_result.specs.Templates.{HasTemplates, HaveTemplates}
-use Rattle.pr_rules.specs.Reloads.{LoadedFile}
-use Rattle.pr_world.specs.declared.event.NamedFile.{NamedFile}
-use Rattle.pr_world.specs.declared.report.Report.{Report}
-use Rattle.pr_world.specs.Rounds.{all_loaded, groups_by, with_groups}
+use Rattle.pr_group.specs.pr_query.Answers.{go_on}
+use Rattle.pr_group.specs.pr_rulefile.declared.rules.GroupDef.{GroupDef}
+use Rattle.pr_group.specs.pr_rulefile.declared.rules.RuleDef.{RuleDef}
+use Rattle.pr_group.specs.pr_rulefile.File.{RuleReading, gives_file, gives_problems, rule_file_of}
+use Rattle.pr_group.specs.pr_rulefile.Groups.{Group as Definition, group_of_def}
+use Rattle.pr_group.specs.pr_rulefile.Rules.{rule_of_def}
+use Rattle.pr_group.proofs.RulefileSomeProblems.{problem_is_told}
+use Rattle.pr_group.proofs.RulefileSoundGroups.{all_rules, sound_file}
+use Rattle.pr_group.specs.pr_rule_result.Templates.{HasTemplates, HaveTemplates}
+use Rattle.pr_group.specs.pr_rules.Reloads.{LoadedFile}
+use Rattle.pr_expected.specs.pr_world.declared.event.NamedFile.{NamedFile}
+use Rattle.pr_expected.specs.pr_world.declared.report.Report.{Report}
+use Rattle.pr_expected.specs.pr_world.Rounds.{all_loaded, groups_by, with_groups}
 use Rattle.pr_test_rounds.specs.Rounds.{AreToldApart}
 use Rattle.pr_unit.specs.Loaded.{LoadAs, LoadsAs}
 

@@ -5,17 +5,17 @@ use Rattle.std.proofs.lemmas.List.{length-map}
 use Rattle.pr_history.specs.declared.entry.Entry.{Entry}
 use Rattle.pr_history.specs.Admission.{IsLawful, put_all}
 use Rattle.pr_history.proofs.Lawful.{put_all_lawful}
-use Rattle.pr_head.specs.Holds.{Holds, IsWhole}
-use Rattle.pr_range.specs.Asks.{LastAsks, Passed}
-use Rattle.pr_puts.specs.Puts.{admitted}
-use Rattle.pr_puts.proofs.Putting.{puts_admitted}
-use Rattle.pr_intake.specs.Intake.{HasTaken, Series}
-use Rattle.pr_rules.specs.Evaluations.{GroupStep, group_step}
-use Rattle.pr_rules.specs.Groups.{Group}
-use Rattle.pr_rules.specs.Settings.{Settings}
-use Rattle.pr_world.specs.Step.{next, world_after}
-use Rattle.pr_world.specs.World.{World}
-use Rattle.pr_verdict.specs.Events.{eval_at}
+use Rattle.pr_slide.specs.pr_head.Holds.{Holds, IsWhole}
+use Rattle.pr_slide.specs.pr_range.Asks.{LastAsks, Passed}
+use Rattle.pr_feeding.specs.pr_puts.Puts.{admitted}
+use Rattle.pr_feeding.proofs.PutsPutting.{puts_admitted}
+use Rattle.pr_feeding.specs.pr_intake.Intake.{HasTaken, Series}
+use Rattle.pr_group.specs.pr_rules.Evaluations.{GroupStep, group_step}
+use Rattle.pr_group.specs.pr_rules.Groups.{Group}
+use Rattle.pr_group.specs.pr_rules.Settings.{Settings}
+use Rattle.pr_expected.specs.pr_world.Step.{next, world_after}
+use Rattle.pr_expected.specs.pr_world.World.{World}
+use Rattle.pr_expected.specs.pr_verdict.Events.{eval_at}
 use Rattle.pr_test_rounds.specs.Rounds.{AreApart, HaveSites, IsInRound, site}
 use Rattle.pr_test_rounds.proofs.Adding.{HasAdded}
 use Rattle.pr_test_rounds.proofs.Evaluating.{HasEvaluated, next_in_round, same_or_not, set_other, world_next}

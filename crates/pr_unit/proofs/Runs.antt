@@ -3,18 +3,18 @@ use Rattle.std.proofs.Common.{◌≡◌, ℕ, ℤ, zero, suc, ◌+◌, ◌-◌, 
 use Rattle.std.proofs.Math.Nat.{mul-le-mul_right}
 use Rattle.std.proofs.lemmas.List.{length-map}
 use Rattle.pr_history.specs.declared.entry.Entry.{Entry}
-use Rattle.pr_head.specs.Holds.{Holds, IsWhole}
-use Rattle.pr_inputs.specs.declared.input.Input.{Input}
-use Rattle.pr_range.specs.Asks.{LastAsks, Passed}
-use Rattle.pr_intake.specs.Intake.{HasTaken}
-use Rattle.pr_rules.specs.Groups.{Group}
-use Rattle.pr_rules.specs.Settings.{Settings}
-use Rattle.pr_world.specs.Step.{world_after}
-use Rattle.pr_world.specs.World.{World}
-use Rattle.pr_testfile.specs.Series.{entries_at, places}
-use Rattle.pr_testfile.specs.Tests.{plain_test}
-use Rattle.pr_testfile.specs.declared.tests.Test.{Test}
-use Rattle.pr_verdict.specs.Events.{begun, eval_at, last_check, settings_of, world_at}
+use Rattle.pr_slide.specs.pr_head.Holds.{Holds, IsWhole}
+use Rattle.pr_feeding.specs.pr_inputs.declared.input.Input.{Input}
+use Rattle.pr_slide.specs.pr_range.Asks.{LastAsks, Passed}
+use Rattle.pr_feeding.specs.pr_intake.Intake.{HasTaken}
+use Rattle.pr_group.specs.pr_rules.Groups.{Group}
+use Rattle.pr_group.specs.pr_rules.Settings.{Settings}
+use Rattle.pr_expected.specs.pr_world.Step.{world_after}
+use Rattle.pr_expected.specs.pr_world.World.{World}
+use Rattle.pr_feeding.specs.pr_testfile.Series.{entries_at, places}
+use Rattle.pr_feeding.specs.pr_testfile.Tests.{plain_test}
+use Rattle.pr_feeding.specs.pr_testfile.declared.tests.Test.{Test}
+use Rattle.pr_expected.specs.pr_verdict.Events.{begun, eval_at, last_check, settings_of, world_at}
 use Rattle.pr_test_rounds.specs.Rounds.{AreApart, AreNew, HasCome, HaveSites, IsInRound, place_events, round_events, site}
 use Rattle.pr_test_rounds.proofs.Adding.{HasAdded}
 use Rattle.pr_test_rounds.proofs.Coming.{begins, goes_by, place_comes, round_comes, world_is}

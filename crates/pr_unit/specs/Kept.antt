@@ -2,12 +2,12 @@
 use Rattle.std.specs.Prelude.{◌≡◌, ℕ, ℤ, List, length, slice_get, Some}
 use Rattle.pr_history.specs.declared.entry.Entry.{Entry}
 use Rattle.pr_history.specs.Admission.{IsLawful}
-use Rattle.pr_head.specs.Holds.{Holds, IsWhole}
-use Rattle.pr_range.specs.Asks.{LastAsks, Passed}
-use Rattle.pr_intake.specs.Intake.{Series}
-use Rattle.pr_rules.specs.Groups.{Group}
-use Rattle.pr_rules.specs.Settings.{Settings}
-use Rattle.pr_world.specs.World.{World}
+use Rattle.pr_slide.specs.pr_head.Holds.{Holds, IsWhole}
+use Rattle.pr_slide.specs.pr_range.Asks.{LastAsks, Passed}
+use Rattle.pr_feeding.specs.pr_intake.Intake.{Series}
+use Rattle.pr_group.specs.pr_rules.Groups.{Group}
+use Rattle.pr_group.specs.pr_rules.Settings.{Settings}
+use Rattle.pr_expected.specs.pr_world.World.{World}
 use Rattle.pr_group.specs.Keeping.{KeepsGroup, KeptGroup, settings_of}
 
 -- Each stands for the group in its place, and was told the same.

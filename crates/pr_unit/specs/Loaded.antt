@@ -1,9 +1,9 @@
 -- The rule files of a test, as they are read.
 use Rattle.std.specs.Prelude.{◌≡◌, ◌^◌, ◌<◌, List, length}
 use Rattle.std.specs.List.{AllByRecursion, AllZip}
-use Rattle.pr_rulefile.specs.File.{gives_file, rule_file_of}
-use Rattle.pr_rules.specs.Reloads.{LoadedFile}
-use Rattle.pr_world.specs.declared.event.NamedFile.{NamedFile}
+use Rattle.pr_group.specs.pr_rulefile.File.{gives_file, rule_file_of}
+use Rattle.pr_group.specs.pr_rules.Reloads.{LoadedFile}
+use Rattle.pr_expected.specs.pr_world.declared.event.NamedFile.{NamedFile}
 
 -- a text of a file may be read
 abbrev pub AreShort : List NamedFile → Type 0

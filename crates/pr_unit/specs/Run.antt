@@ -2,15 +2,15 @@
 use Rattle.std.specs.Prelude.{◌≡◌, ℕ, ◌+◌, ◌-◌, ◌*◌, ◌/◌, ◌<◌, ◌≤◌, ◌⊎◌, List, Option, Some, None}
 use Rattle.std.specs.List.{AllByRecursion}
 use Rattle.pr_history.specs.declared.entry.Entry.{Entry}
-use Rattle.pr_inputs.specs.declared.input.Input.{Input}
-use Rattle.pr_range.specs.Asks.{LastAsks, Passed}
-use Rattle.pr_rules.specs.Groups.{Group}
-use Rattle.pr_rules.specs.Settings.{Settings}
-use Rattle.pr_world.specs.World.{World}
-use Rattle.pr_testfile.specs.Series.{places}
-use Rattle.pr_testfile.specs.declared.tests.Test.{Test}
-use Rattle.pr_testfile.specs.Tests.{PlainTest, plain_test}
-use Rattle.pr_verdict.specs.Events.{last_check, settings_of}
+use Rattle.pr_feeding.specs.pr_inputs.declared.input.Input.{Input}
+use Rattle.pr_slide.specs.pr_range.Asks.{LastAsks, Passed}
+use Rattle.pr_group.specs.pr_rules.Groups.{Group}
+use Rattle.pr_group.specs.pr_rules.Settings.{Settings}
+use Rattle.pr_expected.specs.pr_world.World.{World}
+use Rattle.pr_feeding.specs.pr_testfile.Series.{places}
+use Rattle.pr_feeding.specs.pr_testfile.declared.tests.Test.{Test}
+use Rattle.pr_feeding.specs.pr_testfile.Tests.{PlainTest, plain_test}
+use Rattle.pr_expected.specs.pr_verdict.Events.{last_check, settings_of}
 use Rattle.pr_test_rounds.specs.Rounds.{HasCome}
 use Rattle.pr_feeding.specs.Feeding.{HasFed}
 use Rattle.pr_unit.specs.declared.run.Run.{Run}

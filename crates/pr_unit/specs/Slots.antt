@@ -1,10 +1,10 @@
 -- What is found at checks, each in its slot.
 use Rattle.std.specs.Prelude.{◌≡◌, ℕ, ◌+◌, ◌<◌, ◌≤◌, List, [], length, map, replicate, slice_get, Some}
 use Rattle.std.specs.List.{enumerate_from}
-use Rattle.pr_rules.specs.Groups.{Group}
-use Rattle.pr_testfile.specs.Tests.{PlainTest}
-use Rattle.pr_verdict.specs.declared.failure.Failure.{Failure}
-use Rattle.pr_verdict.specs.Verdict.{alert_check, expr_check}
+use Rattle.pr_group.specs.pr_rules.Groups.{Group}
+use Rattle.pr_feeding.specs.pr_testfile.Tests.{PlainTest}
+use Rattle.pr_expected.specs.pr_verdict.declared.failure.Failure.{Failure}
+use Rattle.pr_expected.specs.pr_verdict.Verdict.{alert_check, expr_check}
 
 -- What is found at the checks up to a time stands in their slots. Checks are counted from 1.
 pub record AreFilled {C : Type 0} (found : ℕ × C → List Failure) (time : C → ℕ) (checks : List C) (from : ℕ) (slots : List (List Failure)) : Type 0 where

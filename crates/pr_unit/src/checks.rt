@@ -1,23 +1,23 @@
 // Checks at the time that a test has come to.
 ghost use Rattle.std.specs.Prelude.{◌≡◌, ℕ, ◌+◌, ◌<◌, List, IfOk, OnOk, length, map};
-ghost use Rattle.pr_rules.specs.Groups.{Group};
-ghost use Rattle.pr_rules.specs.Settings.{Settings};
-ghost use Rattle.pr_world.specs.World.{World};
-ghost use Rattle.pr_query.specs.Meaning.{meaning};
-ghost use Rattle.pr_testfile.specs.Checks.{plain_check};
-ghost use Rattle.pr_testfile.specs.Tests.{PlainTest};
-ghost use Rattle.pr_verdict.specs.Events.{world_at};
-ghost use Rattle.pr_verdict.specs.Verdict.{alert_check, alert_failure, expr_check, expr_failure, firing, given_by};
+ghost use Rattle.pr_group.specs.pr_rules.Groups.{Group};
+ghost use Rattle.pr_group.specs.pr_rules.Settings.{Settings};
+ghost use Rattle.pr_expected.specs.pr_world.World.{World};
+ghost use Rattle.pr_group.specs.pr_query.Meaning.{meaning};
+ghost use Rattle.pr_feeding.specs.pr_testfile.Checks.{plain_check};
+ghost use Rattle.pr_feeding.specs.pr_testfile.Tests.{PlainTest};
+ghost use Rattle.pr_expected.specs.pr_verdict.Events.{world_at};
+ghost use Rattle.pr_expected.specs.pr_verdict.Verdict.{alert_check, alert_failure, expr_check, expr_failure, firing, given_by};
 ghost use Rattle.pr_unit.specs.Kept.{StandsForWorld};
 ghost use Rattle.pr_unit.specs.Slots.{AreFilled, AreFilling};
 
 use crate::firing::firing;
 use crate::run::Run;
+use pr_expected::verdict::Failure;
 use pr_expected::{alert_failure, expr_failure, given};
-use pr_range::Ranges;
-use pr_testfile::{AlertCheck, ExprCheck};
+use pr_feeding::testfile::{AlertCheck, ExprCheck};
+use pr_slide::range::Ranges;
 use pr_time::{Ms, Span};
-use pr_verdict::Failure;
 use pr_words::Items;
 use std::alloc::{AllocError, Global};
 

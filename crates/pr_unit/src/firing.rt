@@ -3,21 +3,21 @@ ghost use Rattle.std.specs.Prelude.{◌≡◌, ℕ, ◌<◌, ◌++◌, ◌&&◌,
 ghost use Rattle.std.specs.List.{flat_map};
 ghost use Rattle.std.specs.Str.{bytes_eq};
 ghost use Rattle.pr_history.specs.declared.entry.Entry.{Entry};
-ghost use Rattle.pr_fields.specs.Order.{ordered};
-ghost use Rattle.pr_rules.specs.Groups.{Group, RuleState};
-ghost use Rattle.pr_rules.specs.Settings.{Settings};
-ghost use Rattle.pr_testfile.specs.Alerts.{is_found_before};
-ghost use Rattle.pr_verdict.specs.Verdict.{firing_of};
+ghost use Rattle.pr_feeding.specs.pr_fields.Order.{ordered};
+ghost use Rattle.pr_group.specs.pr_rules.Groups.{Group, RuleState};
+ghost use Rattle.pr_group.specs.pr_rules.Settings.{Settings};
+ghost use Rattle.pr_feeding.specs.pr_testfile.Alerts.{is_found_before};
+ghost use Rattle.pr_expected.specs.pr_verdict.Verdict.{firing_of};
 ghost use Rattle.pr_group.specs.Keeping.{KeepsGroup};
 ghost use Rattle.pr_unit.specs.Kept.{KeepsGroups};
 
-use pr_alert::records_of_a_lineage_stand_for_it;
 use pr_expected::push_firing;
+use pr_feeding::testfile::founds_in_order;
 use pr_group::GroupOver;
-use pr_lineage::Found;
-use pr_range::Ranges;
-use pr_rulefile::RuleDef;
-use pr_testfile::founds_in_order;
+use pr_group::alert::records_of_a_lineage_stand_for_it;
+use pr_group::lineage::Found;
+use pr_group::rulefile::RuleDef;
+use pr_slide::range::Ranges;
 use pr_words::Items;
 use std::alloc::{AllocError, Global};
 

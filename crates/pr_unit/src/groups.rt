@@ -1,23 +1,23 @@
 // The groups of rule files, to which nothing has happened.
 ghost use Rattle.std.specs.Prelude.{◌≡◌, ◌<◌, ◌^◌, ◌++◌, All, List, IfOk, OnOk, length, map};
 ghost use Rattle.pr_history.specs.declared.entry.Entry.{Entry};
-ghost use Rattle.pr_rulefile.specs.Groups.{group_of_def};
-ghost use Rattle.pr_rule_result.specs.Templates.{HaveTemplates};
-ghost use Rattle.pr_rules.specs.Groups.{Group, fresh};
-ghost use Rattle.pr_rules.specs.Reloads.{LoadedFile};
-ghost use Rattle.pr_rules.specs.Replays.{unwaiting_groups};
-ghost use Rattle.pr_rules.specs.Settings.{Settings};
+ghost use Rattle.pr_group.specs.pr_rulefile.Groups.{group_of_def};
+ghost use Rattle.pr_group.specs.pr_rule_result.Templates.{HaveTemplates};
+ghost use Rattle.pr_group.specs.pr_rules.Groups.{Group, fresh};
+ghost use Rattle.pr_group.specs.pr_rules.Reloads.{LoadedFile};
+ghost use Rattle.pr_group.specs.pr_rules.Replays.{unwaiting_groups};
+ghost use Rattle.pr_group.specs.pr_rules.Settings.{Settings};
 ghost use Rattle.pr_group.specs.Keeping.{KeepsGroup, settings_of};
 ghost use Rattle.pr_unit.specs.Kept.{KeepsGroups};
 ghost use Rattle.pr_unit.specs.Loaded.{AreShort, LoadAs, LoadsAs};
 
+use pr_expected::world::NamedFile;
+use pr_feeding::tmpl::External;
 use pr_group::GroupOver;
-use pr_range::Ranges;
-use pr_rulefile::{GroupDef, RuleError, read};
+use pr_group::rulefile::{GroupDef, RuleError, read};
+use pr_slide::range::Ranges;
 use pr_time::Span;
-use pr_tmpl::External;
 use pr_words::{Items, Text};
-use pr_world::NamedFile;
 use std::alloc::{AllocError, Global};
 
 fn copy_external(alloc: Global, external: &External) -> Result<External, AllocError>

@@ -12,4 +12,6 @@ mod test;
 mod tests;
 mod times;
 
+pub use pr_slide as slide;
+pub use pr_slide::range as range;
 pub use tests::{run_tests, run_tests_over};

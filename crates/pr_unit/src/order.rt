@@ -4,7 +4,7 @@ ghost use Rattle.pr_unit.specs.Ordered.{is_so_named, named_first};
 ghost use Rattle.pr_unit.specs.Kept.{name_of};
 
 use pr_group::GroupOver;
-use pr_range::Ranges;
+use pr_slide::range::Ranges;
 use pr_words::Text;
 use std::alloc::{AllocError, Global};
 

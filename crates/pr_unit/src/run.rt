@@ -1,19 +1,19 @@
 // A test while it runs.
 ghost use Rattle.std.specs.Prelude.{◌≡◌, ℕ, ◌+◌, ◌*◌, ◌<◌, ◌≤◌, ◌^◌, ◌↔◌, List, IsTrue, IfOk, OnOk};
-ghost use Rattle.pr_inputs.specs.declared.input.Input.{Input};
-ghost use Rattle.pr_rules.specs.Groups.{Group};
-ghost use Rattle.pr_rules.specs.Settings.{Settings};
+ghost use Rattle.pr_feeding.specs.pr_inputs.declared.input.Input.{Input};
+ghost use Rattle.pr_group.specs.pr_rules.Groups.{Group};
+ghost use Rattle.pr_group.specs.pr_rules.Settings.{Settings};
 ghost use Rattle.pr_test_rounds.specs.Rounds.{AreApart, AreNew};
 ghost use Rattle.pr_history.specs.declared.entry.Entry.{Entry};
 ghost use Rattle.pr_unit.specs.Kept.{KeepsGroups};
 ghost use Rattle.pr_unit.specs.Run.{HasRun};
 
 use crate::round::evaluate_all;
+use pr_feeding::inputs::Input;
 use pr_feeding::{Feed, places};
 use pr_group::{GroupOver, a_kept_group_stays};
-use pr_head::Head;
-use pr_inputs::Input;
-use pr_range::Ranges;
+use pr_slide::head::Head;
+use pr_slide::range::Ranges;
 use pr_time::{Ms, Span};
 use std::alloc::{AllocError, Global};
 

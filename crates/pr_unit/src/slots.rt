@@ -3,7 +3,7 @@ ghost use Rattle.std.specs.Prelude.{◌≡◌, ◌++◌, IfOk, OnOk, length};
 ghost use Rattle.std.specs.List.{flat_map};
 ghost use Rattle.pr_unit.specs.Slots.{empty_slots};
 
-use pr_verdict::Failure;
+use pr_expected::verdict::Failure;
 use pr_words::Items;
 use std::alloc::{AllocError, Global};
 

@@ -1,13 +1,13 @@
 // One test.
 ghost use Rattle.std.specs.Prelude.{◌≡◌, ◌+◌, ◌<◌, ◌++◌, ℕ, List, IfOk, OnOk};
 ghost use Rattle.pr_history.specs.declared.entry.Entry.{Entry};
-ghost use Rattle.pr_rules.specs.Groups.{Group};
-ghost use Rattle.pr_rules.specs.Reloads.{LoadedFile};
-ghost use Rattle.pr_rules.specs.Replays.{unwaiting_groups};
-ghost use Rattle.pr_testfile.specs.Tests.{plain_test};
+ghost use Rattle.pr_group.specs.pr_rules.Groups.{Group};
+ghost use Rattle.pr_group.specs.pr_rules.Reloads.{LoadedFile};
+ghost use Rattle.pr_group.specs.pr_rules.Replays.{unwaiting_groups};
+ghost use Rattle.pr_feeding.specs.pr_testfile.Tests.{plain_test};
 ghost use Rattle.pr_test_rounds.specs.Rounds.{AreApart, AreToldApart};
-ghost use Rattle.pr_verdict.specs.Events.{by_names, settings_of};
-ghost use Rattle.pr_verdict.specs.Verdict.{test_verdict};
+ghost use Rattle.pr_expected.specs.pr_verdict.Events.{by_names, settings_of};
+ghost use Rattle.pr_expected.specs.pr_verdict.Verdict.{test_verdict};
 ghost use Rattle.pr_unit.specs.Kept.{KeepsGroups};
 ghost use Rattle.pr_unit.specs.Loaded.{AreShort, LoadAs};
 ghost use Rattle.pr_unit.specs.Run.{HasRunTest, IsNextCheck};
@@ -19,13 +19,13 @@ use crate::order::in_order;
 use crate::run::Run;
 use crate::slots::{empty_slots, gather};
 use crate::times::{next_time, times_of};
+use pr_expected::verdict::Failure;
+use pr_expected::world::NamedFile;
+use pr_feeding::testfile::{Test, TestFile};
 use pr_group::GroupOver;
-use pr_range::Ranges;
-use pr_testfile::{Test, TestFile};
+use pr_slide::range::Ranges;
 use pr_time::{Ms, Span};
-use pr_verdict::Failure;
 use pr_words::Items;
-use pr_world::NamedFile;
 use std::alloc::{AllocError, Global};
 
 /// What is found at the checks of a test, each in its slot.

@@ -2,7 +2,7 @@
 ghost use Rattle.std.specs.Prelude.{◌≡◌, ◌++◌, IfOk, OnOk, map};
 ghost use Rattle.pr_unit.specs.Times.{earlier_of, next_time};
 
-use pr_testfile::{AlertCheck, ExprCheck, Test};
+use pr_feeding::testfile::{AlertCheck, ExprCheck, Test};
 use pr_time::Ms;
 use std::alloc::{AllocError, Global};
 

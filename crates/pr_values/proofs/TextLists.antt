@@ -4,7 +4,7 @@ use Rattle.std.proofs.lemmas.List.{append-nil}
 use Rattle.std.proofs.Math.Seq.{take-length}
 use Rattle.pr_ast.specs.declared.tree.Expr.{Expr}
 use Rattle.pr_ast.specs.Tree.{Tree, none, more, more_from, tree_of, trees_of}
-use Rattle.pr_types.specs.Typed.{content, contents}
+use Rattle.pr_query.specs.pr_types.Typed.{content, contents}
 
 contents_from : (es : List Expr) (before : Tree) → contents (more_from before (map tree_of es)) ≡ contents before ++ map (λ e. content (tree_of e)) es
 contents_from [] before = sym (append-nil (contents before))

@@ -2,7 +2,7 @@
 use Rattle.std.specs.Prelude.{Bool, Result, if◌then◌else◌}
 use Rattle.pr_num.specs.declared.value.Num.{Num}
 use Rattle.pr_num.specs.declared.value.TooWide.{TooWide}
-use Rattle.pr_vectors.specs.Operators.{holds}
+use Rattle.pr_query.specs.pr_vectors.Operators.{holds}
 use Rattle.pr_query.specs.Operators.{comparison_of, result_of}
 use Rattle.pr_values.specs.declared.operators.Beside.{Beside}
 

@@ -2,8 +2,8 @@
 ghost use Rattle.std.specs.Prelude.{◌≡◌, ◌&&◌, [], ◌∷◌, IfOk};
 ghost use Rattle.std.specs.List.{list_any};
 ghost use Rattle.pr_ast.specs.Tree.{tree_of, trees_of};
-ghost use Rattle.pr_labels.specs.Edits.{labels_of};
-ghost use Rattle.pr_vectors.specs.Vectors.{element, IsVector};
+ghost use Rattle.pr_ast.specs.pr_labels.Edits.{labels_of};
+ghost use Rattle.pr_query.specs.pr_vectors.Vectors.{element, IsVector};
 ghost use Rattle.pr_query.specs.Absence.{absent_labels, absent_of, is_equality, is_on, labels_of_argument, tells, told_pairs};
 ghost use Rattle.pr_query.specs.Answers.{IsAnswer};
 ghost use Rattle.pr_query.specs.Calls.{vector_at};
@@ -14,11 +14,11 @@ ghost use Rattle.pr_values.specs.Plain.{all_plain};
 use crate::arguments::{elements_given, number_given};
 use crate::error::EvalError;
 use crate::vectors::vector;
+use pr_ast::labels::{Item, Labels, METRIC_LABEL, Pair};
+use pr_ast::words_crate::Text;
 use pr_ast::{Expr, ExprKind, MatchSign, MatchText};
-use pr_labels::{Item, Labels, METRIC_LABEL, Pair};
 use pr_num::Num;
 use pr_query::Value;
-use pr_words::Text;
 use std::alloc::{AllocError, Global};
 
 fn is_equality(sign: MatchSign) -> bool

@@ -1,19 +1,19 @@
 // Aggregations.
 ghost use Rattle.std.specs.Prelude.{◌≡◌, true, ℕ, List, Result, IfOk, MatchResult, Ok, Err};
 ghost use Rattle.std.specs.List.{All};
-ghost use Rattle.pr_labels.specs.Names.{is_label_name};
-ghost use Rattle.pr_labels.specs.declared.item.Item.{Item};
+ghost use Rattle.pr_ast.specs.pr_labels.Names.{is_label_name};
+ghost use Rattle.pr_ast.specs.pr_labels.declared.item.Item.{Item};
 ghost use Rattle.pr_num.specs.declared.value.Num.{Num};
 ghost use Rattle.pr_num.specs.declared.value.TooWide.{TooWide};
 ghost use Rattle.pr_num.specs.Arithmetic.{too_wide};
 ghost use Rattle.pr_agg.specs.declared.fault.AggFault.TheVariants as fault;
 ghost use Rattle.pr_ast.specs.Tree.{Tree};
-ghost use Rattle.pr_vectors.specs.Aggregation.{of_groups, always, count_of_values, counted, first_of_parts, greatest_first, greatest_of_values, least_first, least_of_values, mean_of_values, one_of_values, quantile_of_values, sum_of_values};
-ghost use Rattle.pr_vectors.specs.Vectors.{IsVector};
+ghost use Rattle.pr_query.specs.pr_vectors.Aggregation.{of_groups, always, count_of_values, counted, first_of_parts, greatest_first, greatest_of_values, least_first, least_of_values, mean_of_values, one_of_values, quantile_of_values, sum_of_values};
+ghost use Rattle.pr_query.specs.pr_vectors.Vectors.{IsVector};
 ghost use Rattle.pr_query.specs.Aggregations.{aggregated_at, summed_up};
 ghost use Rattle.pr_query.specs.Answers.{IsAnswer};
 ghost use Rattle.pr_query.specs.Given.{elements_given, number_given};
-ghost use Rattle.pr_types.specs.Typed.{content_at};
+ghost use Rattle.pr_query.specs.pr_types.Typed.{content_at};
 ghost use Rattle.pr_values.specs.Answers.{AnswersTo};
 ghost use Rattle.pr_values.specs.Plain.{all_plain};
 
@@ -21,8 +21,8 @@ use crate::arguments::{elements_given, number_given};
 use crate::error::EvalError;
 use crate::vectors::vector;
 use pr_agg::{AggFault, avg, bottomk, count, count_values, group, max, min, quantile, sum, topk};
+use pr_ast::labels::{Grouping, Item};
 use pr_ast::{AggOp, Place};
-use pr_labels::{Grouping, Item};
 use pr_num::Num;
 use pr_query::{FaultKind, Value};
 use std::alloc::{AllocError, Global};

@@ -1,12 +1,12 @@
 // What arguments give, as it is wanted.
 ghost use Rattle.std.specs.Prelude.{◌≡◌};
 ghost use Rattle.std.specs.List.{All};
-ghost use Rattle.pr_vectors.specs.Vectors.{IsVector};
+ghost use Rattle.pr_query.specs.pr_vectors.Vectors.{IsVector};
 ghost use Rattle.pr_query.specs.Answers.{IsAnswer};
 ghost use Rattle.pr_query.specs.Given.{elements_given, number_given, number_or};
 ghost use Rattle.pr_values.specs.Plain.{all_plain};
 
-use pr_labels::Item;
+use pr_ast::labels::Item;
 use pr_num::Num;
 use pr_query::Value;
 

@@ -3,11 +3,11 @@ ghost use Rattle.std.specs.Prelude.{◌≡◌, true, List, Some, IfOk};
 ghost use Rattle.std.specs.List.{All};
 ghost use Rattle.std.specs.Option.{option_copied};
 ghost use Rattle.pr_ast.specs.Tree.{trees_of};
-ghost use Rattle.pr_history.specs.declared.entry.Entry.{Entry};
-ghost use Rattle.pr_labels.specs.Names.{is_label_name};
+ghost use Rattle.pr_query.specs.pr_history.declared.entry.Entry.{Entry};
+ghost use Rattle.pr_ast.specs.pr_labels.Names.{is_label_name};
 ghost use Rattle.pr_query.specs.Answers.{IsAnswer};
 ghost use Rattle.pr_query.specs.Calls.{value_of_call};
-ghost use Rattle.pr_types.specs.Typed.{content_at};
+ghost use Rattle.pr_query.specs.pr_types.Typed.{content_at};
 ghost use Rattle.pr_values.specs.Answers.{AnswersTo};
 ghost use Rattle.pr_values.specs.Calls.{is_plain_call};
 ghost use Rattle.pr_values.specs.Plain.{all_plain};
@@ -20,11 +20,11 @@ use crate::each_value::{
 use crate::error::EvalError;
 use crate::labelled::{joined, quantiles, replaced};
 use crate::times::{dates, query_times, seconds_of};
+use pr_ast::time::Ms;
 use pr_ast::{Expr, Func, Place};
+use pr_fn::matching::Pattern;
 use pr_fn::{Part, scalar};
-use pr_match::Pattern;
 use pr_query::Value;
-use pr_time::Ms;
 use std::alloc::Global;
 
 /// What a call gives of the values of its arguments, and of their texts. It is the call of no

@@ -1,9 +1,9 @@
 // Functions of each value of a vector.
 ghost use Rattle.std.specs.Prelude.{◌≡◌, List, IfOk, pos};
-ghost use Rattle.pr_labels.specs.declared.item.Item.{Item};
+ghost use Rattle.pr_ast.specs.pr_labels.declared.item.Item.{Item};
 ghost use Rattle.pr_num.specs.Arithmetic.{whole_of};
 ghost use Rattle.pr_num.specs.declared.value.Num.{Num};
-ghost use Rattle.pr_vectors.specs.Functions.{abs_of, ceils_of, clamped, clamped_max, clamped_min, floors_of, rounded_all, signs_of};
+ghost use Rattle.pr_query.specs.pr_vectors.Functions.{abs_of, ceils_of, clamped, clamped_max, clamped_min, floors_of, rounded_all, signs_of};
 ghost use Rattle.pr_query.specs.Answers.{IsAnswer, function_at};
 ghost use Rattle.pr_query.specs.Given.{elements_given, number_given, number_or};
 ghost use Rattle.pr_values.specs.Answers.{AnswersTo};

@@ -2,13 +2,13 @@
 ghost use Rattle.std.specs.Prelude.{◌≡◌, true, List, [], ◌∷◌, drop, Some, IfOk};
 ghost use Rattle.std.specs.Option.{option_copied};
 ghost use Rattle.pr_ast.specs.Tree.{trees_of};
-ghost use Rattle.pr_labels.specs.Names.{is_label_name};
-ghost use Rattle.pr_match.specs.Pattern.{expanded};
-ghost use Rattle.pr_vectors.specs.Histogram.{histogram_quantiles};
-ghost use Rattle.pr_vectors.specs.LabelFunctions.{label_joined, label_replaced};
+ghost use Rattle.pr_ast.specs.pr_labels.Names.{is_label_name};
+ghost use Rattle.pr_fn.specs.pr_match.Pattern.{expanded};
+ghost use Rattle.pr_query.specs.pr_vectors.Histogram.{histogram_quantiles};
+ghost use Rattle.pr_query.specs.pr_vectors.LabelFunctions.{label_joined, label_replaced};
 ghost use Rattle.pr_query.specs.Answers.{IsAnswer, function_at};
 ghost use Rattle.pr_query.specs.Given.{elements_given, number_given};
-ghost use Rattle.pr_types.specs.Typed.{content_at, contents};
+ghost use Rattle.pr_query.specs.pr_types.Typed.{content_at, contents};
 ghost use Rattle.pr_values.specs.Answers.{AnswersTo};
 ghost use Rattle.pr_values.specs.Plain.{all_plain};
 
@@ -17,10 +17,10 @@ use crate::error::EvalError;
 use crate::texts::contents_after_three;
 use crate::vectors::made_at;
 use pr_ast::{Expr, Place};
+use pr_fn::matching::Pattern;
 use pr_fn::{histogram_quantile, label_join, label_replace};
-use pr_match::Pattern;
 use pr_query::Value;
-use pr_types::content_at;
+use pr_query::types::content_at;
 use std::alloc::Global;
 
 // A label set to what a pattern and a template make of another one.

@@ -1,12 +1,12 @@
 // Operators of two values.
 ghost use Rattle.std.specs.Prelude.{◌≡◌, if◌then◌else◌};
-ghost use Rattle.pr_vectors.specs.Operators.{holds, truth_value};
+ghost use Rattle.pr_query.specs.pr_vectors.Operators.{holds, truth_value};
 ghost use Rattle.pr_query.specs.Operators.{comparison_of, is_filter, operator_of, result_of};
 ghost use Rattle.pr_values.specs.Besides.{holds_beside, result_beside};
 
 use pr_ast::BinOp;
 use pr_num::{Num, TooWide};
-use pr_types::compares;
+use pr_query::types::compares;
 use std::cmp::Ordering;
 
 /// Whether the operator is a comparison without `bool`.

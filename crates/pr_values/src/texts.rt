@@ -1,11 +1,11 @@
 // Texts among arguments.
 ghost use Rattle.std.specs.Prelude.{◌≡◌, drop, map, IfOk};
 ghost use Rattle.pr_ast.specs.Tree.{tree_of, trees_of};
-ghost use Rattle.pr_types.specs.Typed.{content, contents};
+ghost use Rattle.pr_query.specs.pr_types.Typed.{content, contents};
 
 use pr_ast::Expr;
-use pr_types::content;
-use pr_words::Text;
+use pr_ast::words_crate::Text;
+use pr_query::types::content;
 use std::alloc::{AllocError, Global};
 
 // The contents of arguments.

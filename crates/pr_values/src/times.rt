@@ -1,8 +1,8 @@
 // Times and dates.
 ghost use Rattle.std.specs.Prelude.{◌≡◌, List, Ok, Err, IfOk, map, Result};
-ghost use Rattle.pr_history.specs.declared.spot.Spot.{Spot};
-ghost use Rattle.pr_vectors.specs.Functions.{mapped, told_apart};
-ghost use Rattle.pr_vectors.specs.Calendar.{calendar_of};
+ghost use Rattle.pr_query.specs.pr_history.declared.spot.Spot.{Spot};
+ghost use Rattle.pr_query.specs.pr_vectors.Functions.{mapped, told_apart};
+ghost use Rattle.pr_query.specs.pr_vectors.Calendar.{calendar_of};
 ghost use Rattle.pr_query.specs.Answers.{IsAnswer, function_at};
 ghost use Rattle.pr_query.specs.Calls.{calendars, seconds_of, with_time};
 ghost use Rattle.pr_query.specs.Given.{elements_given};
@@ -14,12 +14,12 @@ use crate::arguments::elements_given;
 use crate::error::EvalError;
 use crate::vectors::made_at;
 use pr_ast::Place;
+use pr_ast::labels::{Item, Labels};
+use pr_ast::time::Ms;
 use pr_fn::{Part, calendar, map_values, without_metrics};
-use pr_history::Spot;
-use pr_labels::{Item, Labels};
 use pr_num::{Nano, Num};
 use pr_query::Value;
-use pr_time::Ms;
+use pr_query::history::Spot;
 use std::alloc::{AllocError, Global};
 
 /// A time in seconds.

@@ -3,12 +3,12 @@
 use Rattle.std.proofs.Common.{◌≡◌, ◌≢◌, ℕ, Bool, true, false, cond, ◌||◌, List, [], ◌∷◌, map, Result, Ok, Err, IfOk, IsOk, refl, sym, ap, ◌∙◌, subst}
 use Rattle.pr_num.specs.declared.value.Num.{Num}
 use Rattle.pr_num.specs.declared.value.TooWide.{TooWide}
-use Rattle.pr_labels.specs.declared.pair.Pair.{Pair}
-use Rattle.pr_labels.specs.declared.item.Item.{Item}
-use Rattle.pr_labels.specs.declared.grouping.Grouping.{Grouping}
-use Rattle.pr_labels.specs.Order.{labels_eq}
-use Rattle.pr_labels.specs.Rising.{IsRising, is_among}
-use Rattle.pr_labels.proofs.LabelOrder.{among_fold, labels_decide, rising_fold}
+use Rattle.pr_history.specs.pr_labels.declared.pair.Pair.{Pair}
+use Rattle.pr_history.specs.pr_labels.declared.item.Item.{Item}
+use Rattle.pr_history.specs.pr_labels.declared.grouping.Grouping.{Grouping}
+use Rattle.pr_history.specs.pr_labels.Order.{labels_eq}
+use Rattle.pr_history.specs.pr_labels.Rising.{IsRising, is_among}
+use Rattle.pr_history.proofs.LabelsLabelOrder.{among_fold, labels_decide, rising_fold}
 use Rattle.pr_vectors.specs.Vectors.{IsVector, element, in_label_order, label_sets}
 use Rattle.pr_vectors.specs.Aggregation.{of_groups, always, group_answers, behind, counted, group_of, groups, part, value_count, value_group, values_of}
 

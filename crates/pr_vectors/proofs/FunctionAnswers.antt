@@ -4,11 +4,11 @@ use Rattle.std.specs.List.{filter_map, list_any}
 use Rattle.pr_num.specs.declared.value.Num.{Num}
 use Rattle.pr_num.specs.declared.value.TooWide.{TooWide}
 use Rattle.pr_num.specs.Order.{compared}
-use Rattle.pr_labels.specs.declared.pair.Pair.{Pair}
-use Rattle.pr_labels.specs.declared.item.Item.{Item}
-use Rattle.pr_labels.specs.Order.{labels_cmp}
-use Rattle.pr_labels.specs.Rising.{IsBelowFirstSet, IsRising, with_labels}
-use Rattle.pr_labels.proofs.LabelOrder.{rising_fold}
+use Rattle.pr_history.specs.pr_labels.declared.pair.Pair.{Pair}
+use Rattle.pr_history.specs.pr_labels.declared.item.Item.{Item}
+use Rattle.pr_history.specs.pr_labels.Order.{labels_cmp}
+use Rattle.pr_history.specs.pr_labels.Rising.{IsBelowFirstSet, IsRising, with_labels}
+use Rattle.pr_history.proofs.LabelsLabelOrder.{rising_fold}
 use Rattle.pr_vectors.specs.declared.function_fault.FunctionFault.{FunctionFault}
 use Rattle.pr_vectors.specs.declared.function_fault.FunctionFault.TheVariants as fault
 use Rattle.pr_vectors.specs.Vectors.{IsVector, element, in_label_order, in_order, label_sets}

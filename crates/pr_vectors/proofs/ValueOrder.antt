@@ -9,7 +9,7 @@ use Rattle.std.specs.declared.cmp.Ordering.TheVariants.{Less, Equal, Greater}
 use Rattle.pr_num.specs.declared.value.Num.{Num}
 use Rattle.pr_num.specs.Order.{order_of}
 use Rattle.pr_num.proofs.Algebra.{order_is_total, order_tells_apart}
-use Rattle.pr_labels.proofs.Sorted.{IsUp, sorted_is, sum_cons}
+use Rattle.pr_history.proofs.LabelsSorted.{IsUp, sorted_is, sum_cons}
 use Rattle.pr_vectors.specs.Aggregation.{in_value_order, value_placed, with_placed}
 
 -- one value put in its place

@@ -3,11 +3,11 @@ use Rattle.std.proofs.Common.{◌≡◌, Bool, true, false, cond, List, [], ◌�
 use Rattle.std.specs.declared.cmp.Ordering.{Ordering}
 use Rattle.std.specs.declared.cmp.Ordering.TheVariants.{Less, Equal, Greater}
 use Rattle.pr_num.specs.declared.value.Num.{Num}
-use Rattle.pr_labels.specs.declared.pair.Pair.{Pair}
-use Rattle.pr_labels.specs.declared.item.Item.{Item}
-use Rattle.pr_labels.specs.Order.{labels_cmp}
-use Rattle.pr_labels.specs.Rising.{IsBelowFirstSet}
-use Rattle.pr_labels.proofs.LabelOrder.{labels_total, tied, turned}
+use Rattle.pr_history.specs.pr_labels.declared.pair.Pair.{Pair}
+use Rattle.pr_history.specs.pr_labels.declared.item.Item.{Item}
+use Rattle.pr_history.specs.pr_labels.Order.{labels_cmp}
+use Rattle.pr_history.specs.pr_labels.Rising.{IsBelowFirstSet}
+use Rattle.pr_history.proofs.LabelsLabelOrder.{labels_total, tied, turned}
 use Rattle.pr_vectors.specs.declared.match_fault.MatchFault.{MatchFault}
 use Rattle.pr_vectors.specs.Vectors.{IsVector, in_order, item_placed, label_sets, with_element}
 use Rattle.pr_vectors.specs.Matching.{unless_fault}

@@ -11,11 +11,11 @@ use Rattle.pr_num.specs.Arithmetic.{whole_of}
 use Rattle.pr_num.specs.Quantile.{quantile_of}
 use Rattle.pr_num.specs.Shown.{shown}
 use Rattle.pr_num.specs.Total.{mean_of, total_of, value_of}
-use Rattle.pr_labels.specs.declared.pair.Pair.{Pair}
-use Rattle.pr_labels.specs.declared.item.Item.{Item}
-use Rattle.pr_labels.specs.declared.grouping.Grouping.{Grouping}
-use Rattle.pr_labels.specs.Edits.{key_labels, set_label}
-use Rattle.pr_labels.specs.Order.{labels_eq, labels_cmp}
+use Rattle.pr_history.specs.pr_labels.declared.pair.Pair.{Pair}
+use Rattle.pr_history.specs.pr_labels.declared.item.Item.{Item}
+use Rattle.pr_history.specs.pr_labels.declared.grouping.Grouping.{Grouping}
+use Rattle.pr_history.specs.pr_labels.Edits.{key_labels, set_label}
+use Rattle.pr_history.specs.pr_labels.Order.{labels_eq, labels_cmp}
 use Rattle.pr_vectors.specs.Vectors.{element, in_label_order}
 
 -- By which labels an element is grouped: with `by` the listed ones, with `without` those that are

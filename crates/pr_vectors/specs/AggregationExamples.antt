@@ -2,8 +2,8 @@
 use Rattle.std.specs.Prelude.{ℕ, ◌*◌, ◌^◌, ◌-◌, true, false, pos, List, [], ◌∷◌, codes}
 use Rattle.pr_num.specs.declared.value.Num.{Num}
 use Rattle.pr_num.specs.declared.value.Num.TheVariants.{Finite, NaN}
-use Rattle.pr_labels.specs.declared.item.Item.{Item}
-use Rattle.pr_labels.specs.declared.grouping.Grouping.{Grouping}
+use Rattle.pr_history.specs.pr_labels.declared.item.Item.{Item}
+use Rattle.pr_history.specs.pr_labels.declared.grouping.Grouping.{Grouping}
 use Rattle.pr_history.specs.Examples.{number}
 use Rattle.pr_vectors.specs.Vectors.{element}
 use Rattle.pr_vectors.specs.Examples.{sample, x, y}

@@ -3,12 +3,12 @@ use Rattle.std.specs.Prelude.{ℕ, Bool, true, false, cond, List, [], ◌∷◌,
 use Rattle.pr_num.specs.declared.value.Num.{Num}
 use Rattle.pr_num.specs.declared.value.Num.TheVariants.{Finite, NaN}
 use Rattle.pr_num.specs.Arithmetic.{product_of, too_wide}
-use Rattle.pr_labels.specs.declared.pair.Pair.{Pair}
-use Rattle.pr_labels.specs.declared.item.Item.{Item}
-use Rattle.pr_labels.specs.declared.matching.Card.{Card}
-use Rattle.pr_labels.specs.declared.matching.Card.TheVariants.{OneToOne}
-use Rattle.pr_labels.specs.declared.matching.Matching.{Matching}
-use Rattle.pr_labels.specs.LabelSet.{metric_label, pair_of}
+use Rattle.pr_history.specs.pr_labels.declared.pair.Pair.{Pair}
+use Rattle.pr_history.specs.pr_labels.declared.item.Item.{Item}
+use Rattle.pr_history.specs.pr_labels.declared.matching.Card.{Card}
+use Rattle.pr_history.specs.pr_labels.declared.matching.Card.TheVariants.{OneToOne}
+use Rattle.pr_history.specs.pr_labels.declared.matching.Matching.{Matching}
+use Rattle.pr_history.specs.pr_labels.LabelSet.{metric_label, pair_of}
 use Rattle.pr_history.specs.Examples.{number}
 use Rattle.pr_vectors.specs.Matching.{Operator, always_kept}
 use Rattle.pr_vectors.specs.Operators.{Comparison, holds}

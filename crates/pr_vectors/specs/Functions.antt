@@ -12,10 +12,10 @@ use Rattle.pr_num.specs.declared.value.TooWide.{TooWide}
 use Rattle.pr_num.specs.Arithmetic.{absolute, whole_of}
 use Rattle.pr_num.specs.Multiples.{ceil_of, floor_of, rounded_to}
 use Rattle.pr_num.specs.Order.{compared}
-use Rattle.pr_labels.specs.declared.pair.Pair.{Pair}
-use Rattle.pr_labels.specs.declared.item.Item.{Item}
-use Rattle.pr_labels.specs.Order.{labels_eq}
-use Rattle.pr_labels.specs.SeriesText.{unnamed}
+use Rattle.pr_history.specs.pr_labels.declared.pair.Pair.{Pair}
+use Rattle.pr_history.specs.pr_labels.declared.item.Item.{Item}
+use Rattle.pr_history.specs.pr_labels.Order.{labels_eq}
+use Rattle.pr_history.specs.pr_labels.SeriesText.{unnamed}
 use Rattle.pr_vectors.specs.declared.function_fault.FunctionFault.{FunctionFault}
 use Rattle.pr_vectors.specs.declared.function_fault.FunctionFault.TheVariants as fault
 use Rattle.pr_vectors.specs.Vectors.{element, in_label_order, in_order, label_sets}

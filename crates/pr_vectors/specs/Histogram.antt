@@ -12,11 +12,11 @@ use Rattle.pr_num.specs.Arithmetic.{sum_of, difference_of, product_of, quotient_
 use Rattle.pr_num.specs.Order.{order_of}
 use Rattle.pr_num.specs.Reads.{reads}
 use Rattle.pr_num.specs.Total.{total_of, value_of}
-use Rattle.pr_labels.specs.declared.pair.Pair.{Pair}
-use Rattle.pr_labels.specs.declared.item.Item.{Item}
-use Rattle.pr_labels.specs.Edits.{unlisted_labels}
-use Rattle.pr_labels.specs.LabelSet.{metric_label, text_at}
-use Rattle.pr_labels.specs.Order.{labels_eq}
+use Rattle.pr_history.specs.pr_labels.declared.pair.Pair.{Pair}
+use Rattle.pr_history.specs.pr_labels.declared.item.Item.{Item}
+use Rattle.pr_history.specs.pr_labels.Edits.{unlisted_labels}
+use Rattle.pr_history.specs.pr_labels.LabelSet.{metric_label, text_at}
+use Rattle.pr_history.specs.pr_labels.Order.{labels_eq}
 use Rattle.pr_vectors.specs.declared.function_fault.FunctionFault.{FunctionFault}
 use Rattle.pr_vectors.specs.declared.function_fault.FunctionFault.TheVariants as fault
 use Rattle.pr_vectors.specs.declared.bucket.Bucket.{Bucket}

@@ -2,10 +2,10 @@
 -- too.
 use Rattle.std.specs.Prelude.{ℕ, List, [], ◌∷◌, ◌++◌, map, Option, Some, None, Result}
 use Rattle.pr_num.specs.declared.value.Num.{Num}
-use Rattle.pr_labels.specs.declared.pair.Pair.{Pair}
-use Rattle.pr_labels.specs.declared.item.Item.{Item}
-use Rattle.pr_labels.specs.Edits.{set_label}
-use Rattle.pr_labels.specs.LabelSet.{text_at}
+use Rattle.pr_history.specs.pr_labels.declared.pair.Pair.{Pair}
+use Rattle.pr_history.specs.pr_labels.declared.item.Item.{Item}
+use Rattle.pr_history.specs.pr_labels.Edits.{set_label}
+use Rattle.pr_history.specs.pr_labels.LabelSet.{text_at}
 use Rattle.pr_vectors.specs.declared.function_fault.FunctionFault.{FunctionFault}
 use Rattle.pr_vectors.specs.Vectors.{element}
 use Rattle.pr_vectors.specs.Functions.{told_apart}

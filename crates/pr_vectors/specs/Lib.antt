@@ -14,3 +14,6 @@ pub mod Extrapolation
 pub mod Regression
 pub mod Ranges
 pub mod RangeExamples
+pub use Rattle.pr_num.specs as pr_num
+pub use Rattle.pr_history.specs.pr_labels as pr_labels
+pub use Rattle.pr_history.specs as pr_history

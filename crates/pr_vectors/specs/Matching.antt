@@ -4,14 +4,14 @@ use Rattle.std.specs.List.{filter_map, flat_map, list_any}
 use Rattle.std.specs.Option.{option_map, option_or, option_to_list}
 use Rattle.pr_num.specs.declared.value.Num.{Num}
 use Rattle.pr_num.specs.declared.value.TooWide.{TooWide}
-use Rattle.pr_labels.specs.declared.pair.Pair.{Pair}
-use Rattle.pr_labels.specs.declared.item.Item.{Item}
-use Rattle.pr_labels.specs.declared.matching.Card.{Card}
-use Rattle.pr_labels.specs.declared.matching.Card.TheVariants.{OneToOne, ManyToOne, OneToMany}
-use Rattle.pr_labels.specs.declared.matching.Matching.{Matching}
-use Rattle.pr_labels.specs.Edits.{key_labels, listed_labels, unlisted_labels, without_name, union_labels}
-use Rattle.pr_labels.specs.LabelSet.{metric_label}
-use Rattle.pr_labels.specs.Order.{labels_eq}
+use Rattle.pr_history.specs.pr_labels.declared.pair.Pair.{Pair}
+use Rattle.pr_history.specs.pr_labels.declared.item.Item.{Item}
+use Rattle.pr_history.specs.pr_labels.declared.matching.Card.{Card}
+use Rattle.pr_history.specs.pr_labels.declared.matching.Card.TheVariants.{OneToOne, ManyToOne, OneToMany}
+use Rattle.pr_history.specs.pr_labels.declared.matching.Matching.{Matching}
+use Rattle.pr_history.specs.pr_labels.Edits.{key_labels, listed_labels, unlisted_labels, without_name, union_labels}
+use Rattle.pr_history.specs.pr_labels.LabelSet.{metric_label}
+use Rattle.pr_history.specs.pr_labels.Order.{labels_eq}
 use Rattle.pr_vectors.specs.declared.match_fault.MatchFault.{MatchFault}
 use Rattle.pr_vectors.specs.declared.match_fault.MatchFault.TheVariants as fault
 use Rattle.pr_vectors.specs.Vectors.{element, in_label_order, in_order}

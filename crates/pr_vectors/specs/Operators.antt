@@ -5,7 +5,7 @@ use Rattle.std.specs.declared.cmp.Ordering.TheVariants.{Less, Equal, Greater}
 use Rattle.pr_num.specs.declared.value.Num.{Num}
 use Rattle.pr_num.specs.Arithmetic.{whole_of}
 use Rattle.pr_num.specs.Order.{compared}
-use Rattle.pr_labels.specs.declared.item.Item.{Item}
+use Rattle.pr_history.specs.pr_labels.declared.item.Item.{Item}
 use Rattle.pr_vectors.specs.Matching.{Operator}
 
 -- A comparison asks how its left value stands to its right one. Values of which one is NaN stand to

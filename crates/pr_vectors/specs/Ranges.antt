@@ -5,7 +5,7 @@ use Rattle.pr_num.specs.declared.value.Num.TheVariants.{NaN}
 use Rattle.pr_num.specs.declared.value.TooWide.{TooWide}
 use Rattle.pr_num.specs.Arithmetic.{whole_of}
 use Rattle.pr_num.specs.Same.{same_num}
-use Rattle.pr_labels.specs.declared.pair.Pair.{Pair}
+use Rattle.pr_history.specs.pr_labels.declared.pair.Pair.{Pair}
 use Rattle.pr_history.specs.declared.entry.Entry.{Entry}
 use Rattle.pr_history.specs.declared.spot.Spot.{Spot}
 use Rattle.pr_history.specs.Lookback.{entries_until, spots_within}

@@ -3,10 +3,10 @@ ghost use Rattle.std.specs.Prelude.{◌≡◌, ◌≢◌, ℕ, true, List, [], �
 ghost use Rattle.pr_num.specs.declared.value.Num.{Num};
 ghost use Rattle.pr_num.specs.declared.value.TooWide.{TooWide};
 ghost use Rattle.std.specs.declared.cmp.Ordering.{Ordering};
-ghost use Rattle.pr_labels.specs.declared.pair.Pair.{Pair};
-ghost use Rattle.pr_labels.specs.declared.grouping.Grouping.{Grouping};
-ghost use Rattle.pr_labels.specs.declared.item.Item.{Item};
-ghost use Rattle.pr_labels.specs.Rising.{is_among};
+ghost use Rattle.pr_history.specs.pr_labels.declared.pair.Pair.{Pair};
+ghost use Rattle.pr_history.specs.pr_labels.declared.grouping.Grouping.{Grouping};
+ghost use Rattle.pr_history.specs.pr_labels.declared.item.Item.{Item};
+ghost use Rattle.pr_history.specs.pr_labels.Rising.{is_among};
 ghost use Rattle.pr_vectors.specs.Vectors.{IsVector};
 ghost use Rattle.pr_vectors.specs.Aggregation.{of_groups, always, counted, first_of_parts, groups, part, values_of};
 

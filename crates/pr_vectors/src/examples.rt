@@ -1,7 +1,7 @@
 // What the definitions say of small vectors.
 ghost use Rattle.std.specs.Prelude.{◌≡◌, true, false, codes, [], ◌∷◌, ◌++◌, Ok, Err};
-ghost use Rattle.pr_labels.specs.declared.matching.Card.TheVariants.{OneToOne, ManyToOne, OneToMany};
-ghost use Rattle.pr_labels.specs.LabelSet.{metric_label};
+ghost use Rattle.pr_history.specs.pr_labels.declared.matching.Card.TheVariants.{OneToOne, ManyToOne, OneToMany};
+ghost use Rattle.pr_history.specs.pr_labels.LabelSet.{metric_label};
 ghost use Rattle.pr_history.specs.Examples.{number};
 ghost use Rattle.pr_vectors.specs.declared.match_fault.MatchFault.TheVariants.{ManyToMany, NotUnique, TooWide};
 ghost use Rattle.pr_vectors.specs.Vectors.{element};

@@ -1,4 +1,4 @@
-use pr_labels::Labels;
+use pr_history::labels::Labels;
 
 /// Why a function of a vector has no result. (Prometheus: Querying, Functions; that the least
 /// labels are told is own choice.)

@@ -1,7 +1,7 @@
 // What the answers of functions are.
 ghost use Rattle.std.specs.Prelude.{ℕ, List, IfOk};
 ghost use Rattle.pr_num.specs.declared.value.Num.{Num};
-ghost use Rattle.pr_labels.specs.declared.item.Item.{Item};
+ghost use Rattle.pr_history.specs.pr_labels.declared.item.Item.{Item};
 ghost use Rattle.pr_vectors.specs.Vectors.{IsVector};
 ghost use Rattle.pr_vectors.specs.Functions.{ValueFunction, told_apart, mapped, clamped};
 ghost use Rattle.pr_vectors.specs.LabelFunctions.{Expansion, label_replaced, label_joined};

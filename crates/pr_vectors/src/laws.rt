@@ -1,8 +1,8 @@
 // What the answers to two vectors are.
 ghost use Rattle.std.specs.Prelude.{Bool, List, IfOk};
 ghost use Rattle.pr_num.specs.declared.value.Num.{Num};
-ghost use Rattle.pr_labels.specs.declared.item.Item.{Item};
-ghost use Rattle.pr_labels.specs.declared.matching.Matching.{Matching};
+ghost use Rattle.pr_history.specs.pr_labels.declared.item.Item.{Item};
+ghost use Rattle.pr_history.specs.pr_labels.declared.matching.Matching.{Matching};
 ghost use Rattle.pr_vectors.specs.Vectors.{IsVector};
 ghost use Rattle.pr_vectors.specs.Matching.{Operator, joined, both_sides, left_alone, either_side};
 

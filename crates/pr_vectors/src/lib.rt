@@ -40,6 +40,8 @@ pub use operator_examples::{
     comparisons_are_of_lesser_equal_and_greater_values, comparisons_work_on_two_values,
 };
 pub use part::Part;
+pub use pr_history as history;
+pub use pr_history::labels as labels;
 pub use range::{Ask, AskFault, RangeFn};
 pub use range_examples::{
     a_line_goes_on, a_quantile_is_of_values_in_order, a_range_begins_after_its_start,

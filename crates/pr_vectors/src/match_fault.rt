@@ -1,4 +1,4 @@
-use pr_labels::Labels;
+use pr_history::labels::Labels;
 
 /// Why two vectors have no result together. (Prometheus: Querying, Operators, Vector matching.)
 #[derive(Debug, Drop)]

@@ -2,10 +2,10 @@
 use Rattle.std.specs.Prelude.{ℕ, ◌+◌, ◌*◌, ◌/◌, max, Bool, true, not, nat_lt, nat_le, List, [], ◌∷◌, ◌++◌, map, filter, flat_map, fold, Option, Some, None}
 use Rattle.std.specs.List.{range_with_len}
 use Rattle.std.specs.Str.{bytes_eq}
-use Rattle.pr_history.specs.declared.entry.Entry.{Entry}
-use Rattle.pr_fields.specs.Order.{ordered}
-use Rattle.pr_rules.specs.Groups.{Group}
-use Rattle.pr_rules.specs.Settings.{Settings}
+use Rattle.pr_testfile.specs.pr_history.declared.entry.Entry.{Entry}
+use Rattle.pr_testfile.specs.pr_fields.Order.{ordered}
+use Rattle.pr_world.specs.pr_rules.Groups.{Group}
+use Rattle.pr_world.specs.pr_rules.Settings.{Settings}
 use Rattle.pr_world.specs.declared.event.Event.{Event}
 use Rattle.pr_world.specs.declared.event.Event.TheVariants.{Add, Eval}
 use Rattle.pr_world.specs.Step.{time_of, world_after}

@@ -2,7 +2,7 @@
 use Rattle.std.specs.Prelude.{ℕ, ◌-◌, ◌==◌, Bool, List, [], ◌∷◌, ◌++◌, fold, length, map, take, reverse, if◌then◌else◌}
 use Prim.Native.Char.{code}
 use Rattle.std.specs.List.{position_or_len}
-use Rattle.pr_words.specs.Names.{is_among}
+use Rattle.pr_testfile.specs.pr_words.Names.{is_among}
 
 abbrev pub is_slash : ℕ → Bool
 is_slash b = b == code "/"

@@ -5,19 +5,19 @@ use Rattle.std.specs.Str.{bytes_eq}
 use Rattle.std.specs.Cmp.Lexicographic.{pointwise}
 use Rattle.pr_num.specs.declared.value.Num.{Num}
 use Rattle.pr_num.specs.Same.{same_num}
-use Rattle.pr_labels.specs.declared.item.Item.{Item}
-use Rattle.pr_labels.specs.Order.{labels_eq}
-use Rattle.pr_fields.specs.Order.{ordered}
-use Rattle.pr_query.specs.declared.fault.Fault.{Fault}
-use Rattle.pr_query.specs.declared.value.Value.{Value}
-use Rattle.pr_query.specs.Meaning.{meaning}
-use Rattle.pr_lineage.specs.declared.found.Found.{Found}
-use Rattle.pr_lineage.specs.declared.record.Record.{Record}
-use Rattle.pr_lineage.specs.Records.{is_firing, records}
-use Rattle.pr_rules.specs.Groups.{Group, RuleState}
-use Rattle.pr_rules.specs.Reloads.{LoadedFile}
-use Rattle.pr_rules.specs.Replays.{unwaiting_groups}
-use Rattle.pr_rules.specs.Results.{value_elements}
+use Rattle.pr_ast.specs.pr_labels.declared.item.Item.{Item}
+use Rattle.pr_ast.specs.pr_labels.Order.{labels_eq}
+use Rattle.pr_testfile.specs.pr_fields.Order.{ordered}
+use Rattle.pr_world.specs.pr_query.declared.fault.Fault.{Fault}
+use Rattle.pr_world.specs.pr_query.declared.value.Value.{Value}
+use Rattle.pr_world.specs.pr_query.Meaning.{meaning}
+use Rattle.pr_testfile.specs.pr_lineage.declared.found.Found.{Found}
+use Rattle.pr_testfile.specs.pr_lineage.declared.record.Record.{Record}
+use Rattle.pr_testfile.specs.pr_lineage.Records.{is_firing, records}
+use Rattle.pr_world.specs.pr_rules.Groups.{Group, RuleState}
+use Rattle.pr_world.specs.pr_rules.Reloads.{LoadedFile}
+use Rattle.pr_world.specs.pr_rules.Replays.{unwaiting_groups}
+use Rattle.pr_world.specs.pr_rules.Results.{value_elements}
 use Rattle.pr_world.specs.World.{World}
 use Rattle.pr_testfile.specs.declared.tests.AlertCheck.{AlertCheck}
 use Rattle.pr_testfile.specs.Alerts.{is_found_before}

@@ -2,23 +2,23 @@
 use Rattle.std.specs.Prelude.{ℕ, true, false, List, [], ◌∷◌, codes, map, None}
 use Rattle.pr_num.specs.declared.value.Num.{Num}
 use Rattle.pr_num.specs.declared.value.Point.TheVariants.{Value}
-use Rattle.pr_labels.specs.declared.item.Item.{Item}
-use Rattle.pr_labels.specs.declared.pair.Pair.{Pair}
-use Rattle.pr_labels.specs.LabelSet.{metric_label, named, pair_of}
-use Rattle.pr_history.specs.declared.entry.Entry.{Entry}
-use Rattle.pr_history.specs.Examples.{number, whole}
+use Rattle.pr_ast.specs.pr_labels.declared.item.Item.{Item}
+use Rattle.pr_ast.specs.pr_labels.declared.pair.Pair.{Pair}
+use Rattle.pr_ast.specs.pr_labels.LabelSet.{metric_label, named, pair_of}
+use Rattle.pr_testfile.specs.pr_history.declared.entry.Entry.{Entry}
+use Rattle.pr_testfile.specs.pr_history.Examples.{number, whole}
 use Rattle.pr_ast.specs.declared.names.BinOp.TheVariants as op
 use Rattle.pr_ast.specs.Examples.{metric, whole_number}
 use Rattle.pr_ast.specs.Places.{nowhere}
 use Rattle.pr_ast.specs.Tree.{binary}
-use Rattle.pr_rulefile.specs.Groups.{Group as Definition}
-use Rattle.pr_rulefile.specs.Rules.{Rule}
-use Rattle.pr_lineage.specs.declared.found.Found.{Found}
+use Rattle.pr_world.specs.pr_rulefile.Groups.{Group as Definition}
+use Rattle.pr_world.specs.pr_rulefile.Rules.{Rule}
+use Rattle.pr_testfile.specs.pr_lineage.declared.found.Found.{Found}
 use Rattle.pr_num.specs.declared.value.Num.TheVariants.{NaN}
-use Rattle.pr_rules.specs.Groups.{Group}
-use Rattle.pr_rules.specs.Reloads.{LoadedFile}
-use Rattle.pr_inputs.specs.declared.stretch.Stretch.{Stretch}
-use Rattle.pr_inputs.specs.declared.stretch.Stretch.TheVariants.{Steps}
+use Rattle.pr_world.specs.pr_rules.Groups.{Group}
+use Rattle.pr_world.specs.pr_rules.Reloads.{LoadedFile}
+use Rattle.pr_testfile.specs.pr_inputs.declared.stretch.Stretch.{Stretch}
+use Rattle.pr_testfile.specs.pr_inputs.declared.stretch.Stretch.TheVariants.{Steps}
 use Rattle.pr_testfile.specs.Checks.{PlainCheck}
 use Rattle.pr_testfile.specs.Series.{entries_of}
 use Rattle.pr_testfile.specs.Tests.{PlainTest}

@@ -1,10 +1,10 @@
 // Expectations that differ from what a test gives.
 use pr_ast::Place;
-use pr_labels::Item;
-use pr_lineage::Found;
+use pr_ast::labels::Item;
 use pr_num::Num;
-use pr_query::FaultKind;
-use pr_words::Items;
+use pr_testfile::lineage::Found;
+use pr_testfile::words_crate::Items;
+use pr_world::query_crate::FaultKind;
 
 /// What is expected of a check, or what it gives.
 #[derive(Debug, Drop)]

@@ -11,3 +11,7 @@ pub use examples::{
     rule_files_stand_beside, samples_come_before_evaluations, templates_see_what_is_external,
 };
 pub use failure::{Failure, Shown};
+pub use pr_testfile as testfile;
+pub use pr_testfile::lineage as lineage;
+pub use pr_world as world;
+pub use pr_world::types as types;

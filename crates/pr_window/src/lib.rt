@@ -12,4 +12,5 @@ mod window;
 pub use fold::Fold;
 pub use folded::fold_items;
 pub use laws::{parts_combine, weight_of_items};
+pub use pr_words as words_crate;
 pub use window::Window;

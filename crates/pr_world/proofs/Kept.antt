@@ -6,15 +6,15 @@ use Rattle.std.specs.List.Sorted.{IsPermutation}
 use Rattle.std.specs.Option.{option_or}
 use Rattle.std.specs.Str.{bytes_eq}
 use Rattle.std.proofs.lemmas.List.Folds.{list_all-append}
-use Rattle.pr_words.specs.Bytes.{is_label_byte, is_letter}
-use Rattle.pr_labels.specs.declared.pair.Pair.{Pair}
-use Rattle.pr_labels.specs.Edits.{fault_after, first_fault, has_value, labels_of, pair_fault, set_label, set_pair, value_if_any, without_name}
-use Rattle.pr_labels.specs.LabelSet.{IsLabelSet, has_name, pair_of, value_of}
-use Rattle.pr_labels.specs.Names.{is_label_name}
-use Rattle.pr_labels.proofs.LabelLaws.{alike, first_none, made_is_set, none_above, remove_stays, same_names, set_stays, union_stays, value_hit, value_miss, value_remove, value_set, value_union}
-use Rattle.pr_labels.proofs.Permuted.{made_of_all, new_name}
-use Rattle.pr_labels.proofs.SetValues.{faultless, same_values}
-use Rattle.pr_expo_line.proofs.Sound.{fault_more, new_fault}
+use Rattle.pr_ast.specs.pr_words.Bytes.{is_label_byte, is_letter}
+use Rattle.pr_ast.specs.pr_labels.declared.pair.Pair.{Pair}
+use Rattle.pr_ast.specs.pr_labels.Edits.{fault_after, first_fault, has_value, labels_of, pair_fault, set_label, set_pair, value_if_any, without_name}
+use Rattle.pr_ast.specs.pr_labels.LabelSet.{IsLabelSet, has_name, pair_of, value_of}
+use Rattle.pr_ast.specs.pr_labels.Names.{is_label_name}
+use Rattle.pr_ast.proofs.LabelsLabelLaws.{alike, first_none, made_is_set, none_above, remove_stays, same_names, set_stays, union_stays, value_hit, value_miss, value_remove, value_set, value_union}
+use Rattle.pr_ast.proofs.LabelsPermuted.{made_of_all, new_name}
+use Rattle.pr_ast.proofs.LabelsSetValues.{faultless, same_values}
+use Rattle.pr_expo.proofs.ExpoLineSound.{fault_more, new_fault}
 use Rattle.pr_world.specs.Renaming.{HasAllLabels, Renames, exported_times, keeps, moves, nothing}
 use Rattle.pr_world.specs.Scrapes.{exported, free_name, has, renamed, scraped_labels, with_free_name}
 use Rattle.pr_world.proofs.Renaming.{first_free}

@@ -2,23 +2,23 @@
 use Rattle.std.proofs.Common.{◌≡◌, ℕ, Bool, true, false, cond, List, [], ◌∷◌, Option, Some, None, Result, Ok, Err, IfErr, refl, ap, subst}
 use Rattle.std.specs.Prelude.{find, nat_lt}
 use Rattle.pr_ast.specs.Tree.{Tree}
-use Rattle.pr_fields.specs.declared.problem.Problem.{Problem}
-use Rattle.pr_history.specs.declared.append.Append.{Append}
-use Rattle.pr_history.specs.declared.append.Append.TheVariants as append
-use Rattle.pr_history.specs.declared.entry.Entry.{Entry}
-use Rattle.pr_history.specs.Admission.{admit}
-use Rattle.pr_labels.specs.declared.pair.Pair.{Pair}
-use Rattle.pr_parse.specs.Parsed.{Parsed, gives_tree, gives_lex_fault, gives_fault, parsed}
+use Rattle.pr_rules.specs.pr_fields.declared.problem.Problem.{Problem}
+use Rattle.pr_vectors.specs.pr_history.declared.append.Append.{Append}
+use Rattle.pr_vectors.specs.pr_history.declared.append.Append.TheVariants as append
+use Rattle.pr_vectors.specs.pr_history.declared.entry.Entry.{Entry}
+use Rattle.pr_vectors.specs.pr_history.Admission.{admit}
+use Rattle.pr_ast.specs.pr_labels.declared.pair.Pair.{Pair}
+use Rattle.pr_rules.specs.pr_parse.Parsed.{Parsed, gives_tree, gives_lex_fault, gives_fault, parsed}
 use Rattle.pr_types.specs.declared.kind.TypeFault.{TypeFault}
 use Rattle.pr_types.specs.declared.kind.ValueType.{ValueType}
 use Rattle.pr_types.specs.Typed.{checked}
-use Rattle.pr_query.specs.declared.fault.Fault.{Fault}
-use Rattle.pr_query.specs.declared.value.Value.{Value}
-use Rattle.pr_query.specs.declared.value.Value.TheVariants as value
-use Rattle.pr_query.specs.Answers.{go_on}
-use Rattle.pr_query.specs.Meaning.{meaning}
-use Rattle.pr_rulefile.specs.File.{RuleReading, gives_file, gives_problems, rule_file_of}
-use Rattle.pr_rulefile.specs.Groups.{Group as Definition}
+use Rattle.pr_rules.specs.pr_query.declared.fault.Fault.{Fault}
+use Rattle.pr_rules.specs.pr_query.declared.value.Value.{Value}
+use Rattle.pr_rules.specs.pr_query.declared.value.Value.TheVariants as value
+use Rattle.pr_rules.specs.pr_query.Answers.{go_on}
+use Rattle.pr_rules.specs.pr_query.Meaning.{meaning}
+use Rattle.pr_rules.specs.pr_rulefile.File.{RuleReading, gives_file, gives_problems, rule_file_of}
+use Rattle.pr_rules.specs.pr_rulefile.Groups.{Group as Definition}
 use Rattle.pr_rules.specs.Evaluations.{group_step}
 use Rattle.pr_rules.specs.Groups.{Group, is_group_named}
 use Rattle.pr_rules.specs.Reloads.{LoadedFile, reload_step}

@@ -2,8 +2,8 @@
 use Rattle.std.proofs.Common.{◌≡◌, refl, sym, ap, ◌∙◌, ℕ, zero, suc, ◌+◌, ◌<◌, ◌≤◌, Bool, true, false, cond, not, ◌&&◌, nat_le, List, [], ◌∷◌, length, length-append, is_some, arith, codes}
 use Rattle.std.proofs.lemmas.Bool.Decides.{nat_tests}
 use Rattle.std.specs.Str.{bytes_eq}
-use Rattle.pr_labels.specs.declared.pair.Pair.{Pair}
-use Rattle.pr_labels.proofs.LabelLaws.{same_names, value_miss}
+use Rattle.pr_ast.specs.pr_labels.declared.pair.Pair.{Pair}
+use Rattle.pr_ast.proofs.LabelsLabelLaws.{same_names, value_miss}
 use Rattle.pr_world.specs.Renaming.{IsFirstFree, exported_times}
 use Rattle.pr_world.specs.Scrapes.{exported, free_name, free_within, has, is_free}
 

@@ -1,14 +1,14 @@
 -- What entries that are put one after another add, in parts.
 use Rattle.std.proofs.Common.{◌≡◌, ℕ, ◌+◌, Bool, true, false, cond, List, [], ◌∷◌, ◌++◌, length, map, filter, refl, sym, ap, ◌∙◌, append_assoc, append-nil}
 use Rattle.std.specs.List.{zip}
-use Rattle.pr_labels.specs.declared.pair.Pair.{Pair}
-use Rattle.pr_labels.specs.Rising.{IsRising}
-use Rattle.pr_labels.proofs.LabelOrder.{rising_fold}
-use Rattle.pr_history.specs.Admission.{admit, put, put_all}
-use Rattle.pr_history.specs.declared.entry.Entry.{Entry}
-use Rattle.pr_puts.specs.Puts.{admissions}
-use Rattle.pr_puts.proofs.Putting.{picks}
-pub use Rattle.pr_puts.proofs.Putting.{admitted_counted, admitted_first, admitted_parts, answer_to, answers_parts, counts_parts, one_admitted, puts_admitted, puts_parts}
+use Rattle.pr_ast.specs.pr_labels.declared.pair.Pair.{Pair}
+use Rattle.pr_ast.specs.pr_labels.Rising.{IsRising}
+use Rattle.pr_ast.proofs.LabelsLabelOrder.{rising_fold}
+use Rattle.pr_vectors.specs.pr_history.Admission.{admit, put, put_all}
+use Rattle.pr_vectors.specs.pr_history.declared.entry.Entry.{Entry}
+use Rattle.pr_rules.specs.pr_puts.Puts.{admissions}
+use Rattle.pr_rules.proofs.PutsPutting.{picks}
+pub use Rattle.pr_rules.proofs.PutsPutting.{admitted_counted, admitted_first, admitted_parts, answer_to, answers_parts, counts_parts, one_admitted, puts_admitted, puts_parts}
 use Rattle.pr_world.specs.declared.scraped.Offer.{Offer}
 use Rattle.pr_world.specs.Scrapes.{offered_entries, is_tracked, kept_sets, tracked_after}
 

@@ -1,14 +1,14 @@
 -- What each step does to the history, the targets and the groups.
 use Rattle.std.proofs.Common.{◌≡◌, ℕ, Bool, true, false, List, [], ◌∷◌, ◌++◌, Option, Some, None, Result, Ok, Err, refl, sym, ap, ◌∙◌, subst, append_assoc, append-nil}
 use Rattle.std.specs.Prelude.{cond, find, nat_lt, ◌==◌}
-use Rattle.pr_history.specs.Admission.{admit, put_all, put_by, IsLawful}
-use Rattle.pr_history.specs.declared.append.Append.{Append}
-use Rattle.pr_history.specs.declared.append.Append.TheVariants as append
-use Rattle.pr_history.specs.declared.entry.Entry.{Entry}
-use Rattle.pr_history.proofs.Lawful.{put_all_lawful, put_lawful}
-use Rattle.pr_puts.proofs.Putting.{admitted_lawful}
+use Rattle.pr_vectors.specs.pr_history.Admission.{admit, put_all, put_by, IsLawful}
+use Rattle.pr_vectors.specs.pr_history.declared.append.Append.{Append}
+use Rattle.pr_vectors.specs.pr_history.declared.append.Append.TheVariants as append
+use Rattle.pr_vectors.specs.pr_history.declared.entry.Entry.{Entry}
+use Rattle.pr_vectors.proofs.HistoryLawful.{put_all_lawful, put_lawful}
+use Rattle.pr_rules.proofs.PutsPutting.{admitted_lawful}
 use Rattle.pr_ast.specs.Tree.{Tree}
-use Rattle.pr_parse.specs.Parsed.{Parsed, gives_tree, gives_lex_fault, gives_fault, parsed}
+use Rattle.pr_rules.specs.pr_parse.Parsed.{Parsed, gives_tree, gives_lex_fault, gives_fault, parsed}
 use Rattle.pr_types.specs.declared.kind.ValueType.{ValueType}
 use Rattle.pr_types.specs.declared.kind.TypeFault.{TypeFault}
 use Rattle.pr_types.specs.Typed.{checked}

@@ -2,11 +2,11 @@
 use Rattle.std.proofs.Common.{◌≡◌, ℕ, Bool, true, false, cond, List, [], ◌∷◌, ◌++◌, Option, Some, None, Result, Ok, Err, refl, sym, ap, ◌∙◌}
 use Rattle.std.specs.Prelude.{not}
 use Rattle.std.specs.Cmp.{IsEquivalence, decided}
-use Rattle.pr_labels.specs.declared.pair.Pair.{Pair}
-use Rattle.pr_labels.specs.Order.{labels_eq}
-use Rattle.pr_labels.proofs.LabelOrder.{labels_decide}
-use Rattle.pr_history.specs.Admission.{put_all}
-use Rattle.pr_history.specs.declared.entry.Entry.{Entry}
+use Rattle.pr_ast.specs.pr_labels.declared.pair.Pair.{Pair}
+use Rattle.pr_ast.specs.pr_labels.Order.{labels_eq}
+use Rattle.pr_ast.proofs.LabelsLabelOrder.{labels_decide}
+use Rattle.pr_vectors.specs.pr_history.Admission.{put_all}
+use Rattle.pr_vectors.specs.pr_history.declared.entry.Entry.{Entry}
 use Rattle.pr_expo.specs.declared.exposition.ExpoError.{ExpoError}
 use Rattle.pr_expo.specs.declared.exposition.ExpoError.TheVariants.{Fault, Memory}
 use Rattle.pr_expo.specs.declared.exposition.Exposition.{Exposition}

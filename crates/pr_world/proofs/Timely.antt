@@ -2,8 +2,8 @@
 use Rattle.std.proofs.Common.{◌≡◌, ℕ, ltb-true, Bool, true, false, cond, List, [], ◌∷◌, Option, Some, None, Result, Ok, Err, refl, sym, subst}
 use Rattle.std.specs.Prelude.{find, nat_lt}
 use Rattle.std.specs.List.{AllByRecursion}
-use Rattle.pr_parse.specs.Parsed.{parsed}
-use Rattle.pr_history.specs.declared.entry.Entry.{Entry}
+use Rattle.pr_rules.specs.pr_parse.Parsed.{parsed}
+use Rattle.pr_vectors.specs.pr_history.declared.entry.Entry.{Entry}
 use Rattle.pr_rules.specs.Evaluations.{group_step}
 use Rattle.pr_rules.specs.Groups.{Group, is_group_named}
 use Rattle.pr_rules.specs.Reloads.{LoadedFile, reload_step}

@@ -1,8 +1,8 @@
 -- The files that a reload names, where what each name holds is told.
 use Rattle.std.specs.Prelude.{ℕ, List, [], ◌∷◌, Option, Some, None, Result, Ok, Err}
-use Rattle.pr_query.specs.Answers.{go_on}
-use Rattle.pr_rulefile.specs.Groups.{Group as Definition}
-use Rattle.pr_rulefile.specs.File.{rule_file_of}
+use Rattle.pr_rules.specs.pr_query.Answers.{go_on}
+use Rattle.pr_rules.specs.pr_rulefile.Groups.{Group as Definition}
+use Rattle.pr_rules.specs.pr_rulefile.File.{rule_file_of}
 use Rattle.pr_rules.specs.Settings.{Settings}
 use Rattle.pr_world.specs.declared.event.Event.TheVariants.{Reload}
 use Rattle.pr_world.specs.declared.event.NamedFile.{NamedFile}

@@ -1,6 +1,6 @@
 -- What an event comes to.
 use Rattle.std.specs.Prelude.{◌≡◌, ℕ, Bool, true, false, cond, nat_lt, List, ◌++◌, Option, Some, None}
-use Rattle.pr_history.specs.declared.entry.Entry.{Entry}
+use Rattle.pr_vectors.specs.pr_history.declared.entry.Entry.{Entry}
 use Rattle.pr_rules.specs.Groups.{Group}
 use Rattle.pr_world.specs.declared.report.Report.{Report}
 use Rattle.pr_world.specs.declared.report.Report.TheVariants as report

@@ -1,16 +1,16 @@
 -- What becomes of an expression that is asked for.
 use Rattle.std.specs.Prelude.{ℕ, List, [], Result, Ok, Err}
-use Rattle.pr_history.specs.declared.entry.Entry.{Entry}
+use Rattle.pr_vectors.specs.pr_history.declared.entry.Entry.{Entry}
 use Rattle.pr_ast.specs.Tree.{Tree}
-use Rattle.pr_parse.specs.Parsed.{Parsed, gives_tree, gives_lex_fault, gives_fault, parsed}
+use Rattle.pr_rules.specs.pr_parse.Parsed.{Parsed, gives_tree, gives_lex_fault, gives_fault, parsed}
 use Rattle.pr_types.specs.declared.kind.ValueType.{ValueType}
 use Rattle.pr_types.specs.declared.kind.TypeFault.{TypeFault}
 use Rattle.pr_types.specs.Typed.{checked}
-use Rattle.pr_kinds.specs.declared.kind.QueryKind.TheVariants.{Lex, Parse, Typing}
-use Rattle.pr_query.specs.declared.fault.Fault.{Fault}
-use Rattle.pr_query.specs.declared.value.Value.{Value}
-use Rattle.pr_query.specs.declared.value.Value.TheVariants as value
-use Rattle.pr_query.specs.Meaning.{meaning}
+use Rattle.pr_rules.specs.pr_kinds.declared.kind.QueryKind.TheVariants.{Lex, Parse, Typing}
+use Rattle.pr_rules.specs.pr_query.declared.fault.Fault.{Fault}
+use Rattle.pr_rules.specs.pr_query.declared.value.Value.{Value}
+use Rattle.pr_rules.specs.pr_query.declared.value.Value.TheVariants as value
+use Rattle.pr_rules.specs.pr_query.Meaning.{meaning}
 use Rattle.pr_world.specs.declared.report.Report.{Report}
 use Rattle.pr_world.specs.declared.report.Report.TheVariants.{Scalar, Vector, QueryFault, QueryRefused}
 use Rattle.pr_world.specs.Outcome.{Outcome, refuse, accept, nothing_else}

@@ -1,9 +1,9 @@
 -- What renaming keeps of scraped labels: each stands, under its own name or under a free one.
 use Rattle.std.specs.Prelude.{◌≡◌, ℕ, zero, suc, ◌<◌, true, false, List, [], ◌∷◌, ◌++◌, None}
 use Rattle.std.specs.List.Sorted.{IsPermutation}
-use Rattle.pr_labels.specs.declared.pair.Pair.{Pair}
-use Rattle.pr_labels.specs.Edits.{first_fault}
-use Rattle.pr_labels.specs.LabelSet.{pair_of}
+use Rattle.pr_ast.specs.pr_labels.declared.pair.Pair.{Pair}
+use Rattle.pr_ast.specs.pr_labels.Edits.{first_fault}
+use Rattle.pr_ast.specs.pr_labels.LabelSet.{pair_of}
 use Rattle.pr_world.specs.Scrapes.{exported, has, is_free}
 
 -- the name with `exported_` before it so many times

@@ -1,13 +1,13 @@
 -- What becomes of the events of groups: an evaluation, a reload, and the order for alerts.
 use Rattle.std.specs.Prelude.{ℕ, Bool, true, false, cond, nat_lt, List, [], ◌∷◌, map, filter, flat_map, find, length, Option, Some, None, Result, Ok, Err}
-use Rattle.pr_history.specs.declared.entry.Entry.{Entry}
-use Rattle.pr_puts.specs.Puts.{added_count, admitted}
-use Rattle.pr_query.specs.Answers.{go_on}
-use Rattle.pr_fields.specs.declared.problem.Problem.{Problem}
-use Rattle.pr_rulefile.specs.File.{RuleReading, gives_file, gives_problems, rule_file_of}
-use Rattle.pr_rulefile.specs.Groups.{Group as Definition}
-use Rattle.pr_lineage.specs.declared.record.Record.{Record}
-use Rattle.pr_lineage.specs.Records.{is_living, records}
+use Rattle.pr_vectors.specs.pr_history.declared.entry.Entry.{Entry}
+use Rattle.pr_rules.specs.pr_puts.Puts.{added_count, admitted}
+use Rattle.pr_rules.specs.pr_query.Answers.{go_on}
+use Rattle.pr_rules.specs.pr_fields.declared.problem.Problem.{Problem}
+use Rattle.pr_rules.specs.pr_rulefile.File.{RuleReading, gives_file, gives_problems, rule_file_of}
+use Rattle.pr_rules.specs.pr_rulefile.Groups.{Group as Definition}
+use Rattle.pr_rules.specs.pr_lineage.declared.record.Record.{Record}
+use Rattle.pr_rules.specs.pr_lineage.Records.{is_living, records}
 use Rattle.pr_rules.specs.Evaluations.{GroupStep, group_step}
 use Rattle.pr_rules.specs.Groups.{Group, RuleState, is_group_named}
 use Rattle.pr_rules.specs.Reloads.{LoadedFile, ReloadStep, reload_step, rules_in}

@@ -2,13 +2,13 @@
 use Rattle.std.specs.Prelude.{ℕ, ℤ, pos, List, [], ◌∷◌, codes, Some, None}
 use Rattle.pr_num.specs.declared.value.Num.{Num}
 use Rattle.pr_num.specs.declared.value.Num.TheVariants.{Finite}
-use Rattle.pr_labels.specs.declared.pair.Pair.{Pair}
-use Rattle.pr_labels.specs.LabelSet.{metric_label, named, pair_of}
-use Rattle.pr_history.specs.declared.entry.Entry.{Entry}
-use Rattle.pr_history.specs.Admission.{put_all}
-use Rattle.pr_history.specs.Examples.{job, number}
+use Rattle.pr_ast.specs.pr_labels.declared.pair.Pair.{Pair}
+use Rattle.pr_ast.specs.pr_labels.LabelSet.{metric_label, named, pair_of}
+use Rattle.pr_vectors.specs.pr_history.declared.entry.Entry.{Entry}
+use Rattle.pr_vectors.specs.pr_history.Admission.{put_all}
+use Rattle.pr_vectors.specs.pr_history.Examples.{job, number}
 use Rattle.pr_expo.specs.declared.exposition.Line.{Line}
-use Rattle.pr_expo_line.specs.declared.place.ExpoKind.TheVariants.{BadLabels}
+use Rattle.pr_expo.specs.pr_expo_line.declared.place.ExpoKind.TheVariants.{BadLabels}
 use Rattle.pr_world.specs.Scrapes.{Scrape, failed, scraped}
 
 -- a sample without a time of its own, and one with

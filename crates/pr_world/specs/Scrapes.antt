@@ -5,14 +5,14 @@ use Rattle.std.specs.List.{filter_map, zip}
 use Rattle.pr_num.specs.declared.value.Num.{Num}
 use Rattle.pr_num.specs.declared.value.Point.TheVariants.{Value}
 use Rattle.pr_num.specs.Arithmetic.{whole_of}
-use Rattle.pr_labels.specs.declared.pair.Pair.{Pair}
-use Rattle.pr_labels.specs.LabelSet.{metric_label, value_of}
-use Rattle.pr_labels.specs.Edits.{set_label, union_labels, without_name}
-use Rattle.pr_labels.specs.Rising.{is_among, with_labels}
-use Rattle.pr_history.specs.declared.append.Append.{Append}
-use Rattle.pr_history.specs.declared.entry.Entry.{Entry}
-use Rattle.pr_history.specs.Admission.{put_all}
-pub use Rattle.pr_puts.specs.Puts.{added_count, admitted, admissions, is_added, is_shown, marker, markers, refused_count}
+use Rattle.pr_ast.specs.pr_labels.declared.pair.Pair.{Pair}
+use Rattle.pr_ast.specs.pr_labels.LabelSet.{metric_label, value_of}
+use Rattle.pr_ast.specs.pr_labels.Edits.{set_label, union_labels, without_name}
+use Rattle.pr_ast.specs.pr_labels.Rising.{is_among, with_labels}
+use Rattle.pr_vectors.specs.pr_history.declared.append.Append.{Append}
+use Rattle.pr_vectors.specs.pr_history.declared.entry.Entry.{Entry}
+use Rattle.pr_vectors.specs.pr_history.Admission.{put_all}
+pub use Rattle.pr_rules.specs.pr_puts.Puts.{added_count, admitted, admissions, is_added, is_shown, marker, markers, refused_count}
 use Rattle.pr_expo.specs.declared.exposition.ExpoError.{ExpoError}
 use Rattle.pr_expo.specs.declared.exposition.ExpoError.TheVariants.{Fault, Memory}
 use Rattle.pr_expo.specs.declared.exposition.Exposition.{Exposition}

@@ -3,11 +3,11 @@ use Rattle.std.specs.Prelude.{ℕ, Bool, true, false, List, [], ◌∷◌, ◌++
 use Rattle.std.specs.List.{IsDistinct}
 use Rattle.std.specs.Str.{bytes_eq}
 use Rattle.pr_num.specs.declared.value.Point.{Point}
-use Rattle.pr_history.specs.declared.entry.Entry.{Entry}
-use Rattle.pr_history.specs.declared.append.Append.{Append}
-use Rattle.pr_history.specs.declared.append.Append.TheVariants as append
-use Rattle.pr_history.specs.Admission.{admit}
-use Rattle.pr_labels.specs.declared.pair.Pair.{Pair}
+use Rattle.pr_vectors.specs.pr_history.declared.entry.Entry.{Entry}
+use Rattle.pr_vectors.specs.pr_history.declared.append.Append.{Append}
+use Rattle.pr_vectors.specs.pr_history.declared.append.Append.TheVariants as append
+use Rattle.pr_vectors.specs.pr_history.Admission.{admit}
+use Rattle.pr_ast.specs.pr_labels.declared.pair.Pair.{Pair}
 use Rattle.pr_world.specs.declared.event.Event.{Event}
 use Rattle.pr_world.specs.declared.event.Event.TheVariants.{Add, Query, Scrape, Fail, Gone, Eval, Reload, Restart, Alerts}
 use Rattle.pr_world.specs.declared.event.NamedFile.{NamedFile}

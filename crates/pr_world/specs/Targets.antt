@@ -1,8 +1,8 @@
 -- The targets that are known, and what the orders about them come to.
 use Rattle.std.specs.Prelude.{ℕ, not, cond, List, [], ◌∷◌, filter, unwrap_or, Option, Some, None}
-use Rattle.pr_labels.specs.declared.pair.Pair.{Pair}
-use Rattle.pr_labels.specs.Order.{labels_eq}
-use Rattle.pr_history.specs.declared.entry.Entry.{Entry}
+use Rattle.pr_ast.specs.pr_labels.declared.pair.Pair.{Pair}
+use Rattle.pr_ast.specs.pr_labels.Order.{labels_eq}
+use Rattle.pr_vectors.specs.pr_history.declared.entry.Entry.{Entry}
 use Rattle.pr_world.specs.declared.scraped.Scraped.{Scraped}
 use Rattle.pr_world.specs.Scrapes.{Scrape, gone_of, scrape_of}
 

@@ -1,7 +1,7 @@
-use pr_labels::Labels;
+use pr_ast::labels::Labels;
+use pr_ast::time::Ms;
+use pr_ast::words_crate::{Items, Text};
 use pr_num::Point;
-use pr_time::Ms;
-use pr_words::{Items, Text};
 
 /// A rule file, under the name by which its groups are known.
 #[derive(Debug, Drop)]

@@ -1,13 +1,13 @@
 // What small groups are told at their evaluations and reloads.
 ghost use Rattle.std.specs.Prelude.{◌≡◌, codes, [], ◌∷◌, ◌++◌, ◌^◌, None, Some};
 ghost use Rattle.pr_num.specs.declared.value.Point.TheVariants.{Stale};
-ghost use Rattle.pr_labels.specs.LabelSet.{named};
-ghost use Rattle.pr_history.specs.declared.append.Append.TheVariants.{Conflict};
-ghost use Rattle.pr_history.specs.Examples.{number, whole};
+ghost use Rattle.pr_ast.specs.pr_labels.LabelSet.{named};
+ghost use Rattle.pr_vectors.specs.pr_history.declared.append.Append.TheVariants.{Conflict};
+ghost use Rattle.pr_vectors.specs.pr_history.Examples.{number, whole};
 ghost use Rattle.pr_ast.specs.Examples.{metric};
 ghost use Rattle.pr_rules.specs.declared.fault.RuleFault.TheVariants as rule;
-ghost use Rattle.pr_lineage.specs.declared.record.State.TheVariants.{Pending};
-ghost use Rattle.pr_puts.specs.Puts.{marker};
+ghost use Rattle.pr_rules.specs.pr_lineage.declared.record.State.TheVariants.{Pending};
+ghost use Rattle.pr_rules.specs.pr_puts.Puts.{marker};
 ghost use Rattle.pr_rules.specs.declared.report.RuleOutcome.TheVariants.{Fault};
 ghost use Rattle.pr_world.specs.declared.event.Event.TheVariants.{Add, Alerts, Eval, Restart};
 ghost use Rattle.pr_world.specs.declared.report.Report.TheVariants as report;

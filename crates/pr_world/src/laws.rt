@@ -1,8 +1,8 @@
 // Laws of the world.
 ghost use Rattle.std.specs.Prelude.{◌≡◌, ℕ, ◌++◌, List, [], Some, Ok, true, false};
 ghost use Rattle.std.specs.List.{AllByRecursion};
-ghost use Rattle.pr_history.specs.Admission.{IsLawful};
-ghost use Rattle.pr_history.specs.declared.entry.Entry.{Entry};
+ghost use Rattle.pr_vectors.specs.pr_history.Admission.{IsLawful};
+ghost use Rattle.pr_vectors.specs.pr_history.declared.entry.Entry.{Entry};
 ghost use Rattle.pr_world.specs.declared.event.Event.{Event};
 ghost use Rattle.pr_rules.specs.Times.{IsTimely};
 ghost use Rattle.pr_world.specs.declared.event.Event.TheVariants.{Alerts, Query, Reload, Restart};

@@ -31,8 +31,14 @@ pub use laws::{
 pub use loading_examples::{
     a_reload_before_the_last_event_looks_for_no_file, files_are_found_in_order,
 };
-pub use pr_kinds::QueryKind;
-pub use pr_rules::{GroupReport, Put, RuleOutcome, RuleReport};
+pub use pr_expo::expo_line as expo_line;
+pub use pr_rules as rules_crate;
+pub use pr_rules::kinds::QueryKind;
+pub use pr_rules::{
+    GroupReport, Put, RuleOutcome, RuleReport, fields_crate as fields_crate, kinds as kinds,
+    parse as parse, query_crate as query_crate, rulefile as rulefile, tmpl as tmpl,
+};
+pub use pr_types as types;
 pub use report::{AlertLine, Report};
 pub use scrape_examples::{
     a_bad_body_leaves_nothing, a_label_of_the_target_is_renamed, a_refused_sample_is_dropped,

@@ -1,6 +1,6 @@
 // What small lists of files are.
 ghost use Rattle.std.specs.Prelude.{◌≡◌, codes, [], ◌∷◌, Some, Ok, Err};
-ghost use Rattle.pr_history.specs.Examples.{one};
+ghost use Rattle.pr_vectors.specs.pr_history.Examples.{one};
 ghost use Rattle.pr_world.specs.declared.report.Report.TheVariants.{Backwards, Missing, TooLarge};
 ghost use Rattle.pr_world.specs.Loading.{all_found, is_missing, is_too_large, reload_asked};
 ghost use Rattle.pr_world.specs.Settings.{of_a_run};

@@ -2,16 +2,16 @@
 ghost use Rattle.std.specs.Prelude.{◌≡◌};
 ghost use Rattle.pr_world.specs.Outcome.{is_refusal};
 
+use pr_ast::labels::{Item, Labels};
+use pr_ast::time::Ms;
+use pr_ast::words_crate::{Items, Text};
 use pr_expo::ExpoKind;
-use pr_fields::ProblemKind;
-use pr_kinds::QueryKind;
-use pr_labels::{Item, Labels};
-use pr_lineage::State;
 use pr_num::{Num, Point};
-use pr_query::FaultKind;
 use pr_rules::GroupReport;
-use pr_time::Ms;
-use pr_words::{Items, Text};
+use pr_rules::fields_crate::ProblemKind;
+use pr_rules::kinds::QueryKind;
+use pr_rules::lineage::State;
+use pr_rules::query_crate::FaultKind;
 
 /// An alert that is pending or fires.
 #[derive(Debug, Drop)]

@@ -1,11 +1,11 @@
 // What the definitions say of small scrapes.
 ghost use Rattle.std.specs.Prelude.{◌≡◌, codes, [], ◌∷◌, Some, None, pos, negsuc, length};
-ghost use Rattle.pr_labels.specs.LabelSet.{metric_label, named, pair_of};
-ghost use Rattle.pr_history.specs.Admission.{put_all};
-ghost use Rattle.pr_history.specs.Examples.{job, number, whole};
-ghost use Rattle.pr_history.specs.Lookback.{value_at};
+ghost use Rattle.pr_ast.specs.pr_labels.LabelSet.{metric_label, named, pair_of};
+ghost use Rattle.pr_vectors.specs.pr_history.Admission.{put_all};
+ghost use Rattle.pr_vectors.specs.pr_history.Examples.{job, number, whole};
+ghost use Rattle.pr_vectors.specs.pr_history.Lookback.{value_at};
 ghost use Rattle.pr_num.specs.declared.value.Point.TheVariants.{Stale};
-ghost use Rattle.pr_expo_line.specs.declared.place.ExpoKind.TheVariants.{BadLabels};
+ghost use Rattle.pr_expo.specs.pr_expo_line.declared.place.ExpoKind.TheVariants.{BadLabels};
 ghost use Rattle.pr_world.specs.Scrapes.{failed, free_name, gone_of, marker, renamed, scrape_of, scraped, scraped_labels};
 ghost use Rattle.pr_world.specs.Targets.{fail_step, gone_step, nothing_scraped};
 ghost use Rattle.pr_world.specs.ScrapeExamples.{after_first, after_second, both, fewer, first, j, label, of_j, sample, second, third, timed, two, wide};

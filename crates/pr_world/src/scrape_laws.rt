@@ -1,11 +1,11 @@
 // Laws of scrapes and targets.
 ghost use Rattle.std.specs.Prelude.{◌≡◌, ℕ, ◌++◌, cond, false, List, Some, None, length};
-ghost use Rattle.pr_history.specs.declared.entry.Entry.{Entry};
-ghost use Rattle.pr_history.specs.Admission.{put_all};
-ghost use Rattle.pr_labels.specs.declared.pair.Pair.{Pair};
-ghost use Rattle.pr_labels.specs.LabelSet.{IsLabelSet};
-ghost use Rattle.pr_labels.specs.Order.{labels_eq};
-ghost use Rattle.pr_labels.specs.Rising.{IsRising};
+ghost use Rattle.pr_vectors.specs.pr_history.declared.entry.Entry.{Entry};
+ghost use Rattle.pr_vectors.specs.pr_history.Admission.{put_all};
+ghost use Rattle.pr_ast.specs.pr_labels.declared.pair.Pair.{Pair};
+ghost use Rattle.pr_ast.specs.pr_labels.LabelSet.{IsLabelSet};
+ghost use Rattle.pr_ast.specs.pr_labels.Order.{labels_eq};
+ghost use Rattle.pr_ast.specs.pr_labels.Rising.{IsRising};
 ghost use Rattle.pr_world.specs.declared.scraped.Offer.{Offer};
 ghost use Rattle.pr_world.specs.Renaming.{HasAllLabels, IsFirstFree};
 ghost use Rattle.pr_world.specs.Scrapes.{added_count, admitted, free_name, scraped_labels, tracked_after};

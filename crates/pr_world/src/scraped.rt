@@ -1,6 +1,6 @@
+use pr_ast::words_crate::Items;
 use pr_expo::ExpoKind;
-use pr_history::Entry;
-use pr_words::Items;
+use pr_vectors::history::Entry;
 
 /// A sample of a body that is offered to the history.
 #[derive(Debug, Drop)]

@@ -1,10 +1,10 @@
 // What orders about targets come to in a small world.
 ghost use Rattle.std.specs.Prelude.{◌≡◌, codes, [], ◌∷◌, Some, pos, false};
-ghost use Rattle.pr_labels.specs.LabelSet.{metric_label, pair_of};
+ghost use Rattle.pr_ast.specs.pr_labels.LabelSet.{metric_label, pair_of};
 ghost use Rattle.pr_num.specs.declared.value.Num.TheVariants.{Finite};
-ghost use Rattle.pr_history.specs.Examples.{job, number};
-ghost use Rattle.pr_history.specs.Lookback.{value_at};
-ghost use Rattle.pr_expo_line.specs.declared.place.ExpoKind.TheVariants.{BadLabels};
+ghost use Rattle.pr_vectors.specs.pr_history.Examples.{job, number};
+ghost use Rattle.pr_vectors.specs.pr_history.Lookback.{value_at};
+ghost use Rattle.pr_expo.specs.pr_expo_line.declared.place.ExpoKind.TheVariants.{BadLabels};
 ghost use Rattle.pr_world.specs.World.{start};
 ghost use Rattle.pr_world.specs.Settings.{of_a_run};
 ghost use Rattle.pr_world.specs.Outcome.{accept, targets_become};

@@ -6,7 +6,7 @@ use Rattle.std.proofs.lemmas.Slice.Eq.{bytes_eq-Decides}
 use Rattle.pr_labels.proofs.LabelOrder.{both}
 use Rattle.pr_history.specs.declared.entry.Entry.{Entry}
 use Rattle.pr_puts.specs.Puts.{marker}
-use Rattle.pr_rulefile.specs.Groups.{Group as Definition}
+use Rattle.pr_rules.specs.pr_rulefile.Groups.{Group as Definition}
 use Rattle.pr_rules.specs.Evaluations.{RulesProgress, all_rules, group_step, restoring}
 use Rattle.pr_rules.specs.Groups.{Group, definition_of, is_group_named}
 use Rattle.pr_rules.specs.Settings.{Settings}

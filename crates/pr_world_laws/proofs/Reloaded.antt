@@ -1,7 +1,7 @@
 -- That a reload was accepted is remembered.
 use Rattle.std.proofs.Common.{◌≡◌, ℕ, Bool, true, false, cond, List, [], Option, Some, None, Result, Ok, Err, refl, sym, subst}
 use Rattle.std.specs.Prelude.{find, nat_lt}
-use Rattle.pr_parse.specs.Parsed.{parsed}
+use Rattle.pr_rules.specs.pr_parse.Parsed.{parsed}
 use Rattle.pr_history.specs.declared.entry.Entry.{Entry}
 use Rattle.pr_rules.specs.Evaluations.{group_step}
 use Rattle.pr_rules.specs.Groups.{Group, is_group_named}

@@ -9,7 +9,7 @@ use Rattle.pr_ast.specs.declared.selector.Selector.{Selector}
 use Rattle.pr_ast.specs.Tree.{Tree, call, range}
 use Rattle.pr_history.specs.declared.entry.Entry.{Entry}
 use Rattle.pr_history.specs.Examples.{number, whole}
-use Rattle.pr_rulefile.specs.Groups.{Group as Definition}
+use Rattle.pr_rules.specs.pr_rulefile.Groups.{Group as Definition}
 use Rattle.pr_lineage.specs.declared.found.Found.{Found}
 use Rattle.pr_lineage.specs.Examples.{d, gave}
 use Rattle.pr_lineage.specs.Lineage.{Outcome, Step, came_to}

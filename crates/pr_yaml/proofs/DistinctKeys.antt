@@ -1,9 +1,9 @@
 -- What is read has maps with distinct keys.
 use Rattle.std.proofs.Common.{◌≡◌, ℕ, List, [], ◌∷◌, ◌++◌, Bool, true, false, ◌&&◌, Some, refl, sym, subst}
 use Rattle.std.specs.Prelude.{not, nat_eq, nat_le, ◌+◌}
-use Rattle.pr_words.specs.Names.{is_among}
-use Rattle.pr_forms.specs.Form.{rule}
-use Rattle.pr_forms.proofs.ByRules.{Each, Meets, by_token, by_nothing, by_pair, by_left, by_right, by_choice, by_rule, by_rules}
+use Rattle.pr_yaml_scan.specs.pr_words.Names.{is_among}
+use Rattle.pr_yaml_scan.specs.pr_forms.Form.{rule}
+use Rattle.pr_yaml_scan.proofs.FormsByRules.{Each, Meets, by_token, by_nothing, by_pair, by_left, by_right, by_choice, by_rule, by_rules}
 use Rattle.pr_yaml.specs.Tree.{Tree, text_node, trees_from, entries_from}
 use Rattle.pr_yaml.specs.Grammar.{Letter, text_at, key_at, letters, Value, tree, at, entry, items, entries, absent, mark, or_absent, is_taken, entry_of, entry_before, item_of, item_before, map_on, list_on, flow_map_of, flow_list_of, leaf_in, is_allowed, dash_at, list_open, list_close, map_open, map_close, comma_at, node_from, value_from, list_from, entry_from, pair_from, Rule, Whole, Node, Leaf, Map, Entries, Entry, MoreEntries, Under, Items, Dashes, MoreDashes, FlowList, Values, AfterValue, FlowMap, Pairs, Pair, PairValue, AfterPair, production}
 use Rattle.pr_yaml.specs.Distinct.{has_distinct_keys, have_distinct_keys, are_distinct}

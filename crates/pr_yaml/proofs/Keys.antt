@@ -8,7 +8,7 @@ use Rattle.std.specs.Cmp.Lexicographic.{slice_cmp, texts_ties}
 use Rattle.std.specs.Ordering.{nat_cmp, is_eq}
 use Rattle.std.specs.declared.cmp.Ordering.{Ordering}
 use Rattle.std.specs.Str.{bytes_eq}
-use Rattle.pr_words.specs.Names.{is_among, knows}
+use Rattle.pr_yaml_scan.specs.pr_words.Names.{is_among, knows}
 use Rattle.pr_yaml.specs.declared.node.Entry.{Entry}
 use Rattle.pr_yaml.specs.Tree.{EntryTree, entry_tree_of}
 use Rattle.pr_yaml.specs.Reader.{keys_of, keys_in}

@@ -3,12 +3,12 @@ use Rattle.std.proofs.Common.{◌≡◌, ℕ, ◌+◌, ◌≤◌, ◌<◌, List,
 use Rattle.std.proofs.lemmas.List.{map-append}
 use Rattle.std.specs.Borrow.{Bor}
 use Rattle.std.specs.Prelude.{MatchResult, IfOk}
-use Rattle.pr_forms.specs.Form.{Form, token, rule}
-use Rattle.pr_forms.specs.Run.{good, bad, Takes, Lacks}
-use Rattle.pr_forms.specs.Carries.{Chooses, ChoosesNone}
-use Rattle.pr_forms.specs.Language.{Gives, FailsAt}
-use Rattle.pr_forms.specs.declared.reader.Fault.{Fault}
-use Rattle.pr_forms.specs.declared.reader.Fault.TheVariants.{Bad, Memory}
+use Rattle.pr_yaml_scan.specs.pr_forms.Form.{Form, token, rule}
+use Rattle.pr_yaml_scan.specs.pr_forms.Run.{good, bad, Takes, Lacks}
+use Rattle.pr_yaml_scan.specs.pr_forms.Carries.{Chooses, ChoosesNone}
+use Rattle.pr_yaml_scan.specs.pr_forms.Language.{Gives, FailsAt}
+use Rattle.pr_yaml_scan.specs.pr_forms.declared.reader.Fault.{Fault}
+use Rattle.pr_yaml_scan.specs.pr_forms.declared.reader.Fault.TheVariants.{Bad, Memory}
 use Rattle.pr_yaml_scan.specs.declared.token.Token.{Token}
 use Rattle.pr_yaml.specs.declared.node.Node.{Node}
 use Rattle.pr_yaml.specs.declared.node.Entry.{Entry}

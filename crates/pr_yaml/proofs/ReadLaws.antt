@@ -3,8 +3,8 @@ use Rattle.std.proofs.Common.{◌≡◌, ◌↔◌, ℕ, ◌≤◌, nat_le, List
 use Rattle.std.specs.Prelude.{MatchResult, IfOk, IfErr, Result, Ok, Err, slice_get}
 use Rattle.std.proofs.lemmas.Bool.Decides.{nat_tests}
 use Rattle.std.proofs.lemmas.List.{length-map}
-use Rattle.pr_forms.specs.Form.{rule, Begins, IsFirstBad, at_whole}
-use Rattle.pr_forms.proofs.Places.{cut_short}
+use Rattle.pr_yaml_scan.specs.pr_forms.Form.{rule, Begins, IsFirstBad, at_whole}
+use Rattle.pr_yaml_scan.proofs.FormsPlaces.{cut_short}
 use Rattle.pr_yaml_scan.specs.declared.token.Token.{Token}
 use Rattle.pr_yaml_scan.specs.declared.fault.YamlKind.{YamlKind}
 use Rattle.pr_yaml_scan.specs.declared.fault.BadPlace.{BadPlace}

@@ -6,8 +6,8 @@ use Rattle.std.specs.Prelude.{slice_get, count_by}
 use Rattle.std.specs.List.{slice_split, onto_first, list_all}
 use Rattle.std.specs.Str.{is_utf8}
 use Rattle.std.proofs.lemmas.List.Sums.{sum_by-cons}
-use Rattle.pr_words.specs.Lines.{is_feed, without_return, ended, text_lines}
-use Rattle.pr_words.specs.Bytes.{is_blank}
+use Rattle.pr_yaml_scan.specs.pr_words.Lines.{is_feed, without_return, ended, text_lines}
+use Rattle.pr_yaml_scan.specs.pr_words.Bytes.{is_blank}
 use Rattle.pr_yaml_scan.specs.Bytes.{without_mark}
 use Rattle.pr_yaml_scan.specs.Worked.{has_return, with_returns}
 use Rattle.pr_yaml_scan.specs.Rising.{StandsIn, AllStandIn}

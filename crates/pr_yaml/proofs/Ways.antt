@@ -3,18 +3,18 @@ use Rattle.std.proofs.Common.{◌≡◌, ℕ, ◌+◌, ◌≤◌, ◌<◌, List,
 use Rattle.std.proofs.lemmas.List.{length-map}
 use Rattle.std.proofs.lemmas.Bool.Decides.{nat_tests}
 use Rattle.std.specs.Prelude.{is_some}
-use Rattle.pr_forms.specs.Form.{Form, token, pair, rule, chosen}
-use Rattle.pr_forms.specs.Table.{is_next, empty_of}
-use Rattle.pr_forms.specs.Run.{Runs, Outcome, good, bad, run_token, run_nothing, run_pair, run_first, run_second, run_left, run_right, run_chosen, run_chosen_bad, run_rule, Takes, Lacks}
-use Rattle.pr_forms.specs.Carries.{Carries, Chooses, ChoosesNone, no_token, no_rule}
-use Rattle.pr_forms.proofs.Carrying.{carry_with, carry_made}
-use Rattle.pr_forms.proofs.Choosing.{chosen_next, none_next, none_chosen}
-use Rattle.pr_forms.proofs.Decided.{shrinks}
-use Rattle.pr_forms.proofs.Steps.{next_pair}
-use Rattle.pr_forms.proofs.Ending.{consumes}
-use Rattle.pr_forms.proofs.Sound.{meets, reads}
+use Rattle.pr_yaml_scan.specs.pr_forms.Form.{Form, token, pair, rule, chosen}
+use Rattle.pr_yaml_scan.specs.pr_forms.Table.{is_next, empty_of}
+use Rattle.pr_yaml_scan.specs.pr_forms.Run.{Runs, Outcome, good, bad, run_token, run_nothing, run_pair, run_first, run_second, run_left, run_right, run_chosen, run_chosen_bad, run_rule, Takes, Lacks}
+use Rattle.pr_yaml_scan.specs.pr_forms.Carries.{Carries, Chooses, ChoosesNone, no_token, no_rule}
+use Rattle.pr_yaml_scan.proofs.FormsCarrying.{carry_with, carry_made}
+use Rattle.pr_yaml_scan.proofs.FormsChoosing.{chosen_next, none_next, none_chosen}
+use Rattle.pr_yaml_scan.proofs.FormsDecided.{shrinks}
+use Rattle.pr_yaml_scan.proofs.FormsSteps.{next_pair}
+use Rattle.pr_yaml_scan.proofs.FormsEnding.{consumes}
+use Rattle.pr_yaml_scan.proofs.FormsSound.{meets, reads}
 use Rattle.pr_yaml.proofs.TreeTable.{known}
-use Rattle.pr_forms.proofs.Ways.{take_side, take_side_bad, other_side}
+use Rattle.pr_yaml_scan.proofs.FormsWays.{take_side, take_side_bad, other_side}
 use Rattle.pr_yaml_scan.specs.declared.token.Token.{Token}
 use Rattle.pr_yaml.specs.Tree.{Tree, map_node, list_node, EntryTree, trees_from, entries_from}
 use Rattle.pr_yaml.specs.Grammar.{Letter, letters, letter_of, key_at, Value, tree, at, entry, entries, items, absent, mark, or_absent, entry_of, item_before, Rule, Node, Map, Entries, Entry, MoreEntries, Under, Items, Dashes, MoreDashes, Values, AfterValue, Pairs, Pair, PairValue, node_from, value_from, list_from, entry_from, pair_from, key_in, any_key_in, dash_in, comma_in, production, is_item_more, is_in_map, no_more}

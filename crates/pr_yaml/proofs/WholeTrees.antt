@@ -1,12 +1,12 @@
 -- From the run of the reader over all tokens to their tree, or to the place where they stop.
 use Rattle.std.proofs.Common.{◌≡◌, ℕ, ◌-◌, ◌≤◌, List, [], length, Bool, false, Option, Some, None, refl, ap}
 use Rattle.std.specs.Prelude.{◌==◌, option_map}
-use Rattle.pr_forms.specs.Form.{rule, Reads, IsFirstBad}
-use Rattle.pr_forms.specs.Run.{good, bad, run_rule, Outcome}
-use Rattle.pr_forms.specs.Reading.{reading}
-use Rattle.pr_forms.proofs.Ending.{given_reads, reads_given, given_place}
-use Rattle.pr_forms.proofs.Places.{one_place}
-use Rattle.pr_forms.proofs.Public.{read_whole, not_whole, no_reading, rest_place, bad_place as bad_run_place, end_place, left_short}
+use Rattle.pr_yaml_scan.specs.pr_forms.Form.{rule, Reads, IsFirstBad}
+use Rattle.pr_yaml_scan.specs.pr_forms.Run.{good, bad, run_rule, Outcome}
+use Rattle.pr_yaml_scan.specs.pr_forms.Reading.{reading}
+use Rattle.pr_yaml_scan.proofs.FormsEnding.{given_reads, reads_given, given_place}
+use Rattle.pr_yaml_scan.proofs.FormsPlaces.{one_place}
+use Rattle.pr_yaml_scan.proofs.FormsPublic.{read_whole, not_whole, no_reading, rest_place, bad_place as bad_run_place, end_place, left_short}
 use Rattle.pr_yaml_scan.specs.declared.token.Token.{Token}
 use Rattle.pr_yaml.specs.Tree.{Tree}
 use Rattle.pr_yaml.specs.Grammar.{Letter, letter_of, letters, Value, or_absent, Whole, production}

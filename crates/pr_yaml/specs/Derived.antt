@@ -1,7 +1,7 @@
 -- The tree of a text and its first fault, as relations: by the productions, and by the first place
 -- up to which the tokens cannot go on.
 use Rattle.std.specs.Prelude.{◌≡◌, ℕ, true, Option, Some, None, List, [], slice_get}
-use Rattle.pr_forms.specs.Form.{rule, Reads, IsFirstBad}
+use Rattle.pr_yaml_scan.specs.pr_forms.Form.{rule, Reads, IsFirstBad}
 use Rattle.pr_yaml_scan.specs.Tokens.{HasPlaces}
 use Rattle.pr_yaml_scan.specs.declared.token.Token.{Token}
 use Rattle.pr_yaml_scan.specs.declared.fault.YamlKind.{YamlKind}

@@ -1,6 +1,6 @@
 -- Maps whose keys are distinct.
 use Rattle.std.specs.Prelude.{ℕ, Bool, true, ◌&&◌, not, List, [], ◌∷◌, ◌++◌}
-use Rattle.pr_words.specs.Names.{is_among}
+use Rattle.pr_yaml_scan.specs.pr_words.Names.{is_among}
 use Rattle.pr_yaml.specs.Tree.{Tree, text_node, list_node, map_node, Trees, no_trees, tree_then, EntryTrees, no_entries, entry_then}
 
 -- In no map of the tree a key stands among those before it.

@@ -1,8 +1,8 @@
 -- The kind of a fault.
 use Rattle.std.specs.Prelude.{ℕ, zero, suc, ◌+◌, ◌-◌, ◌||◌, ◌&&◌, nat_lt, Bool, true, false, Option, Some, None, List, [], ◌∷◌, ◌++◌, length, take, count_by, if◌then◌else◌}
 use Rattle.std.specs.List.{list_all}
-use Rattle.pr_words.specs.Lines.{is_feed}
-use Rattle.pr_words.specs.Bytes.{is_blank}
+use Rattle.pr_yaml_scan.specs.pr_words.Lines.{is_feed}
+use Rattle.pr_yaml_scan.specs.pr_words.Bytes.{is_blank}
 use Rattle.pr_yaml_scan.specs.Bytes.{without_mark}
 use Rattle.pr_yaml_scan.specs.declared.token.Token.{Token}
 use Rattle.pr_yaml_scan.specs.declared.token.TokenKind.{TokenKind}

@@ -1,7 +1,7 @@
 -- The trees of YAML texts over their tokens, by columns.
 use Rattle.std.specs.Prelude.{ℕ, ◌+◌, ◌-◌, Option, Some, None, Bool, true, false, ◌||◌, ◌&&◌, not, if◌then◌else◌, nat_eq, nat_le, nat_lt, is_some, List, [], ◌∷◌, ◌++◌, map}
-use Rattle.pr_words.specs.Names.{is_among}
-use Rattle.pr_forms.specs.Form.{Form, token, nothing, pair, either, rule, chosen}
+use Rattle.pr_yaml_scan.specs.pr_words.Names.{is_among}
+use Rattle.pr_yaml_scan.specs.pr_forms.Form.{Form, token, nothing, pair, either, rule, chosen}
 use Rattle.pr_yaml_scan.specs.declared.token.Token.{Token}
 use Rattle.pr_yaml_scan.specs.declared.token.TokenKind.{TokenKind}
 use Rattle.pr_yaml_scan.specs.declared.token.TokenKind.TheVariants.{Dash, Key, Text, ListOpen, ListClose, MapOpen, MapClose, Comma}

@@ -1,7 +1,7 @@
 -- What one token ahead tells of the rules of trees: no part of what a text means.
 use Rattle.std.specs.Prelude.{ℕ, ◌+◌, Bool, true, false, ◌||◌, is_some, []}
-use Rattle.pr_forms.specs.Table.{Table}
-use Rattle.pr_forms.specs.Language.{Language}
+use Rattle.pr_yaml_scan.specs.pr_forms.Table.{Table}
+use Rattle.pr_yaml_scan.specs.pr_forms.Language.{Language}
 use Rattle.pr_yaml_scan.specs.declared.token.Token.{Token}
 use Rattle.pr_yaml.specs.Grammar.{Letter, letter_of, Value, Rule, Whole, Node, Leaf, Map, Entries, Entry, MoreEntries, Under, Items, Dashes, MoreDashes, FlowList, Values, AfterValue, FlowMap, Pairs, Pair, PairValue, AfterPair, production, node_from, value_from, list_from, entry_from, pair_from, leaf_in, key_in, any_key_in, dash_in, list_open_in, map_open_in, comma_in, is_within, is_item_more, is_in_map}
 

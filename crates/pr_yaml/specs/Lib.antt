@@ -9,3 +9,4 @@ pub mod Derived
 pub mod Distinct
 pub mod Depth
 pub mod Worked
+pub use Rattle.pr_yaml_scan.specs as pr_yaml_scan

@@ -1,9 +1,9 @@
 -- What the functions of the reader say of themselves: no rule of the format.
 use Rattle.std.specs.Prelude.{◌≡◌, ℕ, ◌≤◌, ◌++◌, length, Bool, false, Option, Some, None, List, ◌∷◌, map}
-use Rattle.pr_forms.specs.Form.{Form, nothing, either, rule}
-use Rattle.pr_forms.specs.Run.{good}
-use Rattle.pr_forms.specs.Carries.{ChoosesNone}
-use Rattle.pr_forms.specs.Language.{Gives, Carries}
+use Rattle.pr_yaml_scan.specs.pr_forms.Form.{Form, nothing, either, rule}
+use Rattle.pr_yaml_scan.specs.pr_forms.Run.{good}
+use Rattle.pr_yaml_scan.specs.pr_forms.Carries.{ChoosesNone}
+use Rattle.pr_yaml_scan.specs.pr_forms.Language.{Gives, Carries}
 use Rattle.pr_yaml_scan.specs.declared.token.Token.{Token}
 use Rattle.pr_yaml.specs.declared.node.Node.{Node}
 use Rattle.pr_yaml.specs.declared.node.Entry.{Entry}

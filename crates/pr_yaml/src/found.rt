@@ -1,11 +1,11 @@
 // The entries of a map that a reader has found.
 ghost use Rattle.std.specs.Prelude.{◌≡◌, ◌++◌, ◌∷◌, [], ℕ, List, IfOk, map};
-ghost use Rattle.pr_words.specs.Names.{is_among, knows};
+ghost use Rattle.pr_yaml_scan.specs.pr_words.Names.{is_among, knows};
 ghost use Rattle.pr_yaml.specs.Tree.{tree_of, entry_tree_of};
 ghost use Rattle.pr_yaml.specs.Reader.{keys_in};
 
 use crate::node::{Entry, Node};
-use pr_words::Text;
+use pr_yaml_scan::words_crate::Text;
 use std::alloc::{AllocError, Global};
 use std::collections::BTreeSet;
 

@@ -16,7 +16,7 @@ ghost use Rattle.pr_yaml.specs.Faults.{
 };
 
 use crate::whole::goes_on;
-use pr_words::{Text, is_blank};
+use pr_yaml_scan::words_crate::{Text, is_blank};
 use pr_yaml_scan::{BadPlace, Token, TokenKind, TokenStart, YamlKind, without_mark};
 use std::alloc::{AllocError, Global};
 

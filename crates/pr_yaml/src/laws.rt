@@ -1,9 +1,9 @@
 //! The laws of trees, as the contracts of functions that do nothing.
 ghost use Rattle.std.specs.Prelude.{◌≡◌, ◌≤◌, ◌↔◌, ℕ, Bool, true, false, List, []};
 ghost use Rattle.std.specs.Str.{is_utf8};
-ghost use Rattle.pr_forms.specs.Form.{rule, Begins};
-ghost use Rattle.pr_forms.specs.Table.{IsDecided};
-ghost use Rattle.pr_forms.specs.Reading.{Ends};
+ghost use Rattle.pr_yaml_scan.specs.pr_forms.Form.{rule, Begins};
+ghost use Rattle.pr_yaml_scan.specs.pr_forms.Table.{IsDecided};
+ghost use Rattle.pr_yaml_scan.specs.pr_forms.Reading.{Ends};
 ghost use Rattle.pr_yaml_scan.specs.Bytes.{without_mark};
 ghost use Rattle.pr_yaml_scan.specs.Worked.{has_return, with_returns};
 ghost use Rattle.pr_yaml_scan.specs.declared.fault.YamlKind.{YamlKind};

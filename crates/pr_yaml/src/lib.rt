@@ -15,4 +15,5 @@ mod whole;
 
 pub use fault::YamlError;
 pub use node::{Entry, Kind, Node};
+pub use pr_yaml_scan as yaml_scan;
 pub use reader::read;

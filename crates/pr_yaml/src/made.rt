@@ -12,7 +12,7 @@ ghost use Rattle.pr_yaml.specs.Tree.{
 };
 
 use crate::node::{Entry, Kind, Node};
-use pr_words::Text;
+use pr_yaml_scan::words_crate::Text;
 use std::alloc::{AllocError, Global};
 
 /// A scalar.

@@ -2,7 +2,7 @@
 ghost use Rattle.std.specs.Prelude.{◌≡◌};
 ghost use Rattle.pr_yaml.specs.Tree.{is_absent_text};
 
-use pr_words::Text;
+use pr_yaml_scan::words_crate::Text;
 
 /// A node of the tree of a text.
 #[cycle(tree)]

@@ -1,8 +1,8 @@
 // Single tokens, as the reader of trees takes them.
 ghost use Rattle.std.specs.Prelude.{◌≡◌, ◌-◌, ◌<◌, ℕ, Bool, length, IfSome, MatchOption, option_map};
-ghost use Rattle.pr_forms.specs.Form.{token};
-ghost use Rattle.pr_forms.specs.Carries.{Chooses, ChoosesNone};
-ghost use Rattle.pr_forms.specs.Language.{Takes, Lacks};
+ghost use Rattle.pr_yaml_scan.specs.pr_forms.Form.{token};
+ghost use Rattle.pr_yaml_scan.specs.pr_forms.Carries.{Chooses, ChoosesNone};
+ghost use Rattle.pr_yaml_scan.specs.pr_forms.Language.{Takes, Lacks};
 ghost use Rattle.pr_yaml.specs.Tree.{text_node};
 ghost use Rattle.pr_yaml.specs.Grammar.{
   letter_of,
@@ -29,7 +29,7 @@ ghost use Rattle.pr_yaml.specs.GrammarTable.{yaml};
 ghost use Rattle.pr_yaml.specs.Reader.{rule_of, key_among, keys_in, IsEntry, NoEntry, IsPair, NoPair};
 
 use crate::found::Found;
-use pr_forms::take;
+use pr_yaml_scan::forms::take;
 use pr_yaml_scan::{Token, TokenKind};
 
 /// What a node is by its first token: a scalar; a map or a list in a block, with the line and the

@@ -1,9 +1,9 @@
 // The reader of trees. How deep it calls itself is bounded by the room that a text has for maps and
 // lists in one another.
 ghost use Rattle.std.specs.Prelude.{◌≡◌, ◌<◌, ◌≤◌, Bool, [], length, map, IfOk, MatchResult};
-ghost use Rattle.pr_forms.specs.Form.{token, rule};
-ghost use Rattle.pr_forms.specs.Run.{good};
-ghost use Rattle.pr_forms.specs.Language.{Gives, FailsAt};
+ghost use Rattle.pr_yaml_scan.specs.pr_forms.Form.{token, rule};
+ghost use Rattle.pr_yaml_scan.specs.pr_forms.Run.{good};
+ghost use Rattle.pr_yaml_scan.specs.pr_forms.Language.{Gives, FailsAt};
 ghost use Rattle.pr_yaml.specs.Tree.{tree_of, entry_tree_of};
 ghost use Rattle.pr_yaml.specs.Grammar.{
   letters,
@@ -31,8 +31,8 @@ use crate::tokens::{
     Start, comma_in, dash_in, key_in, list_close_in, list_open_in, list_start, map_close_in,
     map_open_in, node_start, pair_in, text_in, value_start,
 };
-use pr_forms::Fault;
 use pr_yaml_scan::Token;
+use pr_yaml_scan::forms::Fault;
 use std::alloc::Global;
 
 /// A scalar.

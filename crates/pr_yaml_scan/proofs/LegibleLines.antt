@@ -7,8 +7,8 @@ use Rattle.std.proofs.Math.Seq.{take-append_seam, get_or-append_seam}
 use Rattle.std.proofs.lemmas.Bool.{cases_lt}
 use Rattle.std.proofs.lemmas.Bool.Decides.{nat_tests}
 use Rattle.std.proofs.lemmas.Str.{IsUtf8-take, IsUtf8-drop, IsCharBoundary-before_ascii, IsCharBoundary-from_take}
-use Rattle.pr_words.specs.Lines.{is_feed, without_return, ended, text_lines}
-use Rattle.pr_words.specs.Bytes.{is_blank}
+use Rattle.pr_strings.specs.pr_words.Lines.{is_feed, without_return, ended, text_lines}
+use Rattle.pr_strings.specs.pr_words.Bytes.{is_blank}
 use Rattle.pr_strings.proofs.StringUtf8.{before_byte, after_byte}
 use Rattle.pr_yaml_scan.specs.Bytes.{no_text, is_bare, blanks_len}
 use Rattle.pr_yaml_scan.proofs.Shorter.{one_more}

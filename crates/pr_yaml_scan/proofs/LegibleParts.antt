@@ -4,7 +4,7 @@ use Rattle.std.specs.Str.{IsUtf8}
 use Rattle.std.proofs.lemmas.Bool.{cases_lt}
 use Rattle.std.proofs.lemmas.Bool.Decides.{nat_tests}
 use Rattle.std.proofs.lemmas.Str.{IsUtf8-nil}
-use Rattle.pr_words.specs.Lines.{text_lines}
+use Rattle.pr_strings.specs.pr_words.Lines.{text_lines}
 use Rattle.pr_yaml_scan.specs.Bytes.{no_text, has_no_text, blanks_len}
 use Rattle.pr_yaml_scan.specs.Lines.{Place, along, end_line}
 use Rattle.pr_yaml_scan.specs.Legible.{IsLegible, AreLegible, IsLegiblePlace, HasUtf8}

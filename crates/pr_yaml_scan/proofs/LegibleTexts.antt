@@ -10,8 +10,8 @@ use Rattle.std.proofs.lemmas.List.{length-reverse, reverse-append, reverse-rever
 use Rattle.std.proofs.lemmas.Str.{IsUtf8-append, IsUtf8-encode, IsUtf8-nil}
 use Rattle.pr_strings.specs.Strings.{fits}
 use Rattle.pr_strings.proofs.StringUtf8.{before_byte, byte_text}
-use Rattle.pr_words.specs.Fields.{is_field_byte, without_trailing}
-use Rattle.pr_words.specs.Bytes.{is_blank}
+use Rattle.pr_strings.specs.pr_words.Fields.{is_field_byte, without_trailing}
+use Rattle.pr_strings.specs.pr_words.Bytes.{is_blank}
 use Rattle.pr_yaml_scan.specs.Bytes.{no_text, has_no_text, is_bare, is_space, spaces_len, blanks_len, ends_word, is_flow_sign}
 use Rattle.pr_yaml_scan.specs.Lines.{Place, line_start, feeds, folded_break}
 use Rattle.pr_yaml_scan.specs.Legible.{legible_part, IsLegible, AreLegible, IsLegiblePlace, HasUtf8}

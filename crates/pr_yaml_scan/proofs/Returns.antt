@@ -3,7 +3,7 @@ use Rattle.std.proofs.Common.{◌≡◌, ℕ, zero, suc, ◌-◌, ◌<◌, Bool,
 use Rattle.std.specs.Str.{IsUtf8, is_utf8}
 use Rattle.std.proofs.lemmas.Str.{IsUtf8-append, IsUtf8-from_is_utf8, is_utf8-from_IsUtf8}
 use Rattle.std.proofs.lemmas.Bool.Decides.{nat_tests}
-use Rattle.pr_words.specs.Lines.{is_feed, without_return, ended, text_lines}
+use Rattle.pr_strings.specs.pr_words.Lines.{is_feed, without_return, ended, text_lines}
 use Rattle.pr_strings.proofs.StringUtf8.{before_byte, after_byte, byte_text}
 use Prim.Native.Char.{code}
 use Rattle.std.specs.List.{slice_split, onto_first}

@@ -1,7 +1,7 @@
 -- The places that a reader of a text comes to are places of that text, each further on.
 use Rattle.std.proofs.Common.{◌≡◌, ℕ, suc, zero, ◌+◌, ◌-◌, ◌<◌, ◌≤◌, ◌==◌, nat_lt, Bool, true, false, not, ◌&&◌, ◌||◌, if◌then◌else◌, List, [], ◌∷◌, ◌++◌, Option, Some, None, length, drop, get_or, refl, sym, subst, ap, ◌∙◌, arith, drop-drop, length-drop, ◌⊎◌, inl, inr}
 use Rattle.std.proofs.lemmas.Bool.{cases_lt}
-use Rattle.pr_words.specs.Lines.{text_lines}
+use Rattle.pr_strings.specs.pr_words.Lines.{text_lines}
 use Rattle.pr_yaml_scan.specs.Bytes.{no_text, has_no_text, is_bare, blanks_len, legible, without_mark}
 use Rattle.pr_yaml_scan.specs.Scan.{left, lines_size}
 use Rattle.pr_yaml_scan.specs.Rising.{IsBefore, AreRising, StandsIn, AllStandIn}

@@ -1,7 +1,7 @@
 -- What the reader keeps of a place in a text: no rule of the format.
 use Rattle.std.specs.Prelude.{ℕ, ◌+◌, ◌^◌, ◌<◌, ◌≤◌, ◌≡◌, Option, Some, None, List, [], ◌∷◌, length}
 use Rattle.std.specs.Borrow.{Bor}
-use Rattle.pr_words.specs.Lines.{text_lines}
+use Rattle.pr_strings.specs.pr_words.Lines.{text_lines}
 use Rattle.pr_yaml_scan.specs.Lines.{Place}
 
 -- the lines below a place, as the bytes that they are

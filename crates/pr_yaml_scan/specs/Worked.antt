@@ -2,7 +2,7 @@
 use Rattle.std.specs.Prelude.{ℕ, ◌==◌, Option, Some, None, List, [], ◌∷◌, true, false, Bool, if◌then◌else◌}
 use Prim.Native.Char.{code}
 use Rattle.std.specs.List.{list_any}
-use Rattle.pr_words.specs.Lines.{is_feed}
+use Rattle.pr_strings.specs.pr_words.Lines.{is_feed}
 use Rattle.pr_yaml_scan.specs.Tokens.{first_state}
 use Rattle.pr_yaml_scan.specs.Scan.{scan_from}
 use Rattle.pr_yaml_scan.specs.declared.token.Token.{Token}

@@ -3,20 +3,20 @@ use Rattle.std.proofs.Common.{◌≡◌, ◌+◌, ◌<◌, length, [], ◌∷◌
 use Rattle.pr_ast.specs.declared.names.Func.TheVariants.{PredictLinear}
 use Rattle.pr_ast.specs.Tree.{call, more, none, tree_of, trees_of}
 use Rattle.pr_ast.proofs.Args.{trees_of-next}
-use Rattle.pr_types.specs.declared.counting.Counts.{Counts}
-use Rattle.pr_types.specs.Built.{own_patterns}
-use Rattle.pr_types.specs.Numbers.{ranges_in}
-use Rattle.pr_vectors.specs.declared.range.RangeFn.TheVariants.{PredictLinear as Predict, PresentOverTime}
-use Rattle.pr_query.specs.declared.value.Value.{Value}
-use Rattle.pr_query.specs.Aggregations.{summed_up}
-use Rattle.pr_query.specs.Calls.{value_of_call}
-use Rattle.pr_query.specs.Meaning.{given, meaning, operands, ranges, ranges as series_meant}
-use Rattle.pr_query.specs.Operations.{negated_value, operated}
-use Rattle.pr_query.specs.Answers.{go_on, fault}
-use Rattle.pr_values.specs.declared.error.EvalError.{EvalError}
-use Rattle.pr_values.specs.declared.error.EvalError.TheVariants as error
-use Rattle.pr_values.specs.Answers.{AnswersTo}
-use Rattle.pr_values.specs.Plain.{all_plain}
+use Rattle.pr_range_calls.specs.pr_types.declared.counting.Counts.{Counts}
+use Rattle.pr_range_calls.specs.pr_types.Built.{own_patterns}
+use Rattle.pr_range_calls.specs.pr_types.Numbers.{ranges_in}
+use Rattle.pr_range_calls.specs.pr_vectors.declared.range.RangeFn.TheVariants.{PredictLinear as Predict, PresentOverTime}
+use Rattle.pr_range_calls.specs.pr_query.declared.value.Value.{Value}
+use Rattle.pr_range_calls.specs.pr_query.Aggregations.{summed_up}
+use Rattle.pr_range_calls.specs.pr_query.Calls.{value_of_call}
+use Rattle.pr_range_calls.specs.pr_query.Meaning.{given, meaning, operands, ranges, ranges as series_meant}
+use Rattle.pr_range_calls.specs.pr_query.Operations.{negated_value, operated}
+use Rattle.pr_range_calls.specs.pr_query.Answers.{go_on, fault}
+use Rattle.pr_range_calls.specs.pr_values.declared.error.EvalError.{EvalError}
+use Rattle.pr_range_calls.specs.pr_values.declared.error.EvalError.TheVariants as error
+use Rattle.pr_range_calls.specs.pr_values.Answers.{AnswersTo}
+use Rattle.pr_range_calls.specs.pr_values.Plain.{all_plain}
 use Rattle.pr_eval.specs.Asking.{asked_for}
 use Rattle.pr_eval.specs.Evaluated.{IsEvaluated, MayTake, kept_by}
 use Rattle.pr_eval.specs.Parts.{counts_after}
@@ -32,14 +32,14 @@ use Rattle.pr_eval.proofs.NoRange.{range_unvalued, sub_unvalued}
 use Rattle.pr_eval.proofs.Sizes.{argument_smaller}
 use Rattle.pr_eval.proofs.Inside.{inside_may, inside_taken, same_all}
 use Rattle.std.proofs.lemmas.List.{take_all}
-use Rattle.pr_query.specs.Cost.{cost, nothing_passed}
-use Rattle.pr_query.specs.Given.{elements_in}
-use Rattle.pr_query.specs.Subqueries.{at_each}
+use Rattle.pr_range_calls.specs.pr_query.Cost.{cost, nothing_passed}
+use Rattle.pr_range_calls.specs.pr_query.Given.{elements_in}
+use Rattle.pr_range_calls.specs.pr_query.Subqueries.{at_each}
 use Rattle.pr_range_calls.specs.Taken.{taken}
 use Rattle.pr_eval.proofs.EachTime.{each_more}
 use Rattle.pr_eval.proofs.Gathering.{each_fails, last_taken, last_taken_as, more_taken}
-use Rattle.pr_vectors.specs.Ranges.{longest}
-use Rattle.pr_query.specs.declared.fault.FaultKind.TheVariants as kind
+use Rattle.pr_range_calls.specs.pr_vectors.Ranges.{longest}
+use Rattle.pr_range_calls.specs.pr_query.declared.fault.FaultKind.TheVariants as kind
 use Rattle.pr_eval.proofs.Subqueries.{counts_of_sub, each_may, each_taken, fault_given, fault_taken, inner_part, none_taken, series_given, step_given, taken_as, times_same, too_many}
 
 pub evaluate::eval_at-returns-in-Number-clause-taken : goal.evaluate::eval_at-returns-in-Number-clause-taken

@@ -1,6 +1,6 @@
 // Label sets of some of the labels of another.
 ghost use Rattle.std.specs.Prelude.{◌≡◌, filter, IfOk};
-ghost use Rattle.pr_words.specs.Names.{knows};
+ghost use Rattle.pr_strings.specs.pr_words.Names.{knows};
 ghost use Rattle.pr_labels.specs.Chosen.{HasNames, is_chosen};
 ghost use Rattle.pr_labels.specs.Edits.{is_listed, listed_labels, unlisted_labels, key_labels};
 ghost use Rattle.pr_labels.specs.LabelSet.{IsLabelSet};
@@ -8,7 +8,7 @@ ghost use Rattle.pr_labels.specs.LabelSet.{IsLabelSet};
 use super::known::known_names;
 use super::{Labels, METRIC_LABEL};
 use crate::pair::Pair;
-use pr_words::Text;
+use pr_strings::words_crate::Text;
 use std::alloc::{AllocError, Global};
 use std::collections::BTreeSet;
 

@@ -6,7 +6,7 @@ use Rattle.pr_num.specs.declared.value.Num.{Num}
 use Rattle.pr_labels.specs.declared.pair.Pair.{Pair}
 use Rattle.pr_labels.specs.declared.item.Item.{Item}
 use Rattle.pr_labels.specs.Order.{labels_cmp}
-use Rattle.pr_vectors.specs.Aggregation.{group_of, is_within}
+use Rattle.pr_folds.specs.pr_vectors.Aggregation.{group_of, is_within}
 use Rattle.pr_agg.proofs.firsts.mark_one.Goals as goal
 
 some_same : (x y : Item Num) → Some x ≡ Some y → x ≡ y

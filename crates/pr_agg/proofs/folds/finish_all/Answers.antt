@@ -1,6 +1,6 @@
 use Rattle.std.proofs.Common.{◌≡◌, ap, sym, ◌∙◌, List, ◌∷◌, ◌++◌, Ok}
 use Rattle.std.specs.Map.{keys_of}
-use Rattle.pr_vectors.specs.Vectors.{label_sets}
+use Rattle.pr_folds.specs.pr_vectors.Vectors.{label_sets}
 use Rattle.std.proofs.lemmas.Map.Iter.{rest_more}
 use Rattle.pr_num.specs.declared.value.Num.{Num}
 use Rattle.pr_labels.specs.declared.pair.Pair.{Pair}

@@ -5,7 +5,7 @@ use Rattle.pr_num.specs.Arithmetic.{too_wide}
 use Rattle.pr_labels.specs.declared.item.Item.{Item}
 use Rattle.pr_agg.specs.declared.fault.AggFault.TheVariants as fault
 use Rattle.std.specs.BTreeMap.{keys}
-use Rattle.pr_vectors.specs.Aggregation.{group_of}
+use Rattle.pr_folds.specs.pr_vectors.Aggregation.{group_of}
 use Rattle.pr_agg.proofs.Answered.{labels_rise}
 use Rattle.pr_agg.proofs.Finishing.{parts_answer}
 use Rattle.pr_agg.proofs.folds.group_fold.Goals as goal

@@ -6,8 +6,8 @@ use Rattle.pr_labels.specs.declared.pair.Pair.{Pair}
 use Rattle.pr_labels.specs.declared.item.Item.{Item}
 use Rattle.pr_labels.specs.Order.{labels_cmp}
 use Rattle.pr_labels.specs.Rising.{with_labels}
-use Rattle.pr_vectors.specs.Aggregation.{group_of}
-use Rattle.pr_window.specs.Folding.{with_next}
+use Rattle.pr_folds.specs.pr_vectors.Aggregation.{group_of}
+use Rattle.pr_folds.specs.pr_window.Folding.{with_next}
 use Rattle.pr_agg.specs.Lists.{alone, one_after_other}
 use Rattle.pr_agg.proofs.Gathering.{parts_known}
 use Rattle.pr_agg.proofs.lists.gather.Goals as goal

@@ -6,8 +6,8 @@ use Rattle.pr_num.specs.declared.value.Num.{Num}
 use Rattle.pr_labels.specs.declared.pair.Pair.{Pair}
 use Rattle.pr_labels.specs.declared.item.Item.{Item}
 use Rattle.pr_labels.specs.Order.{labels_cmp}
-use Rattle.pr_vectors.specs.Aggregation.{group_of}
-use Rattle.pr_window.specs.Folding.{with_next}
+use Rattle.pr_folds.specs.pr_vectors.Aggregation.{group_of}
+use Rattle.pr_folds.specs.pr_window.Folding.{with_next}
 use Rattle.pr_agg.proofs.Gathering.{part_weight, parts_more}
 use Rattle.pr_agg.proofs.parts.fold_parts.Goals as goal
 

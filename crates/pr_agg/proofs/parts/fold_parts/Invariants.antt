@@ -1,5 +1,5 @@
 use Rattle.std.proofs.Common.{take}
-use Rattle.pr_vectors.specs.Aggregation.{group_of}
+use Rattle.pr_folds.specs.pr_vectors.Aggregation.{group_of}
 use Rattle.pr_agg.specs.Parts.{AreParts}
 use Rattle.pr_agg.proofs.parts.fold_parts.Given as goal
 

@@ -1,6 +1,6 @@
 use Rattle.std.proofs.Common.{rules, Ok, ◌≡◌}
-use Rattle.pr_vectors.specs.Aggregation.{of_groups, always, mean_of_values}
-use Rattle.pr_vectors.specs.Vectors.{IsVector}
+use Rattle.pr_folds.specs.pr_vectors.Aggregation.{of_groups, always, mean_of_values}
+use Rattle.pr_folds.specs.pr_vectors.Vectors.{IsVector}
 use Rattle.pr_num.specs.Total.{joined, one_value}
 use Rattle.pr_agg.specs.Finished.{mean_finished}
 use Rattle.pr_agg.specs.Parts.{fold_and_finish}

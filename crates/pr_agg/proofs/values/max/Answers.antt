@@ -1,6 +1,6 @@
 use Rattle.std.proofs.Common.{rules, Ok, ◌≡◌}
-use Rattle.pr_vectors.specs.Aggregation.{of_groups, always, greatest_of_values}
-use Rattle.pr_vectors.specs.Vectors.{IsVector}
+use Rattle.pr_folds.specs.pr_vectors.Aggregation.{of_groups, always, greatest_of_values}
+use Rattle.pr_folds.specs.pr_vectors.Vectors.{IsVector}
 use Rattle.pr_folds.specs.Extremes.{greater}
 use Rattle.pr_agg.specs.Alone.{itself}
 use Rattle.pr_agg.specs.Finished.{value_finished}

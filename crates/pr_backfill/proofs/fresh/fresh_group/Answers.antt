@@ -1,5 +1,5 @@
 use Rattle.pr_rules.specs.Settings.{of_a_run}
-use Rattle.pr_rulefile.specs.Groups.{group_of_def}
+use Rattle.pr_rules.specs.pr_rulefile.Groups.{group_of_def}
 use Rattle.pr_backfill.specs.Filled.{recording_only}
 use Rattle.pr_manager.specs.Keeping.{settings_with}
 use Rattle.pr_backfill.proofs.Recording.{fresh_under, run_settings}

@@ -1,5 +1,5 @@
 use Rattle.std.proofs.Common.{ap, ◌∙◌}
-use Rattle.pr_rulefile.specs.declared.rules.GroupDef.{GroupDef}
+use Rattle.pr_rules.specs.pr_rulefile.declared.rules.GroupDef.{GroupDef}
 use Rattle.pr_rules.specs.Evaluations.{group_step}
 use Rattle.pr_rules.specs.Settings.{Settings}
 use Rattle.pr_manager.proofs.Evaluated.{own_evaluated}

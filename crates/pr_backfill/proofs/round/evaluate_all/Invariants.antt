@@ -3,7 +3,7 @@ use Rattle.pr_history.specs.declared.entry.Entry.{Entry}
 use Rattle.pr_rules.specs.Groups.{Group}
 use Rattle.pr_rules.specs.Settings.{Settings}
 use Rattle.pr_rules.specs.Times.{IsAfterAll}
-use Rattle.pr_group.specs.Keeping.{MayEvaluateOver}
+use Rattle.pr_manager.specs.pr_group.Keeping.{MayEvaluateOver}
 use Rattle.pr_manager.specs.Keeping.{KeepEach}
 use Rattle.pr_backfill.specs.Rounds.{HasFilled}
 use Rattle.pr_backfill.proofs.round.evaluate_all.Given as goal

@@ -3,16 +3,16 @@ use Rattle.std.specs.Prelude.{is_some}
 use Rattle.pr_outside.specs.Kept.{StartsRows}
 use Rattle.pr_outside.specs.Meant.{Output}
 use Rattle.pr_outside.specs.declared.keeping.Row.{Row}
-use Rattle.pr_backfill.specs.Filled.{filled}
+use Rattle.pr_backfill_texts.specs.pr_backfill.Filled.{filled}
 use Rattle.pr_status.specs.Ends.{no_row}
 use Rattle.pr_status.specs.Outside.{Outside}
 use Rattle.pr_status.specs.declared.status.Stop.{Stop}
 use Rattle.pr_status.specs.declared.status.Stop.TheVariants.{Memory}
 use Rattle.pr_status.proofs.Ended.{ends_memory, in_time_same}
 use Rattle.pr_status.proofs.Opening.{opened_on, opening_error}
-use Rattle.pr_run.specs.Rows.{IsBadIn}
-use Rattle.pr_run.proofs.Answering.{ends_behind}
-use Rattle.pr_run.proofs.Endings.{bad_of, ends_wider}
+use Rattle.pr_backfill_texts.specs.pr_run.Rows.{IsBadIn}
+use Rattle.pr_backfill_texts.proofs.RunAnswering.{ends_behind}
+use Rattle.pr_backfill_texts.proofs.RunEndings.{bad_of, ends_wider}
 use Rattle.pr_test_command.specs.Running.{loaded_of}
 use Rattle.pr_backfill_command.specs.Standing.{Finishes}
 use Rattle.pr_backfill_command.proofs.Over.{at_rows, ends_ending, ends_error, filled_over, on_rows, row_error, unopened}

@@ -1,9 +1,9 @@
 use Rattle.std.proofs.Common.{◌∙◌, ◌++◌, ◌-◌, [], Ok, ℕ, List, append-nil, ap, sym, subst, take}
 use Rattle.std.specs.Io.KnownBytes.{Appends}
-use Rattle.pr_world.specs.declared.report.Report.TheVariants.{Opened}
-use Rattle.pr_rules.specs.Settings.{of_a_run}
-use Rattle.pr_backfill.specs.Filled.{FillStep, filled, filled_from, groups_to_fill}
-use Rattle.pr_text.specs.Printed.{shown_report}
+use Rattle.pr_engine.specs.pr_world.declared.report.Report.TheVariants.{Opened}
+use Rattle.pr_backfill_texts.specs.pr_rules.Settings.{of_a_run}
+use Rattle.pr_backfill_texts.specs.pr_backfill.Filled.{FillStep, filled, filled_from, groups_to_fill}
+use Rattle.pr_backfill_texts.specs.pr_text.Printed.{shown_report}
 use Rattle.pr_backfill_command.specs.Standing.{Finishes, Halts}
 use Rattle.pr_backfill_command.proofs.Parts.{part_err, part_none, part_on, part_write}
 use Rattle.pr_backfill_command.proofs.Progress.{filled_is}

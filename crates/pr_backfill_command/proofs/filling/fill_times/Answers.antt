@@ -1,6 +1,6 @@
 use Rattle.std.proofs.Common.{[], ◌++◌, Ok, refl}
-use Rattle.pr_rules.specs.Settings.{of_a_run}
-use Rattle.pr_backfill.specs.Filled.{filled_from, rows_filled}
+use Rattle.pr_backfill_texts.specs.pr_rules.Settings.{of_a_run}
+use Rattle.pr_backfill_texts.specs.pr_backfill.Filled.{filled_from, rows_filled}
 use Rattle.pr_backfill_command.proofs.Parts.{part_err, part_none, part_on}
 use Rattle.pr_backfill_command.proofs.Progress.{all_filled, come_err, next_before, none_filled, one_filled, time_halts}
 use Rattle.pr_backfill_command.proofs.filling.fill_times.Goals as goal

@@ -1,8 +1,8 @@
 use Rattle.std.proofs.Common.{ℕ, List, [], Option, Ok, length}
 use Rattle.pr_history.specs.declared.entry.Entry.{Entry}
-use Rattle.pr_rules.specs.Groups.{Group}
-use Rattle.pr_rules.specs.Settings.{of_a_run}
-use Rattle.pr_backfill.specs.Filled.{filled_from}
+use Rattle.pr_backfill_texts.specs.pr_rules.Groups.{Group}
+use Rattle.pr_backfill_texts.specs.pr_rules.Settings.{of_a_run}
+use Rattle.pr_backfill_texts.specs.pr_backfill.Filled.{filled_from}
 use Rattle.pr_backfill_command.specs.Standing.{AreBefore, IsPart, Keeps, Stands}
 use Rattle.pr_backfill_command.proofs.Progress.{HasFilled}
 use Rattle.pr_backfill_command.proofs.filling.fill_times.Given as goal

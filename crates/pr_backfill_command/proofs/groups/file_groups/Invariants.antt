@@ -1,6 +1,6 @@
 use Rattle.std.proofs.Common.{◌≡◌, ◌++◌, map}
 use Rattle.std.specs.Prelude.{length}
-use Rattle.pr_backfill.specs.Filled.{group_of_file, groups_to_fill}
+use Rattle.pr_backfill_texts.specs.pr_backfill.Filled.{group_of_file, groups_to_fill}
 use Rattle.pr_test_command.specs.Running.{loaded_of}
 use Rattle.pr_backfill_command.proofs.groups.file_groups.Given as goal
 

@@ -1,6 +1,6 @@
 use Rattle.std.proofs.Common.{◌≡◌, ◌++◌, map}
-use Rattle.pr_rulefile.specs.Groups.{group_of_def}
-use Rattle.pr_backfill.specs.Filled.{group_of_file, group_to_fill}
+use Rattle.pr_backfill_texts.specs.pr_rulefile.Groups.{group_of_def}
+use Rattle.pr_backfill_texts.specs.pr_backfill.Filled.{group_of_file, group_to_fill}
 use Rattle.pr_backfill_command.proofs.groups.push_groups.Given as goal
 
 -- the groups so far, and those of the rest

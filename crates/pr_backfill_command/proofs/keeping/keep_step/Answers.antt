@@ -1,7 +1,7 @@
 use Rattle.std.proofs.Common.{◌++◌, ◌∷◌, [], ◌≡◌, ◌≤◌, arith, ap, subst}
 use Rattle.pr_engine.proofs.Answering.{some_before}
 use Rattle.pr_engine.proofs.Steps.{told_before}
-use Rattle.pr_backfill.specs.Filled.{at_time}
+use Rattle.pr_backfill_texts.specs.pr_backfill.Filled.{at_time}
 use Rattle.pr_backfill_command.proofs.Parts.{part_kept, part_on, part_unkept, part_write}
 use Rattle.pr_backfill_command.proofs.Progress.{come_err, kept_told, refused}
 use Rattle.pr_backfill_command.proofs.keeping.keep_step.Goals as goal

@@ -1,6 +1,6 @@
 use Rattle.std.proofs.Common.{◌≡◌, ◌∷◌, ◌++◌, [], Ok, length, map, arith}
 use Rattle.std.proofs.lemmas.List.{nil_from_length}
-use Rattle.pr_backfill.specs.Filled.{at_time}
+use Rattle.pr_backfill_texts.specs.pr_backfill.Filled.{at_time}
 use Rattle.pr_backfill_command.proofs.Parts.{part_err, part_none, part_on}
 use Rattle.pr_backfill_command.proofs.Progress.{all_kept, come_err, lawful_next, none_kept, one_halts, one_kept}
 use Rattle.pr_backfill_command.proofs.keeping.keep_steps.Goals as goal

@@ -1,7 +1,7 @@
 use Rattle.std.proofs.Common.{List, ◌++◌, ℕ, Option, Ok, map}
 use Rattle.pr_history.specs.Admission.{IsLawful}
 use Rattle.pr_history.specs.declared.entry.Entry.{Entry}
-use Rattle.pr_backfill.specs.Filled.{FillStep, at_time, rows_filled}
+use Rattle.pr_backfill_texts.specs.pr_backfill.Filled.{FillStep, at_time, rows_filled}
 use Rattle.pr_backfill_command.specs.Standing.{IsPart, Stands}
 use Rattle.pr_backfill_command.proofs.Progress.{HasKept}
 use Rattle.pr_backfill_command.proofs.keeping.keep_steps.Given as goal

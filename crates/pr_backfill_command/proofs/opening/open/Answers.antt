@@ -1,8 +1,8 @@
 use Rattle.std.proofs.Common.{Err, refl, ap, subst, length, arith}
 use Rattle.pr_engine.specs.Causes.{HasStartCause}
 use Rattle.pr_engine.specs.declared.fault.StartError.{StartError}
-use Rattle.pr_run.specs.Told.{bad_row_text}
-use Rattle.pr_run.proofs.Begins.{whole_front, write_row}
+use Rattle.pr_backfill_texts.specs.pr_run.Told.{bad_row_text}
+use Rattle.pr_backfill_texts.proofs.RunBegins.{whole_front, write_row}
 use Rattle.pr_status.specs.declared.status.Stop.TheVariants.{BadRow}
 use Rattle.pr_status.proofs.Opening.{opened_on}
 use Rattle.pr_backfill_command.proofs.Opened.{bad_opened}

@@ -1,8 +1,8 @@
 use Rattle.std.proofs.Common.{ℕ, map, string_bytes, sym, subst}
 use Rattle.std.proofs.lemmas.List.{length-map}
 use Rattle.pr_status.specs.Outside.{Outside}
-use Rattle.pr_run.specs.Rows.{IsBadIn}
-use Rattle.pr_test_texts.specs.TestsTold.{all_rules}
+use Rattle.pr_backfill_texts.specs.pr_run.Rows.{IsBadIn}
+use Rattle.pr_backfill_texts.specs.pr_test_texts.TestsTold.{all_rules}
 use Rattle.pr_backfill_texts.specs.Means.{AsksFirst}
 use Rattle.pr_backfill_command.proofs.Meaning.{fills_with}
 use Rattle.pr_backfill_command.proofs.running.backfill.Goals as goal

@@ -3,7 +3,7 @@ use Rattle.pr_status.specs.Ends.{Ends}
 use Rattle.pr_status.specs.Opening.{OpensBy}
 use Rattle.pr_status.specs.declared.status.Stop.{Stop}
 use Rattle.pr_status.proofs.Ended.{quiet}
-use Rattle.pr_run.specs.Rows.{IsBadIn}
+use Rattle.pr_backfill_texts.specs.pr_run.Rows.{IsBadIn}
 use Rattle.pr_backfill_command.specs.Endings.{ending_of}
 use Rattle.pr_backfill_command.proofs.Opened.{stopped_fill}
 use Rattle.pr_backfill_command.proofs.running.fill_all.Goals as goal

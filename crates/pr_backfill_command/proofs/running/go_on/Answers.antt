@@ -3,10 +3,10 @@ use Rattle.std.specs.Prelude.{◌==◌}
 use Rattle.pr_status.specs.Ends.{no_row}
 use Rattle.pr_status.specs.Outside.{Outside}
 use Rattle.pr_status.proofs.Ended.{quiet}
-use Rattle.pr_row.specs.Histories.{history_of}
-use Rattle.pr_run.specs.Rows.{IsBadIn, OverRows}
-use Rattle.pr_run.proofs.Endings.{ends_wider}
-use Rattle.pr_world.specs.declared.event.NamedFile.{NamedFile}
+use Rattle.pr_engine.specs.pr_row.Histories.{history_of}
+use Rattle.pr_backfill_texts.specs.pr_run.Rows.{IsBadIn, OverRows}
+use Rattle.pr_backfill_texts.proofs.RunEndings.{ends_wider}
+use Rattle.pr_engine.specs.pr_world.declared.event.NamedFile.{NamedFile}
 use Rattle.pr_test_command.specs.Running.{loaded_of}
 use Rattle.pr_backfill_texts.specs.Means.{EndsBy, EndsRefused}
 use Rattle.pr_backfill_command.proofs.Loaded.{none_wrong, some_wrong, write_fine}

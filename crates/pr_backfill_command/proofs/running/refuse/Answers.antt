@@ -2,7 +2,7 @@ use Rattle.std.proofs.Common.{Bool, Err, ap}
 use Rattle.pr_status.specs.Ends.{no_row}
 use Rattle.pr_status.specs.Outside.{Outside}
 use Rattle.pr_status.specs.declared.status.Stop.{Stop}
-use Rattle.pr_run.proofs.Endings.{ends_as}
+use Rattle.pr_backfill_texts.proofs.RunEndings.{ends_as}
 use Rattle.pr_backfill_command.proofs.Loaded.{no_bad_row, refused, write_fine}
 use Rattle.pr_backfill_command.proofs.running.refuse.Goals as goal
 

@@ -2,10 +2,10 @@ use Rattle.std.proofs.Common.{◌≡◌, ℕ, Bool, Err, List, length, refl, sub
 use Rattle.pr_status.specs.Ends.{no_row}
 use Rattle.pr_status.specs.Outside.{Outside}
 use Rattle.pr_status.proofs.Ended.{in_time_same, quiet}
-use Rattle.pr_run.specs.Rows.{IsBadIn}
-use Rattle.pr_run.proofs.Answering.{ends_behind}
-use Rattle.pr_run.proofs.Endings.{ends_as, ends_wider}
-use Rattle.pr_test_texts.specs.TestsTold.{RulesLoaded, all_rules}
+use Rattle.pr_backfill_texts.specs.pr_run.Rows.{IsBadIn}
+use Rattle.pr_backfill_texts.proofs.RunAnswering.{ends_behind}
+use Rattle.pr_backfill_texts.proofs.RunEndings.{ends_as, ends_wider}
+use Rattle.pr_backfill_texts.specs.pr_test_texts.TestsTold.{RulesLoaded, all_rules}
 use Rattle.pr_test_command.specs.Taking.{rules_of}
 use Rattle.pr_test_command.specs.declared.rules.Rules.{Rules}
 use Rattle.pr_backfill_texts.specs.Means.{EndsWith}

@@ -2,7 +2,7 @@ use Rattle.std.proofs.Common.{◌≡◌, ◌∙◌, ◌≤ℤ◌, ℤ, ap, sym, 
 use Rattle.std.proofs.lemmas.Int.{to_z-of_z}
 use Rattle.std.specs.Int.Signed.{≤ℤ_refl}
 use Rattle.pr_head.specs.Stored.{trimmed}
-use Rattle.pr_intake.specs.Intake.{Series}
+use Rattle.pr_scrape.specs.pr_intake.Intake.{Series}
 use Rattle.pr_engine.specs.Standing.{HoldsNoneUntil}
 use Rattle.pr_engine.specs.Times.{forgotten_at}
 use Rattle.pr_engine.proofs.Values.{none_until, still_whole}

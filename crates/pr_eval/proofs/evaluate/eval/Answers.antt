@@ -1,9 +1,9 @@
 use Rattle.std.proofs.Common.{◌+◌, ◌≤◌, false, is_ok, subst, sym}
 use Rattle.pr_ast.specs.Tree.{tree_of}
-use Rattle.pr_vectors.specs.declared.range.RangeFn.TheVariants.{PresentOverTime}
-use Rattle.pr_query.specs.Cost.{cost}
-use Rattle.pr_query.specs.Meaning.{meaning}
-use Rattle.pr_values.specs.Answers.{AnswersTo}
+use Rattle.pr_range_calls.specs.pr_vectors.declared.range.RangeFn.TheVariants.{PresentOverTime}
+use Rattle.pr_range_calls.specs.pr_query.Cost.{cost}
+use Rattle.pr_range_calls.specs.pr_query.Meaning.{meaning}
+use Rattle.pr_range_calls.specs.pr_values.Answers.{AnswersTo}
 use Rattle.pr_eval.specs.Evaluated.{AreAllAsked, MayBegin, asks_of, kept_by, passed_outside}
 use Rattle.pr_eval.specs.Parts.{IsValued}
 use Rattle.pr_eval.proofs.Trees.{whole_valued}

@@ -1,6 +1,6 @@
 use Rattle.std.proofs.Common.{◌<◌, length, arith}
 use Rattle.pr_ast.specs.Tree.{tree_of}
-use Rattle.pr_types.specs.Built.{tests_in}
+use Rattle.pr_range_calls.specs.pr_types.Built.{tests_in}
 use Rattle.pr_eval.proofs.range_call.behind_range.Goals as goal
 
 pub overflow_add-result : goal.overflow_add-result

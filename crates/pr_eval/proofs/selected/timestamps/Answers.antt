@@ -1,8 +1,8 @@
 use Rattle.std.proofs.Common.{◌<◌, length, sym, subst, arith}
 use Rattle.pr_ast.specs.Tree.{Tree, tree_of}
-use Rattle.pr_types.specs.Built.{tests_in}
-use Rattle.pr_query.specs.Meaning.{meaning}
-use Rattle.pr_values.specs.Answers.{AnswersTo}
+use Rattle.pr_range_calls.specs.pr_types.Built.{tests_in}
+use Rattle.pr_range_calls.specs.pr_query.Meaning.{meaning}
+use Rattle.pr_range_calls.specs.pr_values.Answers.{AnswersTo}
 use Rattle.pr_eval.proofs.selected.timestamps.Goals as goal
 
 pub overflow_add-number : goal.overflow_add-number

@@ -1,7 +1,7 @@
 use Rattle.std.proofs.Common.{◌∷◌, ◌∙◌, ℕ, ◌+◌, ◌-◌, [], ◌++◌, refl, sym, subst, arith}
 use Rattle.pr_status.proofs.Ended.{quiet}
-use Rattle.pr_world.specs.Step.{HasDistinctFiles}
-use Rattle.pr_world.specs.World.{start}
+use Rattle.pr_exercise.specs.pr_world.Step.{HasDistinctFiles}
+use Rattle.pr_exercise.specs.pr_world.World.{start}
 use Rattle.pr_exercise.specs.Exercise.{exercise_events, turns_from}
 use Rattle.pr_exercise_command.specs.Turns.{AreWithin, HaveDistinctFiles}
 use Rattle.pr_exercise_command.proofs.Ended.{calm_keep, keep_done, keep_memory, keep_on}

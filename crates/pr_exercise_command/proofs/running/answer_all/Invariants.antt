@@ -1,6 +1,6 @@
 use Rattle.std.proofs.Common.{◌≡◌, ◌-◌, List, [], length, IsSome}
 use Rattle.pr_history.specs.declared.entry.Entry.{Entry}
-use Rattle.pr_world.specs.World.{start}
+use Rattle.pr_exercise.specs.pr_world.World.{start}
 use Rattle.pr_exercise.specs.Exercise.{exercise_events, turns_from}
 use Rattle.pr_exercise_command.specs.Turns.{AreWithin}
 use Rattle.pr_exercise_command.proofs.Progress.{Answered}

@@ -4,7 +4,7 @@ use Rattle.std.specs.Io.KnownBytes.{Appends}
 use Rattle.pr_outside.specs.Kept.{StartsRows}
 use Rattle.pr_outside.specs.Meant.{Output}
 use Rattle.pr_outside.specs.declared.keeping.Row.{Row}
-use Rattle.pr_row.specs.Histories.{history_of}
+use Rattle.pr_exercise.specs.pr_row.Histories.{history_of}
 use Rattle.pr_exercise.specs.Exercise.{exercise_events}
 use Rattle.pr_exercise.specs.Summary.{lines_told, summary_of}
 use Rattle.pr_status.specs.Ends.{no_row}
@@ -13,7 +13,7 @@ use Rattle.pr_status.specs.declared.status.Stop.{Stop}
 use Rattle.pr_status.proofs.Ended.{ends_on, in_time_same}
 use Rattle.pr_status.proofs.Opening.{opened_on, opening_error}
 use Rattle.pr_status.proofs.Streams.{appends_none}
-use Rattle.pr_world.specs.World.{start}
+use Rattle.pr_exercise.specs.pr_world.World.{start}
 use Rattle.pr_run.specs.Rows.{IsBadIn}
 use Rattle.pr_run.proofs.Answering.{ends_behind}
 use Rattle.pr_run.proofs.Endings.{bad_of, ends_wider}

@@ -1,5 +1,5 @@
 use Rattle.pr_ast.specs.Tree.{tree_of}
-use Rattle.pr_query.specs.Meaning.{meaning}
+use Rattle.pr_eval.specs.pr_query.Meaning.{meaning}
 use Rattle.pr_expected.proofs.Meant.{may_begin}
 use Rattle.pr_expected.proofs.expressions.given_with.Goals as goal
 

@@ -1,5 +1,5 @@
 use Rattle.std.proofs.Common.{◌≡◌, ◌++◌, filter, length, map}
-use Rattle.pr_lineage.specs.Records.{is_firing}
+use Rattle.pr_verdict.specs.pr_lineage.Records.{is_firing}
 use Rattle.pr_verdict.specs.Verdict.{found_of}
 use Rattle.pr_expected.proofs.firing.push_firing.Given as goal
 

@@ -1,5 +1,5 @@
 use Rattle.std.proofs.Common.{ap, ◌∙◌, length, unwrap_or, not}
-use Rattle.pr_words.specs.Bytes.{is_label_byte}
+use Rattle.pr_labels.specs.pr_words.Bytes.{is_label_byte}
 use Rattle.pr_expo_line.proofs.RunSteps.{place_or_end}
 use Rattle.pr_expo_line.proofs.runs.label_bytes.Goals as goal
 

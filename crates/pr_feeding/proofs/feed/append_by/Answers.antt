@@ -1,5 +1,5 @@
 use Rattle.std.proofs.Common.{◌≡◌, ℕ, ◌∷◌, [], IfSome, slice_get, Some, Option, subst}
-use Rattle.pr_head.specs.Holds.{entry_of, sets_of}
+use Rattle.pr_intake.specs.pr_head.Holds.{entry_of, sets_of}
 use Rattle.pr_intake.proofs.Intake.{taken_if}
 use Rattle.pr_feeding.proofs.feed.append_by.Goals as goal
 

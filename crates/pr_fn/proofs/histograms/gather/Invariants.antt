@@ -1,6 +1,6 @@
 use Rattle.std.proofs.Common.{filter, take}
 use Rattle.pr_labels.specs.Order.{labels_cmp}
-use Rattle.pr_vectors.specs.Histogram.{histogram_labels, is_bucket}
+use Rattle.pr_ordered.specs.pr_vectors.Histogram.{histogram_labels, is_bucket}
 use Rattle.pr_fn.specs.Buckets.{buckets_of}
 use Rattle.pr_fn.specs.Gathered.{AreGathered}
 use Rattle.pr_fn.proofs.histograms.gather.Given as goal

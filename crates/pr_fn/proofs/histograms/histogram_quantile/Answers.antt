@@ -1,7 +1,7 @@
 use Rattle.std.proofs.Common.{[], map, filter}
 use Rattle.pr_labels.proofs.LabelOrder.{rising_fold}
-use Rattle.pr_vectors.specs.Histogram.{buckets_in, histogram_labels, histogram_quantiles, histogram_value, histograms, is_bucket}
-use Rattle.pr_vectors.proofs.FunctionAnswers.{rising_answer}
+use Rattle.pr_ordered.specs.pr_vectors.Histogram.{buckets_in, histogram_labels, histogram_quantiles, histogram_value, histograms, is_bucket}
+use Rattle.pr_ordered.proofs.VectorsFunctionAnswers.{rising_answer}
 use Rattle.pr_fn.specs.Buckets.{valued_entries}
 use Rattle.pr_fn.specs.Faults.{function_told}
 use Rattle.pr_fn.proofs.BucketLemmas.{quantiles_are, told_vectors}

@@ -5,8 +5,8 @@ use Rattle.pr_num.specs.declared.value.Num.{Num}
 use Rattle.pr_labels.specs.declared.item.Item.{Item}
 use Rattle.pr_labels.specs.LabelSet.{text_at}
 use Rattle.pr_match.specs.Pattern.{Replacement, expanded}
-use Rattle.pr_vectors.specs.LabelFunctions.{Expansion, label_replaced, set_if_any, with_expansion}
-use Rattle.pr_vectors.specs.Vectors.{element}
+use Rattle.pr_ordered.specs.pr_vectors.LabelFunctions.{Expansion, label_replaced, set_if_any, with_expansion}
+use Rattle.pr_ordered.specs.pr_vectors.Vectors.{element}
 use Rattle.pr_fn.specs.Faults.{function_told}
 use Rattle.pr_fn.specs.Rows.{AreRows}
 use Rattle.pr_fn.proofs.label_functions.label_replace.Goals as goal

@@ -1,6 +1,6 @@
 use Rattle.std.proofs.Common.{◌≡◌, take}
-use Rattle.pr_rules.specs.Taking.{numbered, numbers_taken, untaken}
-use Rattle.pr_continued.specs.Waiting.{AreWaiting}
+use Rattle.pr_rule_step.specs.pr_rules.Taking.{numbered, numbers_taken, untaken}
+use Rattle.pr_ready.specs.pr_continued.Waiting.{AreWaiting}
 use Rattle.pr_group.specs.Matching.{continues_def, key_of}
 use Rattle.pr_group.proofs.matching.continued_numbers.Given as goal
 

@@ -1,4 +1,4 @@
-use Rattle.pr_continued.proofs.Taking.{one_waits}
+use Rattle.pr_ready.proofs.ContinuedTaking.{one_waits}
 use Rattle.pr_group.specs.Matching.{key_of}
 use Rattle.pr_group.proofs.matching.waiting.Goals as goal
 

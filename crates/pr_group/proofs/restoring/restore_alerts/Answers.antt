@@ -1,7 +1,7 @@
 use Rattle.std.proofs.Common.{◌≡◌, ◌+◌, ◌<◌, ◌++◌, ◌∷◌, [], List, length, slice_get, Some, ap, ◌∙◌, subst, arith}
-use Rattle.pr_lineage.specs.declared.restored.Restored.{Restored}
-use Rattle.pr_lineage.specs.Lineage.{moved}
-use Rattle.pr_alert.specs.Standing.{StandsFor}
+use Rattle.pr_rule_step.specs.pr_lineage.declared.restored.Restored.{Restored}
+use Rattle.pr_rule_step.specs.pr_lineage.Lineage.{moved}
+use Rattle.pr_rule_step.specs.pr_alert.Standing.{StandsFor}
 use Rattle.pr_rule_step.specs.declared.remembered.Remembered.{Remembered}
 use Rattle.pr_group.specs.Restoring.{restored_until}
 use Rattle.pr_group.proofs.Places.{place_there}

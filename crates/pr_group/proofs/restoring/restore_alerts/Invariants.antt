@@ -1,8 +1,8 @@
 use Rattle.std.proofs.Common.{◌≡◌, ℕ, true, ◌+◌, ◌≤◌, ◌++◌, ◌∷◌, [], List, length, slice_get, take}
 use Rattle.pr_history.specs.declared.entry.Entry.{Entry}
-use Rattle.pr_lineage.specs.Lineage.{Step, moved}
-use Rattle.pr_lineage.specs.Records.{living_count}
-use Rattle.pr_alert.specs.Standing.{StandsFor}
+use Rattle.pr_rule_step.specs.pr_lineage.Lineage.{Step, moved}
+use Rattle.pr_rule_step.specs.pr_lineage.Records.{living_count}
+use Rattle.pr_rule_step.specs.pr_alert.Standing.{StandsFor}
 use Rattle.pr_group.specs.Keeping.{MayEvaluateOver}
 use Rattle.pr_group.specs.Restoring.{restored_until}
 use Rattle.pr_group.proofs.restoring.restore_alerts.Given as goal

@@ -1,6 +1,6 @@
 use Rattle.std.proofs.Common.{ℕ, ◌+◌, ◌≤◌, ◌++◌, List, sym, ap, ◌∙◌, subst}
-use Rattle.pr_lineage.specs.declared.restored.Restored.{Restored}
-use Rattle.pr_rulefile.specs.Rules.{Rule, rule_of_def}
+use Rattle.pr_rule_step.specs.pr_lineage.declared.restored.Restored.{Restored}
+use Rattle.pr_rule_step.specs.pr_rulefile.Rules.{Rule, rule_of_def}
 use Rattle.pr_group.proofs.Restored.{due_reads, due_stands, due_told, held_of, short_of, stands_with, undue_stands, undue_told}
 use Rattle.pr_group.proofs.restoring.restore_rule.Goals as goal
 

@@ -1,8 +1,8 @@
 use Rattle.std.proofs.Common.{◌≡◌, ℕ, ◌+◌, ◌≤◌, List, Option, length, take}
 use Rattle.std.specs.Prelude.{sum_by}
 use Rattle.pr_history.specs.declared.entry.Entry.{Entry}
-use Rattle.pr_rules.specs.Costs.{restored_reads}
-use Rattle.pr_rules.specs.Groups.{RuleState}
+use Rattle.pr_rule_step.specs.pr_rules.Costs.{restored_reads}
+use Rattle.pr_rule_step.specs.pr_rules.Groups.{RuleState}
 use Rattle.pr_group.specs.Keeping.{AreKept, MayEvaluateOver}
 use Rattle.pr_group.specs.Restoring.{HaveRestored, ranges_of}
 use Rattle.pr_group.proofs.restoring.restore_rules.Given as goal

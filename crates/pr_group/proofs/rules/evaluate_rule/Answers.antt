@@ -1,7 +1,7 @@
 use Rattle.std.proofs.Common.{false}
 use Rattle.pr_ast.specs.Tree.{tree_of}
-use Rattle.pr_rulefile.specs.Rules.{rule_of_def}
-use Rattle.pr_eval.specs.Evaluated.{passed_outside}
+use Rattle.pr_rule_step.specs.pr_rulefile.Rules.{rule_of_def}
+use Rattle.pr_rule_step.specs.pr_eval.Evaluated.{passed_outside}
 use Rattle.pr_group.proofs.Ruling.{may_begin, rule_done_if, rule_reads}
 use Rattle.pr_group.proofs.rules.evaluate_rule.Goals as goal
 

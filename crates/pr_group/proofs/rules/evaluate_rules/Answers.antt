@@ -1,8 +1,8 @@
 use Rattle.std.proofs.Common.{◌≡◌, ℕ, ◌+◌, ◌≤◌, ◌<◌, List, drop, length, set, slice_get, Some, refl, sym, ◌∙◌, subst, arith}
 use Rattle.std.proofs.lemmas.List.{length-set}
 use Rattle.std.proofs.lemmas.Option.{slice_get_read}
-use Rattle.pr_rules.specs.declared.report.RuleReport.{RuleReport}
-use Rattle.pr_rules.specs.Costs.{rules_cost}
+use Rattle.pr_rule_step.specs.pr_rules.declared.report.RuleReport.{RuleReport}
+use Rattle.pr_rule_step.specs.pr_rules.Costs.{rules_cost}
 use Rattle.pr_group.specs.Evaluating.{HasCome, come_to}
 use Rattle.pr_group.specs.Keeping.{passed_of}
 use Rattle.pr_group.proofs.Coming.{come_none, come_whole, rules_read, rules_then}

@@ -1,9 +1,9 @@
 use Rattle.std.proofs.Common.{◌≡◌, ℕ, ◌+◌, ◌≤◌, List, Option, drop, length}
 use Rattle.pr_history.specs.declared.entry.Entry.{Entry}
-use Rattle.pr_rules.specs.Costs.{rules_cost}
-use Rattle.pr_rules.specs.Evaluations.{begun}
-use Rattle.pr_rules.specs.Groups.{Group}
-use Rattle.pr_rules.specs.Settings.{Settings}
+use Rattle.pr_rule_step.specs.pr_rules.Costs.{rules_cost}
+use Rattle.pr_rule_step.specs.pr_rules.Evaluations.{begun}
+use Rattle.pr_rule_step.specs.pr_rules.Groups.{Group}
+use Rattle.pr_rule_step.specs.pr_rules.Settings.{Settings}
 use Rattle.pr_group.specs.Evaluating.{HasCome, MayEvaluateRules, come_to}
 use Rattle.pr_group.specs.Keeping.{passed_of}
 use Rattle.pr_group.proofs.rules.evaluate_rules.Given as goal

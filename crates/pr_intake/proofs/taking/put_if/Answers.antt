@@ -1,6 +1,6 @@
 use Rattle.std.proofs.Common.{◌≡◌, ◌∷◌, [], IfOk, OnOk, subst}
-use Rattle.pr_history.specs.declared.entry.Entry.{Entry}
-use Rattle.pr_history.specs.Admission.{admit}
+use Rattle.pr_head.specs.pr_history.declared.entry.Entry.{Entry}
+use Rattle.pr_head.specs.pr_history.Admission.{admit}
 use Rattle.pr_head.specs.Holds.{entry_of}
 use Rattle.pr_intake.specs.Intake.{PutsIf}
 use Rattle.pr_intake.proofs.Intake.{puts_told, puts_untold_if, taken_if}

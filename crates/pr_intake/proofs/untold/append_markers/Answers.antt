@@ -1,7 +1,7 @@
 use Rattle.std.proofs.Common.{List, take}
 use Rattle.pr_labels.specs.declared.pair.Pair.{Pair}
-use Rattle.pr_history.specs.declared.entry.Entry.{Entry}
-use Rattle.pr_history.specs.Admission.{put_all}
+use Rattle.pr_head.specs.pr_history.declared.entry.Entry.{Entry}
+use Rattle.pr_head.specs.pr_history.Admission.{put_all}
 use Rattle.pr_puts.specs.Puts.{markers}
 use Rattle.pr_intake.proofs.Markers.{markers_parts}
 use Rattle.pr_intake.proofs.Intake.{next_taken}

@@ -1,5 +1,5 @@
 use Rattle.std.proofs.Common.{List, OnOk, ap, ◌∙◌, subst}
-use Rattle.pr_history.specs.declared.entry.Entry.{Entry}
+use Rattle.pr_head.specs.pr_history.declared.entry.Entry.{Entry}
 use Rattle.pr_puts.specs.Puts.{markers}
 use Rattle.pr_intake.specs.Intake.{HasTaken}
 use Rattle.pr_intake.proofs.Gone.{markers_set}

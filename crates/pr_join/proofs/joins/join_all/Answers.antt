@@ -3,7 +3,7 @@ use Rattle.std.proofs.lemmas.List.{take_more, take-append-drop}
 use Rattle.std.proofs.Math.Seq.{drop-cons}
 use Rattle.pr_num.specs.declared.value.Num.{Num}
 use Rattle.pr_labels.specs.declared.item.Item.{Item}
-use Rattle.pr_vectors.specs.Matching.{fault_of_outcomes, kept_pairs, outcomes_of}
+use Rattle.pr_ordered.specs.pr_vectors.Matching.{fault_of_outcomes, kept_pairs, outcomes_of}
 use Rattle.pr_join.proofs.Pairing.{fault_at, taken_more}
 use Rattle.pr_join.proofs.joins.join_all.Goals as goal
 

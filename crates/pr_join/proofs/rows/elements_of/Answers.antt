@@ -1,7 +1,7 @@
 use Rattle.std.proofs.Common.{rules, List, sym, subst}
 use Rattle.pr_num.specs.declared.value.Num.{Num}
 use Rattle.pr_labels.specs.declared.item.Item.{Item}
-use Rattle.pr_vectors.specs.Vectors.{IsVector}
+use Rattle.pr_ordered.specs.pr_vectors.Vectors.{IsVector}
 use Rattle.pr_join.proofs.Ordered.{sorted_vector}
 use Rattle.pr_join.proofs.rows.elements_of.Goals as goal
 

@@ -3,9 +3,9 @@ use Rattle.std.proofs.lemmas.List.Sums.{fold-append}
 use Rattle.pr_num.specs.declared.value.Num.{Num}
 use Rattle.pr_labels.specs.declared.pair.Pair.{Pair}
 use Rattle.pr_labels.specs.declared.item.Item.{Item}
-use Rattle.pr_vectors.specs.Vectors.{with_element}
-use Rattle.pr_vectors.specs.Matching.{either_side, left_alone}
-use Rattle.pr_vectors.proofs.Vectors.{vector_in_order}
+use Rattle.pr_ordered.specs.pr_vectors.Vectors.{with_element}
+use Rattle.pr_ordered.specs.pr_vectors.Matching.{either_side, left_alone}
+use Rattle.pr_ordered.proofs.VectorsVectors.{vector_in_order}
 use Rattle.pr_ordered.specs.Entries.{items_of}
 use Rattle.pr_join.specs.Rows.{elements}
 use Rattle.pr_join.proofs.Ordered.{still_vector}

@@ -1,5 +1,5 @@
 use Rattle.std.proofs.Common.{false}
-use Rattle.pr_vectors.proofs.Vectors.{vector_filter}
+use Rattle.pr_ordered.proofs.VectorsVectors.{vector_filter}
 use Rattle.pr_join.specs.Sets.{matched, with_match}
 use Rattle.pr_join.proofs.Ordered.{still_vector}
 use Rattle.pr_join.proofs.sets.unless.Goals as goal

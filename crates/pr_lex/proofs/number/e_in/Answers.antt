@@ -1,4 +1,4 @@
-use Rattle.pr_forms.proofs.Taking.{taking}
+use Rattle.pr_strings.proofs.FormsTaking.{taking}
 use Rattle.pr_lex.specs.Number.{production, letter_of, e_at, mark}
 use Rattle.pr_lex.proofs.number.e_in.Goals as goal
 use Rattle.pr_lex.specs.NumberTable.{table}

@@ -1,6 +1,6 @@
 use Rattle.std.proofs.Common.{length}
 use Rattle.pr_lex.specs.Number.{digits}
-use Rattle.pr_forms.specs.Language.{Leads}
+use Rattle.pr_strings.specs.pr_forms.Language.{Leads}
 use Rattle.pr_lex.specs.Reader.{numbers}
 use Rattle.pr_lex.proofs.number.more_digits_in.Given as goal
 

@@ -1,9 +1,9 @@
 use Rattle.std.proofs.Common.{List, length}
 use Rattle.std.specs.Prelude.{flat_map}
 use Rattle.pr_history.specs.declared.entry.Entry.{Entry}
-use Rattle.pr_rules.specs.Groups.{Group}
-use Rattle.pr_rules.specs.Reloads.{remains}
-use Rattle.pr_rules.specs.Settings.{Settings}
+use Rattle.pr_world.specs.pr_rules.Groups.{Group}
+use Rattle.pr_world.specs.pr_rules.Reloads.{remains}
+use Rattle.pr_world.specs.pr_rules.Settings.{Settings}
 use Rattle.pr_manager.specs.Keeping.{KeepEach}
 use Rattle.pr_manager.proofs.Remaining.{AreLeft}
 use Rattle.pr_manager.proofs.gone.remains_of.Given as goal

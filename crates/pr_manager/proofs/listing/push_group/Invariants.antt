@@ -1,6 +1,6 @@
 use Rattle.std.proofs.Common.{◌-◌, ◌++◌, List, map}
 use Rattle.pr_history.specs.declared.entry.Entry.{Entry}
-use Rattle.pr_rules.specs.Groups.{Group}
+use Rattle.pr_world.specs.pr_rules.Groups.{Group}
 use Rattle.pr_group.specs.Keeping.{KeepsGroup}
 use Rattle.pr_world.specs.Rounds.{alert_line, group_alerts}
 use Rattle.pr_manager.proofs.Listed.{RulesLeft}

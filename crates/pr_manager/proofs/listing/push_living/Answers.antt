@@ -1,7 +1,7 @@
 use Rattle.std.proofs.Common.{◌≡◌, ◌++◌, ◌∷◌, [], List, map, ap, sym, subst, ◌∙◌}
 use Rattle.std.specs.Prelude.{filter}
-use Rattle.pr_lineage.specs.declared.record.Record.{Record}
-use Rattle.pr_lineage.specs.Records.{is_living}
+use Rattle.pr_group.specs.pr_lineage.declared.record.Record.{Record}
+use Rattle.pr_group.specs.pr_lineage.Records.{is_living}
 use Rattle.pr_world.specs.declared.report.AlertLine.{AlertLine}
 use Rattle.pr_world.specs.Rounds.{alert_line}
 use Rattle.pr_manager.proofs.Listed.{living_then, passed_over}

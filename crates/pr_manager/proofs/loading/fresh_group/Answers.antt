@@ -1,4 +1,4 @@
-use Rattle.pr_rulefile.specs.Groups.{group_of_def}
+use Rattle.pr_world.specs.pr_rulefile.Groups.{group_of_def}
 use Rattle.pr_group.specs.Keeping.{waits_of}
 use Rattle.pr_manager.specs.Keeping.{settings_with}
 use Rattle.pr_manager.proofs.Loaded.{new_under, new_unpassed}

@@ -1,6 +1,6 @@
 use Rattle.std.proofs.Common.{List, ◌≡◌, Ok, Err, map, subst, sym}
-use Rattle.pr_rulefile.specs.File.{groups_given, rule_file_of}
-use Rattle.pr_rules.specs.Groups.{fresh}
+use Rattle.pr_world.specs.pr_rulefile.File.{groups_given, rule_file_of}
+use Rattle.pr_world.specs.pr_rules.Groups.{fresh}
 use Rattle.pr_group.specs.Keeping.{waits_of}
 use Rattle.pr_world.specs.Rounds.{all_loaded}
 use Rattle.pr_world.specs.declared.event.NamedFile.{NamedFile}

@@ -1,10 +1,10 @@
 use Rattle.std.proofs.Common.{List, ◌≡◌, ◌++◌, [], map, arith, subst, sym}
 use Rattle.std.specs.List.{All}
 use Rattle.std.proofs.lemmas.List.Elements.{All-push, All-tail}
-use Rattle.pr_rule_result.specs.Templates.{HaveTemplates}
-use Rattle.pr_rulefile.specs.Groups.{group_of_def}
-use Rattle.pr_rulefile.specs.declared.rules.GroupDef.{GroupDef}
-use Rattle.pr_rules.specs.Groups.{fresh}
+use Rattle.pr_group.specs.pr_rule_result.Templates.{HaveTemplates}
+use Rattle.pr_world.specs.pr_rulefile.Groups.{group_of_def}
+use Rattle.pr_world.specs.pr_rulefile.declared.rules.GroupDef.{GroupDef}
+use Rattle.pr_world.specs.pr_rules.Groups.{fresh}
 use Rattle.pr_group.specs.Keeping.{KeptGroup, waits_of}
 use Rattle.pr_manager.specs.Keeping.{settings_with}
 use Rattle.pr_manager.specs.Loading.{HasPassedNothing}

@@ -1,9 +1,9 @@
 use Rattle.std.proofs.Common.{List, map}
 use Rattle.std.specs.List.{All}
 use Rattle.pr_history.specs.declared.entry.Entry.{Entry}
-use Rattle.pr_rule_result.specs.Templates.{HaveTemplates}
-use Rattle.pr_rulefile.specs.Groups.{group_of_def}
-use Rattle.pr_rules.specs.Groups.{Group, fresh}
+use Rattle.pr_group.specs.pr_rule_result.Templates.{HaveTemplates}
+use Rattle.pr_world.specs.pr_rulefile.Groups.{group_of_def}
+use Rattle.pr_world.specs.pr_rules.Groups.{Group, fresh}
 use Rattle.pr_group.specs.Keeping.{waits_of}
 use Rattle.pr_manager.specs.Keeping.{settings_with}
 use Rattle.pr_manager.specs.Loading.{HasPassedNothing}

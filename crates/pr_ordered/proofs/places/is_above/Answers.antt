@@ -1,6 +1,6 @@
 use Rattle.std.proofs.Common.{◌≡◌, true, sym, ap, ◌∙◌}
 use Rattle.std.specs.Ordering.{is_lt}
-use Rattle.pr_labels.specs.Order.{labels_cmp}
+use Rattle.pr_vectors.specs.pr_labels.Order.{labels_cmp}
 use Rattle.pr_ordered.proofs.Behind.{below_last, less_of}
 use Rattle.pr_ordered.proofs.places.is_above.Goals as goal
 

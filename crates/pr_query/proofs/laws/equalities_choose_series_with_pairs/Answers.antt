@@ -1,6 +1,6 @@
 use Rattle.std.proofs.Common.{ap}
 use mathlib.Core.Path.{fun_ext}
-use Rattle.pr_history.specs.Series.{chosen}
+use Rattle.pr_vectors.specs.pr_history.Series.{chosen}
 use Rattle.pr_match.proofs.Equalities.{equalities}
 use Rattle.pr_query.proofs.laws.equalities_choose_series_with_pairs.Goals as goal
 

@@ -3,8 +3,8 @@ use Rattle.std.proofs.lemmas.List.{drop_all, take_all}
 use Rattle.std.specs.List.{All}
 use Rattle.pr_labels.specs.Rising.{IsRising}
 use Rattle.pr_range_calls.specs.declared.asking.Answer.{Answer}
-use Rattle.pr_head.specs.Holds.{arrivals, labels_at}
-use Rattle.pr_vectors.specs.Ranges.{answer_to}
+use Rattle.pr_range.specs.pr_head.Holds.{arrivals, labels_at}
+use Rattle.pr_range.specs.pr_vectors.Ranges.{answer_to}
 use Rattle.pr_range.specs.declared.fault.RangeFault.TheVariants.{Memory}
 use Rattle.pr_range_calls.specs.Asking.{AreAsked}
 use Rattle.pr_range_calls.specs.Answering.{after, answers_of}

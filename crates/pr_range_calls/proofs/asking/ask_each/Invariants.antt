@@ -2,9 +2,9 @@ use Rattle.std.proofs.Common.{◌≡◌, ℕ, ◌+◌, ◌≤◌, ◌<◌, ◌++
 use Rattle.std.specs.List.{All}
 use Rattle.pr_labels.specs.declared.pair.Pair.{Pair}
 use Rattle.pr_labels.specs.Rising.{IsRising}
-use Rattle.pr_history.specs.declared.entry.Entry.{Entry}
-use Rattle.pr_head.specs.Holds.{arrivals, labels_at}
-use Rattle.pr_vectors.specs.Ranges.{answer_to}
+use Rattle.pr_range.specs.pr_history.declared.entry.Entry.{Entry}
+use Rattle.pr_range.specs.pr_head.Holds.{arrivals, labels_at}
+use Rattle.pr_range.specs.pr_vectors.Ranges.{answer_to}
 use Rattle.pr_range_calls.specs.declared.asking.Answer.{Answer}
 use Rattle.pr_range_calls.specs.Answering.{after, answers_of}
 use Rattle.pr_range_calls.specs.Asking.{AreAsked, AreOnce, MayAskEach, numbers_cost}

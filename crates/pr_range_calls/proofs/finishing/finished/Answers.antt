@@ -1,9 +1,9 @@
 use Rattle.std.proofs.Common.{List, Ok, ap, sym, subst, ◌∙◌, map}
 use Rattle.pr_labels.specs.declared.item.Item.{Item}
 use Rattle.pr_num.specs.declared.value.Num.{Num}
-use Rattle.pr_vectors.specs.Functions.{told_apart}
-use Rattle.pr_fn.specs.Rows.{without_metric}
-use Rattle.pr_query.specs.Answers.{function_at}
+use Rattle.pr_range.specs.pr_vectors.Functions.{told_apart}
+use Rattle.pr_values.specs.pr_fn.Rows.{without_metric}
+use Rattle.pr_values.specs.pr_query.Answers.{function_at}
 use Rattle.pr_values.specs.Answers.{AnswersTo}
 use Rattle.pr_range_calls.specs.Answering.{relabelled}
 use Rattle.pr_range_calls.proofs.Named.{last_is, others_named}

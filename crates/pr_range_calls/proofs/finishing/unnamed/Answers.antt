@@ -1,6 +1,6 @@
 use Rattle.std.proofs.Common.{map}
-use Rattle.pr_fn.specs.Rows.{without_metric}
-use Rattle.pr_vectors.specs.Functions.{told_apart}
+use Rattle.pr_values.specs.pr_fn.Rows.{without_metric}
+use Rattle.pr_range.specs.pr_vectors.Functions.{told_apart}
 use Rattle.pr_range_calls.proofs.finishing.unnamed.Goals as goal
 
 pub returns-clause-answer : goal.returns-clause-answer

@@ -2,10 +2,10 @@ use Rattle.std.proofs.Common.{List, ap, sym, ◌∙◌}
 use Rattle.std.specs.Map.{keys_of}
 use Rattle.pr_labels.specs.declared.pair.Pair.{Pair}
 use Rattle.pr_labels.specs.Order.{labels_cmp}
-use Rattle.pr_history.specs.declared.spot.Spot.{Spot}
-use Rattle.pr_fn.specs.Gathered.{with_key}
-use Rattle.pr_fn.proofs.Gathering.{keys_inserted}
-use Rattle.pr_fn.proofs.Known.{known_some}
+use Rattle.pr_range.specs.pr_history.declared.spot.Spot.{Spot}
+use Rattle.pr_values.specs.pr_fn.Gathered.{with_key}
+use Rattle.pr_values.proofs.FnGathering.{keys_inserted}
+use Rattle.pr_values.proofs.FnKnown.{known_some}
 use Rattle.pr_range_calls.proofs.gathering.add_spot.Goals as goal
 
 pub returns-then-known-clause-known : goal.returns-then-known-clause-known

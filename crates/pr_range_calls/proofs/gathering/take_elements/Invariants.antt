@@ -3,7 +3,7 @@ use Rattle.std.specs.BTreeMap.{IsOrdered}
 use Rattle.std.specs.Vec.Iter.{into_iter_items, into_iter_len}
 use Rattle.pr_labels.specs.Order.{labels_cmp}
 use Rattle.pr_labels.specs.declared.item.Item.{Item}
-use Rattle.pr_history.specs.declared.spot.Spot.{Spot}
+use Rattle.pr_range.specs.pr_history.declared.spot.Spot.{Spot}
 use Rattle.pr_range_calls.specs.Taken.{IsGathered, item_at}
 use Rattle.pr_range_calls.proofs.gathering.take_elements.Given as goal
 

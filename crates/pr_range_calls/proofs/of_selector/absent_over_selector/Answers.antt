@@ -2,12 +2,12 @@ use Rattle.std.proofs.Common.{◌≡◌, rules, List, map, length, ap, sym, subs
 use Rattle.std.proofs.lemmas.List.{length-map}
 use Rattle.pr_num.specs.declared.value.Num.{Num}
 use Rattle.pr_labels.specs.declared.item.Item.{Item}
-use Rattle.pr_vectors.specs.declared.range.RangeFn.TheVariants.{PresentOverTime}
-use Rattle.pr_query.specs.Absence.{absent_of}
-use Rattle.pr_query.specs.Answers.{go_on}
-use Rattle.pr_query.specs.Calls.{vector_at}
-use Rattle.pr_query.specs.Given.{series_within}
-use Rattle.pr_query.specs.Selection.{chosen_by}
+use Rattle.pr_range.specs.pr_vectors.declared.range.RangeFn.TheVariants.{PresentOverTime}
+use Rattle.pr_values.specs.pr_query.Absence.{absent_of}
+use Rattle.pr_values.specs.pr_query.Answers.{go_on}
+use Rattle.pr_values.specs.pr_query.Calls.{vector_at}
+use Rattle.pr_values.specs.pr_query.Given.{series_within}
+use Rattle.pr_values.specs.pr_query.Selection.{chosen_by}
 use Rattle.pr_range.specs.declared.fault.RangeFault.TheVariants as fault
 use Rattle.pr_values.specs.Answers.{AnswersTo}
 use Rattle.pr_range_calls.specs.Answering.{elements_of, answer_element, relabelled, fault_placed}

@@ -1,8 +1,8 @@
 use Rattle.std.proofs.Common.{◌≡◌, ◌≢◌, ℕ, ◌+◌, ◌≤◌, List, subst, map, take, Ok, Err, MatchResult, OnOk}
-use Rattle.pr_history.specs.declared.entry.Entry.{Entry}
-use Rattle.pr_vectors.specs.declared.range.Ask.{Ask}
-use Rattle.pr_query.specs.Given.{series_within}
-use Rattle.pr_query.specs.Selection.{chosen_by}
+use Rattle.pr_range.specs.pr_history.declared.entry.Entry.{Entry}
+use Rattle.pr_range.specs.pr_vectors.declared.range.Ask.{Ask}
+use Rattle.pr_values.specs.pr_query.Given.{series_within}
+use Rattle.pr_values.specs.pr_query.Selection.{chosen_by}
 use Rattle.pr_range.specs.declared.fault.RangeFault.TheVariants.{Memory}
 use Rattle.pr_range_calls.specs.Answering.{FaultIs, elements_of, answer_element}
 use Rattle.pr_range_calls.specs.Asking.{AreAsked, MayAskEach, asks_cost, numbers_chosen, passed_by}

@@ -1,8 +1,8 @@
 use Rattle.std.proofs.Common.{◌≡◌, ◌+◌, ◌≤◌, ◌<◌, ap, sym, subst, ◌∙◌, OnOk, length, map, take}
 use Rattle.std.specs.List.{All}
 use Rattle.pr_labels.specs.Rising.{IsRising}
-use Rattle.pr_head.specs.Holds.{arrivals, labels_at}
-use Rattle.pr_query.specs.Selection.{chosen_by}
+use Rattle.pr_range.specs.pr_head.Holds.{arrivals, labels_at}
+use Rattle.pr_values.specs.pr_query.Selection.{chosen_by}
 use Rattle.pr_range_calls.specs.Asking.{AreAsked, asks_cost, series_number, numbers_chosen, numbers_cost, passed_by}
 use Rattle.pr_range_calls.specs.Choosing.{labels_of_series}
 use Rattle.pr_range_calls.proofs.AskedSeries.{once_from_rising}

@@ -1,10 +1,10 @@
 use Rattle.std.proofs.Common.{◌≡◌, List, map, ap, sym, subst, ◌∙◌, Ok, Err}
 use Rattle.pr_num.specs.declared.value.Num.{Num}
 use Rattle.pr_labels.specs.declared.item.Item.{Item}
-use Rattle.pr_vectors.specs.Functions.{told_apart}
-use Rattle.pr_query.specs.Answers.{function_at, go_on}
-use Rattle.pr_query.specs.Given.{series_within}
-use Rattle.pr_query.specs.Selection.{chosen_by}
+use Rattle.pr_range.specs.pr_vectors.Functions.{told_apart}
+use Rattle.pr_values.specs.pr_query.Answers.{function_at, go_on}
+use Rattle.pr_values.specs.pr_query.Given.{series_within}
+use Rattle.pr_values.specs.pr_query.Selection.{chosen_by}
 use Rattle.pr_range.specs.declared.fault.RangeFault.TheVariants as fault
 use Rattle.pr_values.specs.Answers.{AnswersTo}
 use Rattle.pr_range_calls.specs.Answering.{elements_of, answer_element, relabelled, fault_placed}

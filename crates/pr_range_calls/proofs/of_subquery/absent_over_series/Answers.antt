@@ -1,12 +1,12 @@
 use Rattle.std.proofs.Common.{◌≡◌, List, length, None, Ok, Err, ap, sym, subst, ◌∙◌, arith}
 use Rattle.pr_num.specs.declared.value.Num.{Num}
 use Rattle.pr_labels.specs.declared.item.Item.{Item}
-use Rattle.pr_vectors.specs.declared.range.Ask.{Ask}
-use Rattle.pr_vectors.specs.declared.range.RangeFn.TheVariants.{PresentOverTime}
-use Rattle.pr_query.specs.Absence.{absent_of}
-use Rattle.pr_query.specs.Answers.{go_on}
-use Rattle.pr_query.specs.Calls.{vector_at}
-use Rattle.pr_query.specs.RangeCalls.{question}
+use Rattle.pr_range.specs.pr_vectors.declared.range.Ask.{Ask}
+use Rattle.pr_range.specs.pr_vectors.declared.range.RangeFn.TheVariants.{PresentOverTime}
+use Rattle.pr_values.specs.pr_query.Absence.{absent_of}
+use Rattle.pr_values.specs.pr_query.Answers.{go_on}
+use Rattle.pr_values.specs.pr_query.Calls.{vector_at}
+use Rattle.pr_values.specs.pr_query.RangeCalls.{question}
 use Rattle.pr_values.specs.Answers.{AnswersTo}
 use Rattle.pr_range_calls.specs.Answering.{FaultIs, elements_of, relabelled, fault_placed}
 use Rattle.pr_range_calls.specs.Taken.{AreAllWithin, ranged_of, series_in}

@@ -2,13 +2,13 @@ use Rattle.std.proofs.Common.{◌≡◌, ◌∷◌, ◌++◌, List, map, ap, sym
 use Rattle.std.proofs.lemmas.Map.Iter.{rest_more}
 use Rattle.std.specs.Option.{option_to_list}
 use Rattle.pr_labels.specs.declared.item.Item.{Item}
-use Rattle.pr_history.specs.declared.spot.Spot.{Spot}
+use Rattle.pr_range.specs.pr_history.declared.spot.Spot.{Spot}
 use Rattle.pr_range_calls.specs.Taken.{AreAllWithin, entry_series, series_in}
 use Rattle.pr_num.specs.declared.value.Num.{Num}
 use Rattle.pr_range.specs.Spots.{AreWithin}
 use Rattle.pr_labels.specs.Rising.{IsRising}
-use Rattle.pr_vectors.specs.Ranges.{over}
-use Rattle.pr_vectors.specs.Vectors.{element, label_sets}
+use Rattle.pr_range.specs.pr_vectors.Ranges.{over}
+use Rattle.pr_range.specs.pr_vectors.Vectors.{element, label_sets}
 use Rattle.pr_range_calls.specs.Answering.{after, elements_of}
 use Rattle.pr_range_calls.proofs.AskedSeries.{on_ok}
 use Rattle.pr_range_calls.proofs.SeriesGathered.{element_rises, series_rise}

@@ -1,8 +1,8 @@
 use Rattle.std.proofs.Common.{◌≡◌, ◌++◌, List, map}
 use Rattle.pr_labels.specs.declared.item.Item.{Item}
 use Rattle.pr_labels.specs.Rising.{IsRising}
-use Rattle.pr_history.specs.declared.spot.Spot.{Spot}
-use Rattle.pr_vectors.specs.Vectors.{label_sets}
+use Rattle.pr_range.specs.pr_history.declared.spot.Spot.{Spot}
+use Rattle.pr_range.specs.pr_vectors.Vectors.{label_sets}
 use Rattle.pr_range_calls.specs.Answering.{after, elements_of}
 use Rattle.pr_range_calls.specs.Taken.{AreAllWithin, entry_series, series_in}
 use Rattle.pr_range_calls.proofs.of_subquery.elements.Given as goal

@@ -1,10 +1,10 @@
 use Rattle.std.proofs.Common.{◌≡◌, List, Ok, Err, ap, sym, subst, ◌∙◌}
 use Rattle.pr_num.specs.declared.value.Num.{Num}
 use Rattle.pr_labels.specs.declared.item.Item.{Item}
-use Rattle.pr_vectors.specs.declared.range.Ask.{Ask}
-use Rattle.pr_vectors.specs.Functions.{told_apart}
-use Rattle.pr_query.specs.Answers.{function_at, go_on}
-use Rattle.pr_query.specs.RangeCalls.{question}
+use Rattle.pr_range.specs.pr_vectors.declared.range.Ask.{Ask}
+use Rattle.pr_range.specs.pr_vectors.Functions.{told_apart}
+use Rattle.pr_values.specs.pr_query.Answers.{function_at, go_on}
+use Rattle.pr_values.specs.pr_query.RangeCalls.{question}
 use Rattle.pr_values.specs.Answers.{AnswersTo}
 use Rattle.pr_range_calls.specs.Answering.{FaultIs, elements_of, relabelled, fault_placed}
 use Rattle.pr_range_calls.specs.Taken.{AreAllWithin, ranged_of, series_in}

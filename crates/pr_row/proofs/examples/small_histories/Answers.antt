@@ -2,7 +2,7 @@ use Rattle.std.proofs.Common.{refl}
 use Rattle.pr_num.specs.Half.{half_abs}
 use Rattle.pr_num.specs.Reads.{reads}
 use Rattle.pr_num.specs.Shown.{shown}
-use Rattle.pr_labels.specs.SeriesText.{series_text}
+use Rattle.pr_history.specs.pr_labels.SeriesText.{series_text}
 use Rattle.pr_series.proofs.SeriesExamples.{metric}
 use Rattle.pr_row.specs.Rows.{decoded}
 use Rattle.pr_row.proofs.HistoryLaws.{one}

@@ -1,10 +1,10 @@
 use Rattle.std.proofs.Common.{◌≡◌, List, Ok, Result, subst, ◌∙◌}
 use Rattle.pr_num.specs.declared.value.Num.{Num}
 use Rattle.pr_labels.specs.declared.item.Item.{Item}
-use Rattle.pr_query.specs.declared.value.Value.{Value}
+use Rattle.pr_values.specs.pr_query.declared.value.Value.{Value}
 use Rattle.pr_values.specs.Answers.{AnswersTo}
 use Rattle.pr_values.specs.declared.error.EvalError.{EvalError}
-use Rattle.pr_rulefile.specs.Rules.{rule_of_def}
+use Rattle.pr_rules.specs.pr_rulefile.Rules.{rule_of_def}
 use Rattle.pr_rules.specs.Results.{ruled, without_place}
 use Rattle.pr_rule_result.specs.Coming.{ComesTo}
 use Rattle.pr_rule_result.proofs.Ruling.{by_value}

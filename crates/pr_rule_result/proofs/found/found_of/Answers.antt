@@ -1,5 +1,5 @@
 use Rattle.std.proofs.Common.{◌≡◌, Bool, IfOk, subst, sym}
-use Rattle.pr_rulefile.specs.Rules.{rule_of_def}
+use Rattle.pr_rules.specs.pr_rulefile.Rules.{rule_of_def}
 use Rattle.pr_rules.specs.Results.{found_by}
 use Rattle.pr_rule_result.proofs.found.found_of.Goals as goal
 

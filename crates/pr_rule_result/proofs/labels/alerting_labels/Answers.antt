@@ -2,7 +2,7 @@ use Rattle.std.proofs.Common.{List, ℕ, ap, ◌∙◌}
 use Rattle.std.specs.Prelude.{codes}
 use Rattle.pr_labels.specs.declared.pair.Pair.{Pair}
 use Rattle.pr_labels.specs.Edits.{set_label, union_labels}
-use Rattle.pr_rulefile.specs.Rules.{rule_of_def}
+use Rattle.pr_rules.specs.pr_rulefile.Rules.{rule_of_def}
 use Rattle.pr_rule_result.proofs.Templated.{alerting_so}
 use Rattle.pr_rule_result.proofs.labels.alerting_labels.Goals as goal
 

@@ -1,4 +1,4 @@
-use Rattle.pr_rulefile.proofs.SoundGroups.{all_rules}
+use Rattle.pr_rules.proofs.RulefileSoundGroups.{all_rules}
 use Rattle.pr_rule_result.proofs.Files.{defs_of_groups}
 use Rattle.pr_rule_result.proofs.laws.rules_that_read_have_templates.Goals as goal
 

@@ -1,5 +1,5 @@
 use Rattle.std.proofs.Common.{ap}
-use Rattle.pr_lineage.specs.declared.found.Found.{Found}
+use Rattle.pr_rules.specs.pr_lineage.declared.found.Found.{Found}
 use Rattle.pr_rule_result.specs.Making.{sets_made}
 use Rattle.pr_rule_result.proofs.Remembering.{one_more_found, one_more_set}
 use Rattle.pr_rule_result.proofs.made.recorded_again.Goals as goal

@@ -1,6 +1,6 @@
 use Rattle.std.proofs.Common.{List, Option, refl, subst}
 use Rattle.pr_labels.specs.declared.pair.Pair.{Pair}
-use Rattle.pr_ordered.specs.Entries.{IsPut}
+use Rattle.pr_values.specs.pr_ordered.Entries.{IsPut}
 use Rattle.pr_rule_result.specs.declared.rows.Row.{Row}
 use Rattle.pr_rule_result.proofs.RowLemmas.{rows_again, rows_more}
 use Rattle.pr_rule_result.proofs.rows.put.Goals as goal

@@ -1,5 +1,5 @@
 use Rattle.std.proofs.Common.{◌≡◌, map, take}
-use Rattle.pr_rulefile.specs.Rules.{rule_of_def}
+use Rattle.pr_rules.specs.pr_rulefile.Rules.{rule_of_def}
 use Rattle.pr_rules.specs.Results.{found_of}
 use Rattle.pr_rule_result.specs.Rows.{AreRows}
 use Rattle.pr_rule_result.specs.Making.{IsOfRule}

@@ -1,8 +1,8 @@
 use Rattle.std.proofs.Common.{Option, IfSome, subst}
 use Rattle.std.specs.Prelude.{Vec}
 use Rattle.std.specs.declared.alloc.Global.{Global}
-use Rattle.pr_lineage.specs.declared.found.Found.{Found}
-use Rattle.pr_rulefile.specs.Rules.{rule_of_def}
+use Rattle.pr_rules.specs.pr_lineage.declared.found.Found.{Found}
+use Rattle.pr_rules.specs.pr_rulefile.Rules.{rule_of_def}
 use Rattle.pr_rule_result.specs.Making.{AreRecorded}
 use Rattle.pr_rule_result.proofs.InOrder.{recorded_come}
 use Rattle.pr_rule_result.proofs.ruled.ruled.Goals as goal

@@ -1,5 +1,5 @@
 use Rattle.std.proofs.Common.{◌≡◌, ◌++◌}
-use Rattle.pr_rules.specs.Evaluations.{recorded}
+use Rattle.pr_rule_result.specs.pr_rules.Evaluations.{recorded}
 use Rattle.pr_rule_step.proofs.offered.elements.Given as goal
 
 -- the elements so far, and those to come

@@ -1,5 +1,5 @@
 use Rattle.std.proofs.Common.{sym, ap, ◌∙◌}
-use Rattle.pr_rulefile.specs.Rules.{Rule}
+use Rattle.pr_rule_result.specs.pr_rulefile.Rules.{Rule}
 use Rattle.pr_rule_step.proofs.Offering.{records_offered}
 use Rattle.pr_rule_step.proofs.offered.offer.Goals as goal
 

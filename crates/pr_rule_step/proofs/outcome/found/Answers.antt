@@ -1,8 +1,8 @@
 use Rattle.std.proofs.Common.{◌≢◌, Bool, Err, subst}
 use Rattle.pr_ast.specs.Tree.{tree_of}
-use Rattle.pr_query.specs.Meaning.{meaning}
+use Rattle.pr_rule_result.specs.pr_query.Meaning.{meaning}
 use Rattle.pr_eval.specs.Evaluated.{AreAllAsked, asks_of, kept_by}
-use Rattle.pr_values.specs.declared.error.EvalError.TheVariants as evaluation
+use Rattle.pr_rule_result.specs.pr_values.declared.error.EvalError.TheVariants as evaluation
 use Rattle.pr_rule_step.proofs.Reckoning.{is_meant}
 use Rattle.pr_rule_step.proofs.outcome.found.Goals as goal
 

@@ -1,8 +1,8 @@
 use Rattle.std.proofs.Common.{sym, ◌∙◌, subst}
 use Rattle.std.specs.Prelude.{Err, List, Result}
 use Rattle.pr_lineage.specs.declared.found.Found.{Found}
-use Rattle.pr_rulefile.specs.Rules.{Rule, rule_of_def}
-use Rattle.pr_rules.specs.declared.fault.RuleFailure.{RuleFailure}
+use Rattle.pr_rule_result.specs.pr_rulefile.Rules.{Rule, rule_of_def}
+use Rattle.pr_rule_result.specs.pr_rules.declared.fault.RuleFailure.{RuleFailure}
 use Rattle.pr_rule_result.specs.Coming.{ComesTo}
 use Rattle.pr_rule_result.specs.Templates.{IsTemplatesOf}
 use Rattle.pr_rule_step.proofs.Reckoning.{meant_so, offers_error}

@@ -1,7 +1,7 @@
 use Rattle.std.proofs.Common.{List, [], ◌∷◌, take, sym, subst}
 use Rattle.pr_num.specs.declared.value.Num.{Num}
 use Rattle.pr_labels.specs.declared.item.Item.{Item}
-use Rattle.pr_history.specs.Admission.{put_all}
+use Rattle.pr_lineage.specs.pr_history.Admission.{put_all}
 use Rattle.pr_rule_step.specs.Written.{Writes, entries_of}
 use Rattle.pr_intake.proofs.Intake.{next_of, puts_if_none}
 use Rattle.pr_rule_step.proofs.Writing.{writes_none, writes_then}

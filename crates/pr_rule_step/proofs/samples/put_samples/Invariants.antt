@@ -1,6 +1,6 @@
 use Rattle.std.proofs.Common.{List, take}
-use Rattle.pr_history.specs.declared.entry.Entry.{Entry}
-use Rattle.pr_head.specs.Holds.{Holds}
+use Rattle.pr_lineage.specs.pr_history.declared.entry.Entry.{Entry}
+use Rattle.pr_intake.specs.pr_head.Holds.{Holds}
 use Rattle.pr_rule_step.specs.Written.{Writes}
 use Rattle.pr_rule_step.proofs.samples.put_samples.Given as goal
 

@@ -1,4 +1,4 @@
-use Rattle.pr_history.specs.Admission.{put_all}
+use Rattle.pr_lineage.specs.pr_history.Admission.{put_all}
 use Rattle.pr_rule_step.specs.Written.{entries_of}
 use Rattle.pr_rule_step.proofs.Stepping.{written_so}
 use Rattle.pr_rule_step.proofs.written.write.Goals as goal

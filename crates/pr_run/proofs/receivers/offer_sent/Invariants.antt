@@ -1,5 +1,5 @@
 use Rattle.std.proofs.Common.{◌≡◌, List, ◌++◌, drop}
-use Rattle.pr_notices.specs.Receivers.{Receiver}
+use Rattle.pr_text.specs.pr_notices.Receivers.{Receiver}
 use Rattle.pr_queue.specs.Standing.{StandsFor}
 use Rattle.pr_run.specs.Replies.{all_sent}
 use Rattle.pr_run.proofs.Offering.{HasOffered}

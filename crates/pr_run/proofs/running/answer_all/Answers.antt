@@ -1,6 +1,6 @@
 use Rattle.std.proofs.Common.{◌≡◌, ◌∙◌, ℕ, Bool, true, false, true≢false, List, [], ◌++◌, Option, None, Some, Result, Ok, Err, IsSome, length, refl, sym, ap, subst, arith}
 use Rattle.pr_outside.specs.Meant.{Store}
-use Rattle.pr_script.specs.declared.order.Numbered.{Numbered}
+use Rattle.pr_reader.specs.pr_script.declared.order.Numbered.{Numbered}
 use Rattle.pr_status.specs.Ends.{KnowsLength}
 use Rattle.pr_status.specs.Outside.{Held, Outside}
 use Rattle.pr_status.specs.Status.{IsLong}

@@ -7,7 +7,7 @@ use Rattle.pr_status.specs.declared.status.Stop.TheVariants as stop
 use Rattle.pr_status.proofs.Ended.{ends_on, in_time_on, in_time_same, quiet}
 use Rattle.pr_status.proofs.Opening.{opened_on, row_opened, stopped_opening}
 use Rattle.pr_status.proofs.Streams.{appends_none}
-use Rattle.pr_world.specs.World.{start}
+use Rattle.pr_text.specs.pr_world.World.{start}
 use Rattle.pr_run.specs.Events.{KeepEnds}
 use Rattle.pr_run.specs.Keeping.{Starts}
 use Rattle.pr_run.specs.Rows.{IsBadIn}

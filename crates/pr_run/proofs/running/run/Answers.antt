@@ -2,14 +2,14 @@ use Rattle.std.proofs.Common.{◌≡◌, ◌∙◌, ℕ, List, [], Option, Some,
 use Rattle.std.specs.Prelude.{is_some}
 use Rattle.pr_outside.specs.declared.keeping.Row.{Row}
 use Rattle.pr_outside.specs.Kept.{StartsRows}
-use Rattle.pr_row.specs.Histories.{history_of}
+use Rattle.pr_text.specs.pr_row.Histories.{history_of}
 use Rattle.pr_status.specs.Outside.{Outside}
 use Rattle.pr_status.specs.Status.{IsLong}
 use Rattle.pr_status.specs.declared.status.Stop.{Stop}
 use Rattle.pr_status.proofs.Ended.{ends_on, in_time_same, quiet}
 use Rattle.pr_status.proofs.Opening.{opened_on, opening_error}
 use Rattle.pr_status.proofs.Telling.{at_told, on_told}
-use Rattle.pr_world.specs.World.{start}
+use Rattle.pr_text.specs.pr_world.World.{start}
 use Rattle.pr_run.specs.Rows.{IsBadIn, OverRows}
 use Rattle.pr_run.specs.Runs.{EndsBy, EndsOver}
 use Rattle.pr_run.proofs.Answering.{ends_behind}

@@ -1,5 +1,5 @@
 use Rattle.std.proofs.Common.{◌≡◌, refl, sym, arith}
-use Rattle.pr_run.specs.Told.{bad_row_text}
+use Rattle.pr_top.specs.pr_run.Told.{bad_row_text}
 use Rattle.pr_run_laws.proofs.Lines.{none}
 use Rattle.pr_run_laws.proofs.fronts.a_bad_row_is_told_alone.Goals as goal
 

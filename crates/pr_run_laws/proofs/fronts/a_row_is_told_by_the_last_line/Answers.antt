@@ -1,5 +1,5 @@
 use Rattle.std.proofs.Common.{◌≡◌, [], Some, codes, refl}
-use Rattle.pr_run.specs.Told.{bad_row_text}
+use Rattle.pr_top.specs.pr_run.Told.{bad_row_text}
 use Rattle.pr_run_laws.proofs.Lines.{not_told_so, seven}
 use Rattle.pr_run_laws.proofs.fronts.a_row_is_told_by_the_last_line.Goals as goal
 

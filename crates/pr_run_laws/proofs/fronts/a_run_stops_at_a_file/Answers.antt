@@ -1,6 +1,6 @@
 use Rattle.std.proofs.Common.{◌≡◌, ℕ, ◌≤◌, [], ◌∷◌, refl, sym, subst, length, take, arith}
-use Rattle.pr_text.specs.Printed.{shown_report}
-use Rattle.pr_run.specs.Told.{bad_row_text, told_of}
+use Rattle.pr_top.specs.pr_text.Printed.{shown_report}
+use Rattle.pr_top.specs.pr_run.Told.{bad_row_text, told_of}
 use Rattle.pr_run_laws.specs.Examples.{added, reloaded}
 use Rattle.pr_run_laws.proofs.Lines.{none}
 use Rattle.pr_run_laws.proofs.fronts.a_run_stops_at_a_file.Goals as goal

@@ -6,22 +6,22 @@ use Rattle.pr_forms.specs.Reading.{reading}
 use Rattle.pr_labels.proofs.Ascii.{metric_name_is_text}
 use Rattle.pr_labels.specs.LabelSet.{named}
 use Rattle.pr_labels.specs.SeriesText.{series_text}
-use Rattle.pr_kinds.proofs.PlainTexts.{plain_text}
+use Rattle.pr_top.proofs.KindsPlainTexts.{plain_text}
 use Rattle.pr_match.specs.Matcher.{meets, meets_all}
 use Rattle.pr_num.specs.Half.{half_abs}
 use Rattle.pr_num.specs.Reads.{reads}
 use Rattle.pr_num.specs.Shown.{shown}
-use Rattle.pr_script.specs.Orders.{orders_after}
-use Rattle.pr_script.specs.Reloads.{files_in}
-use Rattle.pr_script.specs.Script.{takes_body}
+use Rattle.pr_top.specs.pr_script.Orders.{orders_after}
+use Rattle.pr_top.specs.pr_script.Reloads.{files_in}
+use Rattle.pr_top.specs.pr_script.Script.{takes_body}
 use Rattle.pr_series.proofs.SeriesExamples.{metric}
 use Rattle.pr_series.specs.SeriesReading.{series_labels, series_pairs}
-use Rattle.pr_text.specs.Answers.{backwards_last}
-use Rattle.pr_text.specs.Printed.{shown_report}
-use Rattle.pr_world.specs.Loading.{reload_asked}
-use Rattle.pr_world.specs.Query.{parsed_outcome}
-use Rattle.pr_world.specs.Step.{next}
-use Rattle.pr_run.specs.Told.{told_of, turn}
+use Rattle.pr_top.specs.pr_text.Answers.{backwards_last}
+use Rattle.pr_top.specs.pr_text.Printed.{shown_report}
+use Rattle.pr_top.specs.pr_world.Loading.{reload_asked}
+use Rattle.pr_top.specs.pr_world.Query.{parsed_outcome}
+use Rattle.pr_top.specs.pr_world.Step.{next}
+use Rattle.pr_top.specs.pr_run.Told.{told_of, turn}
 use Rattle.pr_run_laws.proofs.runs.a_run_opens_what_was_kept.Goals as goal
 
 pub returns : goal.returns

@@ -1,7 +1,7 @@
 use Rattle.std.proofs.Common.{refl}
 use Rattle.pr_forms.specs.Reading.{reading}
 use Rattle.pr_time.specs.SpanAnswer.{span_of}
-use Rattle.pr_backfill.specs.Times.{backfill_times}
+use Rattle.pr_top.specs.pr_backfill.Times.{backfill_times}
 use Rattle.pr_run_laws.proofs.words.words_ask_for_a_backfill.Goals as goal
 
 pub returns-clause-times : goal.returns-clause-times

@@ -1,6 +1,6 @@
 use Rattle.std.proofs.Common.{◌≡◌, ◌≤◌, List, take}
 use Rattle.pr_history.specs.declared.entry.Entry.{Entry}
-use Rattle.pr_head.specs.Holds.{Holds}
+use Rattle.pr_intake.specs.pr_head.Holds.{Holds}
 use Rattle.pr_world.specs.Scrapes.{offered_entries, offers}
 use Rattle.pr_intake.specs.Intake.{Puts}
 use Rattle.pr_scrape.specs.Tallying.{Tallies}

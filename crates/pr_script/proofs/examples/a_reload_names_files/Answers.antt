@@ -1,6 +1,6 @@
 use Rattle.std.proofs.Common.{◌≡◌, codes, true, refl}
 use Rattle.std.specs.Str.{is_utf8}
-use Rattle.pr_kinds.proofs.PlainTexts.{plain_text}
+use Rattle.pr_world.proofs.KindsPlainTexts.{plain_text}
 use Rattle.pr_script.specs.Reloads.{files_in}
 use Rattle.pr_script.proofs.examples.a_reload_names_files.Goals as goal
 

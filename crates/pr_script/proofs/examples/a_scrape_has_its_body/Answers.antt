@@ -3,7 +3,7 @@ use Rattle.std.specs.Str.{is_utf8}
 use Rattle.pr_script.specs.Orders.{orders_after}
 use Rattle.pr_script.specs.Script.{takes_body}
 use Rattle.pr_script.proofs.Targets.{a_is_b}
-use Rattle.pr_kinds.proofs.PlainTexts.{plain_text}
+use Rattle.pr_world.proofs.KindsPlainTexts.{plain_text}
 use Rattle.pr_script.proofs.examples.a_scrape_has_its_body.Goals as goal
 
 pub returns : goal.returns

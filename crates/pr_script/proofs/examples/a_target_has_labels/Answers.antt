@@ -1,8 +1,8 @@
 use Rattle.std.proofs.Common.{◌≡◌, codes, true, refl}
 use Rattle.std.specs.Str.{is_utf8}
-use Rattle.pr_series.proofs.SeriesExamples.{metric, none}
+use Rattle.pr_row.proofs.SeriesSeriesExamples.{metric, none}
 use Rattle.pr_script.proofs.Targets.{a_is_b}
-use Rattle.pr_kinds.proofs.PlainTexts.{plain_text}
+use Rattle.pr_world.proofs.KindsPlainTexts.{plain_text}
 use Rattle.pr_script.proofs.examples.a_target_has_labels.Goals as goal
 
 pub returns : goal.returns

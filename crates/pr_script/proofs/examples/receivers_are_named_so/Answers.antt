@@ -1,6 +1,6 @@
 use Rattle.std.proofs.Common.{◌≡◌, codes, true, refl}
 use Rattle.std.specs.Str.{is_utf8}
-use Rattle.pr_kinds.proofs.PlainTexts.{plain_text}
+use Rattle.pr_world.proofs.KindsPlainTexts.{plain_text}
 use Rattle.pr_script.proofs.examples.receivers_are_named_so.Goals as goal
 
 pub returns-clause-receiver : goal.returns-clause-receiver

@@ -1,6 +1,6 @@
 use Rattle.std.proofs.Common.{◌∙◌, ap, ℕ, reverse, List}
 use Rattle.std.specs.List.{position_or_len}
-use Rattle.pr_verdict.specs.RuleFiles.{is_slash}
+use Rattle.pr_test_texts.specs.pr_verdict.RuleFiles.{is_slash}
 use Rattle.pr_test_command.proofs.Folders.{folder_ends}
 use Rattle.pr_test_command.proofs.names.folder.Goals as goal
 

@@ -1,6 +1,6 @@
 use Rattle.std.proofs.Common.{◌≡◌, drop, map, string_bytes}
 use Rattle.std.specs.Prelude.{fold}
-use Rattle.pr_verdict.specs.RuleFiles.{beside, rule_file_names, with_name}
+use Rattle.pr_test_texts.specs.pr_verdict.RuleFiles.{beside, rule_file_names, with_name}
 use Rattle.pr_test_command.proofs.names.rule_file_names.Given as goal
 
 -- the names so far, and those to come

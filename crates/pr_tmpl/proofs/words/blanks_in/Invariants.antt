@@ -1,5 +1,5 @@
 use Rattle.std.proofs.Common.{◌≤◌, length}
-use Rattle.pr_strings.specs.Reader.{KeepsText}
+use Rattle.pr_labels.specs.pr_strings.Reader.{KeepsText}
 use Rattle.pr_tmpl.specs.TemplateText.{blanks}
 use Rattle.pr_tmpl.specs.Reader.{Leads}
 use Rattle.pr_tmpl.proofs.words.blanks_in.Given as goal

@@ -1,6 +1,6 @@
 use Rattle.std.proofs.Common.{◌≡◌, ℕ, ◌+◌, List, ap, subst, sym, ◌∙◌}
-use Rattle.pr_lineage.specs.declared.found.Found.{Found}
-use Rattle.pr_verdict.specs.Verdict.{alert_failure, firing}
+use Rattle.pr_group.specs.pr_lineage.declared.found.Found.{Found}
+use Rattle.pr_expected.specs.pr_verdict.Verdict.{alert_failure, firing}
 use Rattle.pr_unit.specs.Kept.{KeepsGroups}
 use Rattle.pr_unit.proofs.Answers.{if_ok}
 use Rattle.pr_unit.proofs.checks.check_alert.Goals as goal

@@ -1,9 +1,9 @@
 use Rattle.std.proofs.Common.{ℕ, List}
-use Rattle.pr_rules.specs.Groups.{Group}
-use Rattle.pr_rules.specs.Settings.{Settings}
-use Rattle.pr_testfile.specs.Tests.{PlainTest}
-use Rattle.pr_verdict.specs.Events.{world_at}
-use Rattle.pr_verdict.specs.Verdict.{alert_check}
+use Rattle.pr_group.specs.pr_rules.Groups.{Group}
+use Rattle.pr_group.specs.pr_rules.Settings.{Settings}
+use Rattle.pr_feeding.specs.pr_testfile.Tests.{PlainTest}
+use Rattle.pr_expected.specs.pr_verdict.Events.{world_at}
+use Rattle.pr_expected.specs.pr_verdict.Verdict.{alert_check}
 use Rattle.pr_unit.specs.Kept.{StandsForWorld}
 use Rattle.pr_unit.specs.Slots.{AreFilled, AreFilling}
 use Rattle.pr_unit.proofs.checks.fill_alerts.Given as goal

@@ -1,8 +1,8 @@
 use Rattle.std.proofs.Common.{◌≡◌, ◌++◌, List, take}
 use Rattle.std.specs.List.{flat_map}
 use Rattle.pr_history.specs.declared.entry.Entry.{Entry}
-use Rattle.pr_rules.specs.Groups.{Group}
-use Rattle.pr_verdict.specs.Verdict.{firing_of}
+use Rattle.pr_group.specs.pr_rules.Groups.{Group}
+use Rattle.pr_expected.specs.pr_verdict.Verdict.{firing_of}
 use Rattle.pr_group.specs.Keeping.{KeepsGroup}
 use Rattle.pr_unit.proofs.firing.push_group.Given as goal
 

@@ -1,9 +1,9 @@
 use Rattle.std.proofs.Common.{◌≡◌, List, length, map, take}
-use Rattle.pr_rules.specs.Groups.{Group}
-use Rattle.pr_rules.specs.Settings.{Settings}
-use Rattle.pr_world.specs.Step.{world_after}
-use Rattle.pr_world.specs.World.{World}
-use Rattle.pr_verdict.specs.Events.{eval_at}
+use Rattle.pr_group.specs.pr_rules.Groups.{Group}
+use Rattle.pr_group.specs.pr_rules.Settings.{Settings}
+use Rattle.pr_expected.specs.pr_world.Step.{world_after}
+use Rattle.pr_expected.specs.pr_world.World.{World}
+use Rattle.pr_expected.specs.pr_verdict.Events.{eval_at}
 use Rattle.pr_test_rounds.specs.Rounds.{AreApart, IsInRound}
 use Rattle.pr_unit.specs.Kept.{StandsForWorld}
 use Rattle.pr_unit.proofs.round.evaluate_all.Given as goal

@@ -1,6 +1,6 @@
 use Rattle.std.proofs.Common.{◌≡◌, ℕ, ◌+◌, ◌≤◌, ◌<◌, Some, None, sym, ap, subst, ◌∙◌, arith}
-use Rattle.pr_testfile.specs.Tests.{plain_test}
-use Rattle.pr_verdict.specs.Verdict.{alert_check, expr_check}
+use Rattle.pr_feeding.specs.pr_testfile.Tests.{plain_test}
+use Rattle.pr_expected.specs.pr_verdict.Verdict.{alert_check, expr_check}
 use Rattle.pr_unit.specs.Run.{HasRunTest}
 use Rattle.pr_unit.specs.Slots.{HasFilled}
 use Rattle.pr_unit.specs.Times.{next_time}

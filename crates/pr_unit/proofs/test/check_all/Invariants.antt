@@ -1,6 +1,6 @@
 use Rattle.std.proofs.Common.{◌-◌, ◌^◌, ◌≤◌, List}
-use Rattle.pr_rules.specs.Groups.{Group}
-use Rattle.pr_testfile.specs.Tests.{plain_test}
+use Rattle.pr_group.specs.pr_rules.Groups.{Group}
+use Rattle.pr_feeding.specs.pr_testfile.Tests.{plain_test}
 use Rattle.pr_test_rounds.specs.Rounds.{AreApart}
 use Rattle.pr_unit.specs.Run.{HasRunTest}
 use Rattle.pr_unit.specs.Slots.{HasFilled}

@@ -1,10 +1,10 @@
 use Rattle.std.proofs.Common.{ℕ, List, ◌+◌, ◌*◌, ◌<◌, Option, map, subst, sym, arith}
-use Rattle.pr_testfile.specs.declared.tests.AlertCheck.{AlertCheck}
-use Rattle.pr_testfile.specs.declared.tests.ExprCheck.{ExprCheck}
-use Rattle.pr_testfile.specs.Checks.{plain_check}
-use Rattle.pr_testfile.specs.Tests.{plain_test}
-use Rattle.pr_verdict.specs.Events.{last_check, settings_of}
-use Rattle.pr_verdict.specs.Verdict.{alert_check, expr_check}
+use Rattle.pr_feeding.specs.pr_testfile.declared.tests.AlertCheck.{AlertCheck}
+use Rattle.pr_feeding.specs.pr_testfile.declared.tests.ExprCheck.{ExprCheck}
+use Rattle.pr_feeding.specs.pr_testfile.Checks.{plain_check}
+use Rattle.pr_feeding.specs.pr_testfile.Tests.{plain_test}
+use Rattle.pr_expected.specs.pr_verdict.Events.{last_check, settings_of}
+use Rattle.pr_expected.specs.pr_verdict.Verdict.{alert_check, expr_check}
 use Rattle.pr_unit.specs.Run.{rounds_until}
 use Rattle.pr_unit.specs.Slots.{AreFilled}
 use Rattle.pr_unit.proofs.Answers.{on_ok}

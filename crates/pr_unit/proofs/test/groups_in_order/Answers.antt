@@ -1,7 +1,7 @@
 use Rattle.std.proofs.Common.{subst, sym, ap, ◌∙◌}
-use Rattle.pr_rules.specs.Replays.{unwaiting_groups}
-use Rattle.pr_testfile.specs.Tests.{plain_test}
-use Rattle.pr_verdict.specs.Events.{by_names, settings_of}
+use Rattle.pr_group.specs.pr_rules.Replays.{unwaiting_groups}
+use Rattle.pr_feeding.specs.pr_testfile.Tests.{plain_test}
+use Rattle.pr_expected.specs.pr_verdict.Events.{by_names, settings_of}
 use Rattle.pr_unit.specs.Kept.{KeepsGroups, name_of}
 use Rattle.pr_unit.specs.Ordered.{named_first}
 use Rattle.pr_unit.proofs.Answers.{if_ok}

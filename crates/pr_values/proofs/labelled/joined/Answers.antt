@@ -1,11 +1,11 @@
 use Rattle.std.proofs.Common.{ℕ, List, drop, subst, ◌∙◌}
 use Rattle.pr_ast.specs.Tree.{trees_of}
-use Rattle.pr_labels.specs.declared.item.Item.{Item}
+use Rattle.pr_ast.specs.pr_labels.declared.item.Item.{Item}
 use Rattle.pr_num.specs.declared.value.Num.{Num}
-use Rattle.pr_vectors.specs.LabelFunctions.{label_joined}
+use Rattle.pr_query.specs.pr_vectors.LabelFunctions.{label_joined}
 use Rattle.pr_query.specs.Answers.{function_at}
 use Rattle.pr_query.specs.Given.{elements_given}
-use Rattle.pr_types.specs.Typed.{content_at, contents}
+use Rattle.pr_query.specs.pr_types.Typed.{content_at, contents}
 use Rattle.pr_values.specs.Answers.{AnswersTo}
 use Rattle.pr_values.specs.Plain.{all_plain}
 use Rattle.pr_values.proofs.labelled.joined.Goals as goal

@@ -1,13 +1,13 @@
 use Rattle.std.proofs.Common.{◌≡◌, true, ℕ, List, subst, sym}
 use Rattle.pr_ast.specs.Tree.{trees_of}
-use Rattle.pr_labels.specs.Names.{is_label_name}
-use Rattle.pr_labels.specs.declared.item.Item.{Item}
+use Rattle.pr_ast.specs.pr_labels.Names.{is_label_name}
+use Rattle.pr_ast.specs.pr_labels.declared.item.Item.{Item}
 use Rattle.pr_num.specs.declared.value.Num.{Num}
-use Rattle.pr_match.specs.Pattern.{expanded}
-use Rattle.pr_vectors.specs.LabelFunctions.{label_replaced}
+use Rattle.pr_fn.specs.pr_match.Pattern.{expanded}
+use Rattle.pr_query.specs.pr_vectors.LabelFunctions.{label_replaced}
 use Rattle.pr_query.specs.Answers.{function_at}
 use Rattle.pr_query.specs.Given.{elements_given}
-use Rattle.pr_types.specs.Typed.{content_at}
+use Rattle.pr_query.specs.pr_types.Typed.{content_at}
 use Rattle.pr_values.specs.Answers.{AnswersTo}
 use Rattle.pr_values.specs.Plain.{all_plain}
 use Rattle.pr_values.proofs.labelled.replaced_by.Goals as goal

@@ -1,6 +1,6 @@
 use Rattle.std.proofs.Common.{◌≡◌, map, take}
 use Rattle.pr_ast.specs.Tree.{tree_of}
-use Rattle.pr_types.specs.Typed.{content}
+use Rattle.pr_query.specs.pr_types.Typed.{content}
 use Rattle.pr_values.proofs.texts.contents.Given as goal
 
 -- the texts so far

@@ -1,6 +1,6 @@
 use Rattle.std.proofs.Common.{◌≡◌, map, ap, sym, ◌∙◌, IfOk, subst}
 use Rattle.pr_ast.specs.Tree.{tree_of}
-use Rattle.pr_types.specs.Typed.{content}
+use Rattle.pr_query.specs.pr_types.Typed.{content}
 use Rattle.pr_values.proofs.TextLists.{few_behind, texts_behind, whole_rest}
 use Rattle.pr_values.proofs.texts.contents_after_three.Goals as goal
 

@@ -1,5 +1,5 @@
 use Rattle.std.proofs.Common.{rules}
-use Rattle.pr_vectors.specs.Functions.{mapped}
+use Rattle.pr_query.specs.pr_vectors.Functions.{mapped}
 use Rattle.pr_values.specs.Besides.{result_beside}
 use Rattle.pr_values.proofs.vectors.each_beside.Goals as goal
 

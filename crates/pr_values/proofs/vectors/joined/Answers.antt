@@ -1,5 +1,5 @@
 use Rattle.std.proofs.Common.{rules, Bool, subst}
-use Rattle.pr_vectors.specs.Matching.{joined}
+use Rattle.pr_query.specs.pr_vectors.Matching.{joined}
 use Rattle.pr_query.specs.Answers.{joined_at}
 use Rattle.pr_query.specs.Operators.{operator_of}
 use Rattle.pr_values.specs.Answers.{AnswersTo}

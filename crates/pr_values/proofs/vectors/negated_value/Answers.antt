@@ -1,8 +1,8 @@
 use Rattle.std.proofs.Common.{List, Ok, subst, sym}
 use Rattle.pr_num.specs.declared.value.Num.{Num}
 use Rattle.pr_num.specs.Arithmetic.{negated}
-use Rattle.pr_labels.specs.declared.item.Item.{Item}
-use Rattle.pr_vectors.specs.Functions.{ValueFunction, mapped}
+use Rattle.pr_ast.specs.pr_labels.declared.item.Item.{Item}
+use Rattle.pr_query.specs.pr_vectors.Functions.{ValueFunction, mapped}
 use Rattle.pr_query.specs.declared.value.Value.{Value}
 use Rattle.pr_query.specs.Answers.{function_at}
 use Rattle.pr_query.specs.Operations.{negated_value}

@@ -1,6 +1,6 @@
 use Rattle.std.proofs.Common.{rules, Ok}
 use Rattle.pr_num.specs.Arithmetic.{negated}
-use Rattle.pr_vectors.specs.Functions.{ValueFunction, mapped}
+use Rattle.pr_query.specs.pr_vectors.Functions.{ValueFunction, mapped}
 use Rattle.pr_values.proofs.vectors.negated_vector.Goals as goal
 
 pub returns-clause-answer : goal.returns-clause-answer

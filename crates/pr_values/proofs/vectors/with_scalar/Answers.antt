@@ -1,6 +1,6 @@
 use Rattle.std.proofs.Common.{subst, sym}
-use Rattle.pr_vectors.specs.Vectors.{IsVector}
-use Rattle.pr_vectors.proofs.Vectors.{vector_filter}
+use Rattle.pr_query.specs.pr_vectors.Vectors.{IsVector}
+use Rattle.pr_query.proofs.VectorsVectors.{vector_filter}
 use Rattle.pr_query.specs.Answers.{IsAnswer}
 use Rattle.pr_values.specs.Besides.{holds_beside}
 use Rattle.pr_values.proofs.vectors.with_scalar.Goals as goal

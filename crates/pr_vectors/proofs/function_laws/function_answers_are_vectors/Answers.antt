@@ -1,5 +1,5 @@
 use Rattle.std.proofs.Common.{[], map, filter}
-use Rattle.pr_labels.proofs.LabelOrder.{rising_fold}
+use Rattle.pr_history.proofs.LabelsLabelOrder.{rising_fold}
 use Rattle.pr_vectors.specs.LabelFunctions.{with_expansion, with_joined}
 use Rattle.pr_vectors.specs.Histogram.{buckets_in, histogram_labels, histogram_value, histograms, is_bucket}
 use Rattle.pr_vectors.proofs.FunctionAnswers.{apart_vector, mapped_vector, clamped_vector, rising_answer}

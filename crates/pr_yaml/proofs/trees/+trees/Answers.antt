@@ -1,7 +1,7 @@
 use Rattle.std.proofs.Common.{sym, ap, refl, ◌+◌, ◌-◌, []}
-use Rattle.pr_forms.specs.Form.{rule}
-use Rattle.pr_forms.specs.Run.{run_pair, run_first, run_second}
-use Rattle.pr_forms.proofs.Ways.{exit}
+use Rattle.pr_yaml_scan.specs.pr_forms.Form.{rule}
+use Rattle.pr_yaml_scan.specs.pr_forms.Run.{run_pair, run_first, run_second}
+use Rattle.pr_yaml_scan.proofs.FormsWays.{exit}
 use Rattle.pr_yaml.specs.Grammar.{letters, production, absent, Map, Items, Under, Values, Pairs, PairValue, FlowList, FlowMap}
 use Rattle.pr_yaml.specs.GrammarTable.{table}
 use Rattle.pr_yaml.specs.Reader.{keys_in, maybe_node, rule_of}

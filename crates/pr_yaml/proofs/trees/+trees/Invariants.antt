@@ -1,5 +1,5 @@
 use Rattle.std.proofs.Common.{[], length, map, ◌+◌, ◌*◌}
-use Rattle.pr_forms.specs.Form.{rule}
+use Rattle.pr_yaml_scan.specs.pr_forms.Form.{rule}
 use Rattle.pr_yaml.specs.Tree.{tree_of, entry_tree_of}
 use Rattle.pr_yaml.specs.Grammar.{items, entries, MoreEntries, MoreDashes, Values, Pairs}
 use Rattle.pr_yaml.specs.Reader.{HasRead, keys_in}

@@ -1,5 +1,5 @@
 use Rattle.std.proofs.Common.{refl}
-use Rattle.pr_words.specs.Lines.{text_lines}
+use Rattle.pr_strings.specs.pr_words.Lines.{text_lines}
 use Rattle.pr_yaml_scan.specs.Bytes.{has_no_text, blanks_len, spaces_len, is_bare, is_spaces, has_tab, ends_word, is_flow_sign, is_comment}
 use Rattle.pr_yaml_scan.specs.Lines.{end_line, is_alone, is_sign_by, document_sign, is_sign, folded_break}
 use Rattle.pr_yaml_scan.specs.Plain.{stops, plain_len, plain_part, plain_ending, begins_with_flow_sign, is_kept_out, goes_on, plain_below}

@@ -1,8 +1,8 @@
 use Rattle.std.proofs.Common.{List, ◌++◌, map, ap, sym, subst, ◌∙◌}
 use Rattle.pr_history.specs.Admission.{IsLawful}
-use Rattle.pr_rules.specs.Settings.{of_a_run}
-use Rattle.pr_backfill.specs.declared.stepped.Stepped.{Stepped}
-use Rattle.pr_backfill.specs.Filled.{at_time, round_at, rows_filled}
+use Rattle.pr_backfill_texts.specs.pr_rules.Settings.{of_a_run}
+use Rattle.pr_backfill_texts.specs.pr_backfill.declared.stepped.Stepped.{Stepped}
+use Rattle.pr_backfill_texts.specs.pr_backfill.Filled.{at_time, round_at, rows_filled}
 use Rattle.pr_backfill_command.proofs.Parts.{on_ok, part_memory, part_none}
 use Rattle.pr_backfill_command.proofs.Progress.{come_err, still, time_comes}
 use Rattle.pr_backfill_command.proofs.filling.Filling.fill_time.Goals as goal

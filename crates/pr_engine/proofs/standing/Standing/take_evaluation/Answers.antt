@@ -2,7 +2,7 @@ use Rattle.std.proofs.Common.{◌≡◌, ◌∙◌, ◌+◌, ◌≤◌, true, re
 use Rattle.pr_manager.specs.Naming.{passed_by_named}
 use Rattle.pr_manager.specs.Passing.{EvaluationPasses}
 use Rattle.pr_manager.specs.Rounds.{eval_cost, eval_step}
-use Rattle.pr_group.specs.Keeping.{MayEvaluateOver}
+use Rattle.pr_manager.specs.pr_group.Keeping.{MayEvaluateOver}
 use Rattle.pr_world.specs.Settings.{Settings}
 use Rattle.pr_world.specs.declared.event.Event.{Event}
 use Rattle.pr_world.specs.declared.event.Event.TheVariants.{Eval}

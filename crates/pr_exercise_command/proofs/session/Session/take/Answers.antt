@@ -1,6 +1,6 @@
 use Rattle.std.proofs.Common.{◌++◌, ◌∷◌, [], refl, sym, subst}
-use Rattle.pr_rules.specs.Settings.{of_a_run}
-use Rattle.pr_world.specs.Step.{next}
+use Rattle.pr_exercise.specs.pr_rules.Settings.{of_a_run}
+use Rattle.pr_exercise.specs.pr_world.Step.{next}
 use Rattle.pr_status.proofs.Ended.{quiet}
 use Rattle.pr_exercise_command.proofs.Progress.{come, come_err, halts_at, stands_on, stands_uncounted}
 use Rattle.pr_exercise_command.proofs.Ended.{calm_keep, keep_done, keep_memory, keep_on}

@@ -1,6 +1,6 @@
 use Rattle.std.proofs.Common.{◌≡◌, List, IsSome}
 use Rattle.pr_history.specs.declared.entry.Entry.{Entry}
-use Rattle.pr_world.specs.declared.event.Event.{Event}
+use Rattle.pr_exercise.specs.pr_world.declared.event.Event.{Event}
 use Rattle.pr_exercise_command.specs.Turns.{HaveDistinctFiles}
 use Rattle.pr_exercise_command.specs.Standing.{Stands}
 use Rattle.pr_exercise_command.proofs.Progress.{Answered}

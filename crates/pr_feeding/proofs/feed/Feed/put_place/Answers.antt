@@ -1,6 +1,6 @@
 use Rattle.std.proofs.Common.{take}
 use Rattle.std.specs.List.{filter_map}
-use Rattle.pr_history.specs.Admission.{put_all}
+use Rattle.pr_testfile.specs.pr_history.Admission.{put_all}
 use Rattle.pr_testfile.specs.Series.{entry_at}
 use Rattle.pr_feeding.proofs.Feeding.{all_fed, taken_all, taken_next, there_within}
 use Rattle.pr_feeding.proofs.feed.Feed.put_place.Goals as goal

@@ -1,7 +1,7 @@
 use Rattle.std.proofs.Common.{◌≡◌, ℕ, ◌*◌, List, take}
 use Rattle.std.specs.List.{filter_map}
-use Rattle.pr_history.specs.declared.entry.Entry.{Entry}
-use Rattle.pr_head.specs.Holds.{Holds}
+use Rattle.pr_testfile.specs.pr_history.declared.entry.Entry.{Entry}
+use Rattle.pr_intake.specs.pr_head.Holds.{Holds}
 use Rattle.pr_intake.specs.Intake.{HasTaken}
 use Rattle.pr_testfile.specs.Series.{entry_at}
 use Rattle.pr_feeding.specs.Feeding.{HasFed, IsFeeding}

@@ -1,6 +1,6 @@
 use Rattle.std.proofs.Common.{◌≡◌, true, Result, Ok, Err, refl}
 use Rattle.std.specs.Prelude.{IfOk}
-use Rattle.pr_rules.specs.Evaluations.{group_step}
+use Rattle.pr_rule_step.specs.pr_rules.Evaluations.{group_step}
 use Rattle.pr_group.specs.Keeping.{settings_of}
 use Rattle.pr_group.proofs.group.GroupOver.evaluate.Goals as goal
 

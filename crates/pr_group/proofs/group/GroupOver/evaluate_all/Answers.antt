@@ -1,11 +1,11 @@
 use Rattle.std.proofs.Common.{◌+◌, ◌≤◌, List, length, refl, sym, subst}
 use Rattle.std.specs.Prelude.{IfOk, nat_lt}
 use Rattle.pr_history.specs.declared.entry.Entry.{Entry}
-use Rattle.pr_rulefile.specs.declared.rules.RuleDef.{RuleDef}
-use Rattle.pr_rules.specs.Costs.{rules_cost}
-use Rattle.pr_rules.specs.Evaluations.{all_rules, begun}
-use Rattle.pr_rules.specs.Groups.{Group}
-use Rattle.pr_rules.specs.Times.{IsAfter}
+use Rattle.pr_rule_step.specs.pr_rulefile.declared.rules.RuleDef.{RuleDef}
+use Rattle.pr_rule_step.specs.pr_rules.Costs.{rules_cost}
+use Rattle.pr_rule_step.specs.pr_rules.Evaluations.{all_rules, begun}
+use Rattle.pr_rule_step.specs.pr_rules.Groups.{Group}
+use Rattle.pr_rule_step.specs.pr_rules.Times.{IsAfter}
 use Rattle.pr_group.specs.Evaluating.{HasCome, MayEvaluateRules}
 use Rattle.pr_group.specs.Keeping.{KeepsGroup, KeptGroup, MayEvaluateOver, passed_by, settings_of}
 use Rattle.pr_group.proofs.Ending.{may_of}

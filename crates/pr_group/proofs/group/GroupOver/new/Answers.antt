@@ -1,5 +1,5 @@
 use Rattle.std.proofs.Common.{List, None, length, refl, subst}
-use Rattle.pr_rulefile.specs.declared.rules.RuleDef.{RuleDef}
+use Rattle.pr_rule_step.specs.pr_rulefile.declared.rules.RuleDef.{RuleDef}
 use Rattle.pr_group.specs.Evaluating.{AreNew}
 use Rattle.pr_group.specs.Keeping.{waits_of}
 use Rattle.pr_group.proofs.Beginning.{new_kept, new_unpassed}

@@ -1,10 +1,10 @@
 use Rattle.std.proofs.Common.{◌≡◌, true, ℕ, ◌+◌, ◌≤◌, List, Option, OnOk, length, map, ap, ◌∙◌}
 use Rattle.std.specs.Prelude.{IfOk, flat_map, sum_by}
 use Rattle.pr_history.specs.declared.entry.Entry.{Entry}
-use Rattle.pr_rulefile.specs.declared.rules.RuleDef.{RuleDef}
-use Rattle.pr_rules.specs.Costs.{restored_reads}
-use Rattle.pr_rules.specs.Evaluations.{restores, with_restored}
-use Rattle.pr_rules.specs.Groups.{RuleState}
+use Rattle.pr_rule_step.specs.pr_rulefile.declared.rules.RuleDef.{RuleDef}
+use Rattle.pr_rule_step.specs.pr_rules.Costs.{restored_reads}
+use Rattle.pr_rule_step.specs.pr_rules.Evaluations.{restores, with_restored}
+use Rattle.pr_rule_step.specs.pr_rules.Groups.{RuleState}
 use Rattle.pr_rule_step.specs.declared.remembered.Remembered.{Remembered}
 use Rattle.pr_group.specs.Keeping.{AreKept, KeptGroup, MayEvaluateOver}
 use Rattle.pr_group.proofs.Ending.{through}

@@ -1,6 +1,6 @@
 use Rattle.std.proofs.Common.{◌≡◌, ◌+◌, ◌≤◌, Bool, true, OnOk, sym, ap, ◌∙◌, subst}
 use Rattle.std.specs.Prelude.{IfOk}
-use Rattle.pr_rules.specs.Costs.{restoring_cost}
+use Rattle.pr_rule_step.specs.pr_rules.Costs.{restoring_cost}
 use Rattle.pr_group.specs.Keeping.{AreKept}
 use Rattle.pr_group.specs.Restoring.{restored_alerts, restored_rules}
 use Rattle.pr_group.proofs.group.GroupOver.restore_if_due.Goals as goal

@@ -1,6 +1,6 @@
 use Rattle.std.proofs.Common.{◌++◌, flat_map, refl, ap, ◌∙◌}
-use Rattle.pr_vectors.specs.Vectors.{in_label_order}
-use Rattle.pr_rules.specs.Taking.{numbers_taken}
+use Rattle.pr_ready.specs.pr_vectors.Vectors.{in_label_order}
+use Rattle.pr_rule_step.specs.pr_rules.Taking.{numbers_taken}
 use Rattle.pr_group.specs.Carrying.{previous_in}
 use Rattle.pr_group.specs.Matching.{continues_def, spared}
 use Rattle.pr_group.proofs.Going.{are_below, are_many, are_once, gone_as, moved}

@@ -1,8 +1,8 @@
 use Rattle.std.proofs.Common.{List, length, map}
 use Rattle.std.specs.Prelude.{flat_map}
 use Rattle.pr_history.specs.declared.entry.Entry.{Entry}
-use Rattle.pr_rules.specs.Groups.{Group}
-use Rattle.pr_rules.specs.Settings.{Settings}
+use Rattle.pr_world.specs.pr_rules.Groups.{Group}
+use Rattle.pr_world.specs.pr_rules.Settings.{Settings}
 use Rattle.pr_world.specs.Rounds.{alert_line, group_alerts}
 use Rattle.pr_manager.specs.Keeping.{KeepEach}
 use Rattle.pr_manager.proofs.Listed.{GroupsLeft}

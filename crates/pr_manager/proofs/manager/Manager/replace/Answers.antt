@@ -1,7 +1,7 @@
 use Rattle.std.proofs.Common.{◌≡◌, true, not, List, length, Vec, Global, ap, subst, sym, ◌∙◌}
 use Rattle.std.specs.Prelude.{filter, sum_by}
 use Rattle.pr_history.specs.declared.entry.Entry.{Entry}
-use Rattle.pr_rules.specs.Reloads.{reload_by}
+use Rattle.pr_world.specs.pr_rules.Reloads.{reload_by}
 use Rattle.pr_group.specs.Keeping.{KeptGroup}
 use Rattle.pr_world.specs.declared.report.Report.TheVariants as report
 use Rattle.pr_manager.specs.Keeping.{KeepEach, KeptManager, settings_in}

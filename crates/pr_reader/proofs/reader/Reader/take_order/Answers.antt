@@ -1,5 +1,5 @@
 use Rattle.std.proofs.Common.{◌≡◌, ◌∙◌, List, ℕ, string_bytes, refl, sym, ap, subst}
-use Rattle.pr_world.specs.declared.event.Event.TheVariants as event
+use Rattle.pr_script.specs.pr_world.declared.event.Event.TheVariants as event
 use Rattle.pr_script.specs.declared.order.Order.TheVariants as order
 use Rattle.pr_script.specs.declared.order.Started.TheVariants as started
 use Rattle.pr_script.specs.Orders.{order_of}

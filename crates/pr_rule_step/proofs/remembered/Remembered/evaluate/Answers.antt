@@ -1,7 +1,7 @@
 use Rattle.std.proofs.Common.{IfOk, sym, ap, ◌∙◌, subst}
-use Rattle.pr_rulefile.specs.Rules.{rule_of_def}
-use Rattle.pr_rules.specs.declared.fault.RuleFailure.{RuleFailure}
-use Rattle.pr_rules.specs.Evaluations.{RuleStep, failed_step, rule_outcome}
+use Rattle.pr_rule_result.specs.pr_rulefile.Rules.{rule_of_def}
+use Rattle.pr_rule_result.specs.pr_rules.declared.fault.RuleFailure.{RuleFailure}
+use Rattle.pr_rule_result.specs.pr_rules.Evaluations.{RuleStep, failed_step, rule_outcome}
 use Rattle.pr_rule_step.specs.Standing.{HasStepped}
 use Rattle.pr_rule_step.proofs.Stepping.{failed_so, stands_failed, stands_fine_if, step_fine, stepped_failed}
 use Rattle.pr_rule_step.proofs.remembered.Remembered.evaluate.Goals as goal

@@ -1,12 +1,12 @@
 use Rattle.std.proofs.Common.{◌≡◌, ◌∙◌, [], Ok, Err, refl, sym, subst}
-use Rattle.pr_script.specs.declared.order.Order.TheVariants as order
+use Rattle.pr_reader.specs.pr_script.declared.order.Order.TheVariants as order
 use Rattle.pr_queue.specs.Standing as waiting
 use Rattle.pr_status.specs.Outside.{Outside}
 use Rattle.pr_status.proofs.Ended.{ends_on, in_time_same}
 use Rattle.pr_status.proofs.Streams.{appends_none}
-use Rattle.pr_world.proofs.Refusals.{refusal_is_told}
-use Rattle.pr_world.specs.Settings.{of_a_run}
-use Rattle.pr_world.specs.Step.{next}
+use Rattle.pr_text.proofs.WorldRefusals.{refusal_is_told}
+use Rattle.pr_text.specs.pr_world.Settings.{of_a_run}
+use Rattle.pr_text.specs.pr_world.Step.{next}
 use Rattle.pr_run.specs.Rows.{IsBadIn}
 use Rattle.pr_run.specs.Standing.{Gives}
 use Rattle.pr_run.proofs.Answering.{answers_so, event_turn, leaves_by, leaves_memory, made, memory_on}

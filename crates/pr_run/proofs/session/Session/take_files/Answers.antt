@@ -2,12 +2,12 @@ use Rattle.std.proofs.Common.{◌≡◌, ◌∙◌, ℕ, List, Result, Ok, Err, 
 use Rattle.pr_status.specs.Asks.{AsksBy}
 use Rattle.pr_status.specs.Outside.{AreTold, Outside}
 use Rattle.pr_status.proofs.Ended.{ends_on, in_time_same}
-use Rattle.pr_world.specs.Loading.{FileToLoad, all_found, reload_asked}
-use Rattle.pr_world.specs.Settings.{of_a_run}
-use Rattle.pr_world.specs.Step.{Step, next}
-use Rattle.pr_world.specs.declared.event.Event.TheVariants as event
-use Rattle.pr_world.specs.declared.event.NamedFile.{NamedFile}
-use Rattle.pr_world.specs.declared.report.Report.{Report}
+use Rattle.pr_text.specs.pr_world.Loading.{FileToLoad, all_found, reload_asked}
+use Rattle.pr_text.specs.pr_world.Settings.{of_a_run}
+use Rattle.pr_text.specs.pr_world.Step.{Step, next}
+use Rattle.pr_text.specs.pr_world.declared.event.Event.TheVariants as event
+use Rattle.pr_text.specs.pr_world.declared.event.NamedFile.{NamedFile}
+use Rattle.pr_text.specs.pr_world.declared.report.Report.{Report}
 use Rattle.pr_run.specs.Files.{HasNames}
 use Rattle.pr_run.specs.Rows.{IsBadIn}
 use Rattle.pr_run.specs.Standing.{Gives}

@@ -1,12 +1,12 @@
 use Rattle.std.proofs.Common.{◌≡◌, ◌∙◌, Ok, Err, length, refl, sym, subst}
-use Rattle.pr_script.specs.declared.order.Order.TheVariants as order
+use Rattle.pr_reader.specs.pr_script.declared.order.Order.TheVariants as order
 use Rattle.pr_queue.specs.Standing as waiting
 use Rattle.pr_status.specs.Outside.{Outside}
 use Rattle.pr_status.proofs.Ended.{ends_on, in_time_same}
 use Rattle.pr_status.proofs.Streams.{appends_none}
-use Rattle.pr_world.proofs.Refusals.{refused_files_are_told}
-use Rattle.pr_world.specs.Loading.{reload_asked}
-use Rattle.pr_world.specs.Settings.{of_a_run}
+use Rattle.pr_text.proofs.WorldRefusals.{refused_files_are_told}
+use Rattle.pr_text.specs.pr_world.Loading.{reload_asked}
+use Rattle.pr_text.specs.pr_world.Settings.{of_a_run}
 use Rattle.pr_run.specs.Rows.{IsBadIn}
 use Rattle.pr_run.specs.Standing.{Gives}
 use Rattle.pr_run.specs.Told.{asks_for, asks_in_time, content_by}

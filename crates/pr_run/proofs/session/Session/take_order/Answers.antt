@@ -1,7 +1,7 @@
 use Rattle.std.proofs.Common.{◌≡◌, ◌∙◌, ℕ, List, Ok, Err, IfErr, OnOk, length, refl, sym, ap, subst}
-use Rattle.pr_script.specs.declared.order.Numbered.{Numbered}
-use Rattle.pr_script.specs.declared.order.Order.{Order}
-use Rattle.pr_script.specs.declared.order.Order.TheVariants as order
+use Rattle.pr_reader.specs.pr_script.declared.order.Numbered.{Numbered}
+use Rattle.pr_reader.specs.pr_script.declared.order.Order.{Order}
+use Rattle.pr_reader.specs.pr_script.declared.order.Order.TheVariants as order
 use Rattle.pr_status.specs.Outside.{AreTold, Outside}
 use Rattle.pr_run.specs.Standing.{Answers, Leaves}
 use Rattle.pr_run.specs.Replies.{bad_line_reply, flush_reply, receiver_reply}

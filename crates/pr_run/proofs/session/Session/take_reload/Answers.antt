@@ -1,10 +1,10 @@
 use Rattle.std.proofs.Common.{◌≡◌, ◌∙◌, ℕ, List, Option, Some, length, sym, ap, subst}
 use Rattle.pr_status.specs.Asks.{Asks}
 use Rattle.pr_status.specs.Outside.{AreTold, Outside}
-use Rattle.pr_world.specs.Loading.{reload_asked}
-use Rattle.pr_world.specs.Outcome.{IsNotBefore}
-use Rattle.pr_world.specs.Settings.{of_a_run}
-use Rattle.pr_world.specs.Step.{Step}
+use Rattle.pr_text.specs.pr_world.Loading.{reload_asked}
+use Rattle.pr_text.specs.pr_world.Outcome.{IsNotBefore}
+use Rattle.pr_text.specs.pr_world.Settings.{of_a_run}
+use Rattle.pr_text.specs.pr_world.Step.{Step}
 use Rattle.pr_run.specs.Keeping.{Run}
 use Rattle.pr_run.specs.Standing.{Gives}
 use Rattle.pr_run.specs.Told.{asks_for, content_by}

@@ -1,6 +1,6 @@
 use Rattle.std.proofs.Common.{◌+◌, ◌-◌, ◌*◌, ◌<◌, ◌≤◌, ℕ, List}
-use Rattle.pr_rules.specs.Groups.{Group}
-use Rattle.pr_rules.specs.Settings.{Settings}
+use Rattle.pr_group.specs.pr_rules.Groups.{Group}
+use Rattle.pr_group.specs.pr_rules.Settings.{Settings}
 use Rattle.pr_test_rounds.specs.Rounds.{AreApart}
 use Rattle.pr_unit.specs.Run.{HasRun}
 use Rattle.pr_unit.proofs.run.Run.advance.Given as goal

@@ -1,6 +1,6 @@
 use Rattle.std.proofs.Common.{ℕ, ◌+◌, ◌<◌, ap, subst, refl, sym, map, length, arith}
-use Rattle.pr_world.specs.Step.{world_after}
-use Rattle.pr_verdict.specs.Events.{eval_at}
+use Rattle.pr_expected.specs.pr_world.Step.{world_after}
+use Rattle.pr_expected.specs.pr_verdict.Events.{eval_at}
 use Rattle.pr_test_rounds.specs.Rounds.{IsInRound}
 use Rattle.pr_unit.specs.Kept.{StandsForWorld}
 use Rattle.pr_unit.proofs.Runs.{round_run}

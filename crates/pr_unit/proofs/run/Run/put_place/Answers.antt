@@ -1,7 +1,7 @@
 use Rattle.std.proofs.Common.{◌≡◌, ◌+◌, List, ap, subst, ◌∙◌, refl, sym, arith}
-use Rattle.pr_inputs.specs.declared.input.InputSeries.{InputSeries}
-use Rattle.pr_intake.specs.Intake.{HasTaken}
-use Rattle.pr_testfile.specs.Series.{entries_at}
+use Rattle.pr_feeding.specs.pr_inputs.declared.input.InputSeries.{InputSeries}
+use Rattle.pr_feeding.specs.pr_intake.Intake.{HasTaken}
+use Rattle.pr_feeding.specs.pr_testfile.Series.{entries_at}
 use Rattle.pr_feeding.specs.Feeding.{HasFed}
 use Rattle.pr_unit.proofs.Runs.{place_run}
 use Rattle.pr_unit.proofs.run.Run.put_place.Goals as goal
