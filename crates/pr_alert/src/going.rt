@@ -2,8 +2,8 @@
 ghost use Rattle.std.specs.Prelude.{◌≡◌, ◌+◌, ◌≤◌, ◌^◌, nat_le};
 ghost use Rattle.pr_alert.specs.Going.{begun, found_or_begun, found_record, kept_firing, kept_over, missing_record, refreshed, with_firing};
 
-use pr_lineage::time::{Ms, Span};
 use pr_lineage::{Found, Record, State};
+use pr_time::{Ms, Span};
 
 /// How long an alert that is over is known, in milliseconds. (Prometheus: rules/alerting.go,
 /// resolvedRetention.)

@@ -7,8 +7,8 @@ ghost use Rattle.pr_alert.specs.Merging.{merged, moment};
 ghost use Rattle.pr_alert.specs.Turns.{HasTurn, turn};
 
 use crate::going::{found, missing};
-use pr_lineage::time::{Ms, Span};
 use pr_lineage::{Found, Record};
+use pr_time::{Ms, Span};
 use std::cmp::Ordering;
 use std::collections::VecDeque;
 

@@ -16,9 +16,9 @@ use crate::restoring::restored;
 use crate::samples::samples_of_all;
 use crate::sending::needs_sending;
 use pr_labels::Item;
-use pr_lineage::time::{Ms, Span};
 use pr_lineage::{Found, Record, State};
 use pr_num::{Num, Point};
+use pr_time::{Ms, Span};
 use std::alloc::{AllocError, Global};
 use std::marker::Model;
 

@@ -4,8 +4,8 @@ ghost use Rattle.pr_lineage.specs.Restoring.{cut_to_seconds, moved_from, restore
 ghost use Rattle.pr_num.specs.declared.value.Point.TheVariants.{Value};
 ghost use Rattle.pr_alert.specs.WrittenTimes.{taken};
 
-use pr_lineage::time::{Ms, Span};
 use pr_num::{Num, Point};
+use pr_time::{Ms, Span};
 
 /// The time in which a restored alert does not come to fire, in milliseconds. (Prometheus: the flag
 /// rules.alert.for-grace-period.)

@@ -2,8 +2,8 @@
 ghost use Rattle.std.specs.Prelude.{◌≡◌};
 ghost use Rattle.pr_lineage.specs.Records.{is_due, is_due_since};
 
-use pr_lineage::time::Ms;
 use pr_lineage::{Record, State};
+use pr_time::Ms;
 
 /// How long an alert that was sent is not sent again, in milliseconds. (Prometheus: the flag
 /// rules.alert.resend-delay.)

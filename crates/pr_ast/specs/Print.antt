@@ -2,7 +2,7 @@
 use Rattle.std.specs.Prelude.{ℕ, ◌==◌, Bool, true, false, Option, Some, None, List, [], ◌∷◌, ◌++◌, codes, flat_map, if◌then◌else◌}
 use Rattle.pr_num.specs.Shown.{shown}
 use Rattle.pr_lex.specs.pr_time.SpanShown.{shown_span}
-use Rattle.pr_lex.specs.pr_strings.Quoted.{quoted_text}
+use Rattle.pr_labels.specs.pr_strings.Quoted.{quoted_text}
 use Rattle.pr_lex.specs.Signs.{sign_text}
 use Rattle.pr_lex.specs.declared.token.Sign.TheVariants.{Assign, NotEqual as NotEqualSign, Like as LikeSign, NotLike as NotLikeSign}
 use Rattle.pr_labels.specs.declared.matching.Matching.{Matching}

@@ -11,13 +11,31 @@ mod reaching;
 mod selector;
 mod tree;
 
+// What crates above name of those below.
+pub mod words_crate {
+    pub use pr_labels::words_crate::{Items, Text};
+}
+
+pub mod num {
+    pub use pr_num::Num;
+}
+
+pub mod time {
+    pub use pr_lex::time::{Ms, Span, read_span};
+}
+
+pub mod labels_crate {
+    pub use pr_labels::{Card, Grouping, Item, Labels, METRIC_LABEL, Matching, is_label_name};
+}
+
+pub mod lex {
+    pub use pr_lex::{
+        LexError, LexKind, Sign, Token, TokenKind, Word, first_tokens, tokens, word_of,
+    };
+}
+
 pub use names::{AggOp, BinOp, Func, func_of};
 pub use place::Place;
-pub use pr_labels as labels;
-pub use pr_labels::words_crate as words_crate;
-pub use pr_lex as lex;
-pub use pr_lex::time as time;
-pub use pr_num as num;
 pub use printing::print;
 pub use reaching::reach;
 pub use selector::{MatchSign, MatchText, Selector};

@@ -31,9 +31,9 @@ ghost use Rattle.pr_ast.specs.Print.{
 
 use crate::selector::{MatchSign, MatchText, Selector};
 use crate::tree::{Expr, ExprKind};
+use pr_labels::strings::write_string;
 use pr_labels::words_crate::Text;
 use pr_labels::{Card, Grouping, Matching};
-use pr_lex::strings::write_string;
 use pr_lex::time::{Span, write_span};
 use pr_num::Num;
 use std::alloc::AllocError;

@@ -10,10 +10,30 @@ mod running;
 mod telling;
 mod times;
 
-pub use pr_backfill_texts::checks as checks;
-pub use pr_engine as engine;
-pub use pr_engine::world as world;
-pub use pr_test_command as test_command;
-pub use pr_test_command::{range as range, slide as slide};
+// What crates above name of those below.
+pub mod world {
+    pub use pr_engine::world::{Event, Report};
+}
+
+pub mod range {
+    pub use pr_test_command::range::Ranges;
+}
+
+pub mod slide {
+    pub use pr_test_command::slide::SlidingRanges;
+}
+
+pub mod engine {
+    pub use pr_engine::{ApplyError, Engine, StartError};
+}
+
+pub mod checks {
+    pub use pr_backfill_texts::checks::{Metrics, RuleFiles};
+}
+
+pub mod test_command {
+    pub use pr_test_command::test_rules;
+}
+
 pub use running::backfill;
 pub use times::Times;

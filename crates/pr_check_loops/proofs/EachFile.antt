@@ -2,7 +2,7 @@
 use Rattle.std.proofs.Common.{◌≡◌, ℕ, ◌+◌, ◌≤◌, zero, suc, Bool, true, false, ◌||◌, List, [], ◌∷◌, ◌++◌, length, take, map, flat_map, Result, Ok, Err, IsErrAnd, refl, sym, ap, ◌∙◌, subst, append_assoc, append-nil, length-append, arith}
 use Rattle.std.specs.declared.option.Option.{Option}
 use Rattle.std.specs.Io.KnownBytes.{Appends}
-use Rattle.pr_status.specs.pr_outside.Meant.{Content}
+use Rattle.pr_outside.specs.Meant.{Content}
 use Rattle.pr_status.proofs.Streams.{appends_on, appends_none}
 use Rattle.pr_status.specs.Asks.{Asks, AsksAt, AsksBy, asked_by}
 use Rattle.pr_status.specs.Ends.{Place, at_input, at_file, at_output, anywhere, place_of}

@@ -6,7 +6,7 @@ ghost use Rattle.pr_status.specs.Outside.{AreTold, Held, Outside};
 ghost use Rattle.pr_check_loops.specs.FileChecks.{AreChecked, IsFilesFront, MeansFileCheck, Telling, all_asks, all_told};
 ghost use Rattle.pr_check_loops.specs.FileStops.{IsFileFront, Turned};
 
-use pr_status::outside_crate::{Files, Sink};
+use pr_outside::{Files, Sink};
 use pr_status::{Status, Stop, send, status_of};
 use std::alloc::Global;
 

@@ -8,7 +8,7 @@ ghost use Rattle.pr_check_loops.specs.Checks.{Checked};
 ghost use Rattle.pr_check_loops.specs.InputChecks.{MeansInputCheck};
 
 use crate::verdict::{Verdict, status_of};
-use pr_status::outside_crate::{Sink, Source};
+use pr_outside::{Sink, Source};
 use pr_status::{Status, Stop, send};
 use std::alloc::{AllocError, Global};
 

@@ -1,9 +1,9 @@
 -- A walk over the name of one rule file.
 use Rattle.std.proofs.Common.{◌≡◌, ℕ, List, [], ◌∷◌, ◌++◌, Bool, true, Option, Result, refl, sym, ap, ◌∙◌, subst, length}
-use Rattle.pr_status.specs.pr_outside.Meant.{Content}
-use Rattle.pr_status.specs.Asks.{AsksBy}
-use Rattle.pr_status.specs.Outside.{AreTold, Held}
-use Rattle.pr_status.specs.declared.status.Stop.{Stop}
+use Rattle.pr_loading.specs.pr_outside.Meant.{Content}
+use Rattle.pr_loading.specs.pr_status.Asks.{AsksBy}
+use Rattle.pr_loading.specs.pr_status.Outside.{AreTold, Held}
+use Rattle.pr_loading.specs.pr_status.declared.status.Stop.{Stop}
 use Rattle.pr_loading.specs.Loading.{Holding, Made, goes_on, holding_by, made_by, walk}
 use Rattle.pr_checks.specs.RuleFiles.{file_told, rules_told, with_file}
 use Rattle.pr_checks.specs.declared.rules.RuleText.{RuleText}

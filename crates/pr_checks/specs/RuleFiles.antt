@@ -1,7 +1,7 @@
 -- What `check rules` tells of a file.
 use Rattle.std.specs.Prelude.{ℕ, true, false, List, [], ◌∷◌, ◌++◌, codes, decimal, flat_map, Option}
 use Rattle.pr_check_loops.specs.FileChecks.{Told}
-use Rattle.pr_status.specs.Outside.{Held}
+use Rattle.pr_loading.specs.pr_status.Outside.{Held}
 use Rattle.pr_loading.specs.Loading.{Holding, holds, is_missing, is_too_large, Made, goes_on, holding_by}
 use Rattle.pr_rulefile.specs.File.{RuleReading, gives_file, gives_problems, rule_file_of}
 use Rattle.pr_rulefile.specs.Groups.{rule_count}

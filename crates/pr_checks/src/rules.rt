@@ -1,17 +1,17 @@
 // What `check rules` tells of a file.
 ghost use Rattle.std.specs.Prelude.{◌≡◌, ◌<◌, ◌≤◌, ◌^◌, ◌++◌, ℕ, List, Option, Some, OnOk, IfOk, length, flat_map};
-ghost use Rattle.pr_status.specs.pr_outside.Contents.{IsFound, IsWithinLimit, file_limit};
+ghost use Rattle.pr_loading.specs.pr_outside.Contents.{IsFound, IsWithinLimit, file_limit};
 ghost use Rattle.pr_rulefile.specs.File.{rule_file_of};
 ghost use Rattle.pr_checks.specs.Problems.{problem_line};
 ghost use Rattle.pr_checks.specs.RuleFiles.{checking_text, failed_line, problems_text, found_told, missing, file_told, reading_told, rules_found, success, success_text, too_large};
 
 use crate::problems::push_problem;
 use pr_check_loops::FileCheck;
+use pr_loading::outside::{Files, Found};
+use pr_loading::status::Stop;
 use pr_loading::{Taker, load_each};
 use pr_rulefile::kinds::push_number;
 use pr_rulefile::{Problem, RuleError, check};
-use pr_status::Stop;
-use pr_status::outside_crate::{Files, Found};
 use pr_words::Items;
 use std::alloc::{AllocError, Global};
 use std::mem::replace;

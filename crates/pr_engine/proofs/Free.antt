@@ -11,9 +11,9 @@ use Rattle.pr_manager.specs.pr_range.Asks.{LastAsks, Passed}
 use Rattle.pr_world.specs.pr_rules.Costs.{PassedByRules, group_cost}
 use Rattle.pr_world.specs.pr_rules.Evaluations.{group_step}
 use Rattle.pr_world.specs.pr_rules.Groups.{Group, is_group_named}
-use Rattle.pr_world.specs.pr_types.Typed.{checked}
-use Rattle.pr_world.specs.pr_types.declared.kind.TypeFault.{TypeFault}
-use Rattle.pr_world.specs.pr_types.declared.kind.ValueType.{ValueType}
+use Rattle.pr_types.specs.Typed.{checked}
+use Rattle.pr_types.specs.declared.kind.TypeFault.{TypeFault}
+use Rattle.pr_types.specs.declared.kind.ValueType.{ValueType}
 use Rattle.pr_world.specs.Outcome.{IsNotBefore, refuse}
 use Rattle.pr_world.specs.Query.{parsed_outcome, typed_outcome}
 use Rattle.pr_world.specs.Rounds.{eval_after, eval_by, evaluation_outcome}

@@ -11,12 +11,12 @@ use Rattle.pr_ast.specs.pr_lex.declared.fault.LexKind.{LexKind}
 use Rattle.pr_manager.specs.pr_group.Keeping.{MayEvaluateOver}
 use Rattle.pr_world.specs.pr_parse.declared.fault.ParseKind.{ParseKind}
 use Rattle.pr_world.specs.pr_parse.Parsed.{Parsed, gives_tree, gives_lex_fault, gives_fault}
-use Rattle.pr_world.specs.pr_types.declared.kind.ValueType.{ValueType}
-use Rattle.pr_world.specs.pr_types.declared.kind.TypeKind.{TypeKind}
-use Rattle.pr_world.specs.pr_types.declared.kind.TypeFault.{TypeFault}
-use Rattle.pr_world.specs.pr_types.Signatures.{fault as type_fault}
-use Rattle.pr_world.specs.pr_types.Checking.{MayEvaluate}
-use Rattle.pr_world.specs.pr_types.Typed.{checked}
+use Rattle.pr_types.specs.declared.kind.ValueType.{ValueType}
+use Rattle.pr_types.specs.declared.kind.TypeKind.{TypeKind}
+use Rattle.pr_types.specs.declared.kind.TypeFault.{TypeFault}
+use Rattle.pr_types.specs.Signatures.{fault as type_fault}
+use Rattle.pr_types.specs.Checking.{MayEvaluate}
+use Rattle.pr_types.specs.Typed.{checked}
 use Rattle.pr_world.specs.pr_query.declared.fault.Fault.{Fault}
 use Rattle.pr_world.specs.pr_query.declared.fault.FaultKind.{FaultKind}
 use Rattle.pr_world.specs.pr_query.declared.value.Value.{Value}

@@ -7,9 +7,9 @@ use Rattle.pr_world.specs.pr_parse.Parsed.{Parsed, gives_tree, gives_lex_fault, 
 use Rattle.pr_manager.specs.Rounds.{eval_cost}
 use Rattle.pr_world.specs.pr_query.Cost.{cost, nothing_passed}
 use Rattle.pr_world.specs.pr_rules.Costs.{PassedByRules}
-use Rattle.pr_world.specs.pr_types.Typed.{checked}
-use Rattle.pr_world.specs.pr_types.declared.kind.TypeFault.{TypeFault}
-use Rattle.pr_world.specs.pr_types.declared.kind.ValueType.{ValueType}
+use Rattle.pr_types.specs.Typed.{checked}
+use Rattle.pr_types.specs.declared.kind.TypeFault.{TypeFault}
+use Rattle.pr_types.specs.declared.kind.ValueType.{ValueType}
 use Rattle.pr_world.specs.Settings.{Settings, of_a_run}
 use Rattle.pr_world.specs.Step.{Step, outcome_in_time, step_by, time_of}
 use Rattle.pr_world.specs.World.{World}

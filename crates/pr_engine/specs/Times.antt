@@ -1,6 +1,6 @@
 -- Times and moments, beside that of the last event.
 use Rattle.std.specs.Prelude.{ℕ, ℤ, pos, ◌-ℤ◌, ◌≤ℤ◌, Option, Some, None}
-use Rattle.pr_world.specs.pr_types.Typed.{kept}
+use Rattle.pr_types.specs.Typed.{kept}
 
 -- the moment up to which samples may be forgotten at a time: they are kept for 45 days
 abbrev pub forgotten_at : ℕ → ℤ

@@ -12,10 +12,20 @@ mod standing;
 mod taken;
 mod telling;
 
+// What crates above name of those below.
+pub mod row {
+    pub use pr_row::laws;
+}
+
+pub mod world {
+    pub use pr_world::{Event, NamedFile, Report};
+}
+
+pub mod head {
+    pub use pr_head::Head;
+}
+
 pub use engine::Engine;
 pub use fault::{ApplyError, Cause, StartError};
 pub use keeping::keep;
 pub use opening::history;
-pub use pr_head as head;
-pub use pr_row as row;
-pub use pr_world as world;

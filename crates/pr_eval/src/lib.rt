@@ -12,7 +12,15 @@ mod select;
 mod selected;
 mod subquery;
 
+// What crates above name of those below.
+pub mod head {
+    pub use pr_range_calls::head::Head;
+}
+
+pub mod range {
+    pub use pr_range_calls::range::{PlainRanges, Ranges};
+}
+
 pub use evaluate::eval;
 pub use pr_range_calls::query_crate::{FaultKind, Value};
 pub use pr_range_calls::values::EvalError;
-pub use pr_range_calls::{head as head, range as range};

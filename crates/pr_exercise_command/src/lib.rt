@@ -7,6 +7,10 @@ mod session;
 mod tally;
 mod targets;
 
-pub use pr_run as run;
+// What crates above name of those below.
+pub mod run {
+    pub use pr_run::{Worlds, run};
+}
+
 pub use rounds::Rounds;
 pub use running::exercise;

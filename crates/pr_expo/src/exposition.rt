@@ -1,5 +1,5 @@
 // An exposition, and complaints about it.
-use pr_expo_line::labels::Labels;
+use pr_expo_line::labels_crate::Labels;
 use pr_expo_line::num::Num;
 use pr_expo_line::words_crate::{Items, Text};
 use pr_expo_line::{ExpoKind, FamilyKind};

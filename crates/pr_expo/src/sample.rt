@@ -9,7 +9,7 @@ ghost use Rattle.pr_expo.specs.Families.{value_by};
 ghost use Rattle.pr_expo_line.specs.Sound.{HasDistinctNames, IsSignedDigits, IsTime};
 
 use pr_expo_line::Head;
-use pr_expo_line::labels::{Labels, METRIC_LABEL, Pair};
+use pr_expo_line::labels_crate::{Labels, METRIC_LABEL, Pair};
 use pr_expo_line::num::Num;
 use pr_expo_line::words_crate::Text;
 use std::alloc::{AllocError, Global};

@@ -12,6 +12,19 @@ mod plain;
 mod runs;
 mod steps;
 
+// What crates above name of those below.
+pub mod words_crate {
+    pub use pr_labels::words_crate::{Items, Text, line_len, without_return};
+}
+
+pub mod num {
+    pub use pr_num::{Num, read};
+}
+
+pub mod labels_crate {
+    pub use pr_labels::{Labels, METRIC_LABEL, Pair};
+}
+
 pub use examples::{
     lines_of_families, lines_of_samples, lines_that_are_no_text, lines_that_are_passed_over,
     lines_with_a_bad_name, lines_with_a_bad_time, lines_with_a_bad_type, lines_with_a_bad_value,
@@ -24,6 +37,3 @@ pub use laws::{
 };
 pub use line::{LineFault, read_line};
 pub use place::{ExpoKind, FamilyKind, Head, Measured, Read};
-pub use pr_labels as labels;
-pub use pr_labels::words_crate as words_crate;
-pub use pr_num as num;

@@ -7,8 +7,18 @@ mod longest;
 mod numbers;
 mod progress;
 
+// What crates above name of those below.
+pub mod tmpl {
+    pub use pr_testfile::tmpl::External;
+}
+
+pub mod inputs {
+    pub use pr_inputs::Input;
+}
+
+pub mod testfile {
+    pub use pr_testfile::{AlertCheck, ExprCheck, Test, TestFile, founds_in_order};
+}
+
 pub use feed::Feed;
 pub use longest::places;
-pub use pr_inputs as inputs;
-pub use pr_testfile as testfile;
-pub use pr_testfile::tmpl as tmpl;

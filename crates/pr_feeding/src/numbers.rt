@@ -3,7 +3,7 @@ ghost use Rattle.std.specs.Prelude.{◌≡◌, IfSome, Some, slice_get};
 ghost use Rattle.pr_intake.specs.pr_head.Holds.{sets_of};
 
 use pr_intake::head::Head;
-use pr_intake::labels::Labels;
+use pr_testfile::labels_crate::Labels;
 
 /// The number of the series with these labels, where the head has it: the one that is known, where
 /// that is right, so that nothing is searched for.

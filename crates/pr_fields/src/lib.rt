@@ -14,6 +14,29 @@ mod problem;
 mod scalars;
 mod templates;
 
+// What crates above name of those below.
+pub mod grammar {
+    pub use pr_kinds::grammar::no_span;
+}
+
+pub mod parse {
+    pub use pr_kinds::parse::{ParseError, parse};
+}
+
+pub mod types {
+    pub use pr_kinds::types::Checked;
+}
+
+pub mod tmpl {
+    pub use pr_tmpl::{External, Template, TmplError};
+}
+
+pub mod kinds {
+    pub use pr_kinds::{
+        QueryKind, expo_word, push_number, push_number_after, push_query_kind, whole_or_none,
+    };
+}
+
 pub use access::{
     field, fields_in, fields_of, fields_under, items_in, items_of, items_under, key_line_of,
     key_of, line_of, text_of, value_of, written, written_text,
@@ -28,9 +51,6 @@ pub use found::{
 pub use labels::{label_value, labels_problems, pairs_of, put_labels};
 pub use maps::{ItemForm, MapForm, list_problems, map_problems, require, texts_problems};
 pub use order::in_order;
-pub use pr_kinds as kinds;
-pub use pr_kinds::{grammar as grammar, parse as parse, types as types};
-pub use pr_tmpl as tmpl;
 pub use print::push_problem_kind;
 pub use problem::{Problem, ProblemKind};
 pub use scalars::{

@@ -12,13 +12,20 @@ mod quantiles;
 mod rows;
 mod values;
 
+// What crates above name of those below.
+pub mod matching {
+    pub use pr_match::{Matcher, Pattern, Selection};
+}
+
+pub mod ordered {
+    pub use pr_ordered::Ordered;
+}
+
 pub use fn_fault::FnFault;
 pub use histograms::histogram_quantile;
 pub use instants::calendar;
 pub use label_functions::{label_join, label_replace};
 pub use laws::dates_by_example;
-pub use pr_match as matching;
-pub use pr_ordered as ordered;
 pub use pr_ordered::vectors_crate::Part;
 pub use rows::keep_least;
 pub use values::{at_least, at_most, clamp, map_values, scalar, sign, within, without_metrics};

@@ -9,6 +9,15 @@ mod neighbours;
 mod parts;
 mod summarize;
 
+// What crates above name of those below.
+pub mod words_crate {
+    pub use pr_window::words_crate::{Items, Steps};
+}
+
+pub mod window {
+    pub use pr_window::{Fold, fold_items};
+}
+
 pub use answers::{from_neighbours, from_total, is_of_neighbours, is_of_total, some_value};
 pub use folds::{Greatest, Least, Sequence, Totals};
 pub use gains::units_of;
@@ -18,6 +27,4 @@ pub use parts::{
     beside, differ, falls, greater, is_special, joined, lesser, one_if, spot_alone, total_alone,
     value_alone,
 };
-pub use pr_window as window;
-pub use pr_window::words_crate as words_crate;
 pub use summarize::Summarize;

@@ -3,7 +3,7 @@ ghost use Rattle.std.specs.Prelude.{◌≡◌, ◌++◌, map, IfOk, option_map};
 ghost use Rattle.pr_grammar.specs.Seen.{kind_of, name_kind, other_name, has_colon, seen, seen_tokens, place_of};
 ghost use Rattle.pr_grammar.specs.Grammar.{through};
 
-use pr_ast::labels::METRIC_LABEL;
+use pr_ast::labels_crate::METRIC_LABEL;
 use pr_ast::lex::{Sign, Token, TokenKind, Word, word_of};
 use pr_ast::{Func, Place, func_of};
 use std::alloc::{AllocError, Global};

@@ -10,7 +10,7 @@ ghost use Rattle.pr_grammar.specs.Reader.{HasSide};
 use crate::kind::Lexed;
 use crate::lists::labels_in;
 use crate::tokens::{after, after_word, matching_in, side_in};
-use pr_ast::labels::{Card, Matching};
+use pr_ast::labels_crate::{Card, Matching};
 use pr_ast::lex::{Sign, Word};
 use pr_ast::words_crate::{Items, Text};
 use pr_forms::Fault;

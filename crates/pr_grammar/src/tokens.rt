@@ -61,7 +61,7 @@ ghost use Rattle.pr_grammar.specs.Reader.{argument_starts};
 ghost use Rattle.pr_grammar.specs.GrammarTable.{starts_unary, queries};
 
 use crate::kind::{Kind, Level, Lexed, place_of};
-use pr_ast::labels::Card;
+use pr_ast::labels_crate::Card;
 use pr_ast::lex::{Sign, TokenKind, Word};
 use pr_ast::num::Num;
 use pr_ast::time::Span;

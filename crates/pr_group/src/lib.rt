@@ -13,10 +13,38 @@ mod restoring;
 mod rules;
 mod written;
 
+// What crates above name of those below.
+pub mod rulefile {
+    pub use pr_rule_step::rulefile::{GroupDef, RuleDef, RuleError, read};
+}
+
+pub mod lineage {
+    pub use pr_rule_step::lineage::Found;
+}
+
+pub mod head {
+    pub use pr_rule_step::head::Head;
+}
+
+pub mod range {
+    pub use pr_ready::range::{PlainRanges, Ranges};
+}
+
+pub mod eval {
+    pub use pr_rule_step::eval::{EvalError, Value, eval};
+}
+
+pub mod intake {
+    pub use pr_rule_step::intake::mark;
+}
+
+pub mod alert {
+    pub use pr_rule_step::alert::{Record, State, records_of_a_lineage_stand_for_it};
+}
+
+pub mod rule_result {
+    pub use pr_rule_step::rule_result::rules_that_read_have_templates;
+}
+
 pub use group::GroupOver;
 pub use laws::a_kept_group_stays;
-pub use pr_ready::range as range;
-pub use pr_rule_step::{
-    alert as alert, eval as eval, head as head, intake as intake, lineage as lineage,
-    rule_result as rule_result, rulefile as rulefile,
-};

@@ -8,6 +8,23 @@ mod examples;
 mod laws;
 mod spot;
 
+// What crates above name of those below.
+pub mod words_crate {
+    pub use pr_labels::words_crate::Items;
+}
+
+pub mod num {
+    pub use pr_num::{Num, Point};
+}
+
+pub mod time {
+    pub use pr_time::{Ms, Span};
+}
+
+pub mod labels_crate {
+    pub use pr_labels::{Item, Labels, Pair, copy_pairs};
+}
+
 pub use append::Append;
 pub use entry::Entry;
 pub use examples::{
@@ -19,8 +36,4 @@ pub use laws::{
     chosen_are_those_that_pass, more_entries_keep_lawful, put_keeps_lawful, selected_series_rise,
     times_of_a_series_rise,
 };
-pub use pr_labels as labels;
-pub use pr_labels::words_crate as words_crate;
-pub use pr_num as num;
-pub use pr_time as time;
 pub use spot::Spot;

@@ -5,7 +5,11 @@ mod digits;
 mod examples;
 mod humanize;
 
+// What crates above name of those below.
+pub mod num {
+    pub use pr_num::{Num, read};
+}
+
 pub use digits::push_byte;
 pub use examples::values_are_written_so;
 pub use humanize::{push_duration, push_fixed, push_humanize, push_percentage, push_shown};
-pub use pr_num as num;

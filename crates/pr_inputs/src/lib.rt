@@ -11,10 +11,14 @@ mod steps;
 mod stretch;
 mod values;
 
+// What crates above name of those below.
+pub mod time {
+    pub use pr_time::{Ms, Span};
+}
+
 pub use examples::{items_are_read_so, no_items_are_read_so, texts_are_read_so};
 pub use input::{Input, InputSeries};
 pub use number::number_of;
 pub use point::{point_in, size};
-pub use pr_time as time;
 pub use stretch::Stretch;
 pub use values::{Values, read_values};

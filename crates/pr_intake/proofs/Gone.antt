@@ -3,9 +3,9 @@
 use Rattle.std.proofs.Common.{◌≡◌, ℕ, Bool, not, cond, List, [], ◌∷◌, ◌++◌, fold, refl, sym, ap, ◌∙◌}
 use Rattle.std.specs.Prelude.{Result, Ok, Err, OnOk, IfOk, Vec}
 use Rattle.std.specs.declared.alloc.Global.{Global}
-use Rattle.pr_labels.specs.declared.pair.Pair.{Pair}
-use Rattle.pr_labels.specs.Rising.{is_among, with_labels}
-use Rattle.pr_labels.proofs.LabelOrder.{among_fold}
+use Rattle.pr_head.specs.pr_labels.declared.pair.Pair.{Pair}
+use Rattle.pr_head.specs.pr_labels.Rising.{is_among, with_labels}
+use Rattle.pr_head.proofs.LabelsLabelOrder.{among_fold}
 use Rattle.pr_head.specs.pr_history.declared.entry.Entry.{Entry}
 use Rattle.pr_puts.specs.Puts.{admitted, label_sets_of, marker, markers}
 use Rattle.pr_puts.proofs.Putting.{picks}

@@ -2,8 +2,8 @@
 use Rattle.std.proofs.Common.{◌≡◌, ℕ, Bool, not, List, [], ◌∷◌, ◌++◌, map, filter, refl, ap, ◌∙◌}
 use Rattle.std.proofs.lemmas.List.{map-append}
 use Rattle.std.proofs.lemmas.List.Elements.{filter-append}
-use Rattle.pr_labels.specs.declared.pair.Pair.{Pair}
-use Rattle.pr_labels.specs.Rising.{is_among}
+use Rattle.pr_head.specs.pr_labels.declared.pair.Pair.{Pair}
+use Rattle.pr_head.specs.pr_labels.Rising.{is_among}
 use Rattle.pr_head.specs.pr_history.declared.entry.Entry.{Entry}
 use Rattle.pr_puts.specs.Puts.{marker, markers}
 

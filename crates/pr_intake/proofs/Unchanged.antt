@@ -2,9 +2,9 @@
 use Rattle.std.proofs.Common.{◌≡◌, ℕ, Bool, true, false, not, cond, List, [], ◌∷◌, map, filter, refl, ap}
 use Rattle.std.proofs.lemmas.Bool.{and_parts, or_left, or_right}
 use Rattle.std.specs.Cmp.Lexicographic.{pointwise}
-use Rattle.pr_labels.specs.declared.pair.Pair.{Pair}
-use Rattle.pr_labels.specs.Order.{labels_eq}
-use Rattle.pr_labels.specs.Rising.{is_among}
+use Rattle.pr_head.specs.pr_labels.declared.pair.Pair.{Pair}
+use Rattle.pr_head.specs.pr_labels.Order.{labels_eq}
+use Rattle.pr_head.specs.pr_labels.Rising.{is_among}
 use Rattle.pr_puts.specs.Puts.{marker, markers}
 
 dropped : (b : Bool) (l : List Pair) (rest : List (List Pair)) → b ≡ true → rest ≡ [] → cond (not b) (l ∷ rest) rest ≡ []

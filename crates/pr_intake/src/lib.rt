@@ -8,8 +8,11 @@ mod same;
 mod taking;
 mod untold;
 
+// What crates above name of those below.
+pub mod head {
+    pub use pr_head::{Append, Head, Timed};
+}
+
 pub use marked::{mark, mark_if};
 pub use marking::{add_labels, put_markers, set_of};
-pub use pr_head as head;
-pub use pr_labels as labels;
 pub use taking::{is_shown, marker, put, put_if};

@@ -10,8 +10,8 @@ use crate::same::are_same;
 use crate::untold::mark_untold;
 use pr_head::Head;
 use pr_head::history::Entry;
+use pr_head::labels_crate::Labels;
 use pr_head::time::Ms;
-use pr_labels::Labels;
 use std::alloc::{AllocError, Global};
 
 // Puts rows behind others, and tells their series.

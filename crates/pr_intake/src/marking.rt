@@ -1,6 +1,6 @@
 // Stale markers.
 ghost use Rattle.std.specs.Prelude.{◌≡◌, [], ◌∷◌, List, IfOk, OnOk, OnErr, fold};
-ghost use Rattle.pr_labels.specs.Rising.{is_among, with_labels};
+ghost use Rattle.pr_head.specs.pr_labels.Rising.{is_among, with_labels};
 ghost use Rattle.pr_head.specs.pr_history.declared.entry.Entry.{Entry};
 ghost use Rattle.pr_head.specs.Holds.{Holds};
 ghost use Rattle.pr_puts.specs.Puts.{markers};
@@ -9,8 +9,8 @@ ghost use Rattle.pr_intake.specs.Intake.{HasTakenFront, Puts};
 use crate::taking::{marker, put};
 use pr_head::Head;
 use pr_head::history::Entry;
+use pr_head::labels_crate::Labels;
 use pr_head::time::Ms;
-use pr_labels::Labels;
 use std::alloc::{AllocError, Global};
 use std::collections::BTreeSet;
 

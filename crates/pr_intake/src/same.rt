@@ -2,7 +2,7 @@
 ghost use Rattle.std.specs.Prelude.{◌≡◌, ℕ, true, []};
 ghost use Rattle.pr_puts.specs.Puts.{markers};
 
-use pr_labels::Labels;
+use pr_head::labels_crate::Labels;
 
 /// Whether the lists have the same label sets in the same order. So they mostly have from one
 /// evaluation to the next, and then no series is gone.

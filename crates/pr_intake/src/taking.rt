@@ -8,9 +8,9 @@ ghost use Rattle.pr_intake.specs.Intake.{HasTaken, HasTakenFront, Puts, PutsIf};
 
 use pr_head::Head;
 use pr_head::history::{Append, Entry};
+use pr_head::labels_crate::Labels;
 use pr_head::num::Point;
 use pr_head::time::Ms;
-use pr_labels::Labels;
 use std::alloc::{AllocError, Global};
 
 fn is_added(answer: &Append) -> bool

@@ -9,8 +9,8 @@ use crate::marking::{is_among, set_of};
 use crate::same::are_same;
 use crate::taking::{append, marker};
 use pr_head::Head;
+use pr_head::labels_crate::Labels;
 use pr_head::time::Ms;
-use pr_labels::Labels;
 use std::alloc::{AllocError, Global};
 use std::collections::BTreeSet;
 

@@ -22,6 +22,7 @@ pub use Rattle.pr_strings.proofs.FormsPlaces
 pub use Rattle.pr_strings.proofs.FormsReadings
 pub use Rattle.pr_strings.proofs.FormsSound
 pub use Rattle.pr_strings.proofs.StringAnswers as StringsStringAnswers
+pub use Rattle.pr_strings.proofs.StringEnds as StringsStringEnds
 pub use Rattle.pr_strings.proofs.StringPublic as StringsStringPublic
 pub use Rattle.pr_strings.proofs.StringTable as StringsStringTable
 pub use Rattle.pr_strings.proofs.StringUtf8 as StringsStringUtf8

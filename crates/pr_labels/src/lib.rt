@@ -13,6 +13,15 @@ mod order_laws;
 mod pair;
 mod print;
 
+// What crates above name of those below.
+pub mod words_crate {
+    pub use pr_strings::words_crate::{Items, Steps, Text, line_len, without_return};
+}
+
+pub mod strings {
+    pub use pr_strings::{Kind, kind_of, read_string, write_string};
+}
+
 pub use examples::series_texts_by_example;
 pub use fault::LabelFault;
 pub use grouping::Grouping;
@@ -28,5 +37,3 @@ pub use order_laws::{
     label_order_is_total, label_sets_are_put_in_order, rising_lists_are_told_by_their_label_sets,
 };
 pub use pair::Pair;
-pub use pr_strings as strings;
-pub use pr_strings::words_crate as words_crate;

@@ -12,4 +12,3 @@ pub mod SignAt
 pub mod Lexed
 pub mod Worked
 pub use Rattle.pr_time.specs as pr_time
-pub use Rattle.pr_strings.specs as pr_strings

@@ -13,10 +13,13 @@ mod ties;
 mod token;
 mod words;
 
+// What crates above name of those below.
+pub mod time {
+    pub use pr_time::{Ms, Span, read_span, write_span};
+}
+
 pub use examples::{signs_by_example, words_by_example};
 pub use fault::{LexError, LexKind};
-pub use pr_strings as strings;
-pub use pr_time as time;
 pub use reader::{first_tokens, tokens};
 pub use text_examples::{texts_give_these_faults, texts_give_these_tokens};
 pub use ties::{numbers_are_the_unsigned_forms, unit_letters_go_on};

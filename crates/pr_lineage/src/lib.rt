@@ -10,6 +10,19 @@ mod record;
 mod restored;
 mod sending;
 
+// What crates above name of those below.
+pub mod words_crate {
+    pub use pr_history::words_crate::Items;
+}
+
+pub mod labels_crate {
+    pub use pr_history::labels_crate::copy_pairs;
+}
+
+pub mod history {
+    pub use pr_history::{Append, Entry};
+}
+
 pub use examples::{
     a_fault_changes_no_alert, alerts_are_written_as_samples, an_alert_fires_and_is_over,
     an_alert_is_kept_firing, an_alert_is_restored, an_alert_is_sent_again_after_a_minute,
@@ -17,8 +30,6 @@ pub use examples::{
 };
 pub use found::Found;
 pub use laws::{no_pending_alert_is_sent, records_are_in_label_order};
-pub use pr_history as history;
-pub use pr_history::{labels as labels, time as time, words_crate as words_crate};
 pub use record::{Record, State};
 pub use restored::Restored;
 pub use sending::Sending;

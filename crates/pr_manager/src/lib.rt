@@ -16,9 +16,24 @@ mod parting;
 mod reloading;
 mod waiting;
 
+// What crates above name of those below.
+pub mod head {
+    pub use pr_group::head::Head;
+}
+
+pub mod range {
+    pub use pr_group::range::{PlainRanges, Ranges};
+}
+
+pub mod eval {
+    pub use pr_group::eval::{EvalError, Value, eval};
+}
+
+pub mod group {
+    pub use pr_group::{GroupOver, a_kept_group_stays};
+}
+
 pub use answered::{Answered, admitted_in};
 pub use laws::kept_groups_stay;
 pub use loading::no_external;
 pub use manager::Manager;
-pub use pr_group as group;
-pub use pr_group::{eval as eval, head as head, range as range};

@@ -7,6 +7,15 @@ mod examples;
 mod joined;
 mod laws;
 
+// What crates above name of those below.
+pub mod labels_crate {
+    pub use pr_lineage::labels_crate::copy_pairs;
+}
+
+pub mod lineage {
+    pub use pr_lineage::{Found, Restored, Sending, State};
+}
+
 pub use batch::Batch;
 pub use examples::{
     a_name_is_added_once, a_receiver_is_given_what_was_offered_since_it_was_added,
@@ -18,5 +27,3 @@ pub use laws::{
     a_receiver_is_given_its_stream_in_order, notices_may_be_offered_in_parts,
     receivers_stay_within_their_bounds,
 };
-pub use pr_lineage as lineage;
-pub use pr_lineage::labels as labels;

@@ -5,5 +5,9 @@
 mod ordered;
 mod places;
 
+// What crates above name of those below.
+pub mod vectors_crate {
+    pub use pr_vectors::{Bucket, Part};
+}
+
 pub use ordered::Ordered;
-pub use pr_vectors as vectors_crate;

@@ -3,7 +3,7 @@ ghost use Rattle.pr_vectors.specs.pr_labels.Rising.{IsRising};
 ghost use Rattle.pr_ordered.specs.Entries.{IsPut, items_of, label_sets_of};
 
 use crate::places::{goes_behind, move_all, place, with_placed};
-use pr_vectors::labels::{Item, Labels};
+use pr_vectors::labels_crate::{Item, Labels};
 use std::alloc::{AllocError, Global};
 use std::collections::BTreeMap;
 use std::marker::Model;

@@ -4,7 +4,7 @@ ghost use Rattle.std.specs.Map.{keys_of};
 ghost use Rattle.pr_vectors.specs.pr_labels.Rising.{IsRising};
 ghost use Rattle.pr_ordered.specs.Entries.{AreBelow, IsPut, entries_of, item_entries, items_of};
 
-use pr_vectors::labels::{Item, Labels};
+use pr_vectors::labels_crate::{Item, Labels};
 use std::alloc::AllocError;
 use std::collections::BTreeMap;
 

@@ -13,6 +13,10 @@ mod selection;
 mod suffix;
 mod whole;
 
+// What crates above name of those below.
+pub mod grammar {
+    pub use pr_grammar::no_span;
+}
+
 pub use fault::{ParseError, ParseKind};
 pub use parsing::parse;
-pub use pr_grammar as grammar;

@@ -5,7 +5,7 @@ ghost use Rattle.pr_grammar.specs.Seen.{see};
 ghost use Rattle.pr_grammar.specs.Grammar.{part, at, operand, turn, operation, signed, through, joined, turned, signed_by, opened_by, closed_by, literal_at, selector_of, moved, range_made, offset_set, arguments, parameter, bare, grouping_by};
 ghost use Rattle.pr_parse.specs.Reader.{value_of, parameters_of};
 
-use pr_ast::labels::{Grouping, Matching};
+use pr_ast::labels_crate::{Grouping, Matching};
 use pr_ast::lex::Word;
 use pr_ast::num::Num;
 use pr_ast::time::Span;

@@ -2,10 +2,14 @@
 //! the words of the command line to `pr_top::promtool`.
 #![tactic(auto)]
 
+// What crates above name of those below.
+pub mod top {
+    pub use pr_top::promtool;
+}
+
 use pr_keep_sql::{DiskFile, SqlKeeper};
 use pr_outside::{DiskFiles, StdSink, StdSource};
 use pr_status::{RuntimeLine, Status, exit_of, words_of};
-pub use pr_top as top;
 use pr_top::promtool;
 use sqlite::Start;
 use std::process::ExitCode;

@@ -1,5 +1,5 @@
 use pr_ast::Place;
-use pr_ast::labels::Labels;
+use pr_ast::labels_crate::Labels;
 
 /// Why an expression gives nothing at a moment.
 #[derive(Debug, Drop)]

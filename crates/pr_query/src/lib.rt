@@ -11,6 +11,15 @@ mod range_examples;
 mod row_examples;
 mod value;
 
+// What crates above name of those below.
+pub mod types {
+    pub use pr_types::{Checked, Counts, compares, content, content_at, counts_in};
+}
+
+pub mod history {
+    pub use pr_vectors::history::Spot;
+}
+
 pub use call_examples::{
     dates_are_told, elements_are_counted, functions_are_called, labels_are_joined,
     ranges_are_taken, vectors_are_aggregated,
@@ -24,8 +33,6 @@ pub use fault::{Fault, FaultKind};
 pub use laws::{
     answers_are_vectors, chosen_series_are_in_label_order, equalities_choose_series_with_pairs,
 };
-pub use pr_types as types;
-pub use pr_vectors::history as history;
 pub use range_examples::{each_function_of_a_range_has_its_row, ranges_have_offsets_and_faults};
 pub use row_examples::{
     each_aggregation_has_its_row, each_function_of_values_has_its_row,

@@ -1,4 +1,4 @@
-use pr_ast::labels::Item;
+use pr_ast::labels_crate::Item;
 use pr_ast::words_crate::Items;
 use pr_num::Num;
 

@@ -1,7 +1,7 @@
 // Copies of notices.
 ghost use Rattle.std.specs.Prelude.{◌≡◌, IfOk};
 
-use pr_notices::labels::copy_pairs;
+use pr_notices::labels_crate::copy_pairs;
 use pr_notices::lineage::Sending;
 use pr_words::Items;
 use std::alloc::{AllocError, Global};

@@ -11,8 +11,6 @@ pub mod Rising
 pub mod Finishing
 pub use Rattle.pr_head.proofs.HistoryChoosing
 pub use Rattle.pr_head.proofs.HistoryLawful
-pub use Rattle.pr_folds.proofs.Over as FoldsOver
-pub use Rattle.pr_folds.proofs.Summaries as FoldsSummaries
 pub use Rattle.pr_head.proofs.Arrivals as HeadArrivals
 pub use Rattle.pr_head.proofs.Newest as HeadNewest
 pub use Rattle.pr_head.proofs.Simulation as HeadSimulation

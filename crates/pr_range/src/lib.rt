@@ -12,15 +12,24 @@ mod read;
 mod steps;
 mod values;
 
+// What crates above name of those below.
+pub mod history {
+    pub use pr_head::history::Spot;
+}
+
+pub mod vectors_crate {
+    pub use pr_vectors::{Ask, RangeFn};
+}
+
+pub mod head {
+    pub use pr_head::{Head, Timed};
+}
+
 pub use fault::RangeFault;
 pub use finishes::{answer_from_extreme, answer_from_neighbours, answer_from_total};
 pub use over::over_list;
 pub use plain::PlainRanges;
-pub use pr_folds as folds;
-pub use pr_head as head;
-pub use pr_head::history as history;
 pub use pr_head::history::Spot;
-pub use pr_vectors as vectors_crate;
 pub use pr_vectors::{Ask, RangeFn};
 pub use ranges::Ranges;
 pub use values::last_of;

@@ -4,5 +4,9 @@
 mod lines;
 mod reader;
 
-pub use pr_script as script;
+// What crates above name of those below.
+pub mod script {
+    pub use pr_script::{FileToLoad, FilesToLoad, Numbered, Order};
+}
+
 pub use reader::Reader;

@@ -5,6 +5,15 @@
 mod asked;
 mod passed;
 
+// What crates above name of those below.
+pub mod range {
+    pub use pr_continued::range::{PlainRanges, Ranges};
+}
+
+pub mod continued {
+    pub use pr_continued::{Waiting, carried};
+}
+
 pub use asked::{
     asked_stays_asked, carried_asks_are_those_of_the_new, later_asks_are_ready,
     nothing_asked_fits_all, what_is_asked_was_asked,
@@ -13,5 +22,3 @@ pub use passed::{
     a_carry_keeps_what_was_passed, a_later_history_has_no_less, all_that_is_asked_is_passed,
     none_falls, nothing_passed_fits_all, what_is_passed_is_within,
 };
-pub use pr_continued as continued;
-pub use pr_continued::range as range;

@@ -9,7 +9,7 @@ ghost use Rattle.pr_row.specs.Faults.{Lacks, IsWant};
 use crate::encoding::labels_text;
 use crate::points::{read_point, write_point};
 use pr_history::Entry;
-use pr_history::labels::Labels;
+use pr_history::labels_crate::Labels;
 use pr_history::time::Ms;
 use pr_num::Point;
 use pr_outside::Row;

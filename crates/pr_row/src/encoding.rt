@@ -5,11 +5,11 @@ ghost use Rattle.pr_row.specs.Points.{shown_point};
 ghost use Rattle.pr_row.specs.Rows.{encoded};
 
 use crate::points::write_point;
-use pr_history::labels::Labels;
+use pr_history::labels_crate::Labels;
 use pr_history::time::Ms;
 use pr_num::Point;
 use pr_outside::Row;
-use pr_series::words_crate::Text;
+use pr_outside::words_crate::Text;
 use std::alloc::{AllocError, Global};
 use std::str;
 

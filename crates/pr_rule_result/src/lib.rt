@@ -13,11 +13,22 @@ mod ruled;
 mod setting;
 mod templates;
 
+// What crates above name of those below.
+pub mod tmpl {
+    pub use pr_rules::tmpl::External;
+}
+
+pub mod rulefile {
+    pub use pr_rules::rulefile::{GroupDef, RuleDef, RuleError, read};
+}
+
+pub mod rules_crate {
+    pub use pr_rules::{GroupReport, Put, RuleFailure, RuleOutcome, RuleReport};
+}
+
 pub use comes::rule_result;
 pub use error::RuleError;
 pub use laws::rules_that_read_have_templates;
 pub use made::MadeLabels;
-pub use pr_rules as rules_crate;
-pub use pr_rules::{rulefile as rulefile, tmpl as tmpl};
 pub use ruled::limit_exceeded;
 pub use templates::{NamedTemplate, RuleTemplates, templates_of};

@@ -1,5 +1,5 @@
-use pr_lineage::time::{Ms, Span};
 use pr_rule_result::tmpl::External;
+use pr_time::{Ms, Span};
 use std::alloc::Global;
 
 /// An evaluation of a group, as its rules see it.

@@ -7,8 +7,8 @@ ghost use Rattle.pr_alert.specs.Standing.{marked_if};
 use crate::evaluation::Evaluation;
 use pr_alert::Records;
 use pr_labels::copy_pairs;
-use pr_lineage::time::{Ms, Span};
 use pr_lineage::{Record, Sending, State};
+use pr_time::{Ms, Span};
 use pr_words::Items;
 use std::alloc::{AllocError, Global};
 

@@ -9,6 +9,11 @@ mod order;
 mod reloads;
 mod script;
 
+// What crates above name of those below.
+pub mod world {
+    pub use pr_world::Event;
+}
+
 pub use examples::{
     a_body_belongs_to_its_line, a_reload_names_files, a_scrape_has_its_body, a_target_has_labels,
     groups_are_asked_for_so, lines_that_ask_for_nothing_are_counted, receivers_are_named_so,
@@ -16,5 +21,4 @@ pub use examples::{
 pub use file_names::{FileToLoad, FilesToLoad};
 pub use laws::{lines_that_are_no_text_are_refused, samples_have_label_sets};
 pub use order::{Numbered, Order, Started, read_order};
-pub use pr_world as world;
 pub use script::{is_passed_over, push_body_line};

@@ -7,7 +7,7 @@ use Rattle.std.specs.Borrow.{Bor}
 use Rattle.std.specs.List.{list_any}
 use Rattle.std.specs.Prelude.{if◌then◌else◌}
 use Rattle.std.specs.Str.{bytes_eq}
-use Rattle.pr_words.specs.Names.{knows, is_among}
+use Rattle.pr_labels.specs.pr_words.Names.{knows, is_among}
 use Rattle.pr_labels.specs.declared.pair.Pair.{Pair}
 use Rattle.pr_labels.proofs.KnownNames.{more_known, name_cmp}
 use Rattle.pr_series.specs.declared.series.Part.{Part}

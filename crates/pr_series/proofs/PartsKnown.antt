@@ -3,13 +3,13 @@ use Rattle.std.proofs.Common.{◌≡◌, ℕ, List, [], ◌∷◌, ◌++◌, Som
 use Rattle.std.specs.Prelude.{codes, if◌then◌else◌, Option, None}
 use Rattle.std.specs.List.{list_all}
 use Rattle.std.proofs.lemmas.Bool.Decides.{nat_tests}
-use Rattle.pr_words.specs.Bytes.{is_blank, is_letter, is_label_byte, AreBlanks}
+use Rattle.pr_labels.specs.pr_words.Bytes.{is_blank, is_letter, is_label_byte, AreBlanks}
 use Rattle.pr_forms.specs.Form.{Form, token, nothing, pair, either, turns, fold, chosen, rule, Reads, is_token, is_nothing, is_pair, is_left, is_right, is_stop, is_turn, is_fold, is_chosen, is_rule}
 use Rattle.pr_forms.proofs.Suffixes.{Suffix, here, there, reads_suffix}
-use Rattle.pr_strings.specs.declared.kind.Kind.{Kind}
-use Rattle.pr_strings.specs.declared.kind.Kind.TheVariants.{Open, Close, Comma, Equal, Blank}
-use Rattle.pr_strings.specs.Strings as strings
-use Rattle.pr_strings.specs.Strings.{Letter, letter, kind_of, letter_of, seen, IsString}
+use Rattle.pr_labels.specs.pr_strings.declared.kind.Kind.{Kind}
+use Rattle.pr_labels.specs.pr_strings.declared.kind.Kind.TheVariants.{Open, Close, Comma, Equal, Blank}
+use Rattle.pr_labels.specs.pr_strings.Strings as strings
+use Rattle.pr_labels.specs.pr_strings.Strings.{Letter, letter, kind_of, letter_of, seen, IsString}
 use Rattle.pr_forms.specs.Within.{within, on_option, lifted}
 use Rattle.pr_labels.specs.declared.pair.Pair.{Pair}
 use Rattle.pr_labels.specs.LabelSet.{metric_label, pair_of}

@@ -5,18 +5,18 @@ use Rattle.std.specs.List.{list_all}
 use Rattle.std.proofs.lemmas.Bool.Decides.{nat_tests}
 use Rattle.std.proofs.lemmas.List.{map-append}
 use Rattle.std.proofs.Common.{arith}
-use Rattle.pr_words.specs.Bytes.{is_blank, AreBlanks}
-use Rattle.pr_words.specs.Names.{is_among}
+use Rattle.pr_labels.specs.pr_words.Bytes.{is_blank, AreBlanks}
+use Rattle.pr_labels.specs.pr_words.Names.{is_among}
 use Rattle.pr_forms.specs.Form.{rule, is_token, is_nothing, is_pair, is_left, is_right, is_stop, is_turn, is_rule}
-use Rattle.pr_strings.specs.Strings as strings
-use Rattle.pr_strings.specs.Strings.{kind_of, letter_of, IsString}
+use Rattle.pr_labels.specs.pr_strings.Strings as strings
+use Rattle.pr_labels.specs.pr_strings.Strings.{kind_of, letter_of, IsString}
 use Rattle.pr_forms.proofs.Within.{reads_good}
 use Rattle.pr_series.proofs.SeriesTable.{strings_within}
 use Rattle.pr_labels.specs.declared.pair.Pair.{Pair}
 use Rattle.pr_labels.specs.Edits.{fault_after, first_fault}
 use Rattle.pr_labels.specs.LabelSet.{metric_label, pair_of}
 use Rattle.pr_series.specs.SeriesGrammar.{listed, quoted, mark, same_sign, sign_at, blanks, ReadsSeries, Braces, Items, Item, After, InString}
-use Rattle.pr_strings.specs.declared.kind.Kind.TheVariants.{Blank}
+use Rattle.pr_labels.specs.pr_strings.declared.kind.Kind.TheVariants.{Blank}
 use Rattle.pr_labels.proofs.LabelOrder.{both}
 use Rattle.pr_series.specs.SeriesReader.{names_of}
 use Rattle.pr_series.specs.SeriesParts.{IsPair, AreListed, no_pair, last_pair, one_pair, HasParts, name_alone, list_alone, name_and_list, IsSeriesText}

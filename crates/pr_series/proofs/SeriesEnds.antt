@@ -5,10 +5,10 @@ use Rattle.std.specs.Prelude.{if◌then◌else◌}
 use Rattle.pr_forms.specs.Form.{rule, Reads}
 use Rattle.pr_forms.specs.Reading.{EndsIn, Ends, reading}
 use Rattle.pr_forms.proofs.Ending.{given_reads, reads_given, given_place}
-use Rattle.pr_strings.specs.Strings as strings
-use Rattle.pr_strings.specs.StringTable as string_tables
-use Rattle.pr_strings.specs.Strings.{Letter, letter, seen}
-use Rattle.pr_strings.proofs.StringEnds as string_ends
+use Rattle.pr_labels.specs.pr_strings.Strings as strings
+use Rattle.pr_labels.specs.pr_strings.StringTable as string_tables
+use Rattle.pr_labels.specs.pr_strings.Strings.{Letter, letter, seen}
+use Rattle.pr_labels.proofs.StringsStringEnds as string_ends
 use Rattle.pr_forms.proofs.Within.{ends_within}
 use Rattle.pr_labels.specs.declared.pair.Pair.{Pair}
 use Rattle.pr_series.specs.SeriesGrammar.{production, embedding, Rule, Series, MetricByte, MetricRest, Tail, Listed, Braces, Items, Item, NameByte, NameRest, Named, After, Next, InString, Value, listed, quoted, mark, ReadsSeries, ReadsLabels, IsBadPlace, metric_start, metric_byte, name_start, name_byte, is_metric_letter_kind, is_metric_kind, is_letter_kind, is_label_kind}

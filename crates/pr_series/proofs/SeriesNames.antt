@@ -6,11 +6,11 @@ use Rattle.std.specs.Str.{bytes_eq}
 use Rattle.std.proofs.lemmas.List.{map-append}
 use Rattle.std.proofs.lemmas.List.Folds.{list_all-append}
 use Rattle.std.proofs.lemmas.Bool.Decides.{nat_tests}
-use Rattle.pr_words.specs.Bytes.{is_letter, is_label_byte}
-use Rattle.pr_words.specs.Names.{is_among}
+use Rattle.pr_labels.specs.pr_words.Bytes.{is_letter, is_label_byte}
+use Rattle.pr_labels.specs.pr_words.Names.{is_among}
 use Rattle.pr_forms.specs.Form.{rule}
-use Rattle.pr_strings.specs.Strings as strings
-use Rattle.pr_strings.specs.Strings.{Letter, letter, kind_of, letter_of, seen}
+use Rattle.pr_labels.specs.pr_strings.Strings as strings
+use Rattle.pr_labels.specs.pr_strings.Strings.{Letter, letter, kind_of, letter_of, seen}
 use Rattle.pr_labels.specs.declared.pair.Pair.{Pair}
 use Rattle.pr_labels.specs.Edits.{fault_after, first_fault}
 use Rattle.pr_labels.specs.LabelSet.{IsLabelSet, has_name, metric_label, pair_of}

@@ -16,17 +16,17 @@ use Rattle.std.proofs.lemmas.Str.{encode_ascii}
 use Rattle.pr_forms.specs.Form.{Form, token, nothing, pair, either, chosen, rule}
 use Rattle.pr_forms.specs.Run.{Outcome, good, bad, Runs, run_rule, run_left, run_right, run_pair, run_first, run_second, run_token, run_other, run_end, run_nothing, run_turn, run_stop, run_chosen, run_chosen_bad, run_unchosen, run_chosen_end}
 use Rattle.pr_forms.proofs.Decided.{shrinks}
-use Rattle.pr_strings.specs.declared.kind.Kind.{Kind}
-use Rattle.pr_strings.specs.declared.kind.Kind.TheVariants.{Open, Close, Comma, Equal, Blank, Other}
-use Rattle.pr_strings.specs.Strings as strings
-use Rattle.pr_strings.specs.StringTable as string_tables
-use Rattle.pr_strings.specs.Strings.{Letter, letter, kind_of, letter_of, seen}
-use Rattle.pr_strings.specs.Language.{text_strings}
-use Rattle.pr_strings.specs.Reader.{KeepsText}
-use Rattle.pr_strings.proofs.StringUtf8.{small_byte, keeps_after}
+use Rattle.pr_labels.specs.pr_strings.declared.kind.Kind.{Kind}
+use Rattle.pr_labels.specs.pr_strings.declared.kind.Kind.TheVariants.{Open, Close, Comma, Equal, Blank, Other}
+use Rattle.pr_labels.specs.pr_strings.Strings as strings
+use Rattle.pr_labels.specs.pr_strings.StringTable as string_tables
+use Rattle.pr_labels.specs.pr_strings.Strings.{Letter, letter, kind_of, letter_of, seen}
+use Rattle.pr_labels.specs.pr_strings.Language.{text_strings}
+use Rattle.pr_labels.specs.pr_strings.Reader.{KeepsText}
+use Rattle.pr_labels.proofs.StringsStringUtf8.{small_byte, keeps_after}
 use Rattle.pr_labels.specs.LabelSet.{pair_of, metric_label}
 use Rattle.std.proofs.lemmas.List.{map-append, append-nil}
-use Rattle.pr_words.specs.Names.{is_among}
+use Rattle.pr_labels.specs.pr_words.Names.{is_among}
 use Rattle.pr_forms.proofs.Ways.{take_side, other_side}
 use Rattle.pr_labels.specs.declared.pair.Pair.{Pair}
 use Rattle.pr_series.specs.declared.series.Part.{Part}

@@ -1,18 +1,18 @@
 -- One byte ahead decides the grammar of series texts.
 use Rattle.std.proofs.Common.{◌≡◌, ℕ, List, [], ◌∷◌, ◌++◌, Some, None, Bool, true, false, refl, ◌∙◌, subst}
 use Rattle.std.specs.Prelude.{if◌then◌else◌}
-use Rattle.pr_words.specs.Names.{is_among}
+use Rattle.pr_labels.specs.pr_words.Names.{is_among}
 use Rattle.pr_forms.specs.Form.{either, chosen, rule}
 use Rattle.pr_forms.specs.Table.{empty_of, starts_of, more_of, parts_at, is_solid, Binds, IsDecided}
 use Rattle.pr_forms.proofs.Decided.{plain_binds}
-use Rattle.pr_strings.specs.declared.kind.Kind.{Kind}
-use Rattle.pr_strings.specs.declared.kind.Kind.TheVariants.{A}
-use Rattle.pr_strings.specs.Strings as strings
-use Rattle.pr_strings.specs.StringTable as string_tables
-use Rattle.pr_strings.specs.Strings.{Letter, letter}
-use Rattle.pr_strings.proofs.StringTable as string_table
+use Rattle.pr_labels.specs.pr_strings.declared.kind.Kind.{Kind}
+use Rattle.pr_labels.specs.pr_strings.declared.kind.Kind.TheVariants.{A}
+use Rattle.pr_labels.specs.pr_strings.Strings as strings
+use Rattle.pr_labels.specs.pr_strings.StringTable as string_tables
+use Rattle.pr_labels.specs.pr_strings.Strings.{Letter, letter}
+use Rattle.pr_labels.proofs.StringsStringTable as string_table
 use Rattle.pr_forms.specs.Within.{HoldsTable, IsWithin}
-use Rattle.pr_strings.specs.Language.{text_strings}
+use Rattle.pr_labels.specs.pr_strings.Language.{text_strings}
 use Rattle.pr_series.specs.SeriesReader.{series}
 use Rattle.pr_forms.proofs.Within.{empty_within, starts_within, more_within, decides_within}
 use Rattle.pr_series.specs.SeriesGrammar.{production, embedding, Value, Rule, Series, MetricByte, MetricRest, Tail, Listed, Braces, Items, Item, NameByte, NameRest, Named, After, Next, InString, is_letter_kind, is_label_kind, is_metric_letter_kind, is_metric_kind, metric_start, metric_byte, name_start, name_byte, goes_on, nothing_follows}

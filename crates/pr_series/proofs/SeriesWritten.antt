@@ -4,16 +4,16 @@ use Rattle.std.specs.Prelude.{codes, flat_map, if◌then◌else◌}
 use Rattle.std.specs.List.{list_all, list_any}
 use Rattle.std.proofs.lemmas.List.{map-append}
 use Rattle.std.proofs.lemmas.Bool.Decides.{nat_tests}
-use Rattle.pr_words.specs.Bytes.{is_letter, is_label_byte}
-use Rattle.pr_words.specs.Names.{is_among}
+use Rattle.pr_labels.specs.pr_words.Bytes.{is_letter, is_label_byte}
+use Rattle.pr_labels.specs.pr_words.Names.{is_among}
 use Rattle.pr_forms.specs.Form.{Form, rule, Reads, is_token, is_nothing, is_pair, is_left, is_right, is_stop, is_chosen, is_rule}
 use Rattle.pr_forms.proofs.Suffixes.{reads_suffix, suffix_length}
-use Rattle.pr_strings.specs.Strings as strings
-use Rattle.pr_strings.specs.Strings.{Letter, letter_of, kind_of, seen}
-use Rattle.pr_strings.specs.Quoted.{quoted_text}
+use Rattle.pr_labels.specs.pr_strings.Strings as strings
+use Rattle.pr_labels.specs.pr_strings.Strings.{Letter, letter_of, kind_of, seen}
+use Rattle.pr_labels.specs.pr_strings.Quoted.{quoted_text}
 use Rattle.pr_forms.proofs.Within.{reads_good}
 use Rattle.pr_series.proofs.SeriesTable.{strings_within}
-use Rattle.pr_strings.proofs.Written.{quoted_reads}
+use Rattle.pr_labels.proofs.StringsWritten.{quoted_reads}
 use Rattle.pr_labels.specs.declared.pair.Pair.{Pair}
 use Rattle.pr_labels.specs.Edits.{fault_after, pair_fault}
 use Rattle.pr_labels.specs.LabelSet.{IsLabelSet, has_name, metric_label, pair_of, value_of}

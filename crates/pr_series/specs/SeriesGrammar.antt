@@ -1,11 +1,11 @@
 -- Series texts: what they read, and where they are bad.
 use Rattle.std.specs.Prelude.{◌≡◌, ℕ, ◌||◌, Bool, true, false, Option, Some, None, List, [], ◌∷◌, ◌++◌, if◌then◌else◌}
-use Rattle.pr_words.specs.Names.{is_among}
+use Rattle.pr_labels.specs.pr_words.Names.{is_among}
 use Rattle.pr_forms.specs.Form.{Form, token, nothing, pair, either, turns, chosen, rule, Reads, IsFirstBad}
-use Rattle.pr_strings.specs.declared.kind.Kind.{Kind}
-use Rattle.pr_strings.specs.declared.kind.Kind.TheVariants.{A, B, F, N, R, T, V, X, Short, Long, HexLetter, OtherLetter, Digit, Colon, Open, Close, Comma, Equal, Blank}
-use Rattle.pr_strings.specs.Strings as strings
-use Rattle.pr_strings.specs.Strings.{Letter, letter, seen}
+use Rattle.pr_labels.specs.pr_strings.declared.kind.Kind.{Kind}
+use Rattle.pr_labels.specs.pr_strings.declared.kind.Kind.TheVariants.{A, B, F, N, R, T, V, X, Short, Long, HexLetter, OtherLetter, Digit, Colon, Open, Close, Comma, Equal, Blank}
+use Rattle.pr_labels.specs.pr_strings.Strings as strings
+use Rattle.pr_labels.specs.pr_strings.Strings.{Letter, letter, seen}
 use Rattle.pr_forms.specs.Within.{Embedding, within}
 use Rattle.pr_labels.specs.declared.pair.Pair.{Pair}
 use Rattle.pr_series.specs.declared.series.TextFault.{TextFault}

@@ -1,7 +1,7 @@
 -- Series texts told without a grammar: a metric's name, pairs in braces, or both.
 use Rattle.std.specs.Prelude.{◌≡◌, ℕ, true, List, [], ◌∷◌, ◌++◌, codes, None}
-use Rattle.pr_words.specs.Bytes.{AreBlanks}
-use Rattle.pr_strings.specs.Strings.{IsString}
+use Rattle.pr_labels.specs.pr_words.Bytes.{AreBlanks}
+use Rattle.pr_labels.specs.pr_strings.Strings.{IsString}
 use Rattle.pr_labels.specs.declared.pair.Pair.{Pair}
 use Rattle.pr_labels.specs.Edits.{first_fault}
 use Rattle.pr_labels.specs.LabelSet.{metric_label, pair_of}

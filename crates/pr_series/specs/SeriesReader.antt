@@ -4,9 +4,9 @@ use Rattle.pr_forms.specs.Form.{Form, pair, rule}
 use Rattle.pr_forms.specs.Table.{is_next}
 use Rattle.pr_forms.specs.Run.{good, bad}
 use Rattle.pr_forms.specs.Language.{Language, Gives, Takes, Lacks, Carries}
-use Rattle.pr_strings.specs.declared.kind.Kind.{Kind}
-use Rattle.pr_strings.specs.declared.kind.Kind.TheVariants.{Equal, Close}
-use Rattle.pr_strings.specs.Strings.{Letter, kind_of, letter_of, seen}
+use Rattle.pr_labels.specs.pr_strings.declared.kind.Kind.{Kind}
+use Rattle.pr_labels.specs.pr_strings.declared.kind.Kind.TheVariants.{Equal, Close}
+use Rattle.pr_labels.specs.pr_strings.Strings.{Letter, kind_of, letter_of, seen}
 use Rattle.pr_labels.specs.declared.pair.Pair.{Pair}
 use Rattle.pr_series.specs.declared.series.Part.{Part}
 use Rattle.pr_series.specs.declared.series.Part.TheVariants.{MetricFirst, MetricNext, LabelFirst, LabelNext}

@@ -3,7 +3,7 @@ use Rattle.std.specs.Prelude.{◌≡◌, ℕ, Option, Some, None, List}
 use Rattle.std.specs.Option.{option_map}
 use Rattle.pr_forms.specs.Form.{rule}
 use Rattle.pr_forms.specs.Reading.{reading, bad_place}
-use Rattle.pr_strings.specs.Strings.{seen}
+use Rattle.pr_labels.specs.pr_strings.Strings.{seen}
 use Rattle.pr_labels.specs.declared.pair.Pair.{Pair}
 use Rattle.pr_series.specs.declared.series.TextFault.{TextFault}
 use Rattle.pr_series.specs.declared.series.TextFault.TheVariants.{BadLabels, Memory}

@@ -1,13 +1,13 @@
 -- What one byte ahead tells of the rules of series texts, and how many steps they make: no part of
 -- what a text means.
 use Rattle.std.specs.Prelude.{◌||◌, Bool, true, false, ℕ}
-use Rattle.pr_words.specs.Names.{is_among}
+use Rattle.pr_labels.specs.pr_words.Names.{is_among}
 use Rattle.pr_forms.specs.Table.{Table}
-use Rattle.pr_strings.specs.declared.kind.Kind.{Kind}
-use Rattle.pr_strings.specs.declared.kind.Kind.TheVariants.{Open, Close, Comma, Equal, Blank}
-use Rattle.pr_strings.specs.Strings as strings
-use Rattle.pr_strings.specs.StringTable as string_tables
-use Rattle.pr_strings.specs.Strings.{Letter, letter}
+use Rattle.pr_labels.specs.pr_strings.declared.kind.Kind.{Kind}
+use Rattle.pr_labels.specs.pr_strings.declared.kind.Kind.TheVariants.{Open, Close, Comma, Equal, Blank}
+use Rattle.pr_labels.specs.pr_strings.Strings as strings
+use Rattle.pr_labels.specs.pr_strings.StringTable as string_tables
+use Rattle.pr_labels.specs.pr_strings.Strings.{Letter, letter}
 use Rattle.pr_series.specs.SeriesGrammar.{Rule, Series, MetricByte, MetricRest, Tail, Listed, Braces, Items, Item, NameByte, NameRest, Named, After, Next, InString, is_letter_kind, is_label_kind, is_metric_letter_kind, is_metric_kind, same_sign, is_tail_kind, is_tail, goes_on}
 
 -- What one byte ahead tells of the rules.

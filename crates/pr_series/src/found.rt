@@ -2,7 +2,7 @@
 ghost use Rattle.std.specs.Prelude.{◌≡◌, ◌++◌, ◌∷◌, [], ℕ, List, OnOk, drop};
 ghost use Rattle.std.specs.List.{list_any};
 ghost use Rattle.std.specs.Str.{bytes_eq};
-ghost use Rattle.pr_words.specs.Names.{knows, is_among};
+ghost use Rattle.pr_labels.specs.pr_words.Names.{knows, is_among};
 ghost use Rattle.pr_series.specs.SeriesReader.{names_of};
 
 use pr_labels::Pair;

@@ -13,6 +13,5 @@ pub use laws::{
     reading_of_a_series_text_is_a_function, series_text_is_name_and_pairs,
     series_text_reads_as_one_label_set, series_texts_name_labels_once,
 };
-pub use pr_words as words_crate;
 pub use read::read_series_text;
 pub use series::TextFault;

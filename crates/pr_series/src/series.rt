@@ -4,8 +4,8 @@ ghost use Rattle.std.specs.Str.{IsUtf8};
 ghost use Rattle.pr_series.specs.declared.series.Part.TheVariants.{LabelFirst};
 ghost use Rattle.pr_forms.specs.Form.{Form, rule, Reads};
 ghost use Rattle.pr_forms.specs.Run.{good, bad};
-ghost use Rattle.pr_strings.specs.Strings.{Letter, kind_of, letter_of, seen, content, Text as StringText};
-ghost use Rattle.pr_strings.specs.Reader.{KeepsText};
+ghost use Rattle.pr_labels.specs.pr_strings.Strings.{Letter, kind_of, letter_of, seen, content, Text as StringText};
+ghost use Rattle.pr_labels.specs.pr_strings.Reader.{KeepsText};
 ghost use Rattle.pr_series.specs.SeriesGrammar.{
   Value,
   Rule,
@@ -34,9 +34,9 @@ ghost use Rattle.pr_series.specs.SeriesReader.{series, names_of, BeginsWith, Rea
 
 use crate::found::Found;
 use pr_forms::{Fault, place_of, take};
+use pr_labels::strings::{Kind, kind_of, read_string};
+use pr_labels::words_crate::Text;
 use pr_labels::{METRIC_LABEL, Pair};
-use pr_strings::{Kind, kind_of, read_string};
-use pr_words::Text;
 use std::alloc::{AllocError, Global};
 
 /// Why a text is no label set.

@@ -15,10 +15,10 @@ use Rattle.pr_vectors.specs.Histogram.{is_special}
 use Rattle.pr_vectors.specs.Ranges.{differ}
 use Rattle.pr_vectors.specs.Spots.{falls, has_special, last_of, neighbours, numbers_of}
 use Rattle.pr_window.specs.Folding.{folded}
-use Rattle.pr_range.specs.pr_folds.declared.neighbours.Neighbours.{Neighbours}
-use Rattle.pr_range.specs.pr_folds.Neighbours.{beside, neighbours_of, one_if, spot_alone}
-use Rattle.pr_range.specs.pr_folds.Totals.{total_alone}
-use Rattle.pr_range.proofs.FoldsSummaries.{sequence_folded, total_folded}
+use Rattle.pr_folds.specs.declared.neighbours.Neighbours.{Neighbours}
+use Rattle.pr_folds.specs.Neighbours.{beside, neighbours_of, one_if, spot_alone}
+use Rattle.pr_folds.specs.Totals.{total_alone}
+use Rattle.pr_folds.proofs.Summaries.{sequence_folded, total_folded}
 use Rattle.pr_slide.specs.declared.successive.Counts.{Counts}
 use Rattle.pr_slide.specs.Later.{later}
 use Rattle.pr_slide.specs.Successions.{AreCounted, before_fall, before_falls, changes_at, changes_in, is_fall, rises, specials_in}

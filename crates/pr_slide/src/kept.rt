@@ -4,9 +4,9 @@ ghost use Rattle.pr_window.specs.Folding.{folded};
 ghost use Rattle.pr_slide.specs.Later.{later};
 
 use crate::listed::is_after;
+use pr_folds::Summarize;
 use pr_history::Spot;
 use pr_num::Num;
-use pr_range::folds::Summarize;
 use pr_window::{Fold, Window};
 use pr_words::Steps;
 use std::alloc::{AllocError, Global};

@@ -13,7 +13,14 @@ mod spots;
 mod successive;
 mod window;
 
+// What crates above name of those below.
+pub mod head {
+    pub use pr_head::Head;
+}
+
+pub mod range {
+    pub use pr_range::Ranges;
+}
+
 pub use laws::what_was_passed_is_no_more_than_the_range;
-pub use pr_head as head;
-pub use pr_range as range;
 pub use sliding::SlidingRanges;

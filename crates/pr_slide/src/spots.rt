@@ -2,7 +2,7 @@
 ghost use Rattle.std.specs.Prelude.{◌≡◌, ◌++◌, ◌∷◌, [], OnOk, length, true};
 ghost use Rattle.pr_vectors.specs.declared.range.RangeFn.TheVariants.{MaxOverTime, MinOverTime};
 ghost use Rattle.pr_vectors.specs.Ranges.{over};
-ghost use Rattle.pr_range.specs.pr_folds.Answers.{is_of_neighbours, is_of_total};
+ghost use Rattle.pr_folds.specs.Answers.{is_of_neighbours, is_of_total};
 ghost use Rattle.pr_range.specs.Answers.{AnswersAsk};
 ghost use Rattle.pr_range.specs.Asks.{HasArgument};
 ghost use Rattle.pr_range.specs.Spots.{AreWithin};
@@ -12,9 +12,9 @@ ghost use Rattle.pr_slide.specs.Later.{later};
 use crate::kept::Kept;
 use crate::listed::Listed;
 use crate::successive::Successive;
+use pr_folds::{Greatest, Least, Summarize, Totals, is_of_neighbours, is_of_total};
 use pr_history::Spot;
 use pr_num::{Num, Total};
-use pr_range::folds::{Greatest, Least, Summarize, Totals, is_of_neighbours, is_of_total};
 use pr_range::{
     Ask, RangeFault, RangeFn, answer_from_extreme, answer_from_neighbours, answer_from_total,
     over_list,

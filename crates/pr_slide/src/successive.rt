@@ -4,15 +4,15 @@ ghost use Rattle.pr_num.specs.Total.{total_of};
 ghost use Rattle.pr_vectors.specs.Ranges.{differ};
 ghost use Rattle.pr_vectors.specs.Spots.{last_of, numbers_of};
 ghost use Rattle.pr_window.specs.Folding.{folded};
-ghost use Rattle.pr_range.specs.pr_folds.Neighbours.{beside, one_if, spot_alone};
+ghost use Rattle.pr_folds.specs.Neighbours.{beside, one_if, spot_alone};
 ghost use Rattle.pr_slide.specs.Later.{later};
 ghost use Rattle.pr_slide.specs.Successions.{AreCounted, before_fall, changes_at, changes_in, specials_in};
 
 use crate::kept::Kept;
 use crate::listed::{Listed, is_after};
+use pr_folds::{Neighbours, Totals, differ, falls, is_special, one_if};
 use pr_history::Spot;
 use pr_num::{Num, Total};
-use pr_range::folds::{Neighbours, Totals, differ, falls, is_special, one_if};
 use pr_range::last_of;
 use std::alloc::{AllocError, Global};
 use std::marker::Model;

@@ -4,5 +4,13 @@
 mod both;
 mod row;
 
-pub use pr_continued::{parse as parse, rulefile as rulefile};
+// What crates above name of those below.
+pub mod parse {
+    pub use pr_continued::parse::parse;
+}
+
+pub mod rulefile {
+    pub use pr_continued::rulefile::{RuleDef, read};
+}
+
 pub use row::tell_ranges;

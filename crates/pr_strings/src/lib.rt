@@ -8,12 +8,22 @@ mod laws;
 mod reader;
 mod writer;
 
+// What crates above name of those below.
+pub mod words_crate {
+    pub use pr_words::{
+        Items, Steps, Text, first_feed, is_blank, line_len, plain_decimal, without_return,
+        without_trailing,
+    };
+}
+
+pub mod forms {
+    pub use pr_forms::{Fault, place_of, take};
+}
+
 pub use kind::{Kind, Mark, kind_of};
 pub use laws::{
     digits_go_on_while_a_character_can_come, digits_of_an_escape_write_its_character,
     one_byte_decides, quoted_texts_read_back, strings_are_functions_of_their_texts,
 };
-pub use pr_forms as forms;
-pub use pr_words as words_crate;
 pub use reader::{is_open_at, read_string};
 pub use writer::write_string;

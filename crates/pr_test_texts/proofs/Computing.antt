@@ -2,7 +2,7 @@
 use Rattle.std.specs.Prelude.{⊤}
 use Rattle.std.specs.Fmt.{digits}
 use lib.Utf8.{encode}
-use Rattle.pr_forms.specs.Reading.{bad_place, reading}
+use Rattle.pr_checks.specs.pr_forms.Reading.{bad_place, reading}
 use Rattle.pr_num.specs.Arithmetic.{sum_of, product_of}
 use Rattle.pr_num.specs.Half.{half, half_abs}
 use Rattle.pr_num.specs.Order.{compared}

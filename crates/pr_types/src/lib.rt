@@ -14,6 +14,11 @@ mod signature;
 mod texts;
 mod typing;
 
+// What crates above name of those below.
+pub mod lex {
+    pub use pr_ast::lex::LexKind;
+}
+
 pub use checking::{Checked, check};
 pub use counting::{Counts, counts_in};
 pub use examples::{
@@ -27,6 +32,5 @@ pub use laws::{
     texts_of_typed_expressions_are_good,
 };
 pub use operation::compares;
-pub use pr_ast::lex as lex;
 pub use signature::Signature;
 pub use texts::{content, content_at};

@@ -9,7 +9,7 @@ use crate::building::Built;
 use crate::kind::{TypeError, TypeKind, ValueType};
 use crate::selection::pattern_error;
 use crate::signature::{Operand, Signature};
-use pr_ast::labels::is_label_name;
+use pr_ast::labels_crate::is_label_name;
 use pr_ast::{AggOp, Expr, ExprKind, Func};
 use pr_match::Pattern;
 use std::alloc::Global;

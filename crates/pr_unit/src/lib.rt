@@ -12,6 +12,13 @@ mod test;
 mod tests;
 mod times;
 
-pub use pr_slide as slide;
-pub use pr_slide::range as range;
+// What crates above name of those below.
+pub mod range {
+    pub use pr_slide::range::Ranges;
+}
+
+pub mod slide {
+    pub use pr_slide::SlidingRanges;
+}
+
 pub use tests::{run_tests, run_tests_over};

@@ -1,8 +1,8 @@
 -- Operators between vectors but those between sets.
 use Rattle.std.proofs.Common.{◌≡◌, Bool, List, refl}
 use Rattle.pr_num.specs.declared.value.Num.{Num}
-use Rattle.pr_ast.specs.pr_labels.declared.item.Item.{Item}
-use Rattle.pr_ast.specs.pr_labels.declared.matching.Matching.{Matching}
+use Rattle.pr_labels.specs.declared.item.Item.{Item}
+use Rattle.pr_labels.specs.declared.matching.Matching.{Matching}
 use Rattle.pr_ast.specs.declared.place.Place.{Place}
 use Rattle.pr_ast.specs.declared.names.BinOp.{BinOp}
 use Rattle.pr_ast.specs.declared.names.BinOp.TheVariants as op

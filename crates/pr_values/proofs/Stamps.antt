@@ -1,6 +1,6 @@
 -- The times of samples, without the metric's name.
 use Rattle.std.proofs.Common.{◌≡◌, List, [], ◌∷◌, map, refl, ap}
-use Rattle.pr_ast.specs.pr_labels.declared.item.Item.{Item}
+use Rattle.pr_labels.specs.declared.item.Item.{Item}
 use Rattle.pr_query.specs.pr_history.declared.spot.Spot.{Spot}
 use Rattle.pr_query.specs.Calls.{with_time}
 use Rattle.pr_fn.specs.Rows.{without_metric}

@@ -1,6 +1,6 @@
 -- Values with their times.
 use Rattle.pr_num.specs.declared.value.Num.{Num}
-use Rattle.pr_ast.specs.pr_labels.declared.item.Item.{Item}
+use Rattle.pr_labels.specs.declared.item.Item.{Item}
 use Rattle.pr_query.specs.pr_history.declared.spot.Spot.{Spot}
 use Rattle.pr_query.specs.pr_vectors.Vectors.{element}
 use Rattle.pr_query.specs.Calls.{seconds_of}

@@ -1,8 +1,8 @@
 // Aggregations.
 ghost use Rattle.std.specs.Prelude.{◌≡◌, true, ℕ, List, Result, IfOk, MatchResult, Ok, Err};
 ghost use Rattle.std.specs.List.{All};
-ghost use Rattle.pr_ast.specs.pr_labels.Names.{is_label_name};
-ghost use Rattle.pr_ast.specs.pr_labels.declared.item.Item.{Item};
+ghost use Rattle.pr_labels.specs.Names.{is_label_name};
+ghost use Rattle.pr_labels.specs.declared.item.Item.{Item};
 ghost use Rattle.pr_num.specs.declared.value.Num.{Num};
 ghost use Rattle.pr_num.specs.declared.value.TooWide.{TooWide};
 ghost use Rattle.pr_num.specs.Arithmetic.{too_wide};
@@ -21,8 +21,8 @@ use crate::arguments::{elements_given, number_given};
 use crate::error::EvalError;
 use crate::vectors::vector;
 use pr_agg::{AggFault, avg, bottomk, count, count_values, group, max, min, quantile, sum, topk};
-use pr_ast::labels::{Grouping, Item};
 use pr_ast::{AggOp, Place};
+use pr_labels::{Grouping, Item};
 use pr_num::Num;
 use pr_query::{FaultKind, Value};
 use std::alloc::{AllocError, Global};

@@ -6,7 +6,7 @@ ghost use Rattle.pr_query.specs.Answers.{IsAnswer};
 ghost use Rattle.pr_query.specs.Given.{elements_given, number_given, number_or};
 ghost use Rattle.pr_values.specs.Plain.{all_plain};
 
-use pr_ast::labels::Item;
+use pr_labels::Item;
 use pr_num::Num;
 use pr_query::Value;
 

@@ -4,7 +4,7 @@ ghost use Rattle.std.specs.List.{All};
 ghost use Rattle.std.specs.Option.{option_copied};
 ghost use Rattle.pr_ast.specs.Tree.{trees_of};
 ghost use Rattle.pr_query.specs.pr_history.declared.entry.Entry.{Entry};
-ghost use Rattle.pr_ast.specs.pr_labels.Names.{is_label_name};
+ghost use Rattle.pr_labels.specs.Names.{is_label_name};
 ghost use Rattle.pr_query.specs.Answers.{IsAnswer};
 ghost use Rattle.pr_query.specs.Calls.{value_of_call};
 ghost use Rattle.pr_query.specs.pr_types.Typed.{content_at};

@@ -1,6 +1,6 @@
 // Functions of each value of a vector.
 ghost use Rattle.std.specs.Prelude.{◌≡◌, List, IfOk, pos};
-ghost use Rattle.pr_ast.specs.pr_labels.declared.item.Item.{Item};
+ghost use Rattle.pr_labels.specs.declared.item.Item.{Item};
 ghost use Rattle.pr_num.specs.Arithmetic.{whole_of};
 ghost use Rattle.pr_num.specs.declared.value.Num.{Num};
 ghost use Rattle.pr_query.specs.pr_vectors.Functions.{abs_of, ceils_of, clamped, clamped_max, clamped_min, floors_of, rounded_all, signs_of};

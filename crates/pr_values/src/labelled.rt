@@ -2,7 +2,7 @@
 ghost use Rattle.std.specs.Prelude.{◌≡◌, true, List, [], ◌∷◌, drop, Some, IfOk};
 ghost use Rattle.std.specs.Option.{option_copied};
 ghost use Rattle.pr_ast.specs.Tree.{trees_of};
-ghost use Rattle.pr_ast.specs.pr_labels.Names.{is_label_name};
+ghost use Rattle.pr_labels.specs.Names.{is_label_name};
 ghost use Rattle.pr_fn.specs.pr_match.Pattern.{expanded};
 ghost use Rattle.pr_query.specs.pr_vectors.Histogram.{histogram_quantiles};
 ghost use Rattle.pr_query.specs.pr_vectors.LabelFunctions.{label_joined, label_replaced};

@@ -12,13 +12,30 @@ mod texts;
 mod times;
 mod vectors;
 
+// What crates above name of those below.
+pub mod matching {
+    pub use pr_fn::matching::{Matcher, Pattern, Selection};
+}
+
+pub mod types {
+    pub use pr_query::types::{Checked, Counts, content, counts_in};
+}
+
+pub mod query_crate {
+    pub use pr_query::{FaultKind, Value};
+}
+
+pub mod ordered {
+    pub use pr_fn::ordered::Ordered;
+}
+
+pub mod functions {
+    pub use pr_fn::{keep_least, without_metrics};
+}
+
 pub use absence::{absent_of, labels_of_argument};
 pub use aggregations::aggregated;
 pub use calls::value_of_call;
 pub use error::EvalError;
-pub use pr_fn as functions;
-pub use pr_fn::{matching as matching, ordered as ordered};
-pub use pr_query as query_crate;
-pub use pr_query::types as types;
 pub use times::{seconds_of, stamped};
 pub use vectors::{made_at, negated_value, operated, vector};

@@ -4,7 +4,7 @@ ghost use Rattle.pr_ast.specs.Tree.{tree_of, trees_of};
 ghost use Rattle.pr_query.specs.pr_types.Typed.{content, contents};
 
 use pr_ast::Expr;
-use pr_ast::words_crate::Text;
+use pr_labels::words_crate::Text;
 use pr_query::types::content;
 use std::alloc::{AllocError, Global};
 

@@ -2,7 +2,7 @@
 ghost use Rattle.std.specs.Prelude.{◌≡◌, List, IfOk, IfSome, MatchResult, Ok, Err, Result};
 ghost use Rattle.pr_num.specs.declared.value.Num.{Num};
 ghost use Rattle.pr_num.specs.Arithmetic.{negated};
-ghost use Rattle.pr_ast.specs.pr_labels.declared.item.Item.{Item};
+ghost use Rattle.pr_labels.specs.declared.item.Item.{Item};
 ghost use Rattle.pr_query.specs.pr_vectors.declared.function_fault.FunctionFault.{FunctionFault};
 ghost use Rattle.pr_query.specs.pr_vectors.declared.match_fault.MatchFault.{MatchFault};
 ghost use Rattle.pr_query.specs.pr_vectors.Functions.{mapped};
@@ -19,11 +19,11 @@ ghost use Rattle.pr_values.specs.Besides.{holds_beside, result_beside};
 
 use crate::error::EvalError;
 use crate::operators::{Beside, is_filter, operator_of, result_of};
-use pr_ast::labels::{Card, Item, Matching};
-use pr_ast::words_crate::Items;
 use pr_ast::{BinOp, Place};
 use pr_fn::{FnFault, map_values};
 use pr_join::{JoinFault, and, join, or, unless};
+use pr_labels::words_crate::Items;
+use pr_labels::{Card, Item, Matching};
 use pr_num::Num;
 use pr_query::{FaultKind, Value};
 use std::alloc::Global;

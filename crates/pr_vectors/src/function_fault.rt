@@ -1,4 +1,4 @@
-use pr_history::labels::Labels;
+use pr_history::labels_crate::Labels;
 
 /// Why a function of a vector has no result. (Prometheus: Querying, Functions; that the least
 /// labels are told is own choice.)

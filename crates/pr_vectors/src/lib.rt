@@ -16,6 +16,15 @@ mod part;
 mod range;
 mod range_examples;
 
+// What crates above name of those below.
+pub mod labels_crate {
+    pub use pr_history::labels_crate::{Item, Labels};
+}
+
+pub mod history {
+    pub use pr_history::{Entry, Spot};
+}
+
 pub use aggregation_examples::{
     aggregations_of_one_and_three, first_elements_of_each_group, groups_have_their_labels,
     quantiles_of_each_group, special_and_wide_values, values_are_counted,
@@ -40,8 +49,6 @@ pub use operator_examples::{
     comparisons_are_of_lesser_equal_and_greater_values, comparisons_work_on_two_values,
 };
 pub use part::Part;
-pub use pr_history as history;
-pub use pr_history::labels as labels;
 pub use range::{Ask, AskFault, RangeFn};
 pub use range_examples::{
     a_line_goes_on, a_quantile_is_of_values_in_order, a_range_begins_after_its_start,

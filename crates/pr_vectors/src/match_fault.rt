@@ -1,4 +1,4 @@
-use pr_history::labels::Labels;
+use pr_history::labels_crate::Labels;
 
 /// Why two vectors have no result together. (Prometheus: Querying, Operators, Vector matching.)
 #[derive(Debug, Drop)]

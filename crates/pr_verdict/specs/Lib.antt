@@ -2,7 +2,7 @@ pub mod RuleFiles
 pub mod Events
 pub mod Verdict
 pub mod Worked
-pub use Rattle.pr_ast.specs.pr_labels as pr_labels
+pub use Rattle.pr_testfile.specs.pr_labels as pr_labels
 pub use Rattle.pr_testfile.specs.pr_fields as pr_fields
 pub use Rattle.pr_testfile.specs.pr_inputs as pr_inputs
 pub use Rattle.pr_world.specs.pr_rulefile as pr_rulefile

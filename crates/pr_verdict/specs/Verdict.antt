@@ -5,8 +5,8 @@ use Rattle.std.specs.Str.{bytes_eq}
 use Rattle.std.specs.Cmp.Lexicographic.{pointwise}
 use Rattle.pr_num.specs.declared.value.Num.{Num}
 use Rattle.pr_num.specs.Same.{same_num}
-use Rattle.pr_ast.specs.pr_labels.declared.item.Item.{Item}
-use Rattle.pr_ast.specs.pr_labels.Order.{labels_eq}
+use Rattle.pr_testfile.specs.pr_labels.declared.item.Item.{Item}
+use Rattle.pr_testfile.specs.pr_labels.Order.{labels_eq}
 use Rattle.pr_testfile.specs.pr_fields.Order.{ordered}
 use Rattle.pr_world.specs.pr_query.declared.fault.Fault.{Fault}
 use Rattle.pr_world.specs.pr_query.declared.value.Value.{Value}

@@ -2,9 +2,9 @@
 use Rattle.std.specs.Prelude.{ℕ, true, false, List, [], ◌∷◌, codes, map, None}
 use Rattle.pr_num.specs.declared.value.Num.{Num}
 use Rattle.pr_num.specs.declared.value.Point.TheVariants.{Value}
-use Rattle.pr_ast.specs.pr_labels.declared.item.Item.{Item}
-use Rattle.pr_ast.specs.pr_labels.declared.pair.Pair.{Pair}
-use Rattle.pr_ast.specs.pr_labels.LabelSet.{metric_label, named, pair_of}
+use Rattle.pr_testfile.specs.pr_labels.declared.item.Item.{Item}
+use Rattle.pr_testfile.specs.pr_labels.declared.pair.Pair.{Pair}
+use Rattle.pr_testfile.specs.pr_labels.LabelSet.{metric_label, named, pair_of}
 use Rattle.pr_testfile.specs.pr_history.declared.entry.Entry.{Entry}
 use Rattle.pr_testfile.specs.pr_history.Examples.{number, whole}
 use Rattle.pr_ast.specs.declared.names.BinOp.TheVariants as op

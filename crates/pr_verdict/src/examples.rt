@@ -2,8 +2,8 @@
 ghost use Rattle.std.specs.Prelude.{◌≡◌, List, [], ◌∷◌, None, Some, codes, false, map};
 ghost use Rattle.pr_num.specs.declared.value.Num.{Num};
 ghost use Rattle.pr_num.specs.declared.value.Num.TheVariants.{NaN};
-ghost use Rattle.pr_ast.specs.pr_labels.declared.item.Item.{Item};
-ghost use Rattle.pr_ast.specs.pr_labels.LabelSet.{named, pair_of};
+ghost use Rattle.pr_testfile.specs.pr_labels.declared.item.Item.{Item};
+ghost use Rattle.pr_testfile.specs.pr_labels.LabelSet.{named, pair_of};
 ghost use Rattle.pr_testfile.specs.pr_history.Examples.{number, whole};
 ghost use Rattle.pr_ast.specs.declared.place.Place.{Place};
 ghost use Rattle.pr_world.specs.pr_query.declared.fault.FaultKind.{FaultKind};

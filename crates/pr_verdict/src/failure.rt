@@ -1,7 +1,7 @@
 // Expectations that differ from what a test gives.
 use pr_ast::Place;
-use pr_ast::labels::Item;
 use pr_num::Num;
+use pr_testfile::labels_crate::Item;
 use pr_testfile::lineage::Found;
 use pr_testfile::words_crate::Items;
 use pr_world::query_crate::FaultKind;

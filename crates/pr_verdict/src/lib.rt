@@ -4,6 +4,23 @@
 mod examples;
 mod failure;
 
+// What crates above name of those below.
+pub mod types {
+    pub use pr_world::types::Checked;
+}
+
+pub mod lineage {
+    pub use pr_testfile::lineage::{Found, Record, State};
+}
+
+pub mod world {
+    pub use pr_world::NamedFile;
+}
+
+pub mod testfile {
+    pub use pr_testfile::{Test, TestFile};
+}
+
 pub use examples::{
     a_fault_is_never_as_expected, a_sample_is_as_expected_or_not,
     alerts_are_compared_with_their_annotations, alerts_of_all_rules_of_a_name_are_told,
@@ -11,7 +28,3 @@ pub use examples::{
     rule_files_stand_beside, samples_come_before_evaluations, templates_see_what_is_external,
 };
 pub use failure::{Failure, Shown};
-pub use pr_testfile as testfile;
-pub use pr_testfile::lineage as lineage;
-pub use pr_world as world;
-pub use pr_world::types as types;

@@ -9,8 +9,12 @@ mod kept;
 mod laws;
 mod window;
 
+// What crates above name of those below.
+pub mod words_crate {
+    pub use pr_words::{Items, Steps};
+}
+
 pub use fold::Fold;
 pub use folded::fold_items;
 pub use laws::{parts_combine, weight_of_items};
-pub use pr_words as words_crate;
 pub use window::Window;

@@ -13,7 +13,6 @@ pub mod GroupExamples
 pub use Rattle.pr_match.specs as pr_match
 pub use Rattle.pr_rules.specs.pr_grammar as pr_grammar
 pub use Rattle.pr_rules.specs.pr_parse as pr_parse
-pub use Rattle.pr_types.specs as pr_types
 pub use Rattle.pr_rules.specs.pr_tmpl as pr_tmpl
 pub use Rattle.pr_expo.specs.pr_expo_line as pr_expo_line
 pub use Rattle.pr_rules.specs.pr_kinds as pr_kinds

@@ -1,4 +1,4 @@
-use pr_ast::labels::Labels;
+use pr_ast::labels_crate::Labels;
 use pr_ast::time::Ms;
 use pr_ast::words_crate::{Items, Text};
 use pr_num::Point;

@@ -12,6 +12,45 @@ mod scrape_laws;
 mod scraped;
 mod target_examples;
 
+// What crates above name of those below.
+pub mod parse {
+    pub use pr_rules::parse::{ParseError, parse};
+}
+
+pub mod types {
+    pub use pr_types::Checked;
+}
+
+pub mod tmpl {
+    pub use pr_rules::tmpl::External;
+}
+
+pub mod expo_line {
+    pub use pr_expo::expo_line::ExpoKind;
+}
+
+pub mod kinds {
+    pub use pr_rules::kinds::{
+        QueryKind, expo_word, push_number, push_number_after, push_query_kind, whole_or_none,
+    };
+}
+
+pub mod fields_crate {
+    pub use pr_rules::fields_crate::{Problem, ProblemKind, push_problem_kind};
+}
+
+pub mod rulefile {
+    pub use pr_rules::rulefile::{GroupDef, RuleError, RuleFile, laws, read};
+}
+
+pub mod query_crate {
+    pub use pr_rules::query_crate::FaultKind;
+}
+
+pub mod rules_crate {
+    pub use pr_rules::{GroupReport, Put, RuleFault, RuleOutcome, RuleReport};
+}
+
 pub use event::{Event, NamedFile};
 pub use examples::{
     a_later_event_moves_the_time, a_sample_adds_its_entry, a_text_that_is_no_expression_is_refused,
@@ -31,14 +70,8 @@ pub use laws::{
 pub use loading_examples::{
     a_reload_before_the_last_event_looks_for_no_file, files_are_found_in_order,
 };
-pub use pr_expo::expo_line as expo_line;
-pub use pr_rules as rules_crate;
 pub use pr_rules::kinds::QueryKind;
-pub use pr_rules::{
-    GroupReport, Put, RuleOutcome, RuleReport, fields_crate as fields_crate, kinds as kinds,
-    parse as parse, query_crate as query_crate, rulefile as rulefile, tmpl as tmpl,
-};
-pub use pr_types as types;
+pub use pr_rules::{GroupReport, Put, RuleOutcome, RuleReport};
 pub use report::{AlertLine, Report};
 pub use scrape_examples::{
     a_bad_body_leaves_nothing, a_label_of_the_target_is_renamed, a_refused_sample_is_dropped,

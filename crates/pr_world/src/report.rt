@@ -2,7 +2,7 @@
 ghost use Rattle.std.specs.Prelude.{◌≡◌};
 ghost use Rattle.pr_world.specs.Outcome.{is_refusal};
 
-use pr_ast::labels::{Item, Labels};
+use pr_ast::labels_crate::{Item, Labels};
 use pr_ast::time::Ms;
 use pr_ast::words_crate::{Items, Text};
 use pr_expo::ExpoKind;

@@ -13,7 +13,11 @@ mod tokens;
 mod trees;
 mod whole;
 
+// What crates above name of those below.
+pub mod yaml_scan {
+    pub use pr_yaml_scan::YamlKind;
+}
+
 pub use fault::YamlError;
 pub use node::{Entry, Kind, Node};
-pub use pr_yaml_scan as yaml_scan;
 pub use reader::read;

@@ -1,5 +1,5 @@
 use Rattle.std.proofs.Common.{◌≡◌, ℕ, List, map, string_bytes, length}
-use Rattle.pr_status.specs.pr_outside.Courses.{GoesOn}
+use Rattle.pr_outside.specs.Courses.{GoesOn}
 use Rattle.pr_status.specs.Outside.{Held, AreTold}
 use Rattle.pr_check_loops.specs.FileChecks.{all_asks, all_told}
 use Rattle.pr_check_loops.specs.FileStops.{AreDone}

@@ -1,6 +1,6 @@
 use Rattle.std.proofs.Common.{◌≡◌, ◌-◌, ◌^◌, ◌+◌, ◌<◌, length}
 use Rattle.std.specs.Io.KnownBytes.{Consumes}
-use Rattle.pr_status.specs.pr_outside.Courses.{GoesOn}
+use Rattle.pr_outside.specs.Courses.{GoesOn}
 use Rattle.pr_check_loops.proofs.input.read_all.Given as goal
 
 abbrev pub invariant-reading : goal.invariant-reading

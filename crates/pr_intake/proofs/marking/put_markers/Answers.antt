@@ -1,5 +1,5 @@
 use Rattle.std.proofs.Common.{List, take}
-use Rattle.pr_labels.specs.declared.pair.Pair.{Pair}
+use Rattle.pr_head.specs.pr_labels.declared.pair.Pair.{Pair}
 use Rattle.pr_head.specs.pr_history.declared.entry.Entry.{Entry}
 use Rattle.pr_head.specs.pr_history.Admission.{put_all}
 use Rattle.pr_puts.specs.Puts.{markers}

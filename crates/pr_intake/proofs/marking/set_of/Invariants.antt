@@ -1,5 +1,5 @@
 use Rattle.std.proofs.Common.{◌≡◌, fold, take, []}
-use Rattle.pr_labels.specs.Rising.{with_labels}
+use Rattle.pr_head.specs.pr_labels.Rising.{with_labels}
 use Rattle.pr_intake.proofs.marking.set_of.Given as goal
 
 abbrev pub invariant-loop-labels : goal.invariant-loop-labels

@@ -1,6 +1,6 @@
 use Rattle.std.proofs.Common.{◌≡◌, List, ap, sym, ◌∙◌}
 use Rattle.pr_forms.proofs.Readings.{one_reading}
-use Rattle.pr_strings.specs.Strings.{seen}
+use Rattle.pr_labels.specs.pr_strings.Strings.{seen}
 use Rattle.pr_labels.specs.declared.pair.Pair.{Pair}
 use Rattle.pr_labels.specs.Edits.{labels_of}
 use Rattle.pr_series.specs.SeriesGrammar.{production, Series, listed}

@@ -1,5 +1,5 @@
 use Rattle.std.proofs.Common.{◌≤◌, length}
-use Rattle.pr_strings.specs.Reader.{KeepsText}
+use Rattle.pr_labels.specs.pr_strings.Reader.{KeepsText}
 use Rattle.pr_series.specs.SeriesGrammar.{blanks}
 use Rattle.pr_forms.specs.Language.{Leads}
 use Rattle.pr_series.specs.SeriesReader.{series}

@@ -1,5 +1,5 @@
 use Rattle.std.proofs.Common.{ap, ◌∙◌}
-use Rattle.pr_words.specs.Names.{is_among}
+use Rattle.pr_labels.specs.pr_words.Names.{is_among}
 use Rattle.pr_series.specs.SeriesReader.{names_of}
 use Rattle.pr_series.proofs.SeriesReading.{label_named, listed_twice, no_sign, no_value, one_label, label_exit}
 use Rattle.pr_series.specs.declared.series.Part.TheVariants.{LabelFirst, LabelNext}

@@ -1,7 +1,7 @@
 use Rattle.std.proofs.Common.{ℕ, List, length}
 use Rattle.std.specs.Str.{IsUtf8}
 use Rattle.pr_forms.specs.Form.{Form, rule}
-use Rattle.pr_strings.specs.Strings.{Letter}
+use Rattle.pr_labels.specs.pr_strings.Strings.{Letter}
 use Rattle.pr_series.specs.SeriesGrammar.{Rule, Value, Items, Item}
 use Rattle.pr_series.specs.SeriesReader.{Reaches, names_of}
 use Rattle.pr_series.proofs.series.list_in.Given as goal

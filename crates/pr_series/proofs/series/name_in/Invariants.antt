@@ -1,6 +1,6 @@
 use Rattle.std.proofs.Common.{ℕ, List, [], ◌∷◌, ◌≤◌, length}
 use Rattle.std.specs.Prelude.{string_bytes}
-use Rattle.pr_strings.specs.Reader.{KeepsText}
+use Rattle.pr_labels.specs.pr_strings.Reader.{KeepsText}
 use Rattle.pr_series.specs.SeriesReader.{GoesOn}
 use Rattle.pr_series.proofs.series.name_in.Given as goal
 

@@ -1,6 +1,6 @@
 use Rattle.std.proofs.Common.{rules, refl, sym}
 use Rattle.pr_forms.proofs.Public.{read_whole, only_value, not_whole, no_reading, rest_place, bad_place, end_place, left_short}
-use Rattle.pr_strings.specs.Strings.{letter_of}
+use Rattle.pr_labels.specs.pr_strings.Strings.{letter_of}
 use Rattle.pr_series.specs.SeriesGrammar.{production, Series, listed}
 use Rattle.pr_series.proofs.SeriesTable.{known}
 use Rattle.pr_series.proofs.series.read_series_pairs.Goals as goal

@@ -1,5 +1,5 @@
 use Rattle.pr_forms.proofs.Taking.{taking}
-use Rattle.pr_strings.specs.Strings.{letter_of}
+use Rattle.pr_labels.specs.pr_strings.Strings.{letter_of}
 use Rattle.pr_series.specs.SeriesGrammar.{production, sign_at, mark}
 use Rattle.pr_series.proofs.SeriesReading.{sign_text}
 use Rattle.pr_series.proofs.series.sign_in.Goals as goal

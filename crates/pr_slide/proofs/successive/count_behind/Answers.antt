@@ -1,7 +1,7 @@
 use Rattle.std.proofs.Common.{◌+◌, ◌∷◌, ◌++◌, ap, ◌∙◌, arith}
 use Rattle.pr_history.specs.declared.spot.Spot.{Spot}
 use Rattle.pr_vectors.specs.Ranges.{differ}
-use Rattle.pr_range.specs.pr_folds.Neighbours.{one_if}
+use Rattle.pr_folds.specs.Neighbours.{one_if}
 use Rattle.pr_slide.specs.Successions.{before_fall}
 use Rattle.pr_slide.proofs.Successions.{changes_few, counted_more, specials_few}
 use Rattle.pr_slide.proofs.successive.count_behind.Goals as goal

@@ -1,5 +1,5 @@
 use Rattle.std.proofs.Common.{List, subst}
-use Rattle.pr_ast.specs.pr_labels.declared.item.Item.{Item}
+use Rattle.pr_labels.specs.declared.item.Item.{Item}
 use Rattle.pr_num.specs.declared.value.Num.{Num}
 use Rattle.pr_query.specs.pr_vectors.Aggregation.{of_groups, always, count_of_values}
 use Rattle.pr_query.specs.Aggregations.{aggregated_at}

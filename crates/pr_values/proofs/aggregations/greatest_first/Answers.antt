@@ -1,5 +1,5 @@
 use Rattle.std.proofs.Common.{List, Ok, subst}
-use Rattle.pr_ast.specs.pr_labels.declared.item.Item.{Item}
+use Rattle.pr_labels.specs.declared.item.Item.{Item}
 use Rattle.pr_num.specs.declared.value.Num.{Num}
 use Rattle.pr_query.specs.pr_vectors.Aggregation.{first_of_parts, greatest_first}
 use Rattle.pr_query.specs.Given.{elements_given}

@@ -1,6 +1,6 @@
 use Rattle.std.proofs.Common.{rules, List, Ok, subst}
 use Rattle.pr_query.specs.pr_vectors.Functions.{at_most}
-use Rattle.pr_ast.specs.pr_labels.declared.item.Item.{Item}
+use Rattle.pr_labels.specs.declared.item.Item.{Item}
 use Rattle.pr_num.specs.declared.value.Num.{Num}
 use Rattle.pr_query.specs.pr_vectors.Functions.{ValueFunction, mapped}
 use Rattle.pr_query.specs.Answers.{function_at}

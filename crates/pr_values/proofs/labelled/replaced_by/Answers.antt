@@ -1,7 +1,7 @@
 use Rattle.std.proofs.Common.{◌≡◌, true, ℕ, List, subst, sym}
 use Rattle.pr_ast.specs.Tree.{trees_of}
-use Rattle.pr_ast.specs.pr_labels.Names.{is_label_name}
-use Rattle.pr_ast.specs.pr_labels.declared.item.Item.{Item}
+use Rattle.pr_labels.specs.Names.{is_label_name}
+use Rattle.pr_labels.specs.declared.item.Item.{Item}
 use Rattle.pr_num.specs.declared.value.Num.{Num}
 use Rattle.pr_fn.specs.pr_match.Pattern.{expanded}
 use Rattle.pr_query.specs.pr_vectors.LabelFunctions.{label_replaced}

@@ -1,7 +1,7 @@
 use Rattle.std.proofs.Common.{List, Ok, subst, sym}
 use Rattle.pr_num.specs.declared.value.Num.{Num}
 use Rattle.pr_num.specs.Arithmetic.{negated}
-use Rattle.pr_ast.specs.pr_labels.declared.item.Item.{Item}
+use Rattle.pr_labels.specs.declared.item.Item.{Item}
 use Rattle.pr_query.specs.pr_vectors.Functions.{ValueFunction, mapped}
 use Rattle.pr_query.specs.declared.value.Value.{Value}
 use Rattle.pr_query.specs.Answers.{function_at}

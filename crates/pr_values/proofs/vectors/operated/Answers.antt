@@ -1,6 +1,6 @@
 use Rattle.std.proofs.Common.{Bool, true, false, List, subst, sym}
 use Rattle.pr_num.specs.declared.value.Num.{Num}
-use Rattle.pr_ast.specs.pr_labels.declared.item.Item.{Item}
+use Rattle.pr_labels.specs.declared.item.Item.{Item}
 use Rattle.pr_query.specs.declared.value.Value.{Value}
 use Rattle.pr_query.specs.declared.value.Value.TheVariants.{Scalar, Vector}
 use Rattle.pr_query.specs.Operations.{operated, with_scalar}

@@ -1,7 +1,7 @@
 use Rattle.std.proofs.Common.{◌≡◌, ◌∙◌, Bool, false, Ok, Err, string_bytes, refl}
-use Rattle.pr_status.specs.Ends.{no_row}
-use Rattle.pr_status.specs.Outside.{Outside}
-use Rattle.pr_status.proofs.Ended.{ends_on, in_time_same}
+use Rattle.pr_loading.specs.pr_status.Ends.{no_row}
+use Rattle.pr_loading.specs.pr_status.Outside.{Outside}
+use Rattle.pr_loading.proofs.StatusEnded.{ends_on, in_time_same}
 use Rattle.pr_loading.proofs.Walks.{asked_on}
 use Rattle.pr_checks.specs.declared.rules.RuleText.{RuleText}
 use Rattle.pr_checks.proofs.OneFile.{one_asked, one_refused, one_text, one_told}

@@ -1,5 +1,5 @@
 use Rattle.std.proofs.Common.{ap, ◌∙◌}
-use Rattle.pr_words.specs.Names.{knows}
+use Rattle.pr_labels.specs.pr_words.Names.{knows}
 use Rattle.pr_series.proofs.KnownNames.{among_all, among_later}
 use Rattle.pr_series.proofs.found.Found.has.Goals as goal
 
