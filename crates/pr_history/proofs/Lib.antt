@@ -1,7 +1,6 @@
 pub mod Choosing
 pub mod Lawful
 pub mod Selected
-pub use Rattle.pr_labels.proofs.Ascii as LabelsAscii
 pub use Rattle.pr_labels.proofs.LabelLaws as LabelsLabelLaws
 pub use Rattle.pr_labels.proofs.LabelMaps as LabelsLabelMaps
 pub use Rattle.pr_labels.proofs.LabelOrder as LabelsLabelOrder
