@@ -4,14 +4,15 @@ use Rattle.std.specs.Str.{IsUtf8}
 use Rattle.pr_num.specs.declared.value.Num.{Num}
 use Rattle.pr_num.specs.declared.value.TooWide.{TooWide}
 use Rattle.pr_num.specs.Arithmetic.{too_wide}
-use Rattle.pr_labels.specs.declared.pair.Pair.{Pair}
-use Rattle.pr_labels.specs.declared.item.Item.{Item}
-use Rattle.pr_labels.specs.declared.grouping.Grouping.{Grouping}
-use Rattle.pr_labels.specs.Rising.{IsRising}
-use Rattle.pr_labels.proofs.LabelOrder.{rising_fold}
-use Rattle.pr_folds.specs.pr_vectors.Vectors.{IsVector, in_label_order, label_sets}
-use Rattle.pr_folds.specs.pr_vectors.Aggregation.{of_groups, always}
-use Rattle.pr_folds.proofs.VectorsAggregation.{aggregated_alike, always_is_ok}
+use Rattle.pr_window.specs.pr_labels.declared.pair.Pair.{Pair}
+use Rattle.pr_window.specs.pr_labels.declared.item.Item.{Item}
+use Rattle.pr_window.specs.pr_labels.declared.grouping.Grouping.{Grouping}
+use Rattle.pr_window.specs.pr_labels.Rising.{IsRising}
+use Rattle.pr_window.proofs.LabelsLabelOrder.{rising_fold}
+use Rattle.pr_window.specs.spec_vectors.private.Laws.{IsVector}
+use Rattle.pr_window.specs.spec_vectors.Vectors.{in_label_order, label_sets}
+use Rattle.pr_window.specs.spec_vectors.Aggregation.{of_groups, always}
+use Rattle.pr_window.proofs.VectorsAggregation.{aggregated_alike, always_is_ok}
 use Rattle.pr_agg.specs.declared.fault.AggFault.{AggFault}
 use Rattle.pr_agg.specs.declared.fault.AggFault.TheVariants as fault
 

@@ -6,17 +6,17 @@ use Rattle.std.specs.Map.{keys_of}
 use Rattle.std.specs.BTreeMap.{BTreeMap}
 use Rattle.pr_num.specs.declared.value.Num.{Num}
 use Rattle.pr_num.specs.Arithmetic.{whole_of}
-use Rattle.pr_labels.specs.declared.pair.Pair.{Pair}
-use Rattle.pr_labels.specs.declared.item.Item.{Item}
-use Rattle.pr_labels.specs.declared.grouping.Grouping.{Grouping}
-use Rattle.pr_labels.specs.Order.{labels_eq}
-use Rattle.pr_folds.specs.pr_vectors.Vectors.{element}
-use Rattle.pr_folds.specs.pr_vectors.Aggregation.{counted, value_count, value_group, values_of}
-use Rattle.pr_labels.proofs.LabelOrder.{labels_total}
-use Rattle.pr_folds.specs.pr_window.Folding.{and_item, folded}
-use Rattle.pr_agg.specs.Counts.{both_parts, numbered, numbered_all, one_each}
+use Rattle.pr_window.specs.pr_labels.declared.pair.Pair.{Pair}
+use Rattle.pr_window.specs.pr_labels.declared.item.Item.{Item}
+use Rattle.pr_window.specs.pr_labels.declared.grouping.Grouping.{Grouping}
+use Rattle.pr_window.specs.pr_labels.Order.{labels_eq}
+use Rattle.pr_window.specs.spec_vectors.Vectors.{element}
+use Rattle.pr_window.specs.spec_vectors.Aggregation.{counted, value_count, value_group, values_of}
+use Rattle.pr_window.proofs.LabelsLabelOrder.{labels_total}
+use Rattle.pr_window.specs.private.Folding.{and_item, folded}
+use Rattle.pr_agg.specs.private.Counts.{both_parts, numbered, numbered_all, one_each}
 use Rattle.pr_agg.proofs.Folded.{fold_count}
-use Rattle.pr_agg.specs.Parts.{AreParts, part_by}
+use Rattle.pr_agg.specs.private.Parts.{AreParts, part_by}
 
 folded_count : (xs : List Num) (n : ℕ) → Some n ≡ folded one_each both_parts xs → n ≡ length xs
 folded_count [] n h = cc

@@ -5,13 +5,13 @@ use Rattle.std.specs.Map.{keys_of}
 use Rattle.std.specs.BTreeMap.{BTreeMap}
 use Rattle.pr_num.specs.declared.value.Num.{Num}
 use Rattle.pr_num.specs.declared.value.TooWide.{TooWide}
-use Rattle.pr_labels.specs.declared.pair.Pair.{Pair}
-use Rattle.pr_labels.specs.declared.item.Item.{Item}
-use Rattle.pr_labels.specs.declared.grouping.Grouping.{Grouping}
-use Rattle.pr_labels.proofs.LabelOrder.{labels_total}
-use Rattle.pr_folds.specs.pr_vectors.Vectors.{element, label_sets}
-use Rattle.pr_folds.specs.pr_vectors.Aggregation.{of_groups, group_answers, behind, group_of, part, prepended, values_of}
-use Rattle.pr_agg.specs.Parts.{AreParts, after_items, finished, finished_all, fold_and_finish}
+use Rattle.pr_window.specs.pr_labels.declared.pair.Pair.{Pair}
+use Rattle.pr_window.specs.pr_labels.declared.item.Item.{Item}
+use Rattle.pr_window.specs.pr_labels.declared.grouping.Grouping.{Grouping}
+use Rattle.pr_window.proofs.LabelsLabelOrder.{labels_total}
+use Rattle.pr_window.specs.spec_vectors.Vectors.{element, label_sets}
+use Rattle.pr_window.specs.spec_vectors.Aggregation.{of_groups, group_answers, behind, group_of, part, prepended, values_of}
+use Rattle.pr_agg.specs.private.Parts.{AreParts, after_items, finished, finished_all, fold_and_finish}
 
 -- one element more before the rest
 pub after_one : (items : List (Item Num)) (e : Item Num) (rest : Result (List (Item Num)) TooWide) → after_items items (prepended e rest) ≡ after_items (items ++ e ∷ []) rest

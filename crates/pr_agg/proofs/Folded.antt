@@ -5,15 +5,15 @@ use Rattle.std.specs.Ordering.{ord_min}
 use Rattle.std.specs.declared.cmp.Ordering.{Ordering}
 use Rattle.pr_num.specs.declared.value.Num.{Num}
 use Rattle.pr_num.specs.Total.{joined, one_value}
-use Rattle.pr_folds.specs.pr_vectors.Aggregation.{always, count_of_values, first_value, greatest_first, greatest_of_values, least_first, least_of_values, mean_of_values, one_of_values, sum_of_values, with_placed}
-use Rattle.pr_folds.specs.pr_window.Folding.{and_item}
-use Rattle.pr_folds.specs.Extremes.{greater, lesser}
-use Rattle.pr_folds.proofs.Extremes.{first_is_folded}
-use Rattle.pr_agg.specs.Alone.{itself}
-use Rattle.pr_agg.specs.Counts.{both_parts, one_each}
-use Rattle.pr_agg.specs.Finished.{count_finished, mean_finished, presence_finished, total_finished, value_finished}
-use Rattle.pr_agg.specs.Parts.{fold_and_finish}
-use Rattle.pr_agg.specs.Presence.{any, both}
+use Rattle.pr_window.specs.spec_vectors.Aggregation.{always, count_of_values, first_value, greatest_first, greatest_of_values, least_first, least_of_values, mean_of_values, one_of_values, sum_of_values, with_placed}
+use Rattle.pr_window.specs.private.Folding.{and_item}
+use Rattle.pr_window.specs.private.Extremes.{greater, lesser}
+use Rattle.pr_window.proofs.Extremes.{first_is_folded}
+use Rattle.pr_agg.specs.private.Alone.{itself}
+use Rattle.pr_agg.specs.private.Counts.{both_parts, one_each}
+use Rattle.pr_agg.specs.private.Finished.{count_finished, mean_finished, presence_finished, total_finished, value_finished}
+use Rattle.pr_agg.specs.private.Parts.{fold_and_finish}
+use Rattle.pr_agg.specs.private.Presence.{any, both}
 use Rattle.pr_agg.proofs.Totaling.{total_folded}
 
 pub sum_folded : (x : Num) (xs : List Num) → fold_and_finish one_value joined total_finished (x ∷ xs) ≡ sum_of_values (x ∷ xs)

@@ -6,15 +6,15 @@ use Rattle.std.specs.BTreeMap.{BTreeMap}
 use Rattle.pr_num.specs.declared.value.Num.{Num}
 use Rattle.pr_num.specs.Order.{order_of}
 use Rattle.pr_num.specs.Quantile.{quantile_of}
-use Rattle.pr_labels.specs.declared.pair.Pair.{Pair}
-use Rattle.pr_labels.specs.declared.item.Item.{Item}
-use Rattle.pr_labels.specs.declared.grouping.Grouping.{Grouping}
-use Rattle.pr_folds.specs.pr_vectors.Vectors.{element}
-use Rattle.pr_folds.specs.pr_vectors.Aggregation.{of_groups, always, group_answers, group_of, in_value_order, part, prepended, quantile_of_values, values_of}
-use Rattle.pr_labels.proofs.LabelOrder.{labels_total}
-use Rattle.pr_folds.specs.pr_window.Folding.{and_item, folded}
-use Rattle.pr_agg.specs.Lists.{alone, one_after_other, quantiles_in}
-use Rattle.pr_agg.specs.Parts.{AreParts}
+use Rattle.pr_window.specs.pr_labels.declared.pair.Pair.{Pair}
+use Rattle.pr_window.specs.pr_labels.declared.item.Item.{Item}
+use Rattle.pr_window.specs.pr_labels.declared.grouping.Grouping.{Grouping}
+use Rattle.pr_window.specs.spec_vectors.Vectors.{element}
+use Rattle.pr_window.specs.spec_vectors.Aggregation.{of_groups, always, group_answers, group_of, in_value_order, part, prepended, quantile_of_values, values_of}
+use Rattle.pr_window.proofs.LabelsLabelOrder.{labels_total}
+use Rattle.pr_window.specs.private.Folding.{and_item, folded}
+use Rattle.pr_agg.specs.private.Lists.{alone, one_after_other, quantiles_in}
+use Rattle.pr_agg.specs.private.Parts.{AreParts}
 
 fold_lists : (acc xs : List Num) → fold (and_item alone one_after_other) acc xs ≡ acc ++ xs
 fold_lists acc [] = sym (append-nil acc)

@@ -7,17 +7,17 @@ use Rattle.std.specs.Option.{IfSome}
 use Rattle.std.specs.Map.{keys_of}
 use Rattle.std.specs.BTreeMap.{BTreeMap, IsOrdered, get, keys, Updates, insert_entry}
 use Rattle.pr_num.specs.declared.value.Num.{Num}
-use Rattle.pr_labels.specs.declared.pair.Pair.{Pair}
-use Rattle.pr_labels.specs.declared.item.Item.{Item}
-use Rattle.pr_labels.specs.Order.{labels_cmp, labels_eq}
-use Rattle.pr_labels.specs.Rising.{with_labels}
-use Rattle.pr_labels.proofs.LabelOrder.{labels_decide}
-use Rattle.pr_labels.proofs.LabelMaps.{keys_insert, tie}
-use Rattle.pr_folds.specs.pr_vectors.Vectors.{in_label_order}
-use Rattle.pr_folds.specs.pr_vectors.Aggregation.{values_of}
-use Rattle.pr_folds.specs.pr_window.Folding.{folded, with_next}
-use Rattle.pr_folds.proofs.WindowFolding.{folded_more, weight_folded}
-use Rattle.pr_agg.specs.Parts.{AreParts, part_by}
+use Rattle.pr_window.specs.pr_labels.declared.pair.Pair.{Pair}
+use Rattle.pr_window.specs.pr_labels.declared.item.Item.{Item}
+use Rattle.pr_window.specs.pr_labels.Order.{labels_cmp, labels_eq}
+use Rattle.pr_window.specs.pr_labels.Rising.{with_labels}
+use Rattle.pr_window.proofs.LabelsLabelOrder.{labels_decide}
+use Rattle.pr_window.proofs.LabelsLabelMaps.{keys_insert, tie}
+use Rattle.pr_window.specs.spec_vectors.Vectors.{in_label_order}
+use Rattle.pr_window.specs.spec_vectors.Aggregation.{values_of}
+use Rattle.pr_window.specs.private.Folding.{folded, with_next}
+use Rattle.pr_window.proofs.Folding.{folded_more, weight_folded}
+use Rattle.pr_agg.specs.private.Parts.{AreParts, part_by}
 
 groups_more : (key : Item Num → List Pair) (front : List (Item Num)) (x : Item Num) → in_label_order (map key (front ++ x ∷ [])) ≡ with_labels (in_label_order (map key front)) (key x)
 groups_more key front x =

@@ -10,17 +10,17 @@ use Rattle.std.specs.Map.{lookup, values_of}
 use Rattle.std.specs.BTreeMap.{BTreeMap, get, Updates, is_at}
 use Rattle.pr_num.specs.declared.value.Num.{Num}
 use Rattle.pr_num.specs.declared.value.Num.TheVariants.{NaN}
-use Rattle.pr_labels.specs.declared.pair.Pair.{Pair}
-use Rattle.pr_labels.specs.declared.item.Item.{Item}
-use Rattle.pr_labels.specs.declared.grouping.Grouping.{Grouping}
-use Rattle.pr_labels.specs.Order.{labels_cmp, labels_eq}
-use Rattle.pr_labels.specs.Rising.{IsRising}
-use Rattle.pr_labels.proofs.LabelOrder.{labels_decide}
-use Rattle.pr_labels.proofs.LabelMaps.{tie}
-use Rattle.pr_folds.specs.pr_vectors.Vectors.{label_sets}
-use Rattle.pr_folds.specs.pr_vectors.Aggregation.{group_of, is_within, rank}
+use Rattle.pr_window.specs.pr_labels.declared.pair.Pair.{Pair}
+use Rattle.pr_window.specs.pr_labels.declared.item.Item.{Item}
+use Rattle.pr_window.specs.pr_labels.declared.grouping.Grouping.{Grouping}
+use Rattle.pr_window.specs.pr_labels.Order.{labels_cmp, labels_eq}
+use Rattle.pr_window.specs.pr_labels.Rising.{IsRising}
+use Rattle.pr_window.proofs.LabelsLabelOrder.{labels_decide}
+use Rattle.pr_window.proofs.LabelsLabelMaps.{tie}
+use Rattle.pr_window.specs.spec_vectors.Vectors.{label_sets}
+use Rattle.pr_window.specs.spec_vectors.Aggregation.{group_of, is_within, rank}
 use Rattle.pr_agg.specs.declared.firsts.Rank.{Rank}
-use Rattle.pr_agg.specs.Firsts.{AreMarks, AreRanks, AreSeen, IsMarked, in_group, is_first, mark_of, order_toward, rank_at, rank_cmp, rank_of, weigh_at}
+use Rattle.pr_agg.specs.private.Firsts.{AreMarks, AreRanks, AreSeen, IsMarked, in_group, is_first, mark_of, order_toward, rank_at, rank_cmp, rank_of, weigh_at}
 use Rattle.pr_agg.proofs.RanksOf.{equal_if}
 use Rattle.pr_agg.proofs.Seen.{entry_at, seen_is_rank}
 

@@ -9,14 +9,14 @@ use Rattle.std.specs.declared.cmp.Ordering.TheVariants.{Less, Equal, Greater}
 use Rattle.pr_num.specs.declared.value.Num.{Num}
 use Rattle.pr_num.specs.declared.value.Num.TheVariants.{Finite, NaN, PosInf, NegInf}
 use Rattle.pr_num.specs.Order.{order_of}
-use Rattle.pr_labels.specs.declared.pair.Pair.{Pair}
-use Rattle.pr_labels.specs.declared.item.Item.{Item}
-use Rattle.pr_labels.specs.Order.{labels_cmp}
-use Rattle.pr_labels.specs.Rising.{IsBelowFirstSet, IsRising}
-use Rattle.pr_folds.specs.pr_vectors.Vectors.{label_sets}
-use Rattle.pr_folds.specs.pr_vectors.Aggregation.{comes_before, greatest_first, least_first}
-use Rattle.pr_labels.proofs.LabelOrder.{labels_total}
-use Rattle.pr_agg.specs.Firsts.{class_of, order_toward, rank_cmp, rank_of, ranked, units_of}
+use Rattle.pr_window.specs.pr_labels.declared.pair.Pair.{Pair}
+use Rattle.pr_window.specs.pr_labels.declared.item.Item.{Item}
+use Rattle.pr_window.specs.pr_labels.Order.{labels_cmp}
+use Rattle.pr_window.specs.pr_labels.Rising.{IsBelowFirstSet, IsRising}
+use Rattle.pr_window.specs.spec_vectors.Vectors.{label_sets}
+use Rattle.pr_window.specs.spec_vectors.Aggregation.{comes_before, greatest_first, least_first}
+use Rattle.pr_window.proofs.LabelsLabelOrder.{labels_total}
+use Rattle.pr_agg.specs.private.Firsts.{class_of, order_toward, rank_cmp, rank_of, ranked, units_of}
 
 pub rank_total : IsTotalOrder rank_cmp
 rank_total = then_total (on_total (λ r. r.class) nat_cmp_total) (then_total (on_total (λ r. r.units) int_cmp_total) (on_total (λ r. r.index) nat_cmp_total))

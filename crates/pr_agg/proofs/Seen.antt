@@ -9,15 +9,15 @@ use Rattle.std.specs.Ordering.{is_lt}
 use Rattle.std.specs.BTreeMap.{BTreeMap, get}
 use Rattle.pr_num.specs.declared.value.Num.{Num}
 use Rattle.pr_num.specs.declared.value.Num.TheVariants.{NaN}
-use Rattle.pr_labels.specs.declared.item.Item.{Item}
-use Rattle.pr_labels.specs.declared.grouping.Grouping.{Grouping}
-use Rattle.pr_labels.specs.Order.{labels_eq}
-use Rattle.pr_labels.specs.Rising.{IsRising}
-use Rattle.pr_folds.specs.pr_vectors.Vectors.{label_sets}
-use Rattle.pr_folds.specs.pr_vectors.Aggregation.{comes_before, group_of, rank}
+use Rattle.pr_window.specs.pr_labels.declared.item.Item.{Item}
+use Rattle.pr_window.specs.pr_labels.declared.grouping.Grouping.{Grouping}
+use Rattle.pr_window.specs.pr_labels.Order.{labels_eq}
+use Rattle.pr_window.specs.pr_labels.Rising.{IsRising}
+use Rattle.pr_window.specs.spec_vectors.Vectors.{label_sets}
+use Rattle.pr_window.specs.spec_vectors.Aggregation.{comes_before, group_of, rank}
 use Rattle.pr_agg.specs.declared.firsts.Rank.{Rank}
-use Rattle.pr_agg.specs.Firsts.{AreRanks, in_group, order_toward, rank_at, rank_cmp, rank_of, weigh_at}
-use Rattle.pr_labels.proofs.Sorted.{before_entry, sum_cons}
+use Rattle.pr_agg.specs.private.Firsts.{AreRanks, in_group, order_toward, rank_at, rank_cmp, rank_of, weigh_at}
+use Rattle.pr_window.proofs.LabelsSorted.{before_entry, sum_cons}
 use Rattle.pr_agg.proofs.Ranking.{before_by_rank, rank_total}
 
 -- a count in a part

@@ -1,7 +1,1 @@
-pub mod Parts
-pub mod Firsts
-pub mod Counts
-pub mod Alone
-pub mod Finished
-pub mod Presence
-pub mod Lists
+pub mod private

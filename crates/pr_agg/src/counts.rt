@@ -2,18 +2,18 @@
 ghost use Rattle.std.specs.Prelude.{◌≡◌, ◌+◌, ◌<◌, ◌^◌, true, IfOk, IfSome};
 ghost use Rattle.pr_num.specs.declared.value.Num.{Num};
 ghost use Rattle.pr_num.specs.Shown.{shown};
-ghost use Rattle.pr_labels.specs.Edits.{set_label};
-ghost use Rattle.pr_labels.specs.Names.{is_label_name};
-ghost use Rattle.pr_folds.specs.pr_vectors.Vectors.{IsVector};
-ghost use Rattle.pr_folds.specs.pr_vectors.Aggregation.{counted, value_group};
-ghost use Rattle.pr_folds.specs.pr_window.Folding.{with_next};
-ghost use Rattle.pr_agg.specs.Counts.{both_parts, numbered_all, one_each};
-ghost use Rattle.pr_agg.specs.Parts.{AreParts};
+ghost use Rattle.pr_window.specs.pr_labels.Edits.{set_label};
+ghost use Rattle.pr_window.specs.pr_labels.Names.{is_label_name};
+ghost use Rattle.pr_window.specs.spec_vectors.private.Laws.{IsVector};
+ghost use Rattle.pr_window.specs.spec_vectors.Aggregation.{counted, value_group};
+ghost use Rattle.pr_window.specs.private.Folding.{with_next};
+ghost use Rattle.pr_agg.specs.private.Counts.{both_parts, numbered_all, one_each};
+ghost use Rattle.pr_agg.specs.private.Parts.{AreParts};
 
 use crate::numbers::whole;
 use crate::parts::group_of;
-use pr_labels::{Grouping, Item, Labels};
 use pr_num::{Num, write};
+use pr_window::labels::{Grouping, Item, Labels};
 use std::alloc::{AllocError, Global};
 use std::collections::BTreeMap;
 use std::str;

@@ -3,16 +3,16 @@ ghost use Rattle.std.specs.Prelude.{◌≡◌, ◌+◌, ◌<◌, ◌^◌, ℕ, S
 ghost use Rattle.std.specs.Option.{unwrap_or};
 ghost use Rattle.std.specs.BTreeMap.{Updates, get};
 ghost use Rattle.pr_num.specs.declared.value.Num.{Num};
-ghost use Rattle.pr_labels.specs.declared.pair.Pair.{Pair};
-ghost use Rattle.pr_labels.specs.declared.item.Item.{Item};
-ghost use Rattle.pr_labels.specs.Order.{labels_cmp};
-ghost use Rattle.pr_folds.specs.pr_vectors.Vectors.{IsVector};
-ghost use Rattle.pr_folds.specs.pr_vectors.Aggregation.{first_of_parts, greatest_first, is_within, least_first};
-ghost use Rattle.pr_agg.specs.Firsts.{AreRanks, IsMarked, is_first, order_toward, rank_of, ranked};
+ghost use Rattle.pr_window.specs.pr_labels.declared.pair.Pair.{Pair};
+ghost use Rattle.pr_window.specs.pr_labels.declared.item.Item.{Item};
+ghost use Rattle.pr_window.specs.pr_labels.Order.{labels_cmp};
+ghost use Rattle.pr_window.specs.spec_vectors.private.Laws.{IsVector};
+ghost use Rattle.pr_window.specs.spec_vectors.Aggregation.{first_of_parts, greatest_first, is_within, least_first};
+ghost use Rattle.pr_agg.specs.private.Firsts.{AreRanks, IsMarked, is_first, order_toward, rank_of, ranked};
 
 use crate::parts::group_of;
-use pr_labels::{Grouping, Item, Labels};
 use pr_num::Num;
+use pr_window::labels::{Grouping, Item, Labels};
 use std::alloc::{AllocError, Global};
 use std::collections::BTreeMap;
 

@@ -4,17 +4,18 @@ ghost use Rattle.std.specs.BTreeMap.{keys};
 ghost use Rattle.pr_num.specs.declared.value.Num.{Num};
 ghost use Rattle.pr_num.specs.declared.value.TooWide.{TooWide};
 ghost use Rattle.pr_num.specs.Arithmetic.{too_wide};
-ghost use Rattle.pr_folds.specs.pr_vectors.Vectors.{IsVector, element, label_sets};
-ghost use Rattle.pr_folds.specs.pr_vectors.Aggregation.{of_groups};
-ghost use Rattle.pr_folds.specs.pr_window.Folding.{Lifts, Combines};
+ghost use Rattle.pr_window.specs.spec_vectors.private.Laws.{IsVector};
+ghost use Rattle.pr_window.specs.spec_vectors.Vectors.{element, label_sets};
+ghost use Rattle.pr_window.specs.spec_vectors.Aggregation.{of_groups};
+ghost use Rattle.pr_window.specs.private.Folding.{Lifts, Combines};
 ghost use Rattle.pr_agg.specs.declared.fault.AggFault.TheVariants as fault;
-ghost use Rattle.pr_agg.specs.Parts.{Finishes, finished_all, fold_and_finish};
+ghost use Rattle.pr_agg.specs.private.Parts.{Finishes, finished_all, fold_and_finish};
 
 use crate::fault::AggFault;
 use crate::parts::fold_parts;
-use pr_folds::window::Fold;
-use pr_labels::{Grouping, Item, Labels};
 use pr_num::{Num, TooWide};
+use pr_window::Fold;
+use pr_window::labels::{Grouping, Item, Labels};
 use std::alloc::{AllocError, Global};
 use std::collections::BTreeMap;
 

@@ -2,15 +2,15 @@
 ghost use Rattle.std.specs.Prelude.{◌≡◌, List, ◌∷◌};
 ghost use Rattle.pr_num.specs.declared.value.Num.{Num};
 ghost use Rattle.pr_num.specs.Total.{joined, one_value};
-ghost use Rattle.pr_folds.specs.pr_vectors.Aggregation.{always, count_of_values, greatest_of_values, least_of_values, mean_of_values, one_of_values, sum_of_values};
-ghost use Rattle.pr_folds.specs.Extremes.{greater, lesser};
-ghost use Rattle.pr_agg.specs.Alone.{itself};
-ghost use Rattle.pr_agg.specs.Counts.{both_parts, one_each};
-ghost use Rattle.pr_agg.specs.Finished.{count_finished, mean_finished, presence_finished, total_finished, value_finished};
-ghost use Rattle.pr_agg.specs.Parts.{fold_and_finish};
-ghost use Rattle.pr_agg.specs.Presence.{any, both};
+ghost use Rattle.pr_window.specs.spec_vectors.Aggregation.{always, count_of_values, greatest_of_values, least_of_values, mean_of_values, one_of_values, sum_of_values};
+ghost use Rattle.pr_window.specs.private.Extremes.{greater, lesser};
+ghost use Rattle.pr_agg.specs.private.Alone.{itself};
+ghost use Rattle.pr_agg.specs.private.Counts.{both_parts, one_each};
+ghost use Rattle.pr_agg.specs.private.Finished.{count_finished, mean_finished, presence_finished, total_finished, value_finished};
+ghost use Rattle.pr_agg.specs.private.Parts.{fold_and_finish};
+ghost use Rattle.pr_agg.specs.private.Presence.{any, both};
 
-/// Any values that there are, folded by `Totals`, `Greatest`, `Least`, `Counts` or `Presence` and
+/// Any values that there are, folded by `Totals`, `Greatest`, `Least`, `CountFold` or `Presence` and
 /// finished, give what the definition says of them.
 #[tactic(auto, using(crate::proofs::Folded::sum_folded, crate::proofs::Folded::mean_folded, crate::proofs::Folded::greatest_folded, crate::proofs::Folded::least_folded, crate::proofs::Folded::count_folded, crate::proofs::Folded::one_folded))]
 pub fn folded_values_are_as_defined()

@@ -1,4 +1,4 @@
-//! Aggregations of a vector by labels. A call equals its definition in `pr_vectors`, which speaks
+//! Aggregations of a vector by labels. A call equals its definition in `spec_vectors`, which speaks
 //! of the filters of the vector; the parts are gathered in an ordered map, so that the work grows
 //! with the elements and not with the groups.
 #![tactic(auto)]
@@ -19,4 +19,4 @@ pub use firsts::{bottomk, topk};
 pub use folds::group_fold;
 pub use laws::folded_values_are_as_defined;
 pub use lists::quantile;
-pub use values::{Counts, Greatest, Least, Presence, Totals, avg, count, group, max, min, sum};
+pub use values::{CountFold, Greatest, Least, Presence, Totals, avg, count, group, max, min, sum};

@@ -2,18 +2,18 @@
 ghost use Rattle.std.specs.Prelude.{◌≡◌, true, false, is_some, Some, Ok, IfOk, OnOk, IsSorted};
 ghost use Rattle.std.specs.BTreeMap.{IsOrdered, Updates, get, keys};
 ghost use Rattle.pr_num.specs.Order.{order_of};
-ghost use Rattle.pr_folds.specs.pr_vectors.Vectors.{IsVector};
-ghost use Rattle.pr_labels.specs.Order.{labels_cmp};
-ghost use Rattle.pr_labels.specs.Rising.{with_labels};
-ghost use Rattle.pr_folds.specs.pr_vectors.Aggregation.{of_groups, always, group_of, in_value_order, quantile_of_values};
-ghost use Rattle.pr_folds.specs.pr_window.Folding.{with_next};
-ghost use Rattle.pr_agg.specs.Lists.{alone, one_after_other, quantiles_in};
-ghost use Rattle.pr_agg.specs.Parts.{AreParts};
+ghost use Rattle.pr_window.specs.spec_vectors.private.Laws.{IsVector};
+ghost use Rattle.pr_window.specs.pr_labels.Order.{labels_cmp};
+ghost use Rattle.pr_window.specs.pr_labels.Rising.{with_labels};
+ghost use Rattle.pr_window.specs.spec_vectors.Aggregation.{of_groups, always, group_of, in_value_order, quantile_of_values};
+ghost use Rattle.pr_window.specs.private.Folding.{with_next};
+ghost use Rattle.pr_agg.specs.private.Lists.{alone, one_after_other, quantiles_in};
+ghost use Rattle.pr_agg.specs.private.Parts.{AreParts};
 
 use crate::parts::group_of;
-use pr_folds::words_crate::Items;
-use pr_labels::{Grouping, Item, Labels};
 use pr_num::Num;
+use pr_window::labels::{Grouping, Item, Labels};
+use pr_window::words_crate::Items;
 use std::alloc::{AllocError, Global};
 use std::collections::BTreeMap;
 

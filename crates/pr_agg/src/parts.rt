@@ -1,12 +1,12 @@
 // The parts of a vector, each folded to a summary.
 ghost use Rattle.std.specs.Prelude.{◌≡◌, ◌+◌, ◌<◌, ◌^◌, IfOk, IfSome};
-ghost use Rattle.pr_folds.specs.pr_vectors.Aggregation.{group_of};
-ghost use Rattle.pr_folds.specs.pr_window.Folding.{Lifts, Combines, with_next};
-ghost use Rattle.pr_agg.specs.Parts.{AreParts};
+ghost use Rattle.pr_window.specs.spec_vectors.Aggregation.{group_of};
+ghost use Rattle.pr_window.specs.private.Folding.{Lifts, Combines, with_next};
+ghost use Rattle.pr_agg.specs.private.Parts.{AreParts};
 
-use pr_folds::window::Fold;
-use pr_labels::{Grouping, Item, Labels};
 use pr_num::Num;
+use pr_window::Fold;
+use pr_window::labels::{Grouping, Item, Labels};
 use std::alloc::{AllocError, Global};
 use std::collections::BTreeMap;
 

@@ -1,17 +1,17 @@
 // Aggregations that fold the values of each part.
 ghost use Rattle.std.specs.Prelude.{◌≡◌, ◌≢◌, Ok, Err, IfOk, IfErr, MatchResult};
 ghost use Rattle.pr_num.specs.Arithmetic.{too_wide, whole_of};
-ghost use Rattle.pr_folds.specs.pr_vectors.Vectors.{IsVector};
-ghost use Rattle.pr_folds.specs.pr_vectors.Aggregation.{of_groups, always, count_of_values, greatest_of_values, least_of_values, mean_of_values, one_of_values, sum_of_values};
+ghost use Rattle.pr_window.specs.spec_vectors.private.Laws.{IsVector};
+ghost use Rattle.pr_window.specs.spec_vectors.Aggregation.{of_groups, always, count_of_values, greatest_of_values, least_of_values, mean_of_values, one_of_values, sum_of_values};
 ghost use Rattle.pr_agg.specs.declared.fault.AggFault.TheVariants as fault;
 
 use crate::fault::AggFault;
 use crate::folds::group_fold;
 use crate::numbers::whole;
-use pr_folds::window::Fold;
-use pr_folds::{greater, lesser};
-use pr_labels::{Grouping, Item};
 use pr_num::{Num, TooWide, Total};
+use pr_window::Fold;
+use pr_window::folds::{greater, lesser};
+use pr_window::labels::{Grouping, Item};
 use std::alloc::{AllocError, Global};
 
 /// Values are folded to their total, for `sum` and `avg`: lift by `Total::zero().plus(v)`, combine
@@ -20,7 +20,7 @@ pub struct Totals;
 
 impl Fold<Num, Total> for Totals {
     ghost use Rattle.pr_num.specs.Total.{joined, one_value};
-    ghost use Rattle.pr_folds.specs.Totals.{joined_assoc, joined_count, one_count, tally_count};
+    ghost use Rattle.pr_window.specs.private.Totals.{joined_assoc, joined_count, one_count, tally_count};
 
     ghost lift = { one_value };
 
@@ -39,8 +39,8 @@ impl Fold<Num, Total> for Totals {
 pub struct Greatest;
 
 impl Fold<Num, Num> for Greatest {
-    ghost use Rattle.pr_folds.specs.Extremes.{greater, greater_assoc, greater_weightless, no_weight};
-    ghost use Rattle.pr_agg.specs.Alone.{itself, itself_weightless};
+    ghost use Rattle.pr_window.specs.private.Extremes.{greater, greater_assoc, greater_weightless, no_weight};
+    ghost use Rattle.pr_agg.specs.private.Alone.{itself, itself_weightless};
 
     ghost lift = { itself };
 
@@ -59,8 +59,8 @@ impl Fold<Num, Num> for Greatest {
 pub struct Least;
 
 impl Fold<Num, Num> for Least {
-    ghost use Rattle.pr_folds.specs.Extremes.{lesser, lesser_assoc, lesser_weightless, no_weight};
-    ghost use Rattle.pr_agg.specs.Alone.{itself, itself_weightless};
+    ghost use Rattle.pr_window.specs.private.Extremes.{lesser, lesser_assoc, lesser_weightless, no_weight};
+    ghost use Rattle.pr_agg.specs.private.Alone.{itself, itself_weightless};
 
     ghost lift = { itself };
 
@@ -76,10 +76,10 @@ impl Fold<Num, Num> for Least {
 }
 
 /// Values are folded to their number: each is one, combined by addition.
-pub struct Counts;
+pub struct CountFold;
 
-impl Fold<Num, u64> for Counts {
-    ghost use Rattle.pr_agg.specs.Counts.{as_many, both_assoc, both_parts, both_weigh, one_each, one_weighs_one};
+impl Fold<Num, u64> for CountFold {
+    ghost use Rattle.pr_agg.specs.private.Counts.{as_many, both_assoc, both_parts, both_weigh, one_each, one_weighs_one};
 
     ghost lift = { one_each };
 
@@ -98,7 +98,7 @@ impl Fold<Num, u64> for Counts {
 pub struct Presence;
 
 impl Fold<Num, ()> for Presence {
-    ghost use Rattle.pr_agg.specs.Presence.{any, both, both_assoc, nothing, weighs_nothing, both_weigh_nothing};
+    ghost use Rattle.pr_agg.specs.private.Presence.{any, both, both_assoc, nothing, weighs_nothing, both_weigh_nothing};
 
     ghost lift = { any };
 
@@ -207,7 +207,7 @@ pub fn count(
     ensures aggregated { IfOk result (λ v. of_groups (always count_of_values) by.now vector.now ≡ Ok v.items) }
     ensures vector { IfOk result (λ v. IsVector v.items) }
 {
-    let answer = group_fold::<u64, Counts, _, _, _>(
+    let answer = group_fold::<u64, CountFold, _, _, _>(
         alloc,
         vector,
         by,

@@ -2,7 +2,7 @@
 use Rattle.std.proofs.Common.{◌≡◌, ℕ, zero, suc, false, List, [], ◌∷◌, ◌++◌, take, drop, map, length, get_or, ◌<◌, ◌-◌, ◌^◌, max, min, refl, ap, sym, ◌∙◌, arith}
 use Rattle.pr_ast.specs.declared.tree.Expr.{Expr}
 use Rattle.pr_ast.specs.Tree.{Tree, more, more_from, none, tree_of, trees_of}
-use Rattle.pr_ast.specs.Print.{comma_text, comma_unless, tree_text}
+use Rattle.pr_ast.specs.private.Print.{comma_text, comma_unless, tree_text}
 use Rattle.pr_ast.specs.Reach.{reads_back, reach}
 
 more_from-push : (es : List Expr) (e : Expr) (before : Tree) → more_from before (map tree_of (es ++ e ∷ [])) ≡ more (more_from before (map tree_of es)) (tree_of e)

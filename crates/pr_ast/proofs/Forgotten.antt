@@ -1,10 +1,10 @@
 -- What is said of a tree does not speak of its places.
 use Rattle.std.proofs.Common.{◌≡◌, refl}
 use Rattle.pr_ast.specs.Tree.{Tree, number, text, select, range, sub, neg, binary, call, aggregate, none, more}
-use Rattle.pr_ast.specs.Places.{forget}
-use Rattle.pr_ast.specs.Print.{tree_text, is_operation, comma_text}
+use Rattle.pr_ast.specs.private.Places.{forget}
+use Rattle.pr_ast.specs.private.Print.{tree_text, is_operation, comma_text}
 use Rattle.pr_ast.specs.Reach.{reads_back}
-use Rattle.pr_ast.specs.Steps.{has_steps}
+use Rattle.pr_ast.specs.private.Steps.{has_steps}
 
 operation_same : (t : Tree) → is_operation (forget t) ≡ is_operation t
 operation_same none = refl

@@ -1,7 +1,7 @@
 -- Functions and aggregations are read by their names.
 use Rattle.std.proofs.Common.{◌≡◌, ℕ, Bool, true, false, Some, None, List, [], ◌∷◌, refl, subst}
 use Rattle.std.specs.Prelude.{if◌then◌else◌}
-use Rattle.pr_lex.specs.Words.{word_of, words, is_word, word_text}
+use Rattle.pr_ast.specs.Words.{word_of, words, is_word, word_text}
 use Rattle.pr_labels.proofs.LabelLaws.{same_names}
 use Rattle.pr_ast.specs.declared.names.Func.{Func}
 use Rattle.pr_ast.specs.declared.names.Func.TheVariants.{Abs}

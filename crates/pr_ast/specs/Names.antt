@@ -1,11 +1,11 @@
 -- The names of operators, aggregations and functions.
 use Rattle.std.specs.Prelude.{ℕ, Bool, Option, Some, None, List, [], ◌∷◌, codes, if◌then◌else◌}
 use Rattle.std.specs.Str.{bytes_eq}
-use Rattle.pr_lex.specs.Words.{word_text}
-use Rattle.pr_lex.specs.Signs.{sign_text}
-use Rattle.pr_lex.specs.declared.words.Word.{Word}
-use Rattle.pr_lex.specs.declared.words.Word.TheVariants.{Or as OrWord, And as AndWord, Unless as UnlessWord, Sum as SumWord, Avg as AvgWord, Min as MinWord, Max as MaxWord, Count as CountWord, Group as GroupWord, TopK as TopKWord, BottomK as BottomKWord, Quantile as QuantileWord, CountValues as CountValuesWord}
-use Rattle.pr_lex.specs.declared.token.Sign.TheVariants.{Equal as EqualSign, NotEqual as NotEqualSign, LessEqual as LessEqualSign, Less as LessSign, GreaterEqual as GreaterEqualSign, Greater as GreaterSign, Plus, Minus, Star, Slash, Percent}
+use Rattle.pr_ast.specs.Words.{word_text}
+use Rattle.pr_ast.specs.Signs.{sign_text}
+use Rattle.pr_ast.specs.declared.lex.words.Word.{Word}
+use Rattle.pr_ast.specs.declared.lex.words.Word.TheVariants.{Or as OrWord, And as AndWord, Unless as UnlessWord, Sum as SumWord, Avg as AvgWord, Min as MinWord, Max as MaxWord, Count as CountWord, Group as GroupWord, TopK as TopKWord, BottomK as BottomKWord, Quantile as QuantileWord, CountValues as CountValuesWord}
+use Rattle.pr_ast.specs.declared.lex.token.Sign.TheVariants.{Equal as EqualSign, NotEqual as NotEqualSign, LessEqual as LessEqualSign, Less as LessSign, GreaterEqual as GreaterEqualSign, Greater as GreaterSign, Plus, Minus, Star, Slash, Percent}
 use Rattle.pr_ast.specs.declared.names.BinOp.{BinOp}
 use Rattle.pr_ast.specs.declared.names.BinOp.TheVariants.{Or, And, Unless, Equal, NotEqual, LessEqual, Less, GreaterEqual, Greater, Add, Sub, Mul, Div, Rem}
 use Rattle.pr_ast.specs.declared.names.AggOp.{AggOp}

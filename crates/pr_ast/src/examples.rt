@@ -8,14 +8,14 @@ ghost use Rattle.pr_ast.specs.declared.names.Func.TheVariants as func;
 ghost use Rattle.pr_ast.specs.declared.names.AggOp.TheVariants as agg;
 ghost use Rattle.pr_ast.specs.declared.selector.MatchSign.TheVariants as sign;
 ghost use Rattle.pr_ast.specs.Tree.{number, text, select, range, sub, neg, binary, call, aggregate, none as no_arguments};
-ghost use Rattle.pr_ast.specs.Places.{nowhere};
-ghost use Rattle.pr_ast.specs.Print.{tree_text};
+ghost use Rattle.pr_ast.specs.private.Places.{nowhere};
+ghost use Rattle.pr_ast.specs.private.Print.{tree_text};
 ghost use Rattle.pr_ast.specs.Reach.{reads_back, reach};
-ghost use Rattle.pr_ast.specs.Steps.{has_steps};
-ghost use Rattle.pr_ast.specs.Examples.{chosen, metric, matcher, whole_number, one, two, grouped, on_names};
+ghost use Rattle.pr_ast.specs.private.Steps.{has_steps};
+ghost use Rattle.pr_ast.specs.private.Examples.{chosen, metric, matcher, whole_number, one, two, grouped, on_names};
 
 /// How small trees are printed.
-#[tactic(auto, unfolding(crate::specs::Names::op_text, crate::specs::Names::func_text, pr_lex::specs::Words::word_text, pr_num::specs::Shown::shown, pr_num::specs::Shown::fraction_text))]
+#[tactic(auto, unfolding(crate::specs::Names::op_text, crate::specs::Names::func_text, crate::specs::Words::word_text, pr_num::specs::Shown::shown, pr_num::specs::Shown::fraction_text))]
 pub fn small_trees_are_printed_so()
     ensures grouping { tree_text (binary nowhere op.Add false None (aggregate nowhere agg.Sum (grouped (codes "a" ∷ [])) (one (metric (codes "x")))) (neg nowhere (whole_number 1))) ≡ codes "sum by (a) (x) + (-1)" }
     ensures no_grouping { tree_text (aggregate nowhere agg.TopK (grouped []) (two (whole_number 3) (metric (codes "x")))) ≡ codes "topk(3, x)" }

@@ -1,15 +1,15 @@
 //! The laws of trees and names, each as the contract of a function that does nothing, and worked
 //! examples of the definitions.
 ghost use Rattle.std.specs.Prelude.{◌≡◌, ℕ, codes, true, false, Some, None, List};
-ghost use Rattle.pr_lex.specs.Words.{word_of};
+ghost use Rattle.pr_ast.specs.Words.{word_of};
 ghost use Rattle.pr_ast.specs.declared.names.Func.{Func};
 ghost use Rattle.pr_ast.specs.declared.names.AggOp.{AggOp};
 ghost use Rattle.pr_ast.specs.Names.{agg_word, agg_of, agg_text, func_text, func_of};
 ghost use Rattle.pr_ast.specs.Tree.{Tree};
-ghost use Rattle.pr_ast.specs.Print.{tree_text};
+ghost use Rattle.pr_ast.specs.private.Print.{tree_text};
 ghost use Rattle.pr_ast.specs.Reach.{reads_back};
-ghost use Rattle.pr_ast.specs.Steps.{has_steps};
-ghost use Rattle.pr_ast.specs.Places.{forget};
+ghost use Rattle.pr_ast.specs.private.Steps.{has_steps};
+ghost use Rattle.pr_ast.specs.private.Places.{forget};
 
 /// Each function is read by its name, a name that is read as a function is that function's, and no
 /// function's name is one of the words of the language, in any case.

@@ -1,9 +1,10 @@
-//! The tree of the query language: expressions with their places, the names of operators,
-//! aggregations and functions, the text of an expression, and how far back it reads.
+//! The tokens and the tree of the query language: expressions with their places, the names of
+//! operators, aggregations and functions, the text of an expression, and how far back it reads.
 #![tactic(auto)]
 
 pub mod examples;
 pub mod laws;
+pub mod lex;
 mod names;
 mod place;
 mod printing;
@@ -13,24 +14,21 @@ mod tree;
 
 // What crates above name of those below.
 pub mod words_crate {
-    pub use pr_labels::words_crate::{Items, Text};
+    pub use pr_labels::words_crate::{Items, Steps, Text, strings};
 }
 
 pub mod num {
-    pub use pr_num::Num;
+    pub use pr_num::{Num, Point};
 }
 
 pub mod time {
-    pub use pr_lex::time::{Ms, Span, read_span};
+    pub use pr_time::{Ms, Span, read_span};
 }
 
-pub mod labels_crate {
-    pub use pr_labels::{Card, Grouping, Item, Labels, METRIC_LABEL, Matching, is_label_name};
-}
-
-pub mod lex {
-    pub use pr_lex::{
-        LexError, LexKind, Sign, Token, TokenKind, Word, first_tokens, tokens, word_of,
+pub mod labels {
+    pub use pr_labels::{
+        Card, Grouping, Item, LabelFault, Labels, METRIC_LABEL, Matching, Pair, copy_pairs,
+        is_label_name, series,
     };
 }
 

@@ -2,7 +2,7 @@
 ghost use Rattle.std.specs.Prelude.{◌≡◌};
 ghost use Rattle.pr_ast.specs.Names.{op_text, agg_word, agg_text, agg_of, func_text, is_func, first_func, funcs, func_of};
 
-use pr_lex::Word;
+use crate::lex::Word;
 
 /// The operators of two operands. (Prometheus: Querying, Operators.)
 #[derive(Clone, Copy, PartialEq, Eq, Debug)]

@@ -1,41 +1,17 @@
 //! Printing an expression.
 ghost use Rattle.std.specs.Prelude.{◌≡◌, ◌++◌, OnOk, flat_map};
 ghost use Rattle.pr_num.specs.Shown.{shown};
-ghost use Rattle.pr_lex.specs.pr_time.SpanShown.{shown_span};
+ghost use Rattle.pr_time.specs.SpanShown.{shown_span};
 ghost use Rattle.pr_ast.specs.Tree.{tree_of, trees_of};
-ghost use Rattle.pr_ast.specs.Print.{
-  following_text,
-  names_text,
-  labels_text,
-  match_sign_text,
-  matcher_text,
-  following_matcher,
-  matchers_text,
-  braces_text,
-  selected_text,
-  offset_text,
-  step_text,
-  select_text,
-  range_text,
-  sub_text,
-  side_text,
-  on_text,
-  matching_text,
-  bool_text,
-  by_text,
-  is_operation,
-  enclosed_text,
-  tree_text,
-  comma_unless,
-};
+ghost use Rattle.pr_ast.specs.private.Print.{following_text, names_text, labels_text, match_sign_text, matcher_text, following_matcher, matchers_text, braces_text, selected_text, offset_text, step_text, select_text, range_text, sub_text, side_text, on_text, matching_text, bool_text, by_text, is_operation, enclosed_text, tree_text, comma_unless};
 
 use crate::selector::{MatchSign, MatchText, Selector};
 use crate::tree::{Expr, ExprKind};
-use pr_labels::strings::write_string;
 use pr_labels::words_crate::Text;
+use pr_labels::words_crate::strings::write_string;
 use pr_labels::{Card, Grouping, Matching};
-use pr_lex::time::{Span, write_span};
 use pr_num::Num;
+use pr_time::{Span, write_span};
 use std::alloc::AllocError;
 
 fn push_number(out: &mut Vec<u8>, value: Num) -> Result<(), AllocError>

@@ -2,3 +2,14 @@ pub mod Counting
 pub mod Lists
 pub mod Recording
 pub mod Filling
+pub mod Lasting
+pub mod Texts
+pub mod Progress
+pub mod Parts
+pub mod Rounds
+pub mod Evaluating
+pub mod Unopened
+pub mod Over
+pub mod Loaded
+pub mod Meaning
+pub mod Opened

@@ -1,14 +1,13 @@
 -- What a backfill comes to: the recording rules of groups are evaluated at one time after another, over a
 -- history that takes what they add.
 use Rattle.std.specs.Prelude.{ℕ, not, Bool, List, [], ◌∷◌, ◌++◌, filter, flat_map, fold, map}
-use Rattle.pr_history.specs.declared.entry.Entry.{Entry}
-use Rattle.pr_rules.specs.pr_rulefile.Groups.{Group as Definition, group_of_def}
-use Rattle.pr_rules.specs.pr_rulefile.Rules.{Rule}
-use Rattle.pr_rules.specs.declared.report.GroupReport.{GroupReport}
-use Rattle.pr_rules.specs.Evaluations.{GroupStep, group_step}
-use Rattle.pr_rules.specs.Groups.{Group, fresh}
-use Rattle.pr_rules.specs.Reloads.{LoadedFile}
-use Rattle.pr_rules.specs.Settings.{Settings, of_a_run}
+use Rattle.spec_rules.specs.spec_history.declared.entry.Entry.{Entry}
+use Rattle.spec_rules.specs.Definitions.{Group as Definition, group_of_def, Rule}
+use Rattle.spec_rules.specs.declared.report.GroupReport.{GroupReport}
+use Rattle.spec_rules.specs.Evaluations.{GroupStep, group_step}
+use Rattle.spec_rules.specs.Groups.{Group, fresh}
+use Rattle.spec_rules.specs.Reloads.{LoadedFile}
+use Rattle.spec_rules.specs.Settings.{Settings, of_a_run}
 use Rattle.pr_backfill.specs.declared.stepped.FileGroup.{FileGroup}
 use Rattle.pr_backfill.specs.declared.stepped.Stepped.{Stepped}
 

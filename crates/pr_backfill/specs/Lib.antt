@@ -1,7 +1,7 @@
 pub mod Times
 pub mod Filled
-pub mod Keeping
-pub mod Rounds
-pub mod Examples
-pub use Rattle.pr_rules.specs.pr_puts as pr_puts
-pub use Rattle.pr_rules.specs as pr_rules
+pub mod Text
+pub mod Means
+pub mod private
+pub use Rattle.pr_text.specs as pr_text
+pub use Rattle.pr_checks.specs as pr_checks

@@ -2,7 +2,7 @@
 ghost use Rattle.std.specs.Prelude.{◌≡◌, ℕ, ◌+◌, ◌*◌, ◌<◌, ◌≤◌, ◌↔◌, IfSome};
 ghost use Rattle.pr_backfill.specs.Times.{backfill_times};
 
-use pr_time::{Ms, Span};
+use pr_ast::time::{Ms, Span};
 
 // No backfill has more times.
 const LIMIT: u64 = 1 << 20;

@@ -1,9 +1,9 @@
 //! Worked backfills, each as a clause that the check computes.
 ghost use Rattle.std.specs.Prelude.{◌≡◌, ◌∷◌, ◌++◌, [], codes, map, None, Some};
-ghost use Rattle.pr_history.specs.declared.append.Append.TheVariants.{OutOfOrder, Same};
-ghost use Rattle.pr_rules.specs.Examples.{alert};
-ghost use Rattle.pr_rules.specs.Groups.{rules_of};
-ghost use Rattle.pr_backfill.specs.Examples.{added, file_of, kept, r_yml, records_s, s_rows, told_as};
+ghost use Rattle.spec_rules.specs.spec_history.declared.append.Append.TheVariants.{OutOfOrder, Same};
+ghost use Rattle.spec_rules.specs.private.Examples.{alert};
+ghost use Rattle.spec_rules.specs.Groups.{rules_of};
+ghost use Rattle.pr_backfill.specs.private.Examples.{added, file_of, kept, r_yml, records_s, s_rows, told_as};
 ghost use Rattle.pr_backfill.specs.Filled.{filled, groups_to_fill, rows_filled};
 ghost use Rattle.pr_backfill.specs.Times.{backfill_times, times_from};
 
@@ -22,7 +22,7 @@ pub fn times_are_counted_so()
 
 /// A rule sees no sample of a later time. What it recorded is kept once: over the same rows again it
 /// adds nothing, and what is older than the last sample of its series is dropped.
-#[tactic(auto, unfolding(crate::specs::Filled::filled, crate::specs::Filled::round_at, pr_rules::specs::Evaluations::group_step, pr_rules::specs::Evaluations::rule_step, pr_rules::specs::Evaluations::rule_outcome, pr_rules::specs::Results::rule_result, pr_match::specs::Matcher::meets, pr_match::specs::Matcher::meets_all))]
+#[tactic(auto, unfolding(crate::specs::Filled::filled, crate::specs::Filled::round_at, spec_rules::specs::Evaluations::group_step, spec_rules::specs::Evaluations::rule_step, spec_rules::specs::Evaluations::rule_outcome, spec_rules::specs::Results::rule_result, pr_match::specs::Matcher::meets, pr_match::specs::Matcher::meets_all))]
 pub fn a_backfill_is_so()
     ensures first { filled kept (r_yml ∷ []) (times_from 0 60000 3) ≡ added 0 1 ∷ added 60000 2 ∷ added 120000 2 ∷ [] }
     ensures rows { rows_filled (filled kept (r_yml ∷ []) (times_from 0 60000 3)) ≡ s_rows }

@@ -1,20 +1,20 @@
 // The evaluation of each group at a time.
 ghost use Rattle.std.specs.Prelude.{◌≡◌, ◌<◌, List, length, slice_get, Some, IfOk, OnOk};
-ghost use Rattle.pr_history.specs.declared.entry.Entry.{Entry};
-ghost use Rattle.pr_rules.specs.Groups.{Group};
-ghost use Rattle.pr_rules.specs.Settings.{Settings};
-ghost use Rattle.pr_rules.specs.Times.{IsAfter, IsAfterAll};
-ghost use Rattle.pr_manager.specs.pr_group.Keeping.{KeptGroup, MayEvaluateOver};
-ghost use Rattle.pr_manager.specs.Keeping.{HasGoneOn, KeepEach, KeepsUnder};
+ghost use Rattle.spec_rules.specs.spec_history.declared.entry.Entry.{Entry};
+ghost use Rattle.spec_rules.specs.Groups.{Group};
+ghost use Rattle.spec_rules.specs.Settings.{Settings};
+ghost use Rattle.spec_rules.specs.private.Times.{IsAfter, IsAfterAll};
+ghost use Rattle.pr_manager.specs.pr_group.private.Keeping.{KeptGroup, MayEvaluateOver};
+ghost use Rattle.pr_manager.specs.private.Keeping.{HasGoneOn, KeepEach, KeepsUnder};
 ghost use Rattle.pr_backfill.specs.Filled.{round_at};
-ghost use Rattle.pr_backfill.specs.Rounds.{HasFilled, IsStepped, IsSteppedAt};
+ghost use Rattle.pr_backfill.specs.private.Rounds.{HasFilled, IsStepped, IsSteppedAt};
 
 use crate::stepped::Stepped;
+use pr_ast::time::Ms;
 use pr_manager::group::{GroupOver, a_kept_group_stays};
 use pr_manager::head::Head;
 use pr_manager::range::Ranges;
-use pr_time::Ms;
-use pr_words::{Steps, Text};
+use pr_outside::words_crate::{Steps, Text};
 use std::alloc::{AllocError, Global};
 use std::sync::ledger::Ledger;
 

@@ -1,7 +1,6 @@
 // What is evaluated, and what is told of it.
-use pr_rules::GroupReport;
-use pr_rules::rulefile::GroupDef;
-use pr_words::Text;
+use pr_outside::words_crate::Text;
+use spec_rules::{GroupDef, GroupReport};
 
 /// A group of a rule file.
 #[derive(Drop)]

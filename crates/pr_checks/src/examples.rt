@@ -1,13 +1,13 @@
 //! What is told of small files and expositions.
 ghost use Rattle.std.specs.Prelude.{◌≡◌, ◌<◌, ◌^◌, ℕ, List, codes, length, true, false, [], ◌∷◌, Some, None};
-ghost use Rattle.pr_yaml.specs.pr_yaml_scan.declared.fault.YamlKind.TheVariants as yaml;
-ghost use Rattle.pr_ast.specs.pr_lex.declared.fault.LexKind.TheVariants as lex;
-ghost use Rattle.pr_rulefile.specs.pr_parse.declared.fault.ParseKind.TheVariants as parse;
-ghost use Rattle.pr_rulefile.specs.pr_types.declared.kind.TypeKind.TheVariants as typing;
-ghost use Rattle.pr_rulefile.specs.pr_kinds.declared.kind.QueryKind.TheVariants.{Lex, Parse, Typing};
-ghost use Rattle.pr_rulefile.specs.pr_fields.declared.problem.ProblemKind.TheVariants.{Yaml, WantMap, DuplicateGroup, BadTemplate, Expression};
-ghost use Rattle.pr_rulefile.specs.pr_fields.Problems.{problem};
-ghost use Rattle.pr_check_loops.specs.declared.verdict.Verdict.TheVariants.{Good, Complaints, Refused};
+ghost use Rattle.pr_yaml.specs.declared.yaml_scan.fault.YamlKind.TheVariants as yaml;
+ghost use Rattle.pr_ast.specs.declared.lex.fault.LexKind.TheVariants as lex;
+ghost use Rattle.spec_world.specs.pr_parse.declared.fault.ParseKind.TheVariants as parse;
+ghost use Rattle.spec_world.specs.pr_types.declared.kind.TypeKind.TheVariants as typing;
+ghost use Rattle.spec_world.specs.pr_parse.declared.query_kind.QueryKind.TheVariants.{Lex, Parse, Typing};
+ghost use Rattle.spec_world.specs.pr_rulefile.declared.fields.problem.ProblemKind.TheVariants.{Yaml, WantMap, DuplicateGroup, BadTemplate, Expression};
+ghost use Rattle.spec_world.specs.pr_rulefile.Problems.{problem};
+ghost use Rattle.spec_world.specs.pr_outside.declared.check_loops.verdict.Verdict.TheVariants.{Good, Complaints, Refused};
 ghost use Rattle.pr_checks.specs.Problems.{problem_line};
 ghost use Rattle.pr_checks.specs.RuleFiles.{file_told};
 ghost use Rattle.pr_checks.specs.Metrics.{metrics_told};

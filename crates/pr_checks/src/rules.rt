@@ -1,18 +1,17 @@
 // What `check rules` tells of a file.
 ghost use Rattle.std.specs.Prelude.{◌≡◌, ◌<◌, ◌≤◌, ◌^◌, ◌++◌, ℕ, List, Option, Some, OnOk, IfOk, length, flat_map};
-ghost use Rattle.pr_loading.specs.pr_outside.Contents.{IsFound, IsWithinLimit, file_limit};
-ghost use Rattle.pr_rulefile.specs.File.{rule_file_of};
+ghost use Rattle.spec_world.specs.pr_outside.Contents.{IsFound, IsWithinLimit, file_limit};
+ghost use Rattle.spec_world.specs.pr_rulefile.File.{rule_file_of};
 ghost use Rattle.pr_checks.specs.Problems.{problem_line};
 ghost use Rattle.pr_checks.specs.RuleFiles.{checking_text, failed_line, problems_text, found_told, missing, file_told, reading_told, rules_found, success, success_text, too_large};
 
 use crate::problems::push_problem;
-use pr_check_loops::FileCheck;
-use pr_loading::outside::{Files, Found};
-use pr_loading::status::Stop;
-use pr_loading::{Taker, load_each};
-use pr_rulefile::kinds::push_number;
-use pr_rulefile::{Problem, RuleError, check};
-use pr_words::Items;
+use pr_yaml::words_crate::{Items, push_number};
+use spec_world::outside::check_loops::FileCheck;
+use spec_world::outside::loading::{Taker, load_each};
+use spec_world::outside::status::Stop;
+use spec_world::outside::{FileContent, Files};
+use spec_world::rulefile::{Problem, RuleError, check};
 use std::alloc::{AllocError, Global};
 use std::mem::replace;
 use std::slice::from_ref;
@@ -132,7 +131,7 @@ fn push_found(
     alloc: Global,
     text: &mut Vec<u8>,
     name: &str,
-    found: &Found,
+    found: &FileContent,
 ) -> Result<bool, AllocError>
     requires { IsWithinLimit found.now }
     ensures text { (content : Option (List ℕ)) → IsFound (Some content) found.now → OnOk result (text.new.items ≡ text.old.items ++ (file_told name.now content).text) }
@@ -140,12 +139,12 @@ fn push_found(
 {
     push_checking(text, name)?;
     match found {
-        Found::Bytes { bytes } => push_bytes(alloc, text, name, bytes),
-        Found::Missing => {
+        FileContent::Bytes { bytes } => push_bytes(alloc, text, name, bytes),
+        FileContent::Missing => {
             push_unread(text, name, missing())?;
             Ok(true)
         }
-        Found::TooLarge => {
+        FileContent::TooLarge => {
             push_unread(text, name, too_large())?;
             Ok(true)
         }
@@ -171,7 +170,12 @@ impl Taker<String> for RuleText {
         name.as_str()
     }
 
-    fn take(&mut self, alloc: Global, name: &String, found: Found) -> Result<bool, AllocError> {
+    fn take(
+        &mut self,
+        alloc: Global,
+        name: &String,
+        found: FileContent,
+    ) -> Result<bool, AllocError> {
         let mut text = replace(&mut self.text, Items::empty(alloc)).into_vec();
         self.refused = push_found(alloc, &mut text, name.as_str(), &found)?;
         self.text = Items::new(text);

@@ -1,49 +1,47 @@
 -- What an engine stands for after an answer.
 use Rattle.std.proofs.Common.{◌≡◌, ◌≢◌, ℕ, ◌+◌, Bool, true, false, cond, List, [], ◌++◌, length, map, Option, Some, None, Result, Ok, Err, IfOk, OnOk, refl, sym, ap, ◌∙◌, subst, append-nil, true≢false}
 use Rattle.std.specs.Prelude.{IfSome, IsSome}
-use Rattle.pr_history.specs.Admission.{IsLawful}
-use Rattle.pr_history.specs.declared.entry.Entry.{Entry}
-use Rattle.pr_scrape.specs.pr_intake.Intake.{Series}
-use Rattle.pr_manager.specs.Keeping.{ManagesGroups, KeptManager, settings_in}
+use Rattle.pr_head.specs.spec_history.private.Laws.{IsLawful}
+use Rattle.pr_head.specs.spec_history.declared.entry.Entry.{Entry}
+use Rattle.pr_head.specs.private.Intake.{Series}
+use Rattle.pr_manager.specs.private.Keeping.{ManagesGroups, KeptManager, settings_in}
 use Rattle.pr_outside.specs.Causes.{HasKeepCause}
-use Rattle.pr_outside.specs.Kept.{AppendsRows, KeepsRows}
+use Rattle.pr_outside.specs.private.Kept.{AppendsRows, KeepsRows}
 use Rattle.pr_outside.specs.Meant.{Store}
 use Rattle.pr_outside.specs.declared.keeping.KeepError.{KeepError}
 use Rattle.pr_outside.specs.declared.keeping.KeepError.TheVariants as keeping
 use Rattle.pr_outside.specs.declared.keeping.Row.{Row}
-use Rattle.pr_manager.specs.pr_range.Asks.{LastAsks, Passed}
-use Rattle.pr_row.specs.Histories.{history_of}
-use Rattle.pr_row.specs.Rows.{encoded}
-use Rattle.pr_scrape.specs.Knowing.{Knows, Tracked}
-use Rattle.pr_world.specs.Outcome.{IsNotBefore, Outcome, is_refusal}
-use Rattle.pr_world.specs.Settings.{Settings}
-use Rattle.pr_world.specs.Step.{Step, next, outcome, step_by, time_of}
-use Rattle.pr_world.specs.World.{World, begin}
-use Rattle.pr_world.specs.declared.event.Event.{Event}
-use Rattle.pr_world.specs.declared.event.Event.TheVariants as event
-use Rattle.pr_world.specs.declared.report.Report.{Report}
-use Rattle.pr_world.specs.declared.report.Report.TheVariants as report
-use Rattle.pr_world.proofs.Refusals.{refusal_is_told}
-use Rattle.pr_engine.specs.Causes.{HasApplyCause, HasStartCause, apply_error, broken_after, last_after, restart_error, start_error}
-use Rattle.pr_engine.specs.Events.{IsKnownAfter, is_restart, settings_of, step_in_time}
-use Rattle.pr_engine.specs.Loading.{IsLoaded}
-use Rattle.pr_engine.specs.Rows.{AreRead, TellsOf}
-use Rattle.pr_engine.specs.Standing.{Begins, Forgets, Kept, KeptParts, KeepsBefore, KeepsUnless, KeepsWorld, StandsFor, StandsForSome, Starts}
+use Rattle.pr_manager.specs.pr_range.private.Asks.{LastAsks, Passed}
+use Rattle.pr_head.specs.spec_history.Histories.{history_of}
+use Rattle.pr_head.specs.spec_history.Rows.{encoded}
+use Rattle.pr_engine.specs.private.Knowing.{Knows, Tracked}
+use Rattle.pr_manager.specs.spec_world.private.Laws.{IsNotBefore, is_refusal}
+use Rattle.pr_manager.specs.spec_world.Outcome.{EventOutcome}
+use Rattle.pr_manager.specs.spec_world.Settings.{Settings}
+use Rattle.pr_manager.specs.spec_world.Step.{Step, next, outcome, step_by, time_of}
+use Rattle.pr_manager.specs.spec_world.World.{World, begin}
+use Rattle.pr_manager.specs.spec_world.declared.event.Event.{Event}
+use Rattle.pr_manager.specs.spec_world.declared.event.Event.TheVariants as event
+use Rattle.pr_manager.specs.spec_world.declared.report.Report.{Report}
+use Rattle.pr_manager.specs.spec_world.declared.report.Report.TheVariants as report
+use Rattle.pr_manager.proofs.WorldRefusals.{refusal_is_told}
+use Rattle.pr_engine.specs.private.Causes.{HasApplyCause, apply_error, broken_after, last_after, restart_error}
+use Rattle.pr_head.specs.private.Causes.{HasStartCause}
+use Rattle.pr_engine.specs.private.Events.{IsKnownAfter, is_restart, settings_of, step_in_time}
+use Rattle.pr_head.specs.private.Loading.{IsLoaded}
+use Rattle.pr_head.specs.private.Rows.{AreRead, TellsOf}
+use Rattle.pr_engine.specs.private.Standing.{Begins, Forgets, KeptEngine, KeptParts, KeepsBefore, KeepsUnless, KeepsWorld, StandsFor, StandsForSome, Starts}
 use Rattle.pr_engine.specs.declared.fault.ApplyError.{ApplyError}
 use Rattle.pr_engine.specs.declared.fault.ApplyError.TheVariants as apply
 use Rattle.pr_engine.specs.declared.fault.Cause.{Cause}
-use Rattle.pr_engine.specs.declared.fault.StartError.{StartError}
-use Rattle.pr_engine.specs.declared.fault.StartError.TheVariants as start
-use Rattle.pr_engine.proofs.Steps.{in_time, stepped_history, stepped_last, tells_more}
+use Rattle.pr_head.specs.declared.rows.fault.StartError.{StartError}
+use Rattle.pr_head.specs.declared.rows.fault.StartError.TheVariants as start
+use Rattle.pr_engine.proofs.Steps.{in_time, stepped_history, stepped_last}
+use Rattle.pr_head.proofs.Telling.{tells_more}
 use Rattle.pr_engine.proofs.Times.{head_of_all}
-use Rattle.pr_engine.proofs.Told.{told_on}
 use Rattle.pr_engine.proofs.Values.{told_in_time}
 
 -- Errors
-
-pub keep_started : (T U : Type 0) (before now : ℕ) (e : KeepError) → HasKeepCause {T = T} before now (Err e) → HasStartCause {T = U} before now (Err (start_error e))
-keep_started T U before now keeping.Failed h = h
-keep_started T U before now keeping.Memory h = h
 
 pub keep_applied : (T U : Type 0) (before now : ℕ) (e : KeepError) → HasKeepCause {T = T} before now (Err e) → HasApplyCause {T = U} before now (Err (apply_error e))
 keep_applied T U before now keeping.Failed h = h
@@ -74,23 +72,12 @@ started_row (start.BadRow n) at h = let same : n ≡ at = cc in ap start.BadRow 
 
 -- Rows
 
-pub tells_still : (before now : Store) (history : List Entry) → KeepsRows before.rows now.rows → now.count ≡ before.count → TellsOf before history → TellsOf now history
-tells_still before now history same count tells = record {
-  count = count ∙ tells.count;
-  rows = told_on (λ rows. history_of rows ≡ Ok history) before.rows now.rows same tells.rows;
-}
-
-pub kept_tells : (w : World) (time : ℕ) (o : Outcome) (before now : Store) (added : List Entry) → TellsOf before w.history → added ≡ (step_by w time o).rows
+pub kept_tells : (w : World) (time : ℕ) (o : EventOutcome) (before now : Store) (added : List Entry) → TellsOf before w.history → added ≡ (step_by w time o).rows
     → IsLawful (step_by w time o).world.history → AreRead added → AppendsRows before.rows now.rows (map encoded added) → now.count ≡ before.count + length added
     → TellsOf now (step_by w time o).world.history
 kept_tells w time o before now added tells is lawful are appends count =
     let after : (step_by w time o).world.history ≡ w.history ++ added = stepped_history w time o ∙ ap (λ (l : List Entry). w.history ++ l) (sym is) in
     subst (λ (h : List Entry). TellsOf now h) (sym after) (tells_more before now w.history added tells are (subst IsLawful after lawful) appends count)
-
-pub some_before : (old now : Option (List Row)) → KeepsRows old now → IsSome now → IsSome old
-some_before old None same some = absurd (true≢false (sym some))
-some_before None (Some now) same some = absurd same
-some_before (Some rows) (Some now) same some = refl
 
 pub begins : {R : Type 0} (fits : R → List Entry → Type 0) (asked : R → LastAsks) (passed : R → Passed) (step : ℕ) (head : Series) (tracked : Tracked) (manager : KeptManager R) (store : Store) → IsLoaded head store → Knows tracked []
     → settings_in manager ≡ settings_of step → ((history : List Entry) → ManagesGroups fits asked passed manager history [] false)
@@ -190,7 +177,7 @@ keeps_whole fits asked passed step None k w is keeps = keeps
 keeps_whole fits asked passed step (Some first) k w is keeps = absurd cc
 
 -- what an engine keeps that is not broken, where an event comes in time
-pub keeps_before : {R : Type 0} (fits : R → List Entry → Type 0) (asked : R → LastAsks) (passed : R → Passed) (k : Kept R) (store : Store) (w : World) (time : ℕ) → StandsFor fits asked passed k store w → k.broken ≡ None → IsNotBefore k.last time
+pub keeps_before : {R : Type 0} (fits : R → List Entry → Type 0) (asked : R → LastAsks) (passed : R → Passed) (k : KeptEngine R) (store : Store) (w : World) (time : ℕ) → StandsFor fits asked passed k store w → k.broken ≡ None → IsNotBefore k.last time
     → KeepsBefore fits asked passed k.step k.parts w time
 keeps_before fits asked passed k store w time stands whole late = record {
   keeps = keeps_whole fits asked passed k.step k.broken k.parts w whole stands.keeps;
@@ -209,7 +196,7 @@ last_is s w e last r same told =
     ∙ ap (λ (l : Option ℕ). cond (next s w e).refused l (Some (time_of e))) same
     ∙ sym (next_last s w e)
 
-pub stands_after : {R : Type 0} (fits : R → List Entry → Type 0) (asked : R → LastAsks) (passed : R → Passed) (k : Kept R) (parts : KeptParts R) (before now : Store) (w : World) (e : Event) (r : Report) (broken : Option Cause) → StandsFor fits asked passed k before w
+pub stands_after : {R : Type 0} (fits : R → List Entry → Type 0) (asked : R → LastAsks) (passed : R → Passed) (k : KeptEngine R) (parts : KeptParts R) (before now : Store) (w : World) (e : Event) (r : Report) (broken : Option Cause) → StandsFor fits asked passed k before w
     → IsNotBefore k.last (time_of e) → r ≡ (step_in_time k.step w e).report → KeepsWorld fits asked passed k.step parts (step_in_time k.step w e).world
     → TellsOf now (step_in_time k.step w e).world.history
     → StandsFor fits asked passed (record { parts = parts; step = k.step; last = last_after k.last (time_of e) (Ok r); broken = broken }) now (next (settings_of k.step) w e).world
@@ -222,14 +209,14 @@ stands_after fits asked passed k parts before now w e r broken stands late told 
       keeps = keeps_unless fits asked passed k.step broken parts (next (settings_of k.step) w e).world (subst (λ (s : Step). KeepsWorld fits asked passed k.step parts s.world) (sym is) keeps);
     }
 
-pub stands_answered : {R : Type 0} (fits : R → List Entry → Type 0) (asked : R → LastAsks) (passed : R → Passed) (result : Result Report ApplyError) (k : Kept R) (parts : KeptParts R) (before now : Store) (w : World) (e : Event) (broken : Option Cause)
+pub stands_answered : {R : Type 0} (fits : R → List Entry → Type 0) (asked : R → LastAsks) (passed : R → Passed) (result : Result Report ApplyError) (k : KeptEngine R) (parts : KeptParts R) (before now : Store) (w : World) (e : Event) (broken : Option Cause)
     → StandsFor fits asked passed k before w → IsNotBefore k.last (time_of e) → IfOk result (λ r. r ≡ (step_in_time k.step w e).report)
     → OnOk result (KeepsWorld fits asked passed k.step parts (step_in_time k.step w e).world) → OnOk result (TellsOf now (step_in_time k.step w e).world.history)
     → OnOk result (StandsFor fits asked passed (record { parts = parts; step = k.step; last = last_after k.last (time_of e) result; broken = broken }) now (next (settings_of k.step) w e).world)
 stands_answered fits asked passed (Ok r) k parts before now w e broken stands late told keeps tells = stands_after fits asked passed k parts before now w e r broken stands late told keeps tells
 stands_answered fits asked passed (Err x) k parts before now w e broken stands late told keeps tells = tt
 
-pub stands_broken : {R : Type 0} (fits : R → List Entry → Type 0) (asked : R → LastAsks) (passed : R → Passed) (k : Kept R) (parts : KeptParts R) (before now : Store) (w : World) (first : Cause) → StandsFor fits asked passed k before w → TellsOf now w.history
+pub stands_broken : {R : Type 0} (fits : R → List Entry → Type 0) (asked : R → LastAsks) (passed : R → Passed) (k : KeptEngine R) (parts : KeptParts R) (before now : Store) (w : World) (first : Cause) → StandsFor fits asked passed k before w → TellsOf now w.history
     → StandsFor fits asked passed (record { parts = parts; step = k.step; last = k.last; broken = Some first }) now w
 stands_broken fits asked passed k parts before now w first stands tells = record { last = stands.last; tells = tells; keeps = tt }
 
@@ -250,7 +237,7 @@ pub starts : {R : Type 0} (fits : R → List Entry → Type 0) (asked : R → La
 starts fits asked passed parts now step b = record { history = b.history; stands = record { last = refl; tells = b.tells; keeps = b.keeps None } }
 
 -- whatever was answered, the engine stands for some world
-pub some_stands : {R : Type 0} (fits : R → List Entry → Type 0) (asked : R → LastAsks) (passed : R → Passed) (r : Result Report ApplyError) (e : Event) (k : Kept R) (now : Store) (v : World)
+pub some_stands : {R : Type 0} (fits : R → List Entry → Type 0) (asked : R → LastAsks) (passed : R → Passed) (r : Result Report ApplyError) (e : Event) (k : KeptEngine R) (now : Store) (v : World)
     → (is_restart e ≡ true → OnOk r (Begins fits asked passed k.step k.parts now)) → (IsKnownAfter e now → OnOk r (StandsFor fits asked passed k now v)) → OnOk r (StandsForSome fits asked passed k now)
 some_stands fits asked passed (Err x) e k now v anew stands = tt
 some_stands fits asked passed (Ok x) e k now v anew stands = by (is_restart e) refl where
@@ -272,12 +259,12 @@ refused_goes_on step w (event.Restart time) is = absurd (true≢false (sym is))
 refused_goes_on step w (event.Alerts time) is = refl
 
 -- leaves an engine as it was
-unmoved : {R : Type 0} (k : Kept R) (parts : KeptParts R) (time : ℕ) (r : Report) → is_refusal r ≡ true → parts ≡ k.parts
+unmoved : {R : Type 0} (k : KeptEngine R) (parts : KeptParts R) (time : ℕ) (r : Report) → is_refusal r ≡ true → parts ≡ k.parts
     → record { parts = parts; step = k.step; last = last_after k.last time (Ok r); broken = broken_after k.broken (Ok r) } ≡ k
 unmoved k parts time r is same = λ i. record { parts = same i; step = k.step; last = cond (is i) k.last (Some time); broken = cond (is i) k.broken None }
 
 -- and standing for the same world
-pub refused_stays : {R : Type 0} (fits : R → List Entry → Type 0) (asked : R → LastAsks) (passed : R → Passed) (result : Result Report ApplyError) (k : Kept R) (parts : KeptParts R) (before now : Store) (w : World) (e : Event) (last : Option ℕ) (broken : Option Cause)
+pub refused_stays : {R : Type 0} (fits : R → List Entry → Type 0) (asked : R → LastAsks) (passed : R → Passed) (result : Result Report ApplyError) (k : KeptEngine R) (parts : KeptParts R) (before now : Store) (w : World) (e : Event) (last : Option ℕ) (broken : Option Cause)
     → StandsFor fits asked passed k before w → now ≡ before → IsNotBefore w.last (time_of e) → IfOk result (λ r. r ≡ (step_in_time k.step w e).report) → (step_in_time k.step w e).refused ≡ true
     → OnOk result (parts ≡ k.parts) → last ≡ last_after k.last (time_of e) result → broken ≡ broken_after k.broken result
     → OnOk result ((record { parts = parts; step = k.step; last = last; broken = broken } ≡ k) × StandsFor fits asked passed (record { parts = parts; step = k.step; last = last; broken = broken }) now w)
@@ -285,5 +272,5 @@ refused_stays {R} fits asked passed (Ok r) k parts before now w e last broken st
     let is : is_refusal r ≡ true = told_in_time k.step w e r (is_refusal r) late told refl ∙ refused in
     let all : record { parts = parts; step = k.step; last = last; broken = broken } ≡ k =
     (λ i. record { parts = parts; step = k.step; last = lasts i; broken = breaks i }) ∙ unmoved k parts (time_of e) r is kept in
-    (all, subst (λ (x : Kept R). StandsFor fits asked passed x now w) (sym all) (subst (λ (s : Store). StandsFor fits asked passed k s w) (sym same) stands))
+    (all, subst (λ (x : KeptEngine R). StandsFor fits asked passed x now w) (sym all) (subst (λ (s : Store). StandsFor fits asked passed k s w) (sym same) stands))
 refused_stays fits asked passed (Err x) k parts before now w e last broken stands same late told refused kept lasts breaks = tt

@@ -2,45 +2,36 @@
 use Rattle.std.proofs.Common.{◌≡◌, ℕ, ◌+◌, ◌≤◌, Bool, true, false, cond, List, Option, Some, None, Result, Ok, Err, refl, sym, ap, ◌∙◌, subst, arith}
 use Rattle.std.specs.Prelude.{find, nat_lt}
 use Rattle.pr_ast.specs.Tree.{Tree}
-use Rattle.pr_history.specs.declared.entry.Entry.{Entry}
-use Rattle.pr_manager.specs.Naming.{passed_by_named}
-use Rattle.pr_manager.specs.Rounds.{cost_after, cost_by}
+use Rattle.pr_head.specs.spec_history.declared.entry.Entry.{Entry}
+use Rattle.pr_manager.specs.private.Naming.{passed_by_named}
+use Rattle.pr_manager.specs.private.Rounds.{cost_after, cost_by}
 use Rattle.pr_outside.specs.Meant.{Store}
-use Rattle.pr_world.specs.pr_parse.Parsed.{Parsed, gives_tree, gives_lex_fault, gives_fault, parsed}
-use Rattle.pr_manager.specs.pr_range.Asks.{LastAsks, Passed}
-use Rattle.pr_world.specs.pr_rules.Costs.{PassedByRules, group_cost}
-use Rattle.pr_world.specs.pr_rules.Evaluations.{group_step}
-use Rattle.pr_world.specs.pr_rules.Groups.{Group, is_group_named}
-use Rattle.pr_types.specs.Typed.{checked}
-use Rattle.pr_types.specs.declared.kind.TypeFault.{TypeFault}
-use Rattle.pr_types.specs.declared.kind.ValueType.{ValueType}
-use Rattle.pr_world.specs.Outcome.{IsNotBefore, refuse}
-use Rattle.pr_world.specs.Query.{parsed_outcome, typed_outcome}
-use Rattle.pr_world.specs.Rounds.{eval_after, eval_by, evaluation_outcome}
-use Rattle.pr_world.specs.Settings.{Settings}
-use Rattle.pr_world.specs.Step.{Step, next, step_by, time_of}
-use Rattle.pr_world.specs.World.{World}
-use Rattle.pr_world.specs.declared.event.Event.{Event}
-use Rattle.pr_world.specs.declared.event.Event.TheVariants as event
-use Rattle.pr_world.specs.declared.report.Report.TheVariants as report
-use Rattle.pr_engine.specs.Events.{event_cost, parsed_cost, settings_of, step_in_time, typed_cost}
-use Rattle.pr_engine.specs.Standing.{Kept, StandsFor}
+use Rattle.pr_manager.specs.pr_range.private.Asks.{LastAsks, Passed}
+use Rattle.pr_manager.specs.spec_rules.private.Costs.{PassedByRules, group_cost}
+use Rattle.pr_manager.specs.spec_rules.Evaluations.{group_step}
+use Rattle.pr_manager.specs.spec_rules.Groups.{Group, is_group_named}
+use Rattle.pr_manager.specs.spec_world.private.Laws.{IsNotBefore}
+use Rattle.pr_manager.specs.spec_world.Outcome.{refuse}
+use Rattle.pr_manager.specs.spec_world.Query.{expression_outcome}
+use Rattle.pr_manager.specs.pr_parse.Expressions.{ExpressionFault, expression_of}
+use Rattle.pr_manager.specs.spec_world.Rounds.{eval_after, eval_by, evaluation_outcome}
+use Rattle.pr_manager.specs.spec_world.Settings.{Settings}
+use Rattle.pr_manager.specs.spec_world.Step.{Step, next, step_by, time_of}
+use Rattle.pr_manager.specs.spec_world.World.{World}
+use Rattle.pr_manager.specs.spec_world.declared.event.Event.{Event}
+use Rattle.pr_manager.specs.spec_world.declared.event.Event.TheVariants as event
+use Rattle.pr_manager.specs.spec_world.declared.report.Report.TheVariants as report
+use Rattle.pr_engine.specs.private.Events.{event_cost, expression_cost, settings_of, step_in_time}
+use Rattle.pr_engine.specs.private.Standing.{KeptEngine, StandsFor}
 use Rattle.pr_engine.proofs.Steps.{in_time}
 
 not_accepted : (n : ℕ) → false ≡ true → n ≡ 0
 not_accepted n h = absurd cc
 
-typed_free : (s : Settings) (step : ℕ) (w : World) (history : List Entry) (time : ℕ) (t : Tree) (r : Result ValueType TypeFault)
-    → (step_by w time (typed_outcome s history time t r)).refused ≡ true → typed_cost step history time t r ≡ 0
-typed_free s step w history time t (Ok type) h = not_accepted (typed_cost step history time t (Ok type)) h
-typed_free s step w history time t (Err f) h = refl
-
-parsed_free : (s : Settings) (step : ℕ) (w : World) (history : List Entry) (time : ℕ) (p : Parsed)
-    → (step_by w time (parsed_outcome s history time p)).refused ≡ true → parsed_cost step history time p ≡ 0
-unfolding parsed_outcome
-parsed_free s step w history time (gives_tree t) h = typed_free s step w history time t (checked t) h
-parsed_free s step w history time (gives_lex_fault at kind) h = refl
-parsed_free s step w history time (gives_fault at kind) h = refl
+expression_free : (s : Settings) (step : ℕ) (w : World) (history : List Entry) (time : ℕ) (r : Result Tree ExpressionFault)
+    → (step_by w time (expression_outcome s history time r)).refused ≡ true → expression_cost step history time r ≡ 0
+expression_free s step w history time (Ok tree) h = not_accepted (expression_cost step history time (Ok tree)) h
+expression_free s step w history time (Err f) h = refl
 
 after_free : (last : Option ℕ) (s : Settings) (w : World) (g : Group) (time : ℕ) (u : PassedByRules)
     → (step_by w time (eval_after last s w g time)).refused ≡ true → cost_after last s g w.history time u ≡ 0
@@ -59,7 +50,7 @@ found_free s w time file name u (Some g) h = after_free g.last s w g time u h
 
 event_free : (step : ℕ) (passed : List ℕ → List ℕ → PassedByRules) (w : World) (e : Event) → (step_in_time step w e).refused ≡ true → event_cost step passed w e ≡ 0
 event_free step passed w (event.Add time labels point) h = refl
-event_free step passed w (event.Query time text) h = parsed_free (settings_of step) step w w.history time (parsed text) h
+event_free step passed w (event.Query time text) h = expression_free (settings_of step) step w w.history time (expression_of text) h
 event_free step passed w (event.Scrape time target body) h = refl
 event_free step passed w (event.Fail time target) h = refl
 event_free step passed w (event.Gone time target) h = refl
@@ -68,7 +59,7 @@ event_free step passed w (event.Reload time files) h = refl
 event_free step passed w (event.Restart time) h = refl
 event_free step passed w (event.Alerts time) h = refl
 
-pub refused_free : {R : Type 0} (fits : R → List Entry → Type 0) (asked : R → LastAsks) (passed : R → Passed) (k : Kept R) (store : Store) (w : World) (e : Event) (before now : ℕ)
+pub refused_free : {R : Type 0} (fits : R → List Entry → Type 0) (asked : R → LastAsks) (passed : R → Passed) (k : KeptEngine R) (store : Store) (w : World) (e : Event) (before now : ℕ)
     → StandsFor fits asked passed k store w → IsNotBefore k.last (time_of e) → (next (settings_of k.step) w e).refused ≡ true
     → now ≤ before + event_cost k.step (passed_by_named passed k.parts.manager w.history) w e → now ≤ before
 refused_free fits asked passed k store w e before now stands late refused few =

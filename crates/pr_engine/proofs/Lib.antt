@@ -1,10 +1,18 @@
-pub mod Told
 pub mod Times
-pub mod Loaded
 pub mod Queries
 pub mod Values
 pub mod Steps
 pub mod Passing
 pub mod Answering
 pub mod Free
-pub mod Paths
+pub mod Names
+pub mod ByName
+pub mod Making
+pub mod Tracking
+pub mod Tallying
+pub mod ScrapeAnswering
+pub mod Bodies
+pub mod KnownTargets
+mod Stepping
+pub mod EngineEnds
+pub use Rattle.pr_time.proofs.SpanTotal as TimeSpanTotal

@@ -2,23 +2,23 @@
 use Rattle.std.proofs.Common.{◌≡◌, ℕ, Bool, true, List, [], ◌∷◌, ◌++◌, None, Result, Ok, Err, IfOk, OnOk, refl, sym, ap, ◌∙◌, append-nil}
 use Rattle.std.specs.List.{AllZip}
 use Rattle.std.specs.declared.alloc.AllocError.{AllocError}
-use Rattle.pr_history.specs.declared.entry.Entry.{Entry}
-use Rattle.pr_manager.specs.pr_range.Asks.{LastAsks, Passed}
-use Rattle.pr_world.specs.pr_rules.Groups.{Group}
-use Rattle.pr_manager.specs.pr_group.Keeping.{KeptGroup}
-use Rattle.pr_manager.specs.Keeping.{KeepsUnder, KeptManager, settings_in}
-use Rattle.pr_manager.specs.Naming.{kept_named, passed_by_any, passed_by_named}
-use Rattle.pr_manager.specs.Passing.{PassedByNames}
+use Rattle.pr_head.specs.spec_history.declared.entry.Entry.{Entry}
+use Rattle.pr_manager.specs.pr_range.private.Asks.{LastAsks, Passed}
+use Rattle.pr_manager.specs.spec_rules.Groups.{Group}
+use Rattle.pr_manager.specs.pr_group.private.Keeping.{KeptGroup}
+use Rattle.pr_manager.specs.private.Keeping.{KeepsUnder, KeptManager, settings_in}
+use Rattle.pr_manager.specs.private.Naming.{kept_named, passed_by_any, passed_by_named}
+use Rattle.pr_manager.specs.private.Passing.{PassedByNames}
 use Rattle.pr_outside.specs.Meant.{Store}
-use Rattle.pr_world.specs.Outcome.{Outcome, refuse, accept, nothing_else, changed_by}
-use Rattle.pr_world.specs.Step.{step_by}
-use Rattle.pr_world.specs.World.{World}
-use Rattle.pr_world.specs.declared.event.Event.{Event}
-use Rattle.pr_world.specs.declared.event.Event.TheVariants as event
-use Rattle.pr_engine.specs.Events.{is_restart, step_in_time}
-use Rattle.pr_engine.specs.Passing.{EventPasses, no_group_passed}
-use Rattle.pr_engine.specs.Standing.{Begins, KeptParts}
-use Rattle.pr_engine.specs.Taken.{HasOutcome}
+use Rattle.pr_manager.specs.spec_world.Outcome.{EventOutcome, refuse, accept, nothing_else, changed_by}
+use Rattle.pr_manager.specs.spec_world.Step.{step_by}
+use Rattle.pr_manager.specs.spec_world.World.{World}
+use Rattle.pr_manager.specs.spec_world.declared.event.Event.{Event}
+use Rattle.pr_manager.specs.spec_world.declared.event.Event.TheVariants as event
+use Rattle.pr_engine.specs.private.Events.{is_restart, step_in_time}
+use Rattle.pr_engine.specs.private.Passing.{EventPasses, no_group_passed}
+use Rattle.pr_engine.specs.private.Standing.{Begins, KeptParts}
+use Rattle.pr_engine.specs.private.Taken.{HasOutcome}
 use Rattle.pr_engine.specs.declared.taken.Taken.{Taken}
 
 -- where there are no groups, nothing was passed
@@ -44,12 +44,12 @@ anew_passes remembers step w (event.Restart time) before after is none = none
 anew_passes remembers step w (event.Alerts time) before after is none = absurd cc
 
 -- what adds nothing leaves the history
-asked_history : (w : World) (time : ℕ) (o : Outcome) (t : Taken) → HasOutcome o t → (step_by w time o).world.history ≡ w.history
+asked_history : (w : World) (time : ℕ) (o : EventOutcome) (t : Taken) → HasOutcome o t → (step_by w time o).world.history ≡ w.history
 asked_history w time (refuse report) t h = refl
 asked_history w time (accept report rows change) t h =
     ap (λ c. (changed_by c w time rows).history) h.3 ∙ ap (λ (l : List Entry). w.history ++ l) h.2 ∙ append-nil w.history
 
-pub asked_passes : {R : Type 0} (passed : R → Passed) (k : KeptManager R) (result : Result Taken AllocError) (w : World) (time : ℕ) (o : Outcome) → IfOk result (HasOutcome o)
+pub asked_passes : {R : Type 0} (passed : R → Passed) (k : KeptManager R) (result : Result Taken AllocError) (w : World) (time : ℕ) (o : EventOutcome) → IfOk result (HasOutcome o)
     → OnOk result (passed_by_named passed k (step_by w time o).world.history ≡ passed_by_named passed k w.history)
 asked_passes passed k (Ok t) w time o h = ap (passed_by_named passed k) (asked_history w time o t h)
 asked_passes passed k (Err e) w time o h = tt

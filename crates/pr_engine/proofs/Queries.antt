@@ -1,39 +1,31 @@
 -- The answer to a query, by what its text, its tree and its value are.
-use Rattle.std.proofs.Common.{◌≡◌, ℕ, ◌+◌, ◌≤◌, true, List, [], Option, Some, None, Result, Ok, Err, IfOk, is_ok, refl, sym, ap, subst, arith}
-use Rattle.std.specs.declared.alloc.AllocError.{AllocError}
+use Rattle.std.proofs.Common.{◌≡◌, ℕ, ◌+◌, ◌≤◌, List, [], Option, Some, None, Result, Ok, Err, refl, sym, ap, subst, arith}
 use Rattle.pr_labels.specs.declared.pair.Pair.{Pair}
-use Rattle.pr_history.specs.declared.entry.Entry.{Entry}
-use Rattle.pr_head.specs.Stored.{Stored}
+use Rattle.pr_head.specs.spec_history.declared.entry.Entry.{Entry}
+use Rattle.pr_head.specs.private.Stored.{Stored}
 use Rattle.pr_ast.specs.declared.place.Place.{Place}
 use Rattle.pr_ast.specs.Tree.{Tree}
 use Rattle.pr_ast.specs.Reach.{reads_back}
-use Rattle.pr_ast.specs.pr_lex.declared.fault.LexKind.{LexKind}
-use Rattle.pr_manager.specs.pr_group.Keeping.{MayEvaluateOver}
-use Rattle.pr_world.specs.pr_parse.declared.fault.ParseKind.{ParseKind}
-use Rattle.pr_world.specs.pr_parse.Parsed.{Parsed, gives_tree, gives_lex_fault, gives_fault}
-use Rattle.pr_types.specs.declared.kind.ValueType.{ValueType}
-use Rattle.pr_types.specs.declared.kind.TypeKind.{TypeKind}
-use Rattle.pr_types.specs.declared.kind.TypeFault.{TypeFault}
-use Rattle.pr_types.specs.Signatures.{fault as type_fault}
-use Rattle.pr_types.specs.Checking.{MayEvaluate}
-use Rattle.pr_types.specs.Typed.{checked}
-use Rattle.pr_world.specs.pr_query.declared.fault.Fault.{Fault}
-use Rattle.pr_world.specs.pr_query.declared.fault.FaultKind.{FaultKind}
-use Rattle.pr_world.specs.pr_query.declared.value.Value.{Value}
-use Rattle.pr_world.specs.pr_query.Answers.{fault}
-use Rattle.pr_world.specs.pr_query.Cost.{cost, nothing_passed}
-use Rattle.pr_world.specs.pr_query.Meaning.{meaning}
-use Rattle.pr_manager.specs.pr_eval.Looks.{KeepsFor}
-use Rattle.pr_manager.specs.pr_eval.Asking.{Sought}
-use Rattle.pr_manager.specs.pr_eval.Evaluated.{AreReady, IsReadyFor, MayBegin, asks_of}
-use Rattle.pr_world.specs.declared.report.Report.TheVariants.{QueryFault, QueryRefused}
-use Rattle.pr_world.specs.pr_kinds.declared.kind.QueryKind.TheVariants.{Lex, Parse, Typing}
-use Rattle.pr_world.specs.Outcome.{refuse}
-use Rattle.pr_world.specs.Query.{parsed_outcome, told_answer, told_value, typed_outcome}
-use Rattle.pr_world.specs.Settings.{Settings}
-use Rattle.pr_engine.specs.Events.{parsed_cost, typed_cost}
-use Rattle.pr_engine.specs.Taken.{HasOutcome, added_in, report_in}
-use Rattle.pr_engine.specs.Times.{forgotten_at}
+use Rattle.pr_manager.specs.pr_group.private.Keeping.{MayEvaluateOver}
+use Rattle.pr_manager.specs.pr_types.private.Checking.{MayEvaluate}
+use Rattle.pr_manager.specs.spec_meaning.declared.fault.Fault.{Fault}
+use Rattle.pr_manager.specs.spec_meaning.declared.fault.FaultKind.{FaultKind}
+use Rattle.pr_manager.specs.spec_meaning.declared.value.Value.{Value}
+use Rattle.pr_manager.specs.spec_meaning.Answers.{fault}
+use Rattle.pr_manager.specs.spec_meaning.private.Cost.{cost, nothing_passed}
+use Rattle.pr_manager.specs.spec_meaning.Meaning.{meaning}
+use Rattle.pr_manager.specs.pr_eval.private.Looks.{KeepsFor}
+use Rattle.pr_manager.specs.pr_eval.private.Asking.{Sought}
+use Rattle.pr_manager.specs.pr_eval.private.Evaluated.{AreReady, IsReadyFor, MayBegin, asks_of}
+use Rattle.pr_manager.specs.spec_world.declared.report.Report.TheVariants.{QueryFault, QueryRefused}
+use Rattle.pr_manager.specs.spec_world.Outcome.{refuse}
+use Rattle.pr_manager.specs.spec_world.Query.{expression_outcome, told_answer, told_value}
+use Rattle.pr_manager.specs.pr_parse.Expressions.{ExpressionFault, expression_fault}
+use Rattle.pr_manager.specs.pr_parse.declared.query_kind.QueryKind.{QueryKind}
+use Rattle.pr_manager.specs.spec_world.Settings.{Settings}
+use Rattle.pr_engine.specs.private.Events.{expression_cost}
+use Rattle.pr_engine.specs.private.Taken.{HasOutcome, added_in, report_in}
+use Rattle.pr_engine.specs.private.Times.{forgotten_at}
 use Rattle.pr_engine.specs.declared.taken.Taken.{Taken}
 use Rattle.pr_engine.proofs.Times.{back_enough}
 
@@ -65,41 +57,19 @@ told_ok meant v h = ap told_answer (sym h)
 pub told_fault : (meant : Result Value Fault) (place : Place) (kind : FaultKind) → meant ≡ Err (fault place kind) → QueryFault place.start kind ≡ told_answer meant
 told_fault meant place kind h = ap told_answer (sym h)
 
--- whether it has a type
-pub typed_answer : (s : Settings) (history : List Entry) (time : ℕ) (t : Tree) (r : Result ValueType TypeFault) (a : Taken) → is_ok r ≡ true
-    → report_in a ≡ told_answer (meaning s.subquery_step history t time) → added_in a ≡ [] → HasOutcome (typed_outcome s history time t r) a
-typed_answer s history time t (Ok type) a h k n = (k, n, refl, refl)
-typed_answer s history time t (Err f) a h k n = absurd cc
+-- whether its text is an expression
+pub expression_answer : (s : Settings) (history : List Entry) (time : ℕ) (r : Result Tree ExpressionFault) (t : Tree) (a : Taken) → r ≡ Ok t
+    → report_in a ≡ told_answer (meaning s.subquery_step history t time) → added_in a ≡ [] → HasOutcome (expression_outcome s history time r) a
+expression_answer s history time r t a is k n = subst (λ q. HasOutcome (expression_outcome s history time q) a) (sym is) (k, n, refl, refl)
 
-pub untyped_answer : (s : Settings) (history : List Entry) (time : ℕ) (t : Tree) (at : ℕ) (kind : TypeKind) (a : Taken) → checked t ≡ Err (type_fault at kind)
-    → HasOutcome (refuse (QueryRefused at (Typing kind))) a → HasOutcome (typed_outcome s history time t (checked t)) a
-untyped_answer s history time t at kind a h k = subst (λ r. HasOutcome (typed_outcome s history time t r) a) (sym h) k
-
--- whether its text has tokens, and a tree
-pub tree_answer : (s : Settings) (history : List Entry) (time : ℕ) (p : Parsed) (t : Tree) (result : Result Taken AllocError) → p ≡ gives_tree t
-    → IfOk result (HasOutcome (typed_outcome s history time t (checked t))) → IfOk result (HasOutcome (parsed_outcome s history time p))
-unfolding parsed_outcome
-tree_answer s history time p t result h k = subst (λ q. IfOk result (HasOutcome (parsed_outcome s history time q))) (sym h) k
-
-pub lex_answer : (s : Settings) (history : List Entry) (time : ℕ) (p : Parsed) (at : ℕ) (kind : LexKind) (a : Taken) → p ≡ gives_lex_fault at kind
-    → HasOutcome (refuse (QueryRefused at (Lex kind))) a → HasOutcome (parsed_outcome s history time p) a
-unfolding parsed_outcome
-lex_answer s history time p at kind a h k = subst (λ q. HasOutcome (parsed_outcome s history time q) a) (sym h) k
-
-pub parse_answer : (s : Settings) (history : List Entry) (time : ℕ) (p : Parsed) (at : ℕ) (kind : ParseKind) (a : Taken) → p ≡ gives_fault at kind
-    → HasOutcome (refuse (QueryRefused at (Parse kind))) a → HasOutcome (parsed_outcome s history time p) a
-unfolding parsed_outcome
-parse_answer s history time p at kind a h k = subst (λ q. HasOutcome (parsed_outcome s history time q) a) (sym h) k
+pub refused_answer : (s : Settings) (history : List Entry) (time : ℕ) (r : Result Tree ExpressionFault) (at : ℕ) (kind : QueryKind) (a : Taken) → r ≡ Err (expression_fault at kind)
+    → HasOutcome (refuse (QueryRefused at kind)) a → HasOutcome (expression_outcome s history time r) a
+refused_answer s history time r at kind a is k = subst (λ q. HasOutcome (expression_outcome s history time q) a) (sym is) k
 
 -- what is read for it
-pub typed_reads : (step : ℕ) (history : List Entry) (time : ℕ) (t : Tree) (r : Result ValueType TypeFault) (before now : ℕ) → is_ok r ≡ true
-    → now ≤ before + cost step history nothing_passed t 0 time → now ≤ before + typed_cost step history time t r
-typed_reads step history time t (Ok type) before now h few = few
-typed_reads step history time t (Err f) before now h few = absurd cc
-
-pub tree_reads : (step : ℕ) (history : List Entry) (time : ℕ) (p : Parsed) (t : Tree) (before now : ℕ) → p ≡ gives_tree t
-    → now ≤ before + typed_cost step history time t (checked t) → now ≤ before + parsed_cost step history time p
-tree_reads step history time p t before now is few = subst (λ q. now ≤ before + parsed_cost step history time q) (sym is) few
+pub expression_reads : (step : ℕ) (history : List Entry) (time : ℕ) (r : Result Tree ExpressionFault) (t : Tree) (before now : ℕ) → r ≡ Ok t
+    → now ≤ before + cost step history nothing_passed t 0 time → now ≤ before + expression_cost step history time r
+expression_reads step history time r t before now is few = subst (λ q. now ≤ before + expression_cost step history time q) (sym is) few
 
 pub no_reads : (before more : ℕ) → before ≤ before + more
 no_reads before more = omega arith

@@ -3,11 +3,12 @@ use Rattle.std.proofs.Common.{◌≡◌, ℕ, ℤ, pos, ◌-ℤ◌, ◌≤ℤ◌
 use Rattle.std.specs.Prelude.{nat_lt}
 use Rattle.std.proofs.lemmas.Grind.{common_steps}
 use Rattle.std.proofs.lemmas.Int.{ints}
-use Rattle.pr_history.specs.declared.entry.Entry.{Entry}
-use Rattle.pr_scrape.specs.pr_intake.Intake.{Series}
-use Rattle.pr_world.specs.Outcome.{IsNotBefore}
-use Rattle.pr_engine.specs.Standing.{HoldsAll, IsHeadOf}
-use Rattle.pr_engine.specs.Times.{IsKeptAbove}
+use Rattle.pr_head.specs.spec_history.declared.entry.Entry.{Entry}
+use Rattle.pr_head.specs.private.Intake.{Series}
+use Rattle.pr_manager.specs.spec_world.private.Laws.{IsNotBefore}
+use Rattle.pr_head.specs.private.Rows.{HoldsAll}
+use Rattle.pr_engine.specs.private.Standing.{IsHeadOf}
+use Rattle.pr_engine.specs.private.Times.{IsKeptAbove}
 
 not_before : (time last : ℕ) → nat_lt time last ≡ false → last ≤ time
 not_before time last h = grind (arith, common_steps)

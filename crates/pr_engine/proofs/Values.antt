@@ -4,49 +4,51 @@ use Rattle.std.specs.Int.Signed.{≤ℤ_refl}
 use Rattle.std.specs.declared.alloc.AllocError.{AllocError}
 use Rattle.std.proofs.lemmas.List.Elements.{filter_passes}
 use Rattle.std.specs.List.{All}
-use Rattle.pr_manager.specs.pr_group.Keeping.{MayEvaluateOver}
-use Rattle.pr_head.specs.Holds.{Holds, IsWhole}
-use Rattle.pr_head.specs.Stored.{Stored, trimmed}
+use Rattle.pr_manager.specs.pr_group.private.Keeping.{MayEvaluateOver}
+use Rattle.pr_head.specs.private.Holds.{Holds, IsWhole}
+use Rattle.pr_head.specs.private.Stored.{Stored, trimmed}
 use Rattle.pr_head.specs.declared.timed.Timed.{Timed}
 use Rattle.pr_head.proofs.Trimming.{trimmed_at}
-use Rattle.pr_history.specs.Admission.{put_all, IsLawful}
-use Rattle.pr_history.specs.Lookback.{is_after}
-use Rattle.pr_history.specs.declared.entry.Entry.{Entry}
-use Rattle.pr_history.proofs.Lawful.{put_all_lawful}
-use Rattle.pr_scrape.specs.pr_intake.Intake.{HasTaken, Series}
-use Rattle.pr_manager.specs.Keeping.{HasGoneOn, ManagesGroups, ManagesGroupsOf, KeptManager, settings_in}
-use Rattle.pr_manager.specs.pr_range.Asks.{LastAsks, Passed}
-use Rattle.pr_scrape.specs.Knowing.{Knows, Tracked}
-use Rattle.pr_world.specs.Outcome.{IsNotBefore, Outcome, refuse, accept, nothing_else, changed_by, is_refusal}
-use Rattle.pr_world.specs.Step.{Step, changes_targets, step_by, time_of}
-use Rattle.pr_world.specs.Targets.{Target, TargetStep}
-use Rattle.pr_world.specs.World.{World}
-use Rattle.pr_world.specs.declared.event.Event.{Event}
-use Rattle.pr_world.specs.declared.report.Report.{Report}
-use Rattle.pr_world.proofs.Refusals.{refusal_is_told}
-use Rattle.pr_world.proofs.Steps.{targets_stay}
-use Rattle.pr_engine.specs.Events.{settings_of, step_in_time}
-use Rattle.pr_engine.specs.Standing.{HoldsNoneUntil, IsHeadOf, KeepsBefore, KeepsWorld, KeptParts}
-use Rattle.pr_engine.specs.Taken.{HasOutcome, added_in, report_in}
-use Rattle.pr_engine.specs.Times.{IsKeptAbove, forgotten_at}
+use Rattle.pr_head.specs.spec_history.Admission.{put_all}
+use Rattle.pr_head.specs.spec_history.private.Laws.{IsLawful}
+use Rattle.pr_head.specs.spec_history.Lookback.{is_after}
+use Rattle.pr_head.specs.spec_history.declared.entry.Entry.{Entry}
+use Rattle.pr_head.proofs.HistoryLawful.{put_all_lawful}
+use Rattle.pr_head.specs.private.Intake.{HasTaken, Series}
+use Rattle.pr_manager.specs.private.Keeping.{HasGoneOn, ManagesGroups, ManagesGroupsOf, KeptManager, settings_in}
+use Rattle.pr_manager.specs.pr_range.private.Asks.{LastAsks, Passed}
+use Rattle.pr_engine.specs.private.Knowing.{Knows, Tracked}
+use Rattle.pr_manager.specs.spec_world.private.Laws.{IsNotBefore, is_refusal, changes_targets}
+use Rattle.pr_manager.specs.spec_world.Outcome.{EventOutcome, refuse, accept, nothing_else, changed_by}
+use Rattle.pr_manager.specs.spec_world.Step.{Step, step_by, time_of}
+use Rattle.pr_manager.specs.spec_world.Targets.{Target, TargetStep}
+use Rattle.pr_manager.specs.spec_world.World.{World}
+use Rattle.pr_manager.specs.spec_world.declared.event.Event.{Event}
+use Rattle.pr_manager.specs.spec_world.declared.report.Report.{Report}
+use Rattle.pr_manager.proofs.WorldRefusals.{refusal_is_told}
+use Rattle.pr_manager.proofs.WorldSteps.{targets_stay}
+use Rattle.pr_engine.specs.private.Events.{settings_of, step_in_time}
+use Rattle.pr_engine.specs.private.Standing.{HoldsNoneUntil, IsHeadOf, KeepsBefore, KeepsWorld, KeptParts}
+use Rattle.pr_engine.specs.private.Taken.{HasOutcome, added_in, report_in}
+use Rattle.pr_engine.specs.private.Times.{IsKeptAbove, forgotten_at}
 use Rattle.pr_engine.specs.declared.taken.Taken.{Taken}
 use Rattle.pr_engine.proofs.Steps.{in_time, last_in_time}
 use Rattle.pr_engine.proofs.Times.{head_later, kept_later, not_before_itself}
 
 -- what is told of a query, and added by it
-report_is : (w : World) (time : ℕ) (o : Outcome) (t : Taken) → HasOutcome o t → report_in t ≡ (step_by w time o).report
+report_is : (w : World) (time : ℕ) (o : EventOutcome) (t : Taken) → HasOutcome o t → report_in t ≡ (step_by w time o).report
 report_is w time (refuse report) t h = h.0
 report_is w time (accept report rows change) t h = h.0
 
-rows_are : (w : World) (time : ℕ) (o : Outcome) (t : Taken) → HasOutcome o t → added_in t ≡ (step_by w time o).rows
+rows_are : (w : World) (time : ℕ) (o : EventOutcome) (t : Taken) → HasOutcome o t → added_in t ≡ (step_by w time o).rows
 rows_are w time (refuse report) t h = h.1
 rows_are w time (accept report rows change) t h = h.1
 
-pub asked_report : (result : Result Taken AllocError) (w : World) (time : ℕ) (o : Outcome) → IfOk result (HasOutcome o) → IfOk result (λ t. report_in t ≡ (step_by w time o).report)
+pub asked_report : (result : Result Taken AllocError) (w : World) (time : ℕ) (o : EventOutcome) → IfOk result (HasOutcome o) → IfOk result (λ t. report_in t ≡ (step_by w time o).report)
 asked_report (Ok t) w time o h = report_is w time o t h
 asked_report (Err e) w time o h = tt
 
-pub asked_rows : (result : Result Taken AllocError) (w : World) (time : ℕ) (o : Outcome) → IfOk result (HasOutcome o) → IfOk result (λ t. added_in t ≡ (step_by w time o).rows)
+pub asked_rows : (result : Result Taken AllocError) (w : World) (time : ℕ) (o : EventOutcome) → IfOk result (HasOutcome o) → IfOk result (λ t. added_in t ≡ (step_by w time o).rows)
 asked_rows (Ok t) w time o h = rows_are w time o t h
 asked_rows (Err e) w time o h = tt
 
@@ -62,14 +64,14 @@ still_keeps fits last passed step k w time b =
       groups = subst (λ (l : List Entry). ManagesGroups fits last passed k.manager l w.groups w.reloaded) same b.keeps.groups;
     }
 
-keeps_asked : {R : Type 0} (fits : R → List Entry → Type 0) (last : R → LastAsks) (passed : R → Passed) (step : ℕ) (k : KeptParts R) (w : World) (time : ℕ) (o : Outcome) (t : Taken) → KeepsBefore fits last passed step k w time → HasOutcome o t
+keeps_asked : {R : Type 0} (fits : R → List Entry → Type 0) (last : R → LastAsks) (passed : R → Passed) (step : ℕ) (k : KeptParts R) (w : World) (time : ℕ) (o : EventOutcome) (t : Taken) → KeepsBefore fits last passed step k w time → HasOutcome o t
     → KeepsWorld fits last passed step k (step_by w time o).world
 keeps_asked fits last passed step k w time (refuse report) t b h = b.keeps
 keeps_asked fits last passed step k w time (accept report rows change) t b h =
     subst (λ c. KeepsWorld fits last passed step k (changed_by c w time rows)) (sym h.3)
     (subst (λ (l : List Entry). KeepsWorld fits last passed step k (changed_by nothing_else w time l)) (sym h.2) (still_keeps fits last passed step k w time b))
 
-pub asked_keeps : {R : Type 0} (fits : R → List Entry → Type 0) (last : R → LastAsks) (passed : R → Passed) (step : ℕ) (result : Result Taken AllocError) (k : KeptParts R) (w : World) (time : ℕ) (o : Outcome) → KeepsBefore fits last passed step k w time
+pub asked_keeps : {R : Type 0} (fits : R → List Entry → Type 0) (last : R → LastAsks) (passed : R → Passed) (step : ℕ) (result : Result Taken AllocError) (k : KeptParts R) (w : World) (time : ℕ) (o : EventOutcome) → KeepsBefore fits last passed step k w time
     → IfOk result (HasOutcome o) → OnOk result (KeepsWorld fits last passed step k (step_by w time o).world)
 asked_keeps fits last passed step (Ok t) k w time o b h = keeps_asked fits last passed step k w time o t b h
 asked_keeps fits last passed step (Err e) k w time o b h = tt

@@ -1,26 +1,28 @@
 // The engine.
 ghost use Rattle.std.specs.Prelude.{◌≡◌, ◌≢◌, ℕ, ◌+◌, ◌<◌, ◌≤◌, [], false, true, Some, None, Ok, Err, IfOk, IfSome, IsSome, OnOk, OnErr, Option, Result};
-ghost use Rattle.pr_outside.specs.Kept.{KeepsRows, StartsRows};
-ghost use Rattle.pr_manager.specs.Naming.{passed_by_named};
-ghost use Rattle.pr_row.specs.Histories.{history_of};
-ghost use Rattle.pr_world.specs.Outcome.{IsNotBefore};
-ghost use Rattle.pr_world.specs.Step.{HasDistinctFiles, next, time_of};
-ghost use Rattle.pr_world.specs.World.{World};
+ghost use Rattle.pr_outside.specs.private.Kept.{KeepsRows, StartsRows};
+ghost use Rattle.pr_manager.specs.private.Naming.{passed_by_named};
+ghost use Rattle.pr_head.specs.spec_history.Histories.{history_of};
+ghost use Rattle.pr_manager.specs.spec_world.private.Laws.{IsNotBefore, HasDistinctFiles};
+ghost use Rattle.pr_manager.specs.spec_world.Step.{next, time_of};
+ghost use Rattle.pr_manager.specs.spec_world.World.{World};
 ghost use Rattle.pr_engine.specs.declared.fault.Cause.{Cause};
-ghost use Rattle.pr_engine.specs.Causes.{HasApplyCause, HasStartCause, broken_after, cause_of, last_after};
-ghost use Rattle.pr_engine.specs.Events.{IsKnownAfter, event_cost, is_restart, settings_of};
-ghost use Rattle.pr_engine.specs.Opening.{StartOpens};
-ghost use Rattle.pr_engine.specs.Passing.{EventPasses};
-ghost use Rattle.pr_engine.specs.Standing.{Forgets, StandsFor, StandsForSome, Starts};
+ghost use Rattle.pr_engine.specs.private.Causes.{HasApplyCause, broken_after, cause_of, last_after};
+ghost use Rattle.pr_head.specs.private.Causes.{HasStartCause};
+ghost use Rattle.pr_engine.specs.private.Events.{IsKnownAfter, event_cost, is_restart, settings_of};
+ghost use Rattle.pr_head.specs.private.Opening.{StartOpens};
+ghost use Rattle.pr_engine.specs.private.Passing.{EventPasses};
+ghost use Rattle.pr_engine.specs.private.Standing.{Forgets, StandsFor, StandsForSome, Starts};
 
-use crate::fault::{ApplyError, Cause, StartError};
+use crate::fault::{ApplyError, Cause};
 use crate::standing::Standing;
 use crate::telling::{is_restart, time_of};
+use pr_head::rows::StartError;
 use pr_manager::range::Ranges;
+use pr_manager::world::{Event, Report};
 use pr_outside::Keeper;
 use pr_time::{Ms, Span};
 use pr_words::Steps;
-use pr_world::{Event, Report};
 use std::alloc::Global;
 use std::marker::Model;
 use std::sync::ledger::Ledger;
@@ -37,9 +39,9 @@ pub struct Engine<R> {
 
 impl<R> Model for Engine<R> {
     ghost use Rattle.std.specs.Prelude.{◌<◌};
-    ghost use Rattle.pr_engine.specs.Standing.{Kept};
+    ghost use Rattle.pr_engine.specs.private.Standing.{KeptEngine};
 
-    ghost Value = { Kept R };
+    ghost Value = { KeptEngine R };
 
     ghost use Rattle.pr_ast.specs.contracts.tree.ExprKind as expressions;
     ghost use Rattle.std.specs.Coded.{codes};
@@ -90,7 +92,7 @@ impl<R: Ranges + Drop> Engine<R> {
     /// # Errors
     /// `StoreFailed` where the store refused a call; `BadRow` with the index of the first row that is
     /// the row of no entry, or is not added to those before it; `Memory`.
-    #[tactic(auto, using(crate::proofs::Answering::keep_started, crate::proofs::Paths::start_refused, crate::proofs::Paths::started_on))]
+    #[tactic(auto, using(pr_head::proofs::Telling::keep_started, pr_head::proofs::Paths::start_refused, pr_head::proofs::Paths::started_on))]
     pub fn start<K: Keeper>(
         alloc: Global,
         keeper: &mut K,
@@ -186,7 +188,7 @@ impl<R: Ranges + Drop> Engine<R> {
     /// of the first row that is the row of no entry, or is not added to those before it. Then the
     /// store has as many rows as before the event, and the same where it tells them, and all but
     /// restarts are answered by `Broken`, with the first cause, until one succeeds.
-    #[tactic(auto, unfolding(pr_world::specs::Step::next), using(crate::proofs::Told::keeps_same))]
+    #[tactic(auto, unfolding(crate::proofs::Stepping::stepping), using(pr_head::proofs::Told::keeps_same))]
     pub fn apply<K: Keeper, G: Ledger>(
         &mut self,
         alloc: Global,

@@ -1,8 +1,8 @@
-// Why an engine does not begin, and why it does not answer.
+// Why an engine does not answer.
 ghost use Rattle.std.specs.Prelude.{◌≡◌};
 
+use pr_head::rows::StartError;
 use pr_outside::KeepError;
-use std::alloc::AllocError;
 use thiserror::Error;
 
 /// What breaks an engine.
@@ -14,21 +14,6 @@ pub enum Cause {
     StoreFailed,
     /// A kept row is a bad one.
     BadRow,
-}
-
-/// Why an engine does not begin.
-#[derive(Debug, Drop, Error)]
-pub enum StartError {
-    /// Memory ran out.
-    #[error("memory ran out")]
-    Memory,
-    /// The store refused a call.
-    #[error("the store refused a call")]
-    StoreFailed,
-    /// The row of this index is the first that is the row of no entry, or is not added to those
-    /// before it.
-    #[error("row {index} is a bad one")]
-    BadRow { index: u64 },
 }
 
 /// Why an engine does not answer an event.
@@ -50,31 +35,8 @@ pub enum ApplyError {
     Broken { first: Cause },
 }
 
-impl From<AllocError> for StartError {
-    ghost use Rattle.pr_engine.specs.declared.fault.StartError.TheVariants.{Memory};
-
-    ghost from_gives = { λ _ e. e ≡ Memory };
-
-    fn from(_error: AllocError) -> StartError {
-        StartError::Memory
-    }
-}
-
-impl From<KeepError> for StartError {
-    ghost use Rattle.pr_engine.specs.Causes.{start_error};
-
-    ghost from_gives = { λ error e. e ≡ start_error error };
-
-    fn from(error: KeepError) -> StartError {
-        match error {
-            KeepError::Failed => StartError::StoreFailed,
-            KeepError::Memory => StartError::Memory,
-        }
-    }
-}
-
 impl From<KeepError> for ApplyError {
-    ghost use Rattle.pr_engine.specs.Causes.{apply_error};
+    ghost use Rattle.pr_engine.specs.private.Causes.{apply_error};
 
     ghost from_gives = { λ error e. e ≡ apply_error error };
 
@@ -87,7 +49,7 @@ impl From<KeepError> for ApplyError {
 }
 
 impl From<StartError> for ApplyError {
-    ghost use Rattle.pr_engine.specs.Causes.{restart_error};
+    ghost use Rattle.pr_engine.specs.private.Causes.{restart_error};
 
     ghost from_gives = { λ error e. e ≡ restart_error error };
 

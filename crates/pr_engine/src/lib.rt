@@ -3,29 +3,19 @@
 
 mod engine;
 mod fault;
-mod keeping;
-mod loading;
-mod opening;
 mod query;
 mod rules;
+mod run_engine;
+pub mod scrape;
 mod standing;
 mod taken;
 mod telling;
 
 // What crates above name of those below.
-pub mod row {
-    pub use pr_row::laws;
-}
-
-pub mod world {
-    pub use pr_world::{Event, NamedFile, Report};
-}
-
-pub mod head {
-    pub use pr_head::Head;
+pub mod time {
+    pub use pr_time::{Ms, Span, read_span};
 }
 
 pub use engine::Engine;
-pub use fault::{ApplyError, Cause, StartError};
-pub use keeping::keep;
-pub use opening::history;
+pub use fault::{ApplyError, Cause};
+pub use run_engine::RunEngine;

@@ -1,31 +1,28 @@
 // The answer to a query, over a head.
-ghost use Rattle.std.specs.Prelude.{◌≡◌, ℕ, ◌+◌, ◌<◌, ◌≤◌, List, [], Result, IfOk};
+ghost use Rattle.std.specs.Prelude.{◌≡◌, ◌+◌, ◌<◌, ◌≤◌, List, [], Result, IfOk};
 ghost use Rattle.pr_ast.specs.Tree.{tree_of};
-ghost use Rattle.pr_manager.specs.pr_group.Keeping.{MayEvaluateOver};
-ghost use Rattle.pr_world.specs.pr_parse.Parsed.{Parsed, IsFaultOf};
-ghost use Rattle.pr_types.specs.Typed.{checked};
-ghost use Rattle.pr_history.specs.declared.entry.Entry.{Entry};
-ghost use Rattle.pr_world.specs.pr_query.declared.fault.Fault.{Fault};
-ghost use Rattle.pr_world.specs.pr_query.declared.value.Value.{Value};
-ghost use Rattle.pr_world.specs.pr_query.Cost.{cost, nothing_passed};
-ghost use Rattle.pr_world.specs.pr_query.Meaning.{meaning};
-ghost use Rattle.pr_manager.specs.pr_values.Answers.{AnswersTo};
-ghost use Rattle.pr_world.specs.declared.report.Report.TheVariants.{QueryRefused};
-ghost use Rattle.pr_world.specs.Outcome.{accept, nothing_else, refuse};
-ghost use Rattle.pr_world.specs.Query.{parsed_outcome, query_outcome, told_answer, told_value, typed_outcome};
-ghost use Rattle.pr_engine.specs.Events.{parsed_cost, query_cost, settings_of, typed_cost};
-ghost use Rattle.pr_engine.specs.Taken.{HasOutcome, added_in, report_in};
+ghost use Rattle.pr_manager.specs.pr_group.private.Keeping.{MayEvaluateOver};
+ghost use Rattle.pr_head.specs.spec_history.declared.entry.Entry.{Entry};
+ghost use Rattle.pr_manager.specs.spec_meaning.declared.fault.Fault.{Fault};
+ghost use Rattle.pr_manager.specs.spec_meaning.declared.value.Value.{Value};
+ghost use Rattle.pr_manager.specs.spec_meaning.private.Cost.{cost, nothing_passed};
+ghost use Rattle.pr_manager.specs.spec_meaning.Meaning.{meaning};
+ghost use Rattle.pr_manager.specs.pr_eval.private.Answers.{AnswersTo};
+ghost use Rattle.pr_manager.specs.spec_world.declared.report.Report.TheVariants.{QueryRefused};
+ghost use Rattle.pr_manager.specs.spec_world.Outcome.{refuse};
+ghost use Rattle.pr_manager.specs.spec_world.Query.{query_outcome, told_answer, told_value};
+ghost use Rattle.pr_engine.specs.private.Events.{query_cost, settings_of};
+ghost use Rattle.pr_engine.specs.private.Taken.{HasOutcome, added_in, report_in};
 
 use crate::taken::Taken;
-use pr_ast::Expr;
 use pr_head::Head;
 use pr_manager::eval::{EvalError, Value, eval};
+use pr_manager::parse::{QueryError, read_expression};
 use pr_manager::range::PlainRanges;
+use pr_manager::types::Checked;
+use pr_manager::world::{QueryKind, Report};
 use pr_time::{Ms, Span};
-use pr_types::{Checked, TypeError, check};
 use pr_words::{Items, Steps};
-use pr_world::parse::{ParseError, parse};
-use pr_world::{QueryKind, Report};
 use std::alloc::{AllocError, Global};
 use std::sync::ledger::Ledger;
 
@@ -91,48 +88,9 @@ fn refusal(alloc: Global, place: usize, kind: QueryKind) -> Taken
     nothing_added(alloc, Report::QueryRefused { place, kind })
 }
 
-// Answers an expression.
-#[tactic(auto, using(crate::proofs::Queries::typed_answer, crate::proofs::Queries::untyped_answer, crate::proofs::Queries::typed_reads, crate::proofs::Queries::no_reads))]
-fn ask_parsed<G: Ledger>(
-    alloc: Global,
-    head: &Head,
-    expression: Expr,
-    time: Ms,
-    step: Span,
-    reads: &mut Steps<G>,
-) -> Result<Taken, AllocError>
-    requires { 0 < step }
-    ensures answer { (history : List Entry) → MayEvaluateOver head.now history time
-        → IfOk result (HasOutcome (typed_outcome (settings_of step) history time (tree_of expression) (checked (tree_of expression)))) }
-    ensures reads { (history : List Entry) → MayEvaluateOver head.now history time
-        → reads.new ≤ reads.old + typed_cost step history time (tree_of expression) (checked (tree_of expression)) }
-{
-    match check(alloc, expression) {
-        Ok(expression) => {
-            let report = answer(alloc, head, &expression, time, step, reads)?;
-            Ok(nothing_added(alloc, report))
-        }
-        Err(TypeError::Fault { at, kind }) => Ok(refusal(alloc, at, QueryKind::Typing { kind })),
-        Err(TypeError::Memory) => Err(AllocError),
-    }
-}
-
-// Refuses a text that is no expression.
-#[tactic(auto, using(crate::proofs::Queries::lex_answer, crate::proofs::Queries::parse_answer))]
-fn refuse_text(alloc: Global, error: ParseError) -> Result<Taken, AllocError>
-    ensures { (parsed : Parsed) (step : ℕ) (history : List Entry) (time : ℕ) → IsFaultOf parsed error
-        → IfOk result (HasOutcome (parsed_outcome (settings_of step) history time parsed)) }
-{
-    match error {
-        ParseError::Lex { at, kind } => Ok(refusal(alloc, at, QueryKind::Lex { kind })),
-        ParseError::Fault { at, kind } => Ok(refusal(alloc, at, QueryKind::Parse { kind })),
-        ParseError::Memory => Err(AllocError),
-    }
-}
-
 /// Answers a text: by what it gives as an expression, or by its first fault. The step is that of
 /// subqueries that name none.
-#[tactic(auto, using(crate::proofs::Queries::tree_answer, crate::proofs::Queries::tree_reads))]
+#[tactic(auto, using(crate::proofs::Queries::expression_answer, crate::proofs::Queries::refused_answer, crate::proofs::Queries::expression_reads, crate::proofs::Queries::no_reads))]
 pub(crate) fn ask<G: Ledger>(
     alloc: Global,
     head: &Head,
@@ -146,8 +104,12 @@ pub(crate) fn ask<G: Ledger>(
         → IfOk result (HasOutcome (query_outcome (settings_of step) history time text.now)) }
     ensures reads { (history : List Entry) → MayEvaluateOver head.now history time → reads.new ≤ reads.old + query_cost step history time text.now }
 {
-    match parse(alloc, text) {
-        Ok(expression) => ask_parsed(alloc, head, expression, time, step, reads),
-        Err(error) => refuse_text(alloc, error),
+    match read_expression(alloc, text) {
+        Ok(expression) => {
+            let report = answer(alloc, head, &expression, time, step, reads)?;
+            Ok(nothing_added(alloc, report))
+        }
+        Err(QueryError::Fault { at, kind }) => Ok(refusal(alloc, at, kind)),
+        Err(QueryError::Memory) => Err(AllocError),
     }
 }

@@ -2,25 +2,25 @@
 ghost use Rattle.std.specs.Prelude.{◌≡◌, ℕ, ◌+◌, ◌≤◌, List, map, false, true, IfOk, OnOk, Option, Some};
 ghost use Rattle.std.specs.List.{IsDistinct};
 ghost use Rattle.std.specs.Str.{bytes_eq};
-ghost use Rattle.pr_history.specs.declared.entry.Entry.{Entry};
-ghost use Rattle.pr_manager.specs.Naming.{passed_by_named};
-ghost use Rattle.pr_manager.specs.Passing.{EvaluationPasses, ReloadPasses};
-ghost use Rattle.pr_manager.specs.Rounds.{eval_cost};
-ghost use Rattle.pr_world.specs.Outcome.{IsNotBefore, is_refusal};
-ghost use Rattle.pr_world.specs.World.{World};
-ghost use Rattle.pr_world.specs.declared.event.Event.TheVariants.{Alerts, Eval, Reload};
-ghost use Rattle.pr_engine.specs.Events.{settings_of, step_in_time};
-ghost use Rattle.pr_engine.specs.Standing.{HoldsNoneUntil, IsHeadOf, KeepsBefore, KeepsWorld};
-ghost use Rattle.pr_engine.specs.Taken.{added_in, report_in};
-ghost use Rattle.pr_engine.specs.Times.{forgotten_at};
+ghost use Rattle.pr_head.specs.spec_history.declared.entry.Entry.{Entry};
+ghost use Rattle.pr_manager.specs.private.Naming.{passed_by_named};
+ghost use Rattle.pr_manager.specs.private.Passing.{EvaluationPasses, ReloadPasses};
+ghost use Rattle.pr_manager.specs.private.Rounds.{eval_cost};
+ghost use Rattle.pr_manager.specs.spec_world.private.Laws.{IsNotBefore, is_refusal};
+ghost use Rattle.pr_manager.specs.spec_world.World.{World};
+ghost use Rattle.pr_manager.specs.spec_world.declared.event.Event.TheVariants.{Alerts, Eval, Reload};
+ghost use Rattle.pr_engine.specs.private.Events.{settings_of, step_in_time};
+ghost use Rattle.pr_engine.specs.private.Standing.{HoldsNoneUntil, IsHeadOf, KeepsBefore, KeepsWorld};
+ghost use Rattle.pr_engine.specs.private.Taken.{added_in, report_in};
+ghost use Rattle.pr_engine.specs.private.Times.{forgotten_at};
 
 use crate::standing::Standing;
 use crate::taken::Taken;
 use pr_head::Head;
 use pr_manager::range::Ranges;
+use pr_manager::world::{NamedFile, Report};
 use pr_time::Ms;
 use pr_words::{Items, Steps, Text};
-use pr_world::{NamedFile, Report};
 use std::alloc::{AllocError, Global};
 use std::sync::ledger::Ledger;
 

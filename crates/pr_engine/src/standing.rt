@@ -1,40 +1,41 @@
 // What is kept of a world, and what becomes of it.
 ghost use Rattle.std.specs.Prelude.{◌≡◌, ◌≢◌, ℕ, ◌+◌, ◌<◌, ◌≤◌, List, [], ◌++◌, length, false, true, Some, Err, IfOk, IfSome, IsSome, OnOk, OnErr, Option};
-ghost use Rattle.pr_history.specs.declared.entry.Entry.{Entry};
-ghost use Rattle.pr_history.specs.Admission.{admit};
+ghost use Rattle.pr_head.specs.spec_history.declared.entry.Entry.{Entry};
+ghost use Rattle.pr_head.specs.spec_history.Admission.{admit};
 ghost use Rattle.pr_outside.specs.Causes.{HasKeepCause};
-ghost use Rattle.pr_outside.specs.Kept.{KeepsRows};
-ghost use Rattle.pr_row.specs.Histories.{history_of};
-ghost use Rattle.pr_manager.specs.Naming.{passed_by_named};
-ghost use Rattle.pr_world.specs.World.{World, begin};
-ghost use Rattle.pr_world.specs.Step.{HasDistinctFiles, entry_of, fail_outcome, gone_outcome, outcome_by, report_of, rows_by, scrape_outcome, scrape_report, step_by, time_of};
-ghost use Rattle.pr_world.specs.Targets.{fail_step, gone_step, scrape_step};
-ghost use Rattle.pr_world.specs.declared.report.Report.TheVariants.{Restarted};
-ghost use Rattle.pr_engine.specs.Causes.{HasApplyCause, HasStartCause};
+ghost use Rattle.pr_outside.specs.private.Kept.{KeepsRows};
+ghost use Rattle.pr_head.specs.spec_history.Histories.{history_of};
+ghost use Rattle.pr_manager.specs.private.Naming.{passed_by_named};
+ghost use Rattle.pr_manager.specs.spec_world.World.{World, begin};
+ghost use Rattle.pr_manager.specs.spec_world.private.Laws.{HasDistinctFiles};
+ghost use Rattle.pr_manager.specs.spec_world.Step.{entry_of, fail_outcome, gone_outcome, outcome_by, report_of, rows_by, scrape_outcome, scrape_report, step_by, time_of};
+ghost use Rattle.pr_manager.specs.spec_world.Targets.{fail_step, gone_step, scrape_step};
+ghost use Rattle.pr_manager.specs.spec_world.declared.report.Report.TheVariants.{Restarted};
+ghost use Rattle.pr_engine.specs.private.Causes.{HasApplyCause};
+ghost use Rattle.pr_head.specs.private.Causes.{HasStartCause};
 ghost use Rattle.pr_engine.specs.declared.fault.Cause.{Cause};
-ghost use Rattle.pr_engine.specs.Events.{IsKnownAfter, event_cost, is_restart, step_in_time};
-ghost use Rattle.pr_engine.specs.Passing.{EventPasses};
-ghost use Rattle.pr_engine.specs.Rows.{TellsOf};
-ghost use Rattle.pr_engine.specs.Standing.{Begins, Forgets, IsHeadOf, KeepsBefore, KeepsWorld};
-ghost use Rattle.pr_engine.specs.Taken.{added_in, report_in};
+ghost use Rattle.pr_engine.specs.private.Events.{IsKnownAfter, event_cost, is_restart, step_in_time};
+ghost use Rattle.pr_engine.specs.private.Passing.{EventPasses};
+ghost use Rattle.pr_head.specs.private.Rows.{TellsOf};
+ghost use Rattle.pr_engine.specs.private.Standing.{Begins, Forgets, IsHeadOf, KeepsBefore, KeepsWorld};
+ghost use Rattle.pr_engine.specs.private.Taken.{added_in, report_in};
 
-use crate::fault::{ApplyError, StartError};
-use crate::keeping::keep;
-use crate::loading::load;
+use crate::fault::ApplyError;
 use crate::query::ask;
+use crate::scrape::Targets;
 use crate::taken::Taken;
 use crate::telling::{is_restart, report_of, scrape_report};
+use pr_ast::num::Point;
 use pr_head::Head;
-use pr_history::{Append, Entry};
+use pr_head::history::{Append, Entry};
+use pr_head::rows::{StartError, keep, load};
 use pr_labels::Labels;
 use pr_manager::range::Ranges;
+use pr_manager::world::{Event, Report};
 use pr_manager::{Manager, kept_groups_stay, no_external};
-use pr_num::Point;
 use pr_outside::{KeepError, Keeper};
-use pr_scrape::Targets;
 use pr_time::{Ms, Span};
 use pr_words::{Items, Steps};
-use pr_world::{Event, Report};
 use std::alloc::{AllocError, Global};
 use std::marker::Model;
 use std::sync::ledger::Ledger;
@@ -51,7 +52,7 @@ pub(crate) struct Standing<R> {
 }
 
 impl<R> Model for Standing<R> {
-    ghost use Rattle.pr_engine.specs.Standing.{KeptParts};
+    ghost use Rattle.pr_engine.specs.private.Standing.{KeptParts};
 
     ghost Value = { KeptParts R };
 
@@ -226,7 +227,7 @@ impl<R: Ranges + Drop> Standing<R> {
     // Takes an event that is not before the last one, and is no restart: changes what is kept, and
     // then keeps the rows of what was added. After an error nothing is known of what is kept, and the
     // store has the rows of before.
-    #[tactic(auto, using(crate::proofs::Answering::kept_tells, crate::proofs::Answering::tells_still, crate::proofs::Answering::some_before, crate::proofs::Steps::told_before, crate::proofs::Told::keeps_same))]
+    #[tactic(auto, using(crate::proofs::Answering::kept_tells, pr_head::proofs::Telling::tells_still, pr_head::proofs::Telling::some_before, pr_head::proofs::Telling::told_before, pr_head::proofs::Told::keeps_same))]
     fn take<K: Keeper, G: Ledger>(
         &mut self,
         alloc: Global,
@@ -291,7 +292,7 @@ impl<R: Ranges + Drop> Standing<R> {
     }
 
     // Begins anew over the rows of a store.
-    #[tactic(auto, using(crate::proofs::Answering::begun_keeps, crate::proofs::Answering::tells_still))]
+    #[tactic(auto, using(crate::proofs::Answering::begun_keeps, pr_head::proofs::Telling::tells_still))]
     fn begin_anew<K: Keeper>(
         &mut self,
         alloc: Global,
@@ -323,7 +324,7 @@ impl<R: Ranges + Drop> Standing<R> {
 
     /// Answers an event that is not before the last one. Where it is no restart, this is what is kept
     /// of the world.
-    #[tactic(auto, using(crate::proofs::Answering::anew_report, crate::proofs::Answering::anew_keeps, crate::proofs::Answering::anew_tells, crate::proofs::Answering::anew_forgets, crate::proofs::Answering::known_rows, crate::proofs::Answering::keep_applied, crate::proofs::Answering::start_applied, crate::proofs::Answering::kept_no_row, crate::proofs::Answering::kept_unbroken, crate::proofs::Answering::started_unbroken, crate::proofs::Answering::started_row, crate::proofs::Answering::some_before, crate::proofs::Queries::no_reads))]
+    #[tactic(auto, using(crate::proofs::Answering::anew_report, crate::proofs::Answering::anew_keeps, crate::proofs::Answering::anew_tells, crate::proofs::Answering::anew_forgets, crate::proofs::Answering::known_rows, crate::proofs::Answering::keep_applied, crate::proofs::Answering::start_applied, crate::proofs::Answering::kept_no_row, crate::proofs::Answering::kept_unbroken, crate::proofs::Answering::started_unbroken, crate::proofs::Answering::started_row, pr_head::proofs::Telling::some_before, crate::proofs::Queries::no_reads))]
     pub(crate) fn answer<K: Keeper, G: Ledger>(
         &mut self,
         alloc: Global,

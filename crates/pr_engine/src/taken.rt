@@ -1,11 +1,11 @@
 // What became of an event.
 ghost use Rattle.std.specs.Prelude.{◌≡◌};
-ghost use Rattle.pr_engine.specs.Taken.{added_in, report_in};
+ghost use Rattle.pr_engine.specs.private.Taken.{added_in, report_in};
 
-use pr_history::Entry;
+use pr_head::history::Entry;
 use pr_manager::admitted_in;
+use pr_manager::world::Report;
 use pr_words::Items;
-use pr_world::Report;
 
 /// What is answered to an event, and the entries that it added.
 #[derive(Drop)]

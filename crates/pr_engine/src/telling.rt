@@ -1,12 +1,12 @@
 // What is told of events, and the reports of answers.
 ghost use Rattle.std.specs.Prelude.{◌≡◌};
-ghost use Rattle.pr_world.specs.Step.{report_of, scrape_report, time_of};
-ghost use Rattle.pr_engine.specs.Events.{is_restart};
+ghost use Rattle.pr_manager.specs.spec_world.Step.{report_of, scrape_report, time_of};
+ghost use Rattle.pr_engine.specs.private.Events.{is_restart};
 
-use pr_history::Append;
-use pr_scrape::Scraped;
+use crate::scrape::Scraped;
+use pr_head::history::Append;
+use pr_manager::world::{Event, Report};
 use pr_time::Ms;
-use pr_world::{Event, Report};
 
 pub(crate) fn time_of(event: &Event) -> Ms
     ensures { result ≡ time_of event.now }

@@ -1,11 +1,11 @@
 -- Answers of a node from those of its operands.
 use Rattle.std.proofs.Common.{◌≡◌, Result, Ok, Err, ap, subst, sym}
-use Rattle.pr_range_calls.specs.pr_query.declared.fault.Fault.{Fault}
-use Rattle.pr_range_calls.specs.pr_query.declared.value.Value.{Value}
-use Rattle.pr_range_calls.specs.pr_query.Answers.{go_on}
-use Rattle.pr_range_calls.specs.pr_values.declared.error.EvalError.{EvalError}
-use Rattle.pr_range_calls.specs.pr_values.declared.error.EvalError.TheVariants as error
-use Rattle.pr_range_calls.specs.pr_values.Answers.{AnswersTo}
+use Rattle.spec_meaning.specs.declared.fault.Fault.{Fault}
+use Rattle.spec_meaning.specs.declared.value.Value.{Value}
+use Rattle.spec_meaning.specs.Answers.{go_on}
+use Rattle.pr_eval.specs.declared.values.error.EvalError.{EvalError}
+use Rattle.pr_eval.specs.declared.values.error.EvalError.TheVariants as error
+use Rattle.pr_eval.specs.private.Answers.{AnswersTo}
 
 -- the fault of an operand ends
 pub ends : (next : Value → Result Value Fault) (meant : Result Value Fault) (e : EvalError) → AnswersTo meant (Err e) → AnswersTo (go_on next meant) (Err e)

@@ -1,11 +1,11 @@
 -- Parts that are evaluated one after another: what they read and ask together.
 use Rattle.std.proofs.Common.{◌≡◌, ℕ, ◌+◌, ◌<◌, ◌≤◌, ◌⊎◌, inl, inr, ◌&&◌, Bool, true, false, cond, List, [], ◌∷◌, ◌++◌, length, take, Option, Some, None, refl, sym, ap, subst, ◌∙◌, length-append, arith}
-use Rattle.pr_range_calls.specs.pr_history.declared.entry.Entry.{Entry}
-use Rattle.pr_range_calls.specs.pr_history.Lookback.{entries_until}
-use Rattle.pr_range_calls.specs.pr_head.Holds.{arrivals, labels_at}
-use Rattle.pr_range_calls.specs.pr_range.Asks.{LastAsk}
-use Rattle.pr_eval.specs.Asking.{Sought}
-use Rattle.pr_eval.specs.Evaluated.{AreAllAsked, AreReady, AreRowsAsked, IsAsked, IsReadyFor, IsSame, KeptOfRanges, MayFollow}
+use Rattle.pr_range.specs.spec_history.declared.entry.Entry.{Entry}
+use Rattle.pr_range.specs.spec_history.private.Laws.{entries_until}
+use Rattle.pr_range.specs.pr_head.private.Holds.{arrivals, labels_at}
+use Rattle.pr_range.specs.private.Asks.{LastAsk}
+use Rattle.pr_eval.specs.private.Asking.{Sought}
+use Rattle.pr_eval.specs.private.Evaluated.{AreAllAsked, AreReady, AreRowsAsked, IsAsked, IsReadyFor, IsSame, KeptOfRanges, MayFollow}
 use Rattle.pr_eval.proofs.Each.{both_each, front_each, map_each, none_each, rest_each}
 
 pub still : (k : ℕ) (kept : KeptOfRanges) → IsSame k kept kept

@@ -1,13 +1,13 @@
 -- How many range selectors a part asks, and what of its cost others can change.
 use Rattle.std.proofs.Common.{◌≡◌, ℕ, ◌+◌, ◌<◌, ◌≤◌, ℤ, pos, ◌-ℤ◌, Bool, true, List, length, refl, ap, ◌∙◌, length-append, arith}
 use Rattle.pr_labels.specs.declared.pair.Pair.{Pair}
-use Rattle.pr_range_calls.specs.pr_history.declared.entry.Entry.{Entry}
-use Rattle.pr_range_calls.specs.pr_vectors.declared.range.RangeFn.{RangeFn}
+use Rattle.pr_range.specs.spec_history.declared.entry.Entry.{Entry}
+use Rattle.pr_range.specs.spec_vectors.declared.range.RangeFn.{RangeFn}
 use Rattle.pr_ast.specs.Tree.{Tree, number, text, select, range, sub, neg, binary, call, aggregate, none, more}
-use Rattle.pr_range_calls.specs.pr_types.Numbers.{ranges_in}
-use Rattle.pr_range_calls.specs.pr_query.Selection.{chosen_by, moment_of}
-use Rattle.pr_range_calls.specs.pr_query.Cost.{PassedFor, cost, range_cost}
-use Rattle.pr_eval.specs.Asking.{asked_for, asks_in}
+use Rattle.spec_meaning.specs.pr_types.private.Numbers.{ranges_in}
+use Rattle.spec_meaning.specs.Selection.{chosen_by, moment_of}
+use Rattle.spec_meaning.specs.private.Cost.{PassedFor, cost, range_cost}
+use Rattle.pr_eval.specs.private.Asking.{asked_for, asks_in}
 
 -- as many are asked as there are range selectors
 pub asks_length : (inside : Bool) (history : List Entry) (func : RangeFn) (t : Tree) (time : ℕ) → length (asks_in inside history func t time) ≡ ranges_in t

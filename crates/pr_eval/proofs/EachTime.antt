@@ -2,12 +2,12 @@
 use Rattle.std.proofs.Common.{◌≡◌, ℕ, zero, suc, ◌+◌, ◌≤◌, ℤ, pos, ◌<ℤ◌, List, [], ◌∷◌, ◌++◌, take, drop, map, sum_by, slice_get, Some, Result, Ok, Err, refl, ap, ◌∙◌, arith}
 use Rattle.std.proofs.lemmas.Int.{ints}
 use Rattle.std.proofs.lemmas.List.Sums.{sum_by-append, sum_by-cons}
-use Rattle.pr_range_calls.specs.pr_query.declared.fault.Fault.{Fault}
-use Rattle.pr_range_calls.specs.pr_query.declared.value.Value.{Value}
-use Rattle.pr_range_calls.specs.pr_query.Given.{elements_in}
-use Rattle.pr_range_calls.specs.pr_query.Subqueries.{Taken, at_each, taken_before}
-use Rattle.pr_range_calls.specs.Taken.{taken}
-use Rattle.pr_range_calls.specs.Times.{AreTimesWithin}
+use Rattle.spec_meaning.specs.declared.fault.Fault.{Fault}
+use Rattle.spec_meaning.specs.declared.value.Value.{Value}
+use Rattle.spec_meaning.specs.Given.{elements_in}
+use Rattle.spec_meaning.specs.Subqueries.{Taken, at_each, taken_before}
+use Rattle.pr_eval.specs.private.Taken.{taken}
+use Rattle.pr_eval.specs.private.Times.{AreTimesWithin}
 
 -- a list at one of its elements
 some_is : {A : Type 0} (a b : A) → Some a ≡ Some b → a ≡ b

@@ -2,21 +2,21 @@
 use Rattle.std.proofs.Common.{◌≡◌, ℕ, zero, suc, ◌+◌, ◌≤◌, max, Bool, true, false, ◌&&◌, List, [], ◌∷◌, ◌++◌, length, take, drop, map, slice_get, Some, Err, refl, sym, ap, subst, ◌∙◌, append_assoc, arith}
 use Rattle.std.proofs.lemmas.List.{take_all}
 use Rattle.pr_labels.specs.declared.pair.Pair.{Pair}
-use Rattle.pr_range_calls.specs.pr_history.declared.entry.Entry.{Entry}
-use Rattle.pr_range_calls.specs.pr_head.Stored.{Stored}
+use Rattle.pr_range.specs.spec_history.declared.entry.Entry.{Entry}
+use Rattle.pr_range.specs.pr_head.private.Stored.{Stored}
 use Rattle.pr_ast.specs.declared.tree.Expr.{Expr}
 use Rattle.pr_ast.specs.Tree.{Tree, more, more_from, none, tree_of, trees_of}
 use Rattle.pr_ast.specs.Reach.{reads_back}
-use Rattle.pr_ast.specs.Steps.{has_steps}
-use Rattle.pr_range_calls.specs.pr_types.declared.counting.Counts.{Counts}
-use Rattle.pr_range_calls.specs.pr_types.Built.{tests_in, patterns_in}
-use Rattle.pr_range_calls.specs.pr_types.Numbers.{ranges_in}
-use Rattle.pr_range_calls.specs.pr_vectors.declared.range.RangeFn.{RangeFn}
-use Rattle.pr_eval.specs.Asking.{asks_in}
-use Rattle.pr_range_calls.specs.pr_query.Cost.{PassedFor, cost}
-use Rattle.pr_range_calls.specs.pr_values.declared.error.EvalError.{EvalError}
-use Rattle.pr_eval.specs.Evaluated.{AreAllAsked, AreReady, IsReadyFor, IsEvaluated, KeptOfRanges, MayTake, passed_outside}
-use Rattle.pr_eval.specs.Parts.{AreTwo, IsPartAt, PatternsAt, StandAt}
+use Rattle.pr_ast.specs.private.Steps.{has_steps}
+use Rattle.spec_meaning.specs.pr_types.declared.counting.SelectorCounts.{SelectorCounts}
+use Rattle.spec_meaning.specs.pr_types.private.Built.{tests_in, patterns_in}
+use Rattle.spec_meaning.specs.pr_types.private.Numbers.{ranges_in}
+use Rattle.pr_range.specs.spec_vectors.declared.range.RangeFn.{RangeFn}
+use Rattle.pr_eval.specs.private.Asking.{asks_in}
+use Rattle.spec_meaning.specs.private.Cost.{PassedFor, cost}
+use Rattle.pr_eval.specs.declared.values.error.EvalError.{EvalError}
+use Rattle.pr_eval.specs.private.Evaluated.{AreAllAsked, AreReady, IsReadyFor, IsEvaluated, KeptOfRanges, MayTake, passed_outside}
+use Rattle.pr_eval.specs.private.Parts.{AreTwo, IsPartAt, PatternsAt, StandAt}
 use Rattle.pr_eval.proofs.Each.{front_each}
 use Rattle.pr_eval.proofs.Asked.{asked_first}
 use Rattle.pr_eval.proofs.Taking.{keeps_part, recast}
@@ -99,7 +99,7 @@ first_args : (k : ℕ) (es : List Expr) → AreFirst (trees_of (take k es)) (tre
 first_args k es = subst (AreFirst (trees_of (take k es))) (sym (split_from k es none)) (first_from (map tree_of (drop k es)) (trees_of (take k es)))
 
 -- what is known of all is known of the first
-pub args_part : (whole : Tree) (n : Counts) (k : ℕ) (es : List Expr) → IsPartAt whole n (trees_of es) → IsPartAt whole n (trees_of (take k es))
+pub args_part : (whole : Tree) (n : SelectorCounts) (k : ℕ) (es : List Expr) → IsPartAt whole n (trees_of es) → IsPartAt whole n (trees_of (take k es))
 args_part whole n k es h =
     let f = first_args k es in
     let u = trees_of (take k es) in

@@ -1,14 +1,14 @@
 -- What is known of the times of a subquery, one after another.
 use Rattle.std.proofs.Common.{◌≡◌, ℕ, suc, ◌+◌, ◌≤◌, List, take, sum_by, slice_get, Some, Result, Ok, Err, arith}
-use Rattle.pr_range_calls.specs.pr_query.declared.fault.Fault.{Fault}
-use Rattle.pr_range_calls.specs.pr_query.declared.value.Value.{Value}
-use Rattle.pr_range_calls.specs.pr_query.Answers.{fault}
-use Rattle.pr_range_calls.specs.pr_query.Subqueries.{Taken, at_each}
-use Rattle.pr_range_calls.specs.pr_values.declared.error.EvalError.{EvalError}
-use Rattle.pr_range_calls.specs.pr_values.declared.error.EvalError.TheVariants as error
-use Rattle.pr_range_calls.specs.pr_values.Answers.{AnswersTo}
-use Rattle.pr_eval.specs.Evaluated.{KeptOfRanges}
-use Rattle.pr_eval.specs.Subqueries.{AreSeriesGathered, TakesInside}
+use Rattle.spec_meaning.specs.declared.fault.Fault.{Fault}
+use Rattle.spec_meaning.specs.declared.value.Value.{Value}
+use Rattle.spec_meaning.specs.Answers.{fault}
+use Rattle.spec_meaning.specs.Subqueries.{Taken, at_each}
+use Rattle.pr_eval.specs.declared.values.error.EvalError.{EvalError}
+use Rattle.pr_eval.specs.declared.values.error.EvalError.TheVariants as error
+use Rattle.pr_eval.specs.private.Answers.{AnswersTo}
+use Rattle.pr_eval.specs.private.Evaluated.{KeptOfRanges}
+use Rattle.pr_eval.specs.private.Subqueries.{AreSeriesGathered, TakesInside}
 use Rattle.pr_eval.proofs.EachTime.{each_ends, sum_next, sum_within}
 use Rattle.pr_eval.proofs.Inside.{same_then_all}
 use Rattle.pr_eval.proofs.Taking.{recast}

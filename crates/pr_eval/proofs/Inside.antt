@@ -2,18 +2,18 @@
 use Rattle.std.proofs.Common.{◌≡◌, ℕ, ◌+◌, ◌-◌, ◌<◌, ◌≤◌, ◌⊎◌, inl, inr, nat_lt, Bool, true, false, List, length, get_or, slice_get, Option, Some, None, Result, is_ok, refl, sym, subst, ltb-true, ltb-false, arith}
 use Rattle.std.proofs.lemmas.Option.{slice_get-get_or}
 use Rattle.pr_labels.specs.declared.pair.Pair.{Pair}
-use Rattle.pr_range_calls.specs.pr_history.declared.entry.Entry.{Entry}
-use Rattle.pr_range_calls.specs.pr_head.Stored.{Stored}
-use Rattle.pr_range_calls.specs.pr_vectors.declared.range.RangeFn.{RangeFn}
-use Rattle.pr_range_calls.specs.pr_range.Asks.{LastAsks}
+use Rattle.pr_range.specs.spec_history.declared.entry.Entry.{Entry}
+use Rattle.pr_range.specs.pr_head.private.Stored.{Stored}
+use Rattle.pr_range.specs.spec_vectors.declared.range.RangeFn.{RangeFn}
+use Rattle.pr_range.specs.private.Asks.{LastAsks}
 use Rattle.pr_ast.specs.Tree.{Tree, number, text, select, range, sub, neg, binary, call, aggregate, none, more}
-use Rattle.pr_range_calls.specs.pr_query.Cost.{cost, nothing_passed}
-use Rattle.pr_range_calls.specs.pr_values.declared.error.EvalError.{EvalError}
-use Rattle.pr_eval.specs.Asking.{Sought, asked_for, asks_in}
-use Rattle.pr_eval.specs.Each.{EachAt}
-use Rattle.pr_eval.specs.Evaluated.{AreAllAsked, AreReady, IsAsked, IsReadyFor, IsSame, IsEvaluated, KeptOfRanges, MayTake, HasEvaluated}
-use Rattle.pr_eval.specs.Looks.{KeepsFor}
-use Rattle.pr_eval.specs.Subqueries.{AreSame, TakesInside}
+use Rattle.spec_meaning.specs.private.Cost.{cost, nothing_passed}
+use Rattle.pr_eval.specs.declared.values.error.EvalError.{EvalError}
+use Rattle.pr_eval.specs.private.Asking.{Sought, asked_for, asks_in}
+use Rattle.pr_eval.specs.private.Each.{EachAt}
+use Rattle.pr_eval.specs.private.Evaluated.{AreAllAsked, AreReady, IsAsked, IsReadyFor, IsSame, IsEvaluated, KeptOfRanges, MayTake, HasEvaluated}
+use Rattle.pr_eval.specs.private.Looks.{KeepsFor}
+use Rattle.pr_eval.specs.private.Subqueries.{AreSame, TakesInside}
 use Rattle.pr_eval.proofs.Asked.{same_then, still}
 use Rattle.pr_eval.proofs.Each.{both_each, map_each, none_each, one_each}
 

@@ -19,3 +19,22 @@ mod RangeOperands
 mod RangeKinds
 mod Sizes
 mod NoRange
+mod Operations
+mod TextLists
+mod Stamps
+mod Absences
+pub mod Choosing
+pub mod AskedSeries
+pub mod Named
+pub mod ToldApart
+pub mod SubquerySteps
+pub mod SeriesGathered
+pub mod Numbers
+pub mod SubqueryAnswers
+pub use Rattle.spec_meaning.proofs.TypesParts
+pub use Rattle.pr_range.proofs.HeadArrivals
+pub use Rattle.pr_range.proofs.HeadIntakeIntake
+pub use Rattle.pr_range.proofs.HeadNewest
+pub use Rattle.pr_range.proofs.HeadSimulation
+pub use Rattle.pr_range.proofs.HeadTelling
+pub use Rattle.pr_fn.proofs.Twice as FnTwice

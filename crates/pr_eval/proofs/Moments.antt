@@ -2,7 +2,7 @@
 use Rattle.std.proofs.Common.{ℕ, ◌+◌, ◌≤◌, ℤ, pos, negsuc, ◌+ℤ◌, ◌-ℤ◌, ◌≤ℤ◌, refl, arith}
 use Rattle.std.proofs.lemmas.Int.{ints}
 use Rattle.std.proofs.lemmas.Grind.{common_steps}
-use Rattle.pr_range_calls.specs.pr_head.Reads.{IsPast}
+use Rattle.pr_range.specs.pr_head.private.Reads.{IsPast}
 
 pub past : (y x z : ℤ) → y ≤ℤ z → (z +ℤ pos 300000) ≤ℤ x → IsPast y x
 past (negsuc b) x z h k = λ time u. cc

@@ -3,12 +3,12 @@ use Rattle.std.proofs.Common.{◌≡◌, ℕ, Option, true, false, sym, ap, ◌�
 use Rattle.pr_ast.specs.declared.place.Place.{Place}
 use Rattle.pr_ast.specs.declared.selector.Selector.{Selector}
 use Rattle.pr_ast.specs.Tree.{Tree, range, sub}
-use Rattle.pr_range_calls.specs.pr_types.declared.kind.ValueType.{ValueType}
-use Rattle.pr_range_calls.specs.pr_types.declared.kind.ValueType.TheVariants.{Range}
-use Rattle.pr_range_calls.specs.pr_types.Signatures.{is_type}
-use Rattle.pr_range_calls.specs.pr_types.Typed.{typed}
-use Rattle.pr_range_calls.proofs.TypesParts.{parts_of_range, parts_of_sub}
-use Rattle.pr_eval.specs.Parts.{IsValued}
+use Rattle.spec_meaning.specs.pr_types.declared.kind.ValueType.{ValueType}
+use Rattle.spec_meaning.specs.pr_types.declared.kind.ValueType.TheVariants.{Range}
+use Rattle.spec_meaning.specs.pr_types.Signatures.{is_type}
+use Rattle.spec_meaning.specs.pr_types.Typed.{typed}
+use Rattle.spec_meaning.proofs.TypesParts.{parts_of_range, parts_of_sub}
+use Rattle.pr_eval.specs.private.Parts.{IsValued}
 
 is_range : (v : ValueType) → v ≡ Range → is_type v Range ≡ false → ⊥
 is_range v is h = let k : true ≡ false = sym (ap (λ u. is_type u Range) is) ∙ h in cc

@@ -1,26 +1,26 @@
 -- What aggregations and calls make of the values of their arguments.
 use Rattle.std.proofs.Common.{◌≡◌, ℕ, zero, suc, List, [], ◌∷◌, ◌++◌, take, drop, map, slice_get, append_assoc, true, false, Some, None, Result, Ok, Err, ap, subst, sym, refl, ◌∙◌}
-use Rattle.pr_range_calls.specs.pr_history.declared.entry.Entry.{Entry}
+use Rattle.pr_range.specs.spec_history.declared.entry.Entry.{Entry}
 use Rattle.std.specs.Option.{option_map}
 use Rattle.std.specs.Result.{IsErr, IsErrAnd}
 use Rattle.pr_ast.specs.declared.tree.Expr.{Expr}
 use Rattle.pr_ast.specs.Tree.{Tree, number, text, select, range, sub, neg, binary, call, aggregate, none, more, more_from, tree_of, trees_of}
-use Rattle.pr_range_calls.specs.pr_types.declared.kind.ValueType.{ValueType}
-use Rattle.pr_range_calls.specs.pr_types.declared.kind.ValueType.TheVariants.{Range}
-use Rattle.pr_range_calls.specs.pr_types.Signatures.{is_type}
-use Rattle.pr_range_calls.specs.pr_types.Parts.{arguments}
-use Rattle.pr_range_calls.proofs.TypesParts.{node_tells}
-use Rattle.pr_range_calls.specs.pr_query.declared.fault.Fault.{Fault}
-use Rattle.pr_range_calls.specs.pr_query.declared.value.Value.{Value}
-use Rattle.pr_range_calls.specs.pr_query.Answers.{fault, go_on}
-use Rattle.pr_range_calls.specs.pr_values.declared.error.EvalError.{EvalError}
-use Rattle.pr_range_calls.specs.pr_values.declared.error.EvalError.TheVariants as error
-use Rattle.pr_range_calls.specs.pr_values.Answers.{AnswersTo}
-use Rattle.pr_range_calls.specs.pr_values.Plain.{all_plain}
-use Rattle.pr_eval.specs.Operands.{AreGiven}
-use Rattle.pr_range_calls.specs.pr_query.Given.{Given}
-use Rattle.pr_range_calls.specs.pr_query.Meaning.{given, meaning, operands, ranges}
-use Rattle.pr_eval.specs.Parts.{IsValued}
+use Rattle.spec_meaning.specs.pr_types.declared.kind.ValueType.{ValueType}
+use Rattle.spec_meaning.specs.pr_types.declared.kind.ValueType.TheVariants.{Range}
+use Rattle.spec_meaning.specs.pr_types.Signatures.{is_type}
+use Rattle.spec_meaning.specs.pr_types.private.Parts.{arguments}
+use Rattle.spec_meaning.proofs.TypesParts.{node_tells}
+use Rattle.spec_meaning.specs.declared.fault.Fault.{Fault}
+use Rattle.spec_meaning.specs.declared.value.Value.{Value}
+use Rattle.spec_meaning.specs.Answers.{fault, go_on}
+use Rattle.pr_eval.specs.declared.values.error.EvalError.{EvalError}
+use Rattle.pr_eval.specs.declared.values.error.EvalError.TheVariants as error
+use Rattle.pr_eval.specs.private.Answers.{AnswersTo}
+use Rattle.pr_eval.specs.private.Plain.{all_plain}
+use Rattle.pr_eval.specs.private.Operands.{AreGiven}
+use Rattle.spec_meaning.specs.Given.{Given}
+use Rattle.spec_meaning.specs.Meaning.{given, meaning, operands, ranges}
+use Rattle.pr_eval.specs.private.Parts.{IsValued}
 use Rattle.pr_eval.proofs.Fronts.{split_from}
 
 -- What is no range gives no series.

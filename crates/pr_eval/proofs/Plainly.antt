@@ -6,14 +6,14 @@ use Rattle.pr_ast.specs.declared.names.Func.{Func}
 use Rattle.pr_ast.specs.declared.names.Func.TheVariants as fn
 use Rattle.pr_ast.specs.declared.tree.Expr.{Expr}
 use Rattle.pr_ast.specs.Tree.{Tree, call, tree_of, trees_of}
-use Rattle.pr_range_calls.specs.pr_types.declared.counting.Counts.{Counts}
-use Rattle.pr_range_calls.specs.pr_types.declared.kind.ValueType.TheVariants.{Range}
-use Rattle.pr_range_calls.specs.pr_types.Signatures.{func_signature, is_type, wanted}
-use Rattle.pr_range_calls.specs.pr_types.Typed.{content_at, typed}
-use Rattle.pr_range_calls.specs.pr_types.Built.{own_patterns, patterns_in}
-use Rattle.pr_range_calls.proofs.TypesParts.{parts_of_call, text_of_join, texts_of_replace}
-use Rattle.pr_range_calls.specs.pr_values.Calls.{is_plain_call}
-use Rattle.pr_eval.specs.Parts.{IsPartAt, IsValued, PatternsAt, counts_after}
+use Rattle.spec_meaning.specs.pr_types.declared.counting.SelectorCounts.{SelectorCounts}
+use Rattle.spec_meaning.specs.pr_types.declared.kind.ValueType.TheVariants.{Range}
+use Rattle.spec_meaning.specs.pr_types.Signatures.{func_signature, is_type, wanted}
+use Rattle.spec_meaning.specs.pr_types.Typed.{content_at, typed}
+use Rattle.spec_meaning.specs.pr_types.private.Built.{own_patterns, patterns_in}
+use Rattle.spec_meaning.proofs.TypesParts.{parts_of_call, text_of_join, texts_of_replace}
+use Rattle.pr_eval.specs.private.Calls.{is_plain_call}
+use Rattle.pr_eval.specs.private.Parts.{IsPartAt, IsValued, PatternsAt, counts_after}
 use Rattle.pr_eval.proofs.Each.{first_of_one, rest_each}
 use Rattle.pr_eval.proofs.Operands.{argument_at}
 
@@ -104,7 +104,7 @@ module _ (t : Tree) (p : Place) (f : Func) (es : List Expr) (is : t ≡ call p f
   joined_label h same = text_of_join p (trees_of es) h.gives (sym (ap (λ g. typed (call p g (trees_of es))) same) ∙ typed_call h)
 
   -- the pattern of the call stands behind those of its arguments
-  pub own_pattern : (whole : Tree) (n m : Counts) → IsPartAt whole n t → m ≡ counts_after n (trees_of es) → f ≡ fn.LabelReplace → slice_get (patterns_in whole) m.patterns ≡ Some (content_at (trees_of es) 4)
+  pub own_pattern : (whole : Tree) (n m : SelectorCounts) → IsPartAt whole n t → m ≡ counts_after n (trees_of es) → f ≡ fn.LabelReplace → slice_get (patterns_in whole) m.patterns ≡ Some (content_at (trees_of es) 4)
   own_pattern whole n m part after same =
       let all : PatternsAt (patterns_in whole) n.patterns (patterns_in (trees_of es) ++ own_patterns f (trees_of es)) = subst (PatternsAt (patterns_in whole) n.patterns) (ap patterns_in is) part.patterns in
       let own : PatternsAt (patterns_in whole) (n.patterns + length (patterns_in (trees_of es))) (own_patterns f (trees_of es)) =
@@ -112,4 +112,4 @@ module _ (t : Tree) (p : Place) (f : Func) (es : List Expr) (is : t ≡ call p f
       let here : slice_get (patterns_in whole) (n.patterns + length (patterns_in (trees_of es))) ≡ Some (content_at (trees_of es) 4) =
       first_of_one (λ k x. slice_get (patterns_in whole) k ≡ Some x) (n.patterns + length (patterns_in (trees_of es))) (content_at (trees_of es) 4)
       (subst (λ g. PatternsAt (patterns_in whole) (n.patterns + length (patterns_in (trees_of es))) (own_patterns g (trees_of es))) same own) in
-      ap (λ (k : Counts). slice_get (patterns_in whole) k.patterns) after ∙ here
+      ap (λ (k : SelectorCounts). slice_get (patterns_in whole) k.patterns) after ∙ here

@@ -5,29 +5,29 @@ use Rattle.std.proofs.lemmas.Bool.{ne_eqb}
 use Rattle.std.proofs.lemmas.Bool.Decides.{eqb_tells}
 use Rattle.pr_num.specs.declared.value.Num.{Num}
 use Rattle.pr_labels.specs.declared.pair.Pair.{Pair}
-use Rattle.pr_range_calls.specs.pr_history.declared.entry.Entry.{Entry}
-use Rattle.pr_range_calls.specs.pr_history.Lookback.{entries_until}
-use Rattle.pr_range_calls.specs.pr_head.Stored.{Stored}
-use Rattle.pr_range_calls.specs.pr_head.Holds.{IsWhole, arrivals, labels_at, samples_of}
+use Rattle.pr_range.specs.spec_history.declared.entry.Entry.{Entry}
+use Rattle.pr_range.specs.spec_history.private.Laws.{entries_until}
+use Rattle.pr_range.specs.pr_head.private.Stored.{Stored}
+use Rattle.pr_range.specs.pr_head.private.Holds.{IsWhole, arrivals, labels_at, samples_of}
 use Rattle.pr_ast.specs.declared.place.Place.{Place}
 use Rattle.pr_ast.specs.declared.selector.Selector.{Selector}
 use Rattle.pr_ast.specs.Tree.{Tree, range}
-use Rattle.pr_range_calls.specs.pr_vectors.declared.range.RangeFn.{RangeFn}
-use Rattle.pr_range_calls.specs.pr_query.declared.fault.Fault.{Fault}
-use Rattle.pr_range_calls.specs.pr_query.declared.value.Value.{Value}
-use Rattle.pr_range_calls.specs.pr_query.Answers.{go_on}
-use Rattle.pr_range_calls.specs.pr_query.Given.{Ranged, range_at}
-use Rattle.pr_range_calls.specs.pr_query.Meaning.{ranges}
-use Rattle.pr_range_calls.specs.pr_query.Selection.{chosen_by, moment_of}
-use Rattle.pr_range_calls.specs.pr_range.Asks.{IsReadyToAsk, LastAsks, remembered}
-use Rattle.pr_range_calls.proofs.RangeLawful.{entries_until_is}
-use Rattle.pr_range_calls.proofs.RangeTimeline.{until_grows}
-use Rattle.pr_range_calls.specs.pr_values.declared.error.EvalError.{EvalError}
-use Rattle.pr_range_calls.specs.pr_values.declared.error.EvalError.TheVariants as error
-use Rattle.pr_range_calls.specs.pr_values.Answers.{AnswersTo}
-use Rattle.pr_range_calls.specs.Asking.{AreAsked, MayAskEach, ask_at, asks_cost, is_number_among, numbers_chosen, passed_by}
-use Rattle.pr_eval.specs.Asking.{asks_in, sought}
-use Rattle.pr_eval.specs.Evaluated.{AreAllAsked, AreReady, AreRowsAsked, IsAsked, IsReadyFor, IsSame, IsEvaluated, KeptOfRanges, MayFollow, MayTake}
+use Rattle.pr_range.specs.spec_vectors.declared.range.RangeFn.{RangeFn}
+use Rattle.spec_meaning.specs.declared.fault.Fault.{Fault}
+use Rattle.spec_meaning.specs.declared.value.Value.{Value}
+use Rattle.spec_meaning.specs.Answers.{go_on}
+use Rattle.spec_meaning.specs.Given.{Ranged, range_at}
+use Rattle.spec_meaning.specs.Meaning.{ranges}
+use Rattle.spec_meaning.specs.Selection.{chosen_by, moment_of}
+use Rattle.pr_range.specs.private.Asks.{IsReadyToAsk, LastAsks, remembered}
+use Rattle.pr_range.proofs.Lawful.{entries_until_is}
+use Rattle.pr_range.proofs.Timeline.{until_grows}
+use Rattle.pr_eval.specs.declared.values.error.EvalError.{EvalError}
+use Rattle.pr_eval.specs.declared.values.error.EvalError.TheVariants as error
+use Rattle.pr_eval.specs.private.Answers.{AnswersTo}
+use Rattle.pr_eval.specs.private.RangeCallsAsking.{AreAsked, MayAskEach, ask_at, asks_cost, is_number_among, numbers_chosen, passed_by}
+use Rattle.pr_eval.specs.private.Asking.{asks_in, sought}
+use Rattle.pr_eval.specs.private.Evaluated.{AreAllAsked, AreReady, AreRowsAsked, IsAsked, IsReadyFor, IsSame, IsEvaluated, KeptOfRanges, MayFollow, MayTake}
 use Rattle.pr_eval.proofs.Each.{first_of_one, one_each}
 
 abbrev Series : Type 0

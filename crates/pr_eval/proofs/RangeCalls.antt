@@ -1,29 +1,29 @@
 -- What calls of functions of ranges give.
 use Rattle.std.proofs.Common.{◌≡◌, ℕ, true, false, List, [], ◌∷◌, ◌++◌, Option, Some, None, Result, Ok, Err, ap, subst, sym, refl, ◌∙◌}
-use Rattle.pr_range_calls.specs.pr_history.declared.entry.Entry.{Entry}
+use Rattle.pr_range.specs.spec_history.declared.entry.Entry.{Entry}
 use Rattle.pr_ast.specs.declared.place.Place.{Place}
 use Rattle.pr_ast.specs.declared.names.Func.{Func}
 use Rattle.pr_ast.specs.declared.names.Func.TheVariants as fn
 use Rattle.pr_ast.specs.Tree.{Tree, number, text, select, range, sub, neg, binary, call, aggregate, none, more}
-use Rattle.pr_range_calls.specs.pr_types.declared.kind.ValueType.TheVariants.{Range, Scalar}
-use Rattle.pr_range_calls.specs.pr_types.Typed.{typed}
-use Rattle.pr_range_calls.proofs.TypesParts.{node_tells}
-use Rattle.pr_range_calls.specs.pr_query.declared.fault.Fault.{Fault}
-use Rattle.pr_range_calls.specs.pr_query.declared.value.Value.{Value}
-use Rattle.pr_range_calls.specs.pr_query.declared.value.Value.TheVariants.{Vector}
-use Rattle.pr_range_calls.specs.pr_query.Answers.{go_on}
-use Rattle.pr_range_calls.specs.pr_query.Calls.{value_of_call}
-use Rattle.pr_range_calls.specs.pr_query.Given.{Given, Ranged}
-use Rattle.pr_range_calls.specs.pr_query.Meaning.{given, meaning, operands, ranges}
-use Rattle.pr_range_calls.specs.pr_range.Asks.{takes_argument}
-use Rattle.pr_eval.specs.Asking.{asked_for, takes_range}
-use Rattle.pr_eval.specs.Parts.{IsValued}
-use Rattle.pr_range_calls.specs.pr_values.declared.error.EvalError.{EvalError}
-use Rattle.pr_range_calls.specs.pr_values.declared.error.EvalError.TheVariants as error
-use Rattle.pr_range_calls.specs.pr_values.Answers.{AnswersTo}
-use Rattle.pr_range_calls.specs.Taken.{ranged_of}
+use Rattle.spec_meaning.specs.pr_types.declared.kind.ValueType.TheVariants.{Range, Scalar}
+use Rattle.spec_meaning.specs.pr_types.Typed.{typed}
+use Rattle.spec_meaning.proofs.TypesParts.{node_tells}
+use Rattle.spec_meaning.specs.declared.fault.Fault.{Fault}
+use Rattle.spec_meaning.specs.declared.value.Value.{Value}
+use Rattle.spec_meaning.specs.declared.value.Value.TheVariants.{Vector}
+use Rattle.spec_meaning.specs.Answers.{go_on}
+use Rattle.spec_meaning.specs.Calls.{value_of_call}
+use Rattle.spec_meaning.specs.Given.{Given, Ranged}
+use Rattle.spec_meaning.specs.Meaning.{given, meaning, operands, ranges}
+use Rattle.pr_range.specs.private.Asks.{takes_argument}
+use Rattle.pr_eval.specs.private.Asking.{asked_for, takes_range}
+use Rattle.pr_eval.specs.private.Parts.{IsValued}
+use Rattle.pr_eval.specs.declared.values.error.EvalError.{EvalError}
+use Rattle.pr_eval.specs.declared.values.error.EvalError.TheVariants as error
+use Rattle.pr_eval.specs.private.Answers.{AnswersTo}
+use Rattle.pr_eval.specs.private.Taken.{ranged_of}
 use Rattle.pr_eval.specs.declared.subquery.SubquerySeries.{SubquerySeries}
-use Rattle.pr_eval.specs.Ranged.{AreSeries, HasItsArgument, call_in, made_of, prediction_by, quantile_by, use_alone}
+use Rattle.pr_eval.specs.private.Ranged.{AreSeries, HasItsArgument, call_in, made_of, prediction_by, quantile_by, use_alone}
 use Rattle.pr_eval.proofs.Answering.{ends}
 use Rattle.pr_eval.proofs.Operands.{chained, one_more}
 

@@ -1,10 +1,10 @@
 -- A tree of the type of a range is a range selector or a subquery.
 use Rattle.std.proofs.Common.{◌≡◌, true, Ok, refl}
 use Rattle.pr_ast.specs.Tree.{Tree, number, text, select, range, sub, neg, binary, call, aggregate, none, more}
-use Rattle.pr_range_calls.specs.pr_types.declared.kind.ValueType.TheVariants.{Range}
-use Rattle.pr_range_calls.specs.pr_types.Typed.{typed}
-use Rattle.pr_range_calls.proofs.TypesParts.{node_tells}
-use Rattle.pr_eval.specs.Sizes.{is_range_node}
+use Rattle.spec_meaning.specs.pr_types.declared.kind.ValueType.TheVariants.{Range}
+use Rattle.spec_meaning.specs.pr_types.Typed.{typed}
+use Rattle.spec_meaning.proofs.TypesParts.{node_tells}
+use Rattle.pr_eval.specs.private.Sizes.{is_range_node}
 
 pub range_node : (t : Tree) → typed t ≡ Ok Range → is_range_node t ≡ true
 range_node (range p s d) h = refl

@@ -6,15 +6,15 @@ use Rattle.pr_ast.specs.declared.names.Func.{Func}
 use Rattle.pr_ast.specs.declared.names.Func.TheVariants as fn
 use Rattle.pr_ast.specs.declared.tree.Expr.{Expr}
 use Rattle.pr_ast.specs.Tree.{Tree, call, more, none, tree_of, trees_of}
-use Rattle.pr_range_calls.specs.pr_types.declared.kind.ValueType.{ValueType}
-use Rattle.pr_range_calls.specs.pr_types.declared.kind.ValueType.TheVariants.{Range, Scalar}
-use Rattle.pr_range_calls.specs.pr_types.Signatures.{func_signature, wanted}
-use Rattle.pr_range_calls.specs.pr_types.Parts.{AreArguments, arguments}
-use Rattle.pr_range_calls.specs.pr_types.Typed.{typed}
-use Rattle.pr_range_calls.proofs.TypesParts.{parts_of_call}
-use Rattle.pr_range_calls.specs.pr_range.Asks.{takes_argument}
-use Rattle.pr_eval.specs.Asking.{asked_for, takes_range}
-use Rattle.pr_eval.specs.Parts.{IsValued}
+use Rattle.spec_meaning.specs.pr_types.declared.kind.ValueType.{ValueType}
+use Rattle.spec_meaning.specs.pr_types.declared.kind.ValueType.TheVariants.{Range, Scalar}
+use Rattle.spec_meaning.specs.pr_types.Signatures.{func_signature, wanted}
+use Rattle.spec_meaning.specs.pr_types.private.Parts.{AreArguments, arguments}
+use Rattle.spec_meaning.specs.pr_types.Typed.{typed}
+use Rattle.spec_meaning.proofs.TypesParts.{parts_of_call}
+use Rattle.pr_range.specs.private.Asks.{takes_argument}
+use Rattle.pr_eval.specs.private.Asking.{asked_for, takes_range}
+use Rattle.pr_eval.specs.private.Parts.{IsValued}
 use Rattle.pr_eval.proofs.Operands.{argument_at, arguments_are}
 
 pub alone_argument : (f : Func) → takes_range f ≡ true → f ≢ fn.QuantileOverTime → f ≢ fn.PredictLinear → takes_argument (asked_for f) ≡ false

@@ -6,23 +6,24 @@ use Rattle.std.proofs.lemmas.List.{length-map}
 use Rattle.pr_labels.specs.declared.pair.Pair.{Pair}
 use Rattle.pr_labels.specs.declared.item.Item.{Item}
 use Rattle.pr_labels.specs.Rising.{IsBelowFirstSet, IsRising}
-use Rattle.pr_range_calls.specs.pr_history.declared.entry.Entry.{Entry}
-use Rattle.pr_range_calls.specs.pr_history.declared.spot.Spot.{Spot}
-use Rattle.pr_range_calls.specs.pr_history.Lookback.{spot_at}
-use Rattle.pr_range_calls.specs.pr_head.Stored.{Stored, newest_at}
-use Rattle.pr_range_calls.specs.pr_head.Holds.{sets_of}
-use Rattle.pr_range_calls.specs.pr_head.Reads.{spot_shown}
-use Rattle.pr_range_calls.proofs.HeadNewest.{newest_is_shown}
-use Rattle.pr_range_calls.proofs.HeadSimulation.{set_at}
+use Rattle.pr_range.specs.spec_history.declared.entry.Entry.{Entry}
+use Rattle.pr_range.specs.spec_history.declared.spot.Spot.{Spot}
+use Rattle.pr_range.specs.spec_history.Lookback.{spot_at}
+use Rattle.pr_range.specs.pr_head.private.Stored.{Stored, newest_at}
+use Rattle.pr_range.specs.pr_head.private.Holds.{sets_of}
+use Rattle.pr_range.specs.pr_head.private.Reads.{spot_shown}
+use Rattle.pr_range.proofs.HeadNewest.{newest_is_shown}
+use Rattle.pr_range.proofs.HeadSimulation.{set_at}
 use Rattle.pr_ast.specs.declared.selector.Selector.{Selector}
 use Rattle.pr_num.specs.declared.value.Num.{Num}
 use Rattle.pr_labels.proofs.LabelOrder.{below_next}
-use Rattle.pr_range_calls.specs.pr_vectors.Vectors.{IsVector, label_sets}
-use Rattle.pr_range_calls.specs.pr_query.Selection.{chosen_by, moment_of, selected_spots, shown_as, spots_at, valued}
-use Rattle.pr_range_calls.proofs.QuerySelecting.{sets_in}
-use Rattle.pr_eval.specs.Looks.{KeepsAt}
-use Rattle.pr_range_calls.specs.Choosing.{labels_of_series}
-use Rattle.pr_eval.specs.Reading.{items_read, spot_read}
+use Rattle.pr_range.specs.spec_vectors.private.Laws.{IsVector}
+use Rattle.pr_range.specs.spec_vectors.Vectors.{label_sets}
+use Rattle.spec_meaning.specs.Selection.{chosen_by, moment_of, selected_spots, shown_as, spots_at, valued}
+use Rattle.spec_meaning.proofs.Selecting.{sets_in}
+use Rattle.pr_eval.specs.private.Looks.{KeepsAt}
+use Rattle.pr_eval.specs.private.Choosing.{labels_of_series}
+use Rattle.pr_eval.specs.private.Reading.{items_read, spot_read}
 
 abbrev Series : Type 0
 Series = List Pair × Stored

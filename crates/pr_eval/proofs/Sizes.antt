@@ -2,7 +2,7 @@
 use Rattle.std.proofs.Common.{◌≡◌, ℕ, zero, suc, ◌+◌, ◌<◌, ◌≤◌, List, [], ◌∷◌, length, map, get_or, ap, arith}
 use Rattle.pr_ast.specs.declared.tree.Expr.{Expr}
 use Rattle.pr_ast.specs.Tree.{Tree, more, more_from, none, tree_of, trees_of}
-use Rattle.pr_eval.specs.Sizes.{node_count}
+use Rattle.pr_eval.specs.private.Sizes.{node_count}
 
 grown : (es : List Expr) (before : Tree) → node_count before ≤ node_count (more_from before (map tree_of es))
 grown [] before = omega arith

@@ -4,37 +4,37 @@ use Rattle.std.proofs.lemmas.Int.{ints}
 use Rattle.std.proofs.lemmas.Option.{slice_get-get_or, slice_get_within}
 use Rattle.std.specs.BTreeMap.{BTreeMap}
 use Rattle.pr_labels.specs.declared.pair.Pair.{Pair}
-use Rattle.pr_range_calls.specs.pr_history.declared.entry.Entry.{Entry}
-use Rattle.pr_range_calls.specs.pr_history.declared.spot.Spot.{Spot}
-use Rattle.pr_range_calls.specs.pr_head.Stored.{Stored}
+use Rattle.pr_range.specs.spec_history.declared.entry.Entry.{Entry}
+use Rattle.pr_range.specs.spec_history.declared.spot.Spot.{Spot}
+use Rattle.pr_range.specs.pr_head.private.Stored.{Stored}
 use Rattle.pr_ast.specs.declared.place.Place.{Place}
 use Rattle.pr_ast.specs.Tree.{Tree, sub}
 use Rattle.pr_ast.specs.Reach.{reads_back}
-use Rattle.pr_ast.specs.Steps.{has_steps, is_step}
-use Rattle.pr_range_calls.specs.pr_types.declared.counting.Counts.{Counts}
-use Rattle.pr_range_calls.specs.pr_types.Built.{tests_in, patterns_in}
-use Rattle.pr_range_calls.specs.pr_types.Numbers.{counts_in, exact_counts, ranges_in}
-use Rattle.pr_range_calls.proofs.TypesCountLemmas.{counts_exact, ranges_are_selectors}
-use Rattle.pr_range_calls.specs.pr_vectors.declared.range.RangeFn.{RangeFn}
-use Rattle.pr_range_calls.specs.pr_vectors.Ranges.{longest}
-use Rattle.pr_range_calls.specs.pr_query.declared.fault.Fault.{Fault}
-use Rattle.pr_range_calls.specs.pr_query.declared.fault.FaultKind.TheVariants as kind
-use Rattle.pr_range_calls.specs.pr_query.Answers.{fault, go_on}
-use Rattle.pr_range_calls.specs.pr_query.Cost.{cost, cost_at_each, nothing_passed}
-use Rattle.pr_range_calls.specs.pr_query.Given.{Ranged}
-use Rattle.pr_range_calls.specs.pr_query.Meaning.{meaning, ranges}
-use Rattle.pr_range_calls.specs.pr_query.Subqueries.{at_each, multiples}
-use Rattle.pr_range_calls.specs.declared.of_subquery.SubqueryRange.{SubqueryRange}
-use Rattle.pr_range_calls.specs.Taken.{ranged_of}
-use Rattle.pr_range_calls.specs.Times.{AreTimesWithin}
-use Rattle.pr_range_calls.specs.pr_values.declared.error.EvalError.{EvalError}
-use Rattle.pr_range_calls.specs.pr_values.declared.error.EvalError.TheVariants as error
-use Rattle.pr_eval.specs.Each.{EachAt}
-use Rattle.pr_eval.specs.Evaluated.{IsEvaluated, KeptOfRanges, MayTake}
-use Rattle.pr_eval.specs.Looks.{KeepsFor}
-use Rattle.pr_eval.specs.Parts.{IsPartAt, counts_after}
-use Rattle.pr_eval.specs.Ranged.{AreSeries}
-use Rattle.pr_eval.specs.Subqueries.{AreSeriesGathered, MayTakeEach, TakesInside, range_of}
+use Rattle.pr_ast.specs.private.Steps.{has_steps, is_step}
+use Rattle.spec_meaning.specs.pr_types.declared.counting.SelectorCounts.{SelectorCounts}
+use Rattle.spec_meaning.specs.pr_types.private.Built.{tests_in, patterns_in}
+use Rattle.spec_meaning.specs.pr_types.private.Numbers.{counts_in, exact_counts, ranges_in}
+use Rattle.spec_meaning.proofs.TypesCountLemmas.{counts_exact, ranges_are_selectors}
+use Rattle.pr_range.specs.spec_vectors.declared.range.RangeFn.{RangeFn}
+use Rattle.pr_range.specs.spec_vectors.Ranges.{longest}
+use Rattle.spec_meaning.specs.declared.fault.Fault.{Fault}
+use Rattle.spec_meaning.specs.declared.fault.FaultKind.TheVariants as kind
+use Rattle.spec_meaning.specs.Answers.{fault, go_on}
+use Rattle.spec_meaning.specs.private.Cost.{cost, cost_at_each, nothing_passed}
+use Rattle.spec_meaning.specs.Given.{Ranged}
+use Rattle.spec_meaning.specs.Meaning.{meaning, ranges}
+use Rattle.spec_meaning.specs.Subqueries.{at_each, multiples}
+use Rattle.pr_eval.specs.declared.range_calls.of_subquery.SubqueryRange.{SubqueryRange}
+use Rattle.pr_eval.specs.private.Taken.{ranged_of}
+use Rattle.pr_eval.specs.private.Times.{AreTimesWithin}
+use Rattle.pr_eval.specs.declared.values.error.EvalError.{EvalError}
+use Rattle.pr_eval.specs.declared.values.error.EvalError.TheVariants as error
+use Rattle.pr_eval.specs.private.Each.{EachAt}
+use Rattle.pr_eval.specs.private.Evaluated.{IsEvaluated, KeptOfRanges, MayTake}
+use Rattle.pr_eval.specs.private.Looks.{KeepsFor}
+use Rattle.pr_eval.specs.private.Parts.{IsPartAt, counts_after}
+use Rattle.pr_eval.specs.private.Ranged.{AreSeries}
+use Rattle.pr_eval.specs.private.Subqueries.{AreSeriesGathered, MayTakeEach, TakesInside, range_of}
 use Rattle.pr_eval.proofs.EachTime.{time_after, times_taken}
 use Rattle.pr_eval.proofs.Inside.{outside_taken, same_all}
 use Rattle.pr_eval.proofs.Taking.{recast}
@@ -51,15 +51,15 @@ some_step step zero h is = absurd (no_step (subst (λ o. is_step o ≡ true) is 
 some_step step (suc n) h is = omega arith
 
 module _ (e : Tree) (p : Place) (t : Tree) (span : ℕ) (step : Option ℕ) (offset : ℕ) (is : e ≡ sub p t span step offset) where
-  pub inner_part : (whole : Tree) (n : Counts) → IsPartAt whole n e → IsPartAt whole n t
+  pub inner_part : (whole : Tree) (n : SelectorCounts) → IsPartAt whole n e → IsPartAt whole n t
   inner_part whole n h = by (subst (IsPartAt whole n) is h) where
     by : IsPartAt whole n (sub p t span step offset) → IsPartAt whole n t
     by k = record { selectors = k.selectors; ranges = k.ranges; patterns = k.patterns; steps = (both (is_step step) (has_steps t) k.steps).1 }
 
-  pub step_given : (whole : Tree) (n : Counts) → IsPartAt whole n e → is_step step ≡ true
+  pub step_given : (whole : Tree) (n : SelectorCounts) → IsPartAt whole n e → is_step step ≡ true
   step_given whole n h = let steps : (is_step step && has_steps t) ≡ true = sym (ap has_steps is) ∙ h.steps in (both (is_step step) (has_steps t) steps).0
 
-  pub counts_of_sub : (n m : Counts) → m ≡ counts_after n t → m ≡ counts_after n e
+  pub counts_of_sub : (n m : SelectorCounts) → m ≡ counts_after n t → m ≡ counts_after n e
   counts_of_sub n m h = subst (λ u. m ≡ counts_after n u) (sym is) h
 
   module _ (head : List (List Pair × Stored)) (history : List Entry) (time : ℕ) where
@@ -174,29 +174,29 @@ module _ {A : Type 0} (all own : List A) (from : ℕ) (within : EachAt (λ k x. 
         let last = slice_get_within all (from + length xs) (get_or (x ∷ xs) (length xs) x) (h (length xs) (get_or (x ∷ xs) (length xs) x) (slice_get-get_or (x ∷ xs) (length xs) x at)) in
         omega (arith, last, few)
 
-module _ (whole t : Tree) (at : Counts) (part : IsPartAt whole at t) (few : length (tests_in whole) < 2 ^ 64) (few_patterns : length (patterns_in whole) < 2 ^ 64) where
+module _ (whole t : Tree) (at : SelectorCounts) (part : IsPartAt whole at t) (few : length (tests_in whole) < 2 ^ 64) (few_patterns : length (patterns_in whole) < 2 ^ 64) where
   pub exact_own : counts_in t ≡ exact_counts t
   exact_own = counts_exact t (few_own (tests_in whole) (tests_in t) at.selectors part.selectors few) (few_own (patterns_in whole) (patterns_in t) at.patterns part.patterns few_patterns)
 
-  pub numbers_behind : (own : Counts) → own ≡ counts_in t
-      → (let m : Counts = record { selectors = at.selectors + own.selectors; ranges = at.ranges + own.ranges; patterns = at.patterns + own.patterns } in m) ≡ counts_after at t
-  numbers_behind own is = ap (λ (o : Counts). record { selectors = at.selectors + o.selectors; ranges = at.ranges + o.ranges; patterns = at.patterns + o.patterns }) (is ∙ exact_own)
+  pub numbers_behind : (own : SelectorCounts) → own ≡ counts_in t
+      → (let m : SelectorCounts = record { selectors = at.selectors + own.selectors; ranges = at.ranges + own.ranges; patterns = at.patterns + own.patterns } in m) ≡ counts_after at t
+  numbers_behind own is = ap (λ (o : SelectorCounts). record { selectors = at.selectors + o.selectors; ranges = at.ranges + o.ranges; patterns = at.patterns + o.patterns }) (is ∙ exact_own)
 
-  pub selectors_fit : (own : Counts) → own ≡ counts_in t → at.selectors < 2 ^ 64 → at.selectors + own.selectors < 2 ^ 64
+  pub selectors_fit : (own : SelectorCounts) → own ≡ counts_in t → at.selectors < 2 ^ 64 → at.selectors + own.selectors < 2 ^ 64
   selectors_fit own is small =
-      let same : own.selectors ≡ length (tests_in t) = ap (λ (o : Counts). o.selectors) (is ∙ exact_own) in
+      let same : own.selectors ≡ length (tests_in t) = ap (λ (o : SelectorCounts). o.selectors) (is ∙ exact_own) in
       let fit = few_behind (tests_in whole) (tests_in t) at.selectors part.selectors few small in
       omega (arith, same, fit)
 
-  pub ranges_fit : (own : Counts) → own ≡ counts_in t → at.ranges + own.ranges < 2 ^ 64
+  pub ranges_fit : (own : SelectorCounts) → own ≡ counts_in t → at.ranges + own.ranges < 2 ^ 64
   ranges_fit own is =
-      let same : own.ranges ≡ ranges_in t = ap (λ (o : Counts). o.ranges) (is ∙ exact_own) in
+      let same : own.ranges ≡ ranges_in t = ap (λ (o : SelectorCounts). o.ranges) (is ∙ exact_own) in
       let most : at.ranges + ranges_in t ≤ ranges_in whole = part.ranges in
       let all : ranges_in whole ≤ length (tests_in whole) = ranges_are_selectors whole in
       omega (arith, same, most, all, few)
 
-  pub patterns_fit : (own : Counts) → own ≡ counts_in t → at.patterns < 2 ^ 64 → at.patterns + own.patterns < 2 ^ 64
+  pub patterns_fit : (own : SelectorCounts) → own ≡ counts_in t → at.patterns < 2 ^ 64 → at.patterns + own.patterns < 2 ^ 64
   patterns_fit own is small =
-      let same : own.patterns ≡ length (patterns_in t) = ap (λ (o : Counts). o.patterns) (is ∙ exact_own) in
+      let same : own.patterns ≡ length (patterns_in t) = ap (λ (o : SelectorCounts). o.patterns) (is ∙ exact_own) in
       let fit = few_behind (patterns_in whole) (patterns_in t) at.patterns part.patterns few_patterns small in
       omega (arith, same, fit)

@@ -1,25 +1,25 @@
 -- Parts that are evaluated one after another: what is known after both.
 use Rattle.std.proofs.Common.{◌≡◌, ◌≢◌, ℕ, ◌+◌, ◌<◌, ◌≤◌, ◌⊎◌, inl, inr, max, Bool, true, cond, List, [], ◌++◌, length, Option, Result, Ok, Err, is_ok, sym, ap, subst, ◌∙◌, arith}
 use Rattle.pr_labels.specs.declared.pair.Pair.{Pair}
-use Rattle.pr_range_calls.specs.pr_history.declared.entry.Entry.{Entry}
-use Rattle.pr_range_calls.specs.pr_head.Stored.{Stored}
-use Rattle.pr_range_calls.specs.pr_vectors.declared.range.RangeFn.{RangeFn}
+use Rattle.pr_range.specs.spec_history.declared.entry.Entry.{Entry}
+use Rattle.pr_range.specs.pr_head.private.Stored.{Stored}
+use Rattle.pr_range.specs.spec_vectors.declared.range.RangeFn.{RangeFn}
 use Rattle.pr_num.specs.declared.value.Num.{Num}
 use Rattle.pr_ast.specs.declared.place.Place.{Place}
 use Rattle.pr_ast.specs.declared.names.Func.TheVariants.{Timestamp}
 use Rattle.pr_ast.specs.declared.selector.Selector.{Selector}
 use Rattle.pr_ast.specs.Tree.{Tree, number, text, select, call, none, more}
-use Rattle.pr_range_calls.specs.pr_query.Selection.{chosen_by}
+use Rattle.spec_meaning.specs.Selection.{chosen_by}
 use Rattle.pr_ast.specs.Reach.{reads_back}
-use Rattle.pr_range_calls.specs.pr_types.Numbers.{ranges_in}
-use Rattle.pr_range_calls.specs.pr_query.Cost.{cost}
-use Rattle.pr_range_calls.specs.pr_values.declared.error.EvalError.{EvalError}
-use Rattle.pr_range_calls.specs.pr_values.declared.error.EvalError.TheVariants as error
-use Rattle.pr_range_calls.specs.Asking.{series_number}
-use Rattle.pr_eval.specs.Asking.{Sought, asks_in}
-use Rattle.pr_eval.specs.Looks.{KeepsFor}
-use Rattle.pr_eval.specs.Parts.{AreTwo, IsOne}
-use Rattle.pr_eval.specs.Evaluated.{AreReady, IsEvaluated, KeptOfRanges, MayTake, HasEvaluated, passed_outside}
+use Rattle.spec_meaning.specs.pr_types.private.Numbers.{ranges_in}
+use Rattle.spec_meaning.specs.private.Cost.{cost}
+use Rattle.pr_eval.specs.declared.values.error.EvalError.{EvalError}
+use Rattle.pr_eval.specs.declared.values.error.EvalError.TheVariants as error
+use Rattle.pr_eval.specs.private.RangeCallsAsking.{series_number}
+use Rattle.pr_eval.specs.private.Asking.{Sought, asks_in}
+use Rattle.pr_eval.specs.private.Looks.{KeepsFor}
+use Rattle.pr_eval.specs.private.Parts.{AreTwo, IsOne}
+use Rattle.pr_eval.specs.private.Evaluated.{AreReady, IsEvaluated, KeptOfRanges, MayTake, HasEvaluated, passed_outside}
 use Rattle.pr_eval.proofs.Moments.{back_part}
 use Rattle.pr_eval.proofs.Asked.{asked_both, asked_first, asked_second, asked_turned, nothing_asked, ready_first, ready_moved, ready_second, weaker_all}
 use Rattle.pr_eval.proofs.Costs.{asks_length, cost_same}

@@ -4,9 +4,9 @@ use Rattle.std.proofs.lemmas.Option.{slice_get_within}
 use Rattle.pr_labels.specs.declared.pair.Pair.{Pair}
 use Rattle.pr_labels.specs.declared.grouping.Grouping.{Grouping}
 use Rattle.pr_labels.specs.declared.matching.Matching.{Matching}
-use Rattle.pr_range_calls.specs.pr_match.Matcher.{LabelTest}
-use Rattle.pr_range_calls.specs.pr_history.declared.entry.Entry.{Entry}
-use Rattle.pr_range_calls.specs.pr_head.Stored.{Stored}
+use Rattle.pr_fn.specs.pr_match.Matcher.{LabelTest}
+use Rattle.pr_range.specs.spec_history.declared.entry.Entry.{Entry}
+use Rattle.pr_range.specs.pr_head.private.Stored.{Stored}
 use Rattle.pr_ast.specs.declared.place.Place.{Place}
 use Rattle.pr_labels.specs.Names.{is_label_name}
 use Rattle.pr_ast.specs.declared.names.AggOp.{AggOp}
@@ -19,28 +19,28 @@ use Rattle.pr_num.specs.declared.value.Num.{Num}
 use Rattle.pr_labels.proofs.LabelOrder.{both}
 use Rattle.pr_ast.specs.Tree.{Tree, number, text, select, range, sub, neg, binary, call, aggregate, none, more}
 use Rattle.pr_ast.specs.Reach.{reads_back}
-use Rattle.pr_ast.specs.Steps.{has_steps}
-use Rattle.pr_range_calls.specs.pr_types.declared.counting.Counts.{Counts}
-use Rattle.pr_range_calls.specs.pr_types.declared.kind.ValueType.{ValueType}
-use Rattle.pr_range_calls.specs.pr_types.declared.kind.ValueType.TheVariants.{Scalar, Vector, Range, Text}
-use Rattle.pr_range_calls.specs.pr_types.Signatures.{agg_signature, is_type, wanted}
-use Rattle.pr_range_calls.specs.pr_types.Operations.{is_instant}
-use Rattle.pr_range_calls.specs.pr_types.Selectors.{tests_of}
-use Rattle.pr_range_calls.specs.pr_types.Built.{tests_in, patterns_in, own_patterns}
-use Rattle.pr_range_calls.specs.pr_types.Numbers.{ranges_in}
-use Rattle.pr_range_calls.specs.pr_types.Parts.{AreArguments, AreOperands, arguments}
-use Rattle.pr_range_calls.specs.pr_types.declared.kind.TypeFault.{TypeFault}
-use Rattle.pr_range_calls.specs.pr_types.Checking.{MayEvaluate}
-use Rattle.pr_range_calls.specs.pr_types.Typed.{checked, content_at, typed}
-use Rattle.pr_range_calls.proofs.TypesWhole.{checked_says}
-use Rattle.pr_range_calls.proofs.TypesParts.{parts_of_aggregate, parts_of_binary, parts_of_neg, parts_of_sub, text_of_count}
-use Rattle.pr_range_calls.proofs.TypesCountLemmas.{ranges_are_selectors}
-use Rattle.pr_range_calls.specs.pr_vectors.declared.range.RangeFn.{RangeFn}
-use Rattle.pr_range_calls.specs.pr_query.Cost.{cost}
-use Rattle.pr_range_calls.specs.pr_query.Selection.{moment_of}
-use Rattle.pr_eval.specs.Asking.{asked_for, takes_range}
-use Rattle.pr_eval.specs.Looks.{KeepsAt, KeepsFor}
-use Rattle.pr_eval.specs.Parts.{AreTwo, IsValued, IsOne, IsPartAt, PatternsAt, StandAt, counts_after, with_patterns}
+use Rattle.pr_ast.specs.private.Steps.{has_steps}
+use Rattle.spec_meaning.specs.pr_types.declared.counting.SelectorCounts.{SelectorCounts}
+use Rattle.spec_meaning.specs.pr_types.declared.kind.ValueType.{ValueType}
+use Rattle.spec_meaning.specs.pr_types.declared.kind.ValueType.TheVariants.{Scalar, Vector, Range, Text}
+use Rattle.spec_meaning.specs.pr_types.Signatures.{agg_signature, is_type, wanted}
+use Rattle.spec_meaning.specs.pr_types.Operations.{is_instant}
+use Rattle.spec_meaning.specs.pr_types.Selectors.{tests_of}
+use Rattle.spec_meaning.specs.pr_types.private.Built.{tests_in, patterns_in, own_patterns}
+use Rattle.spec_meaning.specs.pr_types.private.Numbers.{ranges_in}
+use Rattle.spec_meaning.specs.pr_types.private.Parts.{AreArguments, AreOperands, arguments}
+use Rattle.spec_meaning.specs.pr_types.declared.kind.TypeFault.{TypeFault}
+use Rattle.spec_meaning.specs.pr_types.private.Checking.{MayEvaluate}
+use Rattle.spec_meaning.specs.pr_types.Typed.{checked, content_at, typed}
+use Rattle.spec_meaning.proofs.TypesWhole.{checked_says}
+use Rattle.spec_meaning.proofs.TypesParts.{parts_of_aggregate, parts_of_binary, parts_of_neg, parts_of_sub, text_of_count}
+use Rattle.spec_meaning.proofs.TypesCountLemmas.{ranges_are_selectors}
+use Rattle.pr_range.specs.spec_vectors.declared.range.RangeFn.{RangeFn}
+use Rattle.spec_meaning.specs.private.Cost.{cost}
+use Rattle.spec_meaning.specs.Selection.{moment_of}
+use Rattle.pr_eval.specs.private.Asking.{asked_for, takes_range}
+use Rattle.pr_eval.specs.private.Looks.{KeepsAt, KeepsFor}
+use Rattle.pr_eval.specs.private.Parts.{AreTwo, IsValued, IsOne, IsPartAt, PatternsAt, StandAt, counts_after, with_patterns}
 use Rattle.pr_eval.proofs.Each.{first_of_one, front_each, rest_each}
 use Rattle.pr_eval.proofs.Moments.{past_selector}
 
@@ -153,7 +153,7 @@ more_of t ts u is = subst (λ v. AreTwo v ts u) (sym is) (record {
 
 -- where their selectors, ranges and patterns stand
 
-module _ (whole : Tree) (n : Counts) where
+module _ (whole : Tree) (n : SelectorCounts) where
   pub one_part : (t u : Tree) (own : List (List ℕ)) (f : RangeFn → RangeFn) → IsOne t u own f → IsPartAt whole n t → IsPartAt whole n u
   one_part t u own f one h = record {
     selectors = subst (StandAt (tests_in whole) n.selectors) one.selectors h.selectors;
@@ -178,17 +178,17 @@ module _ (whole : Tree) (n : Counts) where
     steps = (both (has_steps l) (has_steps r) (sym two.steps ∙ h.steps)).1;
   }
 
-  pub second_part : (m : Counts) (t l r : Tree) → AreTwo t l r → m ≡ counts_after n l → IsPartAt whole n t → IsPartAt whole m r
+  pub second_part : (m : SelectorCounts) (t l r : Tree) → AreTwo t l r → m ≡ counts_after n l → IsPartAt whole n t → IsPartAt whole m r
   second_part m t l r two is h = subst (λ k. IsPartAt whole k r) (sym is) (second_here t l r two h)
 
 -- the numbers behind them
-abbrev pub counts : ℕ → ℕ → ℕ → Counts
+abbrev pub counts : ℕ → ℕ → ℕ → SelectorCounts
 counts s r p = record { selectors = s; ranges = r; patterns = p }
 
 appended : {A : Type 0} (n : ℕ) (xs ys zs : List A) → zs ≡ xs ++ ys → (n + length xs) + length ys ≡ n + length zs
 appended n xs ys zs is = let all : length zs ≡ length xs + length ys = ap length is ∙ length-append xs ys in omega (arith, all)
 
-pub counts_of_two : (n m k : Counts) (t l r : Tree) → AreTwo t l r → m ≡ counts_after n l → k ≡ counts_after m r → k ≡ counts_after n t
+pub counts_of_two : (n m k : SelectorCounts) (t l r : Tree) → AreTwo t l r → m ≡ counts_after n l → k ≡ counts_after m r → k ≡ counts_after n t
 counts_of_two n m k t l r two first second =
     second ∙ ap (λ c. counts_after c r) first ∙ joined where
       joined : counts_after (counts_after n l) r ≡ counts_after n t
@@ -199,14 +199,14 @@ counts_of_two n m k t l r two first second =
           let q : (n.ranges + ranges_in l) + ranges_in r ≡ n.ranges + ranges_in t = omega (arith, same) in
           (λ i. record { selectors = s i; ranges = q i; patterns = p i })
 
-pub counts_of_one : (n m : Counts) (t u : Tree) (f : RangeFn → RangeFn) → IsOne t u [] f → m ≡ counts_after n u → m ≡ counts_after n t
+pub counts_of_one : (n m : SelectorCounts) (t u : Tree) (f : RangeFn → RangeFn) → IsOne t u [] f → m ≡ counts_after n u → m ≡ counts_after n t
 counts_of_one n m t u f one is = is ∙ (λ i. record {
   selectors = n.selectors + length (sym one.selectors i);
   ranges = n.ranges + sym one.ranges i;
   patterns = n.patterns + length ((nothing_more (patterns_in u) ∙ sym one.patterns) i);
 })
 
-pub counts_of_own : (n m k : Counts) (t u : Tree) (own : List (List ℕ)) (f : RangeFn → RangeFn) → IsOne t u own f → m ≡ counts_after n u → k ≡ with_patterns m own → k ≡ counts_after n t
+pub counts_of_own : (n m k : SelectorCounts) (t u : Tree) (own : List (List ℕ)) (f : RangeFn → RangeFn) → IsOne t u own f → m ≡ counts_after n u → k ≡ with_patterns m own → k ≡ counts_after n t
 counts_of_own n m k t u own f one first second = second ∙ ap (λ c. with_patterns c own) first ∙ joined where
   joined : with_patterns (counts_after n u) own ≡ counts_after n t
   joined =
@@ -216,22 +216,22 @@ counts_of_own n m k t u own f one first second = second ∙ ap (λ c. with_patte
 counts_same : (a b c x y z : ℕ) → x ≡ a → y ≡ b → z ≡ c → counts a b c ≡ counts x y z
 counts_same a b c x y z h k l = λ i. counts (sym h i) (sym k i) (sym l i)
 
-pub counts_of_number : (n : Counts) (t : Tree) (p : Place) (v : Num) → t ≡ number p v → n ≡ counts_after n t
+pub counts_of_number : (n : SelectorCounts) (t : Tree) (p : Place) (v : Num) → t ≡ number p v → n ≡ counts_after n t
 counts_of_number n t p v is = counts_same n.selectors n.ranges n.patterns _ _ _ (omega arith) (omega arith) (omega arith) ∙ ap (counts_after n) (sym is)
 
-pub counts_of_none : (n : Counts) → n ≡ counts_after n none
+pub counts_of_none : (n : SelectorCounts) → n ≡ counts_after n none
 counts_of_none n = counts_same n.selectors n.ranges n.patterns _ _ _ (omega arith) (omega arith) (omega arith)
 
-pub counts_of_text : (n : Counts) (t : Tree) (p : Place) (u : List ℕ) → t ≡ text p u → n ≡ counts_after n t
+pub counts_of_text : (n : SelectorCounts) (t : Tree) (p : Place) (u : List ℕ) → t ≡ text p u → n ≡ counts_after n t
 counts_of_text n t p u is = counts_same n.selectors n.ranges n.patterns _ _ _ (omega arith) (omega arith) (omega arith) ∙ ap (counts_after n) (sym is)
 
-pub counts_of_select : (n : Counts) (t : Tree) (p : Place) (s : Selector) → t ≡ select p s → counts (n.selectors + 1) n.ranges n.patterns ≡ counts_after n t
+pub counts_of_select : (n : SelectorCounts) (t : Tree) (p : Place) (s : Selector) → t ≡ select p s → counts (n.selectors + 1) n.ranges n.patterns ≡ counts_after n t
 counts_of_select n t p s is = counts_same (n.selectors + 1) n.ranges n.patterns _ _ _ refl (omega arith) (omega arith) ∙ ap (counts_after n) (sym is)
 
-pub counts_of_stamped : (n : Counts) (t : Tree) (p q : Place) (s : Selector) → t ≡ call p fn.Timestamp (more none (select q s)) → counts (n.selectors + 1) n.ranges n.patterns ≡ counts_after n t
+pub counts_of_stamped : (n : SelectorCounts) (t : Tree) (p q : Place) (s : Selector) → t ≡ call p fn.Timestamp (more none (select q s)) → counts (n.selectors + 1) n.ranges n.patterns ≡ counts_after n t
 counts_of_stamped n t p q s is = counts_same (n.selectors + 1) n.ranges n.patterns _ _ _ refl (omega arith) (omega arith) ∙ ap (counts_after n) (sym is)
 
-pub counts_of_range : (n : Counts) (t : Tree) (p : Place) (s : Selector) (d : ℕ) → t ≡ range p s d → counts (n.selectors + 1) (n.ranges + 1) n.patterns ≡ counts_after n t
+pub counts_of_range : (n : SelectorCounts) (t : Tree) (p : Place) (s : Selector) (d : ℕ) → t ≡ range p s d → counts (n.selectors + 1) (n.ranges + 1) n.patterns ≡ counts_after n t
 counts_of_range n t p s d is = counts_same (n.selectors + 1) (n.ranges + 1) n.patterns _ _ _ refl refl (omega arith) ∙ ap (counts_after n) (sym is)
 
 -- a tree with one selector
@@ -252,7 +252,7 @@ pub tests_of_range : (t : Tree) (p : Place) (s : Selector) (d : ℕ) → t ≡ r
 tests_of_range t p s d is = ap tests_in is
 
 -- there are no more range selectors than selectors
-pub range_within : (whole t : Tree) (n : Counts) (p : Place) (s : Selector) (d : ℕ) → t ≡ range p s d → IsPartAt whole n t → n.ranges < length (tests_in whole)
+pub range_within : (whole t : Tree) (n : SelectorCounts) (p : Place) (s : Selector) (d : ℕ) → t ≡ range p s d → IsPartAt whole n t → n.ranges < length (tests_in whole)
 range_within whole t n p s d is h =
     let one : ranges_in t ≡ 1 = ap ranges_in is in
     let within : n.ranges + ranges_in t ≤ ranges_in whole = h.ranges in

@@ -1,28 +1,28 @@
 // Aggregations, by the values of their arguments.
 ghost use Rattle.std.specs.Prelude.{◌≡◌, ◌≢◌, ◌++◌, ◌∷◌, ◌<◌, ◌^◌, [], List, true, IfOk, OnOk, None, length};
 ghost use Rattle.pr_labels.specs.Names.{is_label_name};
-ghost use Rattle.pr_range_calls.specs.pr_history.declared.entry.Entry.{Entry};
+ghost use Rattle.pr_range.specs.spec_history.declared.entry.Entry.{Entry};
 ghost use Rattle.pr_ast.specs.Tree.{Tree, aggregate, more, none, tree_of};
-ghost use Rattle.pr_range_calls.specs.pr_types.Built.{patterns_in, tests_in};
-ghost use Rattle.pr_range_calls.specs.pr_types.Typed.{content, content_at};
-ghost use Rattle.pr_range_calls.specs.pr_vectors.declared.range.RangeFn.{RangeFn};
-ghost use Rattle.pr_range_calls.specs.pr_query.Answers.{IsAnswer};
-ghost use Rattle.pr_range_calls.specs.pr_query.Aggregations.{summed_up};
-ghost use Rattle.pr_range_calls.specs.pr_query.Meaning.{given, meaning};
-ghost use Rattle.pr_range_calls.specs.pr_values.Answers.{AnswersTo};
-ghost use Rattle.pr_eval.specs.Evaluated.{IsEvaluated, MayTake, kept_by};
-ghost use Rattle.pr_eval.specs.Parts.{IsPartAt, IsValued, counts_after};
+ghost use Rattle.spec_meaning.specs.pr_types.private.Built.{patterns_in, tests_in};
+ghost use Rattle.spec_meaning.specs.pr_types.Typed.{content, content_at};
+ghost use Rattle.pr_range.specs.spec_vectors.declared.range.RangeFn.{RangeFn};
+ghost use Rattle.spec_meaning.specs.private.Laws.{IsAnswer};
+ghost use Rattle.spec_meaning.specs.Aggregations.{summed_up};
+ghost use Rattle.spec_meaning.specs.Meaning.{given, meaning};
+ghost use Rattle.pr_eval.specs.private.Answers.{AnswersTo};
+ghost use Rattle.pr_eval.specs.private.Evaluated.{IsEvaluated, MayTake, kept_by};
+ghost use Rattle.pr_eval.specs.private.Parts.{IsPartAt, IsValued, counts_after};
 
 use crate::evaluate::eval_at;
-use crate::parts::{is_aggregate, is_aggregate_by, stands_at};
+use crate::parts::{lemma_is_aggregate, lemma_is_aggregate_by, lemma_stands_at};
 use crate::scope::Scope;
+use crate::values::{EvalError, aggregated};
 use pr_ast::{AggOp, Expr, Place};
 use pr_labels::Grouping;
-use pr_range_calls::query_crate::Value;
-use pr_range_calls::range::Ranges;
-use pr_range_calls::types::{Counts, content};
-use pr_range_calls::values::{EvalError, aggregated};
-use pr_words::Steps;
+use pr_labels::words_crate::Steps;
+use pr_range::Ranges;
+use spec_meaning::Value;
+use spec_meaning::types::{SelectorCounts, content};
 use std::alloc::{AllocError, Global};
 use std::sync::ledger::Ledger;
 
@@ -82,7 +82,7 @@ pub(crate) fn aggregation<R: Ranges, G: Ledger>(
     op: AggOp,
     by: &Grouping,
     inner: &Expr,
-    number: &mut Counts,
+    number: &mut SelectorCounts,
     ranges: &mut R,
     reads: &mut Steps<G>,
 ) -> Result<Value, EvalError>
@@ -100,8 +100,8 @@ pub(crate) fn aggregation<R: Ranges, G: Ledger>(
         → IsEvaluated R.keeps scope.now.inside scope.now.step history func (tree_of e.now) scope.now.time number.old.ranges (kept_by (R.last ranges.old) (R.passed ranges.old)) (kept_by (R.last ranges.new) (R.passed ranges.new))
         (R.fits ranges.new history) reads.old reads.new result }
 {
-    is_aggregate(e, op, by, inner);
-    stands_at(scope.checked, inner, *number);
+    lemma_is_aggregate(e, op, by, inner);
+    lemma_stands_at(scope.checked, inner, *number);
     match eval_at(scope, inner, number, ranges, reads) {
         Ok(vector) => aggregated_one(scope.alloc, e.place, op, by, vector),
         Err(error) => Err(error),
@@ -117,7 +117,7 @@ pub(crate) fn aggregation_by<R: Ranges, G: Ledger>(
     by: &Grouping,
     param: &Expr,
     inner: &Expr,
-    number: &mut Counts,
+    number: &mut SelectorCounts,
     ranges: &mut R,
     reads: &mut Steps<G>,
 ) -> Result<Value, EvalError>
@@ -135,11 +135,11 @@ pub(crate) fn aggregation_by<R: Ranges, G: Ledger>(
         → IsEvaluated R.keeps scope.now.inside scope.now.step history func (tree_of e.now) scope.now.time number.old.ranges (kept_by (R.last ranges.old) (R.passed ranges.old)) (kept_by (R.last ranges.new) (R.passed ranges.new))
         (R.fits ranges.new history) reads.old reads.new result }
 {
-    is_aggregate_by(e, op, by, param, inner);
-    stands_at(scope.checked, param, *number);
+    lemma_is_aggregate_by(e, op, by, param, inner);
+    lemma_stands_at(scope.checked, param, *number);
     match eval_at(scope, param, number, ranges, reads) {
         Ok(a) => {
-            stands_at(scope.checked, inner, *number);
+            lemma_stands_at(scope.checked, inner, *number);
             match eval_at(scope, inner, number, ranges, reads) {
                 Ok(b) => aggregated_two(scope.alloc, e.place, op, by, param, a, b),
                 Err(error) => Err(error),

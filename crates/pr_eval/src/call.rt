@@ -2,37 +2,37 @@
 ghost use Rattle.std.specs.Prelude.{◌≡◌, ◌<◌, ◌^◌, ℕ, true, false, [], List, IfOk, IfSome, OnOk, Some, None, length, slice_get};
 ghost use Rattle.std.specs.Option.{option_copied};
 ghost use Rattle.pr_labels.specs.Names.{is_label_name};
-ghost use Rattle.pr_range_calls.specs.pr_history.declared.entry.Entry.{Entry};
-ghost use Rattle.pr_range_calls.specs.pr_head.Holds.{Holds};
+ghost use Rattle.pr_range.specs.spec_history.declared.entry.Entry.{Entry};
+ghost use Rattle.pr_range.specs.pr_head.private.Holds.{Holds};
 ghost use Rattle.pr_ast.specs.Tree.{call, more, none, select, tree_of, trees_of};
-ghost use Rattle.pr_range_calls.specs.pr_types.Typed.{content_at};
-ghost use Rattle.pr_range_calls.specs.pr_types.Built.{own_patterns, patterns_in, tests_in};
-ghost use Rattle.pr_range_calls.specs.pr_vectors.declared.range.RangeFn.{RangeFn};
-ghost use Rattle.pr_range_calls.specs.pr_query.Answers.{IsAnswer};
-ghost use Rattle.pr_range_calls.specs.pr_query.Calls.{value_of_call};
-ghost use Rattle.pr_range_calls.specs.pr_query.Meaning.{meaning, operands};
-ghost use Rattle.pr_range_calls.specs.pr_values.Answers.{AnswersTo};
-ghost use Rattle.pr_range_calls.specs.pr_values.Calls.{is_plain_call};
-ghost use Rattle.pr_range_calls.specs.pr_values.Plain.{all_plain};
-ghost use Rattle.pr_eval.specs.Asking.{takes_range};
-ghost use Rattle.pr_eval.specs.Evaluated.{IsEvaluated, MayTake, kept_by};
-ghost use Rattle.pr_eval.specs.Operands.{AreGiven};
-ghost use Rattle.pr_eval.specs.Parts.{IsPartAt, IsValued, counts_after, with_patterns};
+ghost use Rattle.spec_meaning.specs.pr_types.Typed.{content_at};
+ghost use Rattle.spec_meaning.specs.pr_types.private.Built.{own_patterns, patterns_in, tests_in};
+ghost use Rattle.pr_range.specs.spec_vectors.declared.range.RangeFn.{RangeFn};
+ghost use Rattle.spec_meaning.specs.private.Laws.{IsAnswer};
+ghost use Rattle.spec_meaning.specs.Calls.{value_of_call};
+ghost use Rattle.spec_meaning.specs.Meaning.{meaning, operands};
+ghost use Rattle.pr_eval.specs.private.Answers.{AnswersTo};
+ghost use Rattle.pr_eval.specs.private.Calls.{is_plain_call};
+ghost use Rattle.pr_eval.specs.private.Plain.{all_plain};
+ghost use Rattle.pr_eval.specs.private.Asking.{takes_range};
+ghost use Rattle.pr_eval.specs.private.Evaluated.{IsEvaluated, MayTake, kept_by};
+ghost use Rattle.pr_eval.specs.private.Operands.{AreGiven};
+ghost use Rattle.pr_eval.specs.private.Parts.{IsPartAt, IsValued, counts_after, with_patterns};
 
 use crate::aggregate::push_value;
 use crate::evaluate::eval_at;
-use crate::parts::{arg_stands_at, args_stand_at, is_among, is_call};
+use crate::parts::{lemma_arg_stands_at, lemma_args_stand_at, lemma_is_among, lemma_is_call};
 use crate::range_call::{range_call, takes_range};
 use crate::scope::Scope;
 use crate::selected::{stamped_selector, timestamps};
+use crate::values::{EvalError, value_of_call};
 use pr_ast::time::Ms;
 use pr_ast::{Expr, Func, Place};
-use pr_range_calls::matching::Pattern;
-use pr_range_calls::query_crate::Value;
-use pr_range_calls::range::Ranges;
-use pr_range_calls::types::{Checked, Counts};
-use pr_range_calls::values::{EvalError, value_of_call};
-use pr_words::Steps;
+use pr_fn::matching::Pattern;
+use pr_labels::words_crate::Steps;
+use pr_range::Ranges;
+use spec_meaning::Value;
+use spec_meaning::types::{Checked, SelectorCounts};
 use std::alloc::Global;
 use std::sync::ledger::Ledger;
 
@@ -41,7 +41,7 @@ fn own_pattern<'a>(
     checked: &'a Checked,
     func: Func,
     args: &[Expr],
-    number: &mut Counts,
+    number: &mut SelectorCounts,
 ) -> Option<&'a Pattern>
     requires few { length (patterns_in (tree_of checked.now)) < 2 ^ 64 }
     requires pattern { func ≡ Func.LabelReplace → slice_get (patterns_in (tree_of checked.now)) number.old.patterns ≡ Some (content_at (trees_of args.now) 4) }
@@ -67,7 +67,7 @@ fn called_with(
     args: &[Expr],
     time: Ms,
     given: &[Value],
-    number: &mut Counts,
+    number: &mut SelectorCounts,
 ) -> Result<Value, EvalError>
     requires plain { is_plain_call func (trees_of args.now) ≡ true }
     requires replaced { func ≡ Func.LabelReplace → is_label_name (content_at (trees_of args.now) 1) ≡ true }
@@ -87,7 +87,7 @@ fn called_with(
 fn operands<R: Ranges, G: Ledger>(
     scope: &Scope<'_>,
     args: &[Expr],
-    number: &mut Counts,
+    number: &mut SelectorCounts,
     ranges: &mut R,
     reads: &mut Steps<G>,
     given: &mut Vec<Value>,
@@ -106,8 +106,8 @@ fn operands<R: Ranges, G: Ledger>(
         (R.fits ranges.new history) reads.old reads.new result }
 {
     for arg in args {
-        arg_stands_at(scope.checked, arg, *number);
-        is_among(args, arg);
+        lemma_arg_stands_at(scope.checked, arg, *number);
+        lemma_is_among(args, arg);
         match eval_at(scope, arg, number, ranges, reads) {
             Ok(value) => push_value(given, value)?,
             Err(error) => return Err(error),
@@ -123,7 +123,7 @@ fn plain_call<R: Ranges, G: Ledger>(
     e: &Expr,
     func: Func,
     args: &[Expr],
-    number: &mut Counts,
+    number: &mut SelectorCounts,
     ranges: &mut R,
     reads: &mut Steps<G>,
 ) -> Result<Value, EvalError>
@@ -142,8 +142,8 @@ fn plain_call<R: Ranges, G: Ledger>(
         → IsEvaluated R.keeps scope.now.inside scope.now.step history func (tree_of e.now) scope.now.time number.old.ranges (kept_by (R.last ranges.old) (R.passed ranges.old)) (kept_by (R.last ranges.new) (R.passed ranges.new))
         (R.fits ranges.new history) reads.old reads.new result }
 {
-    is_call(e, func, args);
-    args_stand_at(scope.checked, args, *number);
+    lemma_is_call(e, func, args);
+    lemma_args_stand_at(scope.checked, args, *number);
     let mut given = Vec::new(scope.alloc);
     match operands(scope, args, number, ranges, reads, &mut given) {
         Ok(()) => called_with(
@@ -167,7 +167,7 @@ pub(crate) fn call<R: Ranges, G: Ledger>(
     e: &Expr,
     func: Func,
     args: &[Expr],
-    number: &mut Counts,
+    number: &mut SelectorCounts,
     ranges: &mut R,
     reads: &mut Steps<G>,
 ) -> Result<Value, EvalError>

@@ -1,31 +1,31 @@
 // Expressions.
 ghost use Rattle.std.specs.Prelude.{◌≡◌, ◌≢◌, ◌+◌, ◌<◌, ◌≤◌, ◌^◌, false, List, IfOk, OnOk, Err, is_ok, length};
-ghost use Rattle.pr_range_calls.specs.pr_history.declared.entry.Entry.{Entry};
+ghost use Rattle.pr_range.specs.spec_history.declared.entry.Entry.{Entry};
 ghost use Rattle.pr_ast.specs.Tree.{tree_of};
-ghost use Rattle.pr_range_calls.specs.pr_types.Built.{tests_in, patterns_in};
-ghost use Rattle.pr_range_calls.specs.pr_vectors.declared.range.RangeFn.{RangeFn};
-ghost use Rattle.pr_range_calls.specs.pr_query.Answers.{IsAnswer};
-ghost use Rattle.pr_range_calls.specs.pr_query.Cost.{cost};
-ghost use Rattle.pr_range_calls.specs.pr_query.Meaning.{meaning};
-ghost use Rattle.pr_range_calls.specs.pr_values.declared.error.EvalError.TheVariants.{Memory};
-ghost use Rattle.pr_range_calls.specs.pr_values.Answers.{AnswersTo};
-ghost use Rattle.pr_eval.specs.Evaluated.{AreAllAsked, IsEvaluated, MayBegin, MayTake, asks_of, kept_by, passed_outside};
-ghost use Rattle.pr_eval.specs.Parts.{IsPartAt, IsValued, counts_after};
+ghost use Rattle.spec_meaning.specs.pr_types.private.Built.{tests_in, patterns_in};
+ghost use Rattle.pr_range.specs.spec_vectors.declared.range.RangeFn.{RangeFn};
+ghost use Rattle.spec_meaning.specs.private.Laws.{IsAnswer};
+ghost use Rattle.spec_meaning.specs.private.Cost.{cost};
+ghost use Rattle.spec_meaning.specs.Meaning.{meaning};
+ghost use Rattle.pr_eval.specs.declared.values.error.EvalError.TheVariants.{Memory};
+ghost use Rattle.pr_eval.specs.private.Answers.{AnswersTo};
+ghost use Rattle.pr_eval.specs.private.Evaluated.{AreAllAsked, IsEvaluated, MayBegin, MayTake, asks_of, kept_by, passed_outside};
+ghost use Rattle.pr_eval.specs.private.Parts.{IsPartAt, IsValued, counts_after};
 
 use crate::aggregate::{aggregation, aggregation_by};
 use crate::call::call;
 use crate::operators::{negation, operation};
-use crate::parts::{is_number, is_range, is_sub, is_text, stands_at};
+use crate::parts::{lemma_is_number, lemma_is_range, lemma_is_sub, lemma_is_text, lemma_stands_at};
 use crate::scope::Scope;
 use crate::selected::selected;
+use crate::values::EvalError;
 use pr_ast::time::{Ms, Span};
 use pr_ast::{Expr, ExprKind};
-use pr_range_calls::head::Head;
-use pr_range_calls::query_crate::Value;
-use pr_range_calls::range::Ranges;
-use pr_range_calls::types::{Checked, Counts};
-use pr_range_calls::values::EvalError;
-use pr_words::{Items, Steps};
+use pr_labels::words_crate::{Items, Steps};
+use pr_range::Ranges;
+use pr_range::head::Head;
+use spec_meaning::Value;
+use spec_meaning::types::{Checked, SelectorCounts};
 use std::alloc::Global;
 use std::sync::ledger::Ledger;
 
@@ -35,7 +35,7 @@ use std::sync::ledger::Ledger;
 pub(crate) fn eval_at<R: Ranges, G: Ledger>(
     scope: &Scope<'_>,
     e: &Expr,
-    number: &mut Counts,
+    number: &mut SelectorCounts,
     ranges: &mut R,
     reads: &mut Steps<G>,
 ) -> Result<Value, EvalError>
@@ -54,11 +54,11 @@ pub(crate) fn eval_at<R: Ranges, G: Ledger>(
 {
     match &e.kind {
         ExprKind::Number { value } => {
-            is_number(e, *value);
+            lemma_is_number(e, *value);
             Ok(Value::Scalar { value: *value })
         }
         ExprKind::Text { text } => {
-            is_text(e, text);
+            lemma_is_text(e, text);
             Ok(Value::Vector {
                 items: Items::empty(scope.alloc),
             })
@@ -88,7 +88,7 @@ pub(crate) fn eval_at<R: Ranges, G: Ledger>(
             inner,
         } => aggregation_by(scope, e, *op, grouping, param, inner, number, ranges, reads),
         ExprKind::Range { selector, span } => {
-            is_range(e, selector, *span);
+            lemma_is_range(e, selector, *span);
             unreachable!()
         }
         ExprKind::Sub {
@@ -97,7 +97,7 @@ pub(crate) fn eval_at<R: Ranges, G: Ledger>(
             step,
             offset,
         } => {
-            is_sub(e, inner, *span, *step, *offset);
+            lemma_is_sub(e, inner, *span, *step, *offset);
             unreachable!()
         }
     }
@@ -145,12 +145,12 @@ pub fn eval<R: Ranges, G: Ledger>(
         step,
         inside: false,
     };
-    let mut number = Counts {
+    let mut number = SelectorCounts {
         selectors: 0,
         ranges: 0,
         patterns: 0,
     };
     let whole = e.expr();
-    stands_at(e, whole, number);
+    lemma_stands_at(e, whole, number);
     eval_at(&scope, whole, &mut number, ranges, reads)
 }

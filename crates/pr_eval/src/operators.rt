@@ -1,25 +1,25 @@
 // Signs and operations.
 ghost use Rattle.std.specs.Prelude.{◌≡◌, ◌<◌, ◌^◌, List, IfOk, OnOk, length};
-ghost use Rattle.pr_range_calls.specs.pr_history.declared.entry.Entry.{Entry};
+ghost use Rattle.pr_range.specs.spec_history.declared.entry.Entry.{Entry};
 ghost use Rattle.pr_ast.specs.Tree.{binary, neg, tree_of};
-ghost use Rattle.pr_range_calls.specs.pr_types.Built.{patterns_in, tests_in};
-ghost use Rattle.pr_range_calls.specs.pr_vectors.declared.range.RangeFn.{RangeFn};
-ghost use Rattle.pr_range_calls.specs.pr_query.Answers.{IsAnswer};
-ghost use Rattle.pr_range_calls.specs.pr_query.Meaning.{meaning};
-ghost use Rattle.pr_range_calls.specs.pr_values.Answers.{AnswersTo};
-ghost use Rattle.pr_eval.specs.Evaluated.{IsEvaluated, MayTake, kept_by};
-ghost use Rattle.pr_eval.specs.Parts.{IsPartAt, IsValued, counts_after};
+ghost use Rattle.spec_meaning.specs.pr_types.private.Built.{patterns_in, tests_in};
+ghost use Rattle.pr_range.specs.spec_vectors.declared.range.RangeFn.{RangeFn};
+ghost use Rattle.spec_meaning.specs.private.Laws.{IsAnswer};
+ghost use Rattle.spec_meaning.specs.Meaning.{meaning};
+ghost use Rattle.pr_eval.specs.private.Answers.{AnswersTo};
+ghost use Rattle.pr_eval.specs.private.Evaluated.{IsEvaluated, MayTake, kept_by};
+ghost use Rattle.pr_eval.specs.private.Parts.{IsPartAt, IsValued, counts_after};
 
 use crate::evaluate::eval_at;
-use crate::parts::{is_binary, is_neg, stands_at};
+use crate::parts::{lemma_is_binary, lemma_is_neg, lemma_stands_at};
 use crate::scope::Scope;
+use crate::values::{EvalError, negated_value, operated};
 use pr_ast::{BinOp, Expr};
 use pr_labels::Matching;
-use pr_range_calls::query_crate::Value;
-use pr_range_calls::range::Ranges;
-use pr_range_calls::types::Counts;
-use pr_range_calls::values::{EvalError, negated_value, operated};
-use pr_words::Steps;
+use pr_labels::words_crate::Steps;
+use pr_range::Ranges;
+use spec_meaning::Value;
+use spec_meaning::types::SelectorCounts;
 use std::sync::ledger::Ledger;
 
 // The negation of what its operand gives.
@@ -28,7 +28,7 @@ pub(crate) fn negation<R: Ranges, G: Ledger>(
     scope: &Scope<'_>,
     e: &Expr,
     inner: &Expr,
-    number: &mut Counts,
+    number: &mut SelectorCounts,
     ranges: &mut R,
     reads: &mut Steps<G>,
 ) -> Result<Value, EvalError>
@@ -46,8 +46,8 @@ pub(crate) fn negation<R: Ranges, G: Ledger>(
         → IsEvaluated R.keeps scope.now.inside scope.now.step history func (tree_of e.now) scope.now.time number.old.ranges (kept_by (R.last ranges.old) (R.passed ranges.old)) (kept_by (R.last ranges.new) (R.passed ranges.new))
         (R.fits ranges.new history) reads.old reads.new result }
 {
-    is_neg(e, inner);
-    stands_at(scope.checked, inner, *number);
+    lemma_is_neg(e, inner);
+    lemma_stands_at(scope.checked, inner, *number);
     match eval_at(scope, inner, number, ranges, reads) {
         Ok(value) => negated_value(scope.alloc, e.place, &value),
         Err(error) => Err(error),
@@ -64,7 +64,7 @@ pub(crate) fn operation<R: Ranges, G: Ledger>(
     matching: &Option<Matching>,
     left: &Expr,
     right: &Expr,
-    number: &mut Counts,
+    number: &mut SelectorCounts,
     ranges: &mut R,
     reads: &mut Steps<G>,
 ) -> Result<Value, EvalError>
@@ -82,11 +82,11 @@ pub(crate) fn operation<R: Ranges, G: Ledger>(
         → IsEvaluated R.keeps scope.now.inside scope.now.step history func (tree_of e.now) scope.now.time number.old.ranges (kept_by (R.last ranges.old) (R.passed ranges.old)) (kept_by (R.last ranges.new) (R.passed ranges.new))
         (R.fits ranges.new history) reads.old reads.new result }
 {
-    is_binary(e, op, with_bool, matching, left, right);
-    stands_at(scope.checked, left, *number);
+    lemma_is_binary(e, op, with_bool, matching, left, right);
+    lemma_stands_at(scope.checked, left, *number);
     match eval_at(scope, left, number, ranges, reads) {
         Ok(a) => {
-            stands_at(scope.checked, right, *number);
+            lemma_stands_at(scope.checked, right, *number);
             match eval_at(scope, right, number, ranges, reads) {
                 Ok(b) => operated(scope.alloc, e.place, op, with_bool, matching, a, b),
                 Err(error) => Err(error),

@@ -2,48 +2,49 @@
 ghost use Rattle.std.specs.Prelude.{◌≡◌, ◌≢◌, ◌+◌, ◌<◌, ◌≤◌, ◌^◌, ℕ, true, [], List, IfOk, OnOk, Err, Ok, Some, None, Option, Result, length, slice_get, take};
 ghost use Rattle.std.specs.BTreeMap.{IsOrdered};
 ghost use Rattle.pr_labels.specs.Order.{labels_cmp};
-ghost use Rattle.pr_range_calls.specs.pr_history.declared.entry.Entry.{Entry};
+ghost use Rattle.pr_range.specs.spec_history.declared.entry.Entry.{Entry};
 ghost use Rattle.pr_ast.specs.Tree.{call, more, none, range as range_tree, tree_of, trees_of};
-ghost use Rattle.pr_range_calls.specs.pr_types.declared.kind.ValueType.TheVariants.{Range, Scalar};
-ghost use Rattle.pr_range_calls.specs.pr_types.Built.{patterns_in, tests_in};
-ghost use Rattle.pr_range_calls.specs.pr_types.Selectors.{tests_of};
-ghost use Rattle.pr_range_calls.specs.pr_types.Typed.{typed};
-ghost use Rattle.pr_range_calls.specs.pr_vectors.declared.range.RangeFn.{RangeFn};
-ghost use Rattle.pr_range_calls.specs.pr_vectors.declared.range.RangeFn.TheVariants.{PredictLinear};
-ghost use Rattle.pr_range_calls.specs.pr_query.declared.fault.Fault.{Fault};
-ghost use Rattle.pr_range_calls.specs.pr_query.Answers.{IsAnswer, go_on};
-ghost use Rattle.pr_range_calls.specs.pr_query.Calls.{value_of_call};
-ghost use Rattle.pr_range_calls.specs.pr_query.Given.{Ranged, range_at};
-ghost use Rattle.pr_range_calls.specs.pr_query.Meaning.{meaning, operands, ranges as series_meant};
-ghost use Rattle.pr_range_calls.specs.pr_query.Selection.{chosen_by};
-ghost use Rattle.pr_range_calls.specs.pr_values.declared.error.EvalError.TheVariants.{Memory};
-ghost use Rattle.pr_range_calls.specs.pr_values.Answers.{AnswersTo};
-ghost use Rattle.pr_range_calls.specs.Asking.{AreAsked, MayAskEach, asked_by, asks_cost, numbers_chosen, passed_by};
-ghost use Rattle.pr_eval.specs.Asking.{asked_for, range_fn, takes_range};
-ghost use Rattle.pr_eval.specs.Evaluated.{IsEvaluated, MayTake, kept_by};
-ghost use Rattle.pr_eval.specs.Parts.{IsPartAt, IsValued, counts_after};
-ghost use Rattle.pr_eval.specs.Ranged.{AreRangeOperands, AreSeries, HasItsArgument, call_in, made_of, number_of_value, prediction_by, quantile_by, use_alone};
+ghost use Rattle.spec_meaning.specs.pr_types.declared.kind.ValueType.TheVariants.{Range, Scalar};
+ghost use Rattle.spec_meaning.specs.pr_types.private.Built.{patterns_in, tests_in};
+ghost use Rattle.spec_meaning.specs.pr_types.Selectors.{tests_of};
+ghost use Rattle.spec_meaning.specs.pr_types.Typed.{typed};
+ghost use Rattle.pr_range.specs.spec_vectors.declared.range.RangeFn.{RangeFn};
+ghost use Rattle.pr_range.specs.spec_vectors.declared.range.RangeFn.TheVariants.{PredictLinear};
+ghost use Rattle.spec_meaning.specs.declared.fault.Fault.{Fault};
+ghost use Rattle.spec_meaning.specs.private.Laws.{IsAnswer};
+ghost use Rattle.spec_meaning.specs.Answers.{go_on};
+ghost use Rattle.spec_meaning.specs.Calls.{value_of_call};
+ghost use Rattle.spec_meaning.specs.Given.{Ranged, range_at};
+ghost use Rattle.spec_meaning.specs.Meaning.{meaning, operands, ranges as series_meant};
+ghost use Rattle.spec_meaning.specs.Selection.{chosen_by};
+ghost use Rattle.pr_eval.specs.declared.values.error.EvalError.TheVariants.{Memory};
+ghost use Rattle.pr_eval.specs.private.Answers.{AnswersTo};
+ghost use Rattle.pr_eval.specs.private.RangeCallsAsking.{AreAsked, MayAskEach, asked_by, asks_cost, numbers_chosen, passed_by};
+ghost use Rattle.pr_eval.specs.private.Asking.{asked_for, range_fn, takes_range};
+ghost use Rattle.pr_eval.specs.private.Evaluated.{IsEvaluated, MayTake, kept_by};
+ghost use Rattle.pr_eval.specs.private.Parts.{IsPartAt, IsValued, counts_after};
+ghost use Rattle.pr_eval.specs.private.Ranged.{AreRangeOperands, AreSeries, HasItsArgument, call_in, made_of, number_of_value, prediction_by, quantile_by, use_alone};
 
 use crate::evaluate::eval_at;
 use crate::parts::{
-    all_stand_at, are_pair, arg_stands_at, is_a_range, is_alone, is_range, is_range_call, is_sub,
-    stands_at,
+    lemma_all_stand_at, lemma_are_pair, lemma_arg_stands_at, lemma_is_a_range, lemma_is_alone,
+    lemma_is_range, lemma_is_range_call, lemma_is_sub, lemma_stands_at,
+};
+use crate::range_calls::{
+    RangeAt, RangeCall, absent_over_selector, absent_over_series, over_selector, over_series,
 };
 use crate::scope::Scope;
 use crate::subquery::{SubquerySeries, series_of};
+use crate::values::{EvalError, labels_of_argument};
 use pr_ast::time::Span;
 use pr_ast::{Expr, ExprKind, Func, Place, Selector};
 use pr_labels::Labels;
+use pr_labels::words_crate::Steps;
 use pr_num::Num;
-use pr_range_calls::query_crate::Value;
-use pr_range_calls::range::Ranges;
-use pr_range_calls::types::Counts;
-use pr_range_calls::values::{EvalError, labels_of_argument};
-use pr_range_calls::vectors_crate::RangeFn;
-use pr_range_calls::{
-    RangeAt, RangeCall, absent_over_selector, absent_over_series, over_selector, over_series,
-};
-use pr_words::Steps;
+use pr_range::Ranges;
+use pr_range::vectors_crate::RangeFn;
+use spec_meaning::Value;
+use spec_meaning::types::SelectorCounts;
 use std::alloc::{AllocError, Global};
 use std::sync::ledger::Ledger;
 
@@ -227,7 +228,7 @@ fn over_selected<R: Ranges, G: Ledger>(
     e: &Expr,
     selector: &Selector,
     span: Span,
-    at: Counts,
+    at: SelectorCounts,
     ranges: &mut R,
     reads: &mut Steps<G>,
 ) -> Result<Value, EvalError>
@@ -241,7 +242,7 @@ fn over_selected<R: Ranges, G: Ledger>(
         → IsEvaluated R.keeps scope.now.inside scope.now.step history (call_in made.now).func (tree_of e.now) scope.now.time at.ranges (kept_by (R.last ranges.old) (R.passed ranges.old)) (kept_by (R.last ranges.new) (R.passed ranges.new))
         (R.fits ranges.new history) reads.old reads.new result }
 {
-    is_range(e, selector, span);
+    lemma_is_range(e, selector, span);
     let range = RangeAt {
         place: e.place,
         selector,
@@ -255,14 +256,20 @@ fn over_selected<R: Ranges, G: Ledger>(
 }
 
 // The numbers behind a range selector.
-fn behind_range(scope: &Scope<'_>, e: &Expr, selector: &Selector, span: Span, at: Counts) -> Counts
+fn behind_range(
+    scope: &Scope<'_>,
+    e: &Expr,
+    selector: &Selector,
+    span: Span,
+    at: SelectorCounts,
+) -> SelectorCounts
     requires tree { tree_of e.now ≡ range_tree e.now.place selector.now span }
     requires part { IsPartAt (tree_of scope.now.checked.now) at (tree_of e.now) }
     requires few { length (tests_in (tree_of scope.now.checked.now)) < 2 ^ 64 }
     ensures { result ≡ counts_after at (tree_of e.now) }
 {
-    is_range(e, selector, span);
-    Counts {
+    lemma_is_range(e, selector, span);
+    SelectorCounts {
         selectors: at.selectors + 1,
         ranges: at.ranges + 1,
         patterns: at.patterns,
@@ -295,7 +302,7 @@ fn over_range<R: Ranges, G: Ledger>(
     scope: &Scope<'_>,
     made: &RangeUse,
     e: &Expr,
-    number: &mut Counts,
+    number: &mut SelectorCounts,
     ranges: &mut R,
     reads: &mut Steps<G>,
 ) -> Result<Value, EvalError>
@@ -313,7 +320,7 @@ fn over_range<R: Ranges, G: Ledger>(
         → IsEvaluated R.keeps scope.now.inside scope.now.step history (call_in made.now).func (tree_of e.now) scope.now.time number.old.ranges (kept_by (R.last ranges.old) (R.passed ranges.old)) (kept_by (R.last ranges.new) (R.passed ranges.new))
         (R.fits ranges.new history) reads.old reads.new result }
 {
-    is_a_range(e);
+    lemma_is_a_range(e);
     match &e.kind {
         ExprKind::Range { selector, span } => {
             let at = *number;
@@ -327,7 +334,7 @@ fn over_range<R: Ranges, G: Ledger>(
             offset,
         } => {
             let inner: &Expr = inner;
-            is_sub(e, inner, *span, *step, *offset);
+            lemma_is_sub(e, inner, *span, *step, *offset);
             match series_of(
                 scope, inner, e, *span, *step, *offset, number, ranges, reads,
             ) {
@@ -348,7 +355,7 @@ fn prediction<R: Ranges, G: Ledger>(
     args: &[Expr],
     e: &Expr,
     scalar: &Expr,
-    number: &mut Counts,
+    number: &mut SelectorCounts,
     ranges: &mut R,
     reads: &mut Steps<G>,
 ) -> Result<Value, EvalError>
@@ -367,15 +374,15 @@ fn prediction<R: Ranges, G: Ledger>(
         → IsEvaluated R.keeps scope.now.inside scope.now.step history PredictLinear (trees_of args.now) scope.now.time number.old.ranges (kept_by (R.last ranges.old) (R.passed ranges.old)) (kept_by (R.last ranges.new) (R.passed ranges.new))
         (R.fits ranges.new history) reads.old reads.new result }
 {
-    is_a_range(e);
-    are_pair(args, e, scalar);
-    stands_at(scope.checked, e, *number);
+    lemma_is_a_range(e);
+    lemma_are_pair(args, e, scalar);
+    lemma_stands_at(scope.checked, e, *number);
     match &e.kind {
         ExprKind::Range { selector, span } => {
-            is_range(e, selector, *span);
+            lemma_is_range(e, selector, *span);
             let at = *number;
             *number = behind_range(scope, e, selector, *span, at);
-            arg_stands_at(scope.checked, scalar, *number);
+            lemma_arg_stands_at(scope.checked, scalar, *number);
             match eval_at(scope, scalar, number, ranges, reads) {
                 Ok(value) => {
                     let made = prediction_by(place, &value);
@@ -391,12 +398,12 @@ fn prediction<R: Ranges, G: Ledger>(
             offset,
         } => {
             let inner: &Expr = inner;
-            is_sub(e, inner, *span, *step, *offset);
+            lemma_is_sub(e, inner, *span, *step, *offset);
             match series_of(
                 scope, inner, e, *span, *step, *offset, number, ranges, reads,
             ) {
                 Ok(series) => {
-                    arg_stands_at(scope.checked, scalar, *number);
+                    lemma_arg_stands_at(scope.checked, scalar, *number);
                     match eval_at(scope, scalar, number, ranges, reads) {
                         Ok(value) => {
                             let made = prediction_by(place, &value);
@@ -420,7 +427,7 @@ pub(crate) fn range_call<R: Ranges, G: Ledger>(
     e: &Expr,
     func: Func,
     args: &[Expr],
-    number: &mut Counts,
+    number: &mut SelectorCounts,
     ranges: &mut R,
     reads: &mut Steps<G>,
 ) -> Result<Value, EvalError>
@@ -439,21 +446,21 @@ pub(crate) fn range_call<R: Ranges, G: Ledger>(
         → IsEvaluated R.keeps scope.now.inside scope.now.step history func (tree_of e.now) scope.now.time number.old.ranges (kept_by (R.last ranges.old) (R.passed ranges.old)) (kept_by (R.last ranges.new) (R.passed ranges.new))
         (R.fits ranges.new history) reads.old reads.new result }
 {
-    is_range_call(e, func, args);
-    all_stand_at(scope.checked, args, *number);
+    lemma_is_range_call(e, func, args);
+    lemma_all_stand_at(scope.checked, args, *number);
     match range_operands(e, func, args) {
         RangeOperands::Alone { range } => {
-            is_alone(args, range);
-            stands_at(scope.checked, range, *number);
+            lemma_is_alone(args, range);
+            lemma_stands_at(scope.checked, range, *number);
             let made = use_alone(scope.alloc, e.place, func, args)?;
             over_range(scope, &made, range, number, ranges, reads)
         }
         RangeOperands::Behind { scalar, range } => {
-            are_pair(args, scalar, range);
-            arg_stands_at(scope.checked, scalar, *number);
+            lemma_are_pair(args, scalar, range);
+            lemma_arg_stands_at(scope.checked, scalar, *number);
             match eval_at(scope, scalar, number, ranges, reads) {
                 Ok(value) => {
-                    stands_at(scope.checked, range, *number);
+                    lemma_stands_at(scope.checked, range, *number);
                     let made = quantile_by(e.place, &value);
                     over_range(scope, &made, range, number, ranges, reads)
                 }

@@ -1,6 +1,6 @@
 use pr_ast::time::{Ms, Span};
-use pr_range_calls::head::Head;
-use pr_range_calls::types::Checked;
+use pr_range::head::Head;
+use spec_meaning::types::Checked;
 use std::alloc::Global;
 
 /// What an expression is evaluated over, and when, and whether inside a subquery.

@@ -2,24 +2,24 @@
 ghost use Rattle.std.specs.Prelude.{◌≡◌, ◌+◌, ◌<◌, ◌≤◌, ◌++◌, ◌∷◌, [], List, map, IfOk, OnOk, length, cond, None};
 ghost use Rattle.std.specs.List.{All};
 ghost use Rattle.pr_labels.specs.Rising.{IsRising};
-ghost use Rattle.pr_range_calls.specs.pr_history.declared.entry.Entry.{Entry};
-ghost use Rattle.pr_range_calls.specs.pr_history.Lookback.{is_recent};
-ghost use Rattle.pr_range_calls.specs.pr_head.Holds.{Holds};
-ghost use Rattle.pr_range_calls.specs.pr_head.Reads.{shown_of, spot_shown};
-ghost use Rattle.pr_range_calls.specs.pr_types.Selectors.{tests_of};
-ghost use Rattle.pr_range_calls.specs.pr_query.Selection.{chosen_by, moment_of, selected_spots, valued};
-ghost use Rattle.pr_eval.specs.Looks.{KeepsAt};
-ghost use Rattle.pr_eval.specs.Reading.{items_read};
+ghost use Rattle.pr_range.specs.spec_history.declared.entry.Entry.{Entry};
+ghost use Rattle.pr_range.specs.spec_history.Lookback.{is_recent};
+ghost use Rattle.pr_range.specs.pr_head.private.Holds.{Holds};
+ghost use Rattle.pr_range.specs.pr_head.private.Reads.{shown_of, spot_shown};
+ghost use Rattle.spec_meaning.specs.pr_types.Selectors.{tests_of};
+ghost use Rattle.spec_meaning.specs.Selection.{chosen_by, moment_of, selected_spots, valued};
+ghost use Rattle.pr_eval.specs.private.Looks.{KeepsAt};
+ghost use Rattle.pr_eval.specs.private.Reading.{items_read};
 
+use crate::range_calls::{chosen_series, labels_of_series};
 use pr_ast::Selector;
 use pr_ast::time::Ms;
+use pr_fn::matching::Matcher;
 use pr_labels::Item;
+use pr_labels::words_crate::Steps;
 use pr_num::{Num, Point};
-use pr_range_calls::head::{Head, Timed};
-use pr_range_calls::history::Spot;
-use pr_range_calls::matching::Matcher;
-use pr_range_calls::{chosen_series, labels_of_series};
-use pr_words::Steps;
+use pr_range::head::{Head, Timed};
+use pr_range::history::Spot;
 use std::alloc::{AllocError, Global};
 use std::sync::ledger::Ledger;
 

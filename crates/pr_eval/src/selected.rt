@@ -1,31 +1,32 @@
 // Selectors, and `timestamp` of one.
 ghost use Rattle.std.specs.Prelude.{◌≡◌, ◌+◌, ◌<◌, ◌≤◌, ◌^◌, true, false, [], List, IfOk, IfSome, Some, None, Ok, length, map, slice_get};
 ghost use Rattle.pr_labels.specs.Rising.{IsRising};
-ghost use Rattle.pr_range_calls.specs.pr_history.declared.entry.Entry.{Entry};
-ghost use Rattle.pr_range_calls.specs.pr_head.Holds.{Holds};
+ghost use Rattle.pr_range.specs.spec_history.declared.entry.Entry.{Entry};
+ghost use Rattle.pr_range.specs.pr_head.private.Holds.{Holds};
 ghost use Rattle.pr_ast.specs.Tree.{call, more, none, select, tree_of, trees_of};
-ghost use Rattle.pr_range_calls.specs.pr_types.Built.{tests_in};
-ghost use Rattle.pr_range_calls.specs.pr_types.Selectors.{tests_of};
-ghost use Rattle.pr_range_calls.specs.pr_query.Answers.{IsAnswer, function_at};
-ghost use Rattle.pr_range_calls.specs.pr_query.Calls.{selector_in, stamped};
-ghost use Rattle.pr_range_calls.specs.pr_query.Meaning.{meaning};
-ghost use Rattle.pr_range_calls.specs.pr_query.Selection.{chosen_by, moment_of, selection, selected_spots};
-ghost use Rattle.pr_range_calls.specs.pr_values.Answers.{AnswersTo};
-ghost use Rattle.pr_range_calls.specs.pr_values.Calls.{is_plain_call};
-ghost use Rattle.pr_eval.specs.Asking.{takes_range};
-ghost use Rattle.pr_eval.specs.Looks.{KeepsAt, KeepsFor};
-ghost use Rattle.pr_eval.specs.Parts.{IsPartAt, counts_after};
+ghost use Rattle.spec_meaning.specs.pr_types.private.Built.{tests_in};
+ghost use Rattle.spec_meaning.specs.pr_types.Selectors.{tests_of};
+ghost use Rattle.spec_meaning.specs.private.Laws.{IsAnswer};
+ghost use Rattle.spec_meaning.specs.Answers.{function_at};
+ghost use Rattle.spec_meaning.specs.Calls.{selector_in, stamped};
+ghost use Rattle.spec_meaning.specs.Meaning.{meaning};
+ghost use Rattle.spec_meaning.specs.Selection.{chosen_by, moment_of, selection, selected_spots};
+ghost use Rattle.pr_eval.specs.private.Answers.{AnswersTo};
+ghost use Rattle.pr_eval.specs.private.Calls.{is_plain_call};
+ghost use Rattle.pr_eval.specs.private.Asking.{takes_range};
+ghost use Rattle.pr_eval.specs.private.Looks.{KeepsAt, KeepsFor};
+ghost use Rattle.pr_eval.specs.private.Parts.{IsPartAt, counts_after};
 
-use crate::parts::{is_select, is_stamped};
+use crate::parts::{lemma_is_select, lemma_is_stamped};
 use crate::scope::Scope;
 use crate::select::{selected_spots, valued};
+use crate::values::{EvalError, stamped, vector};
 use pr_ast::{Expr, ExprKind, Func, Place, Selector};
 use pr_labels::Item;
-use pr_range_calls::history::Spot;
-use pr_range_calls::query_crate::Value;
-use pr_range_calls::types::Counts;
-use pr_range_calls::values::{EvalError, stamped, vector};
-use pr_words::Steps;
+use pr_labels::words_crate::Steps;
+use pr_range::history::Spot;
+use spec_meaning::Value;
+use spec_meaning::types::SelectorCounts;
 use std::alloc::AllocError;
 use std::sync::ledger::Ledger;
 
@@ -94,7 +95,7 @@ pub(crate) fn selected<G: Ledger>(
     scope: &Scope<'_>,
     e: &Expr,
     selector: &Selector,
-    number: &mut Counts,
+    number: &mut SelectorCounts,
     reads: &mut Steps<G>,
 ) -> Result<Value, EvalError>
     requires tree { tree_of e.now ≡ select e.now.place selector.now }
@@ -106,7 +107,7 @@ pub(crate) fn selected<G: Ledger>(
     ensures answer { (history : List Entry) → KeepsFor scope.now.head.now history (tree_of e.now) scope.now.time → AnswersTo (meaning scope.now.step history (tree_of e.now) scope.now.time) result }
     ensures reads { (history : List Entry) → Holds scope.now.head.now history → reads.new ≤ reads.old + length (chosen_by selector.now history) }
 {
-    is_select(e, selector);
+    lemma_is_select(e, selector);
     let at = number.selectors;
     number.selectors = at + 1;
     shown(scope, selector, at, reads)
@@ -151,7 +152,7 @@ pub(crate) fn timestamps<G: Ledger>(
     scope: &Scope<'_>,
     e: &Expr,
     argument: &Stamped<'_>,
-    number: &mut Counts,
+    number: &mut SelectorCounts,
     reads: &mut Steps<G>,
 ) -> Result<Value, EvalError>
     requires tree { tree_of e.now ≡ call e.now.place Func.Timestamp (more none (select argument.now.place argument.now.selector.now)) }
@@ -162,7 +163,7 @@ pub(crate) fn timestamps<G: Ledger>(
     ensures answer { (history : List Entry) → KeepsFor scope.now.head.now history (tree_of e.now) scope.now.time → AnswersTo (meaning scope.now.step history (tree_of e.now) scope.now.time) result }
     ensures reads { (history : List Entry) → Holds scope.now.head.now history → reads.new ≤ reads.old + length (chosen_by argument.now.selector.now history) }
 {
-    is_stamped(e, argument.place, argument.selector);
+    lemma_is_stamped(e, argument.place, argument.selector);
     let at = number.selectors;
     number.selectors = at + 1;
     stamps(scope, e.place, argument.selector, at, reads)

@@ -2,42 +2,42 @@
 ghost use Rattle.std.specs.Prelude.{◌≡◌, ◌<◌, ◌<ℤ◌, ◌^◌, ◌++◌, ◌∷◌, [], ℕ, List, Option, Some, pos, true, false, cond, unwrap_or, length, nat_lt, sum_by, IfOk, OnOk, Err, Result};
 ghost use Rattle.std.specs.BTreeMap.{IsOrdered};
 ghost use Rattle.pr_labels.specs.Order.{labels_cmp};
-ghost use Rattle.pr_range_calls.specs.pr_history.declared.entry.Entry.{Entry};
-ghost use Rattle.pr_ast.specs.Steps.{is_step};
+ghost use Rattle.pr_range.specs.spec_history.declared.entry.Entry.{Entry};
+ghost use Rattle.pr_ast.specs.private.Steps.{is_step};
 ghost use Rattle.pr_ast.specs.Tree.{Tree, sub, tree_of};
-ghost use Rattle.pr_range_calls.specs.pr_types.declared.counting.Counts.{Counts};
-ghost use Rattle.pr_range_calls.specs.pr_types.Built.{tests_in, patterns_in};
-ghost use Rattle.pr_range_calls.specs.pr_vectors.declared.range.RangeFn.{RangeFn};
-ghost use Rattle.pr_range_calls.specs.pr_vectors.Ranges.{longest};
-ghost use Rattle.pr_range_calls.specs.pr_vectors.Vectors.{IsVector};
-ghost use Rattle.pr_range_calls.specs.pr_query.Answers.{IsAnswer};
-ghost use Rattle.pr_range_calls.specs.pr_query.Cost.{cost, nothing_passed};
-ghost use Rattle.pr_range_calls.specs.pr_query.Given.{elements_in};
-ghost use Rattle.pr_range_calls.specs.pr_query.Meaning.{meaning, ranges as series_meant};
-ghost use Rattle.pr_range_calls.specs.pr_query.Subqueries.{Taken, at_each, multiples};
-ghost use Rattle.pr_range_calls.specs.Taken.{AreTaken, taken};
-ghost use Rattle.pr_range_calls.specs.Times.{AreTimesWithin};
-ghost use Rattle.pr_range_calls.specs.pr_values.Answers.{AnswersTo};
-ghost use Rattle.pr_eval.specs.Evaluated.{IsEvaluated, MayTake, kept_by};
-ghost use Rattle.pr_eval.specs.Looks.{KeepsFor};
-ghost use Rattle.pr_eval.specs.Parts.{IsPartAt, IsValued, counts_after};
-ghost use Rattle.pr_eval.specs.Ranged.{AreSeries};
-ghost use Rattle.pr_eval.specs.Subqueries.{AreSeriesGathered, MayTakeEach, TakesInside, range_of};
+ghost use Rattle.spec_meaning.specs.pr_types.declared.counting.SelectorCounts.{SelectorCounts};
+ghost use Rattle.spec_meaning.specs.pr_types.private.Built.{tests_in, patterns_in};
+ghost use Rattle.pr_range.specs.spec_vectors.declared.range.RangeFn.{RangeFn};
+ghost use Rattle.pr_range.specs.spec_vectors.Ranges.{longest};
+ghost use Rattle.pr_range.specs.spec_vectors.private.Laws.{IsVector};
+ghost use Rattle.spec_meaning.specs.private.Laws.{IsAnswer};
+ghost use Rattle.spec_meaning.specs.private.Cost.{cost, nothing_passed};
+ghost use Rattle.spec_meaning.specs.Given.{elements_in};
+ghost use Rattle.spec_meaning.specs.Meaning.{meaning, ranges as series_meant};
+ghost use Rattle.spec_meaning.specs.Subqueries.{Taken, at_each, multiples};
+ghost use Rattle.pr_eval.specs.private.Taken.{AreTaken, taken};
+ghost use Rattle.pr_eval.specs.private.Times.{AreTimesWithin};
+ghost use Rattle.pr_eval.specs.private.Answers.{AnswersTo};
+ghost use Rattle.pr_eval.specs.private.Evaluated.{IsEvaluated, MayTake, kept_by};
+ghost use Rattle.pr_eval.specs.private.Looks.{KeepsFor};
+ghost use Rattle.pr_eval.specs.private.Parts.{IsPartAt, IsValued, counts_after};
+ghost use Rattle.pr_eval.specs.private.Ranged.{AreSeries};
+ghost use Rattle.pr_eval.specs.private.Subqueries.{AreSeriesGathered, MayTakeEach, TakesInside, range_of};
 
 use crate::evaluate::eval_at;
-use crate::parts::stands_at;
+use crate::parts::lemma_stands_at;
+use crate::range_calls::{SubqueryRange, SubqueryTimes, no_series, subquery_times, take_elements};
 use crate::scope::Scope;
+use crate::values::EvalError;
 use pr_ast::time::{Ms, Span};
 use pr_ast::{Expr, Place};
+use pr_labels::words_crate::{Items, Steps};
 use pr_labels::{Item, Labels};
 use pr_num::Num;
-use pr_range_calls::history::Spot;
-use pr_range_calls::query_crate::{FaultKind, Value};
-use pr_range_calls::range::Ranges;
-use pr_range_calls::types::{Checked, Counts, counts_in};
-use pr_range_calls::values::EvalError;
-use pr_range_calls::{SubqueryRange, SubqueryTimes, no_series, subquery_times, take_elements};
-use pr_words::{Items, Steps};
+use pr_range::Ranges;
+use pr_range::history::Spot;
+use spec_meaning::types::{Checked, SelectorCounts, counts_in};
+use spec_meaning::{FaultKind, Value};
 use std::alloc::{AllocError, Global};
 use std::collections::BTreeMap;
 use std::sync::ledger::Ledger;
@@ -118,14 +118,14 @@ fn times_in(range: &SubqueryRange, step: Span) -> SubqueryTimes
 }
 
 // The numbers behind a part that was evaluated at numbers of its own.
-fn numbers_behind(checked: &Checked, e: &Expr, at: Counts) -> Counts
+fn numbers_behind(checked: &Checked, e: &Expr, at: SelectorCounts) -> SelectorCounts
     requires part { IsPartAt (tree_of checked.now) at (tree_of e.now) }
     requires few { length (tests_in (tree_of checked.now)) < 2 ^ 64 }
     requires few_patterns { length (patterns_in (tree_of checked.now)) < 2 ^ 64 }
     ensures { result ≡ counts_after at (tree_of e.now) }
 {
     let own = counts_in(e);
-    Counts {
+    SelectorCounts {
         selectors: at.selectors + own.selectors,
         ranges: at.ranges + own.ranges,
         patterns: at.patterns + own.patterns,
@@ -147,7 +147,7 @@ fn too_many(place: Place, have: u64) -> EvalError
 fn value_at<R: Ranges, G: Ledger>(
     scope: &Scope<'_>,
     inner: &Expr,
-    at: Counts,
+    at: SelectorCounts,
     time: Ms,
     ranges: &mut R,
     reads: &mut Steps<G>,
@@ -179,7 +179,7 @@ fn value_at<R: Ranges, G: Ledger>(
 fn gathered<R: Ranges, G: Ledger>(
     scope: &Scope<'_>,
     inner: &Expr,
-    at: Counts,
+    at: SelectorCounts,
     times: &SubqueryTimes,
     ranges: &mut R,
     reads: &mut Steps<G>,
@@ -224,7 +224,7 @@ pub(crate) fn series_of<R: Ranges, G: Ledger>(
     span: Span,
     step: Option<Span>,
     offset: Span,
-    number: &mut Counts,
+    number: &mut SelectorCounts,
     ranges: &mut R,
     reads: &mut Steps<G>,
 ) -> Result<SubquerySeries, EvalError>
@@ -250,7 +250,7 @@ pub(crate) fn series_of<R: Ranges, G: Ledger>(
         return Err(too_many(e.place, count));
     }
     let at = *number;
-    stands_at(scope.checked, inner, at);
+    lemma_stands_at(scope.checked, inner, at);
     match gathered(scope, inner, at, &times, ranges, reads) {
         Ok(series) => {
             *number = numbers_behind(scope.checked, inner, at);

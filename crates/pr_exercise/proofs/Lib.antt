@@ -1,2 +1,9 @@
+pub mod Lines
+pub mod Tallies
+pub mod Turns
+pub mod Progress
+pub mod Meaning
+pub mod Ended
+pub mod Opening
+pub mod Over
 mod Computing
-pub use Rattle.pr_text.proofs.WorldSteps

@@ -1,16 +1,16 @@
 -- What `exercise N` writes: counts of the lines that a run of its events would write.
 use Rattle.std.specs.Prelude.{ℕ, Bool, ◌&&◌, List, [], ◌∷◌, ◌++◌, codes, decimal, length, count_by}
 use Rattle.std.specs.Str.{bytes_eq}
-use Rattle.pr_words.specs.Fields.{first_field, after_field}
-use Rattle.pr_words.specs.Lines.{lines_of}
-use Rattle.pr_text.specs.pr_history.declared.entry.Entry.{Entry}
+use Rattle.pr_outside.specs.pr_words.Fields.{first_field, after_field}
+use Rattle.pr_outside.specs.pr_words.Lines.{lines_of}
+use Rattle.pr_text.specs.spec_history.declared.entry.Entry.{Entry}
 use Rattle.pr_text.specs.Printed.{shown_report}
-use Rattle.pr_text.specs.pr_world.declared.event.Event.{Event}
-use Rattle.pr_text.specs.pr_world.declared.report.Report.{Report}
-use Rattle.pr_text.specs.pr_world.declared.report.Report.TheVariants.{Opened}
-use Rattle.pr_text.specs.pr_rules.Settings.{of_a_run}
-use Rattle.pr_text.specs.pr_world.Step.{next, rows_of}
-use Rattle.pr_text.specs.pr_world.World.{World, start}
+use Rattle.pr_text.specs.spec_world.declared.event.Event.{Event}
+use Rattle.pr_text.specs.spec_world.declared.report.Report.{Report}
+use Rattle.pr_text.specs.spec_world.declared.report.Report.TheVariants.{Opened}
+use Rattle.pr_text.specs.spec_rules.Settings.{of_a_run}
+use Rattle.pr_text.specs.spec_world.Step.{next, rows_of}
+use Rattle.pr_text.specs.spec_world.World.{World, start}
 use Rattle.pr_exercise.specs.Exercise.{exercise_events}
 
 -- the lines of a report

@@ -1,6 +1,6 @@
 //! What the definitions say of the first turns.
 ghost use Rattle.std.specs.Prelude.{◌≡◌, [], ◌∷◌, codes};
-ghost use Rattle.pr_text.specs.pr_world.declared.event.Event.TheVariants.{Scrape, Fail, Eval, Restart};
+ghost use Rattle.pr_text.specs.spec_world.declared.event.Event.TheVariants.{Scrape, Fail, Eval, Restart};
 ghost use Rattle.pr_exercise.specs.Exercise.{drawn, exercise_events, exercise_name, next_number, opening, reload_at, target, targets_from};
 ghost use Rattle.pr_exercise.specs.Summary.{summary_of};
 

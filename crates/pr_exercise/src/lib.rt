@@ -1,25 +1,12 @@
-//! What `exercise N` does, and what it writes: the model, of definitions without bodies.
+//! The command `exercise`: the events of a run that is made up, and counts of what it would write.
 #![tactic(auto)]
 
-mod examples;
+pub mod examples;
+mod rounds;
+mod running;
+mod session;
+mod tally;
+mod targets;
 
-// What crates above name of those below.
-pub mod kinds {
-    pub use pr_text::kinds::push_number;
-}
-
-pub mod row {
-    pub use pr_text::row::laws;
-}
-
-pub mod world {
-    pub use pr_text::world::{Event, NamedFile, Report};
-}
-
-pub mod text_crate {
-    pub use pr_text::push_report;
-}
-
-pub use examples::{
-    first_draws, lines_are_counted, the_first_turn_has_these_events, turns_begin_so,
-};
+pub use rounds::Rounds;
+pub use running::exercise;

@@ -5,4 +5,18 @@ pub mod Reading
 pub mod Times
 pub mod Endings
 pub mod Sampled
-pub use Rattle.pr_expo_line.proofs.Sound as ExpoLineSound
+pub mod Fronts
+pub mod Ways
+pub mod Grammar
+pub mod Numbers
+pub mod KnownNames
+pub mod Sound
+pub mod Shapes
+pub mod Leading
+pub mod RunSteps
+pub mod PlainFronts
+pub mod OnLiterals
+pub mod Completes
+pub mod Told
+pub mod FaultParts
+pub mod Faults

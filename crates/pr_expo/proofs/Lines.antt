@@ -3,14 +3,14 @@ use Rattle.std.proofs.Common.{◌≡◌, refl, sym, ap, ◌∙◌, ℕ, suc, ◌
 use Rattle.std.specs.Prelude.{◌==◌}
 use Prim.Native.Char.{code}
 use Rattle.std.specs.List.{slice_split, position_or_len, onto_first}
-use Rattle.pr_expo_line.specs.pr_words.Lines.{is_feed, without_return, ended, text_lines}
-use Rattle.pr_expo_line.specs.declared.place.Read.{Read}
-use Rattle.pr_expo_line.specs.declared.place.ExpoKind.{ExpoKind}
+use Rattle.pr_labels.specs.pr_words.Lines.{is_feed, without_return, ended, text_lines}
+use Rattle.pr_expo.specs.declared.expo_line.place.Read.{Read}
+use Rattle.pr_expo.specs.declared.expo_line.place.ExpoKind.{ExpoKind}
 use Rattle.pr_expo.specs.declared.exposition.ExpoError.{ExpoError}
 use Rattle.pr_expo.specs.declared.exposition.ExpoError.TheVariants.{Fault}
-use Rattle.pr_expo_line.specs.Line.{line_read}
+use Rattle.pr_expo.specs.Line.{line_read}
 use Rattle.pr_expo.specs.Text.{reads_from, joined, text_reads}
-use Rattle.pr_expo.specs.Keeping.{after}
+use Rattle.pr_expo.specs.private.Keeping.{after}
 
 -- no parts are empty
 parts_by : (part : List ℕ) (b : ℕ) (parts : List (List ℕ)) → ended (part ∷ onto_first b parts) ≡ without_return part ∷ ended (onto_first b parts)

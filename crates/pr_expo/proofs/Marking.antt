@@ -1,18 +1,16 @@
 -- What is seen on the samples of each family, at one of them.
-use Rattle.std.proofs.Common.{◌≡◌, refl, sym, ap, ◌∙◌, subst, ℕ, ◌<◌, List, [], ◌∷◌, length, Bool, true, false, ◌||◌, arith, ◌⊎◌, inl, inr}
-use Rattle.std.specs.Prelude.{◌==◌, if◌then◌else◌}
+use Rattle.std.proofs.Common.{◌≡◌, refl, sym, ap, ◌∙◌, subst, ℕ, ◌<◌, List, [], ◌∷◌, length, Bool, true, false, ◌||◌, arith, ◌⊎◌, inl, inr, ◌++◌, ◌+◌, suc, drop, map}
+use Rattle.std.specs.Prelude.{◌==◌, if◌then◌else◌, set, get_or, replicate}
 use Rattle.std.proofs.lemmas.Bool.Decides.{nat_tests}
-use Rattle.std.specs.Prelude.{set, get_or, replicate}
 use Rattle.std.proofs.lemmas.List.{get_or-set_same, get_or-set_other, length-set, length-replicate, get_or-replicate}
 use Rattle.std.proofs.lemmas.Bool.{cases_eq}
 use Rattle.pr_expo.specs.declared.exposition.Line.{Line}
 use Rattle.pr_expo.specs.declared.marks.Marks.{Marks}
-use Rattle.std.proofs.Common.{◌++◌, ◌+◌, suc, drop, map}
 use Rattle.pr_expo.specs.declared.exposition.Family.{Family}
 use Rattle.pr_expo.specs.declared.exposition.LintKind.{LintKind}
 use Rattle.pr_expo.specs.declared.exposition.Problem.{Problem}
 use Rattle.pr_expo.specs.Lint.{problem, problems_of, problems_from, kinds_by, marks_of, lines_of_family}
-use Rattle.pr_expo.specs.Marking.{no_marks, mark_of, both, marked, marks_after}
+use Rattle.pr_expo.specs.private.Marking.{no_marks, mark_of, both, marked, marks_after}
 
 or_assoc : (a b c : Bool) → ((a || b) || c) ≡ (a || (b || c))
 or_assoc true b c = refl

@@ -1,19 +1,19 @@
 -- Reading line after line.
 use Rattle.std.proofs.Common.{◌≡◌, refl, sym, ap, ◌∙◌, subst, ℕ, ◌+◌, ◌<◌, ◌≤◌, ◌^◌, true, List, [], ◌∷◌, ◌++◌, length, length-append, append-nil, Option, Some, None, IfSome, MatchOption, Bor, Ok, Err, arith, map}
-use Rattle.pr_expo_line.specs.pr_words.Lines.{text_lines}
-use Rattle.pr_expo_line.specs.declared.place.Read.{Read}
-use Rattle.pr_expo_line.specs.declared.place.Read.TheVariants.{Nothing}
+use Rattle.pr_labels.specs.pr_words.Lines.{text_lines}
+use Rattle.pr_expo.specs.declared.expo_line.place.Read.{Read}
+use Rattle.pr_expo.specs.declared.expo_line.place.Read.TheVariants.{Nothing}
 use Rattle.std.specs.Str.{chars}
 use Rattle.std.proofs.lemmas.Str.{IsUtf8-nil, chars-nil}
-use Rattle.pr_expo_line.specs.declared.place.Place.TheVariants.{Start}
-use Rattle.pr_expo_line.specs.Line.{line_read, outcome_of, text_front, way}
-use Rattle.pr_expo_line.proofs.Fronts.{is_whole, whole_front}
+use Rattle.pr_expo.specs.declared.expo_line.place.LineCursor.TheVariants.{Start}
+use Rattle.pr_expo.specs.Line.{line_read, outcome_of, text_front, way}
+use Rattle.pr_expo.proofs.Fronts.{is_whole, whole_front}
 use Rattle.pr_expo.specs.declared.exposition.ExpoError.{ExpoError}
 use Rattle.pr_expo.specs.declared.exposition.ExpoError.TheVariants.{Fault, Memory}
 use Rattle.pr_expo.specs.declared.exposition.Exposition.{Exposition}
 use Rattle.pr_expo.specs.declared.exposition.Line.{Line}
 use Rattle.pr_expo.specs.Families.{Refuses, exposition_if, exposition_of}
-use Rattle.pr_expo.specs.Keeping.{Entries, HasRoom, IsUnderWay, Notes, RefusesLine, Tells, entries_after, family_from, samples_kept}
+use Rattle.pr_expo.specs.private.Keeping.{Entries, HasRoom, IsUnderWay, Notes, RefusesLine, Tells, entries_after, family_from, samples_kept}
 use Rattle.pr_expo.proofs.Lines.{line_bad, line_first, line_last, line_more}
 use Rattle.pr_expo.proofs.Telling.{families_told, has_room, tells_more, tells_nothing}
 

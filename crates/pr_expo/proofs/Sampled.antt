@@ -5,7 +5,7 @@ use Rattle.std.specs.List.{position_or_len}
 use Rattle.std.specs.Map.{lookup, keys_of}
 use Rattle.std.specs.Str.{bytes_eq}
 use Rattle.pr_expo.specs.declared.known.Known.{Known}
-use Rattle.pr_expo.specs.Keeping.{Entries, known_of, nothing_known, put, with_sample}
+use Rattle.pr_expo.specs.private.Keeping.{Entries, known_of, nothing_known, put, with_sample}
 
 -- what is known already is put back
 put_back : (es : Entries) (name : List ℕ) (known : Known) → lookup (bytes_eq name) es ≡ Some known → put es name known ≡ es

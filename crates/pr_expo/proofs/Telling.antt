@@ -10,16 +10,16 @@ use Rattle.std.proofs.lemmas.List.Elements.{filter-append}
 use Rattle.std.proofs.lemmas.List.Folds.{list_any-append}
 use Rattle.std.proofs.lemmas.List.Sums.{fold-append}
 use Rattle.std.proofs.lemmas.Slice.Eq.{bytes_eq-Decides}
-use Rattle.pr_expo_line.specs.pr_words.Names.{is_among}
-use Rattle.pr_expo_line.proofs.LabelsLabelLaws.{alike}
-use Rattle.pr_expo_line.specs.declared.place.FamilyKind.{FamilyKind}
-use Rattle.pr_expo_line.specs.declared.place.Measured.{Measured}
-use Rattle.pr_expo_line.specs.declared.place.Read.{Read}
-use Rattle.pr_expo_line.specs.declared.place.Read.TheVariants.{Nothing, Help, Typed, Sample}
+use Rattle.pr_labels.specs.pr_words.Names.{is_among}
+use Rattle.pr_labels.proofs.LabelLaws.{alike}
+use Rattle.pr_expo.specs.declared.expo_line.place.FamilyKind.{FamilyKind}
+use Rattle.pr_expo.specs.declared.expo_line.place.Measured.{Measured}
+use Rattle.pr_expo.specs.declared.expo_line.place.Read.{Read}
+use Rattle.pr_expo.specs.declared.expo_line.place.Read.TheVariants.{Nothing, Help, Typed, Sample}
 use Rattle.pr_expo.specs.declared.exposition.Line.{Line}
 use Rattle.pr_expo.specs.declared.known.Known.{Known}
 use Rattle.pr_expo.specs.Families.{Arrival, arrivals, arrivals_after, arrived, ends_in, family_by, family_by_kinds, family_names, family_of, first_type, has_late_type, has_parts, is_help, is_late, is_sample, is_sampled, is_type, kind_of, mentioned, mentioned_after, mentions, sample_at, sample_of, samples_after, samples_by, type_at, types_of, whole_of, without_ending}
-use Rattle.pr_expo.specs.Keeping.{AreApart, Entries, HasRoom, Tells, entries_after, family_from, kept_family, kept_kind, known_by, known_of, nothing_known, put, samples_kept, with_help, with_sample, with_type}
+use Rattle.pr_expo.specs.private.Keeping.{AreApart, Entries, HasRoom, Tells, entries_after, family_from, kept_family, kept_kind, known_by, known_of, nothing_known, put, samples_kept, with_help, with_sample, with_type}
 use Rattle.pr_expo.proofs.Marking.{or_false}
 use Rattle.pr_expo.proofs.Endings.{not_true}
 

@@ -5,8 +5,8 @@ use Rattle.std.specs.List.{list_all}
 use Rattle.std.specs.Str.Parse.{ParsesSigned, digits_value, signed_digits_value}
 use Rattle.std.proofs.lemmas.Str.Parse.{IsNumeralModel, digits_value_short, numerals_by_value, parse_signed_digits, parse_signed_minus, parse_signed_plus}
 use mir.Syntax.{w64}
-use Rattle.pr_expo_line.specs.pr_num.Forms.{AreDigits, Sign, sign_text, no_sign, plus, minus}
-use Rattle.pr_expo_line.specs.Sound.{IsSignedDigits}
+use Rattle.pr_num.specs.private.Forms.{AreDigits, Sign, sign_text, no_sign, plus, minus}
+use Rattle.pr_expo.specs.private.Sound.{IsSignedDigits}
 
 own : IsNumeralModel (λ ds. list_all is_ascii_digit ds ≡ true) (digits_value 10)
 own = numerals_by_value _ (search rules)

@@ -5,18 +5,18 @@ use Rattle.std.specs.List.{list_any, position_or_len, ends_with}
 use Rattle.std.specs.Option.{option_map, option_or}
 use Rattle.std.specs.Str.{bytes_eq}
 use Rattle.std.specs.Str.Parse.{signed_digits_value}
-use Rattle.pr_expo_line.specs.pr_words.Names.{is_among}
-use Rattle.pr_expo_line.specs.pr_num.declared.value.Num.{Num}
-use Rattle.pr_expo_line.specs.pr_num.declared.text.NumFault.{NumFault}
-use Rattle.pr_expo_line.specs.pr_num.declared.text.NumFault.TheVariants.{NotNumber, TooWide}
-use Rattle.pr_expo_line.specs.pr_num.Reads.{reads}
-use Rattle.pr_expo_line.specs.pr_labels.LabelSet.{metric_label, pair_of}
-use Rattle.pr_expo_line.specs.pr_labels.Edits.{labels_of}
-use Rattle.pr_expo_line.specs.declared.place.FamilyKind.{FamilyKind}
-use Rattle.pr_expo_line.specs.declared.place.FamilyKind.TheVariants.{Counter, Gauge, Histogram, Summary, Untyped}
-use Rattle.pr_expo_line.specs.declared.place.Measured.{Measured}
-use Rattle.pr_expo_line.specs.declared.place.Read.{Read}
-use Rattle.pr_expo_line.specs.declared.place.Read.TheVariants.{Nothing, Help, Typed, Sample}
+use Rattle.pr_labels.specs.pr_words.Names.{is_among}
+use Rattle.pr_num.specs.declared.value.Num.{Num}
+use Rattle.pr_num.specs.declared.text.NumFault.{NumFault}
+use Rattle.pr_num.specs.declared.text.NumFault.TheVariants.{NotNumber, TooWide}
+use Rattle.pr_num.specs.Reads.{reads}
+use Rattle.pr_labels.specs.LabelSet.{metric_label, pair_of}
+use Rattle.pr_labels.specs.Edits.{labels_of}
+use Rattle.pr_expo.specs.declared.expo_line.place.FamilyKind.{FamilyKind}
+use Rattle.pr_expo.specs.declared.expo_line.place.FamilyKind.TheVariants.{Counter, Gauge, Histogram, Summary, Untyped}
+use Rattle.pr_expo.specs.declared.expo_line.place.Measured.{Measured}
+use Rattle.pr_expo.specs.declared.expo_line.place.Read.{Read}
+use Rattle.pr_expo.specs.declared.expo_line.place.Read.TheVariants.{Nothing, Help, Typed, Sample}
 use Rattle.pr_expo.specs.declared.exposition.ExpoError.{ExpoError}
 use Rattle.pr_expo.specs.declared.exposition.ExpoError.TheVariants.{Fault, Memory}
 use Rattle.pr_expo.specs.declared.exposition.Exposition.{Exposition}

@@ -1,6 +1,8 @@
 pub mod Text
 pub mod Families
 pub mod Lint
-pub mod Marking
-pub mod Keeping
-pub use Rattle.pr_expo_line.specs as pr_expo_line
+pub mod Characters
+pub mod Number
+pub mod Line
+pub mod Words
+pub mod private

@@ -3,9 +3,9 @@ use Rattle.std.specs.Prelude.{ℕ, suc, ◌==◌, ◌&&◌, ◌||◌, not, nat_l
 use Prim.Native.Char.{code}
 use Rattle.std.specs.Char.{is_ascii_lowercase, is_ascii_uppercase}
 use Rattle.std.specs.List.{list_any}
-use Rattle.pr_expo_line.specs.pr_labels.LabelSet.{value_of}
-use Rattle.pr_expo_line.specs.declared.place.FamilyKind.{FamilyKind}
-use Rattle.pr_expo_line.specs.declared.place.FamilyKind.TheVariants.{Counter, Gauge, Histogram, Summary, Untyped}
+use Rattle.pr_labels.specs.LabelSet.{value_of}
+use Rattle.pr_expo.specs.declared.expo_line.place.FamilyKind.{FamilyKind}
+use Rattle.pr_expo.specs.declared.expo_line.place.FamilyKind.TheVariants.{Counter, Gauge, Histogram, Summary, Untyped}
 use Rattle.pr_expo.specs.declared.exposition.Exposition.{Exposition}
 use Rattle.pr_expo.specs.declared.exposition.Family.{Family}
 use Rattle.pr_expo.specs.declared.exposition.Line.{Line}

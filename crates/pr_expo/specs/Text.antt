@@ -1,9 +1,9 @@
 -- What the lines of an exposition read as, and the first that is bad.
 use Rattle.std.specs.Prelude.{ℕ, suc, Result, Ok, Err, List, [], ◌∷◌}
-use Rattle.pr_expo_line.specs.pr_words.Lines.{text_lines}
-use Rattle.pr_expo_line.specs.declared.place.ExpoKind.{ExpoKind}
-use Rattle.pr_expo_line.specs.declared.place.Read.{Read}
-use Rattle.pr_expo_line.specs.Line.{line_read}
+use Rattle.pr_labels.specs.pr_words.Lines.{text_lines}
+use Rattle.pr_expo.specs.declared.expo_line.place.ExpoKind.{ExpoKind}
+use Rattle.pr_expo.specs.declared.expo_line.place.Read.{Read}
+use Rattle.pr_expo.specs.Line.{line_read}
 use Rattle.pr_expo.specs.declared.exposition.ExpoError.{ExpoError}
 use Rattle.pr_expo.specs.declared.exposition.ExpoError.TheVariants.{Fault}
 

@@ -3,9 +3,9 @@ ghost use Rattle.std.specs.Prelude.{◌≡◌, ◌++◌, IfOk, map};
 ghost use Rattle.std.specs.List.{list_any};
 ghost use Rattle.pr_expo.specs.Lint.{begins_capital, has_total, is_camel, is_colon, is_counter, is_histogram, is_other_typed, is_summary, kinds_by, lint, problem, when};
 
+use crate::expo_line::FamilyKind;
 use crate::exposition::{Exposition, Family, LintKind, Problem};
 use crate::marks::{Marks, mark_at, marks_by};
-use pr_expo_line::FamilyKind;
 use std::alloc::{AllocError, Global};
 
 fn begins_capital(bytes: &[u8]) -> bool

@@ -1,8 +1,8 @@
 // An exposition, and complaints about it.
-use pr_expo_line::labels_crate::Labels;
-use pr_expo_line::num::Num;
-use pr_expo_line::words_crate::{Items, Text};
-use pr_expo_line::{ExpoKind, FamilyKind};
+use crate::expo_line::{ExpoKind, FamilyKind};
+use pr_labels::Labels;
+use pr_labels::words_crate::{Items, Text};
+use pr_num::Num;
 use std::alloc::AllocError;
 
 /// A family of samples. (Prometheus: Exposition formats, text format details.)

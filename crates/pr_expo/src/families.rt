@@ -1,9 +1,9 @@
 // The families of the lines so far.
+use crate::expo_line::FamilyKind;
 use crate::exposition::Family;
 use crate::known::{Known, nothing_known, with_sample};
 use indexmap::IndexMap;
-use pr_expo_line::FamilyKind;
-use pr_expo_line::words_crate::Text;
+use pr_labels::words_crate::Text;
 use std::alloc::{AllocError, Global};
 use std::marker::Model;
 
@@ -14,7 +14,7 @@ pub(crate) struct Families {
 }
 
 impl Model for Families {
-    ghost use Rattle.pr_expo.specs.Keeping.{Entries};
+    ghost use Rattle.pr_expo.specs.private.Keeping.{Entries};
 
     ghost Value = { Entries };
 
@@ -26,7 +26,7 @@ ghost use Rattle.std.specs.List.{position_or_len};
 ghost use Rattle.std.specs.Map.{keys_of};
 ghost use Rattle.std.specs.Str.{bytes_eq};
 ghost use Rattle.pr_expo.specs.Families.{ends_in, has_parts, whole_of, without_ending};
-ghost use Rattle.pr_expo.specs.Keeping.{family_from, kept_family, kept_kind, known_of, put, with_sample};
+ghost use Rattle.pr_expo.specs.private.Keeping.{family_from, kept_family, kept_kind, known_of, put, with_sample};
 
 // The name without an ending, where it has that.
 fn without_ending<'a>(name: &'a str, ending: &str) -> Option<&'a str>

@@ -1,8 +1,8 @@
 // What is known of families so far.
 ghost use Rattle.std.specs.Prelude.{◌≡◌, ◌+◌, ◌<◌, ◌^◌};
-ghost use Rattle.pr_expo.specs.Keeping.{nothing_known, with_help, with_sample, with_type};
+ghost use Rattle.pr_expo.specs.private.Keeping.{nothing_known, with_help, with_sample, with_type};
 
-use pr_expo_line::FamilyKind;
+use crate::expo_line::FamilyKind;
 
 // What is known of a family so far: its kind, how many help lines and type lines it has, whether a
 // type line stands after a sample, and whether it has a sample.

@@ -3,6 +3,7 @@
 #![tactic(auto)]
 
 mod complaints;
+pub mod expo_line;
 mod exposition;
 mod families;
 mod known;
@@ -11,12 +12,7 @@ mod reader;
 mod sample;
 mod text;
 
-// What crates above name of those below.
-pub mod expo_line {
-    pub use pr_expo_line::ExpoKind;
-}
-
+pub use crate::expo_line::{ExpoKind, FamilyKind};
 pub use complaints::lint;
 pub use exposition::{ExpoError, Exposition, Family, Line, LintKind, Problem};
-pub use pr_expo_line::{ExpoKind, FamilyKind};
 pub use reader::read;

@@ -1,6 +1,6 @@
 // What is seen on the samples of families.
 ghost use Rattle.std.specs.Prelude.{◌≡◌, ◌<◌, IfOk, get_or, length, replicate};
-ghost use Rattle.pr_expo.specs.Marking.{both, mark_of, marks_after, no_marks};
+ghost use Rattle.pr_expo.specs.private.Marking.{both, mark_of, marks_after, no_marks};
 
 use crate::exposition::Line;
 use std::alloc::{AllocError, Global};

@@ -1,17 +1,17 @@
 // Reading an exposition.
 ghost use Rattle.std.specs.Prelude.{◌≡◌, ℕ, ◌+◌, ◌<◌, ◌^◌, ◌++◌, [], Err, IfErr, IfOk, MatchResult, Ok, length, map};
-ghost use Rattle.pr_expo_line.specs.Sound.{HasDistinctNames, IsSound, IsTime};
+ghost use Rattle.pr_expo.specs.private.Sound.{HasDistinctNames, IsSound, IsTime};
 ghost use Rattle.pr_expo.specs.Families.{Refuses, exposition_of, sample_of};
-ghost use Rattle.pr_expo.specs.Keeping.{HasRoom, Notes, RefusesLine, entries_after, family_from, kept_family, known_of, put, samples_kept, with_help, with_sample, with_type};
-ghost use Rattle.pr_expo_line.specs.declared.place.Read.TheVariants.{Sample};
+ghost use Rattle.pr_expo.specs.private.Keeping.{HasRoom, Notes, RefusesLine, entries_after, family_from, kept_family, known_of, put, samples_kept, with_help, with_sample, with_type};
+ghost use Rattle.pr_expo.specs.declared.expo_line.place.Read.TheVariants.{Sample};
 
+use crate::expo_line::{FamilyKind, LineFault, Measured, Read, read_line};
 use crate::exposition::{ExpoError, Exposition, Line};
 use crate::families::Families;
 use crate::known::{with_help, with_type};
 use crate::sample::{labels_of, time_of, value_of};
 use crate::text::next_line;
-use pr_expo_line::words_crate::{Items, Text};
-use pr_expo_line::{FamilyKind, LineFault, Measured, Read, read_line};
+use pr_labels::words_crate::{Items, Text};
 use std::alloc::{AllocError, Global};
 
 // What is kept of the lines so far.

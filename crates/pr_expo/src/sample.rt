@@ -2,24 +2,24 @@
 ghost use Rattle.std.specs.Prelude.{◌≡◌, ℕ, ◌≤◌, ◌∷◌, IfOk};
 ghost use Rattle.std.specs.Option.{option_map};
 ghost use Rattle.std.specs.Str.Parse.{signed_digits_value};
-ghost use Rattle.pr_expo_line.specs.pr_labels.LabelSet.{metric_label, pair_of};
-ghost use Rattle.pr_expo_line.specs.pr_labels.Edits.{labels_of};
-ghost use Rattle.pr_expo_line.specs.pr_num.Reads.{reads};
+ghost use Rattle.pr_labels.specs.LabelSet.{metric_label, pair_of};
+ghost use Rattle.pr_labels.specs.Edits.{labels_of};
+ghost use Rattle.pr_num.specs.Reads.{reads};
 ghost use Rattle.pr_expo.specs.Families.{value_by};
-ghost use Rattle.pr_expo_line.specs.Sound.{HasDistinctNames, IsSignedDigits, IsTime};
+ghost use Rattle.pr_expo.specs.private.Sound.{HasDistinctNames, IsSignedDigits, IsTime};
 
-use pr_expo_line::Head;
-use pr_expo_line::labels_crate::{Labels, METRIC_LABEL, Pair};
-use pr_expo_line::num::Num;
-use pr_expo_line::words_crate::Text;
+use crate::expo_line::LineHead;
+use pr_labels::words_crate::Text;
+use pr_labels::{Labels, METRIC_LABEL, Pair};
+use pr_num::Num;
 use std::alloc::{AllocError, Global};
 
 // The label set of a name and the labels of its list.
-pub(crate) fn labels_of(alloc: Global, head: Head) -> Result<Labels, AllocError>
+pub(crate) fn labels_of(alloc: Global, head: LineHead) -> Result<Labels, AllocError>
     requires { HasDistinctNames head }
     ensures { IfOk result (λ l. l ≡ labels_of (pair_of metric_label head.name ∷ head.labels)) }
 {
-    let Head { name, labels } = head;
+    let LineHead { name, labels } = head;
     let mut pairs = labels.into_vec();
     pairs.insert(
         0,
@@ -35,7 +35,7 @@ pub(crate) fn labels_of(alloc: Global, head: Head) -> Result<Labels, AllocError>
 pub(crate) fn value_of(number: &Text) -> Option<Num>
     ensures { result ≡ value_by (reads number.now) }
 {
-    pr_expo_line::num::read(number.as_str().as_bytes()).ok()
+    pr_num::read(number.as_str().as_bytes()).ok()
 }
 
 // The time of a sign and digits.

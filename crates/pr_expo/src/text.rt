@@ -1,8 +1,8 @@
 // The lines of an exposition.
 ghost use Rattle.std.specs.Prelude.{◌≡◌, ◌-◌, ◌<◌, ◌≤◌, [], ◌∷◌, IfSome, MatchOption, drop, length, take};
-ghost use Rattle.pr_expo_line.specs.pr_words.Lines.{text_lines};
+ghost use Rattle.pr_labels.specs.pr_words.Lines.{text_lines};
 
-use pr_expo_line::words_crate::{line_len, without_return};
+use pr_labels::words_crate::{line_len, without_return};
 
 fn front_of(bytes: &[u8], count: usize) -> &[u8]
     requires { count ≤ length bytes.now }

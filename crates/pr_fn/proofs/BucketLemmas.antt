@@ -17,18 +17,18 @@ use Rattle.pr_num.specs.Arithmetic.{too_wide}
 use Rattle.pr_num.specs.Order.{order_of}
 use Rattle.pr_num.specs.Total.{Tally, joined, one_value, total_of, value_of}
 use Rattle.pr_num.proofs.Algebra.{order_is_total, order_tells_apart, joined_lists, nothing_joined_left, nothing_joined_right}
-use Rattle.pr_labels.specs.declared.pair.Pair.{Pair}
-use Rattle.pr_labels.specs.declared.item.Item.{Item}
-use Rattle.pr_labels.specs.Order.{labels_cmp}
-use Rattle.pr_labels.proofs.LabelOrder.{labels_total}
-use Rattle.pr_labels.proofs.LabelMaps.{tie, same_labels}
-use Rattle.pr_labels.proofs.Sorted.{equal_of}
-use Rattle.pr_ordered.specs.pr_vectors.declared.bucket.Bucket.{Bucket}
-use Rattle.pr_ordered.specs.pr_vectors.declared.function_fault.FunctionFault.{FunctionFault}
-use Rattle.pr_ordered.specs.pr_vectors.Vectors.{IsVector}
-use Rattle.pr_ordered.specs.pr_vectors.Histogram.{bound_of, bound_placed, bucket, bucket_of, buckets_in, count_at, counted_at, elements_by, histogram_labels, histogram_quantiles, histogram_value, is_bucket, merged, next_bucket, quantile_in, quantile_of_merged, next_element, with_bound}
-use Rattle.pr_fn.specs.Buckets.{before_buckets, before_elements, bound_in, buckets_of, buckets_with, count_in, counted_entries, tally_of, tally_with, valued_entries}
-use Rattle.pr_fn.specs.Gathered.{AreGathered, of_key, with_key}
+use Rattle.pr_match.specs.pr_labels.declared.pair.Pair.{Pair}
+use Rattle.pr_match.specs.pr_labels.declared.item.Item.{Item}
+use Rattle.pr_match.specs.pr_labels.Order.{labels_cmp}
+use Rattle.pr_match.proofs.LabelsLabelOrder.{labels_total}
+use Rattle.pr_match.proofs.LabelsLabelMaps.{tie, same_labels}
+use Rattle.pr_match.proofs.LabelsSorted.{equal_of}
+use Rattle.spec_vectors.specs.declared.bucket.Bucket.{Bucket}
+use Rattle.spec_vectors.specs.declared.function_fault.FunctionFault.{FunctionFault}
+use Rattle.spec_vectors.specs.private.Laws.{IsVector}
+use Rattle.spec_vectors.specs.Histogram.{bound_of, bound_placed, bucket, bucket_of, buckets_in, count_at, counted_at, elements_by, histogram_labels, histogram_quantiles, histogram_value, is_bucket, merged, next_bucket, quantile_in, quantile_of_merged, next_element, with_bound}
+use Rattle.pr_fn.specs.private.Buckets.{before_buckets, before_elements, bound_in, buckets_of, buckets_with, count_in, counted_entries, tally_of, tally_with, valued_entries}
+use Rattle.pr_fn.specs.private.Gathered.{AreGathered, of_key, with_key}
 use Rattle.pr_fn.proofs.Gathering.{gathered_more}
 use Rattle.pr_fn.proofs.LabelKeys.{labels_key}
 

@@ -7,8 +7,8 @@ use Rattle.jiff_core.specs.Date.{epoch_day, ordinal}
 use Rattle.jiff_core.specs.declared.civil.date.Date as plain
 use Rattle.jiff_core.proofs.SignedLemmas.{signed_arith}
 use Rattle.jiff.proofs.Family.{days_from_civil-day, days_from_civil-next_month, days_from_civil-next_year, days_from_civil-max, epoch_day_injective}
-use Rattle.pr_ordered.specs.pr_vectors.Calendar.{Date, date, date_after, days_before, next_date}
-use Rattle.pr_fn.specs.Dates.{IsDateAfter}
+use Rattle.spec_vectors.specs.Calendar.{Date, date, date_after, days_before, next_date}
+use Rattle.pr_fn.specs.private.Dates.{IsDateAfter}
 
 record IsAt (n : ℕ) (c : Date) : Type 0 where
   pub month_in : (1 ≤ c.month) × (c.month ≤ 12)

@@ -8,7 +8,7 @@ use Rattle.std.specs.Ordering.{is_eq, match_ordering}
 use Rattle.std.specs.declared.cmp.Ordering.{Ordering}
 use Rattle.std.specs.declared.cmp.Ordering.TheVariants.{Less, Equal, Greater}
 use Rattle.std.specs.BTreeMap.{BTreeMap, IsOrdered, get, is_at, keys, Updates, insert_entry}
-use Rattle.pr_fn.specs.Gathered.{AreGathered, of_key, with_key}
+use Rattle.pr_fn.specs.private.Gathered.{AreGathered, of_key, with_key}
 
 module _ {K V : Type 0} (cmp : K → K → Ordering) where
   key_placed : (o : Ordering) (k : K) (v : V) (e : K × V) (es rest : List (K × V)) → keys_of rest ≡ with_key cmp (keys_of es) k

@@ -9,11 +9,11 @@ use Rattle.std.specs.declared.cmp.Ordering.{Ordering}
 use Rattle.std.specs.declared.cmp.Ordering.TheVariants.{Less, Equal, Greater}
 use Rattle.std.specs.Map.{keys_of, lookup}
 use Rattle.std.specs.BTreeMap.{is_at}
-use Rattle.pr_labels.specs.declared.pair.Pair.{Pair}
-use Rattle.pr_labels.specs.Order.{labels_cmp}
-use Rattle.pr_labels.proofs.LabelOrder.{labels_total}
-use Rattle.pr_labels.proofs.LabelMaps.{below_some}
-use Rattle.pr_fn.specs.Gathered.{with_key}
+use Rattle.pr_match.specs.pr_labels.declared.pair.Pair.{Pair}
+use Rattle.pr_match.specs.pr_labels.Order.{labels_cmp}
+use Rattle.pr_match.proofs.LabelsLabelOrder.{labels_total}
+use Rattle.pr_match.proofs.LabelsLabelMaps.{below_some}
+use Rattle.pr_fn.specs.private.Gathered.{with_key}
 
 with_same : (sets : List (List Pair)) (k : List Pair) → IsStrictlySortedBy labels_cmp sets → list_any (is_at (labels_cmp k)) sets ≡ true → with_key labels_cmp sets k ≡ sets
 with_same [] k s h = cc

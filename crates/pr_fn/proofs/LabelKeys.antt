@@ -3,10 +3,10 @@ use Rattle.std.proofs.Common.{◌≡◌, List, [], ◌∷◌, refl, ap}
 use Rattle.std.specs.Ordering.{match_ordering}
 use Rattle.std.specs.declared.cmp.Ordering.{Ordering}
 use Rattle.std.specs.declared.cmp.Ordering.TheVariants.{Less, Equal, Greater}
-use Rattle.pr_labels.specs.declared.pair.Pair.{Pair}
-use Rattle.pr_labels.specs.Order.{labels_cmp}
-use Rattle.pr_labels.specs.Rising.{placed, with_labels}
-use Rattle.pr_fn.specs.Gathered.{with_key}
+use Rattle.pr_match.specs.pr_labels.declared.pair.Pair.{Pair}
+use Rattle.pr_match.specs.pr_labels.Order.{labels_cmp}
+use Rattle.pr_match.specs.pr_labels.Rising.{placed, with_labels}
+use Rattle.pr_fn.specs.private.Gathered.{with_key}
 
 labels_put : (o : Ordering) (labels first : List Pair) (rest more other : List (List Pair)) → more ≡ other → placed o labels first rest more ≡ match_ordering o (labels ∷ first ∷ rest) (first ∷ rest) (first ∷ other)
 labels_put Less labels first rest more other h = refl

@@ -7,4 +7,3 @@ pub mod Gathering
 pub mod Known
 pub mod BucketLemmas
 pub mod Twice
-pub use Rattle.pr_ordered.proofs.Elements as OrderedElements

@@ -5,10 +5,10 @@ use Rattle.std.proofs.lemmas.List.Elements.{filter_map-append}
 use Rattle.std.specs.List.{cons_option, filter_map, list_any}
 use Rattle.std.specs.Option.{option_to_list}
 use Rattle.pr_num.specs.declared.value.Num.{Num}
-use Rattle.pr_labels.specs.declared.item.Item.{Item}
-use Rattle.pr_ordered.specs.pr_vectors.declared.function_fault.FunctionFault.{FunctionFault}
-use Rattle.pr_ordered.specs.pr_vectors.declared.function_fault.FunctionFault.TheVariants as fault
-use Rattle.pr_ordered.specs.pr_vectors.Functions.{ValueFunction, is_too_wide, mapped, told_apart, with_value}
+use Rattle.pr_match.specs.pr_labels.declared.item.Item.{Item}
+use Rattle.spec_vectors.specs.declared.function_fault.FunctionFault.{FunctionFault}
+use Rattle.spec_vectors.specs.declared.function_fault.FunctionFault.TheVariants as fault
+use Rattle.spec_vectors.specs.Functions.{ValueFunction, is_too_wide, mapped, told_apart, with_value}
 
 one_option : {X : Type 0} (o : Option X) → cons_option o [] ≡ option_to_list o
 one_option None = refl

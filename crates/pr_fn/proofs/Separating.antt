@@ -1,10 +1,10 @@
 -- Texts behind a text are separated.
 use Rattle.std.proofs.Common.{◌≡◌, ℕ, suc, ◌≤◌, ◌-◌, List, [], ◌∷◌, ◌++◌, length, take, drop, get_or, refl, sym, ap, ◌∙◌, append_assoc, arith}
 use Rattle.std.proofs.Math.Seq.{take-length}
-use Rattle.pr_labels.specs.declared.pair.Pair.{Pair}
-use Rattle.pr_labels.specs.LabelSet.{text_at}
-use Rattle.pr_ordered.specs.pr_vectors.LabelFunctions.{joined_text}
-use Rattle.pr_fn.specs.Separated.{with_rest}
+use Rattle.pr_match.specs.pr_labels.declared.pair.Pair.{Pair}
+use Rattle.pr_match.specs.pr_labels.LabelSet.{text_at}
+use Rattle.spec_vectors.specs.LabelFunctions.{joined_text}
+use Rattle.pr_fn.specs.private.Separated.{with_rest}
 
 front_stays : (separator : List ℕ) (labels : List Pair) (a b : List ℕ) (names : List (List ℕ)) → with_rest separator labels (a ++ b) names ≡ a ++ with_rest separator labels b names
 front_stays separator labels a b [] = refl

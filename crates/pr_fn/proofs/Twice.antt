@@ -8,15 +8,15 @@ use Rattle.std.specs.Ordering.{is_eq, ordering_reverse}
 use Rattle.std.specs.declared.cmp.Ordering.{Ordering}
 use Rattle.std.specs.declared.cmp.Ordering.TheVariants.{Less, Equal, Greater}
 use Rattle.std.specs.BTreeMap.{is_at}
-use Rattle.pr_labels.specs.declared.pair.Pair.{Pair}
-use Rattle.pr_labels.specs.Order.{labels_cmp, labels_eq}
-use Rattle.pr_labels.specs.Rising.{IsBelowFirstSet, IsRising, is_among, placed, with_labels}
-use Rattle.pr_labels.proofs.LabelOrder.{among_fold, below_next, labels_decide, labels_total, rising_fold, tied}
-use Rattle.pr_labels.proofs.LabelMaps.{below_some, tie}
-use Rattle.pr_ordered.specs.pr_vectors.Vectors.{in_label_order}
-use Rattle.pr_ordered.specs.pr_vectors.Functions.{comes_twice, least_twice}
-use Rattle.pr_ordered.proofs.Elements.{equal_turned}
-use Rattle.pr_fn.specs.Rows.{is_below, least_with}
+use Rattle.pr_match.specs.pr_labels.declared.pair.Pair.{Pair}
+use Rattle.pr_match.specs.pr_labels.Order.{labels_cmp, labels_eq}
+use Rattle.pr_match.specs.pr_labels.Rising.{IsBelowFirstSet, IsRising, is_among, placed, with_labels}
+use Rattle.pr_match.proofs.LabelsLabelOrder.{among_fold, below_next, labels_decide, labels_total, rising_fold, tied}
+use Rattle.pr_match.proofs.LabelsLabelMaps.{below_some, tie}
+use Rattle.spec_vectors.specs.Vectors.{in_label_order}
+use Rattle.spec_vectors.specs.Functions.{comes_twice, least_twice}
+use Rattle.pr_match.proofs.LabelsElements.{equal_turned}
+use Rattle.pr_fn.specs.private.Rows.{is_below, least_with}
 
 -- how often a label set comes
 abbrev times : List Pair → List (List Pair) → ℕ

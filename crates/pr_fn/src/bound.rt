@@ -20,7 +20,7 @@ impl Model for Bound {
 }
 
 impl PartialEq for Bound {
-    ghost use Rattle.pr_fn.specs.Bounds.{same_bound, bounds_alike};
+    ghost use Rattle.pr_fn.specs.private.Bounds.{same_bound, bounds_alike};
 
     ghost eq = { same_bound };
 
@@ -32,7 +32,7 @@ impl PartialEq for Bound {
 }
 
 impl Eq for Bound {
-    ghost use Rattle.pr_fn.specs.Bounds.{bounds_equal};
+    ghost use Rattle.pr_fn.specs.private.Bounds.{bounds_equal};
 
     ghost laws = { bounds_equal };
 }
@@ -41,7 +41,7 @@ impl Ord for Bound {
     ghost use Rattle.std.proofs.Common.{rules, refl};
     ghost use Rattle.std.specs.Cmp.Rules.{comparing};
     ghost use Rattle.pr_num.specs.Order.{order_of};
-    ghost use Rattle.pr_fn.specs.Bounds.{bounds_total};
+    ghost use Rattle.pr_fn.specs.private.Bounds.{bounds_total};
 
     ghost cmp = { order_of };
 
@@ -59,7 +59,7 @@ impl Ord for Bound {
 impl PartialOrd for Bound {
     ghost use Rattle.std.specs.Ordering.{as_partial_cmp};
     ghost use Rattle.pr_num.specs.Order.{order_of};
-    ghost use Rattle.pr_fn.specs.Bounds.{bounds_ordered};
+    ghost use Rattle.pr_fn.specs.private.Bounds.{bounds_ordered};
 
     ghost partial_cmp = { as_partial_cmp order_of };
 

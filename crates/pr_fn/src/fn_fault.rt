@@ -1,4 +1,4 @@
-use pr_labels::Labels;
+use pr_match::labels::Labels;
 use std::alloc::AllocError;
 
 /// Why a function of a vector has no result. (Prometheus: Querying, Functions; that the least

@@ -3,22 +3,23 @@ ghost use Rattle.std.specs.Prelude.{◌≡◌, ◌≢◌, ◌+◌, ◌^◌, ◌<
 ghost use Rattle.std.specs.BTreeMap.{IsOrdered, Updates, get, keys};
 ghost use Rattle.pr_num.specs.Arithmetic.{too_wide};
 ghost use Rattle.pr_num.specs.Order.{order_of};
-ghost use Rattle.pr_labels.specs.LabelSet.{metric_label};
-ghost use Rattle.pr_labels.specs.Order.{labels_cmp};
-ghost use Rattle.pr_ordered.specs.pr_vectors.Vectors.{IsVector, element};
-ghost use Rattle.pr_ordered.specs.pr_vectors.Histogram.{bound_of, bucket, histogram_labels, histogram_quantiles, histogram_value, is_bucket, merged, number_read};
-ghost use Rattle.pr_fn.specs.Buckets.{bound_in, buckets_of, buckets_with, counted_entries, tally_of, tally_with, valued_entries};
-ghost use Rattle.pr_fn.specs.Faults.{function_told};
-ghost use Rattle.pr_fn.specs.Gathered.{AreGathered, with_key};
+ghost use Rattle.pr_match.specs.pr_labels.LabelSet.{metric_label};
+ghost use Rattle.pr_match.specs.pr_labels.Order.{labels_cmp};
+ghost use Rattle.spec_vectors.specs.private.Laws.{IsVector};
+ghost use Rattle.spec_vectors.specs.Vectors.{element};
+ghost use Rattle.spec_vectors.specs.Histogram.{bound_of, bucket, histogram_labels, histogram_quantiles, histogram_value, is_bucket, merged, number_read};
+ghost use Rattle.pr_fn.specs.private.Buckets.{bound_in, buckets_of, buckets_with, counted_entries, tally_of, tally_with, valued_entries};
+ghost use Rattle.pr_fn.specs.private.Faults.{function_told};
+ghost use Rattle.pr_fn.specs.private.Gathered.{AreGathered, with_key};
 
 use crate::bound::Bound;
 use crate::fn_fault::FnFault;
 use crate::label_functions::text_at;
 use crate::quantiles::{quantile_in, raised};
-use pr_labels::words_crate::{Items, Text};
-use pr_labels::{Item, Labels, METRIC_LABEL};
+use pr_match::labels::{Item, Labels, METRIC_LABEL};
+use pr_match::words_crate::{Items, Text};
 use pr_num::{Num, NumFault, Total, read};
-use pr_ordered::vectors_crate::Bucket;
+use spec_vectors::Bucket;
 use std::alloc::{AllocError, Global};
 use std::collections::BTreeMap;
 

@@ -1,12 +1,12 @@
 // The calendar: fields of the date and the time of day of an instant.
 ghost use Rattle.std.specs.Prelude.{◌≡◌, ◌<◌, ◌+◌, ◌-◌, ◌+ℤ◌, ℤ, pos, negsuc};
 ghost use Rattle.jiff.specs.Words.{IsBetween, epoch_day};
-ghost use Rattle.pr_ordered.specs.pr_vectors.Calendar.{calendar_of, date_after, days_before, date_field, field_at};
-ghost use Rattle.pr_fn.specs.Dates.{IsDateAfter};
+ghost use Rattle.spec_vectors.specs.Calendar.{calendar_of, date_after, days_before, date_field, field_at};
+ghost use Rattle.pr_fn.specs.private.Dates.{IsDateAfter};
 
 use jiff::civil::Date;
 use pr_num::Num;
-use pr_ordered::vectors_crate::Part;
+use spec_vectors::Part;
 
 const SECONDS_IN_DAY: u64 = 86_400;
 

@@ -1,18 +1,18 @@
 // Functions that set a label of each element.
 ghost use Rattle.std.specs.Prelude.{◌≡◌, true, Ok, Err, IfOk, IfSome, MatchResult, OnOk, string_bytes};
-ghost use Rattle.pr_labels.specs.Edits.{set_label};
-ghost use Rattle.pr_labels.specs.LabelSet.{text_at};
-ghost use Rattle.pr_labels.specs.Names.{is_label_name};
+ghost use Rattle.pr_match.specs.pr_labels.Edits.{set_label};
+ghost use Rattle.pr_match.specs.pr_labels.LabelSet.{text_at};
+ghost use Rattle.pr_match.specs.pr_labels.Names.{is_label_name};
 ghost use Rattle.pr_match.specs.Pattern.{expanded};
-ghost use Rattle.pr_ordered.specs.pr_vectors.Vectors.{IsVector};
-ghost use Rattle.pr_ordered.specs.pr_vectors.LabelFunctions.{joined_text, label_joined, label_replaced, set_if_any};
-ghost use Rattle.pr_fn.specs.Faults.{function_told};
-ghost use Rattle.pr_fn.specs.Separated.{with_rest};
+ghost use Rattle.spec_vectors.specs.private.Laws.{IsVector};
+ghost use Rattle.spec_vectors.specs.LabelFunctions.{joined_text, label_joined, label_replaced, set_if_any};
+ghost use Rattle.pr_fn.specs.private.Faults.{function_told};
+ghost use Rattle.pr_fn.specs.private.Separated.{with_rest};
 
 use crate::fn_fault::FnFault;
 use crate::rows::{no_rows, put, told_apart};
-use pr_labels::words_crate::Text;
-use pr_labels::{Item, Labels};
+use pr_match::labels::{Item, Labels};
+use pr_match::words_crate::Text;
 use pr_match::{Expander, Pattern};
 use pr_num::Num;
 use std::alloc::{AllocError, Global};

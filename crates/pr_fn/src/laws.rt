@@ -1,7 +1,7 @@
 //! Laws of the definitions that contracts of this crate cite. A law is a function that does
 //! nothing, and its contract is the theorem.
 ghost use Rattle.std.specs.Prelude.{◌≡◌};
-ghost use Rattle.pr_ordered.specs.pr_vectors.Calendar.{date, date_after};
+ghost use Rattle.spec_vectors.specs.Calendar.{date, date_after};
 
 /// Well-known dates by the days from 1 January of the year 1 to them: the walk of the calendar
 /// comes to them.

@@ -1,5 +1,5 @@
 //! Functions of instant vectors: of each value, of labels, of a whole vector, and the calendar. A
-//! call equals its definition in `pr_vectors`, faults included.
+//! call equals its definition in `spec_vectors`, faults included.
 #![tactic(auto)]
 
 mod bound;
@@ -17,15 +17,11 @@ pub mod matching {
     pub use pr_match::{Matcher, Pattern, Selection};
 }
 
-pub mod ordered {
-    pub use pr_ordered::Ordered;
-}
-
 pub use fn_fault::FnFault;
 pub use histograms::histogram_quantile;
 pub use instants::calendar;
 pub use label_functions::{label_join, label_replace};
 pub use laws::dates_by_example;
-pub use pr_ordered::vectors_crate::Part;
 pub use rows::keep_least;
+pub use spec_vectors::Part;
 pub use values::{at_least, at_most, clamp, map_values, scalar, sign, within, without_metrics};

@@ -5,10 +5,10 @@ ghost use Rattle.std.specs.List.{list_any};
 ghost use Rattle.pr_num.specs.Arithmetic.{product_of};
 ghost use Rattle.std.specs.Ordering.{is_lt};
 ghost use Rattle.pr_num.specs.Order.{order_of};
-ghost use Rattle.pr_ordered.specs.pr_vectors.Histogram.{at_place, at_rank, bucket_at, greatest, has_no_quantile, in_bucket, in_first, inside, is_same, is_special, last_bucket, part_way, bucket_place, quantile_in, raised, reaches, then_value};
+ghost use Rattle.spec_vectors.specs.Histogram.{at_place, at_rank, bucket_at, greatest, has_no_quantile, in_bucket, in_first, inside, is_same, is_special, last_bucket, part_way, bucket_place, quantile_in, raised, reaches, then_value};
 
 use pr_num::{Num, TooWide};
-use pr_ordered::vectors_crate::Bucket;
+use spec_vectors::Bucket;
 use std::alloc::{AllocError, Global};
 use std::cmp::Ordering;
 

@@ -4,17 +4,17 @@ ghost use Rattle.std.specs.List.{filter_map, list_any};
 ghost use Rattle.std.specs.Option.{option_to_list};
 ghost use Rattle.pr_num.specs.declared.value.Num.{Num};
 ghost use Rattle.pr_num.specs.Order.{compared};
-ghost use Rattle.pr_labels.specs.declared.item.Item.{Item};
-ghost use Rattle.pr_labels.specs.SeriesText.{unnamed};
-ghost use Rattle.pr_ordered.specs.pr_vectors.Vectors.{IsVector};
-ghost use Rattle.pr_ordered.specs.pr_vectors.Functions.{ValueFunction, are_crossed, clamped, is_too_wide, mapped, scalar_of, sign_of, at_least, at_most, told_apart, within, with_value};
-ghost use Rattle.pr_fn.specs.Faults.{function_told};
-ghost use Rattle.pr_fn.specs.Rows.{AreRows, without_metric};
-ghost use Rattle.pr_fn.specs.ValueFunctions.{WorksBy};
+ghost use Rattle.pr_match.specs.pr_labels.declared.item.Item.{Item};
+ghost use Rattle.pr_match.specs.pr_labels.SeriesText.{unnamed};
+ghost use Rattle.spec_vectors.specs.private.Laws.{IsVector};
+ghost use Rattle.spec_vectors.specs.Functions.{ValueFunction, are_crossed, clamped, is_too_wide, mapped, scalar_of, sign_of, at_least, at_most, told_apart, within, with_value};
+ghost use Rattle.pr_fn.specs.private.Faults.{function_told};
+ghost use Rattle.pr_fn.specs.private.Rows.{AreRows, without_metric};
+ghost use Rattle.pr_fn.specs.private.ValueFunctions.{WorksBy};
 
 use crate::fn_fault::FnFault;
-use crate::rows::{Rows, no_rows, put, told_apart};
-use pr_labels::{Item, Labels, METRIC_LABEL};
+use crate::rows::{DistinctElements, no_rows, put, told_apart};
+use pr_match::labels::{Item, Labels, METRIC_LABEL};
 use pr_num::{Num, TooWide};
 use std::alloc::{AllocError, Global};
 use std::cmp::Ordering;
@@ -31,7 +31,7 @@ fn unnamed(alloc: Global, labels: &Labels) -> Result<Labels, AllocError>
 // Puts what the function gives of an element among the rows.
 fn map_one<O: Fn(Num) -> Result<Num, TooWide>>(
     alloc: Global,
-    rows: &mut Rows,
+    rows: &mut DistinctElements,
     item: &Item<Num>,
     op: &O,
 ) -> Result<(), FnFault>
@@ -55,7 +55,7 @@ fn map_all<O: Fn(Num) -> Result<Num, TooWide>>(
     alloc: Global,
     vector: &[Item<Num>],
     op: &O,
-) -> Result<Rows, FnFault>
+) -> Result<DistinctElements, FnFault>
     requires { O.IsAlwaysCallable op.now }
     ensures { (f : ValueFunction) → WorksBy O.Fn op.now f → MatchResult result
         (λ rows. (list_any (is_too_wide f) vector.now ≡ false) × AreRows (filter_map (with_value f) vector.now) rows)

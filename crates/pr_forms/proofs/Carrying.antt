@@ -3,7 +3,7 @@ use Rattle.std.proofs.Common.{◌≡◌, List, Option, true, false, refl, sym, s
 use Rattle.std.specs.Result.{MatchResult, IsErrAnd}
 use Rattle.pr_forms.specs.Form.{Form, token, pair, either, turns, fold, rule}
 use Rattle.pr_forms.specs.Table.{Table, is_next}
-use Rattle.pr_forms.specs.Run.{Runs, Outcome, good, bad, run_pair, run_second, run_left, run_right, run_turn, run_in_turn, run_stop, run_fold, run_rule, Takes, Lacks}
+use Rattle.pr_forms.specs.Run.{Runs, ReaderOutcome, good, bad, run_pair, run_second, run_left, run_right, run_turn, run_in_turn, run_stop, run_fold, run_rule, Takes, Lacks}
 use Rattle.pr_forms.specs.Reader.{FailsBy}
 use Rattle.pr_forms.specs.Carries.{Carries}
 use Rattle.pr_forms.specs.declared.reader.Fault.{Fault}
@@ -12,10 +12,10 @@ use Rattle.pr_forms.proofs.Steps.{next_pair}
 
 module _ {T N V : Type 0} {G : N → Form T N V} {S : Table T N} where
   -- where the value stays, an outcome is the same one
-  pub leading : {f g : Form T N V} {ts rest : List T} → ((o : Outcome T V) → Runs G S g rest o → Runs G S f ts o) → Carries G S f ts (λ v. v) g rest (λ v. v)
+  pub leading : {f g : Form T N V} {ts rest : List T} → ((o : ReaderOutcome T V) → Runs G S g rest o → Runs G S f ts o) → Carries G S f ts (λ v. v) g rest (λ v. v)
   leading h = record { reads = λ v end k. h (good v end) k; fails = λ end k. h (bad end) k }
 
-  pub led : {f g : Form T N V} {ts rest : List T} {o : Outcome T V} → Carries G S f ts (λ v. v) g rest (λ v. v) → Runs G S g rest o → Runs G S f ts o
+  pub led : {f g : Form T N V} {ts rest : List T} {o : ReaderOutcome T V} → Carries G S f ts (λ v. v) g rest (λ v. v) → Runs G S g rest o → Runs G S f ts o
   led {o = good v end} h k = h.reads v end k
   led {o = bad end} h k = h.fails end k
 

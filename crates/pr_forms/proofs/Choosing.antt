@@ -4,9 +4,9 @@ use Rattle.std.specs.Borrow.{Bor}
 use Rattle.std.specs.Prelude.{MatchOption, option_map, is_some}
 use Rattle.pr_forms.specs.Form.{Form, token, pair, chosen}
 use Rattle.pr_forms.specs.Table.{Table, is_next}
-use Rattle.pr_forms.specs.Run.{Runs, Outcome, good, bad, run_token, run_pair, run_second, run_chosen, run_chosen_bad, run_unchosen, run_chosen_end}
+use Rattle.pr_forms.specs.Run.{Runs, ReaderOutcome, good, bad, run_token, run_pair, run_second, run_chosen, run_chosen_bad, run_unchosen, run_chosen_end}
 use Rattle.pr_forms.specs.Carries.{Carries, Chooses, ChoosesNone, no_token, no_rule}
-use Rattle.pr_forms.specs.Take.{IsMissed, at_end, by_test, IsTaken}
+use Rattle.pr_forms.specs.private.Take.{IsMissed, at_end, by_test, IsTaken}
 use Rattle.pr_forms.proofs.Decided.{shrinks}
 
 module _ {T N V : Type 0} {G : N → Form T N V} {S : Table T N} where
@@ -15,7 +15,7 @@ module _ {T N V : Type 0} {G : N → Form T N V} {S : Table T N} where
       (h : Chooses q n ts rest) → G n ≡ pair c (token p) f → p h.first ≡ Some v → Carries G S (chosen q m) ts (c v) f rest (λ w. w)
   carry_chosen {q} {m} {n} {c} {p} {f} {ts} {rest} {v} h e k = subst (λ us. Carries G S (chosen q m) us (c v) f rest (λ w. w)) (sym h.is) at_token
     where
-      form : (o : Outcome T V) → Runs G S (pair c (token p) f) (h.first ∷ rest) o → Runs G S (G n) (h.first ∷ rest) o
+      form : (o : ReaderOutcome T V) → Runs G S (pair c (token p) f) (h.first ∷ rest) o → Runs G S (G n) (h.first ∷ rest) o
       form o j = subst (λ g. Runs G S g (h.first ∷ rest) o) (sym e) j
 
       at_token : Carries G S (chosen q m) (h.first ∷ rest) (c v) f rest (λ w. w)

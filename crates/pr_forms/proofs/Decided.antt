@@ -5,7 +5,7 @@ use Rattle.std.specs.Prelude.{◌&&◌}
 use Rattle.pr_forms.specs.Form.{Form, token, nothing, pair, either, turns, fold, rule, chosen, Reads, is_chosen, is_token, is_nothing, is_pair, is_left, is_right, is_stop, is_turn, is_fold, is_rule}
 use Rattle.pr_forms.specs.Form.{Begins, in_chosen, at_start, at_whole, in_first, in_second, in_left, in_right, in_turn, after_turn, in_base, after_base, in_rule}
 use Rattle.pr_forms.specs.Table.{Table, empty_of, starts_of, more_of, is_next, is_more, negation, parts_at, is_solid, is_plain, Binds, Decides, IsDecided}
-use Rattle.pr_forms.specs.Run.{left_of, Runs, Outcome, good, bad, run_chosen, run_chosen_bad, run_unchosen, run_chosen_end, run_token, run_other, run_end, run_nothing, run_pair, run_first, run_second, run_left, run_right, run_stop, run_turn, run_in_turn, run_fold, run_base, run_rule}
+use Rattle.pr_forms.specs.Run.{left_of, Runs, ReaderOutcome, good, bad, run_chosen, run_chosen_bad, run_unchosen, run_chosen_end, run_token, run_other, run_end, run_nothing, run_pair, run_first, run_second, run_left, run_right, run_stop, run_turn, run_in_turn, run_fold, run_base, run_rule}
 use Rattle.pr_forms.proofs.Heads.{or_left, or_right, and_both, and_first, and_second, Empty, Next, More, Starts, empty, next, Moves, none, some, next_of_turns, starts, moves}
 
 pub plain_binds : {T N V : Type 0} (S : Table T N) (f : Form T N V) → is_plain f ≡ true → Binds S f
@@ -38,9 +38,9 @@ pub record Within {T : Type 0} (rest more : List T) : Type 0 where
   pub is : length rest ≤ length more
 
 -- a reading is the run's, or could have gone on
-pub data Agrees {T N V : Type 0} (S : Table T N) (f : Form T N V) : Outcome T V → V → List T → Type 0 where
+pub data Agrees {T N V : Type 0} (S : Table T N) (f : Form T N V) : ReaderOutcome T V → V → List T → Type 0 where
   same : {v : V} {rest : List T} → Agrees S f (good v rest) v rest
-  goes_on : {o : Outcome T V} {v : V} {rest : List T} → More S f rest → Agrees S f o v rest
+  goes_on : {o : ReaderOutcome T V} {v : V} {rest : List T} → More S f rest → Agrees S f o v rest
 
 module _ {T : Type 0} where
   within_all : {ts : List T} → Within ts ts
@@ -187,36 +187,36 @@ module _ {T N V : Type 0} (S : Table T N) where
   lift_pair_bad : {c : V → V → V} {f g : Form T N V} {u x : V} {mid rest : List T} → Agrees S g (bad mid) u rest → Agrees S (pair c f g) (bad mid) x rest
   lift_pair_bad (goes_on m) = goes_on (more_second m)
 
-  lift_left : {f g : Form T N V} {o : Outcome T V} {v : V} {rest : List T} → Agrees S f o v rest → Agrees S (either f g) o v rest
+  lift_left : {f g : Form T N V} {o : ReaderOutcome T V} {v : V} {rest : List T} → Agrees S f o v rest → Agrees S (either f g) o v rest
   lift_left same = same
   lift_left (goes_on m) = goes_on (more_left m)
 
-  lift_right : {f g : Form T N V} {o : Outcome T V} {v : V} {rest : List T} → Agrees S g o v rest → Agrees S (either f g) o v rest
+  lift_right : {f g : Form T N V} {o : ReaderOutcome T V} {v : V} {rest : List T} → Agrees S g o v rest → Agrees S (either f g) o v rest
   lift_right same = same
   lift_right (goes_on m) = goes_on (more_right m)
 
-  lift_turn : {c : V → V → V} {g : Form T N V} {o : Outcome T V} {v w x : V} {rest : List T} → Agrees S (turns c w g) o x rest → Agrees S (turns c v g) o x rest
+  lift_turn : {c : V → V → V} {g : Form T N V} {o : ReaderOutcome T V} {v w x : V} {rest : List T} → Agrees S (turns c w g) o x rest → Agrees S (turns c v g) o x rest
   lift_turn same = same
   lift_turn (goes_on m) = goes_on (more_again m)
 
-  lift_fold : {c : V → V → V} {f g : Form T N V} {o : Outcome T V} {v x : V} {rest : List T} → Agrees S (turns c v g) o x rest → Agrees S (fold c f g) o x rest
+  lift_fold : {c : V → V → V} {f g : Form T N V} {o : ReaderOutcome T V} {v x : V} {rest : List T} → Agrees S (turns c v g) o x rest → Agrees S (fold c f g) o x rest
   lift_fold same = same
   lift_fold (goes_on m) = goes_on (more_past m)
 
   -- a reading that could have gone on is not followed by what the form begins with
-  pub past_pair : {c : V → V → V} {f g : Form T N V} {o : Outcome T V} {x : V} {mid rest : List T} → Apart S f g → More S f mid → Starts S g mid rest → Agrees S (pair c f g) o x rest
+  pub past_pair : {c : V → V → V} {f g : Form T N V} {o : ReaderOutcome T V} {x : V} {mid rest : List T} → Apart S f g → More S f mid → Starts S g mid rest → Agrees S (pair c f g) o x rest
   past_pair a m (empty e) = goes_on (more_first e m)
   past_pair a m (next n) = absurd (a.no _ m n)
 
-  pub past_turn : {c : V → V → V} {v w : V} {g : Form T N V} {o : Outcome T V} {x : V} {mid rest : List T} → Apart S g g → More S g mid → Starts S (turns c w g) mid rest → Agrees S (turns c v g) o x rest
+  pub past_turn : {c : V → V → V} {v w : V} {g : Form T N V} {o : ReaderOutcome T V} {x : V} {mid rest : List T} → Apart S g g → More S g mid → Starts S (turns c w g) mid rest → Agrees S (turns c v g) o x rest
   past_turn a m (empty e) = goes_on (more_in_turn m)
   past_turn a m (next n) = absurd (a.no _ m (next_of_turns S n))
 
-  pub past_fold : {c : V → V → V} {v : V} {f g : Form T N V} {o : Outcome T V} {x : V} {mid rest : List T} → Apart S f g → More S f mid → Starts S (turns c v g) mid rest → Agrees S (fold c f g) o x rest
+  pub past_fold : {c : V → V → V} {v : V} {f g : Form T N V} {o : ReaderOutcome T V} {x : V} {mid rest : List T} → Apart S f g → More S f mid → Starts S (turns c v g) mid rest → Agrees S (fold c f g) o x rest
   past_fold a m (empty e) = goes_on (more_base m)
   past_fold a m (next n) = absurd (a.no _ m (next_of_turns S n))
 
-  pub wrong_side : {f g : Form T N V} {o : Outcome T V} {x : V} {ts rest : List T} → Decides S (either f g) → Next S f ts → Starts S g ts rest → Agrees S (either f g) o x rest
+  pub wrong_side : {f g : Form T N V} {o : ReaderOutcome T V} {x : V} {ts rest : List T} → Decides S (either f g) → Next S f ts → Starts S g ts rest → Agrees S (either f g) o x rest
   wrong_side h n (empty e) = goes_on (more_sides e n)
   wrong_side h n (next k) = absurd (decides_sides _ h n k)
 
@@ -233,7 +233,7 @@ module _ {T N V : Type 0} (G : N → Form T N V) (S : Table T N) (known : IsDeci
   more_rule n [] e = e
   more_rule n (t ∷ ts) e = sym (known.more n t) ∙ e
 
-  lift_rule : (n : N) {o : Outcome T V} {v : V} {rest : List T} → Agrees S (G n) o v rest → Agrees {V = V} S (rule n) o v rest
+  lift_rule : (n : N) {o : ReaderOutcome T V} {v : V} {rest : List T} → Agrees S (G n) o v rest → Agrees {V = V} S (rule n) o v rest
   lift_rule n same = same
   lift_rule n {o} {v} {rest} (goes_on m) = goes_on (record { is = more_rule n rest m.is })
 
@@ -241,11 +241,11 @@ module _ {T N V : Type 0} (G : N → Form T N V) (S : Table T N) (known : IsDeci
   more_chosen q m t n [] h e k = k
   more_chosen q m t n (u ∷ us) h e k = h t n u e (sym (known.more n u) ∙ k)
 
-  lift_chosen : (q : T → Option N) (m : T → Bool) (t : T) (n : N) {o : Outcome T V} {v : V} {rest : List T} → Binds {V = V} S (chosen q m) → q t ≡ Some n → Agrees S (G n) o v rest → Agrees {V = V} S (chosen q m) o v rest
+  lift_chosen : (q : T → Option N) (m : T → Bool) (t : T) (n : N) {o : ReaderOutcome T V} {v : V} {rest : List T} → Binds {V = V} S (chosen q m) → q t ≡ Some n → Agrees S (G n) o v rest → Agrees {V = V} S (chosen q m) o v rest
   lift_chosen q m t n h e same = same
   lift_chosen q m t n {o} {v} {rest} h e (goes_on k) = goes_on (record { is = more_chosen q m t n rest h e k.is })
 
-  chosen_agrees : (q : T → Option N) (m : T → Bool) (t : T) (n n2 : N) {ts rest : List T} {o : Outcome T V} {v : V} → Binds {V = V} S (chosen q m) → q t ≡ Some n → q t ≡ Some n2 →
+  chosen_agrees : (q : T → Option N) (m : T → Bool) (t : T) (n n2 : N) {ts rest : List T} {o : ReaderOutcome T V} {v : V} → Binds {V = V} S (chosen q m) → q t ≡ Some n → q t ≡ Some n2 →
       ((x : V) (r : List T) → Reads G (G n) (t ∷ ts) x r → Agrees S (G n) o x r) → Reads G (G n2) (t ∷ ts) v rest → Agrees {V = V} S (chosen q m) o v rest
   chosen_agrees q m t n n2 {ts} {rest} {o} {v} h e e2 k d =
       let same_rule : n2 ≡ n = cc in
@@ -270,7 +270,7 @@ module _ {T N V : Type 0} (G : N → Form T N V) (S : Table T N) (known : IsDeci
       Agrees S f (bad end) v2 mid2 → Reads G g mid2 u rest → Agrees S (pair c f g) (bad end) (c v2 u) rest
   first_agrees a (goes_on m) d = past_pair S a m (heads d)
 
-  turn_agrees : {c : V → V → V} {v : V} {g : Form T N V} {mid mid2 rest : List T} {o : Outcome T V} {w w2 x : V} → Apart S g g →
+  turn_agrees : {c : V → V → V} {v : V} {g : Form T N V} {mid mid2 rest : List T} {o : ReaderOutcome T V} {w w2 x : V} → Apart S g g →
       Agrees S g (good w mid) w2 mid2 → Reads G (turns c (c v w2) g) mid2 x rest →
       ((x : V) (r : List T) → Reads G (turns c (c v w) g) mid x r → Agrees S (turns c (c v w) g) o x r) → Agrees S (turns c v g) o x rest
   turn_agrees a same d k = lift_turn S (k _ _ d)
@@ -280,7 +280,7 @@ module _ {T N V : Type 0} (G : N → Form T N V) (S : Table T N) (known : IsDeci
       Agrees S g (bad end) w2 mid2 → Reads G (turns c (c v w2) g) mid2 x rest → Agrees S (turns c v g) (bad end) x rest
   turn_agrees_bad a (goes_on m) d = past_turn S a m (heads d)
 
-  fold_agrees : {c : V → V → V} {f g : Form T N V} {mid mid2 rest : List T} {o : Outcome T V} {v v2 x : V} → Apart S f g →
+  fold_agrees : {c : V → V → V} {f g : Form T N V} {mid mid2 rest : List T} {o : ReaderOutcome T V} {v v2 x : V} → Apart S f g →
       Agrees S f (good v mid) v2 mid2 → Reads G (turns c v2 g) mid2 x rest →
       ((x : V) (r : List T) → Reads G (turns c v g) mid x r → Agrees S (turns c v g) o x r) → Agrees S (fold c f g) o x rest
   fold_agrees a same d k = lift_fold S (k _ _ d)
@@ -293,7 +293,7 @@ module _ {T N V : Type 0} (G : N → Form T N V) (S : Table T N) (known : IsDeci
   token_agrees : (p : T → Option V) (t : T) {rest : List T} {v w : V} → p t ≡ Some v → p t ≡ Some w → Agrees {N = N} S (token p) (good v rest) w rest
   token_agrees p t {rest} {v} {w} e h = let k : v ≡ w = cc in subst (λ x. Agrees {N = N} S (token p) (good v rest) x rest) k same
 
-  pub agrees : {f : Form T N V} {ts rest : List T} {o : Outcome T V} {x : V} → Decides S f → Runs G S f ts o → Reads G f ts x rest → Agrees S f o x rest
+  pub agrees : {f : Form T N V} {ts rest : List T} {o : ReaderOutcome T V} {x : V} → Decides S f → Runs G S f ts o → Reads G f ts x rest → Agrees S f o x rest
   agrees h (run_token {p} {t} e) (is_token k) = token_agrees p t e k
   agrees h (run_other e) (is_token k) = absurd (cc)
   agrees h run_end d = elim d [ ]
@@ -321,7 +321,7 @@ module _ {T N V : Type 0} (G : N → Form T N V) (S : Table T N) (known : IsDeci
 
 module _ {T N V : Type 0} {G : N → Form T N V} {S : Table T N} where
   -- nothing is put before what is left
-  pub shrinks : {f : Form T N V} {ts : List T} {o : Outcome T V} → Runs G S f ts o → Within (left_of o) ts
+  pub shrinks : {f : Form T N V} {ts : List T} {o : ReaderOutcome T V} → Runs G S f ts o → Within (left_of o) ts
   shrinks (run_token e) = within_step
   shrinks (run_other e) = within_all
   shrinks run_end = within_all
@@ -343,7 +343,7 @@ module _ {T N V : Type 0} {G : N → Form T N V} {S : Table T N} where
   shrinks (run_rule q) = shrinks q
 
 module _ {T N V : Type 0} (G : N → Form T N V) (S : Table T N) (known : IsDecided G S) where
-  agree : {f : Form T N V} {ts rest : List T} {o : Outcome T V} {x : V} → Decides S f → Runs G S f ts o → Reads G f ts x rest → Agrees S f o x rest
+  agree : {f : Form T N V} {ts rest : List T} {o : ReaderOutcome T V} {x : V} → Decides S f → Runs G S f ts o → Reads G f ts x rest → Agrees S f o x rest
   agree = agrees G S known
 
   moved : {f : Form T N V} {ts rest : List T} → Begins G f ts rest → Moves S f ts rest
@@ -403,7 +403,7 @@ module _ {T N V : Type 0} (G : N → Form T N V) (S : Table T N) (known : IsDeci
   chosen_within q t n n2 {ts} {rest} e e2 k b = let same_rule : n2 ≡ n = cc in k rest (subst (λ x. Begins G (G x) (t ∷ ts) rest) same_rule b)
 
   -- no beginning goes past the place where the run stopped
-  pub within : {f : Form T N V} {ts rest : List T} {o : Outcome T V} → Decides S f → Runs G S f ts o → Begins G f ts rest → Within (left_of o) rest
+  pub within : {f : Form T N V} {ts rest : List T} {o : ReaderOutcome T V} → Decides S f → Runs G S f ts o → Begins G f ts rest → Within (left_of o) rest
   within h q at_start = shrinks q
   within h (run_token e) (at_whole (is_token k)) = within_all
   within h (run_other e) (at_whole (is_token k)) = absurd (cc)

@@ -5,7 +5,7 @@ use Rattle.std.specs.Prelude.{◌&&◌, ◌||◌, ◌⊎◌}
 use Rattle.std.proofs.lemmas.Bool.{leb-true, le-leb}
 use Rattle.pr_forms.specs.Form.{Form, token, nothing, pair, either, turns, fold, rule, chosen, Reads, is_chosen, is_token, is_nothing, is_pair, is_left, is_right, is_stop, is_turn, is_fold, is_rule, IsFirstBad}
 use Rattle.pr_forms.specs.Table.{Table, empty_of, is_next, IsDecided, Decides}
-use Rattle.pr_forms.specs.Run.{Runs, Outcome, good, bad, left_of, run_chosen, run_chosen_bad, run_unchosen, run_chosen_end, run_token, run_other, run_end, run_nothing, run_pair, run_first, run_second, run_left, run_right, run_stop, run_turn, run_in_turn, run_fold, run_base, run_rule}
+use Rattle.pr_forms.specs.Run.{Runs, ReaderOutcome, good, bad, left_of, run_chosen, run_chosen_bad, run_unchosen, run_chosen_end, run_token, run_other, run_end, run_nothing, run_pair, run_first, run_second, run_left, run_right, run_stop, run_turn, run_in_turn, run_fold, run_base, run_rule}
 use Rattle.pr_forms.specs.Reading.{run_in, whole_value, tokens_left, reading, bad_place, after_part, EndsIn, Ends}
 use Rattle.pr_forms.proofs.Suffixes.{suffix_length, reads_suffix}
 use Rattle.pr_forms.proofs.Sound.{meets, reads}
@@ -37,7 +37,7 @@ same_room k {a} {b} h = mul-le-mul_left k h
 
 -- What a reader of the form gives at the tokens.
 pub record Answered {T N V : Type 0} (G : N → Form T N V) (S : Table T N) (f : Form T N V) (ts : List T) : Type 0 where
-  pub outcome : Outcome T V
+  pub outcome : ReaderOutcome T V
   pub runs : Runs G S f ts outcome
 
 module _ {T N V : Type 0} (G : N → Form T N V) (S : Table T N) (known : IsDecided G S) where
@@ -59,7 +59,7 @@ module _ {T N V : Type 0} (G : N → Form T N V) (S : Table T N) (known : IsDeci
 
   -- the form has a run from the tokens on, in so many steps
   pub record Given (n : ℕ) (f : Form T N V) (ts : List T) : Type 0 where
-    pub outcome : Outcome T V
+    pub outcome : ReaderOutcome T V
     pub is : run_in G S n f ts ≡ Some outcome
     pub runs : Runs G S f ts outcome
 
@@ -67,22 +67,22 @@ module _ {T N V : Type 0} (G : N → Form T N V) (S : Table T N) (known : IsDeci
   token_given n p t ts (Some v) e = record { outcome = good v ts; is = rw e refl; runs = run_token e }
   token_given n p t ts None e = record { outcome = bad (t ∷ ts); is = rw e refl; runs = run_other e }
 
-  second_given : (n : ℕ) (c : V → V → V) (f g : Form T N V) (ts mid : List T) (v : V) (o : Outcome T V) →
+  second_given : (n : ℕ) (c : V → V → V) (f g : Form T N V) (ts mid : List T) (v : V) (o : ReaderOutcome T V) →
       run_in G S n f ts ≡ Some (good v mid) → Runs G S f ts (good v mid) → run_in G S n g mid ≡ Some o → Runs G S g mid o → Given (suc n) (pair c f g) ts
   second_given n c f g ts mid v (good w rest) e r h k = record { outcome = good (c v w) rest; is = rw (e, h) refl; runs = run_pair r k }
   second_given n c f g ts mid v (bad rest) e r h k = record { outcome = bad rest; is = rw (e, h) refl; runs = run_second r k }
 
-  pair_given : (n : ℕ) (c : V → V → V) (f g : Form T N V) (ts : List T) (o : Outcome T V) → run_in G S n f ts ≡ Some o → Runs G S f ts o →
+  pair_given : (n : ℕ) (c : V → V → V) (f g : Form T N V) (ts : List T) (o : ReaderOutcome T V) → run_in G S n f ts ≡ Some o → Runs G S f ts o →
       ((v : V) (mid : List T) → Runs G S f ts (good v mid) → Given n g mid) → Given (suc n) (pair c f g) ts
   pair_given n c f g ts (good v mid) e r k = let x = k v mid r in second_given n c f g ts mid v x.outcome e r x.is x.runs
   pair_given n c f g ts (bad rest) e r k = record { outcome = bad rest; is = rw e refl; runs = run_first r }
 
-  fold_given : (n : ℕ) (c : V → V → V) (f g : Form T N V) (ts : List T) (o : Outcome T V) → run_in G S n f ts ≡ Some o → Runs G S f ts o →
+  fold_given : (n : ℕ) (c : V → V → V) (f g : Form T N V) (ts : List T) (o : ReaderOutcome T V) → run_in G S n f ts ≡ Some o → Runs G S f ts o →
       ((v : V) (mid : List T) → Runs G S f ts (good v mid) → Given n (turns c v g) mid) → Given (suc n) (fold c f g) ts
   fold_given n c f g ts (good v mid) e r k = let x = k v mid r in record { outcome = x.outcome; is = rw e x.is; runs = run_fold r x.runs }
   fold_given n c f g ts (bad rest) e r k = record { outcome = bad rest; is = rw e refl; runs = run_base r }
 
-  turn_given : (n : ℕ) (c : V → V → V) (v : V) (g : Form T N V) (ts : List T) (o : Outcome T V) → is_next S g ts ≡ true → run_in G S n g ts ≡ Some o → Runs G S g ts o →
+  turn_given : (n : ℕ) (c : V → V → V) (v : V) (g : Form T N V) (ts : List T) (o : ReaderOutcome T V) → is_next S g ts ≡ true → run_in G S n g ts ≡ Some o → Runs G S g ts o →
       ((w : V) (mid : List T) → Runs G S g ts (good w mid) → Given n (turns c (c v w) g) mid) → Given (suc n) (turns c v g) ts
   turn_given n c v g ts (good w mid) i e r k = let x = k w mid r in record { outcome = x.outcome; is = rw (i, e) x.is; runs = run_turn i r x.runs }
   turn_given n c v g ts (bad rest) i e r k = record { outcome = bad rest; is = rw (i, e) refl; runs = run_in_turn i r }
@@ -99,7 +99,7 @@ module _ {T N V : Type 0} (G : N → Form T N V) (S : Table T N) (known : IsDeci
   rule_given : (n : ℕ) (m : N) (ts : List T) → Given n (G m) ts → Given (suc n) (rule m) ts
   rule_given n m ts x = record { outcome = x.outcome; is = x.is; runs = run_rule x.runs }
 
-  picked_given : (n : ℕ) (q : T → Option N) (more : T → Bool) (t : T) (ts : List T) (m : N) (o : Outcome T V) → q t ≡ Some m → S.empty m ≡ false →
+  picked_given : (n : ℕ) (q : T → Option N) (more : T → Bool) (t : T) (ts : List T) (m : N) (o : ReaderOutcome T V) → q t ≡ Some m → S.empty m ≡ false →
       run_in G S n (G m) (t ∷ ts) ≡ Some o → Runs G S (G m) (t ∷ ts) o → Given (suc n) (chosen q more) (t ∷ ts)
   picked_given n q more t ts m (good v rest) i h e r =
       let short = consumes (reads (meets r)) (known.empty m ∙ h) in record { outcome = good v rest; is = rw i e; runs = run_chosen i (omega arith) r }
@@ -152,7 +152,7 @@ module _ {T N V : Type 0} (G : N → Form T N V) (S : Table T N) (known : IsDeci
     pub form_answered : (f : Form T N V) (ts : List T) → Decides S f → EndsIn S rank limit limit f → Answered G S f ts
     form_answered f ts d e = let x = given (limit * length ts + limit) limit f ts d e (omega arith) in record { outcome = x.outcome; runs = x.runs }
 
-    some_reading : (o : Outcome T V) (v : V) → whole_value (Some o) ≡ Some v → o ≡ good v []
+    some_reading : (o : ReaderOutcome T V) (v : V) → whole_value (Some o) ≡ Some v → o ≡ good v []
     some_reading (good w []) v e = cc
     some_reading (good w (t ∷ ts)) v e = absurd (cc)
     some_reading (bad rest) v e = absurd (cc)

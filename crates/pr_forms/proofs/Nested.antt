@@ -3,7 +3,7 @@
 use Rattle.std.proofs.Common.{Option, List, true, false, refl}
 use Rattle.pr_forms.specs.Form.{Form, token, pair, either}
 use Rattle.pr_forms.specs.Table.{Table}
-use Rattle.pr_forms.specs.Run.{Runs, Outcome, good, bad, run_pair, run_first, run_second, run_left, run_right, Takes, Lacks}
+use Rattle.pr_forms.specs.Run.{Runs, ReaderOutcome, good, bad, run_pair, run_first, run_second, run_left, run_right, Takes, Lacks}
 use Rattle.pr_forms.specs.Carries.{Carries}
 use Rattle.pr_forms.proofs.Steps.{next_pair}
 
@@ -20,7 +20,7 @@ module _ {T N V : Type 0} {G : N → Form T N V} {S : Table T N} where
       Takes G S (token p) ts v mid → Runs G S f mid (good w next) → Runs G S k next (bad rest) → Runs G S (either (pair d (pair c (token p) f) k) g) ts (bad rest)
   nested_bad {c} {d} {p} {f} {k} {ts = ts} h a b = run_left (next_pair S d (pair c (token p) f) k ts true refl (next_pair S c (token p) f ts true refl h.next)) (run_second (run_pair h.gives a) b)
 
-  pub skip_nested : {c d : V → V → V} {p : T → Option V} {f k g : Form T N V} {ts : List T} {o : Outcome T V} →
+  pub skip_nested : {c d : V → V → V} {p : T → Option V} {f k g : Form T N V} {ts : List T} {o : ReaderOutcome T V} →
       Lacks G S (token p) ts → Runs G S g ts o → Runs G S (either (pair d (pair c (token p) f) k) g) ts o
   skip_nested {c} {d} {p} {f} {k} {ts = ts} h q = run_right (next_pair S d (pair c (token p) f) k ts false refl (next_pair S c (token p) f ts false refl h.next)) q
 

@@ -3,7 +3,7 @@ use Rattle.std.proofs.Common.{◌≡◌, ℕ, zero, suc, ◌≤◌, ◌-◌, Lis
 use Rattle.std.proofs.lemmas.Bool.{cases_lt}
 use Rattle.pr_forms.specs.Form.{Form, rule, Reads, Begins, at_whole, IsFirstBad}
 use Rattle.pr_forms.specs.Table.{Table, IsDecided}
-use Rattle.pr_forms.specs.Run.{Runs, Outcome, good, bad, left_of}
+use Rattle.pr_forms.specs.Run.{Runs, ReaderOutcome, good, bad, left_of}
 use Rattle.pr_forms.proofs.Decided.{rule_decides, Agrees, same, goes_on, agrees, within}
 use Rattle.pr_forms.proofs.Sound.{meets, reads, begins}
 use Rattle.pr_forms.proofs.Suffixes.{Suffix, here, cut, drop_suffix, suffix_drop, suffix_length, begins_suffix, reads_suffix}
@@ -36,19 +36,19 @@ module _ {T N V : Type 0} (G : N → Form T N V) (S : Table T N) (known : IsDeci
       place_of (rule n) ts rest (reads_suffix d) (at_whole d) (λ r x. (within G S known (rule_decides S n) q x).is)
 
   -- the place where a run stopped
-  pub run_place : (n : N) (ts : List T) (o : Outcome T V) → Runs G S (rule n) ts o → IsFirstBad G (rule n) ts (length ts - length (left_of o))
+  pub run_place : (n : N) (ts : List T) (o : ReaderOutcome T V) → Runs G S (rule n) ts o → IsFirstBad G (rule n) ts (length ts - length (left_of o))
   run_place n ts (good v rest) q = good_place n ts rest v q
   run_place n ts (bad rest) q = bad_place n ts rest q
 
-  is_whole : {f : Form T N V} {o : Outcome T V} {w : V} → Agrees S f o w [] → o ≡ good w []
+  is_whole : {f : Form T N V} {o : ReaderOutcome T V} {w : V} → Agrees S f o w [] → o ≡ good w []
   is_whole same = refl
   is_whole (goes_on m) = let e = m.is in absurd (cc)
 
   -- where a text has a reading, a run gives it
-  pub only_reading : (n : N) (ts : List T) (o : Outcome T V) (w : V) → Runs G S (rule n) ts o → Reads G (rule n) ts w [] → o ≡ good w []
+  pub only_reading : (n : N) (ts : List T) (o : ReaderOutcome T V) (w : V) → Runs G S (rule n) ts o → Reads G (rule n) ts w [] → o ≡ good w []
   only_reading n ts o w q d = is_whole (agrees G S known (rule_decides S n) q d)
 
-  pub no_beginning_passes : (n : N) (ts rest : List T) (o : Outcome T V) → Runs G S (rule n) ts o → Begins G (rule n) ts rest → length (left_of o) ≤ length rest
+  pub no_beginning_passes : (n : N) (ts rest : List T) (o : ReaderOutcome T V) → Runs G S (rule n) ts o → Begins G (rule n) ts rest → length (left_of o) ≤ length rest
   no_beginning_passes n ts rest o q b = (within G S known (rule_decides S n) q b).is
 
 -- two first bad places are one

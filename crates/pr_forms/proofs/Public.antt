@@ -6,7 +6,7 @@ use Rattle.std.proofs.lemmas.List.{length-map}
 use Rattle.std.specs.Prelude.{◌==◌}
 use Rattle.pr_forms.specs.Form.{Form, rule, Reads, IsFirstBad}
 use Rattle.pr_forms.specs.Table.{Table, IsDecided}
-use Rattle.pr_forms.specs.Run.{Runs, Outcome, good, bad, left_of}
+use Rattle.pr_forms.specs.Run.{Runs, ReaderOutcome, good, bad, left_of}
 use Rattle.pr_forms.proofs.Sound.{meets, reads}
 use Rattle.pr_forms.proofs.Decided.{shrinks}
 use Rattle.pr_forms.proofs.Places.{run_place, only_reading}
@@ -26,7 +26,7 @@ none_left (t ∷ rest) e = absurd (omega arith)
 
 module _ {A T N V : Type 0} (see : A → T) (G : N → Form T N V) (S : Table T N) (known : IsDecided G S) (n : N) (text rest : List A) where
   -- what is left is no longer than the text
-  pub left_short : {f : Form T N V} (o : Outcome T V) → Runs G S f (map see text) o → left_of o ≡ map see rest → length rest ≤ length text
+  pub left_short : {f : Form T N V} (o : ReaderOutcome T V) → Runs G S f (map see text) o → left_of o ≡ map see rest → length rest ≤ length text
   left_short o q e = let h = (shrinks q).is in omega (arith, h, ap length e, length-map text see, length-map rest see)
 
   -- the whole text is read
@@ -48,7 +48,7 @@ module _ {A T N V : Type 0} (see : A → T) (G : N → Form T N V) (S : Table T 
   no_reading w q d = bad_not_good w _ (only_reading G S known n _ _ w q d)
 
   -- the place where the run stopped
-  place : (o : Outcome T V) → Runs G S (rule n) (map see text) o → left_of o ≡ map see rest → IsFirstBad G (rule n) (map see text) (length text - length rest)
+  place : (o : ReaderOutcome T V) → Runs G S (rule n) (map see text) o → left_of o ≡ map see rest → IsFirstBad G (rule n) (map see text) (length text - length rest)
   place o q e = subst (λ k. IsFirstBad G (rule n) (map see text) k) (same (length-map text see) (ap length e ∙ length-map rest see)) (run_place G S known n _ o q)
     where
       same : {a b c d : ℕ} → a ≡ b → c ≡ d → a - c ≡ b - d

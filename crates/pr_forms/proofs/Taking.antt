@@ -5,7 +5,7 @@ use Rattle.std.specs.Prelude.{MatchOption, option_map}
 use Rattle.pr_forms.specs.Form.{Form, token}
 use Rattle.pr_forms.specs.Table.{Table}
 use Rattle.pr_forms.specs.Run.{Takes, Lacks, run_end}
-use Rattle.pr_forms.specs.Take.{IsMissed, at_end, by_test, IsTaken}
+use Rattle.pr_forms.specs.private.Take.{IsMissed, at_end, by_test, IsTaken}
 use Rattle.pr_forms.proofs.Steps.{seen_takes, seen_lacks}
 
 pub missed : {T V : Type 0} (P : Bor T → Option V → Type 0) (ts rest : List T) (x : Bor T) → ts ≡ x.now ∷ rest → P x None → IsMissed P ts

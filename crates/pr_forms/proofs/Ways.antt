@@ -4,7 +4,7 @@ use Rattle.std.proofs.Common.{◌≡◌, Option, List, true, false, refl, Result
 use Rattle.std.specs.Result.{MatchResult, IsErrAnd}
 use Rattle.pr_forms.specs.Form.{Form, token, pair, either}
 use Rattle.pr_forms.specs.Table.{Table}
-use Rattle.pr_forms.specs.Run.{Runs, Outcome, good, bad, run_pair, run_first, run_second, run_left, run_right, run_fold, run_base, run_rule, Takes, Lacks}
+use Rattle.pr_forms.specs.Run.{Runs, ReaderOutcome, good, bad, run_pair, run_first, run_second, run_left, run_right, run_fold, run_base, run_rule, Takes, Lacks}
 use Rattle.pr_forms.specs.Reader.{FailsBy}
 use Rattle.pr_forms.specs.declared.reader.Fault.{Fault}
 use Rattle.pr_forms.specs.declared.reader.Fault.TheVariants.{Bad, Memory}
@@ -20,7 +20,7 @@ module _ {T N V : Type 0} {G : N → Form T N V} {S : Table T N} where
       Takes G S (token p) ts v mid → Runs G S f mid (bad rest) → Runs G S (either (pair c (token p) f) g) ts (bad rest)
   take_side_bad {c} {p} {f} {ts = ts} h k = run_left (next_pair S c (token p) f ts true refl h.next) (run_second h.gives k)
 
-  pub other_side : {c : V → V → V} {p : T → Option V} {f g : Form T N V} {ts : List T} {o : Outcome T V} →
+  pub other_side : {c : V → V → V} {p : T → Option V} {f g : Form T N V} {ts : List T} {o : ReaderOutcome T V} →
       Lacks G S (token p) ts → Runs G S g ts o → Runs G S (either (pair c (token p) f) g) ts o
   other_side {c} {p} {f} {ts = ts} h k = run_right (next_pair S c (token p) f ts false refl h.next) k
 
@@ -28,7 +28,7 @@ module _ {T N V : Type 0} {G : N → Form T N V} {S : Table T N} where
   pub one_side : {p : T → Option V} {g : Form T N V} {ts rest : List T} {v : V} → Takes G S (token p) ts v rest → Runs G S (either (token p) g) ts (good v rest)
   one_side h = run_left h.next h.gives
 
-  pub no_side : {p : T → Option V} {g : Form T N V} {ts : List T} {o : Outcome T V} → Lacks G S (token p) ts → Runs G S g ts o → Runs G S (either (token p) g) ts o
+  pub no_side : {p : T → Option V} {g : Form T N V} {ts : List T} {o : ReaderOutcome T V} → Lacks G S (token p) ts → Runs G S g ts o → Runs G S (either (token p) g) ts o
   no_side h k = run_right h.next k
 
   -- a sequence that begins with a token

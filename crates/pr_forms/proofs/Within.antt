@@ -6,7 +6,7 @@ use Rattle.std.specs.Prelude.{is_some, ◌||◌, ◌&&◌}
 use Rattle.pr_forms.specs.Form.{Form, token, nothing, pair, either, turns, fold, chosen, rule, Reads, is_token, is_nothing, is_pair, is_left, is_right, is_stop, is_turn, is_fold, is_chosen, is_rule}
 use Rattle.pr_forms.specs.Form.{Begins, at_start, at_whole, in_first, in_second, in_left, in_right, in_turn, after_turn, in_base, after_base, in_chosen, in_rule, IsFirstBad}
 use Rattle.pr_forms.specs.Table.{Table, empty_of, starts_of, more_of, is_next, negation, parts_at, is_solid, Binds, Decides, IsDecided}
-use Rattle.pr_forms.specs.Run.{Outcome, good, bad, left_of, Runs, run_token, run_other, run_end, run_nothing, run_pair, run_first, run_second, run_left, run_right, run_stop, run_turn, run_in_turn, run_fold, run_base, run_chosen, run_chosen_bad, run_unchosen, run_chosen_end, run_rule}
+use Rattle.pr_forms.specs.Run.{ReaderOutcome, good, bad, left_of, Runs, run_token, run_other, run_end, run_nothing, run_pair, run_first, run_second, run_left, run_right, run_stop, run_turn, run_in_turn, run_fold, run_base, run_chosen, run_chosen_bad, run_unchosen, run_chosen_end, run_rule}
 use Rattle.pr_forms.specs.Reading.{EndsIn, after_part, Ends}
 use Rattle.pr_forms.specs.Within.{Embedding, on_option, join_inner, lifted, within, Holds, HoldsTable, IsWithin}
 use Rattle.pr_forms.specs.Language.{Language, Gives}
@@ -230,18 +230,18 @@ module _ {T N V U M W : Type 0} (p : Embedding T N V U M W) (G : N → Form T N 
       pub is : map p.token_of rest ≡ mid
       pub runs : Runs H Z (within p f) us (bad rest)
 
-    abbrev pub RunWithin : Form T N V → List U → Outcome T V → Type 0
+    abbrev pub RunWithin : Form T N V → List U → ReaderOutcome T V → Type 0
     RunWithin f us (good v mid) = GoodWithin f us v mid
     RunWithin f us (bad mid) = BadWithin f us mid
 
-    lift : (f g : Form T N V) (us vs : List U) (o : Outcome T V) → ((x : Outcome U W) → Runs H Z (within p f) us x → Runs H Z (within p g) vs x) → RunWithin f us o → RunWithin g vs o
+    lift : (f g : Form T N V) (us vs : List U) (o : ReaderOutcome T V) → ((x : ReaderOutcome U W) → Runs H Z (within p f) us x → Runs H Z (within p g) vs x) → RunWithin f us o → RunWithin g vs o
     lift f g us vs (good v mid) k h = record { rest = h.rest; is = h.is; runs = k _ h.runs }
     lift f g us vs (bad mid) k h = record { rest = h.rest; is = h.is; runs = k _ h.runs }
 
     next : (f : Form T N V) (us : List U) (b : Bool) (ts : List T) → map p.token_of us ≡ ts → is_next S f ts ≡ b → is_next Z (within p f) us ≡ b
     next f us b ts h e = next_within p S Z tables f us b ts h e
 
-    pub runs_within : {f : Form T N V} {ts : List T} {o : Outcome T V} → Runs G S f ts o → (us : List U) → map p.token_of us ≡ ts → RunWithin f us o
+    pub runs_within : {f : Form T N V} {ts : List T} {o : ReaderOutcome T V} → Runs G S f ts o → (us : List U) → map p.token_of us ≡ ts → RunWithin f us o
     runs_within (run_token e) [] h = absurd (cc)
     runs_within (run_token {p = q} {t = t} {v = v} e) (u ∷ us) h =
         let head : p.token_of u ≡ t = cc in
@@ -299,14 +299,14 @@ module _ {T N V U M W : Type 0} (p : Embedding T N V U M W) (G : N → Form T N 
 
     -- the first bad place is the same one
     module _ (known : IsDecided G S) (there_known : IsDecided H Z) where
-      same_place : (us : List U) (o : Outcome T V) (rest : List U) (n : N) (x : Outcome U W) (k : ℕ) → Runs G S (rule n) (map p.token_of us) o → map p.token_of rest ≡ left_of o →
+      same_place : (us : List U) (o : ReaderOutcome T V) (rest : List U) (n : N) (x : ReaderOutcome U W) (k : ℕ) → Runs G S (rule n) (map p.token_of us) o → map p.token_of rest ≡ left_of o →
           Runs H Z (rule (p.rule_of n)) us x → left_of x ≡ rest → IsFirstBad G (rule n) (map p.token_of us) k → IsFirstBad H (rule (p.rule_of n)) us k
       same_place us o rest n x k q e r i b =
           let at : k ≡ length (map p.token_of us) - length (left_of o) = one_place G (rule n) (map p.token_of us) k _ b (run_place G S known n _ o q) in
           let is : length us - length (left_of x) ≡ k = omega (arith, at, ap length e, ap length i, length-map us p.token_of, length-map rest p.token_of) in
           subst (λ j. IsFirstBad H (rule (p.rule_of n)) us j) is (run_place H Z there_known (p.rule_of n) us x r)
 
-      place_from : (us : List U) (n : N) (o : Outcome T V) (k : ℕ) → Runs G S (rule n) (map p.token_of us) o → IsFirstBad G (rule n) (map p.token_of us) k → IsFirstBad H (rule (p.rule_of n)) us k
+      place_from : (us : List U) (n : N) (o : ReaderOutcome T V) (k : ℕ) → Runs G S (rule n) (map p.token_of us) o → IsFirstBad G (rule n) (map p.token_of us) k → IsFirstBad H (rule (p.rule_of n)) us k
       place_from us n (good v mid) k q b = let a = runs_within q us refl in same_place us (good v mid) a.rest n _ k q a.is a.runs refl b
       place_from us n (bad mid) k q b = let a = runs_within q us refl in same_place us (bad mid) a.rest n _ k q a.is a.runs refl b
 

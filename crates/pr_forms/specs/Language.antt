@@ -3,7 +3,7 @@
 use Rattle.std.specs.Prelude.{ℕ, List, [], map, Option, Bool}
 use Rattle.pr_forms.specs.Form.{Form, rule, Reads, IsFirstBad as IsFirstBadBy}
 use Rattle.pr_forms.specs.Table.{Table, IsDecided, is_next}
-use Rattle.pr_forms.specs.Run.{Runs, Outcome, Takes as TakesBy, Lacks as LacksBy}
+use Rattle.pr_forms.specs.Run.{Runs, ReaderOutcome, Takes as TakesBy, Lacks as LacksBy}
 use Rattle.pr_forms.specs.Carries.{Carries as CarriesBy, Chooses as ChoosesBy, ChoosesNone as ChoosesNoneBy}
 use Rattle.pr_forms.specs.Reader.{FailsBy}
 use Rattle.pr_forms.specs.Reading.{reading, bad_place}
@@ -21,7 +21,7 @@ abbrev pub seen : {A T N V : Type 0} → Language A T N V → List A → List T
 seen L = map L.see
 
 -- The reader of the form gives the outcome.
-abbrev pub Gives : {A T N V : Type 0} → Language A T N V → Form T N V → List A → Outcome T V → Type 0
+abbrev pub Gives : {A T N V : Type 0} → Language A T N V → Form T N V → List A → ReaderOutcome T V → Type 0
 Gives L f ts o = Runs L.production L.table f (seen L ts) o
 
 -- The form is read, from its first token on.

@@ -2,8 +2,8 @@ pub mod Form
 pub mod Table
 pub mod Run
 pub mod Reader
-pub mod Take
 pub mod Reading
 pub mod Carries
 pub mod Language
 pub mod Within
+pub mod private

@@ -3,30 +3,30 @@
 use Rattle.std.specs.Prelude.{◌≡◌, ℕ, zero, suc, pred, ◌*◌, ◌-◌, nat_le, Option, Some, None, List, [], ◌∷◌, Bool, true, false, length, if◌then◌else◌}
 use Rattle.pr_forms.specs.Form.{Form, token, nothing, pair, either, turns, fold, rule, chosen}
 use Rattle.pr_forms.specs.Table.{Table, is_next, empty_of}
-use Rattle.pr_forms.specs.Run.{Outcome, good, bad, left_of}
+use Rattle.pr_forms.specs.Run.{ReaderOutcome, good, bad, left_of}
 
 -- what follows a part, where the part is read whole
-abbrev pub then_of : {T V : Type 0} → Option (Outcome T V) → (V → List T → Option (Outcome T V)) → Option (Outcome T V)
+abbrev pub then_of : {T V : Type 0} → Option (ReaderOutcome T V) → (V → List T → Option (ReaderOutcome T V)) → Option (ReaderOutcome T V)
 then_of None next = None
 then_of (Some (bad rest)) next = Some (bad rest)
 then_of (Some (good v rest)) next = next v rest
 
 -- a part joined to the value before it
-abbrev pub joining : {T V : Type 0} → (V → V → V) → V → V → List T → Option (Outcome T V)
+abbrev pub joining : {T V : Type 0} → (V → V → V) → V → V → List T → Option (ReaderOutcome T V)
 joining c v w rest = Some (good (c v w) rest)
 
 -- a token, by the value that it has
-abbrev pub token_outcome : {T V : Type 0} → Option V → T → List T → Outcome T V
+abbrev pub token_outcome : {T V : Type 0} → Option V → T → List T → ReaderOutcome T V
 token_outcome (Some v) t rest = good v rest
 token_outcome None t rest = bad (t ∷ rest)
 
 -- the rule that a token has chosen
-abbrev pub chosen_outcome : {T N V : Type 0} → (N → Form T N V) → (Form T N V → List T → Option (Outcome T V)) → Option N → List T → Option (Outcome T V)
+abbrev pub chosen_outcome : {T N V : Type 0} → (N → Form T N V) → (Form T N V → List T → Option (ReaderOutcome T V)) → Option N → List T → Option (ReaderOutcome T V)
 chosen_outcome G again (Some n) ts = again (G n) ts
 chosen_outcome G again None ts = Some (bad ts)
 
 -- One step: what the form gives, where `again` is what its parts give.
-abbrev pub step : {T N V : Type 0} → (N → Form T N V) → Table T N → (Form T N V → List T → Option (Outcome T V)) → Form T N V → List T → Option (Outcome T V)
+abbrev pub step : {T N V : Type 0} → (N → Form T N V) → Table T N → (Form T N V → List T → Option (ReaderOutcome T V)) → Form T N V → List T → Option (ReaderOutcome T V)
 step G S again (token p) [] = Some (bad [])
 step G S again (token p) (t ∷ ts) = Some (token_outcome (p t) t ts)
 step G S again (nothing v) ts = Some (good v ts)
@@ -39,17 +39,17 @@ step G S again (chosen q m) (t ∷ ts) = chosen_outcome G again (q t) (t ∷ ts)
 step G S again (rule n) ts = again (G n) ts
 
 -- What a reader of the form gives in so many steps, where they are enough.
-abbrev pub run_in : {T N V : Type 0} → (N → Form T N V) → Table T N → ℕ → Form T N V → List T → Option (Outcome T V)
+abbrev pub run_in : {T N V : Type 0} → (N → Form T N V) → Table T N → ℕ → Form T N V → List T → Option (ReaderOutcome T V)
 run_in G S zero f ts = None
 run_in G S (suc n) f ts = step G S (run_in G S n) f ts
 
 -- the value of a text that is read whole
-abbrev pub whole_value : {T V : Type 0} → Option (Outcome T V) → Option V
+abbrev pub whole_value : {T V : Type 0} → Option (ReaderOutcome T V) → Option V
 whole_value (Some (good v [])) = Some v
 whole_value _ = None
 
 -- how many tokens a reader has left
-abbrev pub tokens_left : {T V : Type 0} → Option (Outcome T V) → ℕ
+abbrev pub tokens_left : {T V : Type 0} → Option (ReaderOutcome T V) → ℕ
 tokens_left (Some o) = length (left_of o)
 tokens_left None = 0
 

@@ -4,7 +4,7 @@
 ghost use Rattle.std.specs.Prelude.{◌≡◌, Some, ℕ, List, [], ◌++◌, ◌<◌, ◌≤◌, ◌-◌, length, take, drop, map, false};
 ghost use Rattle.pr_forms.specs.Form.{Form, rule, Reads, Begins, IsFirstBad};
 ghost use Rattle.pr_forms.specs.Table.{Table, more_of, Decides, IsDecided};
-ghost use Rattle.pr_forms.specs.Run.{Runs, Outcome, good, bad, left_of};
+ghost use Rattle.pr_forms.specs.Run.{Runs, ReaderOutcome, good, bad, left_of};
 ghost use Rattle.pr_forms.specs.Reading.{Ends, reading, bad_place};
 ghost use Rattle.pr_forms.specs.Language.{Language, seen};
 ghost use Rattle.pr_forms.specs.Within.{Embedding, within, Holds, HoldsTable, IsWithin};
@@ -29,19 +29,19 @@ pub fn bad_run_begins<T, N, V>()
 
 /// Where a text has a reading, each run gives that one, and leaves nothing.
 pub fn run_gives_the_reading<T, N, V>()
-    ensures { (G : N → Form T N V) (S : Table T N) (n : N) (ts : List T) (o : Outcome T V) (v : V) → IsDecided G S →
+    ensures { (G : N → Form T N V) (S : Table T N) (n : N) (ts : List T) (o : ReaderOutcome T V) (v : V) → IsDecided G S →
         Runs G S (rule n) ts o → Reads G (rule n) ts v [] → o ≡ good v [] }
 {}
 
 /// No beginning goes past the place where a run stopped.
 pub fn no_beginning_passes_a_run<T, N, V>()
-    ensures { (G : N → Form T N V) (S : Table T N) (n : N) (ts rest : List T) (o : Outcome T V) → IsDecided G S →
+    ensures { (G : N → Form T N V) (S : Table T N) (n : N) (ts rest : List T) (o : ReaderOutcome T V) → IsDecided G S →
         Runs G S (rule n) ts o → Begins G (rule n) ts rest → length (left_of o) ≤ length rest }
 {}
 
 /// The place where a run stopped is the first bad one, whether it succeeded or failed.
 pub fn run_stops_at_the_first_bad_place<T, N, V>()
-    ensures { (G : N → Form T N V) (S : Table T N) (n : N) (ts : List T) (o : Outcome T V) → IsDecided G S →
+    ensures { (G : N → Form T N V) (S : Table T N) (n : N) (ts : List T) (o : ReaderOutcome T V) → IsDecided G S →
         Runs G S (rule n) ts o → IsFirstBad G (rule n) ts (length ts - length (left_of o)) }
 {}
 
@@ -79,7 +79,7 @@ pub fn bad_place_of_a_front<T, N, V>()
 /// Every text has a run, where the grammar ends: so a grammar answers every text.
 pub fn every_text_has_a_run<T, N, V>()
     ensures { (G : N → Form T N V) (S : Table T N) (rank : N → ℕ) (limit : ℕ) (n : N) (ts : List T) → IsDecided G S → Ends G S rank limit →
-        (o : Outcome T V) × Runs G S (rule n) ts o }
+        (o : ReaderOutcome T V) × Runs G S (rule n) ts o }
 {}
 
 /// The reading of a text is a function of it, where the grammar ends: what the function gives is

@@ -1,6 +1,6 @@
 //! What the functions of a reader hand to each other.
 ghost use Rattle.std.specs.Prelude.{◌≡◌, ◌-◌, ◌≤◌, length, MatchOption};
-ghost use Rattle.pr_forms.specs.Take.{IsMissed, IsTaken};
+ghost use Rattle.pr_forms.specs.private.Take.{IsMissed, IsTaken};
 
 use std::alloc::{AllocError, AllocFailed};
 

@@ -3,21 +3,20 @@ use Rattle.std.proofs.Common.{◌≡◌, ℕ, zero, suc, Bool, true, false, cond
 use Rattle.std.specs.Prelude.{is_some, option_and_then}
 use Rattle.std.specs.Option.{option_map, option_map_or}
 use Rattle.std.proofs.lemmas.Option.{slice_get-map}
-use Rattle.pr_history.specs.declared.entry.Entry.{Entry}
-use Rattle.pr_rule_step.specs.pr_lineage.declared.record.Record.{Record}
-use Rattle.pr_ready.specs.pr_range.Asks.{LastAsks, Passed}
-use Rattle.pr_rule_step.specs.pr_rulefile.Groups.{Group as Definition}
-use Rattle.pr_rule_step.specs.pr_rulefile.Rules.{Rule, rule_of_def}
-use Rattle.pr_rule_step.specs.pr_rulefile.declared.rules.RuleDef.{RuleDef}
-use Rattle.pr_rule_step.specs.declared.remembered.Remembered.{Remembered}
-use Rattle.pr_rule_step.specs.pr_rules.Groups.{Group, RuleState}
-use Rattle.pr_group.specs.Keeping.{KeepsGroup, KeptGroup, alerts_at, alerts_of_rule}
+use Rattle.pr_rule.specs.spec_history.declared.entry.Entry.{Entry}
+use Rattle.pr_rule.specs.spec_alerts.declared.record.Record.{Record}
+use Rattle.pr_rule.specs.pr_range.private.Asks.{LastAsks, Passed}
+use Rattle.pr_rule.specs.spec_rules.Definitions.{Group as Definition, Rule, rule_of_def}
+use Rattle.pr_rule.specs.spec_rules.declared.definitions.RuleDef.{RuleDef}
+use Rattle.pr_rule.specs.declared.remembered.Remembered.{Remembered}
+use Rattle.pr_rule.specs.spec_rules.Groups.{Group, RuleState}
+use Rattle.pr_group.specs.private.Keeping.{KeepsGroup, KeptGroup, alerts_at, alerts_of_rule}
 
 -- the code of a rule, by its number
-record HasCode (codes : List RuleDef) (i : ℕ) (rule : Rule) : Type 0 where
-  code : RuleDef
-  at : slice_get codes i ≡ Some code
-  is : rule ≡ rule_of_def code
+record HasCode (definitions : List RuleDef) (i : ℕ) (rule : Rule) : Type 0 where
+  definition : RuleDef
+  at : slice_get definitions i ≡ Some definition
+  is : rule ≡ rule_of_def definition
 
 some_of : {A B : Type 0} (f : A → B) (o : Option A) (b : B) → option_map f o ≡ Some b → (a : A) × (o ≡ Some a) × (f a ≡ b)
 some_of f None b h = absurd cc
@@ -34,7 +33,7 @@ has_code fits last passed history k g i r h at =
     let there : option_map rule_of_def (slice_get k.def.rules i) ≡ Some r.rule =
     sym (slice_get-map rule_of_def k.def.rules i) ∙ ap (λ l. slice_get l i) (sym rules) ∙ slice_get-map (λ (x : RuleState). x.rule) g.rules i ∙ ap (option_map (λ (x : RuleState). x.rule)) at in
     let it = some_of rule_of_def (slice_get k.def.rules i) r.rule there in
-    record { code = it.0; at = it.1; is = sym it.2 }
+    record { definition = it.0; at = it.1; is = sym it.2 }
 
 is_there : {A B : Type 0} (xs : List A) (ys : List B) (i : ℕ) (x : A) → length ys ≡ length xs → slice_get xs i ≡ Some x → is_some (slice_get ys i) ≡ true
 is_there [] ys i x many at = absurd cc
@@ -59,7 +58,7 @@ module _ {R : Type 0} (fits : R → List Entry → Type 0) (last : R → LastAsk
   by_rule (Some r) at =
       let c = has_code fits last passed history k g i r keeps at in
       ap (λ o. is_some (option_and_then (alerts_of_rule k.rules i) o)) c.at
-      ∙ by_code c.code.alert (slice_get k.rules i) (is_there k.def.rules k.rules i c.code keeps.many c.at)
+      ∙ by_code c.definition.alert (slice_get k.rules i) (is_there k.def.rules k.rules i c.definition keeps.many c.at)
       ∙ sym (ap (λ (x : Rule). x.alert) c.is)
 
   pub alerting_have_alerts : (o : Option (List Record)) → o ≡ alerts_at k i → is_some o ≡ option_map_or (λ (r : RuleState). r.rule.alert) (slice_get g.rules i) false

@@ -4,33 +4,33 @@ use Rattle.std.specs.Prelude.{◌==◌, nat_lt, pred}
 use Rattle.std.specs.Option.{option_map}
 use Rattle.std.proofs.lemmas.List.{length-map}
 use Rattle.std.proofs.lemmas.Option.{same_Some, slice_get-map}
-use Rattle.pr_labels.specs.declared.pair.Pair.{Pair}
-use Rattle.pr_history.specs.declared.entry.Entry.{Entry}
-use Rattle.pr_history.specs.Admission.{put_all}
-use Rattle.pr_history.proofs.Lawful.{put_all_lawful}
-use Rattle.pr_rule_step.specs.pr_puts.Puts.{admitted, label_sets_of, marker, markers}
-use Rattle.pr_rule_step.proofs.PutsPutting.{puts_parts}
-use Rattle.pr_rule_step.specs.pr_rulefile.declared.rules.RuleDef.{RuleDef}
-use Rattle.pr_rule_step.specs.pr_rulefile.Groups.{Group as Definition}
-use Rattle.pr_rule_step.specs.pr_rulefile.Rules.{rule_of_def}
-use Rattle.pr_rule_step.specs.pr_lineage.declared.restored.Restored.{Restored}
-use Rattle.pr_rule_step.specs.pr_query.Cost.{PassedFor}
-use Rattle.pr_ready.specs.pr_range.Asks.{LastAsks, Passed}
-use Rattle.pr_rule_step.specs.pr_eval.Evaluated.{passed_outside}
-use Rattle.pr_rule_step.specs.pr_intake.Intake.{HasTaken, PutsIf, Series}
-use Rattle.pr_rule_step.proofs.IntakeIntake.{puts_if_then}
-use Rattle.pr_rule_step.specs.pr_rules.declared.report.RuleReport.{RuleReport}
-use Rattle.pr_rule_step.specs.pr_rules.Costs.{group_cost, restoring_cost, rules_cost}
-use Rattle.pr_rule_step.specs.pr_rules.Evaluations.{GroupStep, RulesProgress, all_rules, begun, group_ended, group_step, one_rule, restoring}
-use Rattle.pr_rule_step.specs.pr_rules.Groups.{Group, RuleState, definition_of}
-use Rattle.pr_rule_step.specs.pr_rules.Passed.{IsPassedAfter, IsPassedByRule}
-use Rattle.pr_rule_step.specs.pr_rules.Settings.{Settings}
-use Rattle.pr_rule_step.specs.pr_rules.Times.{IsAfter}
-use Rattle.pr_rule_step.proofs.RulesKeeping.{definition_stays}
-use Rattle.pr_rule_step.specs.declared.remembered.Remembered.{Remembered}
-use Rattle.pr_group.specs.Evaluating.{HasCome, MayEvaluateRules, come_to}
-use Rattle.pr_group.specs.Keeping.{AreKept, KeepsGroup, KeptGroup, MayEvaluateOver, passed_by, passed_for, settings_of}
-use Rattle.pr_group.specs.Restoring.{ranges_of, restored_alerts, restored_rules}
+use Rattle.pr_ast.specs.pr_labels.declared.pair.Pair.{Pair}
+use Rattle.pr_rule.specs.spec_history.declared.entry.Entry.{Entry}
+use Rattle.pr_rule.specs.spec_history.Admission.{put_all}
+use Rattle.pr_rule.proofs.HistoryLawful.{put_all_lawful}
+use Rattle.pr_rule.specs.spec_history.Puts.{admitted, label_sets_of, marker, markers}
+use Rattle.pr_rule.proofs.HistoryPutting.{puts_parts}
+use Rattle.pr_rule.specs.spec_rules.declared.definitions.RuleDef.{RuleDef}
+use Rattle.pr_rule.specs.spec_rules.Definitions.{Group as Definition, rule_of_def}
+use Rattle.pr_rule.specs.spec_alerts.declared.restored.Restored.{Restored}
+use Rattle.pr_rule.specs.spec_meaning.private.Cost.{PassedFor}
+use Rattle.pr_rule.specs.pr_range.private.Asks.{LastAsks, Passed}
+use Rattle.pr_rule.specs.pr_eval.private.Evaluated.{passed_outside}
+use Rattle.pr_rule.specs.pr_head.private.Intake.{HasTaken, PutsIf, Series}
+use Rattle.pr_rule.proofs.HeadIntakeIntake.{puts_if_then}
+use Rattle.pr_rule.specs.spec_rules.declared.report.RuleReport.{RuleReport}
+use Rattle.pr_rule.specs.spec_rules.private.Costs.{group_cost, restoring_cost, rules_cost}
+use Rattle.pr_rule.specs.spec_rules.Evaluations.{GroupStep, RulesProgress, all_rules, begun, group_ended, group_step, one_rule, restoring}
+use Rattle.pr_rule.specs.spec_rules.Groups.{Group, RuleState}
+use Rattle.pr_rule.specs.spec_rules.private.Laws.{definition_of}
+use Rattle.pr_rule.specs.spec_rules.private.Passed.{IsPassedAfter, IsPassedByRule}
+use Rattle.pr_rule.specs.spec_rules.Settings.{Settings}
+use Rattle.pr_rule.specs.spec_rules.private.Times.{IsAfter}
+use Rattle.pr_rule.proofs.RulesKeeping.{definition_stays}
+use Rattle.pr_rule.specs.declared.remembered.Remembered.{Remembered}
+use Rattle.pr_group.specs.private.Evaluating.{HasCome, MayEvaluateRules, come_to}
+use Rattle.pr_group.specs.private.Keeping.{AreKept, KeepsGroup, KeptGroup, MayEvaluateOver, passed_by, passed_for, settings_of}
+use Rattle.pr_group.specs.private.Restoring.{ranges_of, restored_alerts, restored_rules}
 use Rattle.pr_group.proofs.Coming.{passed_each}
 use Rattle.pr_group.proofs.Places.{none_within, place_there}
 use Rattle.pr_group.proofs.Ruling.{early_of}
@@ -42,8 +42,8 @@ through {A} {B} a a' b b' P p q h = subst (λ (y : B). P a' y) q (subst (λ (x :
 
 -- The rules of a group may be evaluated
 
-pub as_many : (g : Group) (codes : List RuleDef) → map (λ r. r.rule) g.rules ≡ map rule_of_def codes → length codes ≡ length g.rules
-as_many g codes same = sym (length-map codes rule_of_def) ∙ ap length (sym same) ∙ length-map g.rules (λ r. r.rule)
+pub as_many : (g : Group) (definitions : List RuleDef) → map (λ r. r.rule) g.rules ≡ map rule_of_def definitions → length definitions ≡ length g.rules
+as_many g definitions same = sym (length-map definitions rule_of_def) ∙ ap length (sym same) ∙ length-map g.rules (λ r. r.rule)
 
 pub may_of : {R : Type 0} (fits : R → List Entry → Type 0) (last : R → LastAsks) (passed : R → Passed) (k : KeptGroup R) (waiting : Bool) (g : Group) (head : Series) (history : List Entry) (now : ℕ) → waiting ≡ nat_lt 0 k.waits
     → MayEvaluateOver head history now → KeepsGroup fits last passed k history g → IsAfter now g.last
@@ -143,7 +143,7 @@ module _ {R : Type 0} (fits : R → List Entry → Type 0) (last : R → LastAsk
 
     pub kept_end : AreKept fits last passed after (Some now) k1.def.rules k1.rules p.rules
     kept_end = subst (λ (ds : List RuleDef). AreKept fits last passed after (Some now) ds k1.rules p.rules) (sym def_same)
-        (λ i code m r ic im ir. rule_stays_put fits last passed stays p.history gone (Some now) code m r over_rules.lawful (h.done i code m r ic im ir))
+        (λ i definition m r ic im ir. rule_stays_put fits last passed stays p.history gone (Some now) definition m r over_rules.lawful (h.done i definition m r ic im ir))
 
     all_puts : PutsIf tells head0 head2 rows0 rows2 history (p.entries ++ gone)
     all_puts = puts_if_then tells head0 head1 head2 rows0 rows1 rows2 history p.entries gone h.puts (subst (λ (l : List Entry). PutsIf tells head1 head2 rows1 rows2 l gone) h.behind puts_gone)
@@ -204,13 +204,13 @@ module _ {R : Type 0} (fits : R → List Entry → Type 0) (last : R → LastAsk
                 let here : j ≡ 0 + j = omega arith in
                 let low : j < length g.rules = none_within g.rules j r at in
                 let many : length k0.def.rules ≡ length g.rules = as_many g k0.def.rules (ap (λ (d : Definition). d.rules) kept.definition) in
-                let code = place_there k0.def.rules j (omega arith) in
+                let definition = place_there k0.def.rules j (omega arith) in
                 let mine = place_there p.rules j (omega (arith, h.counted)) in
                 let m = place_there k0.rules j (omega (arith, size)) in
                 let k = place_there k1.rules j (omega (arith, size, h.many)) in
                 let first : passed_outside false history (passed m.0.ranges) ≡ passed_by passed k0 history j = sym (ap (passed_for passed history) m.1) in
                 let second : passed_outside false p.history (passed k.0.ranges) ≡ passed_for passed after (slice_get k2.rules j) =
-                sym (same_ranges passed after k1.rules k2.rules j k.0 same k.1 ∙ same_passed_put p.history gone (last k.0.ranges) (passed k.0.ranges) (h.done j code.0 k.0 mine.0 code.1 k.1 mine.1).within) in
+                sym (same_ranges passed after k1.rules k2.rules j k.0 same k.1 ∙ same_passed_put p.history gone (last k.0.ranges) (passed k.0.ranges) (h.done j definition.0 k.0 mine.0 definition.1 k.1 mine.1).within) in
                 subst (λ (n : ℕ). IsPassedByRule (settings_of k0) g r (come_to (settings_of k0) g history now j).history now (passed_by passed k0 history n) (passed_for passed after (slice_get k2.rules n))) here
                 (subst (λ (w : PassedFor). IsPassedByRule (settings_of k0) g r (come_to (settings_of k0) g history now j).history now (passed_by passed k0 history j) w) second
                 (subst (λ (u : PassedFor). IsPassedByRule (settings_of k0) g r (come_to (settings_of k0) g history now j).history now u (passed_outside false p.history (passed k.0.ranges))) first

@@ -7,22 +7,23 @@ use Rattle.std.proofs.lemmas.List.Folds.{find-append}
 use Rattle.std.proofs.lemmas.Int.{ints}
 use Rattle.std.proofs.lemmas.Bool.Decides.{nat_tests}
 use borrow.Author.Tests.{leb-true}
-use Rattle.pr_labels.specs.declared.pair.Pair.{Pair}
-use Rattle.pr_labels.specs.Order.{labels_eq}
-use Rattle.pr_labels.specs.Rising.{is_among}
-use Rattle.pr_history.specs.declared.entry.Entry.{Entry}
-use Rattle.pr_history.specs.Admission.{IsLawful, is_of, last_entry}
-use Rattle.pr_history.specs.Lookback.{entries_until, is_until}
-use Rattle.pr_history.proofs.Lawful.{of_entries}
-use Rattle.pr_rule_step.specs.pr_head.declared.timed.Timed.{Timed}
-use Rattle.pr_rule_step.specs.pr_head.Stored.{Stored, newest_at}
-use Rattle.pr_rule_step.specs.pr_head.Holds.{Holds, IsKept, samples_of, sets_of, timed}
-use Rattle.pr_rule_step.proofs.HeadArrivals.{among_arrivals, apart_from, eq_from, eq_same, samples_more, samples_other}
-use Rattle.pr_rule_step.proofs.HeadNewest.{Rises, UpTo, none_later, rising_samples, until_is}
-use Rattle.pr_rule_step.proofs.HeadSimulation.{lookup_none}
-use Rattle.pr_rule_step.specs.pr_intake.Intake.{Series}
-use Rattle.pr_group.specs.Keeping.{MayEvaluateOver}
-use Rattle.pr_group.specs.Restoring.{in_last_hour, kept_of_last_hour}
+use Rattle.pr_ast.specs.pr_labels.declared.pair.Pair.{Pair}
+use Rattle.pr_ast.specs.pr_labels.Order.{labels_eq}
+use Rattle.pr_ast.specs.pr_labels.Rising.{is_among}
+use Rattle.pr_rule.specs.spec_history.declared.entry.Entry.{Entry}
+use Rattle.pr_rule.specs.spec_history.private.Laws.{IsLawful, entries_until}
+use Rattle.pr_rule.specs.spec_history.Admission.{is_of, last_entry}
+use Rattle.pr_rule.specs.spec_history.Lookback.{is_until}
+use Rattle.pr_rule.proofs.HistoryLawful.{of_entries}
+use Rattle.pr_rule.specs.pr_head.declared.timed.Timed.{Timed}
+use Rattle.pr_rule.specs.pr_head.private.Stored.{Stored, newest_at}
+use Rattle.pr_rule.specs.pr_head.private.Holds.{Holds, IsKept, samples_of, sets_of, timed}
+use Rattle.pr_rule.proofs.HeadArrivals.{among_arrivals, apart_from, eq_from, eq_same, samples_more, samples_other}
+use Rattle.pr_rule.proofs.HeadNewest.{Rises, UpTo, none_later, rising_samples, until_is}
+use Rattle.pr_rule.proofs.HeadSimulation.{lookup_none}
+use Rattle.pr_rule.specs.pr_head.private.Intake.{Series}
+use Rattle.pr_group.specs.private.Keeping.{MayEvaluateOver}
+use Rattle.pr_group.specs.private.Restoring.{in_last_hour, kept_of_last_hour}
 
 -- of a test that one time passes, or is too old for: as old ones are too
 module _ (now : ℕ) where

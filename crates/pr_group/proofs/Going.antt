@@ -1,32 +1,32 @@
 -- What an older group leaves to a new one is what a reload means.
 use Rattle.std.proofs.Common.{◌≡◌, ℕ, ◌<◌, Bool, true, false, cond, List, [], ◌∷◌, ◌++◌, find, flat_map, fold, length, map, slice_get, Option, Some, None, refl, sym, ap, subst, ◌∙◌, arith}
-use Rattle.pr_labels.specs.declared.pair.Pair.{Pair}
-use Rattle.pr_history.specs.declared.entry.Entry.{Entry}
-use Rattle.pr_rule_step.specs.pr_rulefile.Groups.{Group as Definition, group_of_def}
-use Rattle.pr_rule_step.specs.pr_rulefile.Rules.{Rule, rule_of_def}
-use Rattle.pr_rule_step.specs.pr_rulefile.declared.rules.GroupDef.{GroupDef}
-use Rattle.pr_rule_step.specs.pr_rulefile.declared.rules.RuleDef.{RuleDef}
-use Rattle.pr_ready.specs.pr_range.Asks.{LastAsks, Passed}
-use Rattle.pr_ready.specs.pr_range.Carried.{IsOnce}
-use Rattle.pr_ready.specs.pr_continued.Named.{AreBelow}
-use Rattle.pr_ready.proofs.ContinuedOnce.{numbers_once, takes}
+use Rattle.pr_ast.specs.pr_labels.declared.pair.Pair.{Pair}
+use Rattle.pr_rule.specs.spec_history.declared.entry.Entry.{Entry}
+use Rattle.pr_rule.specs.spec_rules.Definitions.{Group as Definition, group_of_def, Rule, rule_of_def}
+use Rattle.pr_rule.specs.spec_rules.declared.definitions.GroupDef.{GroupDef}
+use Rattle.pr_rule.specs.spec_rules.declared.definitions.RuleDef.{RuleDef}
+use Rattle.pr_rule.specs.pr_range.private.Asks.{LastAsks, Passed}
+use Rattle.pr_rule.specs.pr_range.private.Carried.{IsOnce}
+use Rattle.pr_group.specs.private.Named.{AreBelow}
+use Rattle.pr_group.proofs.Once.{numbers_once, takes}
 use Rattle.std.proofs.lemmas.List.{length-map}
 use Rattle.std.proofs.lemmas.Option.{same_Some, slice_get_within}
 use Rattle.std.specs.Prelude.{Result, Ok, Err, IfOk, IfSome, OnOk}
 use Rattle.std.specs.Option.{option_and_then, option_map}
-use Rattle.pr_labels.specs.Rising.{with_labels}
-use Rattle.pr_rule_step.specs.pr_lineage.declared.record.Record.{Record}
-use Rattle.pr_rule_step.specs.pr_alert.Standing.{StandsFor}
-use Rattle.pr_rule_step.specs.declared.remembered.Remembered.{Remembered}
-use Rattle.pr_ready.specs.pr_vectors.Vectors.{in_label_order}
-use Rattle.pr_rule_step.specs.pr_rules.Carried.{carried_by_group, carried_by_rules}
-use Rattle.pr_rule_step.specs.pr_rules.Groups.{Group, RuleState, definition_of, fresh, fresh_rule, rules_of}
-use Rattle.pr_rule_step.specs.pr_rules.Reloads.{carried, continued_rule, continued_rules, continues, left_by, remains, unused_rules}
-use Rattle.pr_rule_step.specs.pr_rules.Taking.{numbers_taken, without_first}
-use Rattle.pr_group.specs.Carrying.{HasGoneOn, HaveGoneOn}
-use Rattle.pr_group.specs.Keeping.{AreKept, KeepsGroup, KeptGroup, alerts_at, alerts_of_rule, passed_by}
-use Rattle.pr_group.specs.Matching.{continues_def}
-use Rattle.pr_group.proofs.Continued.{left_over, passed_on, rules_kept}
+use Rattle.pr_ast.specs.pr_labels.Rising.{with_labels}
+use Rattle.pr_rule.specs.spec_alerts.declared.record.Record.{Record}
+use Rattle.pr_rule.specs.private.AlertStanding.{StandsFor}
+use Rattle.pr_rule.specs.declared.remembered.Remembered.{Remembered}
+use Rattle.pr_rule.specs.spec_vectors.Vectors.{in_label_order}
+use Rattle.pr_rule.specs.spec_rules.private.Carried.{carried_by_group, carried_by_rules}
+use Rattle.pr_rule.specs.spec_rules.Groups.{Group, RuleState, fresh, fresh_rule, rules_of}
+use Rattle.pr_rule.specs.spec_rules.private.Laws.{definition_of, numbers_taken}
+use Rattle.pr_rule.specs.spec_rules.Reloads.{carried, continued_rule, continued_rules, continues, left_by, remains, unused_rules}
+use Rattle.pr_rule.specs.spec_rules.Taking.{without_first}
+use Rattle.pr_group.specs.private.Carrying.{HasGoneOn, HaveGoneOn}
+use Rattle.pr_group.specs.private.Keeping.{AreKept, KeepsGroup, KeptGroup, alerts_at, alerts_of_rule, passed_by}
+use Rattle.pr_group.specs.private.Matching.{continues_def}
+use Rattle.pr_group.proofs.GroupContinued.{left_over, passed_on, rules_kept}
 use Rattle.pr_group.proofs.Numbers.{numbers_count}
 use Rattle.pr_group.proofs.Places.{place_there}
 use Rattle.pr_group.proofs.Wrote.{AllWrote, all_wrote, in_two_parts}
@@ -74,7 +74,7 @@ module _ {R : Type 0} (fits : R → List Entry → Type 0) (last : R → LastAsk
     waiting = gone.waits_are ∙ older.waiting;
     many = gone.size ∙ gone.new_size ∙ ap (λ (d : GroupDef). length d.rules) (sym gone.def);
     left = sym left ∙ (λ i. left_by (older.left i) (unused_rules (sym news i) was.rules));
-    rules = subst (λ codes. AreKept fits last passed history was.last codes after.rules (continued_rules (rules_of (fresh waits before.file (group_of_def before.def))) was.rules)) (ap (λ (d : GroupDef). d.rules) (sym gone.def))
+    rules = subst (λ definitions. AreKept fits last passed history was.last definitions after.rules (continued_rules (rules_of (fresh waits before.file (group_of_def before.def))) was.rules)) (ap (λ (d : GroupDef). d.rules) (sym gone.def))
         (subst (λ rules. AreKept fits last passed history was.last before.def.rules after.rules (continued_rules rules was.rules)) (sym news) rules_gone);
   }
 
@@ -90,8 +90,8 @@ module _ {R : Type 0} (fits : R → List Entry → Type 0) (last : R → LastAsk
   wrote = λ i m r at there_r.
       let low : i < length kept.rules = slice_get_within kept.rules i m at in
       let size : length kept.rules ≡ length kept.def.rules = keeps.many in
-      let code = place_there kept.def.rules i (omega arith) in
-      (keeps.rules i code.0 m r code.1 at there_r).stands.previous
+      let definition = place_there kept.def.rules i (omega arith) in
+      (keeps.rules i definition.0 m r definition.1 at there_r).stands.previous
 
   many : length kept.rules ≡ length g.rules
   many = keeps.many ∙ sym (sym (length-map g.rules (λ (r : RuleState). r.rule)) ∙ ap (λ (d : Definition). length d.rules) keeps.definition ∙ length-map kept.def.rules rule_of_def)
@@ -108,20 +108,20 @@ module _ {R : Type 0} (fits : R → List Entry → Type 0) (last : R → LastAsk
 -- The alerts of a rule
 
 module _ {R : Type 0} (fits : R → List Entry → Type 0) (last : R → LastAsks) (passed : R → Passed) (kept : KeptGroup R) (history : List Entry) (g : Group) (keeps : KeepsGroup fits last passed kept history g) where
-  alerts_by : (i : ℕ) (r : RuleState) (records : List Record) (code : RuleDef) (o : Option (Remembered R)) (b : Bool) → slice_get g.rules i ≡ Some r → slice_get kept.def.rules i ≡ Some code → slice_get kept.rules i ≡ o → code.alert ≡ b
+  alerts_by : (i : ℕ) (r : RuleState) (records : List Record) (definition : RuleDef) (o : Option (Remembered R)) (b : Bool) → slice_get g.rules i ≡ Some r → slice_get kept.def.rules i ≡ Some definition → slice_get kept.rules i ≡ o → definition.alert ≡ b
       → Some records ≡ cond b (option_map (λ m. m.records) o) None → StandsFor records r.lineage
-  alerts_by i r records code None true h k m a e = absurd (cc)
-  alerts_by i r records code None false h k m a e = absurd (cc)
-  alerts_by i r records code (Some x) false h k m a e = absurd (cc)
-  alerts_by i r records code (Some x) true h k m a e =
-      let rule = keeps.rules i code x r k m h in
+  alerts_by i r records definition None true h k m a e = absurd (cc)
+  alerts_by i r records definition None false h k m a e = absurd (cc)
+  alerts_by i r records definition (Some x) false h k m a e = absurd (cc)
+  alerts_by i r records definition (Some x) true h k m a e =
+      let rule = keeps.rules i definition x r k m h in
       subst (λ l. StandsFor l r.lineage) (sym (same_Some records x.records e)) (rule.stands.records (sym (ap (λ (y : Rule). y.alert) rule.stands.rule) ∙ a))
 
   alerts_stand : (i : ℕ) (r : RuleState) (records : List Record) → slice_get g.rules i ≡ Some r → Some records ≡ alerts_at kept i → StandsFor records r.lineage
   alerts_stand i r records h e = by (slice_get kept.def.rules i) refl e where
     by : (o : Option RuleDef) → slice_get kept.def.rules i ≡ o → Some records ≡ option_and_then (alerts_of_rule kept.rules i) o → StandsFor records r.lineage
     by None k e = absurd (cc)
-    by (Some code) k e = alerts_by i r records code (slice_get kept.rules i) code.alert h k refl refl e
+    by (Some definition) k e = alerts_by i r records definition (slice_get kept.rules i) definition.alert h k refl refl e
 
   pub alerts_if : (i : ℕ) (r : RuleState) (o : Option (List Record)) → slice_get g.rules i ≡ Some r → o ≡ alerts_at kept i → IfSome o (λ records. StandsFor records r.lineage)
   alerts_if i r None h e = tt
@@ -130,10 +130,10 @@ module _ {R : Type 0} (fits : R → List Entry → Type 0) (last : R → LastAsk
 -- A group that goes on
 
 module _ {R : Type 0} (fits : R → List Entry → Type 0) (last : R → LastAsks) (passed : R → Passed) where
-  pub gone_as : (codes codes' older older' : List RuleDef) (olds : List (Remembered R)) (from from' : List (Option ℕ)) (before after : List (Remembered R)) → codes ≡ codes' → older ≡ older' → from ≡ from'
-      → HaveGoneOn fits last passed codes older olds from before after → HaveGoneOn fits last passed codes' older' olds from' before after
-  gone_as codes codes' older older' olds from from' before after e f h gone =
-      subst (λ x. HaveGoneOn fits last passed codes' older' olds x before after) h (subst (λ x. HaveGoneOn fits last passed codes' x olds from before after) f (subst (λ x. HaveGoneOn fits last passed x older olds from before after) e gone))
+  pub gone_as : (definitions definitions' older older' : List RuleDef) (olds : List (Remembered R)) (from from' : List (Option ℕ)) (before after : List (Remembered R)) → definitions ≡ definitions' → older ≡ older' → from ≡ from'
+      → HaveGoneOn fits last passed definitions older olds from before after → HaveGoneOn fits last passed definitions' older' olds from' before after
+  gone_as definitions definitions' older older' olds from from' before after e f h gone =
+      subst (λ x. HaveGoneOn fits last passed definitions' older' olds x before after) h (subst (λ x. HaveGoneOn fits last passed definitions' x olds from before after) f (subst (λ x. HaveGoneOn fits last passed x older olds from before after) e gone))
 
   pub moved : (before before' old old' after : KeptGroup R) → before ≡ before' → old ≡ old' → HasGoneOn fits last passed before old after → HasGoneOn fits last passed before' old' after
   moved before before' old old' after e f gone = subst (λ b. HasGoneOn fits last passed b old' after) e (subst (λ o. HasGoneOn fits last passed before o after) f gone)

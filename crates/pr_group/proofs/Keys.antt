@@ -4,22 +4,22 @@ use Rattle.std.specs.Bool.{Decides}
 use Rattle.std.specs.Str.{bytes_eq}
 use Rattle.std.proofs.lemmas.Bool.Decides.{same_from_decides}
 use Rattle.std.proofs.lemmas.Slice.Eq.{bytes_eq-Decides}
-use Rattle.pr_forms.specs.Form.{rule}
-use Rattle.pr_forms.specs.Table.{is_more, more_of}
-use Rattle.pr_forms.proofs.Decided.{rule_decides}
-use Rattle.pr_forms.proofs.Readings.{Alike, alike, first_goes_on, second_goes_on, readings_alike}
-use Rattle.pr_labels.specs.pr_strings.Quoted.{quoted_text}
-use Rattle.pr_labels.specs.pr_strings.Strings.{IsString, Letter, Text, Value, content, letter, production, seen}
-use Rattle.pr_labels.specs.pr_strings.StringTable.{table}
-use Rattle.pr_labels.proofs.StringsStringTable.{known}
-use Rattle.pr_labels.proofs.StringsWritten.{quoted_reads}
-use Rattle.pr_labels.specs.declared.pair.Pair.{Pair}
-use Rattle.pr_labels.specs.Order.{labels_eq}
-use Rattle.pr_labels.proofs.LabelOrder.{labels_decide}
-use Rattle.pr_rule_step.specs.pr_rulefile.declared.rules.RuleDef.{RuleDef}
-use Rattle.pr_rule_step.specs.pr_rulefile.Rules.{name_key}
-use Rattle.pr_rule_step.specs.pr_rules.Reloads.{same_kind}
-use Rattle.pr_group.specs.Matching.{continues_def, key_of, labels_key}
+use Rattle.pr_ast.specs.pr_forms.Form.{rule}
+use Rattle.pr_ast.specs.pr_forms.Table.{is_more, more_of}
+use Rattle.pr_ast.proofs.FormsDecided.{rule_decides}
+use Rattle.pr_ast.proofs.FormsReadings.{Alike, alike, first_goes_on, second_goes_on, readings_alike}
+use Rattle.pr_ast.specs.pr_words.Quoted.{quoted_text}
+use Rattle.pr_ast.specs.pr_words.Strings.{IsString, Letter, Text, StringValue, content, letter, production, seen}
+use Rattle.pr_ast.specs.pr_words.StringTable.{table}
+use Rattle.pr_ast.proofs.WordsStringTable.{known}
+use Rattle.pr_ast.proofs.WordsWritten.{quoted_reads}
+use Rattle.pr_ast.specs.pr_labels.declared.pair.Pair.{Pair}
+use Rattle.pr_ast.specs.pr_labels.Order.{labels_eq}
+use Rattle.pr_ast.proofs.LabelsLabelOrder.{labels_decide}
+use Rattle.pr_rule.specs.spec_rules.declared.definitions.RuleDef.{RuleDef}
+use Rattle.pr_rule.specs.spec_rules.Definitions.{name_key}
+use Rattle.pr_rule.specs.spec_rules.Reloads.{same_kind}
+use Rattle.pr_group.specs.private.Matching.{continues_def, key_of, labels_key}
 
 -- Bytes in double quotes tell what they are, whatever follows.
 
@@ -37,11 +37,11 @@ seen_same r s e = sym (unseen r) ∙ ap (map byte_of) e ∙ unseen s
 content_same : (b c : List ℕ) → content b ≡ content c → b ≡ c
 content_same b c e = cc
 
-closed : (ts : List Letter) → is_more {V = Value} table (rule Text) ts ≡ true → ⊥
+closed : (ts : List Letter) → is_more {V = StringValue} table (rule Text) ts ≡ true → ⊥
 closed [] h = cc
-closed (t ∷ ts) h = let e : more_of {V = Value} table (rule Text) t ≡ false = refl in cc
+closed (t ∷ ts) h = let e : more_of {V = StringValue} table (rule Text) t ≡ false = refl in cc
 
-one_string : {v w : Value} {p q : List Letter} → Alike table (rule Text) v p w q → (v ≡ w) × (p ≡ q)
+one_string : {v w : StringValue} {p q : List Letter} → Alike table (rule Text) v p w q → (v ≡ w) × (p ≡ q)
 one_string alike = (refl, refl)
 one_string (first_goes_on m) = absurd (closed _ m.is)
 one_string (second_goes_on m) = absurd (closed _ m.is)

@@ -1,15 +1,15 @@
 -- What is kept of a group stands for it over a later history too.
 use Rattle.std.proofs.Common.{◌≡◌, ℕ, ◌<◌, List, ◌++◌, length, slice_get, Option, Some, None, refl, ap, arith}
 use Rattle.std.proofs.lemmas.Option.{slice_get_within}
-use Rattle.pr_history.specs.declared.entry.Entry.{Entry}
-use Rattle.pr_history.specs.Admission.{IsLawful}
-use Rattle.pr_rule_step.specs.pr_rulefile.Groups.{Group as Definition}
-use Rattle.pr_ready.specs.pr_range.Asks.{LastAsks, Passed}
-use Rattle.pr_rule_step.specs.pr_rules.Groups.{Group}
-use Rattle.pr_ready.specs.Within.{ArePassedWithin}
-use Rattle.pr_rule_step.specs.declared.remembered.Remembered.{Remembered}
-use Rattle.pr_group.specs.Keeping.{KeepsGroup, KeptGroup, passed_by, passed_for}
-use Rattle.pr_group.proofs.Continued.{state_there}
+use Rattle.pr_rule.specs.spec_history.declared.entry.Entry.{Entry}
+use Rattle.pr_rule.specs.spec_history.private.Laws.{IsLawful}
+use Rattle.pr_rule.specs.spec_rules.Definitions.{Group as Definition}
+use Rattle.pr_rule.specs.pr_range.private.Asks.{LastAsks, Passed}
+use Rattle.pr_rule.specs.spec_rules.Groups.{Group}
+use Rattle.pr_group.specs.private.Within.{ArePassedWithin}
+use Rattle.pr_rule.specs.declared.remembered.Remembered.{Remembered}
+use Rattle.pr_group.specs.private.Keeping.{KeepsGroup, KeptGroup, passed_by, passed_for}
+use Rattle.pr_group.proofs.GroupContinued.{state_there}
 use Rattle.pr_group.proofs.Places.{place_there}
 use Rattle.pr_group.proofs.Staying.{Stays, rule_stays, same_passed}
 
@@ -22,16 +22,16 @@ module _ {R : Type 0} (fits : R → List Entry → Type 0) (last : R → LastAsk
     waiting = kept.waiting;
     left = kept.left;
     many = kept.many;
-    rules = λ i code m r a b c. rule_stays fits last passed stays history more g.last code m r lawful (kept.rules i code m r a b c);
+    rules = λ i definition m r a b c. rule_stays fits last passed stays history more g.last definition m r lawful (kept.rules i definition m r a b c);
   }
 
   within_at : (i : ℕ) (m : Remembered R) → slice_get k.rules i ≡ Some m → ArePassedWithin history (last m.ranges) (passed m.ranges)
   within_at i m h =
       let low : i < length k.rules = slice_get_within k.rules i m h in
       let many : length k.rules ≡ length k.def.rules = kept.many in
-      let code = place_there k.def.rules i (omega arith) in
-      let state = state_there k.def.rules g.rules i code.0 (ap (λ (d : Definition). d.rules) kept.definition) code.1 in
-      (kept.rules i code.0 m state.0 code.1 h state.1).within
+      let definition = place_there k.def.rules i (omega arith) in
+      let state = state_there k.def.rules g.rules i definition.0 (ap (λ (d : Definition). d.rules) kept.definition) definition.1 in
+      (kept.rules i definition.0 m state.0 definition.1 h state.1).within
 
   one_passed : (i : ℕ) → passed_for passed (history ++ more) (slice_get k.rules i) ≡ passed_for passed history (slice_get k.rules i)
   one_passed i = by (slice_get k.rules i) refl where

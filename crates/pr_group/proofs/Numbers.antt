@@ -4,7 +4,8 @@ use Rattle.std.proofs.Common.{◌≡◌, ℕ, zero, suc, ◌+◌, Bool, true, fa
 use Rattle.std.specs.Prelude.{find}
 use Rattle.std.specs.List.{zip}
 use Rattle.std.specs.Option.{option_and_then, option_map}
-use Rattle.pr_rule_step.specs.pr_rules.Taking.{Numbered, numbered, numbered_from, numbers_taken, taken, without_first}
+use Rattle.pr_rule.specs.spec_rules.private.Laws.{Numbered, numbered, numbered_from, numbers_taken}
+use Rattle.pr_rule.specs.spec_rules.Taking.{taken, without_first}
 
 abbrev renamed : {B D : Type 0} → (B → D) → List (Numbered B) → List (Numbered D)
 renamed g ns = map (λ n. record { index = n.index; item = g n.item }) ns

@@ -11,31 +11,31 @@ use Rattle.std.proofs.lemmas.List.Sums.{sum_by-cons}
 use Rattle.std.proofs.lemmas.List.{append-nil, length-append, length-map, length-set, reverse-append}
 use Rattle.std.proofs.lemmas.List.Elements.{filter-append, filter_map-append}
 use Rattle.std.proofs.lemmas.Option.{get_or_from_slice_get, same_Some, slice_get-map}
-use Rattle.pr_labels.specs.declared.pair.Pair.{Pair}
-use Rattle.pr_history.specs.declared.entry.Entry.{Entry}
-use Rattle.pr_rule_step.specs.pr_head.declared.timed.Timed.{Timed}
-use Rattle.pr_rule_step.specs.pr_head.Holds.{timed}
-use Rattle.pr_rule_step.specs.pr_lineage.declared.record.Record.{Record}
-use Rattle.pr_rule_step.specs.pr_lineage.declared.restored.Restored.{Restored}
-use Rattle.pr_rule_step.specs.pr_lineage.Lineage.{Step, moved, previous, previous_from}
-use Rattle.pr_rule_step.specs.pr_lineage.Records.{is_living, living_count, records}
-use Rattle.pr_rule_step.specs.pr_lineage.Restoring.{for_state_entry, grace_period, moved_time, restored_alert, restored_of, restored_time}
-use Rattle.pr_rule_step.specs.pr_alert.Restoring.{moved_at, moves_of, with_active}
-use Rattle.pr_rule_step.specs.pr_alert.Standing.{StandsFor}
-use Rattle.pr_rule_step.specs.pr_rulefile.declared.rules.RuleDef.{RuleDef}
-use Rattle.pr_rule_step.specs.pr_rulefile.Rules.{Rule, rule_of_def}
-use Rattle.pr_ready.specs.pr_range.Asks.{LastAsks, Passed}
-use Rattle.pr_rule_step.specs.pr_rules.Costs.{restored_reads}
-use Rattle.pr_rule_step.specs.pr_rules.Evaluations.{restored_by, restores, with_restored}
-use Rattle.pr_rule_step.specs.pr_rules.Groups.{RuleState}
+use Rattle.pr_ast.specs.pr_labels.declared.pair.Pair.{Pair}
+use Rattle.pr_rule.specs.spec_history.declared.entry.Entry.{Entry}
+use Rattle.pr_rule.specs.pr_head.declared.timed.Timed.{Timed}
+use Rattle.pr_rule.specs.pr_head.private.Holds.{timed}
+use Rattle.pr_rule.specs.spec_alerts.declared.record.Record.{Record}
+use Rattle.pr_rule.specs.spec_alerts.declared.restored.Restored.{Restored}
+use Rattle.pr_rule.specs.spec_alerts.Lineage.{Occurrence, moved, previous, previous_from}
+use Rattle.pr_rule.specs.spec_alerts.Records.{is_living, living_count, records}
+use Rattle.pr_rule.specs.spec_alerts.Restoring.{for_state_entry, grace_period, moved_time, restored_alert, restored_of, restored_time}
+use Rattle.pr_rule.specs.private.Restoring.{moved_at, moves_of, with_active}
+use Rattle.pr_rule.specs.private.AlertStanding.{StandsFor}
+use Rattle.pr_rule.specs.spec_rules.declared.definitions.RuleDef.{RuleDef}
+use Rattle.pr_rule.specs.spec_rules.Definitions.{Rule, rule_of_def}
+use Rattle.pr_rule.specs.pr_range.private.Asks.{LastAsks, Passed}
+use Rattle.pr_rule.specs.spec_rules.private.Costs.{restored_reads}
+use Rattle.pr_rule.specs.spec_rules.Evaluations.{restored_by, restores, with_restored}
+use Rattle.pr_rule.specs.spec_rules.Groups.{RuleState}
 use Rattle.pr_ast.specs.Tree.{tree_of}
-use Rattle.pr_ready.specs.Asked.{WasAsked}
-use Rattle.pr_ready.specs.Within.{ArePassedWithin}
-use Rattle.pr_rule_step.specs.pr_rule_result.declared.templates.RuleTemplates.{RuleTemplates}
-use Rattle.pr_rule_step.specs.declared.remembered.Remembered.{Remembered}
-use Rattle.pr_rule_step.specs.Standing.{StandsForRule}
-use Rattle.pr_group.specs.Keeping.{AreKept, KeepsRule}
-use Rattle.pr_group.specs.Restoring.{HaveRestored, IsRestored, OnlyChanges, ranges_of, restored_until}
+use Rattle.pr_group.specs.private.Asked.{WasAsked}
+use Rattle.pr_group.specs.private.Within.{ArePassedWithin}
+use Rattle.pr_rule.specs.declared.rule_result.templates.RuleTemplates.{RuleTemplates}
+use Rattle.pr_rule.specs.declared.remembered.Remembered.{Remembered}
+use Rattle.pr_rule.specs.private.Standing.{StandsForRule}
+use Rattle.pr_group.specs.private.Keeping.{AreKept, KeepsRule}
+use Rattle.pr_group.specs.private.Restoring.{HaveRestored, IsRestored, OnlyChanges, ranges_of, restored_until}
 use Rattle.pr_group.proofs.Places.{below_or, fold_next, none_within, place_there, set_here, set_there, take_next}
 
 -- One alert
@@ -44,15 +44,15 @@ moves_are : (r : Record) (t : Option ℕ) → moves_of r t ≡ option_to_list (o
 moves_are r None = refl
 moves_are r (Some active) = refl
 
-stands_moved : (r : Record) (t : Option ℕ) (lineage : List Step) (after : List Record) → StandsFor after (lineage ++ moved (moves_of r t) ∷ []) → StandsFor after (lineage ++ moved (option_to_list (option_map (restored_of r.labels) t)) ∷ [])
+stands_moved : (r : Record) (t : Option ℕ) (lineage : List Occurrence) (after : List Record) → StandsFor after (lineage ++ moved (moves_of r t) ∷ []) → StandsFor after (lineage ++ moved (option_to_list (option_map (restored_of r.labels) t)) ∷ [])
 stands_moved r t lineage after h = subst (λ (l : List Restored). StandsFor after (lineage ++ moved l ∷ [])) (moves_are r t) h
 
-pub moved_not : (t : Option ℕ) (b : Bool) (r : Record) (lineage : List Step) (after : List Record) → b ≡ is_some t → b ≡ false → StandsFor after (lineage ++ moved (moves_of r t) ∷ [])
+pub moved_not : (t : Option ℕ) (b : Bool) (r : Record) (lineage : List Occurrence) (after : List Record) → b ≡ is_some t → b ≡ false → StandsFor after (lineage ++ moved (moves_of r t) ∷ [])
     → IsRestored None (option_map (restored_of r.labels) t) lineage after
 moved_not None b r lineage after is dead h = record { answers = refl; stands = h }
 moved_not (Some active) b r lineage after is dead h = absurd (cc (sym is ∙ dead))
 
-pub moved_so : (t : Option ℕ) (b : Bool) (rs after : List Record) (index : ℕ) (r : Record) (labels : List Pair) (active : ℕ) (lineage : List Step) → slice_get rs index ≡ Some r → labels ≡ r.labels → b ≡ is_some t → b ≡ true
+pub moved_so : (t : Option ℕ) (b : Bool) (rs after : List Record) (index : ℕ) (r : Record) (labels : List Pair) (active : ℕ) (lineage : List Occurrence) → slice_get rs index ≡ Some r → labels ≡ r.labels → b ≡ is_some t → b ≡ true
     → after ≡ moved_at rs index r t → ((x : Record) → slice_get after index ≡ Some x → active ≡ x.active) → StandsFor after (lineage ++ moved (moves_of r t) ∷ [])
     → IsRestored (Some (record { labels = labels; active = active })) (option_map (restored_of r.labels) t) lineage after
 moved_so None b rs after index r labels active lineage at own is sure moving read h = absurd (cc (sym is ∙ sure))
@@ -78,7 +78,7 @@ pub only_moved : (index : ℕ) (rs after : List Record) (t : Option ℕ) → ind
 only_moved index rs after t within h = let there = place_there rs index within in only_one index rs after there.0 t (h there.0 there.1)
 
 -- An alert that is over is not looked at.
-pub over_stays : (history : List Entry) (hold now : ℕ) (rs list : List Record) (index : ℕ) (r x : Record) (lineage : List Step) (b : Bool) → slice_get rs index ≡ Some r → list ≡ rs → x ≡ get_or list index x → b ≡ is_living x → b ≡ false
+pub over_stays : (history : List Entry) (hold now : ℕ) (rs list : List Record) (index : ℕ) (r x : Record) (lineage : List Occurrence) (b : Bool) → slice_get rs index ≡ Some r → list ≡ rs → x ≡ get_or list index x → b ≡ is_living x → b ≡ false
     → StandsFor rs (lineage ++ moved [] ∷ []) → IsRestored None (restored_alert history hold now r) lineage rs
 over_stays history hold now rs list index r x lineage b at same read is over stands =
     let here : x ≡ r = read ∙ ap (λ (l : List Record). get_or l index x) same ∙ get_or_from_slice_get rs index r x at in
@@ -110,7 +110,7 @@ told_living history hold now r labels o living own h =
     (moved_by history hold now r.labels o (h ∙ ap (λ (l : List Pair). option_map timed (for_state_entry history now l)) own))
 
 -- An alert of which nothing was written in the last hour stays.
-pub unwritten_stays : (history : List Entry) (hold now : ℕ) (r : Record) (labels : List Pair) (o : Option Timed) (lineage : List Step) (rs : List Record) → is_living r ≡ true → labels ≡ r.labels → o ≡ option_map timed (for_state_entry history now labels)
+pub unwritten_stays : (history : List Entry) (hold now : ℕ) (r : Record) (labels : List Pair) (o : Option Timed) (lineage : List Occurrence) (rs : List Record) → is_living r ≡ true → labels ≡ r.labels → o ≡ option_map timed (for_state_entry history now labels)
     → o ≡ None → StandsFor rs (lineage ++ moved [] ∷ []) → IsRestored None (restored_alert history hold now r) lineage rs
 unwritten_stays history hold now r labels o lineage rs living own h empty stands =
     let none : restored_alert history hold now r ≡ None =
@@ -118,7 +118,7 @@ unwritten_stays history hold now r labels o lineage rs living own h empty stands
     record { answers = sym none; stands = subst (λ (x : Option Restored). StandsFor rs (lineage ++ moved (option_to_list x) ∷ [])) (sym none) stands }
 
 -- and one of which something was written is moved by that
-pub written_moves : (history : List Entry) (hold now : ℕ) (r : Record) (labels : List Pair) (o : Option Timed) (sample : Timed) (answer : Option Restored) (lineage : List Step) (after : List Record) → is_living r ≡ true → labels ≡ r.labels
+pub written_moves : (history : List Entry) (hold now : ℕ) (r : Record) (labels : List Pair) (o : Option Timed) (sample : Timed) (answer : Option Restored) (lineage : List Occurrence) (after : List Record) → is_living r ≡ true → labels ≡ r.labels
     → o ≡ option_map timed (for_state_entry history now labels) → o ≡ Some sample → IsRestored answer (option_map (restored_of r.labels) (restored_time hold sample.point sample.time now)) lineage after
     → IsRestored answer (restored_alert history hold now r) lineage after
 written_moves history hold now r labels o sample answer lineage after living own h some w =
@@ -163,9 +163,9 @@ living_within rs n base b h = omega (arith, living_front n rs)
 
 -- Two moves, one after the other, are as one.
 abbrev pub AsOne : Type 0
-AsOne = (lineage : List Step) (rs : List Record) (first later : List Restored) → StandsFor rs (lineage ++ moved first ∷ moved later ∷ []) → StandsFor rs (lineage ++ moved (first ++ later) ∷ [])
+AsOne = (lineage : List Occurrence) (rs : List Record) (first later : List Restored) → StandsFor rs (lineage ++ moved first ∷ moved later ∷ []) → StandsFor rs (lineage ++ moved (first ++ later) ∷ [])
 
-pub stands_next : AsOne → (history : List Entry) (hold now : ℕ) (lineage : List Step) (rs after : List Record) (n : ℕ) (r : Record) (answer : Option Restored) → slice_get rs n ≡ Some r
+pub stands_next : AsOne → (history : List Entry) (hold now : ℕ) (lineage : List Occurrence) (rs after : List Record) (n : ℕ) (r : Record) (answer : Option Restored) → slice_get rs n ≡ Some r
     → IsRestored answer (restored_alert history hold now r) (lineage ++ moved (restored_until history hold now rs n) ∷ []) after
     → StandsFor after (lineage ++ moved (restored_until history hold now rs (n + 1)) ∷ [])
 stands_next as_one history hold now lineage rs after n r answer at w =
@@ -173,7 +173,7 @@ stands_next as_one history hold now lineage rs after n r answer at w =
     (as_one lineage after (restored_until history hold now rs n) (option_to_list (restored_alert history hold now r))
     (subst (StandsFor after) (append_assoc lineage (moved (restored_until history hold now rs n) ∷ []) (moved (option_to_list (restored_alert history hold now r)) ∷ [])) w.stands))
 
-pub told_next : (history : List Entry) (hold now : ℕ) (lineage : List Step) (rs after : List Record) (n : ℕ) (r : Record) (answer : Option Restored) (list so_far more : List Restored) → slice_get rs n ≡ Some r
+pub told_next : (history : List Entry) (hold now : ℕ) (lineage : List Occurrence) (rs after : List Record) (n : ℕ) (r : Record) (answer : Option Restored) (list so_far more : List Restored) → slice_get rs n ≡ Some r
     → so_far ≡ list ++ restored_until history hold now rs n → IsRestored answer (restored_alert history hold now r) lineage after → more ≡ so_far ++ option_to_list answer
     → more ≡ list ++ restored_until history hold now rs (n + 1)
 told_next history hold now lineage rs after n r answer list so_far more at before w pushed =
@@ -186,7 +186,7 @@ until_all history hold now rs n e = ap (λ (k : ℕ). restored_until history hol
 
 -- A rule
 
-previous_stays : (lineage : List Step) (alerts : List Restored) → previous lineage ≡ previous (lineage ++ moved alerts ∷ [])
+previous_stays : (lineage : List Occurrence) (alerts : List Restored) → previous lineage ≡ previous (lineage ++ moved alerts ∷ [])
 previous_stays lineage alerts = sym (ap previous_from (reverse-append lineage (moved alerts ∷ [])))
 
 -- where the rule is an alert that is held for long enough, these are restored, and else none
@@ -213,12 +213,12 @@ held_long hold h = grind (arith, nat_tests)
 held_short : (hold : ℕ) → hold < 600000 → nat_lt hold grace_period ≡ true
 held_short hold h = grind (arith, nat_tests)
 
-pub due_stands : (history : List Entry) (now : ℕ) (code : Rule) (r : RuleState) (known : RuleTemplates) (wrote : List (List Pair)) (rs after : List Record) → StandsForRule known wrote rs code r → rs ≡ records r.lineage → code.alert ≡ true → 600000 ≤ code.hold
-    → StandsFor after (r.lineage ++ moved (filter_map (restored_alert history code.hold now) rs) ∷ []) → StandsForRule known wrote after code (with_restored history now r)
-due_stands history now code r known wrote rs after h all alerting held stands =
+pub due_stands : (history : List Entry) (now : ℕ) (definition : Rule) (r : RuleState) (known : RuleTemplates) (wrote : List (List Pair)) (rs after : List Record) → StandsForRule known wrote rs definition r → rs ≡ records r.lineage → definition.alert ≡ true → 600000 ≤ definition.hold
+    → StandsFor after (r.lineage ++ moved (filter_map (restored_alert history definition.hold now) rs) ∷ []) → StandsForRule known wrote after definition (with_restored history now r)
+due_stands history now definition r known wrote rs after h all alerting held stands =
     let mine : r.rule.alert ≡ true = sym (ap (λ (x : Rule). x.alert) h.rule) ∙ alerting in
-    let long : nat_lt r.rule.hold grace_period ≡ false = sym (ap (λ (x : Rule). nat_lt x.hold grace_period) h.rule) ∙ held_long code.hold held in
-    let are : filter_map (restored_alert history code.hold now) rs ≡ restores history now r =
+    let long : nat_lt r.rule.hold grace_period ≡ false = sym (ap (λ (x : Rule). nat_lt x.hold grace_period) h.rule) ∙ held_long definition.hold held in
+    let are : filter_map (restored_alert history definition.hold now) rs ≡ restores history now r =
     (λ i. filter_map (restored_alert history (h.rule i).hold now) (all i)) ∙ sym (due_restores history now r mine long) in
     record {
       rule = h.rule;
@@ -227,66 +227,66 @@ due_stands history now code r known wrote rs after h all alerting held stands =
       records = λ is. subst (λ (l : List Restored). StandsFor after (r.lineage ++ moved l ∷ [])) are stands;
     }
 
-pub due_told : (history : List Entry) (now : ℕ) (code : Rule) (r : RuleState) (rs : List Record) → code ≡ r.rule → rs ≡ records r.lineage → code.alert ≡ true → 600000 ≤ code.hold
-    → filter_map (restored_alert history code.hold now) rs ≡ restores history now r
-due_told history now code r rs same all alerting held =
+pub due_told : (history : List Entry) (now : ℕ) (definition : Rule) (r : RuleState) (rs : List Record) → definition ≡ r.rule → rs ≡ records r.lineage → definition.alert ≡ true → 600000 ≤ definition.hold
+    → filter_map (restored_alert history definition.hold now) rs ≡ restores history now r
+due_told history now definition r rs same all alerting held =
     let mine : r.rule.alert ≡ true = sym (ap (λ (x : Rule). x.alert) same) ∙ alerting in
-    let long : nat_lt r.rule.hold grace_period ≡ false = sym (ap (λ (x : Rule). nat_lt x.hold grace_period) same) ∙ held_long code.hold held in
+    let long : nat_lt r.rule.hold grace_period ≡ false = sym (ap (λ (x : Rule). nat_lt x.hold grace_period) same) ∙ held_long definition.hold held in
     (λ i. filter_map (restored_alert history (same i).hold now) (all i)) ∙ sym (due_restores history now r mine long)
 
-pub due_reads : (code : Rule) (r : RuleState) (rs : List Record) → code ≡ r.rule → rs ≡ records r.lineage → code.alert ≡ true → 600000 ≤ code.hold → living_count rs ≡ restored_reads r
-due_reads code r rs same all alerting held =
+pub due_reads : (definition : Rule) (r : RuleState) (rs : List Record) → definition ≡ r.rule → rs ≡ records r.lineage → definition.alert ≡ true → 600000 ≤ definition.hold → living_count rs ≡ restored_reads r
+due_reads definition r rs same all alerting held =
     let mine : r.rule.alert ≡ true = sym (ap (λ (x : Rule). x.alert) same) ∙ alerting in
-    let long : nat_le grace_period code.hold ≡ true = grind (arith, nat_tests) in
+    let long : nat_le grace_period definition.hold ≡ true = grind (arith, nat_tests) in
     let own : nat_le grace_period r.rule.hold ≡ true = sym (ap (λ (x : Rule). nat_le grace_period x.hold) same) ∙ long in
     ap living_count all ∙ sym (λ i. cond (mine i && own i) (living_count (records r.lineage)) 0)
 
 -- a rule of which nothing is restored: it records, or its alerts are not held for long enough
-not_due : (code : Rule) (r : RuleState) → code ≡ r.rule → (code.alert ≡ true → code.hold < 600000) → (history : List Entry) (now : ℕ) → restores history now r ≡ []
-not_due code r same short history now =
+not_due : (definition : Rule) (r : RuleState) → definition ≡ r.rule → (definition.alert ≡ true → definition.hold < 600000) → (history : List Entry) (now : ℕ) → restores history now r ≡ []
+not_due definition r same short history now =
     none_restores history now r r.rule.alert (nat_lt r.rule.hold grace_period) refl refl (λ is.
-    sym (ap (λ (x : Rule). nat_lt x.hold grace_period) same) ∙ held_short code.hold (short (ap (λ (x : Rule). x.alert) same ∙ is)))
+    sym (ap (λ (x : Rule). nat_lt x.hold grace_period) same) ∙ held_short definition.hold (short (ap (λ (x : Rule). x.alert) same ∙ is)))
 
-pub undue_stands : ((lineage : List Step) (rs : List Record) → StandsFor rs lineage → StandsFor rs (lineage ++ moved [] ∷ [])) → (history : List Entry) (now : ℕ) (code : Rule) (r : RuleState) (known : RuleTemplates) (wrote : List (List Pair)) (rs : List Record)
-    → StandsForRule known wrote rs code r → (code.alert ≡ true → code.hold < 600000) → StandsForRule known wrote rs code (with_restored history now r)
-undue_stands none_stands history now code r known wrote rs h short = record {
+pub undue_stands : ((lineage : List Occurrence) (rs : List Record) → StandsFor rs lineage → StandsFor rs (lineage ++ moved [] ∷ [])) → (history : List Entry) (now : ℕ) (definition : Rule) (r : RuleState) (known : RuleTemplates) (wrote : List (List Pair)) (rs : List Record)
+    → StandsForRule known wrote rs definition r → (definition.alert ≡ true → definition.hold < 600000) → StandsForRule known wrote rs definition (with_restored history now r)
+undue_stands none_stands history now definition r known wrote rs h short = record {
   rule = h.rule;
   templates = h.templates;
   previous = h.previous ∙ previous_stays r.lineage (restores history now r);
-  records = λ is. subst (λ (l : List Restored). StandsFor rs (r.lineage ++ moved l ∷ [])) (sym (not_due code r h.rule short history now)) (none_stands r.lineage rs (h.records is));
+  records = λ is. subst (λ (l : List Restored). StandsFor rs (r.lineage ++ moved l ∷ [])) (sym (not_due definition r h.rule short history now)) (none_stands r.lineage rs (h.records is));
 }
 
-pub undue_told : (history : List Entry) (now : ℕ) (code : Rule) (r : RuleState) (list : List Restored) → code ≡ r.rule → (code.alert ≡ true → code.hold < 600000) → list ≡ list ++ restores history now r
-undue_told history now code r list same short = sym (ap (λ (l : List Restored). list ++ l) (not_due code r same short history now) ∙ nothing list) where
+pub undue_told : (history : List Entry) (now : ℕ) (definition : Rule) (r : RuleState) (list : List Restored) → definition ≡ r.rule → (definition.alert ≡ true → definition.hold < 600000) → list ≡ list ++ restores history now r
+undue_told history now definition r list same short = sym (ap (λ (l : List Restored). list ++ l) (not_due definition r same short history now) ∙ nothing list) where
   nothing : (l : List Restored) → l ++ [] ≡ l
   nothing [] = refl
   nothing (x ∷ l) = ap (λ (m : List Restored). x ∷ m) (nothing l)
 
 -- The rules of a group
 
-module _ {R : Type 0} (tells : Bool) (fits : R → List Entry → Type 0) (last : R → LastAsks) (passed : R → Passed) (history : List Entry) (now : ℕ) (until : Option ℕ) (codes : List RuleDef) (rs : List RuleState) where
-  pub restored_none : (before : List (Remembered R)) (list : List Restored) → list ≡ [] → HaveRestored tells fits last passed history now until codes before before rs list 0
-  restored_none before list none = record { done = λ i code m r low. absurd (omega arith); later = λ j low. refl; telling = λ read. none }
+module _ {R : Type 0} (tells : Bool) (fits : R → List Entry → Type 0) (last : R → LastAsks) (passed : R → Passed) (history : List Entry) (now : ℕ) (until : Option ℕ) (definitions : List RuleDef) (rs : List RuleState) where
+  pub restored_none : (before : List (Remembered R)) (list : List Restored) → list ≡ [] → HaveRestored tells fits last passed history now until definitions before before rs list 0
+  restored_none before list none = record { done = λ i definition m r low. absurd (omega arith); later = λ j low. refl; telling = λ read. none }
 
   -- what is kept of a rule whose alerts were restored
-  kept_restored : (code : RuleDef) (m m' : Remembered R) (r : RuleState) → m' ≡ record m { records = m'.records } → KeepsRule fits last passed history until code m r
-      → StandsForRule m'.templates m'.previous m'.records (rule_of_def code) (with_restored history now r) → KeepsRule fits last passed history until code m' (with_restored history now r)
-  kept_restored code m m' r rest k stands =
+  kept_restored : (definition : RuleDef) (m m' : Remembered R) (r : RuleState) → m' ≡ record m { records = m'.records } → KeepsRule fits last passed history until definition m r
+      → StandsForRule m'.templates m'.previous m'.records (rule_of_def definition) (with_restored history now r) → KeepsRule fits last passed history until definition m' (with_restored history now r)
+  kept_restored definition m m' r rest k stands =
       let same : m.ranges ≡ m'.ranges = sym (ap (λ (x : Remembered R). x.ranges) rest) in
       record {
         stands = stands;
         truly = subst (λ (x : R). fits x history) same k.truly;
-        asked = subst (λ (x : R). WasAsked (last x) (tree_of code.expr) until) same k.asked;
+        asked = subst (λ (x : R). WasAsked (last x) (tree_of definition.expr) until) same k.asked;
         within = subst (λ (x : R). ArePassedWithin history (last x) (passed x)) same k.within;
       }
 
-  pub restored_then : (n : ℕ) (code : RuleDef) (r : RuleState) (m m' : Remembered R) (before after : List (Remembered R)) (list more : List Restored) → slice_get codes n ≡ Some code → slice_get rs n ≡ Some r → slice_get after n ≡ Some m
-      → AreKept fits last passed history until codes before rs → HaveRestored tells fits last passed history now until codes before after rs list n → m' ≡ record m { records = m'.records }
-      → (StandsForRule m.templates m.previous m.records (rule_of_def code) r → StandsForRule m'.templates m'.previous m'.records (rule_of_def code) (with_restored history now r))
-      → (StandsForRule m.templates m.previous m.records (rule_of_def code) r → tells ≡ true → more ≡ list ++ restores history now r)
-      → HaveRestored tells fits last passed history now until codes before (set after n m') rs more (n + 1)
-  restored_then n code r m m' before after list more ec er em was h rest stands telling =
-      let kept : KeepsRule fits last passed history until code m r = was n code m r ec (sym (h.later n (omega arith)) ∙ em) er in
+  pub restored_then : (n : ℕ) (definition : RuleDef) (r : RuleState) (m m' : Remembered R) (before after : List (Remembered R)) (list more : List Restored) → slice_get definitions n ≡ Some definition → slice_get rs n ≡ Some r → slice_get after n ≡ Some m
+      → AreKept fits last passed history until definitions before rs → HaveRestored tells fits last passed history now until definitions before after rs list n → m' ≡ record m { records = m'.records }
+      → (StandsForRule m.templates m.previous m.records (rule_of_def definition) r → StandsForRule m'.templates m'.previous m'.records (rule_of_def definition) (with_restored history now r))
+      → (StandsForRule m.templates m.previous m.records (rule_of_def definition) r → tells ≡ true → more ≡ list ++ restores history now r)
+      → HaveRestored tells fits last passed history now until definitions before (set after n m') rs more (n + 1)
+  restored_then n definition r m m' before after list more ec er em was h rest stands telling =
+      let kept : KeepsRule fits last passed history until definition m r = was n definition m r ec (sym (h.later n (omega arith)) ∙ em) er in
       record {
         done = λ i c k x low ic ik ix. by i c k x (below_or i n low) ic ik ix;
         later = λ j low. set_there after n j m' (λ e. absurd (omega arith)) ∙ h.later j (omega arith);
@@ -297,31 +297,31 @@ module _ {R : Type 0} (tells : Bool) (fits : R → List Entry → Type 0) (last 
         joined [] x = append-nil (restores history now x)
         joined (y ∷ xs) x = ap (λ (l : List Restored). restores history now y ++ l) (joined xs x) ∙ sym (append_assoc (restores history now y) (flat_map (restores history now) xs) (restores history now x))
 
-        kept_there : KeepsRule fits last passed history until code m r
-        kept_there = was n code m r ec (sym (h.later n (omega arith)) ∙ em) er
+        kept_there : KeepsRule fits last passed history until definition m r
+        kept_there = was n definition m r ec (sym (h.later n (omega arith)) ∙ em) er
 
-        by : (i : ℕ) (c : RuleDef) (k : Remembered R) (x : RuleState) → (i < n) ⊎ (i ≡ n) → slice_get codes i ≡ Some c → slice_get (set after n m') i ≡ Some k → slice_get rs i ≡ Some x
+        by : (i : ℕ) (c : RuleDef) (k : Remembered R) (x : RuleState) → (i < n) ⊎ (i ≡ n) → slice_get definitions i ≡ Some c → slice_get (set after n m') i ≡ Some k → slice_get rs i ≡ Some x
             → KeepsRule fits last passed history until c k (with_restored history now x)
         by i c k x (inl e) ic ik ix = h.done i c k x e ic (sym (set_there after n i m' (λ same. absurd (omega arith))) ∙ ik) ix
         by i c k x (inr e) ic ik ix =
             let here : n ≡ i = sym e in
-            let same_code : code ≡ c = same_Some code c (sym ec ∙ ap (slice_get codes) here ∙ ic) in
+            let same_code : definition ≡ c = same_Some definition c (sym ec ∙ ap (slice_get definitions) here ∙ ic) in
             let same_rule : r ≡ x = same_Some r x (sym er ∙ ap (slice_get rs) here ∙ ix) in
             let same_kept : m' ≡ k = same_Some m' k (sym (set_here after n m' (none_within after n m em)) ∙ ap (slice_get (set after n m')) here ∙ ik) in
             subst (λ (y : RuleState). KeepsRule fits last passed history until c k (with_restored history now y)) same_rule
             (subst (λ (y : Remembered R). KeepsRule fits last passed history until c y (with_restored history now r)) same_kept
             (subst (λ (y : RuleDef). KeepsRule fits last passed history until y m' (with_restored history now r)) same_code
-            (kept_restored code m m' r rest kept_there (stands kept_there.stands))))
+            (kept_restored definition m m' r rest kept_there (stands kept_there.stands))))
 
-  pub all_restored : (n : ℕ) (before after : List (Remembered R)) (list : List Restored) → n ≡ length rs → HaveRestored tells fits last passed history now until codes before after rs list n
-      → AreKept fits last passed history until codes after (map (with_restored history now) rs)
+  pub all_restored : (n : ℕ) (before after : List (Remembered R)) (list : List Restored) → n ≡ length rs → HaveRestored tells fits last passed history now until definitions before after rs list n
+      → AreKept fits last passed history until definitions after (map (with_restored history now) rs)
   all_restored n before after list all h = λ i c k x ic ik ix.
       let old = place_there rs i (subst (λ (j : ℕ). i < j) (length-map rs (with_restored history now)) (none_within (map (with_restored history now) rs) i x ix)) in
       let low : i < length rs = none_within rs i old.0 old.1 in
       let same : with_restored history now old.0 ≡ x = same_Some (with_restored history now old.0) x (sym (slice_get-map (with_restored history now) rs i ∙ ap (option_map (with_restored history now)) old.1) ∙ ix) in
       subst (λ (y : RuleState). KeepsRule fits last passed history until c k y) same (h.done i c k old.0 (omega arith) ic ik old.1)
 
-  pub all_told : (n : ℕ) (before after : List (Remembered R)) (list : List Restored) → n ≡ length rs → HaveRestored tells fits last passed history now until codes before after rs list n → tells ≡ true → list ≡ flat_map (restores history now) rs
+  pub all_told : (n : ℕ) (before after : List (Remembered R)) (list : List Restored) → n ≡ length rs → HaveRestored tells fits last passed history now until definitions before after rs list n → tells ≡ true → list ≡ flat_map (restores history now) rs
   all_told n before after list all h read = h.telling read ∙ ap (λ (k : ℕ). flat_map (restores history now) (take k rs)) all ∙ ap (flat_map (restores history now)) (take-length rs)
 
 pub reads_next : (rs : List RuleState) (n : ℕ) (r : RuleState) → slice_get rs n ≡ Some r → sum_by restored_reads (take (n + 1) rs) ≡ sum_by restored_reads (take n rs) + restored_reads r
@@ -345,8 +345,8 @@ ranges_set {R} (k ∷ ms) zero m m' at rest = let same : m'.ranges ≡ k.ranges 
 ranges_set {R} (k ∷ ms) (suc n) m m' at rest = ap (λ (l : List R). k.ranges ∷ l) (ranges_set ms n m m' at rest)
 
 -- what is remembered of a rule, but for its alerts, stays
-pub stands_with : {R : Type 0} (m m' : Remembered R) (code : Rule) (r : RuleState) → m' ≡ record m { records = m'.records } → StandsForRule m.templates m.previous m'.records code r → StandsForRule m'.templates m'.previous m'.records code r
-stands_with {R} m m' code r rest h = subst (λ (x : Remembered R). StandsForRule x.templates x.previous x.records code r) (sym rest) h
+pub stands_with : {R : Type 0} (m m' : Remembered R) (definition : Rule) (r : RuleState) → m' ≡ record m { records = m'.records } → StandsForRule m.templates m.previous m'.records definition r → StandsForRule m'.templates m'.previous m'.records definition r
+stands_with {R} m m' definition r rest h = subst (λ (x : Remembered R). StandsForRule x.templates x.previous x.records definition r) (sym rest) h
 
 pub rules_reads : (rs : List RuleState) (n : ℕ) (r : RuleState) (base a b : ℕ) → slice_get rs n ≡ Some r → a ≤ base + sum_by restored_reads (take n rs) → b ≤ a + restored_reads r → b ≤ base + sum_by restored_reads (take (n + 1) rs)
 rules_reads rs n r base a b at so_far more = omega (arith, reads_next rs n r at)

@@ -2,8 +2,8 @@
 use Rattle.std.proofs.Common.{◌≡◌, ℕ, zero, suc, ◌+◌, ◌<◌, nat_eq, Bool, true, false, ◌||◌, List, [], ◌∷◌, ◌++◌, map, set, take, slice_get, Option, Some, None, refl, ap, ◌∙◌, arith}
 use Rattle.std.proofs.lemmas.Grind.{common_steps}
 use borrow.Author.Tests.{eqb-true}
-use Rattle.pr_ready.specs.pr_range.Carried.{IsOnce}
-use Rattle.pr_group.specs.Matching.{is_named, kept_if, names, spared, spared_from}
+use Rattle.pr_rule.specs.pr_range.private.Carried.{IsOnce}
+use Rattle.pr_group.specs.private.Matching.{is_named, kept_if, names, spared, spared_from}
 
 or_false : (b : Bool) → (b || false) ≡ b
 or_false true = refl

@@ -2,25 +2,26 @@
 use Rattle.std.proofs.Common.{◌≡◌, ℕ, ◌<◌, ◌≤◌, ◌⊎◌, inl, inr, false, List, [], ◌∷◌, ◌++◌, append-nil, append_assoc, length, Option, Some, None, sym, ap, ◌∙◌, subst, arith}
 use Rattle.std.specs.List.{position_or_len}
 use Rattle.std.proofs.lemmas.Option.{slice_get_within}
-use Rattle.pr_labels.specs.declared.pair.Pair.{Pair}
-use Rattle.pr_labels.specs.Order.{labels_eq}
-use Rattle.pr_history.specs.declared.entry.Entry.{Entry}
-use Rattle.pr_history.specs.Admission.{IsLawful, put_all}
-use Rattle.pr_history.proofs.Lawful.{after_parts, put_all_lawful}
-use Rattle.pr_rule_step.specs.pr_head.Holds.{arrivals}
-use Rattle.pr_rule_step.specs.pr_puts.Puts.{admitted}
-use Rattle.pr_rule_step.proofs.PutsPutting.{puts_admitted}
-use Rattle.pr_ready.specs.pr_range.Asks.{LastAsk, LastAsks, Passed}
-use Rattle.pr_rule_step.specs.pr_range_calls.Asking.{series_number}
-use Rattle.pr_rule_step.specs.pr_eval.Evaluated.{passed_outside}
-use Rattle.pr_rule_step.specs.pr_rulefile.declared.rules.RuleDef.{RuleDef}
-use Rattle.pr_rule_step.specs.pr_rules.Groups.{RuleState}
-use Rattle.pr_ready.specs.Within.{ArePassedWithin, IsPassedWithin}
-use Rattle.pr_ready.proofs.Falling.{later_within}
-use Rattle.pr_ready.proofs.Lists.{first_stays}
-use Rattle.pr_ready.proofs.Numbers.{arrivals_grow}
-use Rattle.pr_rule_step.specs.declared.remembered.Remembered.{Remembered}
-use Rattle.pr_group.specs.Keeping.{KeepsRule}
+use Rattle.pr_ast.specs.pr_labels.declared.pair.Pair.{Pair}
+use Rattle.pr_ast.specs.pr_labels.Order.{labels_eq}
+use Rattle.pr_rule.specs.spec_history.declared.entry.Entry.{Entry}
+use Rattle.pr_rule.specs.spec_history.private.Laws.{IsLawful}
+use Rattle.pr_rule.specs.spec_history.Admission.{put_all}
+use Rattle.pr_rule.proofs.HistoryLawful.{after_parts, put_all_lawful}
+use Rattle.pr_rule.specs.pr_head.private.Holds.{arrivals}
+use Rattle.pr_rule.specs.spec_history.Puts.{admitted}
+use Rattle.pr_rule.proofs.HistoryPutting.{puts_admitted}
+use Rattle.pr_rule.specs.pr_range.private.Asks.{LastAsk, LastAsks, Passed}
+use Rattle.pr_rule.specs.pr_eval.private.RangeCallsAsking.{series_number}
+use Rattle.pr_rule.specs.pr_eval.private.Evaluated.{passed_outside}
+use Rattle.pr_rule.specs.spec_rules.declared.definitions.RuleDef.{RuleDef}
+use Rattle.pr_rule.specs.spec_rules.Groups.{RuleState}
+use Rattle.pr_group.specs.private.Within.{ArePassedWithin, IsPassedWithin}
+use Rattle.pr_group.proofs.Falling.{later_within}
+use Rattle.pr_group.proofs.Lists.{first_stays}
+use Rattle.pr_group.proofs.ReadyNumbers.{arrivals_grow}
+use Rattle.pr_rule.specs.declared.remembered.Remembered.{Remembered}
+use Rattle.pr_group.specs.private.Keeping.{KeepsRule}
 use Rattle.pr_group.proofs.Places.{first_or_past}
 
 -- What was passed
@@ -61,18 +62,18 @@ fits_stay fits stays s history (e ∷ more) lawful h =
 
 -- Rules
 
-pub rule_stays : {R : Type 0} (fits : R → List Entry → Type 0) (last : R → LastAsks) (passed : R → Passed) → Stays fits → (history more : List Entry) (until : Option ℕ) (code : RuleDef) (m : Remembered R) (r : RuleState)
-    → IsLawful (history ++ more) → KeepsRule fits last passed history until code m r → KeepsRule fits last passed (history ++ more) until code m r
-rule_stays fits last passed stays history more until code m r lawful k = record {
+pub rule_stays : {R : Type 0} (fits : R → List Entry → Type 0) (last : R → LastAsks) (passed : R → Passed) → Stays fits → (history more : List Entry) (until : Option ℕ) (definition : RuleDef) (m : Remembered R) (r : RuleState)
+    → IsLawful (history ++ more) → KeepsRule fits last passed history until definition m r → KeepsRule fits last passed (history ++ more) until definition m r
+rule_stays fits last passed stays history more until definition m r lawful k = record {
   stands = k.stands;
   truly = fits_stay fits stays m.ranges history more lawful k.truly;
   asked = k.asked;
   within = later_within history more (last m.ranges) (passed m.ranges) k.within;
 }
 
-pub rule_stays_put : {R : Type 0} (fits : R → List Entry → Type 0) (last : R → LastAsks) (passed : R → Passed) → Stays fits → (history entries : List Entry) (until : Option ℕ) (code : RuleDef) (m : Remembered R) (r : RuleState)
-    → IsLawful history → KeepsRule fits last passed history until code m r → KeepsRule fits last passed (put_all history entries) until code m r
-rule_stays_put fits last passed stays history entries until code m r lawful k =
+pub rule_stays_put : {R : Type 0} (fits : R → List Entry → Type 0) (last : R → LastAsks) (passed : R → Passed) → Stays fits → (history entries : List Entry) (until : Option ℕ) (definition : RuleDef) (m : Remembered R) (r : RuleState)
+    → IsLawful history → KeepsRule fits last passed history until definition m r → KeepsRule fits last passed (put_all history entries) until definition m r
+rule_stays_put fits last passed stays history entries until definition m r lawful k =
     let are : put_all history entries ≡ history ++ admitted history entries = puts_admitted history entries in
-    subst (λ (l : List Entry). KeepsRule fits last passed l until code m r) (sym are)
-    (rule_stays fits last passed stays history (admitted history entries) until code m r (subst IsLawful are (put_all_lawful history entries lawful)) k)
+    subst (λ (l : List Entry). KeepsRule fits last passed l until definition m r) (sym are)
+    (rule_stays fits last passed stays history (admitted history entries) until definition m r (subst IsLawful are (put_all_lawful history entries lawful)) k)

@@ -2,9 +2,10 @@
 use Rattle.std.proofs.Common.{◌≡◌, ℕ, suc, ◌+◌, ◌<◌, ◌≤◌, nat_eq, Bool, true, false, not, cond, ◌||◌, List, [], ◌∷◌, filter, map, Option, Some, None, refl, sym, ap, subst, ◌∙◌, arith}
 use Rattle.std.specs.Prelude.{find}
 use Rattle.std.specs.Option.{option_map}
-use Rattle.pr_rule_step.specs.pr_rules.Taking.{Numbered, numbered, numbered_from, numbers_taken, taken, untaken, without_first}
+use Rattle.pr_rule.specs.spec_rules.private.Laws.{Numbered, numbered, numbered_from, numbers_taken}
+use Rattle.pr_rule.specs.spec_rules.Taking.{taken, untaken, without_first}
 use Rattle.pr_group.proofs.Spared.{alike, apart, apart_too}
-use Rattle.pr_group.specs.Matching.{is_named, kept_if, names, spared, spared_from}
+use Rattle.pr_group.specs.private.Matching.{is_named, kept_if, names, spared, spared_from}
 
 abbrev items : {B : Type 0} → List (Numbered B) → List B
 items ns = map (λ n. n.item) ns

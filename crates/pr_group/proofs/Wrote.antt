@@ -2,14 +2,14 @@
 use Rattle.std.proofs.Common.{◌≡◌, ℕ, suc, ◌+◌, Bool, true, false, List, [], ◌∷◌, ◌++◌, flat_map, fold, length, slice_get, Option, Some, refl, sym, ◌∙◌, arith}
 use Rattle.std.proofs.lemmas.List.Sums.{fold-append}
 use Rattle.std.specs.Prelude.{Result, Ok, Err, IfOk}
-use Rattle.pr_labels.specs.declared.pair.Pair.{Pair}
-use Rattle.pr_labels.specs.Rising.{with_labels}
-use Rattle.pr_ready.specs.pr_vectors.Vectors.{in_label_order}
-use Rattle.pr_rule_step.specs.pr_lineage.Lineage.{previous}
-use Rattle.pr_rule_step.specs.pr_rules.Groups.{RuleState}
-use Rattle.pr_rule_step.specs.declared.remembered.Remembered.{Remembered}
-use Rattle.pr_group.specs.Carrying.{previous_in}
-use Rattle.pr_group.specs.Matching.{is_named, kept_if, spared_from}
+use Rattle.pr_ast.specs.pr_labels.declared.pair.Pair.{Pair}
+use Rattle.pr_ast.specs.pr_labels.Rising.{with_labels}
+use Rattle.pr_rule.specs.spec_vectors.Vectors.{in_label_order}
+use Rattle.pr_rule.specs.spec_alerts.Lineage.{previous}
+use Rattle.pr_rule.specs.spec_rules.Groups.{RuleState}
+use Rattle.pr_rule.specs.declared.remembered.Remembered.{Remembered}
+use Rattle.pr_group.specs.private.Carrying.{previous_in}
+use Rattle.pr_group.specs.private.Matching.{is_named, kept_if, spared_from}
 use Rattle.pr_group.proofs.Unused.{somes}
 
 -- Label sets are put among others in two parts.

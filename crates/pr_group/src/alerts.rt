@@ -1,22 +1,22 @@
 // The alerts of a group.
 ghost use Rattle.std.specs.Prelude.{◌≡◌, ℕ, List, false, is_some, option_copied, slice_get, Some, IfSome};
 ghost use Rattle.std.specs.Option.{option_map_or};
-ghost use Rattle.pr_history.specs.declared.entry.Entry.{Entry};
-ghost use Rattle.pr_rule_step.specs.pr_alert.Standing.{StandsFor};
-ghost use Rattle.pr_rule_step.specs.pr_rules.Groups.{Group, RuleState};
-ghost use Rattle.pr_group.specs.Keeping.{KeepsGroup, alerts_at};
+ghost use Rattle.pr_rule.specs.spec_history.declared.entry.Entry.{Entry};
+ghost use Rattle.pr_rule.specs.private.AlertStanding.{StandsFor};
+ghost use Rattle.pr_rule.specs.spec_rules.Groups.{Group, RuleState};
+ghost use Rattle.pr_group.specs.private.Keeping.{KeepsGroup, alerts_at};
 
 use crate::group::GroupOver;
-use pr_ready::range::Ranges;
-use pr_rule_step::alert::Records;
+use pr_rule::alert::Records;
+use pr_rule::range::Ranges;
 
 impl<R: Ranges + Drop> GroupOver<R> {
     // The alerts of the rule with a number, where it is an alert.
     fn alerts(&self, rule: usize) -> Option<&Records>
         ensures { option_copied result ≡ alerts_at self.now rule }
     {
-        let code = self.def.rules.as_slice().get(rule)?;
-        if !code.alert {
+        let definition = self.def.rules.as_slice().get(rule)?;
+        if !definition.alert {
             return None;
         }
         Some(self.rules.get(rule)?.records())

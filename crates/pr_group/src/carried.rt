@@ -1,16 +1,16 @@
 // What is remembered of rules goes on from that of older ones.
 ghost use Rattle.std.specs.Prelude.{◌≡◌, ℕ, ◌<◌, List, Option, Some, None, IfOk, OnOk, length, map, slice_get, slice_set};
 ghost use Rattle.pr_ast.specs.Tree.{tree_of};
-ghost use Rattle.pr_ready.specs.pr_range.Carried.{IsOnce};
-ghost use Rattle.pr_ready.specs.pr_continued.Named.{AreBelow};
-ghost use Rattle.pr_rule_step.specs.declared.remembered.Remembered.{Remembered as Kept};
-ghost use Rattle.pr_group.specs.Carrying.{GoesOn, HaveGoneOn, MayGoOn, without_named};
-ghost use Rattle.pr_group.specs.Matching.{spared};
+ghost use Rattle.pr_rule.specs.pr_range.private.Carried.{IsOnce};
+ghost use Rattle.pr_group.specs.private.Named.{AreBelow};
+ghost use Rattle.pr_rule.specs.declared.remembered.Remembered.{Remembered as Kept};
+ghost use Rattle.pr_group.specs.private.Carrying.{GoesOn, HaveGoneOn, MayGoOn, without_named};
+ghost use Rattle.pr_group.specs.private.Matching.{spared};
 
-use pr_ready::continued::carried;
-use pr_ready::range::Ranges;
-use pr_rule_step::Remembered;
-use pr_rule_step::rulefile::RuleDef;
+use crate::continued::carried;
+use pr_rule::Remembered;
+use pr_rule::range::Ranges;
+use pr_rule::rules_crate::RuleDef;
 use std::alloc::{AllocError, Global};
 
 /// What is remembered of older rules, to be taken one by one.

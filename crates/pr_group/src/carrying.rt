@@ -1,23 +1,23 @@
 // A group that goes on from an older one at a reload.
 ghost use Rattle.std.specs.Prelude.{◌≡◌, ◌++◌, ℕ, List, IfOk, OnOk, flat_map};
-ghost use Rattle.pr_labels.specs.declared.pair.Pair.{Pair};
-ghost use Rattle.pr_history.specs.declared.entry.Entry.{Entry};
-ghost use Rattle.pr_ready.specs.pr_vectors.Vectors.{in_label_order};
-ghost use Rattle.pr_rule_step.specs.pr_rulefile.Groups.{group_of_def};
-ghost use Rattle.pr_rule_step.specs.pr_rules.Carried.{carried_by_group};
-ghost use Rattle.pr_rule_step.specs.pr_rules.Groups.{Group, fresh};
-ghost use Rattle.pr_rule_step.specs.pr_rules.Reloads.{carried};
-ghost use Rattle.pr_group.specs.Keeping.{KeepsGroup, passed_by, settings_of};
-ghost use Rattle.pr_group.specs.Carrying.{HasGoneOn, previous_in};
+ghost use Rattle.pr_ast.specs.pr_labels.declared.pair.Pair.{Pair};
+ghost use Rattle.pr_rule.specs.spec_history.declared.entry.Entry.{Entry};
+ghost use Rattle.pr_rule.specs.spec_vectors.Vectors.{in_label_order};
+ghost use Rattle.pr_rule.specs.spec_rules.Definitions.{group_of_def};
+ghost use Rattle.pr_rule.specs.spec_rules.private.Carried.{carried_by_group};
+ghost use Rattle.pr_rule.specs.spec_rules.Groups.{Group, fresh};
+ghost use Rattle.pr_rule.specs.spec_rules.Reloads.{carried};
+ghost use Rattle.pr_group.specs.private.Keeping.{KeepsGroup, passed_by, settings_of};
+ghost use Rattle.pr_group.specs.private.Carrying.{HasGoneOn, previous_in};
 
 use crate::carried::{carry_rules, to_take};
 use crate::group::GroupOver;
 use crate::matching::continued_numbers;
 use crate::written::{add_all, add_spared, listed};
-use pr_labels::Labels;
-use pr_ready::range::Ranges;
-use pr_rule_step::Remembered;
-use pr_words::Items;
+use pr_ast::labels::Labels;
+use pr_ast::words_crate::Items;
+use pr_rule::Remembered;
+use pr_rule::range::Ranges;
 use std::alloc::{AllocError, Global};
 use std::collections::BTreeSet;
 

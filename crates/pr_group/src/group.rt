@@ -1,35 +1,33 @@
 // A group of rules, and its evaluation.
 ghost use Rattle.std.specs.Prelude.{◌≡◌, ℕ, ◌+◌, ◌<◌, ◌≤◌, ◌==◌, pred, true, List, [], All, flat_map, length, map, sum_by, Option, Some, IfOk, OnOk};
-ghost use Rattle.pr_labels.specs.declared.pair.Pair.{Pair};
-ghost use Rattle.pr_history.specs.declared.entry.Entry.{Entry};
-ghost use Rattle.pr_history.specs.Admission.{put_all};
-ghost use Rattle.pr_rule_step.specs.pr_rulefile.Groups.{group_of_def};
-ghost use Rattle.pr_rule_step.specs.pr_intake.Intake.{HasTaken};
-ghost use Rattle.pr_rule_step.specs.pr_rulefile.Rules.{rule_of_def};
-ghost use Rattle.pr_rule_step.specs.pr_rule_result.Templates.{HasTemplates, HaveTemplates};
-ghost use Rattle.pr_rule_step.specs.pr_rules.Costs.{group_cost, restored_reads, restoring_cost, rules_cost};
-ghost use Rattle.pr_rule_step.specs.pr_rules.Evaluations.{all_rules, begun, group_step, restores, with_restored};
-ghost use Rattle.pr_rule_step.specs.pr_rules.Groups.{Group, RuleState, fresh};
-ghost use Rattle.pr_rule_step.specs.pr_rules.Passed.{IsPassedAfter};
-ghost use Rattle.pr_rule_step.specs.pr_rules.Times.{IsAfter};
-ghost use Rattle.pr_group.specs.Keeping.{AreKept, KeepsGroup, MayEvaluateOver, passed_by, settings_of, waits_of};
-ghost use Rattle.pr_group.specs.Evaluating.{AreNew, HasCome};
-ghost use Rattle.pr_group.specs.Restoring.{ranges_of, restored_alerts, restored_rules};
+ghost use Rattle.pr_ast.specs.pr_labels.declared.pair.Pair.{Pair};
+ghost use Rattle.pr_rule.specs.spec_history.declared.entry.Entry.{Entry};
+ghost use Rattle.pr_rule.specs.spec_history.Admission.{put_all};
+ghost use Rattle.pr_rule.specs.spec_rules.Definitions.{group_of_def, rule_of_def};
+ghost use Rattle.pr_rule.specs.pr_head.private.Intake.{HasTaken};
+ghost use Rattle.pr_rule.specs.private.Templates.{HasTemplates, HaveTemplates};
+ghost use Rattle.pr_rule.specs.spec_rules.private.Costs.{group_cost, restored_reads, restoring_cost, rules_cost};
+ghost use Rattle.pr_rule.specs.spec_rules.Evaluations.{all_rules, begun, group_step, restores, with_restored};
+ghost use Rattle.pr_rule.specs.spec_rules.Groups.{Group, RuleState, fresh};
+ghost use Rattle.pr_rule.specs.spec_rules.private.Passed.{IsPassedAfter};
+ghost use Rattle.pr_rule.specs.spec_rules.private.Times.{IsAfter};
+ghost use Rattle.pr_group.specs.private.Keeping.{AreKept, KeepsGroup, MayEvaluateOver, passed_by, settings_of, waits_of};
+ghost use Rattle.pr_group.specs.private.Evaluating.{AreNew, HasCome};
+ghost use Rattle.pr_group.specs.private.Restoring.{ranges_of, restored_alerts, restored_rules};
 
 use crate::restoring::restore_rules;
 use crate::rules::evaluate_rules;
-use pr_history::Entry;
-use pr_history::time::{Ms, Span};
-use pr_labels::Labels;
-use pr_ready::range::Ranges;
-use pr_rule_step::head::Head;
-use pr_rule_step::intake::mark_if;
-use pr_rule_step::lineage::Restored;
-use pr_rule_step::rulefile::{GroupDef, RuleDef};
-use pr_rule_step::rules_crate::{GroupReport, RuleReport};
-use pr_rule_step::tmpl::External;
-use pr_rule_step::{Evaluation, Remembered};
-use pr_words::{Items, Steps, Text};
+use pr_ast::labels::Labels;
+use pr_ast::time::{Ms, Span};
+use pr_ast::words_crate::{Items, Steps, Text};
+use pr_rule::alerts_crate::Restored;
+use pr_rule::head::Head;
+use pr_rule::head::intake::mark_if;
+use pr_rule::history::Entry;
+use pr_rule::range::Ranges;
+use pr_rule::rules_crate::{GroupDef, GroupReport, RuleDef, RuleReport};
+use pr_rule::tmpl::External;
+use pr_rule::{Evaluation, Remembered};
 use std::alloc::{AllocError, Global};
 use std::marker::Model;
 use std::sync::ledger::Ledger;
@@ -52,8 +50,8 @@ pub struct GroupOver<R> {
 
 impl<R> Model for GroupOver<R> {
     ghost use Rattle.std.specs.Prelude.{◌≡◌, ◌<◌, length};
-    ghost use Rattle.pr_rule_step.specs.pr_rule_result.Templates.{HaveTemplates};
-    ghost use Rattle.pr_group.specs.Keeping.{KeptGroup};
+    ghost use Rattle.pr_rule.specs.private.Templates.{HaveTemplates};
+    ghost use Rattle.pr_group.specs.private.Keeping.{KeptGroup};
     ghost use Rattle.pr_ast.specs.contracts.tree.ExprKind as kinds;
     ghost use Rattle.std.specs.Coded.{codes};
 
@@ -75,14 +73,14 @@ fn waits_of(waits: bool) -> u8
 // What is remembered of rules to which nothing has happened.
 fn remembered<R: Ranges + Drop>(
     alloc: Global,
-    codes: &[RuleDef],
+    definitions: &[RuleDef],
 ) -> Result<Vec<Remembered<R>>, AllocError>
-    requires { All (λ r. HasTemplates (rule_of_def r)) codes.now }
-    ensures { IfOk result (λ v. AreNew R.fits R.last R.passed codes.now v.items (length codes.now)) }
+    requires { All (λ r. HasTemplates (rule_of_def r)) definitions.now }
+    ensures { IfOk result (λ v. AreNew R.fits R.last R.passed definitions.now v.items (length definitions.now)) }
 {
     let mut rules = Vec::new(alloc);
-    for index in 0..codes.len() {
-        rules.push(Remembered::new(alloc, &codes[index])?)?;
+    for index in 0..definitions.len() {
+        rules.push(Remembered::new(alloc, &definitions[index])?)?;
     }
     Ok(rules)
 }

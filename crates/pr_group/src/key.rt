@@ -1,12 +1,12 @@
 // What tells a rule's kind, its name and its labels, as one text.
 ghost use Rattle.std.specs.Prelude.{◌≡◌, ◌++◌, IfOk, OnOk};
-ghost use Rattle.pr_rule_step.specs.pr_rulefile.Rules.{name_key};
-ghost use Rattle.pr_group.specs.Matching.{key_of, labels_key, pair_key};
+ghost use Rattle.pr_rule.specs.spec_rules.Definitions.{name_key};
+ghost use Rattle.pr_group.specs.private.Matching.{key_of, labels_key, pair_key};
 
-use pr_labels::Pair;
-use pr_labels::strings::write_string;
-use pr_rule_step::rulefile::RuleDef;
-use pr_words::Text;
+use pr_ast::labels::Pair;
+use pr_ast::words_crate::Text;
+use pr_ast::words_crate::strings::write_string;
+use pr_rule::rules_crate::RuleDef;
 use std::alloc::{AllocError, Global};
 
 fn push_pair(out: &mut Vec<u8>, pair: &Pair) -> Result<(), AllocError>

@@ -1,11 +1,11 @@
 // Laws of kept groups.
 ghost use Rattle.std.specs.Prelude.{◌≡◌, ◌++◌, List};
-ghost use Rattle.pr_history.specs.declared.entry.Entry.{Entry};
-ghost use Rattle.pr_history.specs.Admission.{IsLawful};
-ghost use Rattle.pr_rule_step.specs.pr_rules.Groups.{Group};
-ghost use Rattle.pr_group.specs.Keeping.{KeepsGroup, KeptGroup, passed_by};
+ghost use Rattle.pr_rule.specs.spec_history.declared.entry.Entry.{Entry};
+ghost use Rattle.pr_rule.specs.spec_history.private.Laws.{IsLawful};
+ghost use Rattle.pr_rule.specs.spec_rules.Groups.{Group};
+ghost use Rattle.pr_group.specs.private.Keeping.{KeepsGroup, KeptGroup, passed_by};
 
-use pr_ready::range::Ranges;
+use pr_rule::range::Ranges;
 
 /// A kept group stands for its group over each later history too, and as much counts as passed
 /// then.

@@ -4,46 +4,44 @@
 mod alerts;
 mod carried;
 mod carrying;
+pub mod continued;
 mod group;
 mod key;
 mod laws;
 mod matching;
+pub mod ready;
 mod remaining;
 mod restoring;
 mod rules;
 mod written;
 
 // What crates above name of those below.
-pub mod rulefile {
-    pub use pr_rule_step::rulefile::{GroupDef, RuleDef, RuleError, read};
+pub mod tmpl {
+    pub use pr_rule::tmpl::External;
 }
 
-pub mod lineage {
-    pub use pr_rule_step::lineage::Found;
+pub mod alerts_crate {
+    pub use pr_rule::alerts_crate::{Record, RuleElement, State};
+}
+
+pub mod rules_crate {
+    pub use pr_rule::rules_crate::{GroupDef, RuleDef};
 }
 
 pub mod head {
-    pub use pr_rule_step::head::Head;
+    pub use pr_rule::head::{Head, intake, rows};
 }
 
 pub mod range {
-    pub use pr_ready::range::{PlainRanges, Ranges};
+    pub use pr_rule::range::{PlainRanges, Ranges};
 }
 
 pub mod eval {
-    pub use pr_rule_step::eval::{EvalError, Value, eval};
+    pub use pr_rule::eval::{EvalError, Value, eval};
 }
 
-pub mod intake {
-    pub use pr_rule_step::intake::mark;
-}
-
-pub mod alert {
-    pub use pr_rule_step::alert::{Record, State, records_of_a_lineage_stand_for_it};
-}
-
-pub mod rule_result {
-    pub use pr_rule_step::rule_result::rules_that_read_have_templates;
+pub mod rule {
+    pub use pr_rule::alert;
 }
 
 pub use group::GroupOver;

@@ -1,21 +1,21 @@
 // Which older rules new ones go on from.
 ghost use Rattle.std.specs.Prelude.{◌≡◌, IfOk, length};
-ghost use Rattle.pr_ready.specs.pr_range.Carried.{IsOnce};
-ghost use Rattle.pr_rule_step.specs.pr_rules.Taking.{numbered, numbers_taken};
-ghost use Rattle.pr_ready.specs.pr_continued.Named.{AreBelow};
-ghost use Rattle.pr_ready.specs.pr_continued.Waiting.{AreWaiting};
-ghost use Rattle.pr_group.specs.Matching.{continues_def, key_of};
+ghost use Rattle.pr_rule.specs.pr_range.private.Carried.{IsOnce};
+ghost use Rattle.pr_rule.specs.spec_rules.private.Laws.{numbered, numbers_taken};
+ghost use Rattle.pr_group.specs.private.Named.{AreBelow};
+ghost use Rattle.pr_group.specs.private.Waiting.{AreWaiting};
+ghost use Rattle.pr_group.specs.private.Matching.{continues_def, key_of};
 
+use crate::continued::NumbersByKey;
 use crate::key::key;
-use pr_ready::continued::Waiting;
-use pr_rule_step::rulefile::RuleDef;
+use pr_rule::rules_crate::RuleDef;
 use std::alloc::{AllocError, Global};
 
 // All older ones wait.
-fn waiting(alloc: Global, old: &[RuleDef]) -> Result<Waiting, AllocError>
+fn waiting(alloc: Global, old: &[RuleDef]) -> Result<NumbersByKey, AllocError>
     ensures { IfOk result (λ w. AreWaiting key_of w (numbered old.now)) }
 {
-    let mut waiting = Waiting::new(alloc);
+    let mut waiting = NumbersByKey::new(alloc);
     for (number, rule) in old.iter().enumerate() {
         waiting.push(alloc, key(alloc, rule)?, number)?;
     }

@@ -1,14 +1,14 @@
 // The series that remain of a group that is gone.
 ghost use Rattle.std.specs.Prelude.{◌≡◌, List, IfOk};
-ghost use Rattle.pr_history.specs.declared.entry.Entry.{Entry};
-ghost use Rattle.pr_rule_step.specs.pr_rules.Groups.{Group};
-ghost use Rattle.pr_rule_step.specs.pr_rules.Reloads.{remains};
-ghost use Rattle.pr_group.specs.Keeping.{KeepsGroup};
+ghost use Rattle.pr_rule.specs.spec_history.declared.entry.Entry.{Entry};
+ghost use Rattle.pr_rule.specs.spec_rules.Groups.{Group};
+ghost use Rattle.pr_rule.specs.spec_rules.Reloads.{remains};
+ghost use Rattle.pr_group.specs.private.Keeping.{KeepsGroup};
 
 use crate::group::GroupOver;
 use crate::written::{add_all, add_written, listed};
-use pr_labels::Labels;
-use pr_ready::range::Ranges;
+use pr_ast::labels::Labels;
+use pr_rule::range::Ranges;
 use std::alloc::{AllocError, Global};
 use std::collections::BTreeSet;
 

@@ -2,35 +2,35 @@
 ghost use Rattle.std.specs.Prelude.{◌≡◌, ℕ, ◌+◌, ◌++◌, ◌∷◌, [], true, ◌≤◌, ◌<◌, ◌&&◌, pos, Bool, cond, List, flat_map, length, map, slice_get, Option, Some, None, IfOk, IfSome, OnOk, nat_le, option_and_then, sum_by};
 ghost use Rattle.std.specs.List.{filter_map};
 ghost use Rattle.std.specs.Option.{option_map, option_to_list};
-ghost use Rattle.pr_labels.specs.declared.pair.Pair.{Pair};
-ghost use Rattle.pr_history.specs.declared.entry.Entry.{Entry};
-ghost use Rattle.pr_history.specs.Admission.{is_of, last_entry};
-ghost use Rattle.pr_rule_step.specs.pr_head.Holds.{timed};
-ghost use Rattle.pr_rule_step.specs.pr_lineage.declared.record.Record.{Record};
-ghost use Rattle.pr_rule_step.specs.pr_lineage.Lineage.{Step, moved};
-ghost use Rattle.pr_rule_step.specs.pr_lineage.Records.{for_state_labels, is_living, living_count};
-ghost use Rattle.pr_rule_step.specs.pr_lineage.Restoring.{for_state_entry, restored_alert, restored_of, restored_time};
-ghost use Rattle.pr_rule_step.specs.pr_alert.Standing.{StandsFor};
-ghost use Rattle.pr_rule_step.specs.pr_rulefile.Rules.{rule_of_def};
-ghost use Rattle.pr_rule_step.specs.pr_rules.Costs.{restored_reads};
-ghost use Rattle.pr_rule_step.specs.pr_rules.Evaluations.{restores, with_restored};
-ghost use Rattle.pr_rule_step.specs.pr_rules.Groups.{RuleState};
-ghost use Rattle.pr_rule_step.specs.Standing.{StandsForRule};
-ghost use Rattle.pr_group.specs.Keeping.{AreKept, MayEvaluateOver};
-ghost use Rattle.pr_group.specs.Restoring.{IsRestored, OnlyChanges, in_last_hour, kept_of_last_hour, ranges_of};
+ghost use Rattle.pr_ast.specs.pr_labels.declared.pair.Pair.{Pair};
+ghost use Rattle.pr_rule.specs.spec_history.declared.entry.Entry.{Entry};
+ghost use Rattle.pr_rule.specs.spec_history.Admission.{is_of, last_entry};
+ghost use Rattle.pr_rule.specs.pr_head.private.Holds.{timed};
+ghost use Rattle.pr_rule.specs.spec_alerts.declared.record.Record.{Record};
+ghost use Rattle.pr_rule.specs.spec_alerts.Lineage.{Occurrence, moved};
+ghost use Rattle.pr_rule.specs.spec_alerts.Records.{for_state_labels, is_living, living_count};
+ghost use Rattle.pr_rule.specs.spec_alerts.Restoring.{for_state_entry, restored_alert, restored_of, restored_time};
+ghost use Rattle.pr_rule.specs.private.AlertStanding.{StandsFor};
+ghost use Rattle.pr_rule.specs.spec_rules.Definitions.{rule_of_def};
+ghost use Rattle.pr_rule.specs.spec_rules.private.Costs.{restored_reads};
+ghost use Rattle.pr_rule.specs.spec_rules.Evaluations.{restores, with_restored};
+ghost use Rattle.pr_rule.specs.spec_rules.Groups.{RuleState};
+ghost use Rattle.pr_rule.specs.private.Standing.{StandsForRule};
+ghost use Rattle.pr_group.specs.private.Keeping.{AreKept, MayEvaluateOver};
+ghost use Rattle.pr_group.specs.private.Restoring.{IsRestored, OnlyChanges, in_last_hour, kept_of_last_hour, ranges_of};
 
-use pr_history::time::{Ms, Span};
-use pr_labels::Labels;
-use pr_ready::range::Ranges;
-use pr_rule_step::Remembered;
-use pr_rule_step::alert::{
+use pr_ast::labels::Labels;
+use pr_ast::time::{Ms, Span};
+use pr_ast::words_crate::Steps;
+use pr_rule::Remembered;
+use pr_rule::alert::{
     a_move_of_no_alerts_leaves_the_records, a_restored_record_is_moved, for_state_labels,
     is_living, records_of_a_lineage_stand_for_it,
 };
-use pr_rule_step::head::{Head, Timed};
-use pr_rule_step::lineage::Restored;
-use pr_rule_step::rulefile::RuleDef;
-use pr_words::Steps;
+use pr_rule::alerts_crate::Restored;
+use pr_rule::head::{Head, Timed};
+use pr_rule::range::Ranges;
+use pr_rule::rules_crate::RuleDef;
 use std::alloc::{AllocError, Global};
 use std::sync::ledger::Ledger;
 
@@ -131,7 +131,7 @@ fn move_alert<R: Ranges>(
     requires in_range { index < length kept.old.records }
     requires before { sample.now.time ≤ now }
     requires grace { 600000 ≤ hold }
-    ensures restored { (lineage : List Step) (r : Record) → StandsFor kept.old.records lineage → slice_get kept.old.records index ≡ Some r → is_living r ≡ true → labels ≡ r.labels
+    ensures restored { (lineage : List Occurrence) (r : Record) → StandsFor kept.old.records lineage → slice_get kept.old.records index ≡ Some r → is_living r ≡ true → labels ≡ r.labels
         → IsRestored result (option_map (restored_of r.labels) (restored_time hold sample.now.point sample.now.time now)) lineage kept.new.records }
     ensures only { OnlyChanges index kept.old.records kept.new.records }
     ensures rest { kept.new ≡ record kept.old { records = kept.new.records } }
@@ -155,7 +155,7 @@ fn restore_alert<R: Ranges, G: Ledger>(
 ) -> Result<Option<Restored>, AllocError>
     requires in_range { index < length kept.old.records }
     requires grace { 600000 ≤ hold }
-    ensures restored { (history : List Entry) (lineage : List Step) (r : Record) → MayEvaluateOver head.now history now → StandsFor kept.old.records lineage → slice_get kept.old.records index ≡ Some r
+    ensures restored { (history : List Entry) (lineage : List Occurrence) (r : Record) → MayEvaluateOver head.now history now → StandsFor kept.old.records lineage → slice_get kept.old.records index ≡ Some r
         → IfOk result (λ answer. IsRestored answer (restored_alert history hold now r) lineage kept.new.records) }
     ensures reads { (r : Record) → slice_get kept.old.records index ≡ Some r → reads.new ≤ reads.old + cond (is_living r) 1 0 }
     ensures only { OnlyChanges index kept.old.records kept.new.records }
@@ -198,9 +198,9 @@ fn restore_alerts<R: Ranges, G: Ledger>(
     reads: &mut Steps<G>,
 ) -> Result<(), AllocError>
     requires { 600000 ≤ hold }
-    ensures stands { (history : List Entry) (lineage : List Step) → MayEvaluateOver head.now history now → StandsFor kept.old.records lineage
+    ensures stands { (history : List Entry) (lineage : List Occurrence) → MayEvaluateOver head.now history now → StandsFor kept.old.records lineage
         → OnOk result (StandsFor kept.new.records (lineage ++ moved (filter_map (restored_alert history hold now) kept.old.records) ∷ [])) }
-    ensures told { (history : List Entry) (lineage : List Step) → MayEvaluateOver head.now history now → StandsFor kept.old.records lineage
+    ensures told { (history : List Entry) (lineage : List Occurrence) → MayEvaluateOver head.now history now → StandsFor kept.old.records lineage
         → OnOk result (tells ≡ true → list.new.items ≡ list.old.items ++ filter_map (restored_alert history hold now) kept.old.records) }
     ensures reads { reads.new ≤ reads.old + living_count kept.old.records }
     ensures rest { kept.new ≡ record kept.old { records = kept.new.records } }
@@ -215,10 +215,10 @@ fn restore_alerts<R: Ranges, G: Ledger>(
 }
 
 // Whether the alerts of a rule are restored: they are held for long enough.
-fn is_due(code: &RuleDef) -> bool
-    ensures { result ≡ (code.now.alert && nat_le 600000 code.now.hold) }
+fn is_due(definition: &RuleDef) -> bool
+    ensures { result ≡ (definition.now.alert && nat_le 600000 definition.now.hold) }
 {
-    code.alert && GRACE_PERIOD <= code.hold.get()
+    definition.alert && GRACE_PERIOD <= definition.hold.get()
 }
 
 // Restores the alerts of a rule that holds them for long enough, and notes which.
@@ -226,25 +226,25 @@ fn restore_rule<R: Ranges, G: Ledger>(
     alloc: Global,
     tells: bool,
     head: &Head,
-    code: &RuleDef,
+    definition: &RuleDef,
     kept: &mut Remembered<R>,
     now: Ms,
     list: &mut Vec<Restored>,
     reads: &mut Steps<G>,
 ) -> Result<(), AllocError>
-    ensures stands { (history : List Entry) (r : RuleState) → MayEvaluateOver head.now history now → StandsForRule kept.old.templates kept.old.previous kept.old.records (rule_of_def code.now) r
-        → OnOk result (StandsForRule kept.new.templates kept.new.previous kept.new.records (rule_of_def code.now) (with_restored history now r)) }
-    ensures told { (history : List Entry) (r : RuleState) → MayEvaluateOver head.now history now → StandsForRule kept.old.templates kept.old.previous kept.old.records (rule_of_def code.now) r
+    ensures stands { (history : List Entry) (r : RuleState) → MayEvaluateOver head.now history now → StandsForRule kept.old.templates kept.old.previous kept.old.records (rule_of_def definition.now) r
+        → OnOk result (StandsForRule kept.new.templates kept.new.previous kept.new.records (rule_of_def definition.now) (with_restored history now r)) }
+    ensures told { (history : List Entry) (r : RuleState) → MayEvaluateOver head.now history now → StandsForRule kept.old.templates kept.old.previous kept.old.records (rule_of_def definition.now) r
         → OnOk result (tells ≡ true → list.new.items ≡ list.old.items ++ restores history now r) }
-    ensures reads { (r : RuleState) → StandsForRule kept.old.templates kept.old.previous kept.old.records (rule_of_def code.now) r → reads.new ≤ reads.old + restored_reads r }
+    ensures reads { (r : RuleState) → StandsForRule kept.old.templates kept.old.previous kept.old.records (rule_of_def definition.now) r → reads.new ≤ reads.old + restored_reads r }
     ensures rest { kept.new ≡ record kept.old { records = kept.new.records } }
 {
     a_move_of_no_alerts_leaves_the_records();
     records_of_a_lineage_stand_for_it();
-    if !is_due(code) {
+    if !is_due(definition) {
         return Ok(());
     }
-    restore_alerts(alloc, tells, head, kept, now, code.hold, list, reads)?;
+    restore_alerts(alloc, tells, head, kept, now, definition.hold, list, reads)?;
     Ok(())
 }
 
@@ -256,27 +256,27 @@ pub(crate) fn restore_rules<R: Ranges, G: Ledger>(
     alloc: Global,
     tells: bool,
     head: &Head,
-    codes: &[RuleDef],
+    definitions: &[RuleDef],
     rules: &mut Vec<Remembered<R>>,
     now: Ms,
     reads: &mut Steps<G>,
 ) -> Result<Vec<Restored>, AllocError>
-    requires { length rules.old.items ≡ length codes.now }
-    ensures kept { (history : List Entry) (until : Option ℕ) (rs : List RuleState) → MayEvaluateOver head.now history now → length codes.now ≡ length rs → AreKept R.fits R.last R.passed history until codes.now rules.old.items rs
-        → OnOk result (AreKept R.fits R.last R.passed history until codes.now rules.new.items (map (with_restored history now) rs)) }
-    ensures told { (history : List Entry) (until : Option ℕ) (rs : List RuleState) → MayEvaluateOver head.now history now → length codes.now ≡ length rs → AreKept R.fits R.last R.passed history until codes.now rules.old.items rs
+    requires { length rules.old.items ≡ length definitions.now }
+    ensures kept { (history : List Entry) (until : Option ℕ) (rs : List RuleState) → MayEvaluateOver head.now history now → length definitions.now ≡ length rs → AreKept R.fits R.last R.passed history until definitions.now rules.old.items rs
+        → OnOk result (AreKept R.fits R.last R.passed history until definitions.now rules.new.items (map (with_restored history now) rs)) }
+    ensures told { (history : List Entry) (until : Option ℕ) (rs : List RuleState) → MayEvaluateOver head.now history now → length definitions.now ≡ length rs → AreKept R.fits R.last R.passed history until definitions.now rules.old.items rs
         → IfOk result (λ v. tells ≡ true → v.items ≡ flat_map (restores history now) rs) }
-    ensures reads { (history : List Entry) (until : Option ℕ) (rs : List RuleState) → MayEvaluateOver head.now history now → length codes.now ≡ length rs → AreKept R.fits R.last R.passed history until codes.now rules.old.items rs
+    ensures reads { (history : List Entry) (until : Option ℕ) (rs : List RuleState) → MayEvaluateOver head.now history now → length definitions.now ≡ length rs → AreKept R.fits R.last R.passed history until definitions.now rules.old.items rs
         → reads.new ≤ reads.old + sum_by restored_reads rs }
     ensures ranges { ranges_of rules.new.items ≡ ranges_of rules.old.items }
 {
     let mut list = Vec::new(alloc);
-    for index in 0..codes.len() {
+    for index in 0..definitions.len() {
         restore_rule(
             alloc,
             tells,
             head,
-            &codes[index],
+            &definitions[index],
             &mut rules[index],
             now,
             &mut list,

@@ -1,12 +1,12 @@
 // The series that rules wrote last, in label order.
 ghost use Rattle.std.specs.Prelude.{◌≡◌, List, IfOk, OnOk, flat_map, fold};
-ghost use Rattle.pr_labels.specs.Rising.{with_labels};
-ghost use Rattle.pr_group.specs.Carrying.{previous_in};
+ghost use Rattle.pr_ast.specs.pr_labels.Rising.{with_labels};
+ghost use Rattle.pr_group.specs.private.Carrying.{previous_in};
 
-use pr_labels::Labels;
-use pr_ready::range::Ranges;
-use pr_rule_step::Remembered;
-use pr_rule_step::intake::add_labels;
+use pr_ast::labels::Labels;
+use pr_rule::Remembered;
+use pr_rule::head::intake::add_labels;
+use pr_rule::range::Ranges;
 use std::alloc::{AllocError, Global};
 use std::collections::BTreeSet;
 

@@ -5,13 +5,14 @@ use Rattle.std.proofs.lemmas.List.Folds.{list_any-append}
 use Rattle.std.proofs.lemmas.List.Sums.{fold-append}
 use Rattle.pr_labels.specs.declared.pair.Pair.{Pair}
 use Rattle.pr_labels.specs.Order.{labels_eq}
-use Rattle.pr_history.specs.declared.entry.Entry.{Entry}
-use Rattle.pr_history.specs.Admission.{is_of, entries_of, last_entry}
+use Rattle.spec_history.specs.declared.entry.Entry.{Entry}
+use Rattle.spec_history.specs.Admission.{is_of, last_entry}
+use Rattle.spec_history.specs.private.Laws.{entries_of}
 use Rattle.pr_labels.specs.Rising.{is_among}
 use Rattle.pr_labels.proofs.LabelOrder.{labels_decide}
-use Rattle.pr_history.proofs.Lawful.{of_entries, entries_more, last_more as history_last}
+use Rattle.spec_history.proofs.Lawful.{of_entries, entries_more, last_more as history_last}
 use Rattle.pr_head.specs.declared.timed.Timed.{Timed}
-use Rattle.pr_head.specs.Holds.{timed, samples_of, arrived, arrivals}
+use Rattle.pr_head.specs.private.Holds.{timed, samples_of, arrived, arrivals}
 
 pub eq_same : (l : List Pair) → labels_eq l l ≡ true
 eq_same l = (labels_decide l l).1 refl

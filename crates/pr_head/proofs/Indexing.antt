@@ -16,9 +16,9 @@ use Rattle.pr_labels.specs.Order.{labels_cmp, labels_eq, labels_tie, pair_eq}
 use Rattle.pr_labels.specs.Rising.{IsRising, is_among, placed, with_labels}
 use Rattle.pr_labels.proofs.LabelLaws.{alike, none_above, same_names, value_hit, value_miss}
 use Rattle.pr_labels.proofs.LabelOrder.{both, labels_decide, pair_decides, tied, rising_fold, among_fold, among_filter}
-use Rattle.pr_history.specs.Series.{has_values}
-use Rattle.pr_head.specs.Holds.{chosen_of}
-use Rattle.pr_head.specs.Index.{AreNumbered, IsEnough, IsIndexed, IsListing, Numbered, has_label, listing_of}
+use Rattle.spec_history.specs.private.Laws.{has_values}
+use Rattle.pr_head.specs.private.Holds.{chosen_of}
+use Rattle.pr_head.specs.private.Index.{AreNumbered, IsEnough, IsIndexed, IsListing, Numbered, has_label, listing_of}
 use Rattle.pr_head.proofs.Arrivals.{among_at, eq_same}
 
 abbrev Sets : Type 0

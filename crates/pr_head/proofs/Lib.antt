@@ -6,6 +6,15 @@ pub mod Simulation
 pub mod Trimming
 pub mod Indexing
 pub mod Oldest
-pub use Rattle.pr_labels.proofs.LabelOrder as LabelsLabelOrder
-pub use Rattle.pr_history.proofs.Choosing as HistoryChoosing
-pub use Rattle.pr_history.proofs.Lawful as HistoryLawful
+pub mod Gone
+pub mod IntakeIntake
+pub mod Markers
+pub mod Sets
+mod Unchanged
+pub mod Told
+pub mod Loaded
+pub mod Paths
+pub mod Telling
+pub use Rattle.spec_history.proofs.Choosing as HistoryChoosing
+pub use Rattle.spec_history.proofs.Lawful as HistoryLawful
+pub use Rattle.spec_history.proofs.Putting as HistoryPutting

@@ -7,14 +7,15 @@ use Rattle.std.proofs.lemmas.List.{reverse-append, take-append-drop, length-map,
 use Rattle.std.proofs.lemmas.List.Folds.{find-append}
 use Rattle.std.proofs.lemmas.Grind.{common_steps}
 use Rattle.pr_labels.specs.declared.pair.Pair.{Pair}
-use Rattle.pr_history.specs.declared.entry.Entry.{Entry}
-use Rattle.pr_history.specs.Admission.{is_of, entries_of, IsLawful}
-use Rattle.pr_history.specs.Lookback.{entries_until, is_recent, is_until, lookback, recent_entry, spot_at, spot_in}
-use Rattle.pr_history.proofs.Lawful.{of_entries, times_rise}
+use Rattle.spec_history.specs.declared.entry.Entry.{Entry}
+use Rattle.spec_history.specs.Admission.{is_of}
+use Rattle.spec_history.specs.private.Laws.{entries_of, IsLawful, entries_until}
+use Rattle.spec_history.specs.Lookback.{is_recent, is_until, lookback, recent_entry, spot_at, spot_in}
+use Rattle.spec_history.proofs.Lawful.{of_entries, times_rise}
 use Rattle.pr_head.specs.declared.timed.Timed.{Timed}
-use Rattle.pr_head.specs.Stored.{Stored, count_of, newest_at, sample_at}
-use Rattle.pr_head.specs.Holds.{samples_of, timed, IsKept}
-use Rattle.pr_head.specs.Reads.{IsPast, shown_of, spot_shown}
+use Rattle.pr_head.specs.private.Stored.{Stored, count_of, newest_at, sample_at}
+use Rattle.pr_head.specs.private.Holds.{samples_of, timed, IsKept}
+use Rattle.pr_head.specs.private.Reads.{IsPast, shown_of, spot_shown}
 use Rattle.pr_head.proofs.Arrivals.{samples_more, samples_other, eq_from, apart_from}
 
 -- how many, and the one at a place

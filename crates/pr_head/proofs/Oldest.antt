@@ -5,11 +5,11 @@ use Rattle.std.specs.List.Sorted.{IsNonDecreasingBy}
 use Rattle.std.proofs.lemmas.List.Elements.{All-append, All-cons, All-nil}
 use Rattle.indexmap.specs.IndexMap.{set_value_at}
 use Rattle.pr_labels.specs.declared.pair.Pair.{Pair}
-use Rattle.pr_history.specs.Lookback.{is_after}
+use Rattle.spec_history.specs.Lookback.{is_after}
 use Rattle.pr_head.specs.declared.timed.Timed.{Timed}
-use Rattle.pr_head.specs.Stored.{Stored, after_push, after_trim, begun, held_after, stored, trimmed}
-use Rattle.pr_head.specs.Holds.{sets_of}
-use Rattle.pr_head.specs.Oldest.{AreSince, IsSince}
+use Rattle.pr_head.specs.private.Stored.{Stored, after_push, after_trim, begun, held_after, stored, trimmed}
+use Rattle.pr_head.specs.private.Holds.{sets_of}
+use Rattle.pr_head.specs.private.Oldest.{AreSince, IsSince}
 use Rattle.pr_head.proofs.Simulation.{at_last, value_at, value_same, written_at}
 use Rattle.pr_head.proofs.Trimming.{all_later, later_up}
 

@@ -8,9 +8,9 @@ use Rattle.std.proofs.lemmas.List.Folds.{find-append}
 use Rattle.std.proofs.lemmas.List.Sorted.{IsPartitionedBy-leb}
 use Rattle.std.proofs.lemmas.List.Sums.{position_or_len_is}
 use Rattle.std.proofs.lemmas.Grind.{common_steps}
-use Rattle.pr_history.specs.Lookback.{is_after, is_until}
+use Rattle.spec_history.specs.Lookback.{is_after, is_until}
 use Rattle.pr_head.specs.declared.timed.Timed.{Timed}
-use Rattle.pr_head.specs.Stored.{held_before, is_there_until}
+use Rattle.pr_head.specs.private.Stored.{held_before, is_there_until}
 
 -- the samples until a time come before the others
 pub until_parted : (time : ℤ) (xs : List Timed) → IsNonDecreasingBy (λ x. x.time) xs → IsPartitionedBy (λ x. is_until time x.time) xs

@@ -6,11 +6,12 @@ use Rattle.std.proofs.lemmas.List.Elements.{All-cons, All-nil}
 use Rattle.pr_labels.specs.declared.pair.Pair.{Pair}
 use Rattle.pr_labels.specs.Rising.{IsBelowFirstSet, IsRising, is_among}
 use Rattle.pr_labels.proofs.LabelOrder.{below_next, rising_fold, among_fold, among_filter, same_rising}
-use Rattle.pr_history.specs.declared.entry.Entry.{Entry}
-use Rattle.pr_history.specs.Series.{chosen, has_values}
-use Rattle.pr_history.proofs.Choosing.{chosen_rising, chosen_among}
-use Rattle.pr_head.specs.Holds.{arrivals, chosen_of, labels_at}
-use Rattle.pr_head.specs.Index.{AreNumbered, IsEnough, Numbered}
+use Rattle.spec_history.specs.declared.entry.Entry.{Entry}
+use Rattle.spec_history.specs.Series.{chosen}
+use Rattle.spec_history.specs.private.Laws.{has_values}
+use Rattle.spec_history.proofs.Choosing.{chosen_rising, chosen_among}
+use Rattle.pr_head.specs.private.Holds.{arrivals, chosen_of, labels_at}
+use Rattle.pr_head.specs.private.Index.{AreNumbered, IsEnough, Numbered}
 use Rattle.pr_head.proofs.Arrivals.{among_arrivals}
 
 abbrev Sets : Type 0

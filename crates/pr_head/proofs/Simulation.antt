@@ -3,26 +3,27 @@ use Rattle.std.proofs.Common.{◌≡◌, ◌≢◌, ◌↔◌, ◌&&◌, ℤ, �
 use Rattle.std.specs.List.{position_from}
 use Rattle.std.proofs.lemmas.Iterator.Adapters.{position_from-zero}
 use Rattle.std.proofs.lemmas.Grind.{common_steps}
-use Rattle.pr_history.specs.pr_num.Same.{same_point}
+use Rattle.spec_history.specs.pr_num.Same.{same_point}
 use Rattle.std.specs.Map.{lookup}
 use Rattle.std.proofs.lemmas.List.Elements.{filter-append}
-use Rattle.pr_history.specs.Lookback.{entries_until, is_until}
+use Rattle.spec_history.specs.private.Laws.{entries_until}
+use Rattle.spec_history.specs.Lookback.{is_until}
 use Rattle.std.specs.Option.{option_map}
 use Rattle.std.proofs.lemmas.Option.{slice_get-map}
 use Rattle.pr_labels.proofs.LabelOrder.{labels_decide}
 use Rattle.std.proofs.lemmas.List.{map-append, length-append, drop-append-le}
 use Rattle.indexmap.specs.IndexMap.{set_value_at}
-use Rattle.pr_history.specs.pr_num.declared.value.Point.{Point}
+use Rattle.spec_history.specs.pr_num.declared.value.Point.{Point}
 use Rattle.pr_labels.specs.declared.pair.Pair.{Pair}
 use Rattle.pr_labels.specs.Order.{labels_eq}
-use Rattle.pr_history.specs.declared.entry.Entry.{Entry}
-use Rattle.pr_history.specs.declared.append.Append.TheVariants.{Added, Same, OutOfOrder, Conflict}
-use Rattle.pr_history.specs.declared.append.Append.{Append}
-use Rattle.pr_history.specs.Admission.{is_of, last_entry, admit, admit_after, put, put_by}
+use Rattle.spec_history.specs.declared.entry.Entry.{Entry}
+use Rattle.spec_history.specs.declared.append.Append.TheVariants.{Added, Same, OutOfOrder, Conflict}
+use Rattle.spec_history.specs.declared.append.Append.{Append}
+use Rattle.spec_history.specs.Admission.{is_of, last_entry, admit, admit_after, put, put_by}
 use Rattle.pr_labels.specs.Rising.{is_among}
 use Rattle.pr_head.specs.declared.timed.Timed.{Timed}
-use Rattle.pr_head.specs.Stored.{Stored, admission, after_push, begun, stored}
-use Rattle.pr_head.specs.Holds.{timed, samples_of, arrivals, sets_of, IsKept, Holds, IsWhole}
+use Rattle.pr_head.specs.private.Stored.{Stored, admission, after_push, begun, stored}
+use Rattle.pr_head.specs.private.Holds.{timed, samples_of, arrivals, sets_of, IsKept, Holds, IsWhole}
 use Rattle.pr_head.proofs.Arrivals.{arrivals_more, arrivals_apart, among_arrivals, among_at, samples_more, samples_other, last_more, last_other, filter_none, last_none, eq_from}
 
 abbrev Series : Type 0

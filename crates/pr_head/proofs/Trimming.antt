@@ -9,12 +9,12 @@ use Rattle.std.proofs.lemmas.List.Sums.{prefix_len-le-length}
 use Rattle.std.proofs.lemmas.Grind.{common_steps}
 use Rattle.indexmap.specs.IndexMap.{set_value_at}
 use Rattle.pr_labels.specs.declared.pair.Pair.{Pair}
-use Rattle.pr_history.specs.declared.entry.Entry.{Entry}
-use Rattle.pr_history.specs.Admission.{IsLawful}
-use Rattle.pr_history.specs.Lookback.{entries_until, is_after, is_until}
+use Rattle.spec_history.specs.declared.entry.Entry.{Entry}
+use Rattle.spec_history.specs.private.Laws.{IsLawful, entries_until}
+use Rattle.spec_history.specs.Lookback.{is_after, is_until}
 use Rattle.pr_head.specs.declared.timed.Timed.{Timed}
-use Rattle.pr_head.specs.Stored.{Stored, after_trim, held_after, position_of, stored, trimmed}
-use Rattle.pr_head.specs.Holds.{samples_of, sets_of, IsKept, Holds, IsWhole}
+use Rattle.pr_head.specs.private.Stored.{Stored, after_trim, held_after, position_of, stored, trimmed}
+use Rattle.pr_head.specs.private.Holds.{samples_of, sets_of, IsKept, Holds, IsWhole}
 use Rattle.pr_head.proofs.Newest.{Rises, rising_samples, none_later, until_is}
 
 abbrev Series : Type 0

@@ -1,8 +1,3 @@
-pub mod Stored
-pub mod Holds
-pub mod Reads
-pub mod Index
-pub mod Oldest
-pub mod Listings
+pub mod private
 pub use Rattle.pr_labels.specs as pr_labels
-pub use Rattle.pr_history.specs as pr_history
+pub use Rattle.spec_history.specs as spec_history

@@ -27,7 +27,7 @@ ghost use Rattle.std.specs.Map.{lookup, remove_entry};
 ghost use Rattle.std.specs.BTreeMap.{insert_entry, is_at};
 ghost use Rattle.pr_labels.specs.declared.pair.Pair.{Pair};
 ghost use Rattle.pr_labels.specs.Order.{labels_cmp, pair_eq};
-ghost use Rattle.pr_head.specs.Index.{Numbered, has_label, listing_of};
+ghost use Rattle.pr_head.specs.private.Index.{Numbered, has_label, listing_of};
 
 impl ByLabel {
     /// No series.

@@ -4,11 +4,11 @@ use crate::index::Index;
 use crate::series::Series;
 use crate::timed::Timed;
 use indexmap::IndexMap;
-use pr_history::Append;
-use pr_history::num::Point;
-use pr_history::time::Ms;
 use pr_labels::Labels;
 use pr_labels::words_crate::Steps;
+use spec_history::Append;
+use spec_history::num::Point;
+use spec_history::time::Ms;
 use std::alloc::{AllocError, Global};
 use std::marker::Model;
 use std::sync::ledger::Ledger;
@@ -30,15 +30,15 @@ pub struct Head {
 impl Model for Head {
     ghost use Rattle.std.specs.Prelude.{List};
     ghost use Rattle.pr_labels.specs.declared.pair.Pair.{Pair};
-    ghost use Rattle.pr_head.specs.Stored.{Stored};
+    ghost use Rattle.pr_head.specs.private.Stored.{Stored};
 
     ghost Value = { List (List Pair × Stored) };
 
     ghost view = { λ h. h.series.entries };
 
-    ghost use Rattle.pr_head.specs.Holds.{sets_of};
-    ghost use Rattle.pr_head.specs.Index.{IsIndexed};
-    ghost use Rattle.pr_head.specs.Oldest.{AreSince};
+    ghost use Rattle.pr_head.specs.private.Holds.{sets_of};
+    ghost use Rattle.pr_head.specs.private.Index.{IsIndexed};
+    ghost use Rattle.pr_head.specs.private.Oldest.{AreSince};
 
     ghost invariant = { λ h. IsIndexed h.index.all h.index.by_label (sets_of h.series.entries) × AreSince h.oldest h.series.entries };
 }
@@ -49,12 +49,13 @@ ghost use Rattle.std.specs.Option.{option_copied, option_map};
 ghost use Rattle.indexmap.specs.IndexMap.{set_value_at};
 ghost use Rattle.pr_labels.specs.declared.pair.Pair.{Pair};
 ghost use Rattle.pr_labels.specs.Order.{labels_eq};
-ghost use Rattle.pr_history.specs.declared.entry.Entry.{Entry};
-ghost use Rattle.pr_history.specs.Admission.{admit, put, IsLawful};
-ghost use Rattle.pr_history.specs.Lookback.{is_after};
-ghost use Rattle.pr_head.specs.Stored.{Stored, admission, after_push, begun, count_of, newest_at, position_of, sample_at, trimmed};
-ghost use Rattle.pr_head.specs.Oldest.{AreSince};
-ghost use Rattle.pr_head.specs.Holds.{entry_of, sets_of, Holds, IsWhole};
+ghost use Rattle.spec_history.specs.declared.entry.Entry.{Entry};
+ghost use Rattle.spec_history.specs.Admission.{admit, put};
+ghost use Rattle.spec_history.specs.private.Laws.{IsLawful};
+ghost use Rattle.spec_history.specs.Lookback.{is_after};
+ghost use Rattle.pr_head.specs.private.Stored.{Stored, admission, after_push, begun, count_of, newest_at, position_of, sample_at, trimmed};
+ghost use Rattle.pr_head.specs.private.Oldest.{AreSince};
+ghost use Rattle.pr_head.specs.private.Holds.{entry_of, sets_of, Holds, IsWhole};
 
 // The earlier of two times.
 fn earlier(a: u64, b: u64) -> u64

@@ -4,9 +4,9 @@ ghost use Rattle.std.specs.List.{All};
 ghost use Rattle.std.specs.Option.{option_copied};
 ghost use Rattle.pr_labels.specs.declared.pair.Pair.{Pair};
 ghost use Rattle.pr_labels.specs.Rising.{is_among};
-ghost use Rattle.pr_history.specs.Series.{has_values};
-ghost use Rattle.pr_head.specs.Holds.{chosen_of, labels_at};
-ghost use Rattle.pr_head.specs.Index.{IsEnough, IsIndexed};
+ghost use Rattle.spec_history.specs.private.Laws.{has_values};
+ghost use Rattle.pr_head.specs.private.Holds.{chosen_of, labels_at};
+ghost use Rattle.pr_head.specs.private.Index.{IsEnough, IsIndexed};
 
 use crate::by_label::ByLabel;
 use crate::listing::{Listing, all_of, chosen_among};

@@ -1,12 +1,12 @@
 // What reads of a head tell of the history that it stands for.
 ghost use Rattle.std.specs.Prelude.{◌≡◌, ◌≤◌, ℕ, ℤ, List, Some, length, slice_get};
 ghost use Rattle.pr_labels.specs.declared.pair.Pair.{Pair};
-ghost use Rattle.pr_history.specs.declared.entry.Entry.{Entry};
-ghost use Rattle.pr_history.specs.Admission.{entries_of, IsLawful};
-ghost use Rattle.pr_history.specs.Lookback.{spot_at};
-ghost use Rattle.pr_head.specs.Stored.{Stored, count_of, newest_at, sample_at};
-ghost use Rattle.pr_head.specs.Holds.{samples_of, Holds, IsWhole};
-ghost use Rattle.pr_head.specs.Reads.{spot_shown, IsPast};
+ghost use Rattle.spec_history.specs.declared.entry.Entry.{Entry};
+ghost use Rattle.spec_history.specs.private.Laws.{entries_of, IsLawful};
+ghost use Rattle.spec_history.specs.Lookback.{spot_at};
+ghost use Rattle.pr_head.specs.private.Stored.{Stored, count_of, newest_at, sample_at};
+ghost use Rattle.pr_head.specs.private.Holds.{samples_of, Holds, IsWhole};
+ghost use Rattle.pr_head.specs.private.Reads.{spot_shown, IsPast};
 
 /// The count of a series is that of its entries, and the sample at a place that is not forgotten is
 /// the one that arrived there.

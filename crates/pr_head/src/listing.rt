@@ -22,7 +22,7 @@ enum Numbers {
 impl Model for Listing {
     ghost use Rattle.std.specs.Prelude.{ℕ, List};
     ghost use Rattle.pr_labels.specs.declared.pair.Pair.{Pair};
-    ghost use Rattle.pr_head.specs.Listings.{numbers_in};
+    ghost use Rattle.pr_head.specs.private.Listings.{numbers_in};
 
     ghost Value = { List (List Pair × ℕ) };
 
@@ -35,8 +35,8 @@ ghost use Rattle.std.specs.Map.{remove_entry, values_of};
 ghost use Rattle.std.specs.BTreeMap.{insert_entry, is_at};
 ghost use Rattle.pr_labels.specs.LabelSet.{text_at};
 ghost use Rattle.pr_labels.specs.Order.{labels_cmp};
-ghost use Rattle.pr_history.specs.Series.{has_values};
-ghost use Rattle.pr_head.specs.Listings.{numbers_in};
+ghost use Rattle.spec_history.specs.private.Laws.{has_values};
+ghost use Rattle.pr_head.specs.private.Listings.{numbers_in};
 
 // The value of a name, empty where the set has not the name.
 fn text_at<'a>(labels: &'a Labels, name: &str) -> &'a str

@@ -1,14 +1,14 @@
 // The samples of one series.
 ghost use Rattle.std.specs.Prelude.{◌≡◌, true, ◌+◌, ◌<◌, ◌≤◌, drop, length, max, slice_get, IfOk, IfSome, OnOk, OnErr};
 ghost use Rattle.std.specs.List.Sorted.{IsNonDecreasingBy};
-ghost use Rattle.pr_history.specs.Lookback.{is_until};
-ghost use Rattle.pr_head.specs.Stored.{admission, after_push, after_trim, begun, count_of, held_before, is_there_until, newest_at, position_of, sample_at};
-ghost use Rattle.pr_head.specs.Oldest.{IsSince};
+ghost use Rattle.spec_history.specs.Lookback.{is_until};
+ghost use Rattle.pr_head.specs.private.Stored.{admission, after_push, after_trim, begun, count_of, held_before, is_there_until, newest_at, position_of, sample_at};
+ghost use Rattle.pr_head.specs.private.Oldest.{IsSince};
 
 use crate::timed::Timed;
-use pr_history::Append;
-use pr_history::num::{Num, Point};
-use pr_history::time::Ms;
+use spec_history::Append;
+use spec_history::num::{Num, Point};
+use spec_history::time::Ms;
 use std::alloc::{AllocError, Global};
 use std::collections::VecDeque;
 use std::marker::Model;
@@ -24,7 +24,7 @@ pub(crate) struct Series {
 }
 
 impl Model for Series {
-    ghost use Rattle.pr_head.specs.Stored.{Stored, IsStored, stored, timed_at};
+    ghost use Rattle.pr_head.specs.private.Stored.{Stored, IsStored, stored, timed_at};
 
     ghost Value = { Stored };
 

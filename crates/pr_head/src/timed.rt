@@ -1,8 +1,8 @@
 ghost use Rattle.std.specs.Prelude.{◌≡◌};
-ghost use Rattle.pr_history.specs.Lookback.{number_in};
+ghost use Rattle.spec_history.specs.Lookback.{number_in};
 
-use pr_history::num::{Num, Point};
-use pr_history::time::Ms;
+use spec_history::num::{Num, Point};
+use spec_history::time::Ms;
 
 /// A point with its time.
 #[derive(Debug, Drop)]

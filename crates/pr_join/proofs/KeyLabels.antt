@@ -1,10 +1,10 @@
 -- The labels of what a pair gives in one-to-one matching, by those of its key.
 use Rattle.std.proofs.Common.{◌≡◌, Bool, true, false, not, cond, List, [], ◌∷◌, filter, refl, sym, ap, ◌∙◌}
-use Rattle.pr_labels.specs.declared.pair.Pair.{Pair}
-use Rattle.pr_labels.specs.declared.matching.Matching.{Matching}
-use Rattle.pr_labels.specs.Edits.{is_listed, key_labels, listed_labels, unlisted_labels}
-use Rattle.pr_labels.specs.LabelSet.{has_name, metric_label}
-use Rattle.pr_ordered.specs.pr_vectors.Matching.{name_kept, narrowed}
+use Rattle.spec_vectors.specs.pr_labels.declared.pair.Pair.{Pair}
+use Rattle.spec_vectors.specs.pr_labels.declared.matching.Matching.{Matching}
+use Rattle.spec_vectors.specs.pr_labels.Edits.{is_listed, key_labels, listed_labels, unlisted_labels}
+use Rattle.spec_vectors.specs.pr_labels.LabelSet.{has_name, metric_label}
+use Rattle.spec_vectors.specs.Matching.{name_kept, narrowed}
 
 -- two filters give the same in either order
 filters_turned : (p q : Pair → Bool) (xs : List Pair) → filter p (filter q xs) ≡ filter q (filter p xs)

@@ -3,11 +3,11 @@ use Rattle.std.proofs.Common.{◌≡◌, Bool, true, false, ◌||◌, List, [], 
 use Rattle.std.proofs.lemmas.List.Folds.{list_any-append}
 use Rattle.std.specs.List.{list_any}
 use Rattle.std.specs.BTreeMap.{insert_entry}
-use Rattle.pr_labels.specs.declared.pair.Pair.{Pair}
-use Rattle.pr_labels.specs.Order.{labels_cmp, labels_eq}
-use Rattle.pr_ordered.specs.Entries.{is_known}
-use Rattle.pr_ordered.proofs.Elements.{known_put}
-use Rattle.pr_join.specs.Keys.{HasKeys}
+use Rattle.spec_vectors.specs.pr_labels.declared.pair.Pair.{Pair}
+use Rattle.spec_vectors.specs.pr_labels.Order.{labels_cmp, labels_eq}
+use Rattle.spec_vectors.specs.pr_labels.private.Entries.{is_known}
+use Rattle.spec_vectors.proofs.LabelsElements.{known_put}
+use Rattle.pr_join.specs.private.Keys.{HasKeys}
 
 turned : (a b : Bool) → (a || b) ≡ (b || (a || false))
 turned true true = refl

@@ -5,13 +5,14 @@ use Rattle.std.specs.List.{AllByRecursion}
 use Rattle.std.specs.List.Sorted.{IsStrictlySortedBy}
 use Rattle.std.specs.Map.{keys_of}
 use Rattle.std.specs.declared.cmp.Ordering.TheVariants.{Less}
-use Rattle.pr_num.specs.declared.value.Num.{Num}
-use Rattle.pr_labels.specs.declared.pair.Pair.{Pair}
-use Rattle.pr_labels.specs.declared.item.Item.{Item}
-use Rattle.pr_labels.specs.Order.{labels_cmp}
-use Rattle.pr_labels.specs.Rising.{IsBelowFirstSet}
-use Rattle.pr_ordered.specs.pr_vectors.Vectors.{IsVector, label_sets}
-use Rattle.pr_ordered.specs.Entries.{items_of}
+use Rattle.spec_vectors.specs.pr_num.declared.value.Num.{Num}
+use Rattle.spec_vectors.specs.pr_labels.declared.pair.Pair.{Pair}
+use Rattle.spec_vectors.specs.pr_labels.declared.item.Item.{Item}
+use Rattle.spec_vectors.specs.pr_labels.Order.{labels_cmp}
+use Rattle.spec_vectors.specs.pr_labels.Rising.{IsBelowFirstSet}
+use Rattle.spec_vectors.specs.private.Laws.{IsVector}
+use Rattle.spec_vectors.specs.Vectors.{label_sets}
+use Rattle.spec_vectors.specs.pr_labels.private.Entries.{items_of}
 
 -- what equals a vector is one
 pub still_vector : {V E : Type 0} (r : Result V E) (items : V → List (Item Num)) (xs : List (Item Num)) → IsVector xs → IfOk r (λ v. items v ≡ xs) → IfOk r (λ v. IsVector (items v))

@@ -6,26 +6,26 @@ use Rattle.std.proofs.lemmas.Grind.{flat_map-append}
 use Rattle.std.specs.BTreeMap.{BTreeMap}
 use Rattle.std.specs.List.{find, cons_option}
 use Rattle.std.specs.Option.{IfSome, option_or, option_map, option_to_list}
-use Rattle.pr_num.specs.declared.value.Num.{Num}
-use Rattle.pr_num.specs.declared.value.TooWide.{TooWide}
-use Rattle.pr_labels.specs.declared.pair.Pair.{Pair}
-use Rattle.pr_labels.specs.declared.item.Item.{Item}
-use Rattle.pr_labels.specs.declared.matching.Card.{Card}
-use Rattle.pr_labels.specs.declared.matching.Card.TheVariants.{OneToOne, ManyToOne, OneToMany}
-use Rattle.pr_labels.specs.declared.matching.Matching.{Matching}
-use Rattle.pr_ordered.specs.pr_vectors.declared.match_fault.MatchFault.{MatchFault}
-use Rattle.pr_ordered.specs.pr_vectors.declared.match_fault.MatchFault.TheVariants as fault
+use Rattle.spec_vectors.specs.pr_num.declared.value.Num.{Num}
+use Rattle.spec_vectors.specs.pr_num.declared.value.TooWide.{TooWide}
+use Rattle.spec_vectors.specs.pr_labels.declared.pair.Pair.{Pair}
+use Rattle.spec_vectors.specs.pr_labels.declared.item.Item.{Item}
+use Rattle.spec_vectors.specs.pr_labels.declared.matching.Card.{Card}
+use Rattle.spec_vectors.specs.pr_labels.declared.matching.Card.TheVariants.{OneToOne, ManyToOne, OneToMany}
+use Rattle.spec_vectors.specs.pr_labels.declared.matching.Matching.{Matching}
+use Rattle.spec_vectors.specs.declared.match_fault.MatchFault.{MatchFault}
+use Rattle.spec_vectors.specs.declared.match_fault.MatchFault.TheVariants as fault
 use Rattle.pr_join.specs.declared.join_fault.JoinFault.{JoinFault}
 use Rattle.pr_join.specs.declared.join_fault.JoinFault.TheVariants.{Memory}
 use Rattle.pr_join.specs.declared.join_fault.JoinFault.TheVariants as cause
-use Rattle.pr_join.specs.Faults.{match_told}
-use Rattle.pr_ordered.specs.pr_vectors.Vectors.{in_order}
-use Rattle.pr_ordered.specs.pr_vectors.Matching.{Kept, Operator, Paired, has_key, items_kept, joined, joined_sides, many_side, one_side, kept_pairs, kept_of, kept_if, key_of, least_shared, pair_outcome, outcomes_of, paired, pairs, pairs_with, outcome_fault, fault_of_outcomes, joined_result, side_fault, unless_fault}
-use Rattle.pr_ordered.specs.Entries.{items_of}
-use Rattle.pr_join.specs.declared.rows.Rows.{Rows}
-use Rattle.pr_join.specs.declared.places.Place.{Place}
-use Rattle.pr_join.specs.Places.{IsIndexOf, is_flagged}
-use Rattle.pr_join.specs.Rows.{HasKept, AreRowsTaken, outcomes_with}
+use Rattle.pr_join.specs.private.Faults.{match_told}
+use Rattle.spec_vectors.specs.Vectors.{in_order}
+use Rattle.spec_vectors.specs.Matching.{KeptPair, Operator, Paired, has_key, items_kept, joined, joined_sides, many_side, one_side, kept_pairs, kept_of, kept_if, key_of, least_shared, pair_outcome, outcomes_of, paired, pairs, pairs_with, outcome_fault, fault_of_outcomes, joined_result, side_fault, unless_fault}
+use Rattle.spec_vectors.specs.pr_labels.private.Entries.{items_of}
+use Rattle.pr_join.specs.declared.rows.JoinedElements.{JoinedElements}
+use Rattle.pr_join.specs.declared.places.KeyPlace.{KeyPlace}
+use Rattle.pr_join.specs.private.Places.{IsIndexOf, is_flagged}
+use Rattle.pr_join.specs.private.Rows.{HasKept, AreRowsTaken, outcomes_with}
 use Rattle.pr_join.proofs.Placing.{first_flag}
 
 pub or_none : (x : Option MatchFault) → option_or x None ≡ x
@@ -36,7 +36,7 @@ or_assoc : (x y z : Option MatchFault) → option_or x (option_or y z) ≡ optio
 or_assoc None y z = refl
 or_assoc (Some f) y z = refl
 
-cons_is : (o : Option Kept) (ks : List Kept) → cons_option o ks ≡ option_to_list o ++ ks
+cons_is : (o : Option KeptPair) (ks : List KeptPair) → cons_option o ks ≡ option_to_list o ++ ks
 cons_is None ks = refl
 cons_is (Some k) ks = refl
 
@@ -48,34 +48,34 @@ told_first cause.TooWide z m = refl
 told_first Memory z m = absurd (m refl)
 
 -- pairs after pairs
-pub fault_append : (card : Card) (before : List Kept) (xs ys : List (Result (Option Kept) TooWide))
+pub fault_append : (card : Card) (before : List KeptPair) (xs ys : List (Result (Option KeptPair) TooWide))
     → fault_of_outcomes card before (xs ++ ys) ≡ option_or (fault_of_outcomes card before xs) (fault_of_outcomes card (before ++ kept_pairs xs) ys)
-fault_append card before [] ys = ap (λ (b : List Kept). fault_of_outcomes card b ys) (sym (append-nil before))
+fault_append card before [] ys = ap (λ (b : List KeptPair). fault_of_outcomes card b ys) (sym (append-nil before))
 fault_append card before (o ∷ xs) ys =
     ap (λ (x : Option MatchFault). option_or (outcome_fault card before o) x)
     (fault_append card (before ++ option_to_list (kept_of o)) xs ys
-    ∙ ap (λ (b : List Kept). option_or (fault_of_outcomes card (before ++ option_to_list (kept_of o)) xs) (fault_of_outcomes card b ys)) (append_assoc before (option_to_list (kept_of o)) (kept_pairs xs) ∙ ap (λ (ks : List Kept). before ++ ks) (sym (cons_is (kept_of o) (kept_pairs xs)))))
+    ∙ ap (λ (b : List KeptPair). option_or (fault_of_outcomes card (before ++ option_to_list (kept_of o)) xs) (fault_of_outcomes card b ys)) (append_assoc before (option_to_list (kept_of o)) (kept_pairs xs) ∙ ap (λ (ks : List KeptPair). before ++ ks) (sym (cons_is (kept_of o) (kept_pairs xs)))))
     ∙ or_assoc (outcome_fault card before o) (fault_of_outcomes card (before ++ option_to_list (kept_of o)) xs) (fault_of_outcomes card (before ++ cons_option (kept_of o) (kept_pairs xs)) ys)
 
 -- one pair
-module _ (how : Matching) (keep_name : Bool) (p : Paired) (ones : List (Item Num)) (before : List Kept) where
+module _ (how : Matching) (keep_name : Bool) (p : Paired) (ones : List (Item Num)) (before : List KeptPair) where
   pub pair_wide : (r : Result (Option Num) TooWide) (e : TooWide) → r ≡ Err e → fault_of_outcomes how.card before (kept_if how keep_name p r ∷ []) ≡ Some fault.TooWide
   pair_wide r e h = ap (λ (x : Result (Option Num) TooWide). fault_of_outcomes how.card before (kept_if how keep_name p x ∷ [])) h
 
-  pub pair_dropped : (r : Result (Option Num) TooWide) (rows : Rows) → r ≡ Ok None → HasKept how ones before rows → AreRowsTaken how ones before (kept_if how keep_name p r ∷ []) rows
+  pub pair_dropped : (r : Result (Option Num) TooWide) (rows : JoinedElements) → r ≡ Ok None → HasKept how ones before rows → AreRowsTaken how ones before (kept_if how keep_name p r ∷ []) rows
   pair_dropped r rows h k = record {
     faultless = ap (λ (x : Result (Option Num) TooWide). fault_of_outcomes how.card before (kept_if how keep_name p x ∷ [])) h;
-    holds = subst (λ (b : List Kept). HasKept how ones b rows) (sym (ap (λ (x : Result (Option Num) TooWide). before ++ kept_pairs (kept_if how keep_name p x ∷ [])) h ∙ append-nil before)) k;
+    holds = subst (λ (b : List KeptPair). HasKept how ones b rows) (sym (ap (λ (x : Result (Option Num) TooWide). before ++ kept_pairs (kept_if how keep_name p x ∷ [])) h ∙ append-nil before)) k;
   }
 
-pub fault_one : (card : Card) (before : List Kept) (o : Result (Option Kept) TooWide) → fault_of_outcomes card before (o ∷ []) ≡ outcome_fault card before o
+pub fault_one : (card : Card) (before : List KeptPair) (o : Result (Option KeptPair) TooWide) → fault_of_outcomes card before (o ∷ []) ≡ outcome_fault card before o
 fault_one card before o = or_none (outcome_fault card before o)
 
-pub taken_one : (how : Matching) (ones : List (Item Num)) (before : List Kept) (o : Result (Option Kept) TooWide) (k : Kept) (rows : Rows) → o ≡ Ok (Some k) → outcome_fault how.card before (Ok (Some k)) ≡ None
+pub taken_one : (how : Matching) (ones : List (Item Num)) (before : List KeptPair) (o : Result (Option KeptPair) TooWide) (k : KeptPair) (rows : JoinedElements) → o ≡ Ok (Some k) → outcome_fault how.card before (Ok (Some k)) ≡ None
     → HasKept how ones (before ++ k ∷ []) rows → AreRowsTaken how ones before (o ∷ []) rows
 taken_one how ones before o k rows e h holds = record {
   faultless = fault_one how.card before o ∙ ap (outcome_fault how.card before) e ∙ h;
-  holds = subst (λ (x : Result (Option Kept) TooWide). HasKept how ones (before ++ kept_pairs (x ∷ [])) rows) (sym e) holds;
+  holds = subst (λ (x : Result (Option KeptPair) TooWide). HasKept how ones (before ++ kept_pairs (x ∷ [])) rows) (sym e) holds;
 }
 
 -- the pairs of an element by what is found on the one side
@@ -86,10 +86,10 @@ outcomes_found how keep_name f ones m None e =
 outcomes_found how keep_name f ones m (Some x) e =
     ap (λ (xs : List (Item Num)). map (pair_outcome how keep_name f) (map (paired m) xs)) e
 
-pub taken_none : (how : Matching) (ones : List (Item Num)) (before : List Kept) (os : List (Result (Option Kept) TooWide)) (rows : Rows) → os ≡ [] → HasKept how ones before rows → AreRowsTaken how ones before os rows
+pub taken_none : (how : Matching) (ones : List (Item Num)) (before : List KeptPair) (os : List (Result (Option KeptPair) TooWide)) (rows : JoinedElements) → os ≡ [] → HasKept how ones before rows → AreRowsTaken how ones before os rows
 taken_none how ones before os rows e h = record {
   faultless = ap (fault_of_outcomes how.card before) e;
-  holds = subst (λ (b : List Kept). HasKept how ones b rows) (sym (ap (λ (x : List (Result (Option Kept) TooWide)). before ++ kept_pairs x) e ∙ append-nil before)) h;
+  holds = subst (λ (b : List KeptPair). HasKept how ones b rows) (sym (ap (λ (x : List (Result (Option KeptPair) TooWide)). before ++ kept_pairs x) e ∙ append-nil before)) h;
 }
 
 -- one element more
@@ -99,7 +99,7 @@ module _ (how : Matching) (keep_name : Bool) (f : Operator) (ones : List (Item N
   outcomes_more front m rest =
       ap (map (pair_outcome how keep_name f)) (flat_map-append (pairs_with how ones) front (m ∷ rest))
       ∙ map-append (pair_outcome how keep_name f) (pairs how front ones) (pairs how (m ∷ rest) ones)
-      ∙ ap (λ (x : List (Result (Option Kept) TooWide)). outcomes_of how keep_name f front ones ++ x) (map-append (pair_outcome how keep_name f) (pairs_with how ones m) (pairs how rest ones))
+      ∙ ap (λ (x : List (Result (Option KeptPair) TooWide)). outcomes_of how keep_name f front ones ++ x) (map-append (pair_outcome how keep_name f) (pairs_with how ones m) (pairs how rest ones))
 
   pub fault_at : (front : List (Item Num)) (m : Item Num) (rest : List (Item Num)) (e : JoinFault) → e ≢ Memory → fault_of_outcomes how.card [] (outcomes_of how keep_name f front ones) ≡ None
       → fault_of_outcomes how.card (kept_pairs (outcomes_of how keep_name f front ones)) (outcomes_with how keep_name f ones m) ≡ match_told e
@@ -112,18 +112,18 @@ module _ (how : Matching) (keep_name : Bool) (f : Operator) (ones : List (Item N
       ∙ ap (λ (x : Option MatchFault). option_or x (fault_of_outcomes how.card (kept_pairs (outcomes_of how keep_name f front ones) ++ kept_pairs (outcomes_with how keep_name f ones m)) (outcomes_of how keep_name f rest ones))) at
       ∙ told_first e (fault_of_outcomes how.card (kept_pairs (outcomes_of how keep_name f front ones) ++ kept_pairs (outcomes_with how keep_name f ones m)) (outcomes_of how keep_name f rest ones)) lacks
 
-  pub taken_more : (front : List (Item Num)) (m : Item Num) (rows : Rows) → fault_of_outcomes how.card [] (outcomes_of how keep_name f front ones) ≡ None
+  pub taken_more : (front : List (Item Num)) (m : Item Num) (rows : JoinedElements) → fault_of_outcomes how.card [] (outcomes_of how keep_name f front ones) ≡ None
       → AreRowsTaken how ones (kept_pairs (outcomes_of how keep_name f front ones)) (outcomes_with how keep_name f ones m) rows
       → AreRowsTaken how ones [] (outcomes_of how keep_name f (front ++ m ∷ []) ones) rows
   taken_more front m rows clear h = record {
     faultless = ap (fault_of_outcomes how.card []) whole ∙ fault_append how.card [] (outcomes_of how keep_name f front ones) (outcomes_with how keep_name f ones m)
         ∙ ap (λ (x : Option MatchFault). option_or x (fault_of_outcomes how.card (kept_pairs (outcomes_of how keep_name f front ones)) (outcomes_with how keep_name f ones m))) clear ∙ h.faultless;
-    holds = subst (λ (b : List Kept). HasKept how ones b rows) (sym (ap kept_pairs whole ∙ filter_map-append kept_of (outcomes_of how keep_name f front ones) (outcomes_with how keep_name f ones m))) h.holds;
+    holds = subst (λ (b : List KeptPair). HasKept how ones b rows) (sym (ap kept_pairs whole ∙ filter_map-append kept_of (outcomes_of how keep_name f front ones) (outcomes_with how keep_name f ones m))) h.holds;
   } where
     whole : outcomes_of how keep_name f (front ++ m ∷ []) ones ≡ outcomes_of how keep_name f front ones ++ outcomes_with how keep_name f ones m
-    whole = outcomes_more front m [] ∙ ap (λ (x : List (Result (Option Kept) TooWide)). outcomes_of how keep_name f front ones ++ x) (append-nil (outcomes_with how keep_name f ones m))
+    whole = outcomes_more front m [] ∙ ap (λ (x : List (Result (Option KeptPair) TooWide)). outcomes_of how keep_name f front ones ++ x) (append-nil (outcomes_with how keep_name f ones m))
 
-pub taken_result : (how : Matching) (ones : List (Item Num)) (before : List Kept) (o : Result (Option Kept) TooWide) (k : Kept) (r : Result (Unit {0}) JoinFault) (rows : Rows) → o ≡ Ok (Some k)
+pub taken_result : (how : Matching) (ones : List (Item Num)) (before : List KeptPair) (o : Result (Option KeptPair) TooWide) (k : KeptPair) (r : Result (Unit {0}) JoinFault) (rows : JoinedElements) → o ≡ Ok (Some k)
     → MatchResult r (λ _. (outcome_fault how.card before (Ok (Some k)) ≡ None) × HasKept how ones (before ++ k ∷ []) rows) (λ e. e ≢ Memory → outcome_fault how.card before (Ok (Some k)) ≡ match_told e)
     → MatchResult r (λ _. AreRowsTaken how ones before (o ∷ []) rows) (λ e. e ≢ Memory → fault_of_outcomes how.card before (o ∷ []) ≡ match_told e)
 taken_result how ones before o k (Ok u) rows e h = taken_one how ones before o k rows e h.0 h.1
@@ -131,10 +131,10 @@ taken_result how ones before o k (Err x) rows e h =
     λ m. fault_one how.card before o ∙ ap (outcome_fault how.card before) e ∙ h m
 
 -- what an element gives by what is found for it
-pub result_found : (how : Matching) (ones : List (Item Num)) (before : List Kept) (os ps : List (Result (Option Kept) TooWide)) (r : Result (Unit {0}) JoinFault) (rows : Rows) → os ≡ ps
+pub result_found : (how : Matching) (ones : List (Item Num)) (before : List KeptPair) (os ps : List (Result (Option KeptPair) TooWide)) (r : Result (Unit {0}) JoinFault) (rows : JoinedElements) → os ≡ ps
     → MatchResult r (λ _. AreRowsTaken how ones before ps rows) (λ e. e ≢ Memory → fault_of_outcomes how.card before ps ≡ match_told e)
     → MatchResult r (λ _. AreRowsTaken how ones before os rows) (λ e. e ≢ Memory → fault_of_outcomes how.card before os ≡ match_told e)
-result_found how ones before os ps (Ok u) rows e h = subst (λ (x : List (Result (Option Kept) TooWide)). AreRowsTaken how ones before x rows) (sym e) h
+result_found how ones before os ps (Ok u) rows e h = subst (λ (x : List (Result (Option KeptPair) TooWide)). AreRowsTaken how ones before x rows) (sym e) h
 result_found how ones before os ps (Err x) rows e h = λ m. ap (fault_of_outcomes how.card before) e ∙ h m
 
 -- the sides whole
@@ -142,7 +142,7 @@ pub side_fault_some : (how : Matching) (manys ones : List (Item Num)) → false 
 side_fault_some how [] ones h = cc
 side_fault_some how (m ∷ manys) ones h = refl
 
-module _ (how : Matching) (keep_name : Bool) (f : Operator) (manys ones : List (Item Num)) (places : BTreeMap (List Pair) Place) (index : IsIndexOf how ones ones places) where
+module _ (how : Matching) (keep_name : Bool) (f : Operator) (manys ones : List (Item Num)) (places : BTreeMap (List Pair) KeyPlace) (index : IsIndexOf how ones ones places) where
   pub sides_shared : (key : List Pair) → false ≡ (length manys == 0) → Some key ≡ option_map (λ e. e.0) (find is_flagged places.entries)
       → joined_sides how keep_name f manys ones ≡ Err (fault.ManyToMany key)
   sides_shared key some h =
@@ -167,7 +167,7 @@ module _ (how : Matching) (keep_name : Bool) (f : Operator) (manys ones : List (
   sides_fault cause.TooWide some h at = fault_case fault.TooWide some h (at (λ m. cc))
   sides_fault Memory some h at = tt
 
-  pub sides_kept : (rows : Rows) (items : List (Item Num)) → false ≡ (length manys == 0) → None ≡ option_map (λ e. e.0) (find is_flagged places.entries)
+  pub sides_kept : (rows : JoinedElements) (items : List (Item Num)) → false ≡ (length manys == 0) → None ≡ option_map (λ e. e.0) (find is_flagged places.entries)
       → AreRowsTaken how ones [] (outcomes_of how keep_name f manys ones) rows → items ≡ items_of rows.items → joined_sides how keep_name f manys ones ≡ Ok items
   sides_kept rows items some h t is =
       ap (λ (x : Option MatchFault). joined_result how.card (outcomes_of how keep_name f manys ones) x) (no_side_fault some h)

@@ -11,18 +11,17 @@ use Rattle.std.specs.List.{find, count_by, slice_get}
 use Rattle.std.specs.Option.{option_or, option_to_list, option_map, IfSome}
 use Rattle.std.specs.Map.{keys_of, lookup}
 use Rattle.std.specs.BTreeMap.{BTreeMap, IsOrdered, get, keys, Updates, is_at, insert_entry}
-use Rattle.pr_num.specs.declared.value.Num.{Num}
-use Rattle.pr_labels.specs.declared.pair.Pair.{Pair}
-use Rattle.pr_labels.specs.declared.item.Item.{Item}
-use Rattle.pr_labels.specs.declared.matching.Matching.{Matching}
-use Rattle.pr_labels.specs.Order.{labels_cmp, labels_eq}
-use Rattle.pr_labels.proofs.LabelOrder.{labels_decide}
-use Rattle.pr_labels.proofs.LabelOrder.{labels_total}
-use Rattle.pr_labels.specs.Rising.{with_labels}
-use Rattle.pr_labels.proofs.LabelMaps.{keys_insert, tie}
-use Rattle.pr_ordered.specs.pr_vectors.Matching.{has_key, is_shared, key_of, key_set, least_shared}
-use Rattle.pr_join.specs.declared.places.Place.{Place}
-use Rattle.pr_join.specs.Places.{IsPlaceOf, IsIndexOf, IsOnlyAt, IsPlaced, place_with, is_flagged}
+use Rattle.spec_vectors.specs.pr_num.declared.value.Num.{Num}
+use Rattle.spec_vectors.specs.pr_labels.declared.pair.Pair.{Pair}
+use Rattle.spec_vectors.specs.pr_labels.declared.item.Item.{Item}
+use Rattle.spec_vectors.specs.pr_labels.declared.matching.Matching.{Matching}
+use Rattle.spec_vectors.specs.pr_labels.Order.{labels_cmp, labels_eq}
+use Rattle.spec_vectors.proofs.LabelsLabelOrder.{labels_decide, labels_total}
+use Rattle.spec_vectors.specs.pr_labels.Rising.{with_labels}
+use Rattle.spec_vectors.proofs.LabelsLabelMaps.{keys_insert, tie}
+use Rattle.spec_vectors.specs.Matching.{has_key, is_shared, key_of, key_set, least_shared}
+use Rattle.pr_join.specs.declared.places.KeyPlace.{KeyPlace}
+use Rattle.pr_join.specs.private.Places.{IsPlaceOf, IsIndexOf, IsOnlyAt, IsPlaced, place_with, is_flagged}
 
 key_set_more : (how : Matching) (front : List (Item Num)) (x : Item Num) → key_set how (front ++ x ∷ []) ≡ with_labels (key_set how front) (key_of how x)
 key_set_more how front x =
@@ -73,7 +72,7 @@ some_within (x ∷ xs) zero w e = cc
 some_within (x ∷ xs) (suc i) w e = some_within xs i (omega arith) e
 
 -- an element with another key
-place_same : (how : Matching) (side front : List (Item Num)) (x : Item Num) (q : List Pair) (o : Option Place) → has_key how q x ≡ false
+place_same : (how : Matching) (side front : List (Item Num)) (x : Item Num) (q : List Pair) (o : Option KeyPlace) → has_key how q x ≡ false
     → IsPlaceOf how side front q o → IsPlaceOf how side (front ++ x ∷ []) q o
 place_same how side front x q o absent h = record {
   first = h.first ∙ sym (find-append (has_key how q) front (x ∷ []) ∙ ap (λ (b : Bool). option_or (find (has_key how q) front) (cond b (Some x) None)) absent ∙ or_none (find (has_key how q) front));
@@ -83,12 +82,12 @@ place_same how side front x q o absent h = record {
   count : count_by (has_key how q) (front ++ x ∷ []) ≡ count_by (has_key how q) front
   count = count_more (has_key how q) front x ∙ ap (λ (b : Bool). count_by (has_key how q) front + cond b 1 0) absent ∙ omega arith
 
-  shared_same : (o : Option Place) → IfSome o (λ p. p.shared ≡ is_shared how front q) → IfSome o (λ p. p.shared ≡ is_shared how (front ++ x ∷ []) q)
+  shared_same : (o : Option KeyPlace) → IfSome o (λ p. p.shared ≡ is_shared how front q) → IfSome o (λ p. p.shared ≡ is_shared how (front ++ x ∷ []) q)
   shared_same None k = tt
   shared_same (Some p) k = k ∙ ap (λ (n : ℕ). nat_lt 1 n) (sym count)
 
 -- and one with this key
-place_more : (how : Matching) (side front : List (Item Num)) (x : Item Num) (q : List Pair) (o : Option Place) (i : ℕ) → has_key how q x ≡ true → slice_get side i ≡ Some x → i < length side
+place_more : (how : Matching) (side front : List (Item Num)) (x : Item Num) (q : List Pair) (o : Option KeyPlace) (i : ℕ) → has_key how q x ≡ true → slice_get side i ≡ Some x → i < length side
     → IsPlaceOf how side front q o → IsPlaceOf how side (front ++ x ∷ []) q (Some (place_with o i))
 place_more how side front x q None i present at within h = record {
   first = at ∙ sym (find-append (has_key how q) front (x ∷ []) ∙ (λ j. option_or (sym h.first j) (cond (present j) (Some x) None)));
@@ -104,7 +103,7 @@ place_more how side front x q (Some p) i present at within h = by_item (slice_ge
     shared = lt_more (count_by (has_key how q) front) (cond (has_key how q x) 1 0) (some_counted (has_key how q) front y (sym h.first ∙ e)) (ap (λ (b : Bool). cond b 1 0) present) ∙ ap (λ (n : ℕ). nat_lt 1 n) (sym (count_more (has_key how q) front x));
   }
 
-pub index_more : (how : Matching) (side front : List (Item Num)) (x : Item Num) (i : ℕ) (m n : BTreeMap (List Pair) Place) → slice_get side i ≡ Some x → i < length side
+pub index_more : (how : Matching) (side front : List (Item Num)) (x : Item Num) (i : ℕ) (m n : BTreeMap (List Pair) KeyPlace) → slice_get side i ≡ Some x → i < length side
     → IsPlaced how x i m n → IsIndexOf how side front m → IsIndexOf how side (front ++ x ∷ []) n
 index_more how side front x i m n at within placed h = record {
   ordered = placed.ordered;
@@ -114,18 +113,18 @@ index_more how side front x i m n at within placed h = record {
   by_key : (q : List Pair) (b : Bool) → has_key how q x ≡ b → IsPlaceOf how side (front ++ x ∷ []) q (get labels_cmp n q)
   by_key q true present =
       let new : get labels_cmp n q ≡ Some (place_with (get labels_cmp m q) i) = placed.at q ∙ ap (λ (b : Bool). cond b (Some (place_with (get labels_cmp m q) i)) (get labels_cmp m q)) present in
-      subst (λ (o : Option Place). IsPlaceOf how side (front ++ x ∷ []) q o) (sym new) (place_more how side front x q (get labels_cmp m q) i present at within (h.at q))
+      subst (λ (o : Option KeyPlace). IsPlaceOf how side (front ++ x ∷ []) q o) (sym new) (place_more how side front x q (get labels_cmp m q) i present at within (h.at q))
   by_key q false absent =
       let new : get labels_cmp n q ≡ get labels_cmp m q = placed.at q ∙ ap (λ (b : Bool). cond b (Some (place_with (get labels_cmp m q) i)) (get labels_cmp m q)) absent in
-      subst (λ (o : Option Place). IsPlaceOf how side (front ++ x ∷ []) q o) (sym new) (place_same how side front x q (get labels_cmp m q) absent (h.at q))
+      subst (λ (o : Option KeyPlace). IsPlaceOf how side (front ++ x ∷ []) q o) (sym new) (place_same how side front x q (get labels_cmp m q) absent (h.at q))
 
 -- one more element is put in by its key
-twice : (b : Bool) (v w o : Option Place) → cond b w (cond b v o) ≡ cond b w o
+twice : (b : Bool) (v w o : Option KeyPlace) → cond b w (cond b v o) ≡ cond b w o
 twice true v w o = refl
 twice false v w o = refl
 
-module _ (how : Matching) (x : Item Num) (i : ℕ) (m : BTreeMap (List Pair) Place) where
-  at_key : (n : BTreeMap (List Pair) Place) (key : List Pair) (v : Place) → key ≡ key_of how x → v ≡ place_with (get labels_cmp m key) i
+module _ (how : Matching) (x : Item Num) (i : ℕ) (m : BTreeMap (List Pair) KeyPlace) where
+  at_key : (n : BTreeMap (List Pair) KeyPlace) (key : List Pair) (v : KeyPlace) → key ≡ key_of how x → v ≡ place_with (get labels_cmp m key) i
       → ((q : List Pair) → get labels_cmp n q ≡ cond (is_at (labels_cmp key) q) (Some v) (get labels_cmp m q))
       → (q : List Pair) → get labels_cmp n q ≡ cond (has_key how q x) (Some (place_with (get labels_cmp m q) i)) (get labels_cmp m q)
   at_key n key v is value u q =
@@ -133,51 +132,51 @@ module _ (how : Matching) (x : Item Num) (i : ℕ) (m : BTreeMap (List Pair) Pla
       ∙ ap (λ (k : List Pair). cond (labels_eq k q) (Some (place_with (get labels_cmp m q) i)) (get labels_cmp m q)) is
     where
       by_test : (b : Bool) → labels_eq key q ≡ b → cond b (Some v) (get labels_cmp m q) ≡ cond b (Some (place_with (get labels_cmp m q) i)) (get labels_cmp m q)
-      by_test true h = ap (λ (p : Place). Some p) (value ∙ ap (λ (k : List Pair). place_with (get labels_cmp m k) i) ((labels_decide key q).0 h))
+      by_test true h = ap (λ (p : KeyPlace). Some p) (value ∙ ap (λ (k : List Pair). place_with (get labels_cmp m k) i) ((labels_decide key q).0 h))
       by_test false h = refl
 
-  pub placed_alone : (n : BTreeMap (List Pair) Place) (key : List Pair) → key ≡ key_of how x → None ≡ get labels_cmp m key
+  pub placed_alone : (n : BTreeMap (List Pair) KeyPlace) (key : List Pair) → key ≡ key_of how x → None ≡ get labels_cmp m key
       → n.entries ≡ insert_entry labels_cmp m.entries key (record { index = i; shared = false }) → Updates labels_cmp m n key (Some (record { index = i; shared = false })) → IsOrdered labels_cmp n
       → IsPlaced how x i m n
   placed_alone n key is none entries u ordered = record {
     known = ap keys_of entries ∙ keys_insert m.entries key (record { index = i; shared = false }) ∙ ap (λ (k : List Pair). with_labels (keys_of m.entries) k) is;
     ordered = ordered;
-    at = at_key n key (record { index = i; shared = false }) is (ap (λ (o : Option Place). place_with o i) none) u.0;
+    at = at_key n key (record { index = i; shared = false }) is (ap (λ (o : Option KeyPlace). place_with o i) none) u.0;
   }
 
-  pub placed_again : (n o : BTreeMap (List Pair) Place) (key same : List Pair) (first : Place) → key ≡ key_of how x → same ≡ key_of how x → Some first ≡ get labels_cmp m key
+  pub placed_again : (n o : BTreeMap (List Pair) KeyPlace) (key same : List Pair) (first : KeyPlace) → key ≡ key_of how x → same ≡ key_of how x → Some first ≡ get labels_cmp m key
       → keys n ≡ keys m → Updates labels_cmp m n key (Some (record { index = i; shared = false }))
       → o.entries ≡ insert_entry labels_cmp n.entries same (record { index = first.index; shared = true }) → Updates labels_cmp n o same (Some (record { index = first.index; shared = true })) → IsOrdered labels_cmp o
       → IsPlaced how x i m o
   placed_again n o key same first is also some stay u entries v ordered =
-      let both : Place = record { index = first.index; shared = true } in
-      let alone : Place = record { index = i; shared = false } in
+      let both : KeyPlace = record { index = first.index; shared = true } in
+      let alone : KeyPlace = record { index = i; shared = false } in
       record {
         known = ap keys_of entries ∙ keys_insert n.entries same both ∙ (λ j. with_labels (stay j) (also j));
         ordered = ordered;
-        at = at_key o key both is (ap (λ (p : Option Place). place_with p i) some)
+        at = at_key o key both is (ap (λ (p : Option KeyPlace). place_with p i) some)
             (λ q. v.0 q ∙ (λ j. cond (is_at (labels_cmp ((also ∙ sym is) j)) q) (Some both) (u.0 q j)) ∙ twice (is_at (labels_cmp key) q) (Some alone) (Some both) (get labels_cmp m q));
       }
 
 -- the flags of the entries are those of their keys
-by_flag : (e : List Pair × Place) (es : List (List Pair × Place)) (o : Option (List Pair)) (a b : Bool) → a ≡ b → option_map (λ x. x.0) (find is_flagged es) ≡ o
+by_flag : (e : List Pair × KeyPlace) (es : List (List Pair × KeyPlace)) (o : Option (List Pair)) (a b : Bool) → a ≡ b → option_map (λ x. x.0) (find is_flagged es) ≡ o
     → option_map (λ x. x.0) (cond a (Some e) (find is_flagged es)) ≡ cond b (Some e.0) o
 by_flag e es o true true h k = refl
 by_flag e es o false false h k = k
 by_flag e es o true false h k = cc
 by_flag e es o false true h k = cc
 
-flags : (test : List Pair → Bool) (es : List (List Pair × Place)) → ((i : ℕ) (e : List Pair × Place) → slice_get es i ≡ Some e → e.1.shared ≡ test e.0)
+flags : (test : List Pair → Bool) (es : List (List Pair × KeyPlace)) → ((i : ℕ) (e : List Pair × KeyPlace) → slice_get es i ≡ Some e → e.1.shared ≡ test e.0)
     → option_map (λ e. e.0) (find is_flagged es) ≡ find test (keys_of es)
 flags test [] h = refl
 flags test (e ∷ es) h =
     by_flag e es (find test (keys_of es)) e.1.shared (test e.0) (h 0 e refl) (flags test es (λ i x s. h (suc i) x s))
 
-shared_at : (how : Matching) (side : List (Item Num)) (k : List Pair) (p : Place) (o : Option Place) → o ≡ Some p → IfSome o (λ q. q.shared ≡ is_shared how side k) → p.shared ≡ is_shared how side k
+shared_at : (how : Matching) (side : List (Item Num)) (k : List Pair) (p : KeyPlace) (o : Option KeyPlace) → o ≡ Some p → IfSome o (λ q. q.shared ≡ is_shared how side k) → p.shared ≡ is_shared how side k
 shared_at how side k p None e h = cc
 shared_at how side k p (Some q) e h = cc
 
-pub first_flag : (how : Matching) (side : List (Item Num)) (m : BTreeMap (List Pair) Place) → IsIndexOf how side side m
+pub first_flag : (how : Matching) (side : List (Item Num)) (m : BTreeMap (List Pair) KeyPlace) → IsIndexOf how side side m
     → option_map (λ e. e.0) (find is_flagged m.entries) ≡ least_shared how side
 first_flag how side m h =
     flags (is_shared how side) m.entries (λ i e s. shared_at how side e.0 e.1 (get labels_cmp m e.0) (btree_map_get_place labels_total m i e.0 e.1 h.ordered s) (h.at e.0).shared)
@@ -201,7 +200,7 @@ at_most_one p (x ∷ xs) h = by_test (p x) (subst (λ (n : ℕ). n ≤ 1) (count
 not_more : (n : ℕ) → nat_lt 1 n ≡ false → n ≤ 1
 not_more n h = grind (arith, nat_tests)
 
-unflagged : (test : List Pair → Bool) (es : List (List Pair × Place)) (p : Place) → find is_flagged es ≡ None → lookup test es ≡ Some p → p.shared ≡ false
+unflagged : (test : List Pair → Bool) (es : List (List Pair × KeyPlace)) (p : KeyPlace) → find is_flagged es ≡ None → lookup test es ≡ Some p → p.shared ≡ false
 unflagged test [] p h k = cc
 unflagged test (e ∷ es) p h k = by_flag_of e.1.shared refl h (unflagged test es p) where
   by_test : (b : Bool) → e.1.shared ≡ false → cond b (Some e.1) (lookup test es) ≡ Some p → (lookup test es ≡ Some p → p.shared ≡ false) → p.shared ≡ false
@@ -212,10 +211,10 @@ unflagged test (e ∷ es) p h k = by_flag_of e.1.shared refl h (unflagged test e
   by_flag_of true f g more = cc
   by_flag_of false f g more = by_test (test e.0) f k (more g)
 
-pub one_pair : (how : Matching) (side : List (Item Num)) (m : BTreeMap (List Pair) Place) (k : List Pair) → IsIndexOf how side side m → find is_flagged m.entries ≡ None
+pub one_pair : (how : Matching) (side : List (Item Num)) (m : BTreeMap (List Pair) KeyPlace) (k : List Pair) → IsIndexOf how side side m → find is_flagged m.entries ≡ None
     → filter (has_key how k) side ≡ option_to_list (find (has_key how k) side)
 one_pair how side m k h clear = by_place (get labels_cmp m k) refl (h.at k) where
-  by_place : (o : Option Place) → get labels_cmp m k ≡ o → IsPlaceOf how side side k o → filter (has_key how k) side ≡ option_to_list (find (has_key how k) side)
+  by_place : (o : Option KeyPlace) → get labels_cmp m k ≡ o → IsPlaceOf how side side k o → filter (has_key how k) side ≡ option_to_list (find (has_key how k) side)
   by_place None e p = at_most_one (has_key how k) side (omega (arith, none_counted (has_key how k) side (sym p.first)))
   by_place (Some q) e p =
       at_most_one (has_key how k) side (not_more (count_by (has_key how k) side) (sym p.shared ∙ unflagged (is_at (labels_cmp k)) m.entries q clear e))
@@ -254,11 +253,11 @@ found_passes p (y ∷ ys) x h = by_test (p y) refl h (found_passes p ys x) where
   by_test true e k more = subst (λ (z : Item Num). p z ≡ true) (same y x k) e
   by_test false e k more = more k
 
-pub only_place : (how : Matching) (side : List (Item Num)) (m : BTreeMap (List Pair) Place) (k : List Pair) (p : Place) → IsIndexOf how side side m → find is_flagged m.entries ≡ None → get labels_cmp m k ≡ Some p
+pub only_place : (how : Matching) (side : List (Item Num)) (m : BTreeMap (List Pair) KeyPlace) (k : List Pair) (p : KeyPlace) → IsIndexOf how side side m → find is_flagged m.entries ≡ None → get labels_cmp m k ≡ Some p
     → IsOnlyAt how side k p.index
 only_place how side m k p h clear e = by_item (slice_get side p.index) refl where
   at : IsPlaceOf how side side k (Some p)
-  at = subst (λ (o : Option Place). IsPlaceOf how side side k o) e (h.at k)
+  at = subst (λ (o : Option KeyPlace). IsPlaceOf how side side k o) e (h.at k)
 
   few : count_by (has_key how k) side ≤ 1
   few = not_more (count_by (has_key how k) side) (sym at.shared ∙ unflagged (is_at (labels_cmp k)) m.entries p clear e)

@@ -1,4 +1,4 @@
-use pr_labels::Labels;
+use spec_vectors::labels::Labels;
 use std::alloc::AllocError;
 
 /// Why two vectors were not joined. (Prometheus: Querying, Operators, Vector matching.)

@@ -1,21 +1,21 @@
 // Arithmetic and comparisons between two vectors.
 ghost use Rattle.std.specs.Prelude.{◌≡◌, ◌≢◌, ◌<◌, length, List, [], ◌∷◌, find, Ok, Err, Some, None, IfOk, IfSome, MatchResult, OnOk};
 ghost use Rattle.pr_join.specs.declared.join_fault.JoinFault.TheVariants.{Memory};
-ghost use Rattle.pr_labels.specs.declared.item.Item.{Item};
-ghost use Rattle.pr_num.specs.declared.value.Num.{Num};
-ghost use Rattle.pr_ordered.specs.pr_vectors.Vectors.{IsVector};
-ghost use Rattle.pr_ordered.specs.pr_vectors.Matching.{Operator, Kept, worked, paired, pair_outcome, fault_of_outcomes, key_of, outcomes_of, joined, joined_sides};
-ghost use Rattle.pr_join.specs.Faults.{match_told};
-ghost use Rattle.pr_join.specs.Operators.{AnswersBy};
-ghost use Rattle.pr_join.specs.Places.{IsIndexOf, IsOnlyAt, is_flagged};
-ghost use Rattle.pr_join.specs.Rows.{HasKept, AreRowsTaken, outcomes_with};
+ghost use Rattle.spec_vectors.specs.pr_labels.declared.item.Item.{Item};
+ghost use Rattle.spec_vectors.specs.pr_num.declared.value.Num.{Num};
+ghost use Rattle.spec_vectors.specs.private.Laws.{IsVector};
+ghost use Rattle.spec_vectors.specs.Matching.{Operator, KeptPair, worked, paired, pair_outcome, fault_of_outcomes, key_of, outcomes_of, joined, joined_sides};
+ghost use Rattle.pr_join.specs.private.Faults.{match_told};
+ghost use Rattle.pr_join.specs.private.Operators.{AnswersBy};
+ghost use Rattle.pr_join.specs.private.Places.{IsIndexOf, IsOnlyAt, is_flagged};
+ghost use Rattle.pr_join.specs.private.Rows.{HasKept, AreRowsTaken, outcomes_with};
 
 use crate::join_fault::JoinFault;
 use crate::labels::result_labels;
-use crate::places::{Place, first_shared, key_of, place_of, places_of};
-use crate::rows::{Rows, no_rows, take};
-use pr_labels::{Card, Item, Labels, Matching};
-use pr_num::{Num, TooWide};
+use crate::places::{KeyPlace, first_shared, key_of, place_of, places_of};
+use crate::rows::{JoinedElements, no_rows, take};
+use spec_vectors::labels::{Card, Item, Labels, Matching};
+use spec_vectors::num::{Num, TooWide};
 use std::alloc::Global;
 use std::collections::BTreeMap;
 
@@ -45,12 +45,12 @@ fn join_pair<O: Fn(Num, Num) -> Result<Option<Num>, TooWide>>(
     many: &Item<Num>,
     one: &Item<Num>,
     place: usize,
-    rows: &mut Rows,
+    rows: &mut JoinedElements,
 ) -> Result<(), JoinFault>
     requires callable { O.IsAlwaysCallable op.now }
     requires key { key ≡ key_of how.now many.now }
     requires place { place < length rows.old.taken.items }
-    ensures taken { (f : Operator) (ones : List (Item Num)) (before : List Kept) → AnswersBy O.Fn op.now f → IsOnlyAt how.now ones key place → HasKept how.now ones before rows.old → MatchResult result
+    ensures taken { (f : Operator) (ones : List (Item Num)) (before : List KeptPair) → AnswersBy O.Fn op.now f → IsOnlyAt how.now ones key place → HasKept how.now ones before rows.old → MatchResult result
         (λ _. AreRowsTaken how.now ones before (pair_outcome how.now keep_name f (paired many.now one.now) ∷ []) rows.new)
         (λ e. e ≢ Memory → fault_of_outcomes how.now.card before (pair_outcome how.now keep_name f (paired many.now one.now) ∷ []) ≡ match_told e) }
     ensures room { OnOk result (length rows.new.taken.items ≡ length rows.old.taken.items) }
@@ -72,15 +72,15 @@ fn join_one<O: Fn(Num, Num) -> Result<Option<Num>, TooWide>>(
     keep_name: bool,
     op: &O,
     ones: &[Item<Num>],
-    places: &BTreeMap<Labels, Place>,
+    places: &BTreeMap<Labels, KeyPlace>,
     many: &Item<Num>,
-    rows: &mut Rows,
+    rows: &mut JoinedElements,
 ) -> Result<(), JoinFault>
     requires callable { O.IsAlwaysCallable op.now }
     requires index { IsIndexOf how.now ones.now ones.now places.now }
     requires unshared { find is_flagged places.now.entries ≡ None }
     requires room { length rows.old.taken.items ≡ length ones.now }
-    ensures taken { (f : Operator) (before : List Kept) → AnswersBy O.Fn op.now f → HasKept how.now ones.now before rows.old → MatchResult result
+    ensures taken { (f : Operator) (before : List KeptPair) → AnswersBy O.Fn op.now f → HasKept how.now ones.now before rows.old → MatchResult result
         (λ _. AreRowsTaken how.now ones.now before (outcomes_with how.now keep_name f ones.now many.now) rows.new)
         (λ e. e ≢ Memory → fault_of_outcomes how.now.card before (outcomes_with how.now keep_name f ones.now many.now) ≡ match_told e) }
     ensures room { OnOk result (length rows.new.taken.items ≡ length ones.now) }
@@ -103,8 +103,8 @@ fn join_all<O: Fn(Num, Num) -> Result<Option<Num>, TooWide>>(
     op: &O,
     manys: &[Item<Num>],
     ones: &[Item<Num>],
-    places: &BTreeMap<Labels, Place>,
-) -> Result<Rows, JoinFault>
+    places: &BTreeMap<Labels, KeyPlace>,
+) -> Result<JoinedElements, JoinFault>
     requires callable { O.IsAlwaysCallable op.now }
     requires index { IsIndexOf how.now ones.now ones.now places.now }
     requires unshared { find is_flagged places.now.entries ≡ None }

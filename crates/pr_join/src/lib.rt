@@ -1,5 +1,5 @@
 //! Operators between two vectors: arithmetic, comparisons and set operators by matching keys. A
-//! call equals its definition in `pr_vectors`; keys are looked up in ordered maps, so that the work
+//! call equals its definition in `spec_vectors`; keys are looked up in ordered maps, so that the work
 //! grows with the elements and not with their pairs.
 #![tactic(auto)]
 

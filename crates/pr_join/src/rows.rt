@@ -1,38 +1,39 @@
 // The elements of a result, as pairs give them.
-ghost use Rattle.pr_labels.specs.declared.item.Item.{Item};
-ghost use Rattle.pr_labels.specs.declared.matching.Matching.{Matching};
-ghost use Rattle.pr_num.specs.declared.value.Num.{Num};
+ghost use Rattle.spec_vectors.specs.pr_labels.declared.item.Item.{Item};
+ghost use Rattle.spec_vectors.specs.pr_labels.declared.matching.Matching.{Matching};
+ghost use Rattle.spec_vectors.specs.pr_num.declared.value.Num.{Num};
 ghost use Rattle.std.specs.Prelude.{◌≡◌, ◌≢◌, ◌<◌, length, List, [], ◌∷◌, ◌++◌, Some, None, Ok, IfOk, OnOk, MatchResult};
 ghost use Rattle.std.specs.BTreeMap.{IsOrdered, insert_entry};
-ghost use Rattle.pr_labels.specs.Order.{labels_cmp};
+ghost use Rattle.spec_vectors.specs.pr_labels.Order.{labels_cmp};
 ghost use Rattle.pr_join.specs.declared.join_fault.JoinFault.TheVariants.{Memory};
-ghost use Rattle.pr_ordered.specs.pr_vectors.Vectors.{IsVector, element};
-ghost use Rattle.pr_ordered.specs.pr_vectors.Matching.{Kept, key_fault, labels_fault, outcome_fault};
-ghost use Rattle.pr_join.specs.Faults.{match_told};
-ghost use Rattle.pr_join.specs.Places.{IsOnlyAt};
-ghost use Rattle.pr_join.specs.Rows.{HasTakenKeys, HasItems, HasKept, elements, is_one_to_one, kept_with};
+ghost use Rattle.spec_vectors.specs.private.Laws.{IsVector};
+ghost use Rattle.spec_vectors.specs.Vectors.{element};
+ghost use Rattle.spec_vectors.specs.Matching.{KeptPair, key_fault, labels_fault, outcome_fault};
+ghost use Rattle.pr_join.specs.private.Faults.{match_told};
+ghost use Rattle.pr_join.specs.private.Places.{IsOnlyAt};
+ghost use Rattle.pr_join.specs.private.Rows.{HasTakenKeys, HasItems, HasKept, elements, is_one_to_one, kept_with};
 
 use crate::join_fault::JoinFault;
-use pr_labels::{Card, Item, Labels};
-use pr_num::Num;
-use pr_ordered::Ordered;
+use spec_vectors::labels::ordered::Ordered;
+use spec_vectors::labels::{Card, Item, Labels};
+use spec_vectors::num::Num;
 use std::alloc::{AllocError, Global};
 use std::collections::BTreeMap;
 
 /// The elements so far by their labels, and in one-to-one matching which elements of the one side
 /// gave one, by their places.
 #[derive(Drop)]
-pub struct Rows {
+pub struct JoinedElements {
     pub items: Ordered<Num>,
     pub taken: Vec<bool>,
 }
 
 /// No elements of pairs with the one side.
-pub fn no_rows(alloc: Global, ones: &[Item<Num>]) -> Result<Rows, AllocError>
+pub fn no_rows(alloc: Global, ones: &[Item<Num>]) -> Result<JoinedElements, AllocError>
     ensures kept { IfOk result (λ rows. (how : Matching) → HasKept how ones.now [] rows) }
     ensures room { IfOk result (λ rows. length rows.taken.items ≡ length ones.now) }
 {
-    Ok(Rows {
+    Ok(JoinedElements {
         items: Ordered::new(alloc),
         taken: vec![in alloc; false; ones.len()]?,
     })
@@ -60,7 +61,7 @@ fn is_one_to_one(card: Card) -> bool
 // alone has it.
 fn take_key(taken: &mut Vec<bool>, card: Card, place: usize, key: Labels) -> Result<(), JoinFault>
     requires { place < length taken.old.items }
-    ensures taken { (how : Matching) (ones : List (Item Num)) (before : List Kept) (k : Kept) → how.card ≡ card → k.key ≡ key → IsOnlyAt how ones key place → HasTakenKeys how ones before taken.old.items → MatchResult result
+    ensures taken { (how : Matching) (ones : List (Item Num)) (before : List KeptPair) (k : KeptPair) → how.card ≡ card → k.key ≡ key → IsOnlyAt how ones key place → HasTakenKeys how ones before taken.old.items → MatchResult result
         (λ _. (key_fault card before k ≡ None) × HasTakenKeys how ones (before ++ k ∷ []) taken.new.items)
         (λ e. e ≢ Memory → key_fault card before k ≡ match_told e) }
     ensures room { OnOk result (length taken.new.items ≡ length taken.old.items) }
@@ -77,7 +78,7 @@ fn take_key(taken: &mut Vec<bool>, card: Card, place: usize, key: Labels) -> Res
 
 // Takes an element, whose labels may come once.
 fn take_item(items: &mut Ordered<Num>, labels: Labels, value: Num) -> Result<(), JoinFault>
-    ensures { (before : List Kept) (k : Kept) → k.item ≡ element labels value → HasItems before items.old → MatchResult result
+    ensures { (before : List KeptPair) (k : KeptPair) → k.item ≡ element labels value → HasItems before items.old → MatchResult result
         (λ _. (labels_fault before k ≡ None) × HasItems (before ++ k ∷ []) items.new)
         (λ e. e ≢ Memory → labels_fault before k ≡ match_told e) }
 {
@@ -90,7 +91,7 @@ fn take_item(items: &mut Ordered<Num>, labels: Labels, value: Num) -> Result<(),
 /// Takes what a pair gives, unless an earlier pair with its key or its labels was taken. Of the one
 /// side the element at the place alone has the key.
 pub fn take(
-    rows: &mut Rows,
+    rows: &mut JoinedElements,
     card: Card,
     place: usize,
     key: Labels,
@@ -98,7 +99,7 @@ pub fn take(
     value: Num,
 ) -> Result<(), JoinFault>
     requires { place < length rows.old.taken.items }
-    ensures taken { (how : Matching) (ones : List (Item Num)) (before : List Kept) (k : Kept) → how.card ≡ card → k ≡ kept_with key labels value → IsOnlyAt how ones key place → HasKept how ones before rows.old → MatchResult result
+    ensures taken { (how : Matching) (ones : List (Item Num)) (before : List KeptPair) (k : KeptPair) → how.card ≡ card → k ≡ kept_with key labels value → IsOnlyAt how ones key place → HasKept how ones before rows.old → MatchResult result
         (λ _. (outcome_fault card before (Ok (Some k)) ≡ None) × HasKept how ones (before ++ k ∷ []) rows.new)
         (λ e. e ≢ Memory → outcome_fault card before (Ok (Some k)) ≡ match_told e) }
     ensures room { OnOk result (length rows.new.taken.items ≡ length rows.old.taken.items) }

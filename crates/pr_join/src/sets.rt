@@ -1,16 +1,17 @@
 // Set operators between two vectors.
 ghost use Rattle.std.specs.Prelude.{◌≡◌, IfOk, OnOk, fold, List};
-ghost use Rattle.pr_labels.specs.declared.item.Item.{Item};
-ghost use Rattle.pr_num.specs.declared.value.Num.{Num};
-ghost use Rattle.pr_ordered.specs.pr_vectors.Vectors.{IsVector, with_element};
-ghost use Rattle.pr_ordered.specs.pr_vectors.Matching.{both_sides, left_alone, either_side, is_matched};
-ghost use Rattle.pr_join.specs.Sets.{IsKeySetOf, with_match};
-ghost use Rattle.pr_join.specs.Rows.{elements};
+ghost use Rattle.spec_vectors.specs.pr_labels.declared.item.Item.{Item};
+ghost use Rattle.spec_vectors.specs.pr_num.declared.value.Num.{Num};
+ghost use Rattle.spec_vectors.specs.private.Laws.{IsVector};
+ghost use Rattle.spec_vectors.specs.Vectors.{with_element};
+ghost use Rattle.spec_vectors.specs.Matching.{both_sides, left_alone, either_side, is_matched};
+ghost use Rattle.pr_join.specs.private.Sets.{IsKeySetOf, with_match};
+ghost use Rattle.pr_join.specs.private.Rows.{elements};
 
 use crate::places::key_of;
 use crate::rows::{elements_of, put};
-use pr_labels::{Item, Labels, Matching};
-use pr_num::Num;
+use spec_vectors::labels::{Item, Labels, Matching};
+use spec_vectors::num::Num;
 use std::alloc::{AllocError, Global};
 use std::collections::BTreeMap;
 

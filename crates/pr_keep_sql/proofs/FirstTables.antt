@@ -11,7 +11,7 @@ use Rattle.sqlite_schema.specs.declared.schema.Reference.{Reference}
 use Rattle.sqlite_schema.specs.declared.schema.View.{View}
 use Rattle.sqlite_rules.specs.Action.{deed_for, work_by, work_for, works}
 use Rattle.sqlite_rules.specs.declared.action.Deed.{Deed}
-use Rattle.pr_keep_sql.specs.Tables.{HasOursFirst, kept, version}
+use Rattle.pr_keep_sql.specs.private.Tables.{HasOursFirst, kept, version}
 
 abbrev pub ours : List Table → List Index → List View → Schema
 ours others indexes views = record { tables = kept ∷ version ∷ others; indexes = indexes; views = views }

@@ -18,11 +18,11 @@ use Rattle.sqlite_schema.specs.Names.{same_name}
 use Rattle.sqlite_schema.specs.Rules.{are_typed, suits, Keeps as Holds}
 use Rattle.sqlite_schema.specs.declared.schema.Constraint.TheVariants.{Datatype}
 use Rattle.pr_outside.specs.declared.keeping.Row.{Row as Line}
-use Rattle.pr_keep_sql.specs.Tables.{Has, HasOurs, HasOursFirst, IsFree, column_of, is_named, kept, schema_of, stored, stored_from, version}
+use Rattle.pr_keep_sql.specs.private.Tables.{Has, HasOurs, HasOursFirst, IsFree, column_of, is_named, kept, schema_of, stored, stored_from, version}
 use Rattle.pr_keep_sql.proofs.FirstTables.{is_ours}
-use Rattle.pr_keep_sql.specs.Kept.{KeepsSo, number_in, text_in, versions}
-use Rattle.pr_keep_sql.specs.Found.{AreFound, IsFoundAt, IsTyped, shown_cells}
-use Rattle.pr_keep_sql.specs.Texts.{rows_text}
+use Rattle.pr_keep_sql.specs.private.Kept.{KeepsSo, number_in, text_in, versions}
+use Rattle.pr_keep_sql.specs.private.Found.{AreFound, IsFoundAt, IsTyped, shown_cells}
+use Rattle.pr_keep_sql.specs.private.Texts.{rows_text}
 use Rattle.pr_keep_sql.proofs.QueryLemmas.{rows_shown}
 use Rattle.pr_keep_sql.proofs.StateLemmas.{told_by}
 

@@ -4,10 +4,10 @@ use Rattle.sqlite.specs.Effect.{Database, IsDatabase}
 use Rattle.sqlite.specs.State.{HasCleanDisk, IsLive, State}
 use Rattle.sqlite.specs.View.{doubt}
 use Rattle.pr_outside.specs.declared.keeping.Row.{Row as Line}
-use Rattle.pr_outside.specs.Kept.{KeepsRows, AppendsRows}
-use Rattle.pr_keep_sql.specs.Kept.{Keeps, KeepsSo, StaysTold, WhileOpen, listed, told}
-use Rattle.pr_keep_sql.specs.Statements.{Adds, Commits, Lasts, Makes}
-use Rattle.pr_keep_sql.specs.Tables.{HasOursFirst, schema_of}
+use Rattle.pr_outside.specs.private.Kept.{KeepsRows, AppendsRows}
+use Rattle.pr_keep_sql.specs.private.Kept.{Keeps, KeepsSo, StaysTold, WhileOpen, listed, told}
+use Rattle.pr_keep_sql.specs.private.Statements.{Adds, Commits, Lasts, Makes}
+use Rattle.pr_keep_sql.specs.private.Tables.{HasOursFirst, schema_of}
 use Rattle.pr_keep_sql.proofs.StateLemmas.{told_by}
 
 pub clean_disk : (b : Bool) → IsTrue b → doubt b ≡ 0

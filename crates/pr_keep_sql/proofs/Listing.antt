@@ -9,8 +9,8 @@ use Rattle.std.proofs.lemmas.List.{append_assoc}
 use Rattle.std.proofs.lemmas.Bool.{eqb-true, eq-eqb}
 use Rattle.sqlite.specs.Order.{Row as Cells, column}
 use Rattle.pr_outside.specs.declared.keeping.Row.{Row}
-use Rattle.pr_keep_sql.specs.Tables.{stored, stored_from}
-use Rattle.pr_keep_sql.specs.Kept.{row_at, rows_from, number_in}
+use Rattle.pr_keep_sql.specs.private.Tables.{stored, stored_from}
+use Rattle.pr_keep_sql.specs.private.Kept.{row_at, rows_from, number_in}
 
 -- the cells of the element of a list, with its place
 pub record IsElement (rows : List Row) (cells : Cells) : Type 0 where

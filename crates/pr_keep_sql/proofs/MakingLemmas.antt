@@ -22,10 +22,10 @@ use Rattle.sqlite.specs.State.{State, mode_of, Executes, ExecutesInside, Writes}
 use Rattle.std.specs.List.Sorted.{IsPermutation}
 use Rattle.std.proofs.lemmas.List.Sorted.{IsPermutation-refl}
 use Rattle.pr_outside.specs.declared.keeping.Row.{Row as Line}
-use Rattle.pr_keep_sql.specs.Tables.{HasOursFirst, kept, version, kept_schema, schema_of, stored_from}
-use Rattle.pr_keep_sql.specs.Kept.{listed}
-use Rattle.pr_keep_sql.specs.Statements.{Commits, GoesOn, Makes, MakesKept, MakesVersion, Numbers}
-use Rattle.pr_keep_sql.specs.Texts.{kept_text, number_text, version_text}
+use Rattle.pr_keep_sql.specs.private.Tables.{HasOursFirst, kept, version, kept_schema, schema_of, stored_from}
+use Rattle.pr_keep_sql.specs.private.Kept.{listed}
+use Rattle.pr_keep_sql.specs.private.Statements.{Commits, GoesOn, Makes, MakesKept, MakesVersion, Numbers}
+use Rattle.pr_keep_sql.specs.private.Texts.{kept_text, number_text, version_text}
 use Rattle.pr_keep_sql.proofs.TableLemmas.{went, same_value, cast_null, cast_int}
 
 abbrev none : Schema

@@ -9,16 +9,16 @@ use Rattle.sqlite.specs.State.{HasCleanDisk, Opens, State}
 use Rattle.sqlite.specs.Store.{Ghosts}
 use Rattle.sqlite.specs.View.{doubt}
 use Rattle.pr_outside.specs.Causes.{HasKeepCause}
-use Rattle.pr_outside.specs.Kept.{KeepsRows, StartsRows}
+use Rattle.pr_outside.specs.private.Kept.{KeepsRows, StartsRows}
 use Rattle.pr_outside.specs.declared.keeping.KeepError.{KeepError}
 use Rattle.pr_outside.specs.declared.keeping.KeepError.TheVariants.{Failed, Memory}
 use Rattle.pr_outside.specs.declared.keeping.Row.{Row as Line}
-use Rattle.pr_outside.specs.Schedule.{one_more}
-use Rattle.pr_keep_sql.specs.Counts.{CountsOnce, CountsOne, faults_of}
-use Rattle.pr_keep_sql.specs.Kept.{Keeps, listed}
-use Rattle.pr_keep_sql.specs.Opened.{IsFoundIn, TellsOf, rows_in}
-use Rattle.pr_keep_sql.specs.Store.{KeptStore, rows_of}
-use Rattle.pr_keep_sql.specs.Tables.{HasOursFirst, schema_of}
+use Rattle.pr_outside.specs.private.Schedule.{one_more}
+use Rattle.pr_keep_sql.specs.private.Counts.{CountsOnce, CountsOne, faults_of}
+use Rattle.pr_keep_sql.specs.private.Kept.{Keeps, listed}
+use Rattle.pr_keep_sql.specs.private.Opened.{IsFoundIn, TellsOf, rows_in}
+use Rattle.pr_keep_sql.specs.private.Store.{KeptStore, rows_of}
+use Rattle.pr_keep_sql.specs.private.Tables.{HasOursFirst, schema_of}
 use Rattle.pr_keep_sql.specs.declared.opened.Opened.{Opened}
 use Rattle.pr_keep_sql.specs.declared.opened.Opened.TheVariants.{Nothing}
 

@@ -12,10 +12,10 @@ use Rattle.sqlite.specs.Order.{Row, column, value_cmp}
 use Rattle.sqlite.specs.Query.{Output, output, output_cmp}
 use Rattle.sqlite.specs.State.{Shown, State}
 use Rattle.pr_outside.specs.declared.keeping.Row.{Row as Line}
-use Rattle.pr_keep_sql.specs.Tables.{HasOursFirst, stored, stored_from}
-use Rattle.pr_keep_sql.specs.Kept.{number_in}
-use Rattle.pr_keep_sql.specs.Found.{AreFound, IsFoundAt}
-use Rattle.pr_keep_sql.specs.Texts.{rows_text}
+use Rattle.pr_keep_sql.specs.private.Tables.{HasOursFirst, stored, stored_from}
+use Rattle.pr_keep_sql.specs.private.Kept.{number_in}
+use Rattle.pr_keep_sql.specs.private.Found.{AreFound, IsFoundAt}
+use Rattle.pr_keep_sql.specs.private.Texts.{rows_text}
 use Rattle.pr_keep_sql.proofs.QueryLemmas.{env_of, rows_query, rows_sorted}
 use Rattle.pr_keep_sql.proofs.TableLemmas.{less}
 

@@ -21,10 +21,10 @@ use Rattle.sqlite.specs.Table.{Table}
 use Rattle.sqlite_schema.specs.declared.schema.Index.{Index}
 use Rattle.sqlite_schema.specs.declared.schema.View.{View}
 use Rattle.pr_keep_sql.proofs.FirstTables.{is_ours, ours}
-use Rattle.pr_keep_sql.specs.Tables.{HasOursFirst}
-use Rattle.pr_keep_sql.specs.Kept.{versions}
-use Rattle.pr_keep_sql.specs.Found.{shown_cells}
-use Rattle.pr_keep_sql.specs.Texts.{numbers_text, rows_text}
+use Rattle.pr_keep_sql.specs.private.Tables.{HasOursFirst}
+use Rattle.pr_keep_sql.specs.private.Kept.{versions}
+use Rattle.pr_keep_sql.specs.private.Found.{shown_cells}
+use Rattle.pr_keep_sql.specs.private.Texts.{numbers_text, rows_text}
 
 abbrev whole : ℕ → List Term → List (Term × Key) → Query
 whole tree project order = record {

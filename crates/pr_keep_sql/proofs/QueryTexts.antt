@@ -12,7 +12,7 @@ use Rattle.sqlite_resolve.specs.declared.compiled.Compiled.{Compiled}
 use Rattle.sqlite_resolve.specs.declared.error.CompileError.{CompileError}
 use Rattle.sqlite_tied.specs.Compute.{everything}
 use Rattle.sqlite.specs.Listing.{if_select, is_select, listing_schema, reads_listing, understood}
-use Rattle.pr_keep_sql.specs.Texts.{numbers_text, rows_text, select_text}
+use Rattle.pr_keep_sql.specs.private.Texts.{numbers_text, rows_text, select_text}
 
 -- whatever it is understood as, it has no RETURNING
 abbrev pub OnlyReads : List ℕ → Type 0

@@ -9,12 +9,12 @@ use Rattle.sqlite.specs.Store.{Ghosts}
 use Rattle.pr_outside.specs.declared.keeping.KeepError.{KeepError}
 use Rattle.pr_outside.specs.declared.keeping.KeepError.TheVariants.{Failed, Memory}
 use Rattle.pr_outside.specs.declared.keeping.Row.{Row as Line}
-use Rattle.pr_outside.specs.Schedule.{one_more}
-use Rattle.pr_keep_sql.specs.Counts.{CountsOnce}
-use Rattle.pr_keep_sql.specs.Found.{AreFound}
-use Rattle.pr_keep_sql.specs.Ran.{HasLoaded, HasRead, HasRun, IsCount, IsShownAs, numbers_in}
-use Rattle.pr_keep_sql.specs.Refusals.{RanInTurn}
-use Rattle.pr_keep_sql.specs.Texts.{Order, numbers_text, rows_text, select_text}
+use Rattle.pr_outside.specs.private.Schedule.{one_more}
+use Rattle.pr_keep_sql.specs.private.Counts.{CountsOnce}
+use Rattle.pr_keep_sql.specs.private.Found.{AreFound}
+use Rattle.pr_keep_sql.specs.private.Ran.{HasLoaded, HasRead, HasRun, IsCount, IsShownAs, numbers_in}
+use Rattle.pr_keep_sql.specs.private.Refusals.{RanInTurn}
+use Rattle.pr_keep_sql.specs.private.Texts.{Order, numbers_text, rows_text, select_text}
 
 -- a refusal counts one
 pub counts_once : (T : Type 0) (want : Bool) (answer : KeepError) (refused odd now : ℕ) → MatchBool want ((answer ≡ Memory) × (now ≡ refused)) ((answer ≡ Failed) × (now ≡ one_more refused))

@@ -15,11 +15,11 @@ use Rattle.sqlite.specs.Store.{Ghosts}
 use Rattle.pr_outside.specs.declared.keeping.KeepError.{KeepError}
 use Rattle.pr_outside.specs.declared.keeping.KeepError.TheVariants.{Failed, Memory}
 use Rattle.pr_outside.specs.declared.keeping.Row.{Row as Line}
-use Rattle.pr_outside.specs.Schedule.{one_more}
-use Rattle.pr_keep_sql.specs.Counts.{is_want}
-use Rattle.pr_keep_sql.specs.Refusals.{IsLoadRefused, IsReadingRefused, IsRefusal, IsStopped, IsTransactionRefused, RanInTurn}
-use Rattle.pr_keep_sql.specs.Statements.{Adds, shown}
-use Rattle.pr_keep_sql.specs.Texts.{Order, given_params, insert_text, inserts, kept_text, makings, number_text, numbers_text, rows_text, select_text, version_text}
+use Rattle.pr_outside.specs.private.Schedule.{one_more}
+use Rattle.pr_keep_sql.specs.private.Counts.{is_want}
+use Rattle.pr_keep_sql.specs.private.Refusals.{IsLoadRefused, IsReadingRefused, IsRefusal, IsStopped, IsTransactionRefused, RanInTurn}
+use Rattle.pr_keep_sql.specs.private.Statements.{Adds, shown}
+use Rattle.pr_keep_sql.specs.private.Texts.{Order, given_params, insert_text, inserts, kept_text, makings, number_text, numbers_text, rows_text, select_text, version_text}
 use Rattle.pr_keep_sql.proofs.StateLemmas.{adds_then}
 
 abbrev insert_of : ℕ → Line → Order

@@ -11,13 +11,13 @@ use Rattle.sqlite.specs.Order.{Row}
 use Rattle.sqlite.specs.declared.types.Value.TheVariants.{Int}
 use Rattle.sqlite.specs.declared.error.Error.{Error}
 use Rattle.pr_outside.specs.declared.keeping.Row.{Row as Line}
-use Rattle.pr_keep_sql.specs.Kept.{listed, Keeps}
-use Rattle.pr_keep_sql.specs.Statements.{Adds, GoesOn, Lasts, Leaves, ShowsAt, shown}
+use Rattle.pr_keep_sql.specs.private.Kept.{listed, Keeps}
+use Rattle.pr_keep_sql.specs.private.Statements.{Adds, GoesOn, Lasts, Leaves, ShowsAt, shown}
 use Rattle.sqlite_resolve.specs.declared.compiled.Compiled.{Compiled}
 use Rattle.sqlite_schema.specs.declared.command.Returning.{Returning}
 use Rattle.pr_keep_sql.proofs.Listing.{listed_rows}
 use Rattle.pr_keep_sql.proofs.QueryTexts.{OnlyReads, select_only_read}
-use Rattle.pr_keep_sql.specs.Texts.{given_params, insert_text, select_text}
+use Rattle.pr_keep_sql.specs.private.Texts.{given_params, insert_text, select_text}
 use Rattle.pr_keep_sql.proofs.TableLemmas.{adds, finds}
 
 -- the list of the relation is the one that the table tells

@@ -1,25 +1,23 @@
 -- What the statements of the store do to its tables.
-use Rattle.std.proofs.Common.{◌≡◌, ◌⊎◌, inl, inr, ℕ, pos, negsuc, List, [], ◌∷◌, map, codes, Bool, true, false, cond, None, Some, Ok, Err, Result, IfOk, OnOk, drop, refl, sym, ap, subst, ◌∙◌}
+use Rattle.std.proofs.Common.{◌≡◌, ◌⊎◌, inl, inr, ℕ, pos, negsuc, List, [], ◌∷◌, map, codes, Bool, true, false, cond, None, Some, Ok, Err, Result, IfOk, OnOk, drop, refl, sym, ap, subst, ◌∙◌, ◌<◌, ◌++◌, length, arith, rules, ℤ, All, true≢false, ◌&&◌, ◌<ℤ◌}
 use Rattle.sqlite.specs.declared.types.Value.{Value}
 use Rattle.sqlite.specs.declared.types.Value.TheVariants.{Null, Int, Text}
-use Rattle.sqlite.specs.Order.{Row, column}
-use Rattle.sqlite.specs.Term.{Term, lit, col, op2}
+use Rattle.sqlite.specs.Order.{Row, column, value_cmp}
+use Rattle.sqlite.specs.Term.{Term, lit, col, op2, Env, eval_all}
 use Rattle.sqlite.specs.Collation.TheVariants.{Binary}
 use Rattle.sqlite_sql.specs.declared.ops.BinaryOp.TheVariants.{Compare}
 use Rattle.sqlite_sql.specs.declared.ops.CompareOp.TheVariants.{Eq}
-use Rattle.sqlite.specs.Query.{Query, inner, end, IsAnswer, output, Output}
+use Rattle.sqlite.specs.Query.{Query, inner, end, IsAnswer, output, Output, matches_as}
 use Rattle.sqlite.specs.Source.TheVariants.{Values}
 use Rattle.sqlite.specs.Command.TheVariants.{Insert, Select}
 use Rattle.sqlite_tied.specs.Compute.{everything}
 use Rattle.sqlite.specs.Listing.{understood, reads_listing}
 use Rattle.sqlite.proofs.Callers.{IsPlain, command_of, statement_of, runs_as, first_as, one_step}
-use Rattle.std.proofs.Common.{◌<◌, ◌++◌, length, arith, rules, ℤ}
-use Rattle.std.specs.declared.cmp.Ordering.TheVariants.{Less}
+use Rattle.std.specs.declared.cmp.Ordering.TheVariants.{Less, Equal, Greater}
 use Rattle.std.specs.Cmp.{int_cmp_is}
 use Rattle.sqlite_value.proofs.OrderLemmas.{value_cmp-Int}
-use Rattle.sqlite.specs.Order.{value_cmp}
 use Rattle.sqlite.specs.Tree.{Trees, put_row}
-use Rattle.sqlite.specs.Ops.{unary}
+use Rattle.sqlite.specs.Ops.{unary, binary, is_true, from_truth}
 use Rattle.sqlite.specs.Cast.{cast}
 use Rattle.sqlite.specs.Kind.TheVariants.{Integer}
 use Rattle.sqlite.specs.Edit.{edit_of, edited}
@@ -29,9 +27,7 @@ use Rattle.sqlite.specs.Rows.{Written}
 use Rattle.sqlite.specs.declared.error.Error.{Error}
 use Rattle.sqlite.specs.Effect.{Database}
 use Rattle.sqlite.specs.State.{State, mode_of, Executes, QueriesRow}
-use Rattle.std.proofs.Common.{All, true≢false, ◌&&◌, ◌<ℤ◌}
 use Rattle.std.specs.declared.cmp.Ordering.{Ordering}
-use Rattle.std.specs.declared.cmp.Ordering.TheVariants.{Equal, Greater}
 use Rattle.std.specs.Ordering.{MatchOrdering, is_eq}
 use Rattle.std.proofs.lemmas.Cmp.{int_ranked}
 use Rattle.std.proofs.lemmas.List.Elements.{All-nil, All-cons, All-head, All-tail, All-same, All-append, All-map}
@@ -39,19 +35,16 @@ use Rattle.std.proofs.lemmas.Option.{slice_get_within}
 use Rattle.std.specs.List.Sorted.{IsPermutation}
 use Rattle.pr_keep_sql.proofs.Listing.{IsElement, elements, one_more}
 use Rattle.std.proofs.lemmas.List.Sorted.{All-permutation}
-use Rattle.sqlite.specs.Ops.{binary, is_true, from_truth}
-use Rattle.sqlite.specs.Term.{Env, eval_all}
-use Rattle.sqlite.specs.Query.{matches_as}
 use Rattle.sqlite.specs.Program.{overlay}
 use Rattle.pr_outside.specs.declared.keeping.Row.{Row as Entry}
 use Rattle.sqlite.specs.Table.{Table}
 use Rattle.sqlite_schema.specs.declared.schema.Index.{Index}
 use Rattle.sqlite_schema.specs.declared.schema.View.{View}
 use Rattle.pr_keep_sql.proofs.FirstTables.{is_ours, no_works, ours}
-use Rattle.pr_keep_sql.specs.Tables.{HasOursFirst, kept, stored, stored_from}
-use Rattle.pr_keep_sql.specs.Kept.{Keeps}
-use Rattle.pr_keep_sql.specs.Statements.{ShowsAt}
-use Rattle.pr_keep_sql.specs.Texts.{given_params, insert_text, select_text}
+use Rattle.pr_keep_sql.specs.private.Tables.{HasOursFirst, kept, stored, stored_from}
+use Rattle.pr_keep_sql.specs.private.Kept.{Keeps}
+use Rattle.pr_keep_sql.specs.private.Statements.{ShowsAt}
+use Rattle.pr_keep_sql.specs.private.Texts.{given_params, insert_text, select_text}
 
 abbrev pub terms : List Term
 terms = col 0 0 ∷ lit Null ∷ col 0 1 ∷ col 0 2 ∷ col 0 3 ∷ []

@@ -1,11 +1,1 @@
-pub mod Tables
-pub mod Kept
-pub mod Counts
-pub mod Statements
-pub mod Texts
-pub mod Refusals
-pub mod Ran
-pub mod Store
-pub mod Calls
-pub mod Found
-pub mod Opened
+pub mod private

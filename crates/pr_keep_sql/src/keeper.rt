@@ -1,19 +1,19 @@
 ghost use Rattle.std.specs.Prelude.{◌≡◌, ◌≢◌, ◌+◌, ◌++◌, ◌<◌, [], length, Some, Err, IfOk, IfSome, IsSome, OnOk, OnErr, slice_get};
 ghost use Rattle.pr_outside.specs.Causes.{HasKeepCause};
-ghost use Rattle.pr_outside.specs.Kept.{AppendsRows, KeepsRows};
+ghost use Rattle.pr_outside.specs.private.Kept.{AppendsRows, KeepsRows};
 ghost use Rattle.pr_outside.specs.Paths.{Opens, StartsPath};
 ghost use Rattle.pr_outside.specs.declared.keeping.KeepError.TheVariants.{Failed};
-ghost use Rattle.pr_outside.specs.Schedule.{one_more};
-ghost use Rattle.pr_keep_sql.specs.Counts.{CountsOne};
-ghost use Rattle.pr_keep_sql.specs.Kept.{StaysTold};
-ghost use Rattle.pr_keep_sql.specs.Opened.{CommitsIn, IsTrusted, LoadsIn, TellsOf, disk_faults, faults_with, rows_in, size_in};
+ghost use Rattle.pr_outside.specs.private.Schedule.{one_more};
+ghost use Rattle.pr_keep_sql.specs.private.Counts.{CountsOne};
+ghost use Rattle.pr_keep_sql.specs.private.Kept.{StaysTold};
+ghost use Rattle.pr_keep_sql.specs.private.Opened.{CommitsIn, IsTrusted, LoadsIn, TellsOf, disk_faults, faults_with, rows_in, size_in};
 ghost use Rattle.pr_keep_sql.specs.declared.opened.Opened.TheVariants.{Nothing};
 
 use crate::counts::{failed, faults_of};
 use crate::opened::{Opened, in_file};
 use crate::opening::Open;
+use pr_outside::words_crate::Text;
 use pr_outside::{KeepError, Keeper, Row, SureKeeper};
-use pr_words::Text;
 use sqlite::Alter;
 use std::alloc::{AllocError, Global};
 

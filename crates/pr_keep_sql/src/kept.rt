@@ -4,18 +4,18 @@ ghost use Rattle.sqlite.specs.Held.{state};
 ghost use Rattle.sqlite.specs.State.{HasCleanDisk, IsLive};
 ghost use Rattle.sqlite.specs.View.{doubt};
 ghost use Rattle.pr_outside.specs.Causes.{HasKeepCause};
-ghost use Rattle.pr_outside.specs.Kept.{KeepsRows, AppendsRows};
+ghost use Rattle.pr_outside.specs.private.Kept.{KeepsRows, AppendsRows};
 ghost use Rattle.pr_outside.specs.declared.keeping.Row.{Row as Line};
 ghost use Rattle.pr_outside.specs.declared.keeping.KeepError.TheVariants.{Failed};
-ghost use Rattle.pr_outside.specs.Schedule.{one_more};
-ghost use Rattle.pr_keep_sql.specs.Counts.{AreWithin, CountsOnce};
-ghost use Rattle.pr_keep_sql.specs.Kept.{Keeps, StaysTold, listed};
-ghost use Rattle.pr_keep_sql.specs.Ran.{HasLoaded, HasRead, HasRun};
-ghost use Rattle.pr_keep_sql.specs.Refusals.{IsLoadRefused, IsReadingRefused, IsRefusal, IsTransactionRefused};
-ghost use Rattle.pr_keep_sql.specs.Statements.{Leaves};
-ghost use Rattle.pr_keep_sql.specs.Store.{faults_in, rows_of};
-ghost use Rattle.pr_keep_sql.specs.Tables.{HasOurs, HasOursFirst, IsFree, IsOther, schema_of};
-ghost use Rattle.pr_keep_sql.specs.Texts.{inserts, makings};
+ghost use Rattle.pr_outside.specs.private.Schedule.{one_more};
+ghost use Rattle.pr_keep_sql.specs.private.Counts.{AreWithin, CountsOnce};
+ghost use Rattle.pr_keep_sql.specs.private.Kept.{Keeps, StaysTold, listed};
+ghost use Rattle.pr_keep_sql.specs.private.Ran.{HasLoaded, HasRead, HasRun};
+ghost use Rattle.pr_keep_sql.specs.private.Refusals.{IsLoadRefused, IsReadingRefused, IsRefusal, IsTransactionRefused};
+ghost use Rattle.pr_keep_sql.specs.private.Statements.{Leaves};
+ghost use Rattle.pr_keep_sql.specs.private.Store.{faults_in, rows_of};
+ghost use Rattle.pr_keep_sql.specs.private.Tables.{HasOurs, HasOursFirst, IsFree, IsOther, schema_of};
+ghost use Rattle.pr_keep_sql.specs.private.Texts.{inserts, makings};
 
 use crate::counts::{are_within, failed, faults_of, refusal};
 use crate::making::make;
@@ -40,7 +40,7 @@ pub struct Kept<S: Alter> {
 }
 
 impl<S: Alter> Model for Kept<S> {
-    ghost use Rattle.pr_keep_sql.specs.Store.{KeptStore, store_code, IsKept};
+    ghost use Rattle.pr_keep_sql.specs.private.Store.{KeptStore, store_code, IsKept};
 
     ghost Value = { KeptStore S };
 

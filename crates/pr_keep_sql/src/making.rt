@@ -3,10 +3,10 @@ ghost use Rattle.std.specs.Prelude.{◌≡◌, ◌≤◌, [], IfErr, OnOk, OnErr
 ghost use Rattle.sqlite.specs.State.{ExecutesInside, HasCleanDisk, KeepsCommit};
 ghost use Rattle.sqlite.specs.Held.{state};
 ghost use Rattle.sqlite.specs.View.{doubt};
-ghost use Rattle.pr_keep_sql.specs.Ran.{HasRun};
-ghost use Rattle.pr_keep_sql.specs.Refusals.{IsStopped, IsTransactionRefused, RanInTurn};
-ghost use Rattle.pr_keep_sql.specs.Statements.{Commits, GoesOn, Leaves, Makes, MakesKept, MakesVersion, Numbers};
-ghost use Rattle.pr_keep_sql.specs.Texts.{kept_text, makings, number_text, version_text};
+ghost use Rattle.pr_keep_sql.specs.private.Ran.{HasRun};
+ghost use Rattle.pr_keep_sql.specs.private.Refusals.{IsStopped, IsTransactionRefused, RanInTurn};
+ghost use Rattle.pr_keep_sql.specs.private.Statements.{Commits, GoesOn, Leaves, Makes, MakesKept, MakesVersion, Numbers};
+ghost use Rattle.pr_keep_sql.specs.private.Texts.{kept_text, makings, number_text, version_text};
 
 use sqlite::{Alter, Connection, Error, Transaction};
 

@@ -4,11 +4,11 @@ ghost use Rattle.sqlite.specs.Held.{state};
 ghost use Rattle.sqlite.specs.State.{HasCleanDisk};
 ghost use Rattle.sqlite.specs.View.{doubt};
 ghost use Rattle.pr_outside.specs.Causes.{HasKeepCause};
-ghost use Rattle.pr_keep_sql.specs.Counts.{CountsOne, faults_of};
-ghost use Rattle.pr_keep_sql.specs.Kept.{Keeps, listed};
-ghost use Rattle.pr_keep_sql.specs.Opened.{TellsOf};
-ghost use Rattle.pr_keep_sql.specs.Store.{faults_in, rows_of};
-ghost use Rattle.pr_keep_sql.specs.Tables.{HasOursFirst, schema_of};
+ghost use Rattle.pr_keep_sql.specs.private.Counts.{CountsOne, faults_of};
+ghost use Rattle.pr_keep_sql.specs.private.Kept.{Keeps, listed};
+ghost use Rattle.pr_keep_sql.specs.private.Opened.{TellsOf};
+ghost use Rattle.pr_keep_sql.specs.private.Store.{faults_in, rows_of};
+ghost use Rattle.pr_keep_sql.specs.private.Tables.{HasOursFirst, schema_of};
 ghost use Rattle.pr_keep_sql.specs.declared.opened.Opened.TheVariants.{Nothing};
 
 use crate::counts::{faults_of, refusal};

@@ -42,7 +42,7 @@ impl<'a, T: Start> DiskFile<'a, T> {
 
 impl<T: Start> Open<FileStore<FileFrom<T>>> for DiskFile<'_, T> {
     ghost use Rattle.sqlite.specs.WalFiles.{image_at};
-    ghost use Rattle.pr_keep_sql.specs.Opened.{IsFoundIn};
+    ghost use Rattle.pr_keep_sql.specs.private.Opened.{IsFoundIn};
 
     ghost finds = { λ path. IsFoundIn (image_at T.Start) };
 

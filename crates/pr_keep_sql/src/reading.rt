@@ -9,12 +9,12 @@ ghost use Rattle.sqlite.specs.State.{FailsToQuery, HasCleanDisk, Shown};
 ghost use Rattle.sqlite.specs.View.{doubt};
 ghost use Rattle.sqlite_value.specs.Value.{owned};
 ghost use Rattle.pr_outside.specs.declared.keeping.Row.{Row as Line};
-ghost use Rattle.pr_keep_sql.specs.Found.{AreFound, IsFoundAt, IsText, IsTime};
-ghost use Rattle.pr_keep_sql.specs.Kept.{Keeps, KeepsSo, versions};
-ghost use Rattle.pr_keep_sql.specs.Ran.{HasRead, IsCount, numbers_in};
-ghost use Rattle.pr_keep_sql.specs.Refusals.{IsReadingRefused};
-ghost use Rattle.pr_keep_sql.specs.Tables.{HasOursFirst, stored_from};
-ghost use Rattle.pr_keep_sql.specs.Texts.{numbers_text, rows_text};
+ghost use Rattle.pr_keep_sql.specs.private.Found.{AreFound, IsFoundAt, IsText, IsTime};
+ghost use Rattle.pr_keep_sql.specs.private.Kept.{Keeps, KeepsSo, versions};
+ghost use Rattle.pr_keep_sql.specs.private.Ran.{HasRead, IsCount, numbers_in};
+ghost use Rattle.pr_keep_sql.specs.private.Refusals.{IsReadingRefused};
+ghost use Rattle.pr_keep_sql.specs.private.Tables.{HasOursFirst, stored_from};
+ghost use Rattle.pr_keep_sql.specs.private.Texts.{numbers_text, rows_text};
 
 use sqlite::{Alter, Connection, Error};
 use sqlite_value::value::ValueRef;

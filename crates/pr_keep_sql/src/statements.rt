@@ -6,15 +6,15 @@ ghost use Rattle.sqlite.specs.View.{doubt};
 ghost use Rattle.pr_outside.specs.declared.keeping.Row.{Row as Line};
 ghost use Rattle.sqlite.specs.declared.types.Value.TheVariants.{Int, Text as Words};
 ghost use Rattle.sqlite.specs.Order.{column};
-ghost use Rattle.pr_keep_sql.specs.Counts.{AreWithin, is_want};
-ghost use Rattle.pr_keep_sql.specs.Kept.{Keeps, listed};
-ghost use Rattle.pr_keep_sql.specs.Ran.{HasLoaded, HasRun, IsShownAs};
-ghost use Rattle.pr_keep_sql.specs.Refusals.{IsLoadRefused, IsStopped, IsTransactionRefused, RanInTurn};
-ghost use Rattle.pr_keep_sql.specs.Statements.{Adds, Commits, GoesOn, Lasts, Leaves, ShowsAt, shown};
-ghost use Rattle.pr_keep_sql.specs.Texts.{given_params, insert_text, inserts, select_text};
+ghost use Rattle.pr_keep_sql.specs.private.Counts.{AreWithin, is_want};
+ghost use Rattle.pr_keep_sql.specs.private.Kept.{Keeps, listed};
+ghost use Rattle.pr_keep_sql.specs.private.Ran.{HasLoaded, HasRun, IsShownAs};
+ghost use Rattle.pr_keep_sql.specs.private.Refusals.{IsLoadRefused, IsStopped, IsTransactionRefused, RanInTurn};
+ghost use Rattle.pr_keep_sql.specs.private.Statements.{Adds, Commits, GoesOn, Lasts, Leaves, ShowsAt, shown};
+ghost use Rattle.pr_keep_sql.specs.private.Texts.{given_params, insert_text, inserts, select_text};
 
 use pr_outside::Row;
-use pr_words::Text;
+use pr_outside::words_crate::Text;
 use sqlite::{Alter, Connection, Error, Transaction, params};
 
 // Adds one row inside a transaction.

@@ -1,7 +1,7 @@
 // Whether the tables of a database are those of the store.
 ghost use Rattle.std.specs.Prelude.{◌≡◌, ◌↔◌, ◌⊎◌, ◌∷◌, [], All, Any, Bool, IsTrue, Some, drop, false, true};
 ghost use Rattle.sqlite.specs.declared.types.Value.TheVariants.{Null};
-ghost use Rattle.pr_keep_sql.specs.Tables.{column_of, table_of, Has, HasOurs, IsFree, IsOther, is_named, kept, version, HasOursFirst, schema_of};
+ghost use Rattle.pr_keep_sql.specs.private.Tables.{column_of, table_of, Has, HasOurs, IsFree, IsOther, is_named, kept, version, HasOursFirst, schema_of};
 ghost use Rattle.pr_keep_sql.specs.declared.tables.Standing.TheVariants.{Free, Ours, Others};
 
 use sqlite_schema::code::Terms;

@@ -7,7 +7,7 @@ use Rattle.std.proofs.lemmas.Str.{IsUtf8-from_ascii}
 use Rattle.std.proofs.lemmas.Str.Ascii.{IsAscii-from_all}
 use Rattle.std.proofs.lemmas.List.Sums.{AllPass-from_list_all}
 use Rattle.std.proofs.lemmas.Bool.Decides.{nat_tests}
-use Rattle.pr_strings.specs.pr_words.Bytes.{is_letter, is_label_byte}
+use Rattle.pr_words.specs.Bytes.{is_letter, is_label_byte}
 use Rattle.pr_labels.specs.Names.{is_label_name, is_metric_byte, is_metric_letter, is_metric_name}
 
 below : (b : ℕ) → is_metric_byte b ≡ true → b < 128

@@ -3,8 +3,8 @@ use Rattle.std.proofs.Common.{◌≡◌, ℕ, List, [], ◌∷◌, ◌++◌, Res
 use Rattle.std.specs.Prelude.{OnOk, is_ok, if◌then◌else◌}
 use Rattle.std.specs.Str.{IsUtf8}
 use Rattle.std.proofs.lemmas.Str.{IsUtf8-append}
-use Rattle.pr_strings.specs.Reader.{KeepsText}
-use Rattle.pr_strings.proofs.StringUtf8.{byte_text}
+use Rattle.pr_words.specs.private.Reader.{KeepsText}
+use Rattle.pr_words.proofs.StringUtf8.{byte_text}
 
 pub goes_on : (old more new : List ℕ) → new ≡ old ++ more → IsUtf8 more → KeepsText old new
 goes_on old more new e u v = subst IsUtf8 (sym e) (IsUtf8-append old more v u)

@@ -5,7 +5,7 @@ use Rattle.std.specs.Ordering.{nat_cmp}
 use Rattle.std.specs.declared.cmp.Ordering.TheVariants.{Less}
 use Rattle.std.proofs.lemmas.Cmp.{nat_list_cmp_total}
 use Rattle.pr_labels.specs.declared.pair.Pair.{Pair}
-use Rattle.pr_labels.specs.Chosen.{is_chosen}
+use Rattle.pr_labels.specs.private.Chosen.{is_chosen}
 use Rattle.pr_labels.specs.Edits.{listed_labels, unlisted_labels}
 use Rattle.pr_labels.specs.LabelSet.{IsLabel, IsLabelSet, IsBelowFirst}
 

@@ -9,7 +9,7 @@ use Rattle.std.specs.declared.cmp.Ordering.TheVariants.{Less, Equal, Greater}
 use Rattle.std.specs.Ordering.{nat_cmp, is_eq, ordering_then, eq_by_cmp}
 use Rattle.pr_labels.specs.declared.pair.Pair.{Pair}
 use Rattle.pr_labels.specs.Order.{labels_cmp, labels_eq, labels_tie, pair_cmp}
-use Rattle.pr_labels.specs.OrderKey.{HasOrderKeys, IsOrderKey, has_texts_without_end, is_without_end, key_end, key_part, order_key}
+use Rattle.pr_labels.specs.private.OrderKey.{HasOrderKeys, IsOrderKey, has_texts_without_end, is_without_end, key_end, key_part, order_key}
 use Rattle.pr_labels.proofs.LabelOrder.{both}
 
 then_assoc : (a b c : Ordering) → ordering_then a (ordering_then b c) ≡ ordering_then (ordering_then a b) c

@@ -13,7 +13,7 @@ use Rattle.std.proofs.lemmas.List.Sorted.{searchable_from_sorted}
 use Rattle.pr_labels.specs.declared.pair.Pair.{Pair}
 use Rattle.pr_labels.specs.Edits.{is_above, is_below, set_label, set_pair, without_name}
 use Rattle.pr_labels.specs.LabelSet.{IsLabel, IsLabelSet, IsBelowFirst, has_name, value_of}
-use Rattle.pr_labels.specs.Places.{IsGapFor, IsPlaceOf}
+use Rattle.pr_labels.specs.private.Places.{IsGapFor, IsPlaceOf}
 use Rattle.pr_labels.proofs.LabelLaws.{alike, none_above, same_names, value_hit, value_miss, value_remove}
 use Rattle.pr_labels.proofs.LabelSets.{filtered_is_set}
 use Rattle.pr_labels.proofs.Putting.{all_above, below_by, by_order, label_alone, put_in, set_nothing, set_pair_is_put}

@@ -3,7 +3,7 @@ use Rattle.std.specs.Prelude.{ℕ, Bool, false, ◌&&◌, ◌||◌, ◌==◌, Li
 use Prim.Native.Char.{code}
 use Rattle.std.specs.List.{list_all}
 use Rattle.std.specs.Char.{is_ascii_digit}
-use Rattle.pr_strings.specs.pr_words.Bytes.{is_letter, is_label_byte}
+use Rattle.pr_words.specs.Bytes.{is_letter, is_label_byte}
 
 -- the name of a label: letters, underscores and digits, of which the first is no digit
 abbrev pub is_label_name : List ℕ → Bool

@@ -1,6 +1,6 @@
 -- The printed text of a label set.
 use Rattle.std.specs.Prelude.{ℕ, Bool, true, false, cond, List, [], ◌∷◌, ◌++◌, codes, flat_map, Option, Some, None}
-use Rattle.pr_strings.specs.Quoted.{quoted_text}
+use Rattle.pr_words.specs.Quoted.{quoted_text}
 use Rattle.pr_labels.specs.declared.pair.Pair.{Pair}
 use Rattle.pr_labels.specs.Edits.{without_name}
 use Rattle.pr_labels.specs.Names.{is_metric_name}

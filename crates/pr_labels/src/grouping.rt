@@ -1,4 +1,4 @@
-use pr_strings::words_crate::{Items, Text};
+use pr_words::{Items, Text};
 
 /// By which labels an aggregation groups its elements: `by` the names, or `without` them and the
 /// metric's name. (Prometheus: Operators, "Aggregation operators".)

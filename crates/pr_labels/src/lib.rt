@@ -1,4 +1,5 @@
-//! Label sets: the names with values by which series are told apart.
+//! Label sets, the names with values by which series are told apart; series texts; and what is kept
+//! in label order.
 #![tactic(auto)]
 
 mod examples;
@@ -10,16 +11,18 @@ mod laws;
 mod matching;
 mod names;
 mod order_laws;
+pub mod ordered;
 mod pair;
 mod print;
+pub mod series;
 
 // What crates above name of those below.
-pub mod words_crate {
-    pub use pr_strings::words_crate::{Items, Steps, Text, line_len, without_return};
+pub mod forms {
+    pub use pr_words::forms::{Fault, place_of};
 }
 
-pub mod strings {
-    pub use pr_strings::{Kind, kind_of, read_string, write_string};
+pub mod words_crate {
+    pub use pr_words::{Items, Steps, Text, line_len, strings, without_return};
 }
 
 pub use examples::series_texts_by_example;

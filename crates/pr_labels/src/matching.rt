@@ -1,4 +1,4 @@
-use pr_strings::words_crate::{Items, Text};
+use pr_words::{Items, Text};
 
 /// How many elements of a side one key may have: of which side there is one. (Prometheus:
 /// Operators, "Vector matching".)

@@ -3,7 +3,7 @@ ghost use Rattle.std.specs.Prelude.{◌≡◌};
 ghost use Rattle.std.specs.Bool.{OnTrue};
 ghost use Rattle.std.specs.List.{list_all};
 ghost use Rattle.std.specs.Str.{IsUtf8};
-ghost use Rattle.pr_strings.specs.pr_words.Bytes.{is_letter, is_label_byte};
+ghost use Rattle.pr_words.specs.Bytes.{is_letter, is_label_byte};
 ghost use Rattle.pr_labels.specs.Names.{is_label_name, is_metric_letter, is_metric_byte, is_metric_name};
 
 fn is_letter(b: u8) -> bool

@@ -1,6 +1,6 @@
 ghost use Rattle.std.specs.Prelude.{◌≡◌, IfOk};
 
-use pr_strings::words_crate::Text;
+use pr_words::Text;
 use std::alloc::{AllocError, Global};
 
 /// A label: a name and a value. Pairs are ordered by name, then by value, both by bytes.

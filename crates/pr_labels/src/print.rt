@@ -1,8 +1,8 @@
 // The printed text of a label set.
-#![tactic(auto, using(crate::proofs::Fronts::front_on, pr_strings::proofs::Fronts::front_after))]
+#![tactic(auto, using(pr_words::proofs::Fronts::front_on, pr_words::proofs::Fronts::front_after))]
 
 ghost use Rattle.std.specs.Prelude.{◌≡◌, ◌++◌, ◌∷◌, List, IfOk, OnOk, OnErr, flat_map, length, take};
-ghost use Rattle.pr_strings.specs.Reader.{KeepsText};
+ghost use Rattle.pr_words.specs.private.Reader.{KeepsText};
 ghost use Rattle.pr_labels.specs.LabelSet.{has_name, metric_label};
 ghost use Rattle.pr_labels.specs.SeriesText.{pair_text, following_text, pairs_text, list_text, rest_text, opening, left_text, unnamed, series_text};
 ghost use Rattle.pr_labels.specs.declared.pair.Pair.{Pair};
@@ -10,7 +10,7 @@ ghost use Rattle.pr_labels.specs.declared.pair.Pair.{Pair};
 use crate::labels::{Labels, METRIC_LABEL};
 use crate::names::is_metric_name;
 use crate::pair::Pair;
-use pr_strings::write_string;
+use pr_words::strings::write_string;
 use std::alloc::AllocError;
 
 // Each function appends; without memory what it appended so far stands, and is a text.

@@ -5,19 +5,19 @@ use Rattle.std.specs.List.{AllByRecursion, IsDistinct}
 use Rattle.std.specs.Str.{bytes_eq}
 use Rattle.std.proofs.lemmas.List.Folds.{list_any-append}
 use Rattle.std.proofs.lemmas.List.{map-append}
-use Rattle.pr_history.specs.declared.entry.Entry.{Entry}
-use Rattle.pr_group.specs.pr_range.Asks.{LastAsks, Passed}
-use Rattle.pr_world.specs.pr_rulefile.File.{RuleReading, gives_file, gives_problems, groups_given, rule_file_of}
-use Rattle.pr_world.specs.pr_rulefile.Groups.{Group as Definition}
-use Rattle.pr_world.specs.pr_rules.Groups.{Group, fresh}
-use Rattle.pr_world.specs.pr_rules.Reloads.{LoadedFile}
-use Rattle.pr_world.specs.pr_rules.Settings.{Settings}
-use Rattle.pr_group.specs.Keeping.{KeptGroup}
-use Rattle.pr_world.specs.declared.event.NamedFile.{NamedFile}
+use Rattle.spec_world.specs.spec_history.declared.entry.Entry.{Entry}
+use Rattle.pr_group.specs.pr_range.private.Asks.{LastAsks, Passed}
+use Rattle.spec_world.specs.pr_rulefile.File.{RuleReading, gives_file, gives_problems, groups_given, rule_file_of}
+use Rattle.spec_world.specs.spec_rules.Definitions.{Group as Definition}
+use Rattle.spec_world.specs.spec_rules.Groups.{Group, fresh}
+use Rattle.spec_world.specs.spec_rules.Reloads.{LoadedFile}
+use Rattle.spec_world.specs.spec_rules.Settings.{Settings}
+use Rattle.pr_group.specs.private.Keeping.{KeptGroup}
+use Rattle.spec_world.specs.declared.event.NamedFile.{NamedFile}
 use Rattle.pr_manager.specs.declared.naming.GroupName.{GroupName}
-use Rattle.pr_manager.specs.Keeping.{KeepEach}
-use Rattle.pr_manager.specs.Loading.{fresh_by, loaded_files}
-use Rattle.pr_manager.specs.Naming.{AreApart, comes_again, names_of, same_name, site_of}
+use Rattle.pr_manager.specs.private.Keeping.{KeepEach}
+use Rattle.pr_manager.specs.private.Loading.{fresh_by, loaded_files}
+use Rattle.pr_manager.specs.private.Naming.{AreApart, comes_again, names_of, same_name, site_of}
 use Rattle.pr_manager.proofs.Names.{kept_site}
 
 -- the names of groups that are kept are those of the groups

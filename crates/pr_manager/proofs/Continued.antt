@@ -1,19 +1,19 @@
 -- New groups that go on from old ones.
 use Rattle.std.proofs.Common.{◌≡◌, ℕ, true, cond, List, [], ◌∷◌, ◌++◌, append_assoc, append-nil, map, Option, Some, None, refl, sym, ap, subst, ◌∙◌}
-use Rattle.pr_labels.specs.declared.pair.Pair.{Pair}
-use Rattle.pr_history.specs.declared.entry.Entry.{Entry}
-use Rattle.pr_group.specs.pr_range.Asks.{LastAsks, Passed}
-use Rattle.pr_world.specs.pr_rulefile.Groups.{Group as Definition, group_of_def}
-use Rattle.pr_world.specs.pr_rulefile.Rules.{Rule}
-use Rattle.pr_world.specs.pr_rules.Carried.{carried_by_group}
-use Rattle.pr_world.specs.pr_rules.Groups.{Group, RuleState, definition_of, fresh, fresh_rule}
-use Rattle.pr_world.specs.pr_rules.Reloads.{carried, continued_by}
-use Rattle.pr_group.specs.Keeping.{KeepsGroup, KeptGroup, passed_by, settings_of}
+use Rattle.pr_ast.specs.pr_labels.declared.pair.Pair.{Pair}
+use Rattle.spec_world.specs.spec_history.declared.entry.Entry.{Entry}
+use Rattle.pr_group.specs.pr_range.private.Asks.{LastAsks, Passed}
+use Rattle.spec_world.specs.spec_rules.Definitions.{Group as Definition, group_of_def, Rule}
+use Rattle.spec_world.specs.spec_rules.private.Carried.{carried_by_group}
+use Rattle.spec_world.specs.spec_rules.Groups.{Group, RuleState, fresh, fresh_rule}
+use Rattle.spec_world.specs.spec_rules.private.Laws.{definition_of}
+use Rattle.spec_world.specs.spec_rules.Reloads.{carried, continued_by}
+use Rattle.pr_group.specs.private.Keeping.{KeepsGroup, KeptGroup, passed_by, settings_of}
 use Rattle.pr_manager.specs.declared.naming.GroupName.{GroupName}
-use Rattle.pr_manager.specs.Continuing.{EachContinues, Continues, KeepsAny}
-use Rattle.pr_manager.specs.Loading.{HasPassedNothing}
-use Rattle.pr_manager.specs.Naming.{AreApart, is_among, name_of, names_of, same_name}
-use Rattle.pr_manager.specs.Passing.{none_passed, taken_over}
+use Rattle.pr_manager.specs.private.Continuing.{EachContinues, Continues, KeepsAny}
+use Rattle.pr_manager.specs.private.Loading.{HasPassedNothing}
+use Rattle.pr_manager.specs.private.Naming.{AreApart, is_among, name_of, names_of, same_name}
+use Rattle.pr_manager.specs.private.Passing.{none_passed, taken_over}
 use Rattle.pr_manager.proofs.Parts.{differs, is_first, is_later_one}
 
 rules_again : (rs : List Rule) → map (λ (r : RuleState). r.rule) (map fresh_rule rs) ≡ rs

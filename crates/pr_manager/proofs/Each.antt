@@ -1,12 +1,12 @@
 -- Groups that are kept, one after another.
 use Rattle.std.proofs.Common.{List, ◌++◌, Bool}
-use Rattle.pr_history.specs.Admission.{IsLawful}
-use Rattle.pr_history.specs.declared.entry.Entry.{Entry}
-use Rattle.pr_group.specs.pr_range.Asks.{LastAsks, Passed}
-use Rattle.pr_world.specs.pr_rules.Groups.{Group}
-use Rattle.pr_world.specs.pr_rules.Settings.{Settings}
-use Rattle.pr_group.specs.Keeping.{KeepsGroup, KeptGroup}
-use Rattle.pr_manager.specs.Keeping.{KeepEach, ManagesGroups, KeepsUnder, KeptManager, settings_in}
+use Rattle.spec_world.specs.spec_history.private.Laws.{IsLawful}
+use Rattle.spec_world.specs.spec_history.declared.entry.Entry.{Entry}
+use Rattle.pr_group.specs.pr_range.private.Asks.{LastAsks, Passed}
+use Rattle.spec_world.specs.spec_rules.Groups.{Group}
+use Rattle.spec_world.specs.spec_rules.Settings.{Settings}
+use Rattle.pr_group.specs.private.Keeping.{KeepsGroup, KeptGroup}
+use Rattle.pr_manager.specs.private.Keeping.{KeepEach, ManagesGroups, KeepsUnder, KeptManager, settings_in}
 use Rattle.pr_manager.proofs.Places.{zip_map}
 
 -- what is known of each kept group over a later history

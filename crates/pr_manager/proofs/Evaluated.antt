@@ -6,34 +6,35 @@ use Rattle.std.specs.Option.{option_map}
 use Rattle.std.specs.declared.alloc.AllocError.{AllocError}
 use Rattle.std.specs.Str.{bytes_eq}
 use Rattle.std.proofs.lemmas.Slice.Eq.{bytes_eq-Decides}
-use Rattle.pr_world.specs.pr_rulefile.declared.rules.GroupDef.{GroupDef}
-use Rattle.pr_history.specs.Admission.{IsLawful, put_all}
-use Rattle.pr_history.specs.declared.entry.Entry.{Entry}
-use Rattle.pr_history.proofs.Lawful.{put_all_lawful}
-use Rattle.pr_world.proofs.PutsPutting.{puts_admitted}
-use Rattle.pr_group.specs.pr_head.Holds.{Holds, IsWhole}
-use Rattle.pr_group.specs.pr_intake.Intake.{HasTaken, Series}
-use Rattle.pr_group.specs.pr_range.Asks.{LastAsks, Passed}
-use Rattle.pr_world.proofs.RulesPutting.{evaluation_admits}
-use Rattle.pr_world.specs.pr_rules.declared.report.GroupReport.{GroupReport}
-use Rattle.pr_world.specs.pr_rules.Costs.{PassedByRules, group_cost}
-use Rattle.pr_world.specs.pr_rules.Evaluations.{GroupStep, group_step}
-use Rattle.pr_world.specs.pr_rules.Groups.{Group, is_group_named}
-use Rattle.pr_world.specs.pr_rules.Passed.{IsPassedAfter}
-use Rattle.pr_world.specs.pr_rules.Settings.{Settings}
-use Rattle.pr_world.specs.pr_rules.Times.{IsAfter}
-use Rattle.pr_group.specs.Keeping.{KeepsGroup, KeptGroup, MayEvaluateOver, passed_by, settings_of}
-use Rattle.pr_world.specs.declared.report.Report.{Report}
-use Rattle.pr_world.specs.declared.report.Report.TheVariants as report
-use Rattle.pr_world.specs.Outcome.{refuse}
-use Rattle.pr_world.specs.Rounds.{eval_after, eval_by, evaluation_outcome, with_group}
-use Rattle.pr_world.specs.Step.{Step, step_by}
-use Rattle.pr_world.specs.World.{World}
-use Rattle.pr_manager.specs.Coming.{Comes, ComesAt, IsEvaluated, IsNotLater, history_with, is_later, too_late}
-use Rattle.pr_manager.specs.Finding.{place_of}
-use Rattle.pr_manager.specs.Keeping.{HasGoneOn, KeepEach, ManagesGroupsOf, KeepsUnder, KeptManager, settings_in}
-use Rattle.pr_manager.specs.Naming.{is_kept_named, kept_named, passed_by_any, passed_by_named}
-use Rattle.pr_manager.specs.Rounds.{admitted_in, cost_after, cost_by, eval_cost, eval_step}
+use Rattle.spec_world.specs.spec_rules.declared.definitions.GroupDef.{GroupDef}
+use Rattle.spec_world.specs.spec_history.private.Laws.{IsLawful}
+use Rattle.spec_world.specs.spec_history.Admission.{put_all}
+use Rattle.spec_world.specs.spec_history.declared.entry.Entry.{Entry}
+use Rattle.spec_world.proofs.HistoryLawful.{put_all_lawful}
+use Rattle.spec_world.proofs.HistoryPutting.{puts_admitted}
+use Rattle.pr_group.specs.pr_head.private.Holds.{Holds, IsWhole}
+use Rattle.pr_group.specs.pr_head.private.Intake.{HasTaken, Series}
+use Rattle.pr_group.specs.pr_range.private.Asks.{LastAsks, Passed}
+use Rattle.spec_world.proofs.RulesPutting.{evaluation_admits}
+use Rattle.spec_world.specs.spec_rules.declared.report.GroupReport.{GroupReport}
+use Rattle.spec_world.specs.spec_rules.private.Costs.{PassedByRules, group_cost}
+use Rattle.spec_world.specs.spec_rules.Evaluations.{GroupStep, group_step}
+use Rattle.spec_world.specs.spec_rules.Groups.{Group, is_group_named}
+use Rattle.spec_world.specs.spec_rules.private.Passed.{IsPassedAfter}
+use Rattle.spec_world.specs.spec_rules.Settings.{Settings}
+use Rattle.spec_world.specs.spec_rules.private.Times.{IsAfter}
+use Rattle.pr_group.specs.private.Keeping.{KeepsGroup, KeptGroup, MayEvaluateOver, passed_by, settings_of}
+use Rattle.spec_world.specs.declared.report.Report.{Report}
+use Rattle.spec_world.specs.declared.report.Report.TheVariants as report
+use Rattle.spec_world.specs.Outcome.{refuse}
+use Rattle.spec_world.specs.Rounds.{eval_after, eval_by, evaluation_outcome, with_group}
+use Rattle.spec_world.specs.Step.{Step, step_by}
+use Rattle.spec_world.specs.World.{World}
+use Rattle.pr_manager.specs.private.Coming.{GroupComes, ComesAt, IsEvaluated, IsNotLater, history_with, is_later, too_late}
+use Rattle.pr_manager.specs.private.Finding.{place_of}
+use Rattle.pr_manager.specs.private.Keeping.{HasGoneOn, KeepEach, ManagesGroupsOf, KeepsUnder, KeptManager, settings_in}
+use Rattle.pr_manager.specs.private.Naming.{is_kept_named, kept_named, passed_by_any, passed_by_named}
+use Rattle.pr_manager.specs.private.Rounds.{admitted_in, cost_after, cost_by, eval_cost, eval_step}
 use Rattle.pr_manager.proofs.Each.{StaysKept, each_stays}
 use Rattle.pr_manager.proofs.Names.{both, kept_is_named, kept_name}
 use Rattle.pr_manager.proofs.Places.{find_set, first_at, none_found, same_places, some_is, zip_at, zip_set}
@@ -236,7 +237,7 @@ too_late_none (Some since) time h = by (nat_lt since time) h where
   by false k = absurd cc
 
 pub comes_refused : {R : Type 0} (fits : R → List Entry → Type 0) (last : R → LastAsks) (passed : R → Passed) (remembers : Bool) (s : Settings) (g : Group) (k : KeptGroup R) (history : List Entry) (time at : ℕ) (head : Series) (reads : ℕ)
-    → KeepsUnder fits last passed s history k g → too_late k.last time ≡ Some at → Comes fits last passed remembers s g k k history time head head reads reads (report.NotLater at)
+    → KeepsUnder fits last passed s history k g → too_late k.last time ≡ Some at → GroupComes fits last passed remembers s g k k history time head head reads reads (report.NotLater at)
 comes_refused fits last passed remembers s g k history time at head reads under late =
     let it = too_late_not g.last time at (ap (λ o. too_late o time) (sym under.keeps.until) ∙ late) in
     subst (λ b. MatchBool b (IsEvaluated fits last passed remembers s g k k history time head head reads reads (report.NotLater at)) (IsNotLater g.last k k head head reads reads (report.NotLater at)))
@@ -245,7 +246,7 @@ comes_refused fits last passed remembers s g k history time at head reads under 
 
 pub comes_evaluated : {R : Type 0} (fits : R → List Entry → Type 0) (last : R → LastAsks) (passed : R → Passed) (remembers : Bool) (s : Settings) (g : Group) (k kept : KeptGroup R) (history : List Entry) (time : ℕ) (old new : Series) (before now : ℕ) (r : Report)
     → KeepsUnder fits last passed s history k g → too_late k.last time ≡ None → (IsAfter time g.last → IsEvaluated fits last passed remembers s g k kept history time old new before now r)
-    → Comes fits last passed remembers s g k kept history time old new before now r
+    → GroupComes fits last passed remembers s g k kept history time old new before now r
 comes_evaluated fits last passed remembers s g k kept history time old new before now r under none e =
     let it = too_late_none g.last time (ap (λ o. too_late o time) (sym under.keeps.until) ∙ none) in
     subst (λ b. MatchBool b (IsEvaluated fits last passed remembers s g k kept history time old new before now r) (IsNotLater g.last k kept old new before now r)) (sym it) (e (later_is g.last time it))
@@ -391,11 +392,11 @@ came_passed {R} fits last passed remembers w g k after old new file name time i 
 -- the group at a place, as it stands in the manager
 pub comes_at : {R : Type 0} (fits : R → List Entry → Type 0) (last : R → LastAsks) (passed : R → Passed) (remembers : Bool) (s : Settings) (g : Group) (k now_there kept : KeptGroup R) (history : List Entry) (time : ℕ) (old new : Series)
     → (ks inside : List (KeptGroup R)) (place before now : ℕ) (result : Result Report AllocError) → now_there ≡ k → inside ≡ ks
-    → IfOk result (Comes fits last passed remembers s g now_there kept history time old new before now)
+    → IfOk result (GroupComes fits last passed remembers s g now_there kept history time old new before now)
     → IfOk result (ComesAt fits last passed remembers s g k history time old new ks (slice_set inside place kept) place before now)
 comes_at fits last passed remembers s g k now_there kept history time old new ks inside place before now (Err e) same groups h = tt
 comes_at fits last passed remembers s g k now_there kept history time old new ks inside place before now (Ok r) same groups h =
-    record { kept = kept; placed = ap (λ l. slice_set l place kept) groups; comes = subst (λ x. Comes fits last passed remembers s g x kept history time old new before now r) same h }
+    record { kept = kept; placed = ap (λ l. slice_set l place kept) groups; comes = subst (λ x. GroupComes fits last passed remembers s g x kept history time old new before now r) same h }
 
 -- clause by clause
 pub if_ok : {T E : Type 0} (P Q : T → Type 0) (result : Result T E) → ((x : T) → P x → Q x) → IfOk result P → IfOk result Q

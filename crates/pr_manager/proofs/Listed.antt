@@ -4,18 +4,17 @@ use Rattle.std.proofs.Common.{◌≡◌, ℕ, ◌+◌, ◌<◌, ◌≤◌, Bool,
 use Rattle.std.specs.Prelude.{filter, flat_map}
 use Rattle.std.specs.Option.{option_map_or}
 use Rattle.std.proofs.lemmas.List.{length-map, map-append}
-use Rattle.pr_history.specs.declared.entry.Entry.{Entry}
-use Rattle.pr_group.specs.pr_lineage.declared.record.Record.{Record}
-use Rattle.pr_group.specs.pr_lineage.Records.{is_living, records}
-use Rattle.pr_group.specs.pr_range.Asks.{LastAsks, Passed}
-use Rattle.pr_world.specs.pr_rulefile.Groups.{Group as Definition}
-use Rattle.pr_world.specs.pr_rulefile.Rules.{rule_of_def}
-use Rattle.pr_world.specs.pr_rules.Groups.{Group, RuleState}
-use Rattle.pr_world.specs.pr_rules.Settings.{Settings}
-use Rattle.pr_group.specs.Keeping.{KeepsGroup, KeptGroup}
-use Rattle.pr_world.specs.declared.report.AlertLine.{AlertLine}
-use Rattle.pr_world.specs.Rounds.{alert_line, alerts_by, group_alerts, rule_alerts}
-use Rattle.pr_manager.specs.Keeping.{KeepEach}
+use Rattle.spec_world.specs.spec_history.declared.entry.Entry.{Entry}
+use Rattle.spec_world.specs.spec_alerts.declared.record.Record.{Record}
+use Rattle.spec_world.specs.spec_alerts.Records.{is_living, records}
+use Rattle.pr_group.specs.pr_range.private.Asks.{LastAsks, Passed}
+use Rattle.spec_world.specs.spec_rules.Definitions.{Group as Definition, rule_of_def}
+use Rattle.spec_world.specs.spec_rules.Groups.{Group, RuleState}
+use Rattle.spec_world.specs.spec_rules.Settings.{Settings}
+use Rattle.pr_group.specs.private.Keeping.{KeepsGroup, KeptGroup}
+use Rattle.spec_world.specs.declared.report.AlertLine.{AlertLine}
+use Rattle.spec_world.specs.Rounds.{alert_line, alerts_by, group_alerts, rule_alerts}
+use Rattle.pr_manager.specs.private.Keeping.{KeepEach}
 
 -- One record
 

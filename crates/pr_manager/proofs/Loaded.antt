@@ -3,21 +3,21 @@ use Rattle.std.proofs.Common.{◌≡◌, ℕ, arith, length, Bool, true, false, 
 use Rattle.std.specs.Prelude.{not}
 use Rattle.std.specs.List.{AllZip}
 use Rattle.std.specs.declared.alloc.AllocError.{AllocError}
-use Rattle.pr_labels.specs.declared.pair.Pair.{Pair}
-use Rattle.pr_history.specs.declared.entry.Entry.{Entry}
-use Rattle.pr_world.specs.pr_query.Answers.{go_on}
-use Rattle.pr_group.specs.pr_range.Asks.{LastAsks, Passed}
-use Rattle.pr_world.specs.pr_rulefile.File.{groups_given, rule_file_of}
-use Rattle.pr_world.specs.pr_rulefile.Groups.{Group as Definition}
-use Rattle.pr_world.specs.pr_rules.Groups.{Group, fresh}
-use Rattle.pr_world.specs.pr_rules.Reloads.{LoadedFile, fresh_groups, waits_at_first}
-use Rattle.pr_world.specs.pr_rules.Settings.{Settings}
-use Rattle.pr_group.specs.Keeping.{KeepsGroup, KeptGroup, passed_by, settings_of, waits_of}
-use Rattle.pr_world.specs.Rounds.{all_loaded, groups_by, with_groups}
-use Rattle.pr_world.specs.declared.event.NamedFile.{NamedFile}
-use Rattle.pr_world.specs.declared.report.Report.{Report}
-use Rattle.pr_manager.specs.Keeping.{KeepEach, KeepsUnder}
-use Rattle.pr_manager.specs.Loading.{HasPassedNothing, fresh_by, loaded_files}
+use Rattle.pr_ast.specs.pr_labels.declared.pair.Pair.{Pair}
+use Rattle.spec_world.specs.spec_history.declared.entry.Entry.{Entry}
+use Rattle.spec_world.specs.spec_meaning.Answers.{go_on}
+use Rattle.pr_group.specs.pr_range.private.Asks.{LastAsks, Passed}
+use Rattle.spec_world.specs.pr_rulefile.File.{groups_given, rule_file_of}
+use Rattle.spec_world.specs.spec_rules.Definitions.{Group as Definition}
+use Rattle.spec_world.specs.spec_rules.Groups.{Group, fresh}
+use Rattle.spec_world.specs.spec_rules.Reloads.{LoadedFile, fresh_groups, waits_at_first}
+use Rattle.spec_world.specs.spec_rules.Settings.{Settings}
+use Rattle.pr_group.specs.private.Keeping.{KeepsGroup, KeptGroup, passed_by, settings_of, waits_of}
+use Rattle.spec_world.specs.Rounds.{all_loaded, groups_by, with_groups}
+use Rattle.spec_world.specs.declared.event.NamedFile.{NamedFile}
+use Rattle.spec_world.specs.declared.report.Report.{Report}
+use Rattle.pr_manager.specs.private.Keeping.{KeepEach, KeepsUnder}
+use Rattle.pr_manager.specs.private.Loading.{HasPassedNothing, fresh_by, loaded_files}
 
 -- what is made of the files that are left, where so many groups are kept already
 pub record AreKeptSoFar {R : Type 0} (fits : R → List Entry → Type 0) (last : R → LastAsks) (passed : R → Passed) (s : Settings) (history : List Entry) (ks : List (KeptGroup R)) (left all : List Group) : Type 0 where

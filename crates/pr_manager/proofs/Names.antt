@@ -2,13 +2,13 @@
 use Rattle.std.proofs.Common.{◌≡◌, ℕ, Bool, true, false, ◌&&◌, List, refl, sym, ap, ◌∙◌}
 use Rattle.std.specs.Str.{bytes_eq}
 use Rattle.std.proofs.lemmas.Slice.Eq.{bytes_eq-Decides}
-use Rattle.pr_history.specs.declared.entry.Entry.{Entry}
-use Rattle.pr_group.specs.pr_range.Asks.{LastAsks, Passed}
-use Rattle.pr_world.specs.pr_rulefile.Groups.{Group as Definition}
-use Rattle.pr_world.specs.pr_rules.Groups.{Group, is_group_named}
-use Rattle.pr_group.specs.Keeping.{KeepsGroup, KeptGroup}
+use Rattle.spec_world.specs.spec_history.declared.entry.Entry.{Entry}
+use Rattle.pr_group.specs.pr_range.private.Asks.{LastAsks, Passed}
+use Rattle.spec_world.specs.spec_rules.Definitions.{Group as Definition}
+use Rattle.spec_world.specs.spec_rules.Groups.{Group, is_group_named}
+use Rattle.pr_group.specs.private.Keeping.{KeepsGroup, KeptGroup}
 use Rattle.pr_manager.specs.declared.naming.GroupName.{GroupName}
-use Rattle.pr_manager.specs.Naming.{is_kept_named, name_of, same_name, site_of}
+use Rattle.pr_manager.specs.private.Naming.{is_kept_named, name_of, same_name, site_of}
 
 pub both : (x y : Bool) → (x && y) ≡ true → (x ≡ true) × (y ≡ true)
 both true y h = (refl, h)

@@ -1,9 +1,9 @@
 -- Old groups, by whether new ones have their names.
 use Rattle.std.proofs.Common.{◌≡◌, Bool, true, false, cond, not, ◌||◌, List, [], ◌∷◌, ◌++◌, append_assoc, append-nil, length, Option, Some, None, refl, sym, ap, ◌∙◌, arith}
 use Rattle.std.specs.Prelude.{filter, is_some}
-use Rattle.pr_group.specs.Keeping.{KeptGroup}
+use Rattle.pr_group.specs.private.Keeping.{KeptGroup}
 use Rattle.pr_manager.specs.declared.naming.GroupName.{GroupName}
-use Rattle.pr_manager.specs.Naming.{comes_again, first_of, is_among, kept_under, name_of, names_of, same_name, value_of}
+use Rattle.pr_manager.specs.private.Naming.{comes_again, first_of, is_among, kept_under, name_of, names_of, same_name, value_of}
 use Rattle.pr_manager.proofs.Names.{is_same, same_is}
 
 -- Names

@@ -4,23 +4,23 @@ use Rattle.std.specs.Prelude.{IfOk, MatchBool, find, slice_set, ◌&&◌}
 use Rattle.std.specs.Str.{bytes_eq}
 use Rattle.std.specs.declared.alloc.AllocError.{AllocError}
 use Rattle.std.proofs.lemmas.Slice.Eq.{bytes_eq-Decides}
-use Rattle.pr_history.specs.declared.entry.Entry.{Entry}
-use Rattle.pr_world.specs.pr_rulefile.declared.rules.GroupDef.{GroupDef}
-use Rattle.pr_group.specs.pr_intake.Intake.{Series}
-use Rattle.pr_group.specs.pr_range.Asks.{LastAsks, Passed}
-use Rattle.pr_world.specs.pr_rules.Evaluations.{group_step}
-use Rattle.pr_world.specs.pr_rules.Groups.{Group, is_group_named}
-use Rattle.pr_world.specs.pr_rules.Settings.{Settings}
-use Rattle.pr_group.specs.Keeping.{KeepsGroup, KeptGroup, MayEvaluateOver, passed_by}
-use Rattle.pr_world.specs.Step.{Step}
-use Rattle.pr_world.specs.World.{World}
-use Rattle.pr_world.specs.declared.report.Report.{Report}
-use Rattle.pr_manager.specs.Coming.{IsEvaluated, IsNotLater, history_with, is_later}
-use Rattle.pr_manager.specs.Finding.{place_of}
-use Rattle.pr_manager.specs.Keeping.{KeepEach, ManagesGroupsOf, KeptManager, settings_in}
-use Rattle.pr_manager.specs.Naming.{is_kept_named, kept_named, passed_by_any, passed_by_named}
-use Rattle.pr_manager.specs.Passing.{EvaluationPasses, PassedByNames}
-use Rattle.pr_manager.specs.Rounds.{eval_step}
+use Rattle.spec_world.specs.spec_history.declared.entry.Entry.{Entry}
+use Rattle.spec_world.specs.spec_rules.declared.definitions.GroupDef.{GroupDef}
+use Rattle.pr_group.specs.pr_head.private.Intake.{Series}
+use Rattle.pr_group.specs.pr_range.private.Asks.{LastAsks, Passed}
+use Rattle.spec_world.specs.spec_rules.Evaluations.{group_step}
+use Rattle.spec_world.specs.spec_rules.Groups.{Group, is_group_named}
+use Rattle.spec_world.specs.spec_rules.Settings.{Settings}
+use Rattle.pr_group.specs.private.Keeping.{KeepsGroup, KeptGroup, MayEvaluateOver, passed_by}
+use Rattle.spec_world.specs.Step.{Step}
+use Rattle.spec_world.specs.World.{World}
+use Rattle.spec_world.specs.declared.report.Report.{Report}
+use Rattle.pr_manager.specs.private.Coming.{IsEvaluated, IsNotLater, history_with, is_later}
+use Rattle.pr_manager.specs.private.Finding.{place_of}
+use Rattle.pr_manager.specs.private.Keeping.{KeepEach, ManagesGroupsOf, KeptManager, settings_in}
+use Rattle.pr_manager.specs.private.Naming.{is_kept_named, kept_named, passed_by_any, passed_by_named}
+use Rattle.pr_manager.specs.private.Passing.{EvaluationPasses, PassedByNames}
+use Rattle.pr_manager.specs.private.Rounds.{eval_step}
 use Rattle.pr_manager.proofs.Evaluated.{IsKnownAt, IsThere, KnownAt, after_is, came_passed, is_there, not_later_is, same_manager, set_same, step_later, step_not}
 use Rattle.pr_manager.proofs.Names.{both}
 use Rattle.pr_manager.proofs.Places.{find_other}

@@ -3,7 +3,7 @@ use Rattle.std.proofs.Common.{◌≡◌, ℕ, zero, suc, ◌+◌, Bool, true, fa
 use Rattle.std.specs.Prelude.{find, slice_set}
 use Rattle.std.specs.List.{AllZip}
 use Rattle.std.specs.Option.{option_map}
-use Rattle.pr_manager.specs.Finding.{place_of}
+use Rattle.pr_manager.specs.private.Finding.{place_of}
 
 -- A list of which one element stands at a place, and is the first that passes a test.
 pub record IsFirstAt {A : Type 0} (test : A → Bool) (xs : List A) (i : ℕ) : Type 0 where

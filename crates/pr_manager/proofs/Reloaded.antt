@@ -2,26 +2,26 @@
 use Rattle.std.proofs.Common.{◌≡◌, ℕ, Bool, true, false, not, List, [], Result, Ok, Err, IfOk, OnOk, refl, sym, ap, subst, ◌∙◌}
 use Rattle.std.specs.Prelude.{find}
 use Rattle.std.specs.declared.alloc.AllocError.{AllocError}
-use Rattle.pr_history.specs.declared.entry.Entry.{Entry}
-use Rattle.pr_group.specs.pr_intake.Intake.{Series}
-use Rattle.pr_history.specs.Admission.{IsLawful}
-use Rattle.pr_group.specs.pr_head.Holds.{Holds}
-use Rattle.pr_group.specs.pr_range.Asks.{LastAsks, Passed}
-use Rattle.pr_world.specs.pr_rules.Groups.{is_group_named}
-use Rattle.pr_world.specs.pr_rules.Reloads.{reload_by, reload_step}
-use Rattle.pr_group.specs.Keeping.{waits_of}
-use Rattle.pr_world.specs.Rounds.{all_loaded, reload_accepted, reload_outcome, reload_outcome_by}
-use Rattle.pr_world.specs.Step.{Step, step_by}
-use Rattle.pr_world.specs.World.{World}
-use Rattle.pr_world.specs.declared.event.NamedFile.{NamedFile}
-use Rattle.pr_world.specs.declared.report.Report.{Report}
+use Rattle.spec_world.specs.spec_history.declared.entry.Entry.{Entry}
+use Rattle.pr_group.specs.pr_head.private.Intake.{Series}
+use Rattle.spec_world.specs.spec_history.private.Laws.{IsLawful}
+use Rattle.pr_group.specs.pr_head.private.Holds.{Holds}
+use Rattle.pr_group.specs.pr_range.private.Asks.{LastAsks, Passed}
+use Rattle.spec_world.specs.spec_rules.Groups.{is_group_named}
+use Rattle.spec_world.specs.spec_rules.Reloads.{reload_by, reload_step}
+use Rattle.pr_group.specs.private.Keeping.{waits_of}
+use Rattle.spec_world.specs.Rounds.{all_loaded, reload_accepted, reload_outcome, reload_outcome_by}
+use Rattle.spec_world.specs.Step.{Step, step_by}
+use Rattle.spec_world.specs.World.{World}
+use Rattle.spec_world.specs.declared.event.NamedFile.{NamedFile}
+use Rattle.spec_world.specs.declared.report.Report.{Report}
 use Rattle.pr_manager.specs.declared.answered.Answered.{Answered}
-use Rattle.pr_manager.specs.Keeping.{HasGoneOn, KeepEach, ManagesGroupsOf, KeptManager, settings_in}
-use Rattle.pr_manager.specs.Loading.{fresh_by, loaded_files}
-use Rattle.pr_manager.specs.Naming.{passed_by_named}
-use Rattle.pr_manager.specs.Passing.{ReloadPasses, taken_over_by}
-use Rattle.pr_manager.specs.Replacing.{HasReplaced}
-use Rattle.pr_manager.specs.Rounds.{files_step}
+use Rattle.pr_manager.specs.private.Keeping.{HasGoneOn, KeepEach, ManagesGroupsOf, KeptManager, settings_in}
+use Rattle.pr_manager.specs.private.Loading.{fresh_by, loaded_files}
+use Rattle.pr_manager.specs.private.Naming.{passed_by_named}
+use Rattle.pr_manager.specs.private.Passing.{ReloadPasses, taken_over_by}
+use Rattle.pr_manager.specs.private.Replacing.{HasReplaced}
+use Rattle.pr_manager.specs.private.Rounds.{files_step}
 use Rattle.pr_manager.proofs.Loaded.{fresh_at}
 
 pub record HasReloaded {R : Type 0} (fits : R → List Entry → Type 0) (last : R → LastAsks) (passed : R → Passed) (w : World) (after : KeptManager R) (old new : Series) (step : Step) (a : Answered) : Type 0 where

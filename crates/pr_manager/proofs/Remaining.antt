@@ -1,16 +1,16 @@
 -- What remains of groups that are gone, and its markers.
 use Rattle.std.proofs.Common.{◌≡◌, ℕ, List, [], ◌∷◌, ◌++◌, length, map, append_assoc, append-nil, refl, sym, ap, subst, ◌∙◌, arith}
 use Rattle.std.specs.Prelude.{flat_map}
-use Rattle.pr_labels.specs.declared.pair.Pair.{Pair}
-use Rattle.pr_history.specs.declared.entry.Entry.{Entry}
-use Rattle.pr_group.specs.pr_intake.Intake.{HasTaken, Puts, Series}
-use Rattle.pr_world.specs.pr_puts.Puts.{admitted, marker, markers}
-use Rattle.pr_group.specs.pr_range.Asks.{LastAsks, Passed}
-use Rattle.pr_world.specs.pr_rules.Groups.{Group}
-use Rattle.pr_world.specs.pr_rules.Reloads.{remains}
-use Rattle.pr_world.specs.pr_rules.Settings.{Settings}
-use Rattle.pr_group.specs.Keeping.{KeepsGroup, KeptGroup}
-use Rattle.pr_manager.specs.Keeping.{KeepEach}
+use Rattle.pr_ast.specs.pr_labels.declared.pair.Pair.{Pair}
+use Rattle.spec_world.specs.spec_history.declared.entry.Entry.{Entry}
+use Rattle.pr_group.specs.pr_head.private.Intake.{HasTaken, Puts, Series}
+use Rattle.spec_world.specs.spec_history.Puts.{admitted, marker, markers}
+use Rattle.pr_group.specs.pr_range.private.Asks.{LastAsks, Passed}
+use Rattle.spec_world.specs.spec_rules.Groups.{Group}
+use Rattle.spec_world.specs.spec_rules.Reloads.{remains}
+use Rattle.spec_world.specs.spec_rules.Settings.{Settings}
+use Rattle.pr_group.specs.private.Keeping.{KeepsGroup, KeptGroup}
+use Rattle.pr_manager.specs.private.Keeping.{KeepEach}
 
 -- where there are no new series, each old one gets a marker
 all_marked : (now : ℕ) (old : List (List Pair)) → markers now old [] ≡ map (marker now) old

@@ -7,32 +7,33 @@ use Rattle.std.proofs.lemmas.List.Elements.{All-head, All-tail}
 use Rattle.std.proofs.lemmas.Slice.Eq.{bytes_eq-Decides}
 use Rattle.std.proofs.lemmas.List.{length-map}
 use Rattle.std.proofs.lemmas.List.Sums.{sum_by-cons}
-use Rattle.pr_history.specs.Admission.{IsLawful, put_all}
-use Rattle.pr_history.proofs.Lawful.{put_all_lawful}
-use Rattle.pr_history.specs.declared.entry.Entry.{Entry}
-use Rattle.pr_group.specs.pr_head.Holds.{Holds, IsWhole}
-use Rattle.pr_group.specs.pr_intake.Intake.{HasTaken, Series}
-use Rattle.pr_world.proofs.PutsPutting.{admitted_counted, puts_admitted}
-use Rattle.pr_world.specs.pr_puts.Puts.{added_count, admitted, marker}
-use Rattle.pr_group.specs.pr_range.Asks.{LastAsks, Passed}
-use Rattle.pr_world.specs.pr_rulefile.declared.rules.GroupDef.{GroupDef}
-use Rattle.pr_world.specs.pr_rulefile.Groups.{Group as Definition, group_of_def}
-use Rattle.pr_world.specs.pr_rulefile.Rules.{rule_of_def}
-use Rattle.pr_world.specs.pr_rules.Carried.{carried_by_rules}
-use Rattle.pr_world.specs.pr_rules.Costs.{PassedByRules}
-use Rattle.pr_world.specs.pr_rules.Groups.{Group, RuleState, definition_of, fresh, is_group_named}
-use Rattle.pr_world.specs.pr_rules.Reloads.{LoadedFile, continued, continued_by, gone_groups, is_gone, reload_by, remains, rules_in}
-use Rattle.pr_world.specs.pr_rules.Settings.{Settings}
-use Rattle.pr_group.specs.Keeping.{KeepsGroup, KeptGroup, passed_by}
-use Rattle.pr_world.specs.declared.report.Report.{Report}
-use Rattle.pr_world.specs.declared.report.Report.TheVariants as report
+use Rattle.spec_world.specs.spec_history.private.Laws.{IsLawful}
+use Rattle.spec_world.specs.spec_history.Admission.{put_all}
+use Rattle.spec_world.proofs.HistoryLawful.{put_all_lawful}
+use Rattle.spec_world.specs.spec_history.declared.entry.Entry.{Entry}
+use Rattle.pr_group.specs.pr_head.private.Holds.{Holds, IsWhole}
+use Rattle.pr_group.specs.pr_head.private.Intake.{HasTaken, Series}
+use Rattle.spec_world.proofs.HistoryPutting.{admitted_counted, puts_admitted}
+use Rattle.spec_world.specs.spec_history.Puts.{added_count, admitted, marker}
+use Rattle.pr_group.specs.pr_range.private.Asks.{LastAsks, Passed}
+use Rattle.spec_world.specs.spec_rules.declared.definitions.GroupDef.{GroupDef}
+use Rattle.spec_world.specs.spec_rules.Definitions.{Group as Definition, group_of_def, rule_of_def}
+use Rattle.spec_world.specs.spec_rules.private.Carried.{carried_by_rules}
+use Rattle.spec_world.specs.spec_rules.private.Costs.{PassedByRules}
+use Rattle.spec_world.specs.spec_rules.Groups.{Group, RuleState, fresh, is_group_named}
+use Rattle.spec_world.specs.spec_rules.private.Laws.{definition_of}
+use Rattle.spec_world.specs.spec_rules.Reloads.{LoadedFile, continued, continued_by, gone_groups, is_gone, reload_by, remains, rules_in}
+use Rattle.spec_world.specs.spec_rules.Settings.{Settings}
+use Rattle.pr_group.specs.private.Keeping.{KeepsGroup, KeptGroup, passed_by}
+use Rattle.spec_world.specs.declared.report.Report.{Report}
+use Rattle.spec_world.specs.declared.report.Report.TheVariants as report
 use Rattle.pr_manager.specs.declared.naming.GroupName.{GroupName}
-use Rattle.pr_manager.specs.Continuing.{EachContinues, Continues, KeepsAny}
-use Rattle.pr_manager.specs.Keeping.{KeepEach, KeepsUnder}
-use Rattle.pr_manager.specs.Loading.{HasPassedNothing, fresh_by}
-use Rattle.pr_manager.specs.Naming.{is_among, is_kept_named, kept_named, kept_under, name_of, names_of, passed_by_any, same_name, site_of, value_of}
-use Rattle.pr_manager.specs.Passing.{taken_over, taken_over_by}
-use Rattle.pr_manager.specs.Replacing.{HasReplaced}
+use Rattle.pr_manager.specs.private.Continuing.{EachContinues, Continues, KeepsAny}
+use Rattle.pr_manager.specs.private.Keeping.{KeepEach, KeepsUnder}
+use Rattle.pr_manager.specs.private.Loading.{HasPassedNothing, fresh_by}
+use Rattle.pr_manager.specs.private.Naming.{is_among, is_kept_named, kept_named, kept_under, name_of, names_of, passed_by_any, same_name, site_of, value_of}
+use Rattle.pr_manager.specs.private.Passing.{taken_over, taken_over_by}
+use Rattle.pr_manager.specs.private.Replacing.{HasReplaced}
 use Rattle.pr_manager.proofs.Apart.{names_are}
 use Rattle.pr_manager.proofs.Each.{StaysKept, each_stays}
 use Rattle.pr_manager.proofs.Names.{both, kept_is_named, kept_name, kept_site}

@@ -1,16 +1,12 @@
-pub mod Keeping
-pub mod Rounds
-pub mod Naming
-pub mod Passing
-pub mod Finding
-pub mod Loading
-pub mod Continuing
-pub mod Coming
-pub mod Replacing
-pub use Rattle.pr_world.specs as pr_world
+pub mod private
+pub use Rattle.spec_world.specs.pr_types as pr_types
+pub use Rattle.spec_world.specs.pr_parse as pr_parse
+pub use Rattle.spec_world.specs.pr_expo as pr_expo
+pub use Rattle.spec_world.specs.spec_meaning as spec_meaning
+pub use Rattle.spec_world.specs.spec_rules as spec_rules
+pub use Rattle.spec_world.specs as spec_world
+pub use Rattle.pr_group.specs.pr_head as pr_head
 pub use Rattle.pr_group.specs.pr_range as pr_range
-pub use Rattle.pr_group.specs.pr_values as pr_values
 pub use Rattle.pr_group.specs.pr_eval as pr_eval
-pub use Rattle.pr_group.specs.pr_intake as pr_intake
-pub use Rattle.pr_group.specs.pr_rule_result as pr_rule_result
+pub use Rattle.pr_group.specs.pr_rule as pr_rule
 pub use Rattle.pr_group.specs as pr_group

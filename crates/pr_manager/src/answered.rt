@@ -1,10 +1,10 @@
 // What is answered to orders about groups.
 ghost use Rattle.std.specs.Prelude.{◌≡◌};
-ghost use Rattle.pr_manager.specs.Rounds.{admitted_in};
+ghost use Rattle.pr_manager.specs.private.Rounds.{admitted_in};
 
-use pr_history::Entry;
-use pr_words::Items;
-use pr_world::Report;
+use pr_ast::words_crate::Items;
+use spec_world::Report;
+use spec_world::history::Entry;
 
 /// What is answered to a reload, and the entries that it added.
 #[derive(Debug, Drop)]

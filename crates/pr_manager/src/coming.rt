@@ -1,19 +1,19 @@
 // The evaluation of a group, unless it is refused.
 ghost use Rattle.std.specs.Prelude.{◌≡◌, ◌+◌, ◌≤◌, List, IfOk};
-ghost use Rattle.pr_history.specs.declared.entry.Entry.{Entry};
-ghost use Rattle.pr_world.specs.pr_rules.Groups.{Group};
-ghost use Rattle.pr_world.specs.pr_rules.Settings.{Settings};
-ghost use Rattle.pr_group.specs.Keeping.{MayEvaluateOver, passed_by};
-ghost use Rattle.pr_manager.specs.Coming.{Comes, too_late};
-ghost use Rattle.pr_manager.specs.Keeping.{KeepsUnder};
-ghost use Rattle.pr_manager.specs.Rounds.{cost_after};
+ghost use Rattle.spec_world.specs.spec_history.declared.entry.Entry.{Entry};
+ghost use Rattle.spec_world.specs.spec_rules.Groups.{Group};
+ghost use Rattle.spec_world.specs.spec_rules.Settings.{Settings};
+ghost use Rattle.pr_group.specs.private.Keeping.{MayEvaluateOver, passed_by};
+ghost use Rattle.pr_manager.specs.private.Coming.{GroupComes, too_late};
+ghost use Rattle.pr_manager.specs.private.Keeping.{KeepsUnder};
+ghost use Rattle.pr_manager.specs.private.Rounds.{cost_after};
 
+use pr_ast::time::Ms;
+use pr_ast::words_crate::Steps;
 use pr_group::GroupOver;
 use pr_group::head::Head;
 use pr_group::range::Ranges;
-use pr_time::Ms;
-use pr_words::Steps;
-use pr_world::Report;
+use spec_world::Report;
 use std::alloc::{AllocError, Global};
 use std::sync::ledger::Ledger;
 
@@ -39,7 +39,7 @@ pub(crate) fn evaluate_group<R: Ranges + Drop, G: Ledger>(
     reads: &mut Steps<G>,
 ) -> Result<Report, AllocError>
     ensures comes { (s : Settings) (history : List Entry) (g : Group) → KeepsUnder R.fits R.last R.passed s history group.old g → MayEvaluateOver head.old history time
-        → IfOk result (Comes R.fits R.last R.passed R.keeps s g group.old group.new history time head.old head.new reads.old reads.new) }
+        → IfOk result (GroupComes R.fits R.last R.passed R.keeps s g group.old group.new history time head.old head.new reads.old reads.new) }
     ensures reads { (s : Settings) (history : List Entry) (g : Group) → KeepsUnder R.fits R.last R.passed s history group.old g → MayEvaluateOver head.old history time
         → reads.new ≤ reads.old + cost_after g.last s g history time (passed_by R.passed group.old history) }
 {

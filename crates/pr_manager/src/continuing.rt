@@ -1,11 +1,11 @@
 // New groups that go on from old ones.
 ghost use Rattle.std.specs.Prelude.{◌≡◌, cond, Some, None, IfOk, OnOk};
 ghost use Rattle.pr_manager.specs.declared.naming.GroupName.{GroupName as Name};
-ghost use Rattle.pr_manager.specs.Continuing.{EachContinues, Continues};
-ghost use Rattle.pr_manager.specs.Naming.{AreApart, name_of, names_of, same_name, value_of};
+ghost use Rattle.pr_manager.specs.private.Continuing.{EachContinues, Continues};
+ghost use Rattle.pr_manager.specs.private.Naming.{AreApart, name_of, names_of, same_name, value_of};
 
 use crate::naming::name_of;
-use crate::waiting::Waiting;
+use crate::waiting::GroupsByName;
 use pr_group::GroupOver;
 use pr_group::range::Ranges;
 use std::alloc::{AllocError, Global};
@@ -41,7 +41,7 @@ fn carry_any<R: Ranges + Drop>(
 fn go_on_one<R: Ranges + Drop>(
     alloc: Global,
     new: GroupOver<R>,
-    waiting: &mut Waiting<GroupOver<R>>,
+    waiting: &mut GroupsByName<GroupOver<R>>,
 ) -> Result<GroupOver<R>, AllocError>
     ensures goes { IfOk result (λ done. Continues R.fits R.last R.passed new (value_of waiting.old (name_of new)) done) }
     ensures others { OnOk result ((q : Name) → value_of waiting.new q ≡ cond (same_name (name_of new) q) None (value_of waiting.old q)) }
@@ -58,7 +58,7 @@ fn go_on_one<R: Ranges + Drop>(
 pub(crate) fn go_on<R: Ranges + Drop>(
     alloc: Global,
     news: Vec<GroupOver<R>>,
-    waiting: &mut Waiting<GroupOver<R>>,
+    waiting: &mut GroupsByName<GroupOver<R>>,
 ) -> Result<Vec<GroupOver<R>>, AllocError>
     requires { AreApart (names_of news.items) }
     ensures { IfOk result (λ v. EachContinues R.fits R.last R.passed (value_of waiting.old) news.items v.items) }

@@ -1,7 +1,7 @@
 // A group that is looked for by its file and its name.
 ghost use Rattle.std.specs.Prelude.{◌≡◌};
-ghost use Rattle.pr_manager.specs.Finding.{place_of};
-ghost use Rattle.pr_manager.specs.Naming.{is_kept_named};
+ghost use Rattle.pr_manager.specs.private.Finding.{place_of};
+ghost use Rattle.pr_manager.specs.private.Naming.{is_kept_named};
 
 use pr_group::GroupOver;
 use pr_group::range::Ranges;

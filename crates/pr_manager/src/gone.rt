@@ -1,21 +1,21 @@
 // What remains of groups that are gone.
 ghost use Rattle.std.specs.Prelude.{◌≡◌, ◌++◌, [], List, map, flat_map, IfOk, OnOk};
-ghost use Rattle.pr_history.specs.declared.entry.Entry.{Entry};
-ghost use Rattle.pr_group.specs.pr_head.Holds.{Holds};
-ghost use Rattle.pr_group.specs.pr_intake.Intake.{HasTaken};
-ghost use Rattle.pr_world.specs.pr_puts.Puts.{admitted, marker};
-ghost use Rattle.pr_world.specs.pr_rules.Groups.{Group};
-ghost use Rattle.pr_world.specs.pr_rules.Reloads.{remains};
-ghost use Rattle.pr_world.specs.pr_rules.Settings.{Settings};
-ghost use Rattle.pr_manager.specs.Keeping.{KeepEach};
+ghost use Rattle.spec_world.specs.spec_history.declared.entry.Entry.{Entry};
+ghost use Rattle.pr_group.specs.pr_head.private.Holds.{Holds};
+ghost use Rattle.pr_group.specs.pr_head.private.Intake.{HasTaken};
+ghost use Rattle.spec_world.specs.spec_history.Puts.{admitted, marker};
+ghost use Rattle.spec_world.specs.spec_rules.Groups.{Group};
+ghost use Rattle.spec_world.specs.spec_rules.Reloads.{remains};
+ghost use Rattle.spec_world.specs.spec_rules.Settings.{Settings};
+ghost use Rattle.pr_manager.specs.private.Keeping.{KeepEach};
 
+use pr_ast::labels::Labels;
+use pr_ast::time::Ms;
 use pr_group::GroupOver;
 use pr_group::head::Head;
-use pr_group::intake::mark;
+use pr_group::head::intake::mark;
 use pr_group::range::Ranges;
-use pr_history::Entry;
-use pr_labels::Labels;
-use pr_time::Ms;
+use spec_world::history::Entry;
 use std::alloc::{AllocError, Global};
 
 // Puts label sets behind others.

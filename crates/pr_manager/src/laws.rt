@@ -1,10 +1,10 @@
 // Laws of kept groups.
 ghost use Rattle.std.specs.Prelude.{◌≡◌, ◌++◌, Bool, List};
-ghost use Rattle.pr_history.specs.Admission.{IsLawful};
-ghost use Rattle.pr_history.specs.declared.entry.Entry.{Entry};
-ghost use Rattle.pr_world.specs.pr_rules.Groups.{Group};
-ghost use Rattle.pr_manager.specs.Keeping.{ManagesGroups, KeptManager};
-ghost use Rattle.pr_manager.specs.Naming.{passed_by_named};
+ghost use Rattle.spec_world.specs.spec_history.private.Laws.{IsLawful};
+ghost use Rattle.spec_world.specs.spec_history.declared.entry.Entry.{Entry};
+ghost use Rattle.spec_world.specs.spec_rules.Groups.{Group};
+ghost use Rattle.pr_manager.specs.private.Keeping.{ManagesGroups, KeptManager};
+ghost use Rattle.pr_manager.specs.private.Naming.{passed_by_named};
 
 use pr_group::a_kept_group_stays;
 use pr_group::range::Ranges;

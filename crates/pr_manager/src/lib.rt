@@ -14,11 +14,28 @@ mod manager;
 mod naming;
 mod parting;
 mod reloading;
+mod templates;
 mod waiting;
 
 // What crates above name of those below.
+pub mod types {
+    pub use spec_world::types::Checked;
+}
+
+pub mod parse {
+    pub use spec_world::parse::{QueryError, read_expression};
+}
+
+pub mod expo {
+    pub use spec_world::expo::{ExpoError, Line, read};
+}
+
+pub mod world {
+    pub use spec_world::{BodyFault, Event, NamedFile, Offer, QueryKind, Report, Scraped, Worlds};
+}
+
 pub mod head {
-    pub use pr_group::head::Head;
+    pub use pr_group::head::{Head, rows};
 }
 
 pub mod range {

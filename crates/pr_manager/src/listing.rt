@@ -1,18 +1,18 @@
 // The alerts of all groups.
 ghost use Rattle.std.specs.Prelude.{◌≡◌, ◌++◌, Bool, List, Some, filter, map, slice_get, IfOk, OnOk};
-ghost use Rattle.pr_history.specs.declared.entry.Entry.{Entry};
-ghost use Rattle.pr_world.specs.pr_rules.Groups.{Group, RuleState};
-ghost use Rattle.pr_group.specs.pr_lineage.Records.{is_living, is_living_state};
-ghost use Rattle.pr_group.specs.Keeping.{KeepsGroup};
-ghost use Rattle.pr_world.specs.Rounds.{alert_line, alerts_of, group_alerts, rule_alerts};
-ghost use Rattle.pr_manager.specs.Keeping.{ManagesGroups};
+ghost use Rattle.spec_world.specs.spec_history.declared.entry.Entry.{Entry};
+ghost use Rattle.spec_world.specs.spec_rules.Groups.{Group, RuleState};
+ghost use Rattle.spec_world.specs.spec_alerts.Records.{is_living, is_living_state};
+ghost use Rattle.pr_group.specs.private.Keeping.{KeepsGroup};
+ghost use Rattle.spec_world.specs.Rounds.{alert_line, alerts_of, group_alerts, rule_alerts};
+ghost use Rattle.pr_manager.specs.private.Keeping.{ManagesGroups};
 
 use crate::manager::Manager;
+use pr_ast::words_crate::Items;
 use pr_group::GroupOver;
-use pr_group::alert::{Record, State, records_of_a_lineage_stand_for_it};
 use pr_group::range::Ranges;
-use pr_words::Items;
-use pr_world::AlertLine;
+use pr_group::rule::alert::{Record, State, records_of_a_lineage_stand_for_it};
+use spec_world::AlertLine;
 use std::alloc::{AllocError, Global};
 
 fn is_living(state: State) -> bool

@@ -1,28 +1,29 @@
 // The new groups of files.
 ghost use Rattle.std.specs.Prelude.{◌≡◌, ◌≢◌, ◌<◌, ◌++◌, [], List, map, IfOk, IfErr, OnOk, Ok};
 ghost use Rattle.std.specs.List.{All};
-ghost use Rattle.pr_history.specs.declared.entry.Entry.{Entry};
-ghost use Rattle.pr_world.specs.pr_rulefile.Groups.{group_of_def};
-ghost use Rattle.pr_world.specs.pr_rulefile.File.{groups_given, groups_of_file, rule_file_of};
-ghost use Rattle.pr_world.specs.pr_rules.Settings.{of_a_run};
-ghost use Rattle.pr_group.specs.pr_rule_result.Templates.{HaveTemplates};
-ghost use Rattle.pr_world.specs.pr_rules.Groups.{Group, fresh};
-ghost use Rattle.pr_group.specs.Keeping.{waits_of};
-ghost use Rattle.pr_world.specs.Rounds.{all_loaded, first_problem, groups_by};
-ghost use Rattle.pr_manager.specs.Keeping.{KeepEach, KeepsUnder, settings_with};
-ghost use Rattle.pr_manager.specs.Loading.{HasPassedNothing, IsRefusalOf, fresh_by, loaded_files};
+ghost use Rattle.spec_world.specs.spec_history.declared.entry.Entry.{Entry};
+ghost use Rattle.spec_world.specs.spec_rules.Definitions.{group_of_def};
+ghost use Rattle.spec_world.specs.pr_rulefile.File.{groups_given, groups_of_file, rule_file_of};
+ghost use Rattle.spec_world.specs.spec_rules.Settings.{of_a_run};
+ghost use Rattle.pr_group.specs.pr_rule.private.Templates.{HaveTemplates};
+ghost use Rattle.spec_world.specs.spec_rules.Groups.{Group, fresh};
+ghost use Rattle.pr_group.specs.private.Keeping.{waits_of};
+ghost use Rattle.spec_world.specs.Rounds.{all_loaded, first_problem, groups_by};
+ghost use Rattle.pr_manager.specs.private.Keeping.{KeepEach, KeepsUnder, settings_with};
+ghost use Rattle.pr_manager.specs.private.Loading.{HasPassedNothing, IsRefusalOf, fresh_by, loaded_files};
 
+use crate::templates::rules_that_read_have_templates;
+use pr_ast::labels::Labels;
+use pr_ast::time::Span;
+use pr_ast::words_crate::{Items, Text};
 use pr_group::GroupOver;
 use pr_group::range::Ranges;
-use pr_group::rule_result::rules_that_read_have_templates;
-use pr_labels::Labels;
-use pr_time::Span;
-use pr_words::{Items, Text};
-use pr_world::NamedFile;
-use pr_world::fields_crate::{Problem, ProblemKind};
-use pr_world::rulefile::laws::a_refused_file_has_a_problem;
-use pr_world::rulefile::{GroupDef, RuleError, RuleFile, read};
-use pr_world::tmpl::External;
+use spec_world::NamedFile;
+use spec_world::rulefile::fields::{Problem, ProblemKind};
+use spec_world::rulefile::laws::a_refused_file_has_a_problem;
+use spec_world::rulefile::{RuleError, RuleFile, read};
+use spec_world::rules_crate::GroupDef;
+use spec_world::tmpl::External;
 use std::alloc::{AllocError, Global};
 
 // A file has fewer bytes, so that its lines can be counted.

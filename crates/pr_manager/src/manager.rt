@@ -1,24 +1,24 @@
 // All groups, and the evaluation of one.
 ghost use Rattle.std.specs.Prelude.{◌≡◌, ◌+◌, ◌<◌, ◌≤◌, false, true, Bool, List, [], length, slice_get, IfOk, OnOk, Some};
-ghost use Rattle.pr_history.specs.declared.entry.Entry.{Entry};
-ghost use Rattle.pr_group.specs.Keeping.{KeptGroup, MayEvaluateOver, passed_by};
-ghost use Rattle.pr_world.specs.pr_rules.Groups.{Group};
-ghost use Rattle.pr_world.specs.World.{World};
-ghost use Rattle.pr_manager.specs.Keeping.{HasGoneOn, ManagesGroups, ManagesGroupsOf, KeepsUnder, settings_in};
-ghost use Rattle.pr_manager.specs.Coming.{ComesAt};
-ghost use Rattle.pr_manager.specs.Naming.{passed_by_named};
-ghost use Rattle.pr_manager.specs.Passing.{EvaluationPasses};
-ghost use Rattle.pr_manager.specs.Rounds.{admitted_in, cost_after, eval_cost, eval_step};
+ghost use Rattle.spec_world.specs.spec_history.declared.entry.Entry.{Entry};
+ghost use Rattle.pr_group.specs.private.Keeping.{KeptGroup, MayEvaluateOver, passed_by};
+ghost use Rattle.spec_world.specs.spec_rules.Groups.{Group};
+ghost use Rattle.spec_world.specs.World.{World};
+ghost use Rattle.pr_manager.specs.private.Keeping.{HasGoneOn, ManagesGroups, ManagesGroupsOf, KeepsUnder, settings_in};
+ghost use Rattle.pr_manager.specs.private.Coming.{ComesAt};
+ghost use Rattle.pr_manager.specs.private.Naming.{passed_by_named};
+ghost use Rattle.pr_manager.specs.private.Passing.{EvaluationPasses};
+ghost use Rattle.pr_manager.specs.private.Rounds.{admitted_in, cost_after, eval_cost, eval_step};
 
 use crate::coming::evaluate_group;
 use crate::finding::place_of;
+use pr_ast::time::{Ms, Span};
+use pr_ast::words_crate::{Steps, Text};
 use pr_group::head::Head;
 use pr_group::range::Ranges;
 use pr_group::{GroupOver, a_kept_group_stays};
-use pr_time::{Ms, Span};
-use pr_words::{Steps, Text};
-use pr_world::Report;
-use pr_world::tmpl::External;
+use spec_world::Report;
+use spec_world::tmpl::External;
 use std::alloc::{AllocError, Global};
 use std::marker::Model;
 use std::sync::ledger::Ledger;
@@ -38,7 +38,7 @@ impl<R> Model for Manager<R> {
     ghost use Rattle.std.specs.Prelude.{◌<◌};
     ghost use Rattle.std.specs.Coded.{codes};
     ghost use Rattle.pr_ast.specs.contracts.tree.ExprKind as expressions;
-    ghost use Rattle.pr_manager.specs.Keeping.{KeptManager};
+    ghost use Rattle.pr_manager.specs.private.Keeping.{KeptManager};
 
     ghost Value = { KeptManager R };
 

@@ -1,10 +1,10 @@
 // The names that groups are known by.
 ghost use Rattle.std.specs.Prelude.{◌≡◌, IfOk};
-ghost use Rattle.pr_manager.specs.Naming.{name_of};
+ghost use Rattle.pr_manager.specs.private.Naming.{name_of};
 
+use pr_ast::words_crate::Text;
 use pr_group::GroupOver;
 use pr_group::range::Ranges;
-use pr_words::Text;
 use std::alloc::{AllocError, Global};
 
 /// A file and the name of a group in it, by which the group is known.

@@ -1,10 +1,10 @@
 // The old groups of a reload: those that new ones go on from, and those that are gone.
 ghost use Rattle.std.specs.Prelude.{◌≡◌, ◌++◌, ◌∷◌, [], cond, not, true, filter, is_some, IfOk, OnOk, Some, None};
 ghost use Rattle.pr_manager.specs.declared.naming.GroupName.{GroupName as Name};
-ghost use Rattle.pr_manager.specs.Naming.{first_of, is_among, kept_under, name_of, names_of, same_name, value_of};
+ghost use Rattle.pr_manager.specs.private.Naming.{first_of, is_among, kept_under, name_of, names_of, same_name, value_of};
 
 use crate::naming::{GroupName, name_of};
-use crate::waiting::Waiting;
+use crate::waiting::GroupsByName;
 use pr_group::GroupOver;
 use pr_group::range::Ranges;
 use std::alloc::{AllocError, Global};
@@ -13,7 +13,7 @@ use std::alloc::{AllocError, Global};
 #[derive(Drop)]
 pub(crate) struct Parted<R> {
     /// Of each name the first one.
-    pub(crate) waiting: Waiting<GroupOver<R>>,
+    pub(crate) waiting: GroupsByName<GroupOver<R>>,
     /// Those whose names no new group has, in order.
     pub(crate) gone: Vec<GroupOver<R>>,
 }
@@ -22,10 +22,10 @@ pub(crate) struct Parted<R> {
 fn names_of<R: Ranges + Drop>(
     alloc: Global,
     groups: &[GroupOver<R>],
-) -> Result<Waiting<()>, AllocError>
+) -> Result<GroupsByName<()>, AllocError>
     ensures { (q : Name) → IfOk result (λ names. is_some (value_of names q) ≡ is_among q (names_of groups.now)) }
 {
-    let mut names = Waiting::new(alloc);
+    let mut names = GroupsByName::new(alloc);
     let mut rest = groups;
     'naming: while let Some((group, after)) = rest.split_first() {
         names.put(name_of(alloc, group)?, ())?;
@@ -36,7 +36,7 @@ fn names_of<R: Ranges + Drop>(
 
 // Puts an old group where it belongs. One whose name another one before it has is let go.
 fn part_one<R: Ranges + Drop>(
-    names: &Waiting<()>,
+    names: &GroupsByName<()>,
     parted: &mut Parted<R>,
     name: GroupName,
     old: GroupOver<R>,
@@ -66,7 +66,7 @@ pub(crate) fn part<R: Ranges + Drop>(
 {
     let names = names_of(alloc, news)?;
     let mut parted = Parted {
-        waiting: Waiting::new(alloc),
+        waiting: GroupsByName::new(alloc),
         gone: Vec::new(alloc),
     };
     for old in olds {

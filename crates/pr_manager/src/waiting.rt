@@ -1,7 +1,7 @@
 // Values by the names of groups.
 ghost use Rattle.std.specs.Prelude.{◌≡◌, [], cond, is_some, Option, Some, None, OnOk};
 ghost use Rattle.pr_manager.specs.declared.naming.GroupName.{GroupName as Name};
-ghost use Rattle.pr_manager.specs.Naming.{same_name, value_of};
+ghost use Rattle.pr_manager.specs.private.Naming.{same_name, value_of};
 
 use crate::naming::GroupName;
 use indexmap::IndexMap;
@@ -10,11 +10,11 @@ use std::marker::Model;
 
 /// What waits to be taken by a name. Contracts see the names with their values.
 #[derive(Drop)]
-pub(crate) struct Waiting<V> {
+pub(crate) struct GroupsByName<V> {
     values: IndexMap<GroupName, V>,
 }
 
-impl<V> Model for Waiting<V> {
+impl<V> Model for GroupsByName<V> {
     ghost use Rattle.std.specs.Prelude.{List};
     ghost use Rattle.pr_manager.specs.declared.naming.GroupName.{GroupName as Name};
 
@@ -23,12 +23,12 @@ impl<V> Model for Waiting<V> {
     ghost view = { λ w. w.values.entries };
 }
 
-impl<V: Drop> Waiting<V> {
+impl<V: Drop> GroupsByName<V> {
     /// Nothing waits.
-    pub(crate) fn new(alloc: Global) -> Waiting<V>
+    pub(crate) fn new(alloc: Global) -> GroupsByName<V>
         ensures { result ≡ [] }
     {
-        Waiting {
+        GroupsByName {
             values: IndexMap::new(alloc),
         }
     }

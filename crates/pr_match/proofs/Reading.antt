@@ -26,7 +26,7 @@ use Rattle.regex.specs.Failures.{IsRightKind}
 use Rattle.regex_syntax.specs.declared.error.ErrorKind.{ErrorKind}
 use Rattle.regex_syntax.specs.declared.error.ErrorKind.TheVariants as kind
 use Rattle.pr_match.specs.Pattern.{is_readable, is_within, anchored, first_match, matches_whole, expanded}
-use Rattle.pr_match.specs.Compiled.{IsFrom, Decides, Expands, fault_of, syntax_fault}
+use Rattle.pr_match.specs.private.Compiled.{IsFrom, Decides, Expands, fault_of, syntax_fault}
 use Rattle.pr_match.specs.declared.fault.MatchError.{MatchError}
 use Rattle.pr_match.specs.declared.fault.MatchError.TheVariants.{BadPattern, Memory}
 

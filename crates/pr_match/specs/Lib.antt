@@ -1,4 +1,4 @@
 pub mod Pattern
-pub mod Compiled
 pub mod Matcher
-pub mod Conditions
+pub mod private
+pub use Rattle.pr_labels.specs as pr_labels

@@ -19,7 +19,7 @@ pub(crate) enum Condition {
 }
 
 impl Condition {
-    ghost use Rattle.pr_match.specs.Conditions.{op_of, text_of, searched_op, searched_text};
+    ghost use Rattle.pr_match.specs.private.Conditions.{op_of, text_of, searched_op, searched_text};
 
     #[tactic(auto, unfolding(crate::specs::Matcher::may_follow))]
     pub(crate) fn build(alloc: Global, op: MatchOp, text: &str) -> Result<Condition, MatchError>
@@ -60,7 +60,7 @@ pub(crate) enum ValueSearcher<'m> {
 }
 
 impl<'m> ValueSearcher<'m> {
-    ghost use Rattle.pr_match.specs.Conditions.{searched_op, searched_text};
+    ghost use Rattle.pr_match.specs.private.Conditions.{searched_op, searched_text};
 
     pub(crate) fn passes(&mut self, value: &str) -> bool
         ensures found { result ≡ passes (searched_op self.old) (searched_text self.old) value.now }

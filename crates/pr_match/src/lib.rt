@@ -9,6 +9,15 @@ mod op;
 mod pattern;
 mod selection;
 
+// What crates above name of those below.
+pub mod words_crate {
+    pub use pr_labels::words_crate::{Items, Text};
+}
+
+pub mod labels {
+    pub use pr_labels::{Item, Labels, METRIC_LABEL, ordered};
+}
+
 pub use fault::MatchError;
 pub use laws::{
     an_absent_label_is_empty, equalities_ask_for_pairs, operators_are_opposite,

@@ -20,7 +20,7 @@ pub struct Matcher {
 
 impl Model for Matcher {
     ghost use Rattle.pr_match.specs.Matcher.{LabelTest, label_test};
-    ghost use Rattle.pr_match.specs.Conditions.{op_of, text_of};
+    ghost use Rattle.pr_match.specs.private.Conditions.{op_of, text_of};
 
     ghost Value = { LabelTest };
 
@@ -81,7 +81,7 @@ pub struct LabelSearcher<'m> {
 
 impl<'m> Model for LabelSearcher<'m> {
     ghost use Rattle.pr_match.specs.Matcher.{LabelTest, label_test};
-    ghost use Rattle.pr_match.specs.Conditions.{searched_op, searched_text};
+    ghost use Rattle.pr_match.specs.private.Conditions.{searched_op, searched_text};
 
     ghost Value = { LabelTest };
 

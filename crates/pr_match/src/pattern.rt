@@ -1,7 +1,7 @@
 // Patterns, and searchers for them.
 ghost use Rattle.std.specs.Prelude.{◌≡◌, true, false, IfOk, OnOk};
 ghost use Rattle.pr_match.specs.Pattern.{is_readable, is_pattern, anchored, matches_whole, expanded};
-ghost use Rattle.pr_match.specs.Compiled.{IsFrom, fault_of, syntax_fault};
+ghost use Rattle.pr_match.specs.private.Compiled.{IsFrom, fault_of, syntax_fault};
 
 use crate::fault::MatchError;
 use pr_labels::words_crate::Text;
@@ -21,7 +21,7 @@ pub struct Pattern {
 impl Model for Pattern {
     ghost use Rattle.std.specs.Prelude.{List, ℕ};
     ghost use Rattle.pr_match.specs.Pattern.{anchored};
-    ghost use Rattle.pr_match.specs.Compiled.{IsFrom};
+    ghost use Rattle.pr_match.specs.private.Compiled.{IsFrom};
 
     ghost Value = { List ℕ };
 
@@ -112,7 +112,7 @@ pub struct Searcher<'p> {
 
 impl<'p> Model for Searcher<'p> {
     ghost use Rattle.std.specs.Prelude.{List, ℕ};
-    ghost use Rattle.pr_match.specs.Compiled.{Decides};
+    ghost use Rattle.pr_match.specs.private.Compiled.{Decides};
 
     ghost Value = { List ℕ };
 
@@ -143,7 +143,7 @@ pub struct Expander<'p> {
 impl<'p> Model for Expander<'p> {
     ghost use Rattle.pr_match.specs.Pattern.{Replacement, replacement};
     ghost use Rattle.regex.specs.Strings.{matcher_pattern};
-    ghost use Rattle.pr_match.specs.Compiled.{Expands};
+    ghost use Rattle.pr_match.specs.private.Compiled.{Expands};
 
     ghost Value = { Replacement };
 

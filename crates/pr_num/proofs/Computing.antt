@@ -8,7 +8,7 @@ use Rattle.pr_num.specs.Quantile.{ranked, quantile_of}
 use Rattle.pr_num.specs.Reads.{reads}
 use Rattle.pr_num.specs.Shown.{fraction_text, shown}
 use Rattle.pr_num.specs.Total.{value_of, mean_of}
-use Rattle.pr_num.specs.Worked.{num}
+use Rattle.pr_num.specs.private.Worked.{num}
 
 unfoldable pub computing : ⊤
 unfolding digits sum_of product_of quotient_of remainder_of muldiv_of half half_abs floor_quotient floor_of ceil_of rounded_to ranked quantile_of reads fraction_text shown value_of mean_of num

@@ -4,7 +4,7 @@ use Rattle.std.specs.List.{list_all, prefix_len}
 use Rattle.std.specs.Char.{is_ascii_digit, to_ascii_lowercase}
 use Rattle.std.specs.Str.{str_eq_ignore_ascii_case}
 use Rattle.pr_num.specs.Reads.{reads, reads_unsigned, number_of, text_magnitude, ending, signed_scale, scale_of, fraction_digits, after_fraction}
-use Rattle.pr_num.specs.Forms.{Sign, no_sign, plus, minus, Fraction, no_point, point, Exponent, no_exponent, small_e, capital_e, sign_text, is_minus, fraction_part, decimals, exponent_part, scale_part, AreDigits, IsExponent, IsUnsignedForm, unsigned_text, form_text, IsInfinityWord}
+use Rattle.pr_num.specs.private.Forms.{Sign, no_sign, plus, minus, Fraction, no_point, point, Exponent, no_exponent, small_e, capital_e, sign_text, is_minus, fraction_part, decimals, exponent_part, scale_part, AreDigits, IsExponent, IsUnsignedForm, unsigned_text, form_text, IsInfinityWord}
 use Rattle.pr_num.specs.declared.value.Num.TheVariants.{NaN}
 use Rattle.pr_num.specs.Arithmetic.{infinity}
 use Rattle.pr_num.proofs.RoundTrip.{front_all, after_all, and_first, not_word, digit_start}

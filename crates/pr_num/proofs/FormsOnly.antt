@@ -6,7 +6,7 @@ use Rattle.std.specs.Str.{str_eq_ignore_ascii_case}
 use Rattle.std.proofs.lemmas.List.{take-append-drop}
 use Rattle.pr_num.specs.declared.text.NumFault.TheVariants.{NotNumber}
 use Rattle.pr_num.specs.Reads.{Scale, reads, reads_unsigned, reads_number, ending, signed_scale, scale_of, front_digits, after_digits, fraction_digits, after_fraction, is_numeral}
-use Rattle.pr_num.specs.Forms.{Sign, no_sign, plus, minus, Fraction, no_point, point, Exponent, no_exponent, small_e, capital_e, sign_text, fraction_part, decimals, exponent_part, AreDigits, IsExponent, IsInfinityWord, HasUnsignedForm, IsNumberText}
+use Rattle.pr_num.specs.private.Forms.{Sign, no_sign, plus, minus, Fraction, no_point, point, Exponent, no_exponent, small_e, capital_e, sign_text, fraction_part, decimals, exponent_part, AreDigits, IsExponent, IsInfinityWord, HasUnsignedForm, IsNumberText}
 use Rattle.pr_num.proofs.Digits.{front_passes}
 use Rattle.pr_num.proofs.RoundTrip.{and_first, and_second}
 

@@ -6,7 +6,7 @@ use Rattle.std.proofs.lemmas.Nat.{div-mul-add, mod-mul-add, div-add-mod', mod_be
 use Rattle.std.proofs.lemmas.Bool.{cases_lt}
 use Rattle.pr_num.specs.Half.{half_abs, round_by_rest}
 use Rattle.pr_num.specs.declared.kept.Kept.{Kept}
-use Rattle.pr_num.specs.Kept.{Keeps, SameShift}
+use Rattle.pr_num.specs.private.Kept.{Keeps, SameShift}
 use Rattle.pr_num.proofs.Signs.{half_abs-zero}
 use Rattle.pr_num.proofs.Dropping.{ten_pos}
 use Rattle.pr_num.proofs.HalfLaw.{round-low, round-high, round-tie}

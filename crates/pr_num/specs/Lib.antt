@@ -3,12 +3,9 @@ pub mod Same
 pub mod Half
 pub mod Arithmetic
 pub mod Order
-pub mod Kept
 pub mod Reads
 pub mod Shown
 pub mod Multiples
-pub mod Parts
 pub mod Total
 pub mod Quantile
-pub mod Forms
-pub mod Worked
+pub mod private

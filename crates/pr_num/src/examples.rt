@@ -5,7 +5,7 @@ ghost use Rattle.std.specs.Prelude.{◌≡◌, [], ◌∷◌, Some, codes, pos, 
 ghost use Rattle.std.specs.declared.cmp.Ordering.TheVariants.{Less};
 ghost use Rattle.pr_num.specs.Half.{half};
 ghost use Rattle.pr_num.specs.Order.{compared, order_of};
-ghost use Rattle.pr_num.specs.Worked.{read_again, plus, minus, times, over, modulo, scaled, floor, ceil, rounded, quantile, sum, mean};
+ghost use Rattle.pr_num.specs.private.Worked.{read_again, plus, minus, times, over, modulo, scaled, floor, ceil, rounded, quantile, sum, mean};
 ghost use Rattle.pr_num.specs.declared.value.Num.TheVariants.{Finite, PosInf, NegInf};
 
 /// A fraction is rounded to the next whole number, and half way between two to the even one, below

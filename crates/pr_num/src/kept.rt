@@ -3,7 +3,7 @@ ghost use Rattle.std.specs.Prelude.{◌≡◌, ℕ, ◌+◌, ◌*◌, ◌^◌, �
 ghost use Rattle.std.specs.List.{list_all};
 ghost use Rattle.std.specs.Char.{is_ascii_digit};
 ghost use Rattle.std.specs.Str.Parse.{digits_value_after};
-ghost use Rattle.pr_num.specs.Kept.{Keeps};
+ghost use Rattle.pr_num.specs.private.Kept.{Keeps};
 
 /// From here on 37 digits are kept.
 const FULL: u128 = 1_000_000_000_000_000_000_000_000_000_000_000_000;

@@ -5,7 +5,7 @@ ghost use Rattle.std.specs.Cmp.{IsTotalOrder};
 ghost use Rattle.std.specs.Str.{IsAscii, str_eq_ignore_ascii_case};
 ghost use Rattle.std.specs.declared.cmp.Ordering.{Ordering};
 ghost use Rattle.pr_num.specs.Arithmetic.{IsFit, infinity, product_of, sum_of};
-ghost use Rattle.pr_num.specs.Forms.{Exponent, Fraction, IsInfinityWord, IsNumberText, IsUnsignedForm, Sign, decimals, form_text, is_minus, scale_part, sign_text};
+ghost use Rattle.pr_num.specs.private.Forms.{Exponent, Fraction, IsInfinityWord, IsNumberText, IsUnsignedForm, Sign, decimals, form_text, is_minus, scale_part, sign_text};
 ghost use Rattle.pr_num.specs.Half.{IsHalf, half};
 ghost use Rattle.pr_num.specs.Multiples.{IsFloor, floor_quotient};
 ghost use Rattle.pr_num.specs.Order.{compared, order_of};

@@ -4,7 +4,7 @@ ghost use Rattle.std.specs.List.{list_all};
 ghost use Rattle.std.specs.Char.{is_ascii_digit};
 ghost use Rattle.std.specs.Str.Parse.{digits_value};
 ghost use Rattle.pr_num.specs.Half.{half_abs};
-ghost use Rattle.pr_num.specs.Kept.{Keeps, SameShift};
+ghost use Rattle.pr_num.specs.private.Kept.{Keeps, SameShift};
 ghost use Rattle.pr_num.specs.Reads.{text_magnitude};
 
 use crate::kept::{Kept, keep, nothing};

@@ -21,7 +21,7 @@ pub(crate) struct Wide {
 impl Model for Wide {
     ghost use Rattle.std.specs.Prelude.{◌^◌, ◌<◌, ℤ, pos, unsigned_abs};
     ghost use Rattle.std.specs.Int.{int_div_euclid, int_rem_euclid};
-    ghost use Rattle.pr_num.specs.Parts.{number_of_parts};
+    ghost use Rattle.pr_num.specs.private.Parts.{number_of_parts};
 
     ghost Value = { ℤ };
 

@@ -5,16 +5,16 @@ ghost use Rattle.std.specs.Io.KnownBytes.{ReadConsumes, WriteAppends};
 ghost use Rattle.pr_outside.specs.Causes.{HasReadCause, HasWriteCause, HasFilesCause, HasKeepCause};
 ghost use Rattle.pr_outside.specs.Contents.{IsFound, IsWithinLimit};
 ghost use Rattle.pr_outside.specs.Courses.{course_after, is_last_read, is_refused};
-ghost use Rattle.pr_outside.specs.HeldFiles.{content_of, files_of};
-ghost use Rattle.pr_outside.specs.Kept.{KeepsRows, StartsRows, AppendsRows};
+ghost use Rattle.pr_outside.specs.private.HeldFiles.{content_of, files_of};
+ghost use Rattle.pr_outside.specs.private.Kept.{KeepsRows, StartsRows, AppendsRows};
 ghost use Rattle.pr_outside.specs.Paths.{StartsPath};
-ghost use Rattle.pr_outside.specs.Schedule.{after_call, fails_next, one_more, schedule_of};
+ghost use Rattle.pr_outside.specs.private.Schedule.{after_call, fails_next, one_more, schedule_of};
 
 use super::schedule::Schedule;
 use super::sure::is_end;
 use super::{
-    Course, Failed, Files, FilesError, Found, HeldFile, KeepError, Keeper, Row, Sink, SinkError,
-    Source, SureFiles, SureKeeper, SureSink, SureSource,
+    Course, Failed, FileContent, Files, FilesError, HeldFile, KeepError, Keeper, Row, Sink,
+    SinkError, Source, SureFiles, SureKeeper, SureSink, SureSource,
 };
 use std::alloc::Global;
 use std::marker::Model;
@@ -30,7 +30,7 @@ pub struct MemSource {
 }
 
 impl Model for MemSource {
-    ghost use Rattle.pr_outside.specs.Failing.{FailingSource};
+    ghost use Rattle.pr_outside.specs.private.Failing.{FailingSource};
 
     ghost Value = { FailingSource };
 
@@ -86,7 +86,7 @@ pub struct MemSink {
 }
 
 impl Model for MemSink {
-    ghost use Rattle.pr_outside.specs.Failing.{FailingSink};
+    ghost use Rattle.pr_outside.specs.private.Failing.{FailingSink};
 
     ghost Value = { FailingSink };
 
@@ -154,7 +154,7 @@ pub struct MemFiles {
 }
 
 impl Model for MemFiles {
-    ghost use Rattle.pr_outside.specs.Failing.{FailingFiles};
+    ghost use Rattle.pr_outside.specs.private.Failing.{FailingFiles};
 
     ghost Value = { FailingFiles };
 
@@ -178,7 +178,7 @@ impl Files for MemFiles {
     ghost means = { λ m. record { content = λ name. Some (content_of m.files name); calls = m.schedule.calls; faults = m.schedule.faults; course = m.course } };
 
     /// Copies the file of this name, unless this call is to fail or memory runs out.
-    fn load(&mut self, name: &str) -> Result<Found, FilesError>
+    fn load(&mut self, name: &str) -> Result<FileContent, FilesError>
         ensures found { IfOk result (IsFound (Some (content_of self.old.files name.now))) }
         ensures limit { IfOk result IsWithinLimit }
         ensures calls { self.new.schedule.calls ≡ one_more self.old.schedule.calls }
@@ -214,7 +214,7 @@ pub struct MemKeeper {
 }
 
 impl Model for MemKeeper {
-    ghost use Rattle.pr_outside.specs.Failing.{FailingKeeper};
+    ghost use Rattle.pr_outside.specs.private.Failing.{FailingKeeper};
 
     ghost Value = { FailingKeeper };
 

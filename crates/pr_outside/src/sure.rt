@@ -5,14 +5,14 @@ ghost use Rattle.std.specs.Io.KnownBytes.{ReadConsumes, WriteAppends};
 ghost use Rattle.pr_outside.specs.Causes.{HasReadCause, HasWriteCause, HasFilesCause, HasKeepCause};
 ghost use Rattle.pr_outside.specs.Contents.{IsFound, IsWithinLimit};
 ghost use Rattle.pr_outside.specs.Courses.{course_after, is_last_read, is_refused};
-ghost use Rattle.pr_outside.specs.HeldFiles.{content_of, files_of};
-ghost use Rattle.pr_outside.specs.Kept.{KeepsRows, StartsRows, AppendsRows};
+ghost use Rattle.pr_outside.specs.private.HeldFiles.{content_of, files_of};
+ghost use Rattle.pr_outside.specs.private.Kept.{KeepsRows, StartsRows, AppendsRows};
 ghost use Rattle.pr_outside.specs.Paths.{StartsPath};
-ghost use Rattle.pr_outside.specs.Schedule.{one_more};
+ghost use Rattle.pr_outside.specs.private.Schedule.{one_more};
 
 use super::{
-    Course, FILE_LIMIT, Failed, Files, FilesError, Found, HeldFile, KeepError, Keeper, Row, Sink,
-    SinkError, Source,
+    Course, FILE_LIMIT, Failed, FileContent, Files, FilesError, HeldFile, KeepError, Keeper, Row,
+    Sink, SinkError, Source,
 };
 use pr_words::Text;
 use std::alloc::{AllocError, Global};
@@ -29,7 +29,7 @@ pub struct SureSource {
 
 impl Model for SureSource {
     ghost use Rattle.std.specs.Prelude.{◌≤◌, drop, vec_len};
-    ghost use Rattle.pr_outside.specs.Failing.{SureBytes};
+    ghost use Rattle.pr_outside.specs.private.Failing.{SureBytes};
 
     ghost Value = { SureBytes };
 
@@ -99,7 +99,7 @@ pub struct SureSink {
 }
 
 impl Model for SureSink {
-    ghost use Rattle.pr_outside.specs.Failing.{SureTaken};
+    ghost use Rattle.pr_outside.specs.private.Failing.{SureTaken};
 
     ghost Value = { SureTaken };
 
@@ -161,8 +161,8 @@ pub struct SureFiles {
 }
 
 impl Model for SureFiles {
-    ghost use Rattle.pr_outside.specs.Failing.{SureContent};
-    ghost use Rattle.pr_outside.specs.HeldFiles.{files_of};
+    ghost use Rattle.pr_outside.specs.private.Failing.{SureContent};
+    ghost use Rattle.pr_outside.specs.private.HeldFiles.{files_of};
 
     ghost Value = { SureContent };
 
@@ -183,7 +183,7 @@ impl SureFiles {
 }
 
 // What stands under a name: of two files of one name the first.
-fn find_held(held: &[HeldFile], name: &str) -> Result<Found, AllocError>
+fn find_held(held: &[HeldFile], name: &str) -> Result<FileContent, AllocError>
     ensures found { IfOk result (IsFound (Some (content_of (files_of held.now) name.now))) }
     ensures limit { IfOk result IsWithinLimit }
 {
@@ -192,18 +192,18 @@ fn find_held(held: &[HeldFile], name: &str) -> Result<Found, AllocError>
             return found(&file.bytes);
         }
     }
-    Ok(Found::Missing)
+    Ok(FileContent::Missing)
 }
 
 // A file of these bytes, within the limit.
-fn found(bytes: &Vec<u8>) -> Result<Found, AllocError>
+fn found(bytes: &Vec<u8>) -> Result<FileContent, AllocError>
     ensures found { IfOk result (IsFound (Some (Some bytes.now.items))) }
     ensures limit { IfOk result IsWithinLimit }
 {
     if bytes.len() > FILE_LIMIT {
-        return Ok(Found::TooLarge);
+        return Ok(FileContent::TooLarge);
     }
-    Ok(Found::Bytes {
+    Ok(FileContent::Bytes {
         bytes: Vec::from_slice(*bytes.allocator(), bytes)?,
     })
 }
@@ -212,7 +212,7 @@ impl Files for SureFiles {
     ghost means = { λ s. record { content = λ name. Some (content_of s.files name); calls = s.calls; faults = 0; course = s.course } };
 
     /// Copies the file of this name, unless memory runs out.
-    fn load(&mut self, name: &str) -> Result<Found, FilesError>
+    fn load(&mut self, name: &str) -> Result<FileContent, FilesError>
         ensures found { IfOk result (IsFound (Some (content_of self.old.files name.now))) }
         ensures limit { IfOk result IsWithinLimit }
         ensures calls { self.new.calls ≡ one_more self.old.calls }
@@ -244,7 +244,7 @@ pub struct SureKeeper {
 }
 
 impl Model for SureKeeper {
-    ghost use Rattle.pr_outside.specs.Failing.{SureRows};
+    ghost use Rattle.pr_outside.specs.private.Failing.{SureRows};
 
     ghost Value = { SureRows };
 

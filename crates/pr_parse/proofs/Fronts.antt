@@ -4,28 +4,28 @@ use Rattle.std.specs.Prelude.{slice_get, Result, MatchResult, IfOk, IfErr}
 use Rattle.std.proofs.lemmas.List.{take-append-le, take-append-drop, map-append, length-map, take-map, length-take, length-append, take_all}
 use Rattle.std.proofs.lemmas.Result.{MatchResult-weaker, IfOk-weaker, IfErr-weaker}
 use Rattle.pr_forms.specs.Form.{rule, Reads}
-use Rattle.pr_ast.specs.pr_lex.declared.token.Token.{Token}
-use Rattle.pr_ast.specs.pr_lex.declared.fault.LexError.{LexError}
-use Rattle.pr_ast.specs.pr_lex.declared.fault.LexError.TheVariants.{Fault as LexFault, Memory as LexMemory}
-use Rattle.pr_ast.specs.pr_lex.Tokens.{HasTokens, HasFirst}
-use Rattle.pr_ast.specs.pr_lex.Reader.{Refuses as RefusesLex, Misses as MissesLex}
-use Rattle.pr_ast.proofs.LexUnique.{one_list}
+use Rattle.pr_ast.specs.declared.lex.token.Token.{Token}
+use Rattle.pr_ast.specs.declared.lex.fault.LexError.{LexError}
+use Rattle.pr_ast.specs.declared.lex.fault.LexError.TheVariants.{Fault as LexFault, Memory as LexMemory}
+use Rattle.pr_ast.specs.Tokens.{HasTokens, HasFirst}
+use Rattle.pr_ast.specs.private.Reader.{Refuses as RefusesLex, Misses as MissesLex}
+use Rattle.pr_ast.proofs.Unique.{one_list}
 use Rattle.pr_ast.specs.declared.tree.Expr.{Expr}
 use Rattle.pr_ast.specs.Tree.{Tree, tree_of}
-use Rattle.pr_grammar.specs.declared.kind.Kind.{Kind}
-use Rattle.pr_grammar.specs.declared.kind.Lexed.{Lexed}
-use Rattle.pr_grammar.specs.Seen.{Seen, see, seen_token, seen_tokens, kind_seen, seen, kinds_of, kinds_seen}
-use Rattle.pr_grammar.specs.Grammar.{production, expression, Value, part}
-use Rattle.pr_grammar.specs.Whole.{Derives, IsBadPlace}
+use Rattle.pr_parse.specs.declared.grammar.kind.TokenClass.{TokenClass}
+use Rattle.pr_parse.specs.declared.grammar.kind.Lexed.{Lexed}
+use Rattle.pr_parse.specs.Seen.{Seen, see, seen_token, seen_tokens, kind_seen, seen, kinds_of, kinds_seen}
+use Rattle.pr_parse.specs.Grammar.{production, expression, QueryValue, part}
+use Rattle.pr_parse.specs.GrammarWhole.{Derives, IsBadPlace}
 use Rattle.pr_parse.specs.declared.fault.ParseError.{ParseError}
 use Rattle.pr_parse.specs.declared.fault.ParseError.TheVariants.{Lex, Fault, Memory}
 use Rattle.pr_parse.specs.declared.fault.ParseKind.TheVariants.{TooDeep}
 use Rattle.pr_parse.specs.declared.fault.Names.TheVariants.{Elsewhere}
-use Rattle.pr_parse.specs.Whole.{HasTree}
+use Rattle.pr_parse.specs.private.Whole.{HasTree}
 use Rattle.pr_parse.specs.Deep.{depth, IsTooDeep}
 use Rattle.pr_parse.specs.Faults.{kind_at, kind_by, names_from, kind_before, second_before}
 use Rattle.pr_parse.specs.Derived.{start_of, fault_of, IsFault, RefusesSeen, IsExpression, Refuses, Misses}
-use Rattle.pr_parse.specs.Front.{HasFront, token_fault}
+use Rattle.pr_parse.specs.private.Front.{HasFront, token_fault}
 use Rattle.pr_parse.proofs.Judged.{kinds_same, kinds_length, seen_front, early_fault, deep_fault, not_shallow}
 
 -- a text that has no tokens is refused so
@@ -42,16 +42,16 @@ get_front [] ys i h = absurd (omega arith)
 get_front (x ∷ xs) ys zero h = refl
 get_front (x ∷ xs) ys (suc i) h = get_front xs ys i (omega (arith, h))
 
-before_front : (ks more : List Kind) (i : ℕ) → i < length ks → kind_before (ks ++ more) i ≡ kind_before ks i
+before_front : (ks more : List TokenClass) (i : ℕ) → i < length ks → kind_before (ks ++ more) i ≡ kind_before ks i
 before_front ks more zero h = refl
 before_front ks more (suc i) h = get_front ks more i (omega (arith, h))
 
-second_front : (ks more : List Kind) (i : ℕ) → i < length ks → second_before (ks ++ more) i ≡ second_before ks i
+second_front : (ks more : List TokenClass) (i : ℕ) → i < length ks → second_before (ks ++ more) i ≡ second_before ks i
 second_front ks more zero h = refl
 second_front ks more (suc i) h = before_front ks more i (omega (arith, h))
 
 -- the kind of a fault in a front
-kind_front : (ks more : List Kind) (i : ℕ) → i < length ks → kind_at (ks ++ more) i ≡ kind_at ks i
+kind_front : (ks more : List TokenClass) (i : ℕ) → i < length ks → kind_at (ks ++ more) i ≡ kind_at ks i
 kind_front ks more i h =
     ap (λ x. kind_by (names_from Elsewhere None x) (kind_before (ks ++ more) i) (second_before (ks ++ more) i) (slice_get (ks ++ more) i)) (take-append-le i ks more (omega (arith, h)))
     ∙ (ap (λ x. kind_by (names_from Elsewhere None (take i ks)) x (second_before (ks ++ more) i) (slice_get (ks ++ more) i)) (before_front ks more i h)
@@ -59,7 +59,7 @@ kind_front ks more i h =
     ∙ ap (λ x. kind_by (names_from Elsewhere None (take i ks)) (kind_before ks i) (second_before ks i) x) (get_front ks more i h)))
 
 -- a token that makes a front too deep makes all too deep
-deep_kinds : (ks more : List Kind) (deep : ℕ) → IsTooDeep ks deep → IsTooDeep (ks ++ more) deep
+deep_kinds : (ks more : List TokenClass) (deep : ℕ) → IsTooDeep ks deep → IsTooDeep (ks ++ more) deep
 deep_kinds ks more deep t =
     let w = t.within in
     record {
@@ -153,7 +153,7 @@ pub seen_fault : (text : List ℕ) (ts : List Seen) → HasSeen text ts → (r :
 seen_fault text ts s r h = IfErr-weaker r (RefusesSeen (length text) ts) (Refuses text) (λ e f. seen_refuses text ts s e f) h
 
 pub seen_only : (text : List ℕ) (ts : List Seen) → HasSeen text ts → (r : Result Expr ParseError) →
-    ((v : Value) → Reads production (rule expression) ts v [] → depth (kinds_seen ts) ≤ 100 → MatchResult r (λ e. HasTree v (tree_of e)) Misses) →
+    ((v : QueryValue) → Reads production (rule expression) ts v [] → depth (kinds_seen ts) ≤ 100 → MatchResult r (λ e. HasTree v (tree_of e)) Misses) →
     (tree : Tree) → IsExpression text tree → MatchResult r (λ e. tree_of e ≡ tree) Misses
 seen_only text ts s r only tree x =
     let same = its_tokens text ts s tree x in

@@ -4,22 +4,22 @@ use Rattle.std.specs.Prelude.{slice_get, MatchResult, IfSome}
 use Rattle.std.proofs.lemmas.Bool.{cases_lt}
 use Rattle.pr_forms.specs.Form.{rule, Reads, Begins}
 use Rattle.pr_forms.proofs.Parts.{part_place, begins_other_rest}
-use Rattle.pr_grammar.specs.declared.kind.Kind.{Kind}
-use Rattle.pr_grammar.specs.declared.kind.Lexed.{Lexed}
+use Rattle.pr_parse.specs.declared.grammar.kind.TokenClass.{TokenClass}
+use Rattle.pr_parse.specs.declared.grammar.kind.Lexed.{Lexed}
 use Rattle.pr_parse.specs.declared.depth.OpenPart.{OpenPart}
 use Rattle.pr_parse.specs.declared.fault.ParseKind.{ParseKind}
 use Rattle.pr_parse.specs.declared.fault.ParseKind.TheVariants.{End, TooDeep}
 use Rattle.pr_parse.specs.declared.fault.Names.TheVariants.{Elsewhere}
-use Rattle.pr_grammar.specs.Seen.{Seen, see, seen, kinds_of, kinds_seen}
+use Rattle.pr_parse.specs.Seen.{Seen, see, seen, kinds_of, kinds_seen}
 use Rattle.pr_ast.specs.Tree.{Tree}
 use Rattle.std.proofs.Math.Seq.{take-length}
-use Rattle.pr_grammar.specs.Grammar.{production, expression, Value, part}
+use Rattle.pr_parse.specs.Grammar.{production, expression, QueryValue, part}
 use Rattle.pr_ast.specs.declared.tree.Expr.{Expr}
 use Rattle.pr_parse.specs.declared.whole.TreeFault.{TreeFault}
 use Rattle.pr_parse.specs.declared.whole.TreeFault.TheVariants.{Bad, Memory as TreeMemory}
 use Rattle.pr_parse.specs.declared.fault.ParseError.{ParseError}
-use Rattle.pr_grammar.specs.Whole.{Derives, IsBadPlace}
-use Rattle.pr_parse.specs.Whole.{RefusesTokens}
+use Rattle.pr_parse.specs.GrammarWhole.{Derives, IsBadPlace}
+use Rattle.pr_parse.specs.private.Whole.{RefusesTokens}
 use Rattle.pr_parse.specs.Deep.{after_kind, depth_now, depth_from, depth, fresh, IsTooDeep}
 use Rattle.pr_parse.specs.Faults.{kind_at, kind_by, names_from, kind_before, second_before}
 use Rattle.pr_parse.specs.Derived.{IsBadAt, bad_token, too_deep, too_early, start_of, IsFault, fault_of, end_of, RefusesSeen}
@@ -33,33 +33,33 @@ seen_front zero ts = refl
 seen_front (suc n) [] = refl
 seen_front (suc n) (t ∷ ts) = ap (λ us. see t ∷ us) (seen_front n ts)
 
-first_low : (ps : List OpenPart) (ks : List Kind) → depth_now ps ≤ depth_from ps ks
+first_low : (ps : List OpenPart) (ks : List TokenClass) → depth_now ps ≤ depth_from ps ks
 first_low ps [] = omega arith
 first_low ps (k ∷ ks) = omega arith
 
 -- a front is no deeper
-front_low : (ps : List OpenPart) (n : ℕ) (ks : List Kind) → depth_from ps (take n ks) ≤ depth_from ps ks
+front_low : (ps : List OpenPart) (n : ℕ) (ks : List TokenClass) → depth_from ps (take n ks) ≤ depth_from ps ks
 front_low ps zero ks = first_low ps ks
 front_low ps (suc n) [] = omega arith
 front_low ps (suc n) (k ∷ ks) = let h = front_low (after_kind ps k) n ks in omega (arith, h)
 
-shorter_front : (n m : ℕ) (ks : List Kind) → n ≤ m → take n (take m ks) ≡ take n ks
+shorter_front : (n m : ℕ) (ks : List TokenClass) → n ≤ m → take n (take m ks) ≡ take n ks
 shorter_front zero m ks h = refl
 shorter_front (suc n) zero ks h = absurd (omega arith)
 shorter_front (suc n) (suc m) [] h = refl
 shorter_front (suc n) (suc m) (k ∷ ks) h = ap (λ x. k ∷ x) (shorter_front n m ks (omega arith))
 
-pub front_shallow : (n m : ℕ) (ks : List Kind) → n ≤ m → depth (take m ks) ≤ 100 → depth (take n ks) ≤ 100
+pub front_shallow : (n m : ℕ) (ks : List TokenClass) → n ≤ m → depth (take m ks) ≤ 100 → depth (take n ks) ≤ 100
 front_shallow n m ks h d =
     let l = front_low (fresh false ∷ []) n (take m ks) in
     let e : depth (take n (take m ks)) ≤ 100 = omega (arith, l, d) in
     subst (λ x. depth x ≤ 100) (shorter_front n m ks h) e
 
-pub none_there : (ks : List Kind) → slice_get ks (length ks) ≡ None
+pub none_there : (ks : List TokenClass) → slice_get ks (length ks) ≡ None
 none_there [] = refl
 none_there (k ∷ ks) = none_there ks
 
-pub end_kind : (ks : List Kind) → kind_at ks (length ks) ≡ End
+pub end_kind : (ks : List TokenClass) → kind_at ks (length ks) ≡ End
 end_kind ks = ap (kind_by (names_from Elsewhere None (take (length ks) ks)) (kind_before ks (length ks)) (second_before ks (length ks))) (none_there ks)
 
 pub kinds_length : (ts : List Seen) → length (kinds_seen ts) ≡ length ts
@@ -85,7 +85,7 @@ place_fault end ts n p d none = record {
         let low : depth (kinds_seen ts) ≤ 100 = subst (λ ks. depth ks ≤ 100) (ap (λ m. take m (kinds_seen ts)) l ∙ take-length (kinds_seen ts)) d in
         subst (λ x. IsBadAt ts n x) (sym k) (subst (λ m. IsBadAt ts m End) (sym e) (too_early (subst (λ m. IsBadPlace ts m) e p) low none))
 
-pub shallow_fault : (end : ℕ) (ts : List Seen) (n : ℕ) → IsBadPlace ts n → depth (kinds_seen ts) ≤ 100 → ((v : Value) → Reads production (rule expression) ts v [] → ⊥) →
+pub shallow_fault : (end : ℕ) (ts : List Seen) (n : ℕ) → IsBadPlace ts n → depth (kinds_seen ts) ≤ 100 → ((v : QueryValue) → Reads production (rule expression) ts v [] → ⊥) →
     IsFault end ts (start_of end (slice_get ts n)) (kind_at (kinds_seen ts) n)
 shallow_fault end ts n p d none = place_fault end ts n p (let l = front_low (fresh false ∷ []) n (kinds_seen ts) in omega (arith, l, d)) (λ t h. none (part h.0 t) h.1)
 
@@ -139,5 +139,5 @@ refused end ts n e h f = subst (RefusesSeen end (seen ts)) (sym (h ∙ ap (λ ks
 pub refused_deep : (end : ℕ) (ts : List Seen) (n : ℕ) (e : ParseError) → e ≡ fault_of end ts n TooDeep → IsFault end ts (start_of end (slice_get ts n)) TooDeep → RefusesSeen end ts e
 refused_deep end ts n e h f = subst (RefusesSeen end ts) (sym h) f
 
-pub not_shallow : (ks : List Kind) (n : ℕ) → IsTooDeep ks n → depth ks ≤ 100 → ⊥
+pub not_shallow : (ks : List TokenClass) (n : ℕ) → IsTooDeep ks n → depth ks ≤ 100 → ⊥
 not_shallow ks n t d = let l = front_low (fresh false ∷ []) (suc n) ks in let a = t.after in absurd (omega (arith, l, a, d))

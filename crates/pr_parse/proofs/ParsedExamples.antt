@@ -2,18 +2,18 @@
 use Rattle.std.proofs.Common.{◌≡◌, refl, None, false, [], ◌∷◌}
 use Rattle.std.specs.Prelude.{codes}
 use Rattle.pr_forms.specs.Reading.{reading, bad_place}
-use Rattle.pr_ast.specs.pr_lex.Words.{word_of, words, is_word, word_text}
-use Rattle.pr_ast.specs.pr_lex.Worked.{name, duration, sign}
-use Rattle.pr_ast.specs.pr_lex.declared.token.Sign.TheVariants as signs
+use Rattle.pr_ast.specs.Words.{word_of, words, is_word, word_text}
+use Rattle.pr_ast.specs.private.Worked.{name, duration, sign}
+use Rattle.pr_ast.specs.declared.lex.token.Sign.TheVariants as signs
 use Rattle.pr_ast.specs.Names.{func_of, funcs, is_func, func_text}
 use Rattle.pr_ast.specs.declared.names.BinOp.TheVariants as op
 use Rattle.pr_ast.specs.declared.names.AggOp.TheVariants as agg
 use Rattle.pr_ast.specs.Tree.{binary, aggregate}
-use Rattle.pr_ast.specs.Examples.{one, grouped}
-use Rattle.pr_grammar.specs.Seen.{seen_tokens}
+use Rattle.pr_ast.specs.private.Examples.{one, grouped}
+use Rattle.pr_parse.specs.Seen.{seen_tokens}
 use Rattle.pr_parse.specs.declared.fault.ParseKind.TheVariants as kind
 use Rattle.pr_parse.specs.Parsed.{parsed_tokens, gives_tree, gives_fault}
-use Rattle.pr_parse.specs.Examples.{place, metric}
+use Rattle.pr_parse.specs.private.Examples.{place, metric}
 
 pub two_names : parsed_tokens 3 (seen_tokens (name 0 1 (codes "x") ∷ name 2 3 (codes "y") ∷ [])) ≡ gives_fault 2 kind.Unexpected
 unfolding parsed_tokens reading bad_place word_of words is_word word_text func_of funcs is_func func_text

@@ -8,26 +8,26 @@ use Rattle.pr_forms.specs.Form.{rule, Reads, Begins, at_whole}
 use Rattle.pr_forms.specs.Reading.{reading, bad_place}
 use Rattle.pr_forms.proofs.Ending.{given_reads, reads_given, given_place}
 use Rattle.pr_forms.proofs.Places.{one_place, cut_short}
-use Rattle.pr_ast.specs.pr_lex.declared.fault.LexKind.{LexKind}
-use Rattle.pr_ast.specs.pr_lex.Tokens.{HasFault}
-use Rattle.pr_ast.specs.pr_lex.Lexed.{Lexed, gives_tokens, gives_fault as gives_first_fault, lexed}
-use Rattle.pr_ast.proofs.LexLexedLaws.{tokens_both, fault_both}
+use Rattle.pr_ast.specs.declared.lex.fault.LexKind.{LexKind}
+use Rattle.pr_ast.specs.Tokens.{HasFault}
+use Rattle.pr_ast.specs.Lexed.{Lexed, gives_tokens, gives_fault as gives_first_fault, lexed}
+use Rattle.pr_ast.proofs.LexedLaws.{tokens_both, fault_both}
 use Rattle.pr_ast.specs.declared.place.Place.{Place}
 use Rattle.pr_ast.specs.declared.tree.Expr.{Expr}
 use Rattle.pr_ast.specs.Tree.{Tree, tree_of}
-use Rattle.pr_ast.specs.Steps.{has_steps}
-use Rattle.pr_grammar.proofs.StepsLaw.{read_has_steps}
+use Rattle.pr_ast.specs.private.Steps.{has_steps}
+use Rattle.pr_parse.proofs.StepsLaw.{read_has_steps}
 use Rattle.pr_parse.specs.declared.fault.ParseError.{ParseError}
 use Rattle.pr_parse.specs.declared.fault.ParseError.TheVariants.{Lex, Fault, Memory}
-use Rattle.pr_grammar.specs.declared.kind.Kind.{Kind}
-use Rattle.pr_grammar.specs.Seen.{Seen, seen_tokens, kinds_seen}
-use Rattle.pr_grammar.specs.Grammar.{production, expression, Value, part}
-use Rattle.pr_grammar.specs.GrammarTable.{table, rank, steps}
-use Rattle.pr_grammar.proofs.Table.{known}
-use Rattle.pr_grammar.proofs.GrammarEnds.{ends}
+use Rattle.pr_parse.specs.declared.grammar.kind.TokenClass.{TokenClass}
+use Rattle.pr_parse.specs.Seen.{Seen, seen_tokens, kinds_seen}
+use Rattle.pr_parse.specs.Grammar.{production, expression, QueryValue, part}
+use Rattle.pr_parse.specs.GrammarTable.{table, rank, steps}
+use Rattle.pr_parse.proofs.Table.{known}
+use Rattle.pr_parse.proofs.GrammarEnds.{ends}
 use Rattle.pr_parse.specs.declared.fault.ParseKind.{ParseKind}
 use Rattle.pr_parse.specs.declared.fault.ParseKind.TheVariants.{End, TooDeep}
-use Rattle.pr_grammar.specs.Whole.{Derives, IsBadPlace}
+use Rattle.pr_parse.specs.GrammarWhole.{Derives, IsBadPlace}
 use Rattle.pr_parse.specs.Deep.{depth, fresh, IsTooDeep}
 use Rattle.pr_parse.specs.Faults.{kind_at}
 use Rattle.pr_parse.specs.Derived.{IsBadAt, bad_token, too_deep, too_early, start_of, IsFault, IsExpression, HasBadPlace, Refuses}
@@ -36,7 +36,7 @@ use Rattle.pr_parse.proofs.Depths.{deep_low, deep_high}
 use Rattle.pr_parse.proofs.Judged.{place_fault, front_shallow, end_kind, kinds_length, drop_all, none_there}
 
 -- tokens that are read whole can go on to their end
-whole_end : (ts : List Seen) (v : Value) → Reads production (rule expression) ts v [] → IsBadPlace ts (length ts)
+whole_end : (ts : List Seen) (v : QueryValue) → Reads production (rule expression) ts v [] → IsBadPlace ts (length ts)
 whole_end ts v d = record {
   within = omega arith;
   before = λ k h. cut_short production (rule expression) ts k (length ts) h (subst (λ r. Begins production (rule expression) ts r) (sym (drop_all ts (length ts) (omega arith))) (at_whole d));
@@ -56,26 +56,26 @@ is_below : (a b : ℕ) → a < b → nat_lt a b ≡ true
 is_below a b e = grind (arith, nat_tests)
 
 -- the depth before a place that no too deep token stands before
-low_front : (ks : List Kind) (n : ℕ) → n ≤ deep_place ks → depth (take n ks) ≤ 100
+low_front : (ks : List TokenClass) (n : ℕ) → n ≤ deep_place ks → depth (take n ks) ≤ 100
 low_front ks n h = deep_low (fresh false ∷ []) ks n h (omega arith)
 
-whole_low : (ks : List Kind) → length ks ≤ deep_place ks → depth ks ≤ 100
+whole_low : (ks : List TokenClass) → length ks ≤ deep_place ks → depth ks ≤ 100
 whole_low ks h = subst (λ x. depth x ≤ 100) (take-length ks) (low_front ks (length ks) h)
 
-high_front : (ks : List Kind) → deep_place ks < length ks → 100 < depth (take (suc (deep_place ks)) ks)
+high_front : (ks : List TokenClass) → deep_place ks < length ks → 100 < depth (take (suc (deep_place ks)) ks)
 high_front ks h = deep_high (fresh false ∷ []) ks h
 
 -- a place before which the text is not too deep is not past the first too deep token
-not_past : (ks : List Kind) (n : ℕ) → n ≤ length ks → depth (take n ks) ≤ 100 → n ≤ deep_place ks
+not_past : (ks : List TokenClass) (n : ℕ) → n ≤ length ks → depth (take n ks) ≤ 100 → n ≤ deep_place ks
 not_past ks n w d = elim (cases_lt (deep_place ks) n) [
   | inl lt ↦ absurd (let a = high_front ks (omega arith) in let b = front_shallow (suc (deep_place ks)) n ks (omega arith) d in omega (arith, a, b))
   | inr ge ↦ ge
 ]
 
-too_deep_is : (ks : List Kind) → deep_place ks < length ks → IsTooDeep ks (deep_place ks)
+too_deep_is : (ks : List TokenClass) → deep_place ks < length ks → IsTooDeep ks (deep_place ks)
 too_deep_is ks h = record { within = h; before = low_front ks (deep_place ks) (omega arith); after = high_front ks h }
 
-one_deep : (ks : List Kind) (n : ℕ) → IsTooDeep ks n → n ≡ deep_place ks
+one_deep : (ks : List TokenClass) (n : ℕ) → IsTooDeep ks n → n ≡ deep_place ks
 one_deep ks n t =
     let w = t.within in
     let l = not_past ks n (omega (arith, w)) t.before in
@@ -85,25 +85,25 @@ one_deep ks n t =
     ]
 
 -- from what is given to the tree
-from_tree : (end : ℕ) (ts : List Seen) (bad deep : ℕ) (b : Bool) (value : Option Value) (t : Tree) →
+from_tree : (end : ℕ) (ts : List Seen) (bad deep : ℕ) (b : Bool) (value : Option QueryValue) (t : Tree) →
     (if b then gives_fault (start_of end (slice_get ts deep)) TooDeep else tree_or_fault end ts bad value) ≡ gives_tree t → (b ≡ false) × ((p : Place) × (value ≡ Some (part p t)))
 from_tree end ts bad deep true value t e = absurd (cc)
 from_tree end ts bad deep false (Some (part p u)) t e = let same : u ≡ t = cc in (refl, (p, ap (λ x. Some (part p x)) same))
 from_tree end ts bad deep false _ t e = absurd (cc)
 
-no_tree : (end : ℕ) (ts : List Seen) (bad : ℕ) (value : Option Value) → ((p : Place) (t : Tree) → value ≡ Some (part p t) → ⊥) →
+no_tree : (end : ℕ) (ts : List Seen) (bad : ℕ) (value : Option QueryValue) → ((p : Place) (t : Tree) → value ≡ Some (part p t) → ⊥) →
     tree_or_fault end ts bad value ≡ gives_fault (start_of end (slice_get ts bad)) (kind_at (kinds_seen ts) bad)
 no_tree end ts bad (Some (part p t)) h = absurd (h p t refl)
 no_tree end ts bad _ h = refl
 
 module _ (end : ℕ) (ts : List Seen) where
-  abbrev ks : List Kind
+  abbrev ks : List TokenClass
   ks = kinds_seen ts
 
   abbrev bad : ℕ
   bad = bad_place production table steps (rule expression) ts
 
-  abbrev value : Option Value
+  abbrev value : Option QueryValue
   value = reading production table steps (rule expression) ts
 
   first_bad : IsBadPlace ts bad
@@ -115,7 +115,7 @@ module _ (end : ℕ) (ts : List Seen) where
   value_read : (p : Place) (t : Tree) → Reads production (rule expression) ts (part p t) [] → value ≡ Some (part p t)
   value_read p t d = reads_given production table known rank steps ends expression ts (part p t) d
 
-  bad_is_end : (v : Value) → Reads production (rule expression) ts v [] → bad ≡ length ts
+  bad_is_end : (v : QueryValue) → Reads production (rule expression) ts v [] → bad ≡ length ts
   bad_is_end v d = one_place production (rule expression) ts bad (length ts) first_bad (whole_end ts v d)
 
   pub tree_is : (t : Tree) → parsed_tokens end ts ≡ gives_tree t → Derives ts t × (depth ks ≤ 100)
@@ -204,7 +204,7 @@ module _ (end : ℕ) (ts : List Seen) where
   unfolding parsed_tokens
   no_lex at kind e = lex_by (nat_lt (deep_place ks) bad) value e
     where
-      lex_by : (b : Bool) (v : Option Value) → (if b then gives_fault (start_of end (slice_get ts (deep_place ks))) TooDeep else tree_or_fault end ts bad v) ≡ gives_lex_fault at kind → ⊥
+      lex_by : (b : Bool) (v : Option QueryValue) → (if b then gives_fault (start_of end (slice_get ts (deep_place ks))) TooDeep else tree_or_fault end ts bad v) ≡ gives_lex_fault at kind → ⊥
       lex_by true v e = cc
       lex_by false (Some (part p t)) e = cc
       lex_by false _ e = cc

@@ -1,14 +1,14 @@
 -- How deep a text is, by its tokens alone.
 use Rattle.std.specs.Prelude.{◌≡◌, ℕ, ◌+◌, ◌-◌, ◌≤◌, ◌<◌, suc, max, Bool, true, false, ◌||◌, is_some, List, [], ◌∷◌, length, take, if◌then◌else◌}
-use Rattle.pr_ast.specs.pr_lex.declared.token.Sign.TheVariants.{LeftBrace, RightBrace, LeftParen, RightParen, Comma, Colon}
-use Rattle.pr_grammar.specs.declared.kind.Kind.{Kind}
-use Rattle.pr_grammar.specs.declared.kind.Kind.TheVariants.{Sign}
-use Rattle.pr_grammar.specs.declared.kind.Level.TheVariants.{Or, And, Comparison, Sum, Product}
+use Rattle.pr_ast.specs.declared.lex.token.Sign.TheVariants.{LeftBrace, RightBrace, LeftParen, RightParen, Comma, Colon}
+use Rattle.pr_parse.specs.declared.grammar.kind.TokenClass.{TokenClass}
+use Rattle.pr_parse.specs.declared.grammar.kind.TokenClass.TheVariants.{Sign}
+use Rattle.pr_parse.specs.declared.grammar.kind.Level.TheVariants.{Or, And, Comparison, Sum, Product}
 use Rattle.pr_parse.specs.declared.depth.OpenPart.{OpenPart}
-use Rattle.pr_grammar.specs.Grammar.{is_sign, operator_of}
+use Rattle.pr_parse.specs.Grammar.{is_sign, operator_of}
 
 -- the operators that are counted, signs before an operand among them
-abbrev pub is_counted : Kind → Bool
+abbrev pub is_counted : TokenClass → Bool
 is_counted k =
     is_some (operator_of Or k) || is_some (operator_of And k) || is_some (operator_of Comparison k) || is_some (operator_of Sum k)
     || is_some (operator_of Product k) || is_sign Colon k
@@ -54,7 +54,7 @@ count [] = []
 count (p ∷ ps) = counting p ∷ ps
 
 -- The open parts after a token, the innermost first; the last is the whole text.
-abbrev pub after_kind : List OpenPart → Kind → List OpenPart
+abbrev pub after_kind : List OpenPart → TokenClass → List OpenPart
 after_kind ps (Sign LeftParen) = fresh (in_braces ps) ∷ ps
 after_kind ps (Sign LeftBrace) = fresh true ∷ ps
 after_kind ps (Sign RightParen) = close ps
@@ -62,7 +62,7 @@ after_kind ps (Sign RightBrace) = close ps
 after_kind ps (Sign Comma) = close_and_open ps
 after_kind ps k = if is_counted k then count ps else ps
 
-abbrev pub after_kinds : List OpenPart → List Kind → List OpenPart
+abbrev pub after_kinds : List OpenPart → List TokenClass → List OpenPart
 after_kinds ps [] = ps
 after_kinds ps (k ∷ ks) = after_kinds (after_kind ps k) ks
 
@@ -86,16 +86,16 @@ abbrev pub depth_now : List OpenPart → ℕ
 depth_now ps = max (greatest_height ps) (length ps - 1 + operators ps)
 
 -- the greatest of all moments
-abbrev pub depth_from : List OpenPart → List Kind → ℕ
+abbrev pub depth_from : List OpenPart → List TokenClass → ℕ
 depth_from ps [] = depth_now ps
 depth_from ps (k ∷ ks) = max (depth_now ps) (depth_from (after_kind ps k) ks)
 
 -- how deep the tokens of a text are
-abbrev pub depth : List Kind → ℕ
+abbrev pub depth : List TokenClass → ℕ
 depth ks = depth_from (fresh false ∷ []) ks
 
 -- The first token that brings the depth above 100 stands at the place.
-pub record IsTooDeep (ks : List Kind) (place : ℕ) : Type 0 where
+pub record IsTooDeep (ks : List TokenClass) (place : ℕ) : Type 0 where
   pub within : place < length ks
   pub before : depth (take place ks) ≤ 100
   pub after : 100 < depth (take (suc place) ks)

@@ -1,20 +1,20 @@
 -- What a text is as an expression, and its first bad place.
 use Rattle.std.specs.Prelude.{◌≡◌, ℕ, suc, ◌≤◌, ◌<◌, Option, Some, None, Result, Ok, Err, List, [], length, take, drop, map, slice_get}
 use Rattle.pr_forms.specs.Form.{rule, Begins}
-use Rattle.pr_ast.specs.pr_lex.declared.token.Token.{Token}
-use Rattle.pr_ast.specs.pr_lex.Tokens.{HasTokens, HasFault}
+use Rattle.pr_ast.specs.declared.lex.token.Token.{Token}
+use Rattle.pr_ast.specs.Tokens.{HasTokens, HasFault}
 use Rattle.pr_ast.specs.declared.tree.Expr.{Expr}
 use Rattle.pr_ast.specs.Tree.{Tree}
 use Rattle.pr_parse.specs.declared.whole.TreeFault.{TreeFault}
 use Rattle.pr_parse.specs.declared.whole.TreeFault.TheVariants.{Bad, Memory as TreeMemory}
-use Rattle.pr_grammar.specs.declared.kind.Kind.{Kind}
+use Rattle.pr_parse.specs.declared.grammar.kind.TokenClass.{TokenClass}
 use Rattle.pr_parse.specs.declared.fault.ParseKind.{ParseKind}
 use Rattle.pr_parse.specs.declared.fault.ParseKind.TheVariants.{End, TooDeep}
 use Rattle.pr_parse.specs.declared.fault.ParseError.{ParseError}
 use Rattle.pr_parse.specs.declared.fault.ParseError.TheVariants.{Lex, Fault, Memory}
-use Rattle.pr_grammar.specs.Seen.{Seen, lexed, seen_tokens, kinds_seen}
-use Rattle.pr_grammar.specs.Grammar.{production, expression}
-use Rattle.pr_grammar.specs.Whole.{Derives, IsBadPlace}
+use Rattle.pr_parse.specs.Seen.{Seen, lexed, seen_tokens, kinds_seen}
+use Rattle.pr_parse.specs.Grammar.{production, expression}
+use Rattle.pr_parse.specs.GrammarWhole.{Derives, IsBadPlace}
 use Rattle.pr_parse.specs.Deep.{depth, IsTooDeep}
 use Rattle.pr_parse.specs.Faults.{kind_at}
 

@@ -1,11 +1,12 @@
-pub mod Reader
 pub mod Faults
-pub mod Whole
 pub mod Deep
-pub mod Open
-pub mod DeepReader
 pub mod Derived
-pub mod Front
 pub mod Parsed
-pub mod Examples
-pub use Rattle.pr_grammar.specs as pr_grammar
+pub mod QueryKinds
+pub mod Seen
+pub mod Grammar
+pub mod GrammarTable
+pub mod GrammarWhole
+pub mod Expressions
+pub mod private
+pub use Rattle.pr_types.specs as pr_types

@@ -3,13 +3,13 @@
 use Rattle.std.specs.Prelude.{◌≡◌, ℕ, zero, suc, nat_lt, Bool, true, false, Option, Some, None, List, [], ◌∷◌, length, slice_get, if◌then◌else◌}
 use Rattle.pr_forms.specs.Form.{rule}
 use Rattle.pr_forms.specs.Reading.{reading, bad_place}
-use Rattle.pr_ast.specs.pr_lex.declared.fault.LexKind.{LexKind}
-use Rattle.pr_ast.specs.pr_lex.Lexed.{Lexed, gives_tokens, gives_fault as gives_first_fault, lexed}
+use Rattle.pr_ast.specs.declared.lex.fault.LexKind.{LexKind}
+use Rattle.pr_ast.specs.Lexed.{Lexed, gives_tokens, gives_fault as gives_first_fault, lexed}
 use Rattle.pr_ast.specs.Tree.{Tree}
-use Rattle.pr_grammar.specs.declared.kind.Kind.{Kind}
-use Rattle.pr_grammar.specs.Seen.{Seen, seen_tokens, kinds_seen}
-use Rattle.pr_grammar.specs.Grammar.{production, expression, Value, part}
-use Rattle.pr_grammar.specs.GrammarTable.{table, steps}
+use Rattle.pr_parse.specs.declared.grammar.kind.TokenClass.{TokenClass}
+use Rattle.pr_parse.specs.Seen.{Seen, seen_tokens, kinds_seen}
+use Rattle.pr_parse.specs.Grammar.{production, expression, QueryValue, part}
+use Rattle.pr_parse.specs.GrammarTable.{table, steps}
 use Rattle.pr_parse.specs.declared.depth.OpenPart.{OpenPart}
 use Rattle.pr_parse.specs.declared.fault.ParseError.{ParseError}
 use Rattle.pr_parse.specs.declared.fault.ParseError.TheVariants.{Lex, Fault, Memory}
@@ -28,20 +28,20 @@ pub data Parsed : Type 0 where
   gives_fault : ℕ → ParseKind → Parsed
 
 -- the first token that brings the depth above 100, or the number of tokens where none does
-abbrev pub deep_from : List OpenPart → List Kind → ℕ
+abbrev pub deep_from : List OpenPart → List TokenClass → ℕ
 deep_from ps [] = 0
 deep_from ps (k ∷ ks) = if nat_lt 100 (depth_now (after_kind ps k)) then 0 else suc (deep_from (after_kind ps k) ks)
 
-abbrev pub deep_place : List Kind → ℕ
+abbrev pub deep_place : List TokenClass → ℕ
 deep_place ks = deep_from (fresh false ∷ []) ks
 
 -- the reading of tokens that are nowhere too deep before the place where it ended
-abbrev pub tree_or_fault : ℕ → List Seen → ℕ → Option Value → Parsed
+abbrev pub tree_or_fault : ℕ → List Seen → ℕ → Option QueryValue → Parsed
 tree_or_fault end ts bad (Some (part p t)) = gives_tree t
 tree_or_fault end ts bad _ = gives_fault (start_of end (slice_get ts bad)) (kind_at (kinds_seen ts) bad)
 
 -- A token that makes the text too deep and stands before the first bad place is the fault.
-abbrev pub by_places : ℕ → List Seen → ℕ → ℕ → Option Value → Parsed
+abbrev pub by_places : ℕ → List Seen → ℕ → ℕ → Option QueryValue → Parsed
 by_places end ts bad deep value =
     if nat_lt deep bad then gives_fault (start_of end (slice_get ts deep)) TooDeep else tree_or_fault end ts bad value
 

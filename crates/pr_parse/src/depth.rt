@@ -1,11 +1,11 @@
 // How deep a text is, by its tokens alone: so that no text makes the parser call itself too often.
 ghost use Rattle.std.specs.Prelude.{◌≡◌, ◌≤◌, ◌<◌, ◌+◌, [], ◌∷◌, false, length, max, nat_lt, IfOk, MatchOption};
-ghost use Rattle.pr_grammar.specs.Seen.{kinds_of};
+ghost use Rattle.pr_parse.specs.Seen.{kinds_of};
 ghost use Rattle.pr_parse.specs.Deep.{is_counted, fresh, height, counting, around, grown, close, close_and_open, count, after_kind, in_braces, greatest_from, greatest_height, operators, depth_now, depth, IsTooDeep};
-ghost use Rattle.pr_parse.specs.DeepReader.{parts_of};
+ghost use Rattle.pr_parse.specs.private.DeepReader.{parts_of};
 
+use crate::grammar::{Lexed, TokenClass};
 use pr_ast::lex::{Sign, Word};
-use pr_grammar::{Kind, Lexed};
 use std::alloc::{AllocError, Global};
 
 /// A part of a text that is open.
@@ -75,11 +75,11 @@ fn around(inner: u64, part: OpenPart) -> OpenPart
 }
 
 /// Whether an operator is counted.
-fn is_counted(kind: Kind) -> bool
+fn is_counted(kind: TokenClass) -> bool
     ensures { result ≡ is_counted kind }
 {
     match kind {
-        Kind::Sign(sign) => !matches!(
+        TokenClass::Sign(sign) => !matches!(
             sign,
             Sign::LeftBrace
                 | Sign::RightBrace
@@ -92,7 +92,7 @@ fn is_counted(kind: Kind) -> bool
                 | Sign::Like
                 | Sign::NotLike
         ),
-        Kind::Word(word) => matches!(word, Word::And | Word::Or | Word::Unless),
+        TokenClass::Word(word) => matches!(word, Word::And | Word::Or | Word::Unless),
         _ => false,
     }
 }
@@ -173,16 +173,16 @@ fn close_and_open(alloc: Global, parts: Parts) -> Result<Parts, AllocError>
 }
 
 /// The open parts after a token.
-fn after_kind(alloc: Global, parts: Parts, kind: Kind) -> Result<Parts, AllocError>
+fn after_kind(alloc: Global, parts: Parts, kind: TokenClass) -> Result<Parts, AllocError>
     requires { greatest_height (parts_of parts) ≤ 100 }
     ensures { IfOk result (λ x. parts_of x ≡ after_kind (parts_of parts) kind) }
 {
     match kind {
-        Kind::Sign(Sign::LeftParen) => inside(alloc, in_braces(&parts), parts),
-        Kind::Sign(Sign::LeftBrace) => inside(alloc, true, parts),
-        Kind::Sign(Sign::RightParen) => Ok(close(parts)),
-        Kind::Sign(Sign::RightBrace) => Ok(close(parts)),
-        Kind::Sign(Sign::Comma) => close_and_open(alloc, parts),
+        TokenClass::Sign(Sign::LeftParen) => inside(alloc, in_braces(&parts), parts),
+        TokenClass::Sign(Sign::LeftBrace) => inside(alloc, true, parts),
+        TokenClass::Sign(Sign::RightParen) => Ok(close(parts)),
+        TokenClass::Sign(Sign::RightBrace) => Ok(close(parts)),
+        TokenClass::Sign(Sign::Comma) => close_and_open(alloc, parts),
         _ => {
             if is_counted(kind) {
                 Ok(count(parts))

@@ -1,19 +1,19 @@
 //! What the definitions say of the tokens of small texts. An example is a function that does
 //! nothing, and its contract is what it shows: the texts are those of its comments.
 ghost use Rattle.std.specs.Prelude.{◌≡◌, codes, None, false, [], ◌∷◌};
-ghost use Rattle.pr_ast.specs.pr_lex.Worked.{name, duration, sign};
-ghost use Rattle.pr_ast.specs.pr_lex.declared.token.Sign.TheVariants as signs;
-ghost use Rattle.pr_ast.specs.pr_lex.declared.words.Word.TheVariants.{And};
+ghost use Rattle.pr_ast.specs.private.Worked.{name, duration, sign};
+ghost use Rattle.pr_ast.specs.declared.lex.token.Sign.TheVariants as signs;
+ghost use Rattle.pr_ast.specs.declared.lex.words.Word.TheVariants.{And};
 ghost use Rattle.pr_ast.specs.declared.names.BinOp.TheVariants as op;
 ghost use Rattle.pr_ast.specs.declared.names.AggOp.TheVariants as agg;
 ghost use Rattle.pr_ast.specs.Tree.{binary, aggregate};
-ghost use Rattle.pr_ast.specs.Examples.{one, grouped};
-ghost use Rattle.pr_grammar.specs.declared.kind.Kind.TheVariants.{Plain, Span, Text, Word, Sign};
-ghost use Rattle.pr_grammar.specs.Seen.{seen_tokens};
+ghost use Rattle.pr_ast.specs.private.Examples.{one, grouped};
+ghost use Rattle.pr_parse.specs.declared.grammar.kind.TokenClass.TheVariants.{Plain, Span, Text, Word, Sign};
+ghost use Rattle.pr_parse.specs.Seen.{seen_tokens};
 ghost use Rattle.pr_parse.specs.declared.fault.ParseKind.TheVariants as kind;
 ghost use Rattle.pr_parse.specs.Deep.{depth};
 ghost use Rattle.pr_parse.specs.Parsed.{parsed_tokens, gives_tree, gives_fault};
-ghost use Rattle.pr_parse.specs.Examples.{place, metric};
+ghost use Rattle.pr_parse.specs.private.Examples.{place, metric};
 
 /// The trees and the faults of small texts.
 pub fn small_texts_give_so()

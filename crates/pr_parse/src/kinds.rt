@@ -2,18 +2,18 @@
 ghost use Rattle.std.specs.Prelude.{◌≡◌, ◌≤◌, length, None, slice_get, if◌then◌else◌};
 ghost use Rattle.pr_parse.specs.declared.fault.Names.TheVariants.{Elsewhere};
 ghost use Rattle.pr_parse.specs.declared.fault.ParseKind.TheVariants.{Unexpected};
-ghost use Rattle.pr_grammar.specs.Seen.{kinds_of};
+ghost use Rattle.pr_parse.specs.Seen.{kinds_of};
 ghost use Rattle.pr_parse.specs.Faults.{begins_labels, names_after, names_from, is_called, begins_matcher, begins_span, ends_range, kind_by, kind_before, second_before, kind_at};
 
 use crate::fault::{Names, ParseKind};
+use crate::grammar::{Lexed, TokenClass};
 use pr_ast::lex::{Sign, Word};
-use pr_grammar::{Kind, Lexed};
 
-fn begins_labels(before: Option<Kind>) -> bool
+fn begins_labels(before: Option<TokenClass>) -> bool
     ensures { result ≡ begins_labels before }
 {
     match before {
-        Some(Kind::Word(word)) => matches!(
+        Some(TokenClass::Word(word)) => matches!(
             word,
             Word::On
                 | Word::Ignoring
@@ -26,13 +26,13 @@ fn begins_labels(before: Option<Kind>) -> bool
     }
 }
 
-fn names_after(names: Names, before: Option<Kind>, kind: Kind) -> Names
+fn names_after(names: Names, before: Option<TokenClass>, kind: TokenClass) -> Names
     ensures { result ≡ names_after names before kind }
 {
     match kind {
-        Kind::Sign(Sign::LeftBrace) => Names::InBraces,
-        Kind::Sign(Sign::RightBrace | Sign::RightParen) => Names::Elsewhere,
-        Kind::Sign(Sign::LeftParen) => {
+        TokenClass::Sign(Sign::LeftBrace) => Names::InBraces,
+        TokenClass::Sign(Sign::RightBrace | Sign::RightParen) => Names::Elsewhere,
+        TokenClass::Sign(Sign::LeftParen) => {
             if begins_labels(before) {
                 Names::InLabels
             } else {
@@ -56,41 +56,44 @@ fn names_in(tokens: &[Lexed]) -> Names
     names
 }
 
-fn is_called(names: Names, before: Option<Kind>) -> bool
+fn is_called(names: Names, before: Option<TokenClass>) -> bool
     ensures { result ≡ is_called names before }
 {
     match before {
-        Some(Kind::Word(_)) => !matches!(names, Names::Elsewhere),
-        Some(kind) => matches!(kind, Kind::Plain | Kind::WithColon | Kind::OwnName),
+        Some(TokenClass::Word(_)) => !matches!(names, Names::Elsewhere),
+        Some(kind) => matches!(
+            kind,
+            TokenClass::Plain | TokenClass::WithColon | TokenClass::OwnName
+        ),
         None => false,
     }
 }
 
-fn begins_matcher(names: Names, before: Option<Kind>) -> bool
+fn begins_matcher(names: Names, before: Option<TokenClass>) -> bool
     ensures { result ≡ begins_matcher names before }
 {
     match (names, before) {
-        (Names::InBraces, Some(Kind::Sign(sign))) => {
+        (Names::InBraces, Some(TokenClass::Sign(sign))) => {
             matches!(sign, Sign::LeftBrace | Sign::Comma)
         }
         _ => false,
     }
 }
 
-fn begins_span(before: Option<Kind>) -> bool
+fn begins_span(before: Option<TokenClass>) -> bool
     ensures { result ≡ begins_span before }
 {
     match before {
-        Some(Kind::Sign(sign)) => matches!(sign, Sign::LeftBracket | Sign::Colon),
+        Some(TokenClass::Sign(sign)) => matches!(sign, Sign::LeftBracket | Sign::Colon),
         _ => false,
     }
 }
 
-fn ends_range(before: Option<Kind>, second: Option<Kind>) -> bool
+fn ends_range(before: Option<TokenClass>, second: Option<TokenClass>) -> bool
     ensures { result ≡ ends_range before second }
 {
     match (before, second) {
-        (Some(Kind::Span), Some(Kind::Sign(sign))) => matches!(sign, Sign::LeftBracket),
+        (Some(TokenClass::Span), Some(TokenClass::Sign(sign))) => matches!(sign, Sign::LeftBracket),
         _ => false,
     }
 }
@@ -103,27 +106,33 @@ fn kind_where(test: bool, kind: ParseKind) -> ParseKind
 }
 
 /// The kind of a bad token, by the names around it, the token before it, and the one before that.
-fn kind_by(names: Names, before: Option<Kind>, second: Option<Kind>, bad: Option<Kind>) -> ParseKind
+fn kind_by(
+    names: Names,
+    before: Option<TokenClass>,
+    second: Option<TokenClass>,
+    bad: Option<TokenClass>,
+) -> ParseKind
     ensures { result ≡ kind_by names before second bad }
 {
     let Some(kind) = bad else {
         return ParseKind::End;
     };
     match kind {
-        Kind::Sign(Sign::LeftParen) => {
+        TokenClass::Sign(Sign::LeftParen) => {
             kind_where(is_called(names, before), ParseKind::UnknownFunction)
         }
-        Kind::Sign(Sign::LeftBracket) | Kind::Word(Word::Offset) => ParseKind::Misplaced,
-        Kind::Sign(Sign::RightBracket) => {
+        TokenClass::Sign(Sign::LeftBracket) | TokenClass::Word(Word::Offset) =>
+            ParseKind::Misplaced,
+        TokenClass::Sign(Sign::RightBracket) => {
             kind_where(ends_range(before, second), ParseKind::Misplaced)
         }
-        Kind::OwnName => kind_where(begins_matcher(names, before), ParseKind::TwoNames),
-        Kind::ZeroSpan => kind_where(begins_span(before), ParseKind::ZeroSpan),
+        TokenClass::OwnName => kind_where(begins_matcher(names, before), ParseKind::TwoNames),
+        TokenClass::ZeroSpan => kind_where(begins_span(before), ParseKind::ZeroSpan),
         _ => ParseKind::Unexpected,
     }
 }
 
-fn kind_in(tokens: &[Lexed], place: usize) -> Option<Kind>
+fn kind_in(tokens: &[Lexed], place: usize) -> Option<TokenClass>
     ensures { result ≡ slice_get (kinds_of tokens.now) place }
 {
     match tokens.get(place) {
@@ -132,7 +141,7 @@ fn kind_in(tokens: &[Lexed], place: usize) -> Option<Kind>
     }
 }
 
-fn kind_before(tokens: &[Lexed], place: usize) -> Option<Kind>
+fn kind_before(tokens: &[Lexed], place: usize) -> Option<TokenClass>
     ensures { result ≡ kind_before (kinds_of tokens.now) place }
 {
     if place == 0 {
@@ -142,7 +151,7 @@ fn kind_before(tokens: &[Lexed], place: usize) -> Option<Kind>
     }
 }
 
-fn second_before(tokens: &[Lexed], place: usize) -> Option<Kind>
+fn second_before(tokens: &[Lexed], place: usize) -> Option<TokenClass>
     ensures { result ≡ second_before (kinds_of tokens.now) place }
 {
     if place == 0 {

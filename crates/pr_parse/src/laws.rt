@@ -1,9 +1,9 @@
 //! The laws of what texts are as expressions, each as the contract of a function that does nothing.
 ghost use Rattle.std.specs.Prelude.{◌≡◌, ◌↔◌, ℕ, List, true};
-ghost use Rattle.pr_ast.specs.pr_lex.declared.fault.LexKind.{LexKind};
-ghost use Rattle.pr_ast.specs.pr_lex.Tokens.{HasFault};
+ghost use Rattle.pr_ast.specs.declared.lex.fault.LexKind.{LexKind};
+ghost use Rattle.pr_ast.specs.Tokens.{HasFault};
 ghost use Rattle.pr_ast.specs.Tree.{Tree};
-ghost use Rattle.pr_ast.specs.Steps.{has_steps};
+ghost use Rattle.pr_ast.specs.private.Steps.{has_steps};
 ghost use Rattle.pr_parse.specs.declared.fault.ParseKind.{ParseKind};
 ghost use Rattle.pr_parse.specs.Derived.{IsExpression, HasBadPlace};
 ghost use Rattle.pr_parse.specs.Parsed.{parsed, gives_tree, gives_lex_fault, gives_fault};

@@ -1,17 +1,17 @@
 // Making the nodes of trees.
 ghost use Rattle.std.specs.Prelude.{◌≡◌, IfOk, Some, None, option_map};
 ghost use Rattle.pr_ast.specs.Tree.{number, text as text_tree, select, sub, call, aggregate, tree_of, trees_of};
-ghost use Rattle.pr_grammar.specs.Seen.{see};
-ghost use Rattle.pr_grammar.specs.Grammar.{part, at, operand, turn, operation, signed, through, joined, turned, signed_by, opened_by, closed_by, literal_at, selector_of, moved, range_made, offset_set, arguments, parameter, bare, grouping_by};
-ghost use Rattle.pr_parse.specs.Reader.{value_of, parameters_of};
+ghost use Rattle.pr_parse.specs.Seen.{see};
+ghost use Rattle.pr_parse.specs.Grammar.{part, at, operand, turn, operation, signed, through, joined, turned, signed_by, opened_by, closed_by, literal_at, selector_of, moved, range_made, offset_set, arguments, parameter, bare, grouping_by};
+ghost use Rattle.pr_parse.specs.private.Reader.{value_of, parameters_of};
 
-use pr_ast::labels_crate::{Grouping, Matching};
+use crate::grammar::{Lexed, TokenClass, no_span, number_of, place_of, text_of, through};
+use pr_ast::labels::{Grouping, Matching};
 use pr_ast::lex::Word;
 use pr_ast::num::Num;
 use pr_ast::time::Span;
-use pr_ast::words_crate::{Items, Text};
 use pr_ast::{AggOp, BinOp, Expr, ExprKind, Func, MatchText, Place, Selector};
-use pr_grammar::{Kind, Lexed, no_span, number_of, place_of, text_of, through};
+use pr_words::{Items, Text};
 use std::alloc::{AllocError, Global};
 
 /// An expression, with the place of its text, parentheses and signs around it included.
@@ -58,10 +58,10 @@ pub(crate) fn literal_made(alloc: Global, next: &Lexed) -> Result<Option<Part>, 
 {
     let place = place_of(&next.token);
     match next.kind {
-        Kind::Number => Ok(Some(number_made(place, number_of(&next.token.kind)))),
-        Kind::Text => Ok(Some(text_made(alloc, place, text_of(&next.token.kind))?)),
-        Kind::Word(Word::Inf) => Ok(Some(number_made(place, Num::PosInf))),
-        Kind::Word(Word::NaN) => Ok(Some(number_made(place, Num::NaN))),
+        TokenClass::Number => Ok(Some(number_made(place, number_of(&next.token.kind)))),
+        TokenClass::Text => Ok(Some(text_made(alloc, place, text_of(&next.token.kind))?)),
+        TokenClass::Word(Word::Inf) => Ok(Some(number_made(place, Num::PosInf))),
+        TokenClass::Word(Word::NaN) => Ok(Some(number_made(place, Num::NaN))),
         _ => Ok(None),
     }
 }

@@ -4,33 +4,16 @@ ghost use Rattle.pr_forms.specs.Form.{rule};
 ghost use Rattle.pr_forms.specs.Run.{good};
 ghost use Rattle.pr_forms.specs.Language.{Gives, FailsAt};
 ghost use Rattle.pr_ast.specs.Tree.{tree_of, trees_of};
-ghost use Rattle.pr_grammar.specs.Seen.{seen};
-ghost use Rattle.pr_grammar.specs.Grammar.{
-  Value,
-  Binary,
-  Unary,
-  Postfix,
-  Operand,
-  Tail,
-  Arguments,
-  Aggregation,
-  Parameters as ParametersRule,
-  at,
-  opened_by,
-  aggregator,
-  aggregation_made,
-  tighter,
-  function,
-  function_called,
-  arguments,
-  closed,
-  enclosed,
-  parameters,
-};
-ghost use Rattle.pr_grammar.specs.Reader.{argument_starts};
-ghost use Rattle.pr_grammar.specs.GrammarTable.{queries};
-ghost use Rattle.pr_parse.specs.Reader.{value_of, parameters_of};
+ghost use Rattle.pr_parse.specs.Seen.{seen};
+ghost use Rattle.pr_parse.specs.Grammar.{QueryValue, Binary, Unary, Postfix, Operand, Tail, Arguments, Aggregation, Parameters as ParametersRule, at, opened_by, aggregator, aggregation_made, tighter, function, function_called, arguments, closed, enclosed, parameters};
+ghost use Rattle.pr_parse.specs.private.GrammarReader.{argument_starts};
+ghost use Rattle.pr_parse.specs.GrammarTable.{queries};
+ghost use Rattle.pr_parse.specs.private.Reader.{value_of, parameters_of};
 
+use crate::grammar::{
+    Level, Lexed, after, aggregate_in, function_in, grouping_in, labels_in, metric_in, minus_in,
+    modifiers_in, operator_in, starts_argument,
+};
 use crate::made::{
     Parameters, Part, aggregate_made, call_made, enclosed, one_parameter, operation_made,
     sign_made, two_parameters,
@@ -38,13 +21,9 @@ use crate::made::{
 use crate::selection::{literal_in, selection_in, unnamed_in};
 use crate::suffix::after_other;
 use pr_ast::lex::Sign;
-use pr_ast::words_crate::Items;
 use pr_ast::{AggOp, Expr, Func, Place};
 use pr_forms::Fault;
-use pr_grammar::{
-    Level, Lexed, after, aggregate_in, function_in, grouping_in, labels_in, metric_in, minus_in,
-    modifiers_in, operator_in, starts_argument,
-};
+use pr_words::Items;
 use std::alloc::Global;
 
 #[cycle(parser)]
@@ -115,7 +94,7 @@ fn unary_at(
 }
 
 #[cycle(parser)]
-#[tactic(auto, using(pr_forms::proofs::Ways::ways, pr_grammar::proofs::Ways::nested))]
+#[tactic(auto, using(pr_forms::proofs::Ways::ways, crate::proofs::Ways::nested))]
 fn postfix_at(
     alloc: Global,
     opens: bool,
@@ -144,7 +123,7 @@ fn group_at(
     opening: Place,
     tokens: &[Lexed],
 ) -> Result<(Part, &[Lexed]), Fault<'_, Lexed>>
-    ensures read { MatchResult result (λ x. (v : Value) × Gives queries enclosed tokens.now (good v (seen x.1.now)) × (value_of x.0 ≡ opened_by (at opening) v)) (FailsAt queries enclosed tokens.now) }
+    ensures read { MatchResult result (λ x. (v : QueryValue) × Gives queries enclosed tokens.now (good v (seen x.1.now)) × (value_of x.0 ≡ opened_by (at opening) v)) (FailsAt queries enclosed tokens.now) }
     ensures shorter { IfOk result (λ x. length x.1.now < length tokens.now) }
 {
     let (inner, following) = binary_at(alloc, Level::Or, true, tokens)?;
@@ -155,7 +134,7 @@ fn group_at(
 }
 
 #[cycle(parser)]
-#[tactic(auto, using(pr_forms::proofs::Ways::ways, pr_grammar::proofs::Ways::nested))]
+#[tactic(auto, using(pr_forms::proofs::Ways::ways, crate::proofs::Ways::nested))]
 fn operand_at(alloc: Global, tokens: &[Lexed]) -> Result<(Part, &[Lexed]), Fault<'_, Lexed>>
     ensures read { MatchResult result (λ x. Gives queries (rule Operand) tokens.now (good (value_of x.0) (seen x.1.now))) (FailsAt queries (rule Operand) tokens.now) }
     ensures shorter { IfOk result (λ x. length x.1.now < length tokens.now) }
@@ -189,7 +168,7 @@ fn tail_at<'a>(
     text: &str,
     tokens: &'a [Lexed],
 ) -> Result<(Part, &'a [Lexed]), Fault<'a, Lexed>>
-    ensures read { MatchResult result (λ x. (v : Value) × Gives queries (rule Tail) tokens.now (good v (seen x.1.now)) × (value_of x.0 ≡ function_called (function func name text.now) v))
+    ensures read { MatchResult result (λ x. (v : QueryValue) × Gives queries (rule Tail) tokens.now (good v (seen x.1.now)) × (value_of x.0 ≡ function_called (function func name text.now) v))
         (FailsAt queries (rule Tail) tokens.now) }
     ensures shorter { IfOk result (λ x. length x.1.now ≤ length tokens.now) }
 {
@@ -225,14 +204,14 @@ fn arguments_at(alloc: Global, tokens: &[Lexed]) -> Result<(Vec<Expr>, &[Lexed])
 
 /// The aggregation whose name stands before.
 #[cycle(parser)]
-#[tactic(auto, using(pr_forms::proofs::Ways::ways, pr_grammar::proofs::Ways::nested))]
+#[tactic(auto, using(pr_forms::proofs::Ways::ways, crate::proofs::Ways::nested))]
 fn aggregation_at(
     alloc: Global,
     op: AggOp,
     name: Place,
     tokens: &[Lexed],
 ) -> Result<(Part, &[Lexed]), Fault<'_, Lexed>>
-    ensures read { MatchResult result (λ x. (v : Value) × Gives queries (rule Aggregation) tokens.now (good v (seen x.1.now)) × (value_of x.0 ≡ aggregation_made (aggregator op name) v))
+    ensures read { MatchResult result (λ x. (v : QueryValue) × Gives queries (rule Aggregation) tokens.now (good v (seen x.1.now)) × (value_of x.0 ≡ aggregation_made (aggregator op name) v))
         (FailsAt queries (rule Aggregation) tokens.now) }
     ensures shorter { IfOk result (λ x. length x.1.now < length tokens.now) }
 {

@@ -1,28 +1,28 @@
 //! Parsing a text.
 ghost use Rattle.std.specs.Prelude.{◌≡◌, ◌≤◌, ◌<◌, true, List, length, slice_get, [], ◌++◌, IfOk, IfErr, IfSome, MatchResult};
 ghost use Rattle.pr_forms.specs.Form.{rule, Reads};
-ghost use Rattle.pr_ast.specs.pr_lex.declared.token.Token.{Token};
-ghost use Rattle.pr_ast.specs.pr_lex.Tokens.{HasTokens};
+ghost use Rattle.pr_ast.specs.declared.lex.token.Token.{Token};
+ghost use Rattle.pr_ast.specs.Tokens.{HasTokens};
 ghost use Rattle.pr_ast.specs.Tree.{Tree, tree_of};
-ghost use Rattle.pr_ast.specs.Steps.{has_steps};
-ghost use Rattle.pr_grammar.specs.Seen.{Seen, seen, kinds_of, kinds_seen};
-ghost use Rattle.pr_grammar.specs.Grammar.{Value, production, expression};
-ghost use Rattle.pr_grammar.specs.Whole.{Derives, IsBadPlace};
-ghost use Rattle.pr_parse.specs.Whole.{HasTree};
+ghost use Rattle.pr_ast.specs.private.Steps.{has_steps};
+ghost use Rattle.pr_parse.specs.Seen.{Seen, seen, kinds_of, kinds_seen};
+ghost use Rattle.pr_parse.specs.Grammar.{QueryValue, production, expression};
+ghost use Rattle.pr_parse.specs.GrammarWhole.{Derives, IsBadPlace};
+ghost use Rattle.pr_parse.specs.private.Whole.{HasTree};
 ghost use Rattle.pr_parse.specs.Deep.{depth, IsTooDeep};
 ghost use Rattle.pr_parse.specs.declared.fault.ParseKind.TheVariants.{TooDeep};
 ghost use Rattle.pr_parse.specs.Faults.{kind_at};
-ghost use Rattle.pr_parse.specs.Front.{HasFront};
+ghost use Rattle.pr_parse.specs.private.Front.{HasFront};
 ghost use Rattle.pr_parse.specs.Parsed.{parsed, gives_tree, IsFaultOf};
 ghost use Rattle.pr_parse.specs.Derived.{start_of, fault_of, RefusesSeen, end_of, IsExpression, Refuses, Misses};
 
 use crate::depth::too_deep_at;
 use crate::fault::{ParseError, ParseKind};
+use crate::grammar::{Lexed, with_kinds};
 use crate::kinds::kind_at;
 use crate::whole::{TreeFault, whole_tree};
 use pr_ast::Expr;
 use pr_ast::lex::{first_tokens, tokens};
-use pr_grammar::{Lexed, with_kinds};
 use std::alloc::Global;
 
 /// So many tokens are looked at before the others are kept: most texts have fewer, and one that is
@@ -64,7 +64,7 @@ fn deep_at(end: usize, tokens: &[Lexed], place: usize) -> ParseError
 fn shallow_tree(alloc: Global, end: usize, tokens: &[Lexed]) -> Result<Expr, ParseError>
     requires { depth (kinds_seen (seen tokens.now)) ≤ 100 }
     ensures tree { IfOk result (λ e. Derives (seen tokens.now) (tree_of e) × (depth (kinds_seen (seen tokens.now)) ≤ 100)) }
-    ensures only { (v : Value) → Reads production (rule expression) (seen tokens.now) v [] → MatchResult result (λ e. HasTree v (tree_of e)) Misses }
+    ensures only { (v : QueryValue) → Reads production (rule expression) (seen tokens.now) v [] → MatchResult result (λ e. HasTree v (tree_of e)) Misses }
     ensures fault { IfErr result (RefusesSeen end (seen tokens.now)) }
 {
     match whole_tree(alloc, tokens) {
@@ -112,7 +112,7 @@ fn deep_fault(alloc: Global, end: usize, tokens: &[Lexed], deep: usize) -> Parse
 /// The tree of the tokens of a text that is so long.
 fn tree_at(alloc: Global, end: usize, tokens: &[Lexed]) -> Result<Expr, ParseError>
     ensures tree { IfOk result (λ e. Derives (seen tokens.now) (tree_of e) × (depth (kinds_seen (seen tokens.now)) ≤ 100)) }
-    ensures only { (v : Value) → Reads production (rule expression) (seen tokens.now) v [] → depth (kinds_seen (seen tokens.now)) ≤ 100 → MatchResult result (λ e. HasTree v (tree_of e)) Misses }
+    ensures only { (v : QueryValue) → Reads production (rule expression) (seen tokens.now) v [] → depth (kinds_seen (seen tokens.now)) ≤ 100 → MatchResult result (λ e. HasTree v (tree_of e)) Misses }
     ensures fault { IfErr result (RefusesSeen end (seen tokens.now)) }
 {
     match too_deep_at(alloc, tokens)? {

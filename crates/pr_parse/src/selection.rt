@@ -4,18 +4,18 @@ ghost use Rattle.pr_forms.specs.Form.{rule, token};
 ghost use Rattle.pr_forms.specs.Run.{good};
 ghost use Rattle.pr_forms.specs.Language.{Gives, FailsAt, Takes, Lacks};
 ghost use Rattle.pr_ast.specs.Tree.{tree_of};
-ghost use Rattle.pr_grammar.specs.Seen.{seen};
-ghost use Rattle.pr_grammar.specs.Grammar.{Value, Suffix, Braced, Selection, named, word, selection, applied_to, literal_at, unnamed_selector};
-ghost use Rattle.pr_grammar.specs.GrammarTable.{queries};
-ghost use Rattle.pr_parse.specs.Reader.{value_of, braced_value};
+ghost use Rattle.pr_parse.specs.Seen.{seen};
+ghost use Rattle.pr_parse.specs.Grammar.{QueryValue, Suffix, Braced, Selection, named, word, selection, applied_to, literal_at, unnamed_selector};
+ghost use Rattle.pr_parse.specs.GrammarTable.{queries};
+ghost use Rattle.pr_parse.specs.private.Reader.{value_of, braced_value};
 
+use crate::grammar::{Lexed, after, braces_in, through};
 use crate::made::{Part, literal_made, selector_made};
 use crate::suffix::after_selector;
 use pr_ast::lex::Sign;
-use pr_ast::words_crate::{Items, Text};
 use pr_ast::{MatchText, Place};
 use pr_forms::Fault;
-use pr_grammar::{Lexed, after, braces_in, through};
+use pr_words::{Items, Text};
 use std::alloc::{AllocError, Global};
 
 /// The number or string at the front, where there is one, and what follows it.
@@ -79,7 +79,7 @@ pub(crate) fn selection_in<'a>(
     tokens: &'a [Lexed],
 ) -> Result<(Part, &'a [Lexed]), Fault<'a, Lexed>>
     ensures read { MatchResult result
-        (λ x. (v : Value) × ((ss : List Suffix) × (Gives queries (rule Selection) tokens.now (good (selection v ss) (seen x.1.now)) × (value_of x.0 ≡ named (word name text.now) (selection v ss)))))
+        (λ x. (v : QueryValue) × ((ss : List Suffix) × (Gives queries (rule Selection) tokens.now (good (selection v ss) (seen x.1.now)) × (value_of x.0 ≡ named (word name text.now) (selection v ss)))))
         (FailsAt queries (rule Selection) tokens.now) }
     ensures shorter { IfOk result (λ x. length x.1.now ≤ length tokens.now) }
 {

@@ -2,16 +2,16 @@
 ghost use Rattle.std.specs.Prelude.{◌≡◌, ◌≤◌, length, IfOk, MatchResult};
 ghost use Rattle.pr_forms.specs.Form.{rule};
 ghost use Rattle.pr_forms.specs.Language.{FailsAt};
-ghost use Rattle.pr_grammar.specs.declared.kind.Before.TheVariants.{Selector as Selectors, Range as Ranges, Other as Others};
-ghost use Rattle.pr_grammar.specs.Grammar.{After, InSelector, SelectorSpan, InOther, Step, Closing, Shift};
-ghost use Rattle.pr_grammar.specs.GrammarTable.{queries};
-ghost use Rattle.pr_parse.specs.Reader.{Follows, StepFollows, EndFollows};
+ghost use Rattle.pr_parse.specs.declared.grammar.kind.Before.TheVariants.{Selector as Selectors, Range as Ranges, Other as Others};
+ghost use Rattle.pr_parse.specs.Grammar.{After, InSelector, SelectorSpan, InOther, Step, Closing, Shift};
+ghost use Rattle.pr_parse.specs.GrammarTable.{queries};
+ghost use Rattle.pr_parse.specs.private.Reader.{Follows, StepFollows, EndFollows};
 
+use crate::grammar::{Lexed, after, after_word, shift_in, span_in};
 use crate::made::{Part, subquery_made, with_offset, with_range};
 use pr_ast::lex::{Sign, Word};
 use pr_ast::time::Span;
 use pr_forms::Fault;
-use pr_grammar::{Lexed, after, after_word, shift_in, span_in};
 use std::alloc::Global;
 
 /// The selector at the front with the brackets and the offset that follow it.

@@ -2,15 +2,15 @@
 ghost use Rattle.std.specs.Prelude.{◌≡◌, length, IfOk, MatchResult, []};
 ghost use Rattle.pr_forms.specs.Form.{rule, Reads};
 ghost use Rattle.pr_ast.specs.Tree.{tree_of};
-ghost use Rattle.pr_grammar.specs.Seen.{seen};
-ghost use Rattle.pr_grammar.specs.Grammar.{Value, production, expression};
-ghost use Rattle.pr_grammar.specs.Whole.{Derives, IsBadPlace};
-ghost use Rattle.pr_parse.specs.Whole.{HasTree, RefusesTokens, MissesTokens};
+ghost use Rattle.pr_parse.specs.Seen.{seen};
+ghost use Rattle.pr_parse.specs.Grammar.{QueryValue, production, expression};
+ghost use Rattle.pr_parse.specs.GrammarWhole.{Derives, IsBadPlace};
+ghost use Rattle.pr_parse.specs.private.Whole.{HasTree, RefusesTokens, MissesTokens};
 
+use crate::grammar::{Level, Lexed};
 use crate::parser::binary_at;
 use pr_ast::Expr;
 use pr_forms::{Fault, place_of};
-use pr_grammar::{Level, Lexed};
 use std::alloc::Global;
 
 /// Why tokens have no tree.
@@ -27,7 +27,7 @@ pub(crate) fn whole_tree(alloc: Global, tokens: &[Lexed]) -> Result<Expr, TreeFa
     // A tree that is answered is derived.
     ensures tree { IfOk result (λ e. Derives (seen tokens.now) (tree_of e)) }
     // Where one is derived, it is answered, unless memory runs out.
-    ensures only { (v : Value) → Reads production (rule expression) (seen tokens.now) v [] → MatchResult result (λ e. HasTree v (tree_of e)) MissesTokens }
+    ensures only { (v : QueryValue) → Reads production (rule expression) (seen tokens.now) v [] → MatchResult result (λ e. HasTree v (tree_of e)) MissesTokens }
     // Else the fault says which token is the first bad one.
     ensures place { MatchResult result (λ _. IsBadPlace (seen tokens.now) (length tokens.now)) (RefusesTokens (seen tokens.now)) }
 {

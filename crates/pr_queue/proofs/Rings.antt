@@ -1,10 +1,10 @@
 -- What is put into a ring, and what is taken out.
 use Rattle.std.proofs.Common.{◌≡◌, ℕ, ◌+◌, ◌-◌, ◌≤◌, min, List, [], ◌∷◌, ◌++◌, length, take, drop, map, ap, ◌∙◌, refl, subst, arith, append_assoc}
 use Rattle.circular_buffer.specs.Buffer.{Buffer, buffer, keep_last}
-use Rattle.pr_notices.specs.pr_lineage.declared.sending.Sending.{Sending}
-use Rattle.pr_notices.specs.declared.batch.Batch.{Batch}
-use Rattle.pr_notices.specs.Receivers.{most_at_once, most_counted, most_waiting}
-use Rattle.pr_queue.specs.Queues.{Queued, Waiting, next_batch, taken_in, waiting_in, with_coming, without_batch}
+use Rattle.spec_alerts.specs.declared.sending.Sending.{Sending}
+use Rattle.spec_alerts.specs.declared.notices.batch.Batch.{Batch}
+use Rattle.spec_alerts.specs.Receivers.{most_at_once, most_counted, most_waiting}
+use Rattle.pr_queue.specs.private.Queues.{Queued, ReceiverQueue, next_batch, taken_in, waiting_in, with_coming, without_batch}
 use Rattle.pr_queue.proofs.Lists.{drop_fit, keep_last_more, take_fit}
 
 module _ {X : Type 0} where
@@ -53,5 +53,5 @@ rest_behind name ring after dropped left count coming now is counts h e =
     subst (λ q. waiting_by after.items left ≡ without_batch q.waiting) is
     (ap (λ l. waiting_by l left) (ap (λ (b : Buffer Sending). b.items) h ∙ ap (λ k. keep_last (length ring.items - k) ring.items) counts ∙ drop_fit most_at_once ring.items)
     ∙ ap (waiting_by (drop most_at_once ring.items)) e) where
-      waiting_by : List Sending → ℕ → Waiting
+      waiting_by : List Sending → ℕ → ReceiverQueue
       waiting_by notices dropped = record { name = name; notices = notices; dropped = dropped }

@@ -5,15 +5,16 @@ use Rattle.std.specs.Option.{option_map}
 use Rattle.std.proofs.lemmas.List.{drop-append-le, drop-drop, drop_min, length-map, length-take, map-append}
 use Rattle.std.proofs.lemmas.Bool.Decides.{nat_tests}
 use Rattle.circular_buffer.specs.Buffer.{keep_last}
-use Rattle.pr_notices.specs.pr_lineage.declared.sending.Sending.{Sending}
-use Rattle.pr_notices.specs.declared.joined.Joined.{Joined}
-use Rattle.pr_notices.specs.declared.joined.Joined.TheVariants.{New, Known, Full}
-use Rattle.pr_notices.specs.Calls.{offer, flush}
-use Rattle.pr_notices.specs.Receivers.{IsInStream, NamesDiffer, Receiver, after_add, after_flush, after_offer, batch, batch_of, flushed, flushed_if, given, is_known, is_named, joined_by, joins, most_at_once, most_counted, most_receivers, most_waiting, offered, place_after, receiver}
-use Rattle.pr_notices.proofs.Kept.{kept_add, kept_after}
-use Rattle.pr_notices.proofs.Names.{find_none, left_false, right_false, same_bytes}
-use Rattle.pr_queue.specs.Queues.{Queued, Waiting, empty_queue, is_for, is_queue_for, next_batch, taken_in, waiting_in, with_coming, with_last, without_batch}
-use Rattle.pr_queue.specs.Standing.{StandsFor, waiting_of}
+use Rattle.spec_alerts.specs.declared.sending.Sending.{Sending}
+use Rattle.spec_alerts.specs.declared.notices.joined.Joined.{Joined}
+use Rattle.spec_alerts.specs.declared.notices.joined.Joined.TheVariants.{New, Known, Full}
+use Rattle.spec_alerts.specs.private.Calls.{offer, flush}
+use Rattle.spec_alerts.specs.private.Laws.{IsInStream, NamesDiffer}
+use Rattle.spec_alerts.specs.Receivers.{Receiver, after_add, after_flush, after_offer, batch, batch_of, flushed, flushed_if, given, is_known, is_named, joined_by, joins, most_at_once, most_counted, most_receivers, most_waiting, offered, place_after, receiver}
+use Rattle.spec_alerts.proofs.Kept.{kept_add, kept_after}
+use Rattle.spec_alerts.proofs.Names.{find_none, left_false, right_false, same_bytes}
+use Rattle.pr_queue.specs.private.Queues.{Queued, ReceiverQueue, empty_queue, is_for, is_queue_for, next_batch, taken_in, waiting_in, with_coming, with_last, without_batch}
+use Rattle.pr_queue.specs.private.Standing.{StandsFor, waiting_of}
 use Rattle.pr_queue.proofs.Lists.{at_first, find_at, is_some-position, keep_last-drop, keep_last_behind, same_drop, set_first}
 
 -- lists of other things
@@ -32,7 +33,7 @@ find_in {X} {Y} p f (x ∷ xs) = by (p (f x)) (find_in p f xs) where
 
 -- names
 
-pub known_in : (name : List ℕ) (qs : List Queued) (ws : List Waiting) (rs : List Receiver) → waiting_in qs ≡ ws → StandsFor ws rs
+pub known_in : (name : List ℕ) (qs : List Queued) (ws : List ReceiverQueue) (rs : List Receiver) → waiting_in qs ≡ ws → StandsFor ws rs
     → is_some (position (is_queue_for name) qs) ≡ is_known name rs
 known_in name qs ws rs is s =
     is_some-position (is_queue_for name) qs ∙ sym (list_any_in (is_for name) (λ q. q.waiting) qs) ∙ ap (list_any (is_for name)) (is ∙ s.queued) ∙ list_any_in (is_for name) waiting_of rs
@@ -45,7 +46,7 @@ pub is_some-place : (name : List ℕ) (qs lent : List Queued) (place : Option �
     → is_some (position (is_queue_for name) qs) ≡ t
 is_some-place name qs lent place b t is h e f = ap is_some (place_in name qs lent place is h) ∙ sym e ∙ f
 
-pub many_in : (qs : List Queued) (ws : List Waiting) (rs : List Receiver) → waiting_in qs ≡ ws → StandsFor ws rs → length qs ≡ length rs
+pub many_in : (qs : List Queued) (ws : List ReceiverQueue) (rs : List Receiver) → waiting_in qs ≡ ws → StandsFor ws rs → length qs ≡ length rs
 many_in qs ws rs is s = sym (length-map qs (λ q. q.waiting)) ∙ ap length (is ∙ s.queued) ∙ length-map rs waiting_of
 
 joins_known : (name : List ℕ) (rs : List Receiver) → is_known name rs ≡ true → joins name rs ≡ Known
@@ -54,26 +55,26 @@ joins_known name rs h = ap (λ b. cond b Known (cond (nat_lt (length rs) most_re
 joins_by : (name : List ℕ) (rs : List Receiver) (b : Bool) → is_known name rs ≡ false → nat_lt (length rs) most_receivers ≡ b → joins name rs ≡ cond b New Full
 joins_by name rs b h e = ap (λ b. cond b Known (cond (nat_lt (length rs) most_receivers) New Full)) h ∙ ap (λ b. cond b New Full) e
 
-pub is_known_joined : (name : List ℕ) (qs : List Queued) (ws : List Waiting) (rs : List Receiver) → waiting_in qs ≡ ws
+pub is_known_joined : (name : List ℕ) (qs : List Queued) (ws : List ReceiverQueue) (rs : List Receiver) → waiting_in qs ≡ ws
     → is_some (position (is_queue_for name) qs) ≡ true → StandsFor ws rs → joins name rs ≡ Known
 is_known_joined name qs ws rs is h s = joins_known name rs (sym (known_in name qs ws rs is s) ∙ h)
 
-pub is_full_joined : (name : List ℕ) (qs : List Queued) (ws : List Waiting) (rs : List Receiver) → waiting_in qs ≡ ws
+pub is_full_joined : (name : List ℕ) (qs : List Queued) (ws : List ReceiverQueue) (rs : List Receiver) → waiting_in qs ≡ ws
     → is_some (position (is_queue_for name) qs) ≡ false → most_receivers ≤ length qs → StandsFor ws rs → joins name rs ≡ Full
 is_full_joined name qs ws rs is h most s =
     joins_by name rs false (sym (known_in name qs ws rs is s) ∙ h) (let e : length qs ≡ length rs = many_in qs ws rs is s in grind (arith, nat_tests))
 
-pub is_new_joined : (name : List ℕ) (qs : List Queued) (ws : List Waiting) (rs : List Receiver) → waiting_in qs ≡ ws
+pub is_new_joined : (name : List ℕ) (qs : List Queued) (ws : List ReceiverQueue) (rs : List Receiver) → waiting_in qs ≡ ws
     → is_some (position (is_queue_for name) qs) ≡ false → length qs < most_receivers → StandsFor ws rs → joins name rs ≡ New
 is_new_joined name qs ws rs is h few s =
     joins_by name rs true (sym (known_in name qs ws rs is s) ∙ h) (let e : length qs ≡ length rs = many_in qs ws rs is s in grind (arith, nat_tests))
 
 -- a name that is not new changes nothing
-pub stays : (name : List ℕ) (ws : List Waiting) (rs : List Receiver) (j : Joined) → joins name rs ≡ j → joined_by j name rs ≡ rs → StandsFor ws rs → StandsFor ws (after_add name rs)
+pub stays : (name : List ℕ) (ws : List ReceiverQueue) (rs : List Receiver) (j : Joined) → joins name rs ≡ j → joined_by j name rs ≡ rs → StandsFor ws rs → StandsFor ws (after_add name rs)
 stays name ws rs j e same s = subst (λ l. StandsFor ws l) (sym (ap (λ k. joined_by k name rs) e ∙ same)) s
 
 -- a new receiver
-pub stands_added : (name : List ℕ) (qs : List Queued) (q : Queued) (ws : List Waiting) (rs : List Receiver) → waiting_in qs ≡ ws → q.waiting ≡ empty_queue name
+pub stands_added : (name : List ℕ) (qs : List Queued) (q : Queued) (ws : List ReceiverQueue) (rs : List Receiver) → waiting_in qs ≡ ws → q.waiting ≡ empty_queue name
     → joins name rs ≡ New → StandsFor ws rs → StandsFor (waiting_in (qs ++ q ∷ [])) (after_add name rs)
 stands_added name qs q ws rs is new e s = record {
   queued = map-append (λ q. q.waiting) qs (q ∷ []) ∙ ap (λ l. l ++ q.waiting ∷ []) (is ∙ s.queued) ∙ ap (λ w. map waiting_of rs ++ w ∷ []) new
@@ -113,7 +114,7 @@ waiting_taken : (last : List Sending) (count : ℕ) (qs : List Queued) → waiti
 waiting_taken last count [] = refl
 waiting_taken last count (q ∷ qs) = ap (λ l. with_last last count q.waiting ∷ l) (waiting_taken last count qs)
 
-pub stands_offered : (notices last : List Sending) (qs before after : List Queued) (ws : List Waiting) (rs : List Receiver) → waiting_in qs ≡ ws
+pub stands_offered : (notices last : List Sending) (qs before after : List Queued) (ws : List ReceiverQueue) (rs : List Receiver) → waiting_in qs ≡ ws
     → last ≡ keep_last most_waiting notices → before ≡ map (with_coming last) qs → after ≡ map (taken_in (length notices)) before
     → StandsFor ws rs → StandsFor (waiting_in after) (after_offer notices rs)
 stands_offered notices last qs before after ws rs is lasts b a s = record {
@@ -124,7 +125,7 @@ stands_offered notices last qs before after ws rs is lasts b a s = record {
 }
 
 -- without receivers
-pub stands_empty : (notices : List Sending) (qs : List Queued) (ws : List Waiting) (rs : List Receiver) → waiting_in qs ≡ ws → length qs ≡ 0
+pub stands_empty : (notices : List Sending) (qs : List Queued) (ws : List ReceiverQueue) (rs : List Receiver) → waiting_in qs ≡ ws → length qs ≡ 0
     → StandsFor ws rs → StandsFor ws (after_offer notices rs)
 stands_empty notices qs ws [] is none s = s
 stands_empty notices qs ws (r ∷ rs) is none s = absurd (let e : length qs ≡ length (r ∷ rs) = many_in qs ws (r ∷ rs) is s in omega arith)
@@ -142,7 +143,7 @@ batch_alike : (o : Option Receiver) → option_map next_batch (option_map waitin
 batch_alike None = refl
 batch_alike (Some r) = refl
 
-found_waiting : (name : List ℕ) (qs : List Queued) (ws : List Waiting) (rs : List Receiver) → waiting_in qs ≡ ws → StandsFor ws rs
+found_waiting : (name : List ℕ) (qs : List Queued) (ws : List ReceiverQueue) (rs : List Receiver) → waiting_in qs ≡ ws → StandsFor ws rs
     → option_map (λ q. next_batch q.waiting) (find (is_queue_for name) qs) ≡ batch_of name rs
 found_waiting name qs ws rs is s =
     by (find (is_queue_for name) qs) ∙ ap (option_map next_batch) (sym (find_in (is_for name) (λ q. q.waiting) qs) ∙ ap (find (is_for name)) (is ∙ s.queued) ∙ find_in (is_for name) waiting_of rs)
@@ -151,7 +152,7 @@ found_waiting name qs ws rs is s =
       by None = refl
       by (Some q) = refl
 
-pub batch_at : (name : List ℕ) (qs : List Queued) (i : ℕ) (q : Queued) (ws : List Waiting) (rs : List Receiver) → waiting_in qs ≡ ws → position (is_queue_for name) qs ≡ Some i
+pub batch_at : (name : List ℕ) (qs : List Queued) (i : ℕ) (q : Queued) (ws : List ReceiverQueue) (rs : List Receiver) → waiting_in qs ≡ ws → position (is_queue_for name) qs ≡ Some i
     → q ≡ get_or qs i q → StandsFor ws rs → Some (next_batch q.waiting) ≡ batch_of name rs
 batch_at name qs i q ws rs is h e s = sym (ap (option_map (λ q. next_batch q.waiting)) (find_at (is_queue_for name) qs i q h e)) ∙ found_waiting name qs ws rs is s
 
@@ -193,7 +194,7 @@ waiting_emptied name coming (q ∷ qs) = by (is_queue_for name q) (waiting_empti
   by true rest = refl
   by false rest = ap (λ l. q.waiting ∷ l) rest
 
-pub stands_flushed : (name : List ℕ) (qs : List Queued) (i : ℕ) (q after : Queued) (ws : List Waiting) (rs : List Receiver) → waiting_in qs ≡ ws
+pub stands_flushed : (name : List ℕ) (qs : List Queued) (i : ℕ) (q after : Queued) (ws : List ReceiverQueue) (rs : List Receiver) → waiting_in qs ≡ ws
     → position (is_queue_for name) qs ≡ Some i → q ≡ get_or qs i q → after.waiting ≡ without_batch q.waiting
     → StandsFor ws rs → StandsFor (waiting_in (set qs i after)) (after_flush name rs)
 stands_flushed name qs i q after ws rs is h e a s = record {
@@ -205,14 +206,14 @@ stands_flushed name qs i q after ws rs is h e a s = record {
 
 -- no queue has the name
 
-unknown : (name : List ℕ) (qs : List Queued) (ws : List Waiting) (rs : List Receiver) → waiting_in qs ≡ ws → position (is_queue_for name) qs ≡ None
+unknown : (name : List ℕ) (qs : List Queued) (ws : List ReceiverQueue) (rs : List Receiver) → waiting_in qs ≡ ws → position (is_queue_for name) qs ≡ None
     → StandsFor ws rs → is_known name rs ≡ false
 unknown name qs ws rs is h s = sym (known_in name qs ws rs is s) ∙ ap is_some h
 
-pub no_batch : (name : List ℕ) (qs : List Queued) (ws : List Waiting) (rs : List Receiver) → waiting_in qs ≡ ws → position (is_queue_for name) qs ≡ None
+pub no_batch : (name : List ℕ) (qs : List Queued) (ws : List ReceiverQueue) (rs : List Receiver) → waiting_in qs ≡ ws → position (is_queue_for name) qs ≡ None
     → StandsFor ws rs → None ≡ batch_of name rs
 no_batch name qs ws rs is h s = sym (ap (option_map batch) (find_none (is_named name) rs (unknown name qs ws rs is h s)))
 
-pub stands_unflushed : (name : List ℕ) (qs : List Queued) (ws : List Waiting) (rs : List Receiver) → waiting_in qs ≡ ws → position (is_queue_for name) qs ≡ None
+pub stands_unflushed : (name : List ℕ) (qs : List Queued) (ws : List ReceiverQueue) (rs : List Receiver) → waiting_in qs ≡ ws → position (is_queue_for name) qs ≡ None
     → StandsFor ws rs → StandsFor ws (after_flush name rs)
 stands_unflushed name qs ws rs is h s = subst (λ l. StandsFor ws l) (sym (others_stay name rs (unknown name qs ws rs is h s))) s

@@ -1,9 +1,9 @@
 // Copies of notices.
 ghost use Rattle.std.specs.Prelude.{◌≡◌, IfOk};
 
-use pr_notices::labels_crate::copy_pairs;
-use pr_notices::lineage::Sending;
-use pr_words::Items;
+use spec_alerts::Sending;
+use spec_alerts::labels::copy_pairs;
+use spec_alerts::words_crate::Items;
 use std::alloc::{AllocError, Global};
 
 /// The same notice once more. Its labels are shared.

@@ -7,5 +7,14 @@ mod notice;
 mod notifier;
 mod queue;
 
+// What crates above name of those below.
+pub mod history {
+    pub use spec_alerts::history::row;
+}
+
+pub mod alerts_crate {
+    pub use spec_alerts::Sending;
+}
+
 pub use notifier::Notifier;
-pub use pr_notices::{Batch, Joined};
+pub use spec_alerts::notices::{Batch, Joined};

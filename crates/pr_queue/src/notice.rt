@@ -1,7 +1,7 @@
 ghost use Rattle.std.specs.Prelude.{◌≡◌, ◌++◌, IfOk, OnOk};
 
 use crate::copies::copied;
-use pr_notices::lineage::Sending;
+use spec_alerts::Sending;
 use std::alloc::{AllocError, Global};
 use std::marker::Model;
 use std::rc::Rc;
@@ -13,7 +13,7 @@ pub(crate) struct Notice {
 }
 
 impl Model for Notice {
-    ghost use Rattle.pr_notices.specs.pr_lineage.declared.sending.Sending.{Sending};
+    ghost use Rattle.spec_alerts.specs.declared.sending.Sending.{Sending};
 
     ghost Value = { Sending };
 

@@ -1,13 +1,13 @@
 ghost use Rattle.std.specs.Prelude.{◌≡◌, ℕ, List, [], length, map, position, IfOk, OnOk, OnErr};
 ghost use Rattle.circular_buffer.specs.Buffer.{keep_last};
-ghost use Rattle.pr_notices.specs.Receivers.{Receiver, after_add, after_flush, after_offer, batch_of, joins, most_waiting};
-ghost use Rattle.pr_queue.specs.Queues.{is_queue_for, taken_in, waiting_in, with_coming};
-ghost use Rattle.pr_queue.specs.Standing.{StandsFor};
+ghost use Rattle.spec_alerts.specs.Receivers.{Receiver, after_add, after_flush, after_offer, batch_of, joins, most_waiting};
+ghost use Rattle.pr_queue.specs.private.Queues.{is_queue_for, taken_in, waiting_in, with_coming};
+ghost use Rattle.pr_queue.specs.private.Standing.{StandsFor};
 
 use crate::notice::{Notice, notices_of};
 use crate::queue::{MOST_WAITING, Queue};
-use pr_notices::lineage::Sending;
-use pr_notices::{Batch, Joined};
+use spec_alerts::Sending;
+use spec_alerts::notices::{Batch, Joined};
 use std::alloc::{AllocError, Global};
 use std::marker::Model;
 
@@ -23,9 +23,9 @@ pub struct Notifier {
 
 impl Model for Notifier {
     ghost use Rattle.std.specs.Prelude.{List};
-    ghost use Rattle.pr_queue.specs.Queues.{Waiting, waiting_in};
+    ghost use Rattle.pr_queue.specs.private.Queues.{ReceiverQueue, waiting_in};
 
-    ghost Value = { List Waiting };
+    ghost Value = { List ReceiverQueue };
 
     ghost view = { λ n. waiting_in n.queues.items };
 }

@@ -1,13 +1,13 @@
 ghost use Rattle.std.specs.Prelude.{◌≡◌, ◌++◌, ◌≤◌, [], length, take, IfOk, OnOk, OnErr};
 ghost use Rattle.circular_buffer.specs.Buffer.{buffer, keep_last};
-ghost use Rattle.pr_notices.specs.Receivers.{most_at_once, most_waiting};
-ghost use Rattle.pr_queue.specs.Queues.{empty_queue, is_queue_for, next_batch, taken_in, with_coming, without_batch};
+ghost use Rattle.spec_alerts.specs.Receivers.{most_at_once, most_waiting};
+ghost use Rattle.pr_queue.specs.private.Queues.{empty_queue, is_queue_for, next_batch, taken_in, with_coming, without_batch};
 
 use crate::notice::{Notice, shares_of};
 use circular_buffer::HeapCircularBuffer;
-use pr_notices::Batch;
-use pr_notices::lineage::Sending;
-use pr_words::{Items, Text};
+use spec_alerts::Sending;
+use spec_alerts::notices::Batch;
+use spec_alerts::words_crate::{Items, Text};
 use std::alloc::{AllocError, Global};
 use std::marker::Model;
 use std::mem;
@@ -30,8 +30,8 @@ pub(crate) struct Queue {
 
 impl Model for Queue {
     ghost use Rattle.std.specs.Prelude.{◌≡◌};
-    ghost use Rattle.pr_notices.specs.Receivers.{most_waiting};
-    ghost use Rattle.pr_queue.specs.Queues.{Queued};
+    ghost use Rattle.spec_alerts.specs.Receivers.{most_waiting};
+    ghost use Rattle.pr_queue.specs.private.Queues.{Queued};
 
     ghost Value = { Queued };
 

@@ -6,10 +6,10 @@ use Rattle.std.proofs.lemmas.List.Elements.{filter_map-append}
 use Rattle.std.proofs.lemmas.Grind.{common_steps}
 use Rattle.pr_head.specs.pr_labels.declared.pair.Pair.{Pair}
 use Rattle.pr_head.specs.declared.timed.Timed.{Timed}
-use Rattle.pr_head.specs.Stored.{Stored, count_of, sample_at}
-use Rattle.pr_head.specs.Reads.{shown_of}
-use Rattle.pr_head.specs.pr_history.declared.spot.Spot.{Spot}
-use Rattle.pr_range.specs.Spots.{samples_between, spots_of}
+use Rattle.pr_head.specs.private.Stored.{Stored, count_of, sample_at}
+use Rattle.pr_head.specs.private.Reads.{shown_of}
+use Rattle.pr_head.specs.spec_history.declared.spot.Spot.{Spot}
+use Rattle.pr_range.specs.private.Spots.{samples_between, spots_of}
 
 take_parts : {X : Type 0} (m n : ℕ) (xs : List X) → take (m + n) xs ≡ take m xs ++ take n (drop m xs)
 take_parts zero n xs = let e : 0 + n ≡ n = omega arith in ap (λ k. take k xs) e

@@ -1,22 +1,22 @@
 -- What so many values answer, by what they fold to.
 use Rattle.std.proofs.Common.{◌≡◌, ℕ, ◌<◌, ◌≤◌, List, length, Option, Some, None, Result, Ok, Err, true, sym, ap, subst, ◌∙◌, arith}
-use Rattle.pr_num.specs.declared.value.Num.{Num}
-use Rattle.pr_num.specs.declared.value.TooWide.{TooWide}
-use Rattle.pr_num.specs.Total.{Tally, joined}
-use Rattle.pr_head.specs.pr_history.declared.spot.Spot.{Spot}
-use Rattle.pr_vectors.specs.declared.range.Ask.{Ask}
-use Rattle.pr_vectors.specs.declared.range.AskFault.TheVariants as fault
-use Rattle.pr_vectors.specs.declared.range.RangeFn.TheVariants.{MaxOverTime, MinOverTime}
-use Rattle.pr_vectors.specs.Ranges.{longest, over, with_fault}
-use Rattle.pr_folds.specs.pr_window.Folding.{folded}
-use Rattle.pr_folds.specs.declared.neighbours.Neighbours.{Neighbours}
-use Rattle.pr_folds.specs.Answers.{from_neighbours, from_total, is_of_neighbours, is_of_total}
-use Rattle.pr_folds.specs.Extremes.{greater, lesser, value_alone}
-use Rattle.pr_folds.specs.Neighbours.{beside, spot_alone}
-use Rattle.pr_folds.specs.Totals.{total_alone}
-use Rattle.pr_folds.proofs.Over.{over_greatest, over_least, over_long, over_neighbours, over_none, over_total}
+use Rattle.spec_vectors.specs.pr_num.declared.value.Num.{Num}
+use Rattle.spec_vectors.specs.pr_num.declared.value.TooWide.{TooWide}
+use Rattle.spec_vectors.specs.pr_num.Total.{Tally, joined}
+use Rattle.pr_head.specs.spec_history.declared.spot.Spot.{Spot}
+use Rattle.spec_vectors.specs.declared.range.Ask.{Ask}
+use Rattle.spec_vectors.specs.declared.range.AskFault.TheVariants as fault
+use Rattle.spec_vectors.specs.declared.range.RangeFn.TheVariants.{MaxOverTime, MinOverTime}
+use Rattle.spec_vectors.specs.Ranges.{longest, over, with_fault}
+use Rattle.pr_window.specs.private.Folding.{folded}
+use Rattle.pr_window.specs.declared.folds.neighbours.Neighbours.{Neighbours}
+use Rattle.pr_window.specs.private.Answers.{from_neighbours, from_total, is_of_neighbours, is_of_total}
+use Rattle.pr_window.specs.private.Extremes.{greater, lesser, value_alone}
+use Rattle.pr_window.specs.private.Neighbours.{beside, spot_alone}
+use Rattle.pr_window.specs.private.Totals.{total_alone}
+use Rattle.pr_window.proofs.Over.{over_greatest, over_least, over_long, over_neighbours, over_none, over_total}
 use Rattle.pr_range.specs.declared.fault.RangeFault.{RangeFault}
-use Rattle.pr_range.specs.Answers.{AnswersAsk}
+use Rattle.pr_range.specs.private.Answers.{AnswersAsk}
 
 pub long_answer : (a : Ask) (count : ℕ) (spots : List Spot) → longest < count → length spots ≡ count → over a spots ≡ Err (fault.RangeTooLong count)
 long_answer a count spots long size =

@@ -2,19 +2,20 @@
 use Rattle.std.proofs.Common.{◌≡◌, ℕ, suc, ℤ, ◌<◌, ◌==◌, nat_lt, Bool, true, false, cond, ◌&&◌, List, [], ◌∷◌, ◌++◌, length, map, filter, Option, Some, None, refl, sym, ap, subst, ◌∙◌, arith, append_assoc, append-nil}
 use Rattle.std.specs.List.{cons_option, filter_map}
 use Rattle.std.proofs.lemmas.Grind.{common_steps}
-use Rattle.pr_num.specs.Same.{same_point}
-use Rattle.pr_num.specs.declared.value.Point.{Point}
+use Rattle.spec_vectors.specs.pr_num.Same.{same_point}
+use Rattle.spec_vectors.specs.pr_num.declared.value.Point.{Point}
 use Rattle.pr_head.specs.pr_labels.declared.pair.Pair.{Pair}
 use Rattle.pr_head.specs.pr_labels.Order.{labels_eq}
-use Rattle.pr_head.specs.pr_history.declared.entry.Entry.{Entry}
-use Rattle.pr_head.specs.pr_history.declared.append.Append.TheVariants.{Added, Same, OutOfOrder, Conflict}
-use Rattle.pr_head.specs.pr_history.Admission.{is_of, last_entry, admit, admit_after, IsLawful, IsLawfulAfter}
-use Rattle.pr_head.specs.pr_history.Lookback.{entries_until, is_after, is_until, spot_in, spots_within}
-use Rattle.pr_head.specs.Holds.{timed, samples_of}
+use Rattle.pr_head.specs.spec_history.declared.entry.Entry.{Entry}
+use Rattle.pr_head.specs.spec_history.declared.append.Append.TheVariants.{Added, Same, OutOfOrder, Conflict}
+use Rattle.pr_head.specs.spec_history.Admission.{is_of, last_entry, admit, admit_after}
+use Rattle.pr_head.specs.spec_history.private.Laws.{IsLawful, IsLawfulAfter, entries_until}
+use Rattle.pr_head.specs.spec_history.Lookback.{is_after, is_until, spot_in, spots_within}
+use Rattle.pr_head.specs.private.Holds.{timed, samples_of}
 use Rattle.pr_head.proofs.HistoryLawful.{of_entries}
 use Rattle.pr_head.proofs.Arrivals.{samples_more, samples_other, last_more, last_other, eq_from, apart_from}
 use Rattle.pr_head.proofs.Newest.{Rises, UpTo}
-use Rattle.pr_range.specs.Spots.{spots_of}
+use Rattle.pr_range.specs.private.Spots.{spots_of}
 use Rattle.pr_range.proofs.Timeline.{StrictlyRises, up_to_more, up_to_last, strict_last, rises_of_strict, until, between}
 
 lawful_last : (before rest : List Entry) (e : Entry) → IsLawfulAfter before (rest ++ e ∷ []) → IsLawfulAfter before rest × (admit (before ++ rest) e.labels e.time e.point ≡ Added)

@@ -1,10 +1,10 @@
 -- The last of a list, and each of its items with the next one.
 use Rattle.std.proofs.Common.{◌≡◌, ℕ, suc, ◌+◌, ◌-◌, ◌<◌, ◌≤◌, List, [], ◌∷◌, length, get_or, drop, slice_get, Some, None, refl, ap, ◌∙◌, arith}
 use Rattle.std.proofs.lemmas.List.{drop_more}
-use Rattle.pr_num.specs.declared.value.Num.{Num}
-use Rattle.pr_head.specs.pr_history.declared.spot.Spot.{Spot}
-use Rattle.pr_vectors.specs.Extrapolation.{last_two}
-use Rattle.pr_vectors.specs.Spots.{last_of, neighbours, numbers_of}
+use Rattle.spec_vectors.specs.pr_num.declared.value.Num.{Num}
+use Rattle.pr_head.specs.spec_history.declared.spot.Spot.{Spot}
+use Rattle.spec_vectors.specs.Extrapolation.{last_two}
+use Rattle.spec_vectors.specs.Spots.{last_of, neighbours, numbers_of}
 
 last_at : {X : Type 0} (y : X) (ys : List X) → slice_get (y ∷ ys) (length ys) ≡ Some (last_of y ys)
 last_at y [] = refl

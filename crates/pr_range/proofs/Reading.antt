@@ -4,20 +4,21 @@ use Rattle.std.specs.List.{position_or_len}
 use Rattle.std.proofs.lemmas.List.{drop-drop, length-drop}
 use Rattle.std.proofs.lemmas.Grind.{common_steps}
 use Rattle.std.proofs.lemmas.Int.{ints}
-use Rattle.pr_num.specs.declared.value.Point.{Point}
-use Rattle.pr_num.specs.declared.value.Point.TheVariants.{Value, Stale}
+use Rattle.spec_vectors.specs.pr_num.declared.value.Point.{Point}
+use Rattle.spec_vectors.specs.pr_num.declared.value.Point.TheVariants.{Value, Stale}
 use Rattle.pr_head.specs.pr_labels.declared.pair.Pair.{Pair}
-use Rattle.pr_head.specs.pr_history.declared.entry.Entry.{Entry}
-use Rattle.pr_head.specs.pr_history.Lookback.{entries_until, is_after, is_until, spots_within}
+use Rattle.pr_head.specs.spec_history.declared.entry.Entry.{Entry}
+use Rattle.pr_head.specs.spec_history.private.Laws.{entries_until}
+use Rattle.pr_head.specs.spec_history.Lookback.{is_after, is_until, spots_within}
 use Rattle.pr_head.specs.declared.timed.Timed.{Timed}
-use Rattle.pr_head.specs.Stored.{Stored, count_of, position_of}
-use Rattle.pr_head.specs.Holds.{samples_of}
+use Rattle.pr_head.specs.private.Stored.{Stored, count_of, position_of}
+use Rattle.pr_head.specs.private.Holds.{samples_of}
 use Rattle.pr_head.proofs.Simulation.{entry_at}
-use Rattle.pr_vectors.specs.declared.range.Ask.{Ask}
-use Rattle.pr_vectors.specs.Ranges.{ask_cost}
-use Rattle.pr_range.specs.Asks.{MayAsk, passed_for}
-use Rattle.pr_head.specs.pr_history.declared.spot.Spot.{Spot}
-use Rattle.pr_range.specs.Spots.{AreWithin, samples_between, spots_of}
+use Rattle.spec_vectors.specs.declared.range.Ask.{Ask}
+use Rattle.spec_vectors.specs.private.Laws.{ask_cost}
+use Rattle.pr_range.specs.private.Asks.{MayAsk, passed_for}
+use Rattle.pr_head.specs.spec_history.declared.spot.Spot.{Spot}
+use Rattle.pr_range.specs.private.Spots.{AreWithin, samples_between, spots_of}
 use Rattle.pr_range.proofs.Timeline.{StrictlyRises, until, between, between_is, place_behind, until_grows}
 use Rattle.pr_range.proofs.Lawful.{rising_samples, strict_samples, entries_until_is, spots_within_is}
 

@@ -1,18 +1,18 @@
 -- Values of a range have rising times.
 use Rattle.std.proofs.Common.{◌≡◌, ◌<◌, ◌≤◌, ℤ, pos, ◌<ℤ◌, Bool, true, false, Some, None, Result, Ok, List, [], ◌∷◌, length, refl, sym, subst, ◌∙◌, arith}
 use Rattle.std.proofs.lemmas.Int.{ints}
-use Rattle.pr_head.specs.pr_history.declared.spot.Spot.{Spot}
-use Rattle.pr_vectors.specs.Extrapolation.{last_two}
-use Rattle.pr_vectors.specs.Spots.{last_of, of_two}
-use Rattle.pr_num.specs.declared.value.Num.{Num}
-use Rattle.pr_num.specs.declared.value.TooWide.{TooWide}
-use Rattle.pr_vectors.specs.declared.range.Ask.{Ask}
-use Rattle.pr_folds.specs.pr_window.Folding.{folded}
-use Rattle.pr_folds.specs.declared.neighbours.Neighbours.{Neighbours}
-use Rattle.pr_folds.specs.Answers.{IsSpread}
-use Rattle.pr_folds.specs.Neighbours.{beside, neighbours_of, spot_alone}
-use Rattle.pr_folds.proofs.Summaries.{sequence_folded}
-use Rattle.pr_range.specs.Spots.{AreWithin}
+use Rattle.pr_head.specs.spec_history.declared.spot.Spot.{Spot}
+use Rattle.spec_vectors.specs.Extrapolation.{last_two}
+use Rattle.spec_vectors.specs.Spots.{last_of, of_two}
+use Rattle.spec_vectors.specs.pr_num.declared.value.Num.{Num}
+use Rattle.spec_vectors.specs.pr_num.declared.value.TooWide.{TooWide}
+use Rattle.spec_vectors.specs.declared.range.Ask.{Ask}
+use Rattle.pr_window.specs.private.Folding.{folded}
+use Rattle.pr_window.specs.declared.folds.neighbours.Neighbours.{Neighbours}
+use Rattle.pr_window.specs.private.Answers.{IsSpread}
+use Rattle.pr_window.specs.private.Neighbours.{beside, neighbours_of, spot_alone}
+use Rattle.pr_window.proofs.Summaries.{sequence_folded}
+use Rattle.pr_range.specs.private.Spots.{AreWithin}
 
 pub within_long : (from to : ℤ) (first : Spot) (rest : List Spot) → AreWithin from to (first ∷ rest) → from <ℤ to
 within_long from to first rest h = let low = h.0 in let high = h.1 in omega (arith, ints)

@@ -5,11 +5,11 @@ use Rattle.std.specs.Int.{w128}
 use Rattle.std.proofs.Math.Nat.{mul-add}
 use Rattle.std.proofs.lemmas.Int.{ints}
 use Rattle.std.proofs.lemmas.Grind.{common_steps}
-use Rattle.pr_num.specs.Arithmetic.{fitted, too_wide}
-use Rattle.pr_num.specs.declared.value.Num.TheVariants.{Finite}
-use Rattle.pr_head.specs.pr_history.declared.spot.Spot.{Spot}
-use Rattle.pr_vectors.specs.Regression.{count, is_slope_wide, sum_abs_xy, sum_abs_y, sum_x}
-use Rattle.pr_range.specs.Parted.{IsParted}
+use Rattle.spec_vectors.specs.pr_num.Arithmetic.{fitted, too_wide}
+use Rattle.spec_vectors.specs.pr_num.declared.value.Num.TheVariants.{Finite}
+use Rattle.pr_head.specs.spec_history.declared.spot.Spot.{Spot}
+use Rattle.spec_vectors.specs.Regression.{count, is_slope_wide, sum_abs_xy, sum_abs_y, sum_x}
+use Rattle.pr_range.specs.private.Parted.{IsParted}
 use Rattle.pr_range.specs.declared.lines.Parted.{Parted}
 
 le_true : (m n : ℕ) → m ≤ n → nat_le m n ≡ true

@@ -3,9 +3,9 @@
 use Rattle.std.proofs.Common.{◌≡◌, ℕ, zero, suc, ◌+◌, ◌*◌, ◌<◌, ◌≤◌, List, [], ◌∷◌, length, sym, ap, subst, ◌∙◌, arith}
 use Rattle.std.specs.List.{sum_by}
 use Rattle.std.proofs.Math.Nat.{mul-le-mul_left}
-use Rattle.pr_head.specs.pr_history.declared.spot.Spot.{Spot}
-use Rattle.pr_vectors.specs.Spots.{last_of}
-use Rattle.pr_vectors.specs.Regression.{count, sum_x, sum_xx, time_from}
+use Rattle.pr_head.specs.spec_history.declared.spot.Spot.{Spot}
+use Rattle.spec_vectors.specs.Spots.{last_of}
+use Rattle.spec_vectors.specs.Regression.{count, sum_x, sum_xx, time_from}
 use Rattle.pr_range.proofs.Sums.{itself, sum_cons}
 
 two_squares : (a b : ℕ) → 2 * (a * b) ≤ a * a + b * b

@@ -4,8 +4,8 @@ use Rattle.std.specs.List.{sum_by}
 use Rattle.std.proofs.lemmas.List.{take_more, map-append}
 use Rattle.std.proofs.lemmas.List.Sums.{sum_by-append, sum_by_more, sum_by-take-le}
 use Rattle.std.proofs.lemmas.Int.{ints}
-use Rattle.pr_head.specs.pr_history.declared.spot.Spot.{Spot}
-use Rattle.pr_vectors.specs.Regression.{sum_abs_xy, sum_abs_y, sum_of_units, sum_x, sum_xx, sum_xy, sum_y, time_from, units_from}
+use Rattle.pr_head.specs.spec_history.declared.spot.Spot.{Spot}
+use Rattle.spec_vectors.specs.Regression.{sum_abs_xy, sum_abs_y, sum_of_units, sum_x, sum_xx, sum_xy, sum_y, time_from, units_from}
 
 pub sum_cons : (f : Spot → ℕ) (x : Spot) (xs : List Spot) → sum_by f (x ∷ xs) ≡ f x + sum_by f xs
 sum_cons f x xs = omega (arith, sum_by-append f (x ∷ []) xs)

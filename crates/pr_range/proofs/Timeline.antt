@@ -2,7 +2,7 @@
 use Rattle.std.proofs.Common.{◌≡◌, ℕ, zero, suc, ℤ, pos, negsuc, ◌+◌, ◌-◌, ◌≤◌, ◌<◌, ◌≤ℤ◌, Bool, true, false, not, cond, ◌&&◌, List, [], ◌∷◌, ◌++◌, length, take, drop, filter, refl, sym, ap, ◌∙◌, arith}
 use Rattle.std.specs.List.{position_or_len}
 use Rattle.std.proofs.lemmas.Grind.{common_steps}
-use Rattle.pr_head.specs.pr_history.Lookback.{is_after, is_until}
+use Rattle.pr_head.specs.spec_history.Lookback.{is_after, is_until}
 use Rattle.pr_head.specs.declared.timed.Timed.{Timed}
 use Rattle.pr_head.proofs.Newest.{Rises, UpTo}
 

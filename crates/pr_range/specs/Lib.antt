@@ -1,9 +1,5 @@
-pub mod Answers
-pub mod Spots
-pub mod Asks
-pub mod Carried
-pub mod Parted
-pub mod Formulas
-pub use Rattle.pr_head.specs.pr_history as pr_history
-pub use Rattle.pr_vectors.specs as pr_vectors
+pub mod private
+pub use Rattle.pr_head.specs.spec_history as spec_history
+pub use Rattle.spec_vectors.specs as spec_vectors
+pub use Rattle.pr_window.specs as pr_window
 pub use Rattle.pr_head.specs as pr_head

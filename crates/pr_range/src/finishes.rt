@@ -1,23 +1,23 @@
 // What the summary of the values of a range answers.
 ghost use Rattle.std.specs.Prelude.{◌≡◌, ◌≢◌, ◌<◌, ◌≤◌, ◌^◌, true, List, length, Err, IfSome};
-ghost use Rattle.pr_num.specs.Total.{joined};
-ghost use Rattle.pr_head.specs.pr_history.declared.spot.Spot.{Spot};
-ghost use Rattle.pr_vectors.specs.declared.range.Ask.{Ask};
-ghost use Rattle.pr_vectors.specs.declared.range.RangeFn.TheVariants.{MaxOverTime, MinOverTime};
-ghost use Rattle.pr_vectors.specs.Ranges.{over, with_fault};
-ghost use Rattle.pr_folds.specs.pr_window.Folding.{folded};
-ghost use Rattle.pr_folds.specs.Answers.{is_of_neighbours, is_of_total};
-ghost use Rattle.pr_folds.specs.Extremes.{greater, lesser, value_alone};
-ghost use Rattle.pr_folds.specs.Neighbours.{beside, spot_alone, weight_of};
-ghost use Rattle.pr_folds.specs.Totals.{total_alone};
+ghost use Rattle.spec_vectors.specs.pr_num.Total.{joined};
+ghost use Rattle.pr_head.specs.spec_history.declared.spot.Spot.{Spot};
+ghost use Rattle.spec_vectors.specs.declared.range.Ask.{Ask};
+ghost use Rattle.spec_vectors.specs.declared.range.RangeFn.TheVariants.{MaxOverTime, MinOverTime};
+ghost use Rattle.spec_vectors.specs.Ranges.{over, with_fault};
+ghost use Rattle.pr_window.specs.private.Folding.{folded};
+ghost use Rattle.pr_window.specs.private.Answers.{is_of_neighbours, is_of_total};
+ghost use Rattle.pr_window.specs.private.Extremes.{greater, lesser, value_alone};
+ghost use Rattle.pr_window.specs.private.Neighbours.{beside, spot_alone, weight_of};
+ghost use Rattle.pr_window.specs.private.Totals.{total_alone};
 ghost use Rattle.pr_range.specs.declared.fault.RangeFault.TheVariants.{Memory};
-ghost use Rattle.pr_range.specs.Answers.{AnswersAsk};
-ghost use Rattle.pr_range.specs.Spots.{AreWithin};
+ghost use Rattle.pr_range.specs.private.Answers.{AnswersAsk};
+ghost use Rattle.pr_range.specs.private.Spots.{AreWithin};
 
 use crate::fault::RangeFault;
-use pr_folds::{Neighbours, from_neighbours, from_total};
-use pr_num::{Num, TooWide, Total};
-use pr_vectors::Ask;
+use pr_window::folds::{Neighbours, from_neighbours, from_total};
+use spec_vectors::Ask;
+use spec_vectors::num::{Num, TooWide, Total};
 
 /// The most values of a range.
 pub(crate) const LONGEST: usize = 1 << 20;

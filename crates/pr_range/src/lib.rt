@@ -18,11 +18,15 @@ pub mod history {
 }
 
 pub mod vectors_crate {
-    pub use pr_vectors::{Ask, RangeFn};
+    pub use spec_vectors::{Ask, RangeFn};
+}
+
+pub mod window_crate {
+    pub use pr_window::{Fold, Window, fold_items, folds};
 }
 
 pub mod head {
-    pub use pr_head::{Head, Timed};
+    pub use pr_head::{Head, Timed, intake, rows};
 }
 
 pub use fault::RangeFault;
@@ -30,6 +34,6 @@ pub use finishes::{answer_from_extreme, answer_from_neighbours, answer_from_tota
 pub use over::over_list;
 pub use plain::PlainRanges;
 pub use pr_head::history::Spot;
-pub use pr_vectors::{Ask, RangeFn};
 pub use ranges::Ranges;
+pub use spec_vectors::{Ask, RangeFn};
 pub use values::last_of;

@@ -1,17 +1,17 @@
 // The straight line through the values of a range, by least squares.
 ghost use Rattle.std.specs.Prelude.{◌≡◌, ◌≢◌, ◌+◌, ◌-◌, ◌*◌, ◌^◌, ◌<◌, ◌≤◌, ◌∷◌, true, false, ℤ, pos, ◌+ℤ◌, ◌-ℤ◌, ◌*ℤ◌, IfSome, IfNone, length, unsigned_abs};
 ghost use Rattle.std.specs.List.{list_any};
-ghost use Rattle.pr_num.specs.Arithmetic.{fitted};
-ghost use Rattle.pr_num.specs.Half.{half};
-ghost use Rattle.pr_vectors.specs.Regression.{count, deriv_of, is_slope_wide, line_after, line_at, line_in, ms_ahead, predicted, slope_bottom, slope_of, slope_top, sum_abs_xy, sum_abs_y, sum_x, sum_xx, sum_xy, sum_y, time_from, times_ahead, units_from};
-ghost use Rattle.pr_vectors.specs.Histogram.{is_special};
-ghost use Rattle.pr_vectors.specs.Spots.{has_special, last_of, numbers_of, units_in};
-ghost use Rattle.pr_range.specs.Parted.{IsParted};
+ghost use Rattle.spec_vectors.specs.pr_num.Arithmetic.{fitted};
+ghost use Rattle.spec_vectors.specs.pr_num.Half.{half};
+ghost use Rattle.spec_vectors.specs.Regression.{count, deriv_of, is_slope_wide, line_after, line_at, line_in, ms_ahead, predicted, slope_bottom, slope_of, slope_top, sum_abs_xy, sum_abs_y, sum_x, sum_xx, sum_xy, sum_y, time_from, times_ahead, units_from};
+ghost use Rattle.spec_vectors.specs.Histogram.{is_special};
+ghost use Rattle.spec_vectors.specs.Spots.{has_special, last_of, numbers_of, units_in};
+ghost use Rattle.pr_range.specs.private.Parted.{IsParted};
 
-use pr_folds::{is_special, units_of};
 use pr_head::history::Spot;
-use pr_num::{Num, TooWide, half, half_product};
-use pr_vectors::Ask;
+use pr_window::folds::{is_special, units_of};
+use spec_vectors::Ask;
+use spec_vectors::num::{Num, TooWide, half, half_product};
 
 fn is_any_special(spots: &[Spot]) -> bool
     ensures { result ≡ list_any (λ s. is_special s.value) spots.now }
@@ -248,7 +248,7 @@ fn slope(first: &Spot, rest: &[Spot]) -> Result<Num, TooWide>
 }
 
 /// The slope of the values in a second.
-#[tactic(auto, unfolding(pr_vectors::specs::Regression::deriv_of))]
+#[tactic(auto, unfolding(spec_vectors::specs::Regression::deriv_of))]
 pub(crate) fn deriv(first: &Spot, rest: &[Spot]) -> Result<Num, TooWide>
     requires few { length rest.now < 2 ^ 20 }
     requires rising { first.now.time < (last_of first.now rest.now).time }
@@ -360,7 +360,7 @@ fn ms_ahead(seconds: i128) -> i128
 }
 
 /// Where the straight line is so many seconds after the end of the range.
-#[tactic(auto, unfolding(pr_vectors::specs::Regression::predicted))]
+#[tactic(auto, unfolding(spec_vectors::specs::Regression::predicted))]
 pub(crate) fn predicted(
     seconds: &Num,
     first: &Spot,

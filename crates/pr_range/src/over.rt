@@ -1,29 +1,29 @@
 // Functions of the values of a range.
 ghost use Rattle.std.specs.Prelude.{◌≡◌, ◌≢◌, ◌<◌, ◌≤◌, ◌^◌, ◌∷◌, true, Err, IsTrue, IfOk, length};
-ghost use Rattle.pr_vectors.specs.declared.range.RangeFn.TheVariants.{Changes, Delta, Increase, MaxOverTime, MinOverTime, QuantileOverTime, Rate, Resets};
-ghost use Rattle.pr_vectors.specs.Extrapolation.{last_two};
-ghost use Rattle.pr_vectors.specs.Ranges.{argument, function_of, over, over_some, with_fault};
-ghost use Rattle.pr_vectors.specs.Spots.{last_of, of_two};
-ghost use Rattle.pr_folds.specs.Answers.{is_of_neighbours, is_of_total};
+ghost use Rattle.spec_vectors.specs.declared.range.RangeFn.TheVariants.{Changes, Delta, Increase, MaxOverTime, MinOverTime, QuantileOverTime, Rate, Resets};
+ghost use Rattle.spec_vectors.specs.Extrapolation.{last_two};
+ghost use Rattle.spec_vectors.specs.Ranges.{argument, function_of, over, over_some, with_fault};
+ghost use Rattle.spec_vectors.specs.Spots.{last_of, of_two};
+ghost use Rattle.pr_window.specs.private.Answers.{is_of_neighbours, is_of_total};
 ghost use Rattle.pr_range.specs.declared.fault.RangeFault.TheVariants.{Memory};
-ghost use Rattle.pr_range.specs.Answers.{AnswersAsk};
-ghost use Rattle.pr_range.specs.Asks.{HasArgument};
-ghost use Rattle.pr_range.specs.Formulas.{formula_of, is_formula, is_of_items};
-ghost use Rattle.pr_range.specs.Spots.{AreWithin};
+ghost use Rattle.pr_range.specs.private.Answers.{AnswersAsk};
+ghost use Rattle.pr_range.specs.private.Asks.{HasArgument};
+ghost use Rattle.pr_range.specs.private.Formulas.{formula_of, is_formula, is_of_items};
+ghost use Rattle.pr_range.specs.private.Spots.{AreWithin};
 
 use crate::fault::RangeFault;
 use crate::finishes::{LONGEST, answer_from_extreme, answer_from_neighbours, answer_from_total};
 use crate::lines::{deriv, predicted};
 use crate::steps::{idelta, irate, last_two};
 use crate::values::{last_of, quantile};
-use pr_folds::window::fold_items;
-use pr_folds::{
+use pr_head::history::Spot;
+use pr_window::fold_items;
+use pr_window::folds::{
     Greatest, Least, Neighbours, Sequence, Totals, beside, greater, joined, lesser, some_value,
     spot_alone, total_alone, value_alone,
 };
-use pr_head::history::Spot;
-use pr_num::{Num, TooWide, Total};
-use pr_vectors::{Ask, RangeFn};
+use spec_vectors::num::{Num, TooWide, Total};
+use spec_vectors::{Ask, RangeFn};
 use std::alloc::Global;
 
 // A function of the total of the values.
@@ -137,7 +137,7 @@ fn over_two(func: RangeFn, first: &Spot, rest: &[Spot], ask: &Ask) -> Result<Opt
 }
 
 // A function of values of which there is one at least, that no fold tells, but for the quantile.
-#[tactic(auto, unfolding(pr_vectors::specs::Ranges::function_of))]
+#[tactic(auto, unfolding(spec_vectors::specs::Ranges::function_of))]
 fn function_of(
     func: RangeFn,
     first: &Spot,
@@ -160,7 +160,7 @@ fn function_of(
 }
 
 // The answer of such a function over values of which there is one at least.
-#[tactic(auto, unfolding(pr_vectors::specs::Ranges::function_of))]
+#[tactic(auto, unfolding(spec_vectors::specs::Ranges::function_of))]
 fn over_some(
     alloc: Global,
     first: &Spot,
@@ -185,7 +185,7 @@ fn over_some(
 }
 
 // A function that no fold tells.
-#[tactic(auto, unfolding(pr_vectors::specs::Ranges::over))]
+#[tactic(auto, unfolding(spec_vectors::specs::Ranges::over))]
 fn over_items(alloc: Global, spots: &[Spot], ask: &Ask) -> Result<Option<Num>, RangeFault>
     requires { is_of_items ask.now.func ≡ true }
     ensures answer { AreWithin ask.now.from ask.now.to spots.now → AnswersAsk (over ask.now spots.now) result }

@@ -1,17 +1,17 @@
 // Ranges that are read anew.
 ghost use Rattle.std.specs.Prelude.{◌≡◌, ◌≢◌, ◌<◌, ◌≤ℤ◌, ◌++◌, ◌∷◌, [], ℕ, List, Option, None, Err, false, length};
 ghost use Rattle.pr_head.specs.pr_labels.declared.pair.Pair.{Pair};
-ghost use Rattle.pr_head.specs.pr_history.declared.entry.Entry.{Entry};
-ghost use Rattle.pr_range.specs.Asks.{HasArgument, IsAskAnswer, MayAsk};
+ghost use Rattle.pr_head.specs.spec_history.declared.entry.Entry.{Entry};
+ghost use Rattle.pr_range.specs.private.Asks.{HasArgument, IsAskAnswer, MayAsk};
 
 use crate::fault::RangeFault;
 use crate::over::over_list;
 use crate::ranges::Ranges;
 use crate::read::push_between;
-use pr_folds::words_crate::Steps;
 use pr_head::Head;
-use pr_num::Num;
-use pr_vectors::Ask;
+use pr_head::words_crate::Steps;
+use spec_vectors::Ask;
+use spec_vectors::num::Num;
 use std::alloc::Global;
 use std::sync::ledger::Ledger;
 

@@ -1,17 +1,16 @@
 ghost use Rattle.std.specs.Prelude.{◌≡◌, ◌≢◌, ◌<◌, ◌≤ℤ◌, ◌++◌, ◌∷◌, [], Bool, ℕ, List, Option, Err, length};
 ghost use Rattle.pr_head.specs.pr_labels.declared.pair.Pair.{Pair};
-ghost use Rattle.pr_head.specs.pr_history.declared.entry.Entry.{Entry};
-ghost use Rattle.pr_head.specs.pr_history.Admission.{IsLawful};
-ghost use Rattle.pr_head.specs.pr_history.Lookback.{entries_until};
+ghost use Rattle.pr_head.specs.spec_history.declared.entry.Entry.{Entry};
+ghost use Rattle.pr_head.specs.spec_history.private.Laws.{IsLawful, entries_until};
 ghost use Rattle.pr_range.specs.declared.fault.RangeFault.TheVariants.{Memory};
-ghost use Rattle.pr_range.specs.Asks.{AreMoved, HasArgument, IsAskAnswer, IsReadyToAsk, LastAsks, MayAsk, Passed};
-ghost use Rattle.pr_range.specs.Carried.{IsCarried, IsFresh, IsOnce};
+ghost use Rattle.pr_range.specs.private.Asks.{AreMoved, HasArgument, IsAskAnswer, IsReadyToAsk, LastAsks, MayAsk, Passed};
+ghost use Rattle.pr_range.specs.private.Carried.{IsCarried, IsFresh, IsOnce};
 
 use crate::fault::RangeFault;
-use pr_folds::words_crate::Steps;
 use pr_head::Head;
-use pr_num::Num;
-use pr_vectors::Ask;
+use pr_head::words_crate::Steps;
+use spec_vectors::Ask;
+use spec_vectors::num::Num;
 use std::alloc::Global;
 use std::sync::ledger::Ledger;
 

@@ -1,13 +1,13 @@
 // Values read from a head.
 ghost use Rattle.std.specs.Prelude.{◌≡◌, ◌+◌, ◌-◌, ◌≤◌, ◌<◌, ◌++◌, ◌∷◌, [], ℕ, List, OnOk, slice_get, Some};
 ghost use Rattle.pr_head.specs.pr_labels.declared.pair.Pair.{Pair};
-ghost use Rattle.pr_head.specs.Stored.{Stored, count_of};
-ghost use Rattle.pr_range.specs.Spots.{samples_between, spots_of};
+ghost use Rattle.pr_head.specs.private.Stored.{Stored, count_of};
+ghost use Rattle.pr_range.specs.private.Spots.{samples_between, spots_of};
 
-use pr_folds::words_crate::Steps;
 use pr_head::history::Spot;
+use pr_head::words_crate::Steps;
 use pr_head::{Head, Timed};
-use pr_num::Num;
+use spec_vectors::num::Num;
 use std::alloc::AllocError;
 use std::sync::ledger::Ledger;
 

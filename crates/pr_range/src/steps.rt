@@ -1,12 +1,12 @@
 // The last two values of a range.
 ghost use Rattle.std.specs.Prelude.{◌≡◌, ◌+◌, ◌*◌, ◌^◌, ◌<◌, ◌≤◌, ◌∷◌, [], pos, if◌then◌else◌, length, unsigned_abs};
-ghost use Rattle.pr_num.specs.Units.{IsNano};
-ghost use Rattle.pr_vectors.specs.Extrapolation.{idelta_of, idelta_step, irate_of, irate_step, last_two, step_counter, step_gauge};
-ghost use Rattle.pr_vectors.specs.Spots.{has_special};
+ghost use Rattle.spec_vectors.specs.pr_num.Units.{IsNano};
+ghost use Rattle.spec_vectors.specs.Extrapolation.{idelta_of, idelta_step, irate_of, irate_step, last_two, step_counter, step_gauge};
+ghost use Rattle.spec_vectors.specs.Spots.{has_special};
 
-use pr_folds::{falls, is_special, units_of};
 use pr_head::history::Spot;
-use pr_num::{Num, TooWide, muldiv_units};
+use pr_window::folds::{falls, is_special, units_of};
+use spec_vectors::num::{Num, TooWide, muldiv_units};
 
 /// The value before the last one, and the last; of one alone, that one twice.
 pub(crate) fn last_two<'a>(first: &'a Spot, rest: &'a [Spot]) -> (&'a Spot, &'a Spot)
@@ -68,7 +68,7 @@ fn irate_step(before: &Spot, last: &Spot) -> Result<Num, TooWide>
 }
 
 /// What a gauge gained from the value before the last one on.
-#[tactic(auto, unfolding(pr_vectors::specs::Extrapolation::idelta_of))]
+#[tactic(auto, unfolding(spec_vectors::specs::Extrapolation::idelta_of))]
 pub(crate) fn idelta(first: &Spot, rest: &[Spot]) -> Result<Num, TooWide>
     ensures { result ≡ idelta_of first.now rest.now }
 {
@@ -77,7 +77,7 @@ pub(crate) fn idelta(first: &Spot, rest: &[Spot]) -> Result<Num, TooWide>
 }
 
 /// What a counter gained from the value before the last one on, in a second.
-#[tactic(auto, unfolding(pr_vectors::specs::Extrapolation::irate_of))]
+#[tactic(auto, unfolding(spec_vectors::specs::Extrapolation::irate_of))]
 pub(crate) fn irate(first: &Spot, rest: &[Spot]) -> Result<Num, TooWide>
     requires { (last_two first.now rest.now).0.time < (last_two first.now rest.now).1.time }
     ensures { result ≡ irate_of first.now rest.now }

@@ -1,11 +1,11 @@
 // Functions of the values of a range, of which there is one at least.
 ghost use Rattle.std.specs.Prelude.{◌≡◌, ◌<◌, ◌^◌, ◌∷◌, length, IfOk, IsSorted};
-ghost use Rattle.pr_num.specs.Order.{order_of};
-ghost use Rattle.pr_vectors.specs.Aggregation.{quantile_of_values, in_value_order};
-ghost use Rattle.pr_vectors.specs.Spots.{last_of, numbers_of};
+ghost use Rattle.spec_vectors.specs.pr_num.Order.{order_of};
+ghost use Rattle.spec_vectors.specs.Aggregation.{quantile_of_values, in_value_order};
+ghost use Rattle.spec_vectors.specs.Spots.{last_of, numbers_of};
 
 use pr_head::history::Spot;
-use pr_num::Num;
+use spec_vectors::num::Num;
 use std::alloc::{AllocError, Global};
 
 /// The last of a value and those behind it.
@@ -54,5 +54,5 @@ pub(crate) fn quantile(
     ensures { IfOk result (λ v. v ≡ quantile_of_values fraction (numbers_of (first.now ∷ rest.now))) }
 {
     let sorted = sorted(alloc, first, rest)?;
-    Ok(pr_num::quantile(fraction, &sorted))
+    Ok(spec_vectors::num::quantile(fraction, &sorted))
 }

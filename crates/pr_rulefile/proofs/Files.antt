@@ -1,10 +1,10 @@
 -- What is told of a file: its groups, or all that is wrong.
 use Rattle.std.proofs.Common.{◌≡◌, ◌<◌, ◌+◌, ℕ, length, arith, List, [], ◌∷◌, ◌++◌, Some, map, refl, subst}
 use Rattle.std.proofs.lemmas.Grind.{common_steps}
-use Rattle.pr_fields.specs.declared.problem.Problem.{Problem}
-use Rattle.pr_fields.specs.Order.{in_order}
-use Rattle.pr_rulefile.specs.declared.rules.GroupDef.{GroupDef}
-use Rattle.pr_rulefile.specs.Groups.{Group, group_of_def, rule_count}
+use Rattle.pr_rulefile.specs.declared.fields.problem.Problem.{Problem}
+use Rattle.pr_rulefile.specs.Order.{in_order}
+use Rattle.spec_rules.specs.declared.definitions.GroupDef.{GroupDef}
+use Rattle.spec_rules.specs.Definitions.{Group, group_of_def, rule_count}
 use Rattle.pr_rulefile.specs.File.{RuleReading, by_problems, gives_file, gives_problems, groups_given, rules_given, these_groups, so_many_rules}
 
 -- where something is wrong, all that is wrong is told

@@ -1,7 +1,7 @@
 -- One more group.
 use Rattle.std.proofs.Common.{◌≡◌, ℕ, Bool, List, ◌∷◌, ◌++◌, append_assoc, subst}
 use Rattle.pr_yaml.specs.Tree.{Tree}
-use Rattle.pr_fields.specs.declared.problem.Problem.{Problem}
+use Rattle.pr_rulefile.specs.declared.fields.problem.Problem.{Problem}
 use Rattle.pr_rulefile.specs.Groups.{and_name, name_of, group_problems, groups_problems}
 
 -- what was found and what is in the groups that are left stays all, where the first one of them is

@@ -5,4 +5,11 @@ pub mod Whole
 pub mod SoundRules
 pub mod SoundGroups
 pub mod SomeProblems
-pub use Rattle.pr_fields.proofs.KindsPlainTexts
+pub mod FieldsTrees
+pub mod Spans
+pub mod Placed
+pub mod Orders
+pub mod NoProblems
+pub mod OneField
+pub mod LabelPairs
+pub mod Forms

@@ -1,10 +1,10 @@
 -- A text that is no rule file has a problem that can be told.
 use Rattle.std.proofs.Common.{◌≡◌, ◌≢◌, ℕ, Bool, true, false, cond, List, [], ◌∷◌, refl, subst}
-use Rattle.pr_fields.specs.declared.problem.Problem.{Problem}
-use Rattle.pr_fields.specs.Order.{in_order, is_told_before, ordered, inserted}
+use Rattle.pr_rulefile.specs.declared.fields.problem.Problem.{Problem}
+use Rattle.pr_rulefile.specs.Order.{in_order, is_told_before, ordered, inserted}
 use Rattle.pr_yaml.specs.Read.{Reading, gives_tree, gives_fault, read_of}
 use Rattle.pr_rulefile.specs.File.{RuleReading, by_problems, by_reading, file_groups, file_problems, gives_file, gives_problems, rule_file_of}
-use Rattle.pr_rulefile.specs.Groups.{Group}
+use Rattle.spec_rules.specs.Definitions.{Group}
 
 abbrev HasOne : List Problem → Type 0
 HasOne [] = ⊥

@@ -7,33 +7,34 @@ use Rattle.std.specs.Str.{bytes_eq}
 use Rattle.std.specs.Cmp.Lexicographic.{bytes_decides}
 use Rattle.std.proofs.lemmas.Bool.{cases_Bool, cond-false, leb-true}
 use Rattle.std.proofs.lemmas.List.Elements.{All-from_recursion}
-use Rattle.pr_labels.specs.pr_words.Decimals.{plain_decimal}
-use Rattle.pr_labels.proofs.WordsDecimals.{printed_of_read}
+use Rattle.pr_words.specs.Decimals.{plain_decimal}
+use Rattle.pr_words.proofs.Decimals.{printed_of_read}
 use Rattle.pr_ast.specs.pr_time.SpanAnswer.{span_of}
 use Rattle.pr_yaml.specs.Tree.{Tree, text_node, list_node, map_node, EntryTree, trees_in, entries_in, is_absent}
 use Rattle.pr_yaml.specs.Read.{Reading, gives_tree as reads_tree, gives_fault as reads_fault, read_of}
-use Rattle.pr_yaml.specs.Distinct.{has_distinct_keys}
+use Rattle.pr_yaml.specs.private.Distinct.{has_distinct_keys}
 use Rattle.pr_yaml.proofs.DistinctKeys.{distinct_keys}
 use Rattle.pr_yaml.proofs.ReadLaws.{tree_both}
 use Rattle.pr_ast.specs.Tree.{Tree as Expression}
-use Rattle.pr_fields.specs.declared.problem.Problem.{Problem}
-use Rattle.pr_fields.specs.declared.problem.ProblemKind.TheVariants.{UnknownField, DuplicateGroup}
-use Rattle.pr_rulefile.specs.declared.fields.GroupField.{GroupField}
-use Rattle.pr_rulefile.specs.declared.fields.GroupField.TheVariants.{Name, Interval, Limit, Labels, Rules}
-use Rattle.pr_fields.specs.Nodes.{line_of, text_of, items_of, items_in, fields_of, field, written, text_or_empty, items_under, fields_under}
-use Rattle.pr_fields.specs.Problems.{problem, by_text, by_items, by_fields, unless_absent}
-use Rattle.pr_fields.specs.Scalars.{any_text, if_short, short_span, limit_of, span_under, limit_under}
-use Rattle.pr_fields.specs.Labels.{labels_problems}
+use Rattle.pr_rulefile.specs.declared.fields.problem.Problem.{Problem}
+use Rattle.pr_rulefile.specs.declared.fields.problem.ProblemKind.TheVariants.{UnknownField, DuplicateGroup}
+use Rattle.pr_rulefile.specs.declared.keys.GroupField.{GroupField}
+use Rattle.pr_rulefile.specs.declared.keys.GroupField.TheVariants.{Name, Interval, Limit, Labels, Rules}
+use Rattle.pr_rulefile.specs.Nodes.{line_of, text_of, items_of, items_in, fields_of, field, written, text_or_empty, items_under, fields_under}
+use Rattle.pr_rulefile.specs.Problems.{problem, by_text, by_items, by_fields, unless_absent}
+use Rattle.pr_rulefile.specs.Scalars.{any_text, if_short, short_span, limit_of, span_under, limit_under}
+use Rattle.pr_rulefile.specs.Labels.{labels_problems}
 use Rattle.pr_rulefile.specs.Fields.{group_field}
-use Rattle.pr_fields.specs.Expressions.{expression_under, tree_found}
-use Rattle.pr_rulefile.specs.Rules.{naming_by, naming_of, is_alert, rule_problems, rule_in_problems, Rule, rule_with, rule_in, rule_by, rule_of}
-use Rattle.pr_rulefile.specs.Groups.{name_in, group_name, no_name, and_name, by_name, group_name_problems, is_alert_rule, has_alerts, group_value_problems, by_group_field, group_field_problems, group_in_problems, group_problems, name_of, groups_problems, Group, rules_by, rules_under, group_in, group_by, group_of}
+use Rattle.pr_rulefile.specs.Expressions.{expression_under, tree_found}
+use Rattle.pr_rulefile.specs.Rules.{naming_by, naming_of, is_alert, rule_problems, rule_in_problems, rule_with, rule_in, rule_by, rule_of}
+use Rattle.spec_rules.specs.Definitions.{Rule, Group}
+use Rattle.pr_rulefile.specs.Groups.{name_in, group_name, no_name, and_name, by_name, group_name_problems, is_alert_rule, has_alerts, group_value_problems, by_group_field, group_field_problems, group_in_problems, group_problems, name_of, groups_problems, rules_by, rules_under, group_in, group_by, group_of}
 use Rattle.pr_rulefile.specs.File.{groups_value_problems, file_field_problems, file_problems, groups_under, file_groups, gives_file, by_problems, by_reading, rule_file_of}
-use Rattle.pr_rulefile.specs.Sound.{HoldsOfGroups, HoldsOfRules}
-use Rattle.pr_fields.proofs.Trees.{no_items}
-use Rattle.pr_fields.proofs.OneField.{all_both, OneField, fields_once, items_distinct, values_distinct, by_one}
-use Rattle.pr_fields.proofs.NoProblems.{left, right, none, or_parts, field_stands, written_stands}
-use Rattle.pr_fields.proofs.LabelPairs.{IsFine, fine_labels}
+use Rattle.pr_rulefile.specs.private.Sound.{HoldsOfGroups, HoldsOfRules}
+use Rattle.pr_rulefile.proofs.FieldsTrees.{no_items}
+use Rattle.pr_rulefile.proofs.OneField.{all_both, OneField, fields_once, items_distinct, values_distinct, by_one}
+use Rattle.pr_rulefile.proofs.NoProblems.{left, right, none, or_parts, field_stands, written_stands}
+use Rattle.pr_rulefile.proofs.LabelPairs.{IsFine, fine_labels}
 use Rattle.pr_rulefile.proofs.SoundRules.{IsSound, sound_rule, text_there}
 
 -- ---- rules

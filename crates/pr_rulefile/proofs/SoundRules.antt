@@ -7,24 +7,26 @@ use Rattle.pr_labels.specs.Names.{is_metric_name}
 use Rattle.pr_ast.specs.pr_time.SpanAnswer.{span_of}
 use Rattle.pr_yaml.specs.Tree.{Tree, EntryTree, is_absent}
 use Rattle.pr_ast.specs.Tree.{Tree as Expression}
-use Rattle.pr_fields.specs.pr_parse.Parsed.{Parsed, gives_tree, gives_lex_fault, gives_fault, parsed}
-use Rattle.pr_fields.specs.pr_types.declared.kind.ValueType.{ValueType}
-use Rattle.pr_fields.specs.pr_types.declared.kind.TypeFault.{TypeFault}
-use Rattle.pr_fields.specs.pr_types.Typed.{checked}
-use Rattle.pr_rulefile.specs.declared.fields.RuleField.{RuleField}
-use Rattle.pr_rulefile.specs.declared.fields.RuleField.TheVariants as kind
-use Rattle.pr_rulefile.specs.declared.fields.Naming.{Naming}
-use Rattle.pr_rulefile.specs.declared.fields.Naming.TheVariants.{Neither, Record, Alert, Both}
-use Rattle.pr_fields.specs.Nodes.{line_of, text_of, field, fields_of, fields_in, written, is_empty_text, text_or_empty, fields_under}
-use Rattle.pr_fields.specs.Problems.{by_text, by_fields, unless_absent}
-use Rattle.pr_fields.specs.Scalars.{any_text, if_short, short_span, span_under}
-use Rattle.pr_fields.specs.Labels.{labels_problems, put_labels, pairs_of, HaveFreeNames, AreTemplates}
+use Rattle.pr_parse.specs.Parsed.{Parsed, gives_tree, gives_lex_fault, gives_fault, parsed}
+use Rattle.pr_parse.specs.pr_types.declared.kind.ValueType.{ValueType}
+use Rattle.pr_parse.specs.pr_types.declared.kind.TypeFault.{TypeFault}
+use Rattle.pr_parse.specs.pr_types.Typed.{checked}
+use Rattle.pr_rulefile.specs.declared.keys.RuleField.{RuleField}
+use Rattle.pr_rulefile.specs.declared.keys.RuleField.TheVariants as kind
+use Rattle.pr_rulefile.specs.declared.keys.Naming.{Naming}
+use Rattle.pr_rulefile.specs.declared.keys.Naming.TheVariants.{Neither, Record, Alert, Both}
+use Rattle.pr_rulefile.specs.Nodes.{line_of, text_of, field, fields_of, fields_in, written, is_empty_text, text_or_empty, fields_under}
+use Rattle.pr_rulefile.specs.Problems.{by_text, by_fields, unless_absent}
+use Rattle.pr_rulefile.specs.Scalars.{any_text, if_short, short_span, span_under}
+use Rattle.pr_rulefile.specs.Labels.{labels_problems, put_labels, pairs_of, HaveFreeNames}
+use Rattle.spec_rules.specs.Definitions.{AreTemplates, Rule, name_key}
 use Rattle.pr_rulefile.specs.Fields.{rule_field}
-use Rattle.pr_fields.specs.Expressions.{typed_tree, parsed_tree, typed_expression, on_line, by_written, expression_under, expression_problems, tree_found}
-use Rattle.pr_rulefile.specs.Rules.{naming_by, naming_of, is_alert, naming_problems, recorded_problems, rule_value_problems, by_rule_field, rule_field_problems, rule_in_problems, rule_problems, Rule, name_key, rule_labels, rule_notes, rule_with}
-use Rattle.pr_rulefile.specs.Sound.{IsNamed, IsTyped}
-use Rattle.pr_fields.proofs.NoProblems.{left, right, none, unless, field_stands, written_stands}
-use Rattle.pr_fields.proofs.LabelPairs.{IsFine, fine_labels, fine_fewer, AreKept, kept_put, kept_none, free_names, are_templates}
+use Rattle.pr_parse.specs.Expressions.{expression_by, expression_of, typed_tree}
+use Rattle.pr_rulefile.specs.Expressions.{expression_answer, typed_expression, on_line, by_written, expression_under, expression_problems, tree_found}
+use Rattle.pr_rulefile.specs.Rules.{naming_by, naming_of, is_alert, naming_problems, recorded_problems, rule_value_problems, by_rule_field, rule_field_problems, rule_in_problems, rule_problems, rule_labels, rule_notes, rule_with}
+use Rattle.pr_rulefile.specs.private.Sound.{IsNamed, IsTyped}
+use Rattle.pr_rulefile.proofs.NoProblems.{left, right, none, unless, field_stands, written_stands}
+use Rattle.pr_rulefile.proofs.LabelPairs.{IsFine, fine_labels, fine_fewer, AreKept, kept_put, kept_none, free_names, are_templates}
 
 pub record IsSound (r : Rule) : Type 0 where
   pub named : IsNamed r
@@ -90,15 +92,15 @@ alerting es n all = by (written (codes "alert") es) refl (by_second (is_some (wr
 
 -- the expression
 typed_text : (text : List ℕ) (line : ℕ) (t : Expression) → tree_found (on_line line (typed_expression text)) ≡ Some t → IsTyped t
-unfolding typed_expression
+unfolding typed_expression expression_of
 typed_text text line t h = by (parsed text) refl h where
-  in_tree : (u : Expression) (r : Result ValueType TypeFault) → parsed text ≡ gives_tree u → checked u ≡ r → tree_found (on_line line (typed_tree u r)) ≡ Some t → IsTyped t
+  in_tree : (u : Expression) (r : Result ValueType TypeFault) → parsed text ≡ gives_tree u → checked u ≡ r → tree_found (on_line line (expression_answer (typed_tree u r))) ≡ Some t → IsTyped t
   in_tree u (Ok type) p c h =
       let same : u ≡ t = cc in
       (text, type, p ∙ ap gives_tree same, ap checked (sym same) ∙ c)
   in_tree u (Err f) p c h = cc
 
-  by : (p : Parsed) → parsed text ≡ p → tree_found (on_line line (parsed_tree p)) ≡ Some t → IsTyped t
+  by : (p : Parsed) → parsed text ≡ p → tree_found (on_line line (expression_answer (expression_by p))) ≡ Some t → IsTyped t
   by (gives_tree u) p h = in_tree u (checked u) p refl h
   by (gives_lex_fault at kind) p h = cc
   by (gives_fault at kind) p h = cc

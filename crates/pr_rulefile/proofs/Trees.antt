@@ -2,10 +2,10 @@
 use Rattle.std.proofs.Common.{◌≡◌, true, Some, List, [], refl, ap}
 use Rattle.std.specs.List.{filter_map}
 use Rattle.pr_yaml.specs.Tree.{Tree, EntryTree, is_absent}
-use Rattle.pr_fields.specs.Nodes.{items_in}
-use Rattle.pr_fields.proofs.Trees.{no_items}
-use Rattle.pr_rulefile.specs.declared.fields.GroupField.{GroupField}
-use Rattle.pr_rulefile.specs.declared.fields.GroupField.TheVariants.{Name, Interval, Limit, Labels, Rules}
+use Rattle.pr_rulefile.specs.Nodes.{items_in}
+use Rattle.pr_rulefile.proofs.FieldsTrees.{no_items}
+use Rattle.pr_rulefile.specs.declared.keys.GroupField.{GroupField}
+use Rattle.pr_rulefile.specs.declared.keys.GroupField.TheVariants.{Name, Interval, Limit, Labels, Rules}
 use Rattle.pr_rulefile.specs.Rules.{rule_of}
 use Rattle.pr_rulefile.specs.Groups.{rules_by, group_of}
 

@@ -5,10 +5,10 @@ use Rattle.std.specs.Option.{option_map}
 use Rattle.std.specs.List.{flat_map}
 use Rattle.pr_ast.specs.Tree.{Tree as Expression}
 use Rattle.pr_yaml.specs.Tree.{Tree, EntryTree}
-use Rattle.pr_fields.specs.declared.problem.Problem.{Problem}
-use Rattle.pr_fields.specs.Nodes.{line_of, fields_of, written}
-use Rattle.pr_fields.specs.Problems.{by_fields}
-use Rattle.pr_fields.specs.Expressions.{expression_under, expression_problems, tree_found}
+use Rattle.pr_rulefile.specs.declared.fields.problem.Problem.{Problem}
+use Rattle.pr_rulefile.specs.Nodes.{line_of, fields_of, written}
+use Rattle.pr_rulefile.specs.Problems.{by_fields}
+use Rattle.pr_rulefile.specs.Expressions.{expression_under, expression_problems, tree_found}
 use Rattle.pr_rulefile.specs.Rules.{naming_of, naming_problems, rule_field_problems, rule_in_problems, rule_problems, rule_in, rule_by, rule_of, rule_with}
 use Rattle.pr_rulefile.specs.Groups.{group_in_problems, group_problems, group_by, group_of}
 

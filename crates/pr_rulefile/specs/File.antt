@@ -4,15 +4,16 @@ use Rattle.std.specs.List.{flat_map, filter_map}
 use Rattle.std.specs.Str.{bytes_eq}
 use Rattle.pr_yaml.specs.Tree.{Tree, EntryTree}
 use Rattle.pr_yaml.specs.Read.{Reading, gives_tree, gives_fault, read_of}
-use Rattle.pr_fields.specs.declared.problem.Problem.{Problem}
-use Rattle.pr_fields.specs.declared.problem.ProblemKind.TheVariants.{Yaml, UnknownField}
-use Rattle.pr_fields.specs.Nodes.{line_of, items_of, items_in, fields_of, fields_in}
-use Rattle.pr_fields.specs.Problems.{problem, by_items, by_fields, unless_absent}
-use Rattle.pr_fields.specs.Order.{in_order}
+use Rattle.pr_rulefile.specs.declared.fields.problem.Problem.{Problem}
+use Rattle.pr_rulefile.specs.declared.fields.problem.ProblemKind.TheVariants.{Yaml, UnknownField}
+use Rattle.pr_rulefile.specs.Nodes.{line_of, items_of, items_in, fields_of, fields_in}
+use Rattle.pr_rulefile.specs.Problems.{problem, by_items, by_fields, unless_absent}
+use Rattle.pr_rulefile.specs.Order.{in_order}
 use Rattle.pr_rulefile.specs.declared.fault.RuleError.{RuleError}
 use Rattle.pr_rulefile.specs.declared.fault.RuleError.TheVariants.{Problems, Memory}
-use Rattle.pr_rulefile.specs.declared.rules.RuleFile.{RuleFile}
-use Rattle.pr_rulefile.specs.Groups.{no_name, groups_problems, Group, rule_count, group_of, group_of_def}
+use Rattle.pr_rulefile.specs.declared.rule_file.RuleFile.{RuleFile}
+use Rattle.pr_rulefile.specs.Groups.{no_name, groups_problems, group_of}
+use Rattle.spec_rules.specs.Definitions.{Group, rule_count, group_of_def}
 
 -- A file has one field, `groups`.
 abbrev pub groups_value_problems : Tree → List Problem

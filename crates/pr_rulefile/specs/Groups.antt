@@ -1,19 +1,19 @@
 -- What is wrong with the groups of a file, and the groups that they are.
-use Rattle.std.specs.Prelude.{ℕ, Bool, false, ◌||◌, is_some, List, [], ◌∷◌, ◌++◌, codes, Option, Some, None, unwrap_or, length, map, sum, if◌then◌else◌}
+use Rattle.std.specs.Prelude.{ℕ, Bool, false, ◌||◌, is_some, List, [], ◌∷◌, ◌++◌, codes, Option, Some, None, unwrap_or, if◌then◌else◌}
 use Rattle.std.specs.List.{flat_map, filter_map, list_any}
 use Rattle.std.specs.Str.{bytes_eq}
 use Rattle.pr_yaml.specs.Tree.{Tree, EntryTree}
-use Rattle.pr_fields.specs.declared.problem.Problem.{Problem}
-use Rattle.pr_fields.specs.declared.problem.ProblemKind.TheVariants.{UnknownField, Missing, DuplicateGroup}
-use Rattle.pr_fields.specs.Nodes.{line_of, text_of, items_of, items_in, fields_of, fields_in, field, written, text_or_empty, items_under}
-use Rattle.pr_fields.specs.Problems.{problem, by_items, by_fields, unless_absent}
-use Rattle.pr_fields.specs.Scalars.{text_problems, span_problems, limit_problems, span_under, limit_under}
-use Rattle.pr_fields.specs.Labels.{labels_problems}
-use Rattle.pr_rulefile.specs.declared.fields.GroupField.{GroupField}
-use Rattle.pr_rulefile.specs.declared.fields.GroupField.TheVariants.{Name, Interval, Limit, Labels, Rules}
-use Rattle.pr_rulefile.specs.declared.rules.GroupDef.{GroupDef}
+use Rattle.pr_rulefile.specs.declared.fields.problem.Problem.{Problem}
+use Rattle.pr_rulefile.specs.declared.fields.problem.ProblemKind.TheVariants.{UnknownField, Missing, DuplicateGroup}
+use Rattle.pr_rulefile.specs.Nodes.{line_of, text_of, items_of, items_in, fields_of, fields_in, field, written, text_or_empty, items_under}
+use Rattle.pr_rulefile.specs.Problems.{problem, by_items, by_fields, unless_absent}
+use Rattle.pr_rulefile.specs.Scalars.{text_problems, span_problems, limit_problems, span_under, limit_under}
+use Rattle.pr_rulefile.specs.Labels.{labels_problems}
+use Rattle.pr_rulefile.specs.declared.keys.GroupField.{GroupField}
+use Rattle.pr_rulefile.specs.declared.keys.GroupField.TheVariants.{Name, Interval, Limit, Labels, Rules}
 use Rattle.pr_rulefile.specs.Fields.{group_field}
-use Rattle.pr_rulefile.specs.Rules.{rule_problems, Rule, rule_of, rule_of_def}
+use Rattle.pr_rulefile.specs.Rules.{rule_problems, rule_of}
+use Rattle.spec_rules.specs.Definitions.{Rule, Group}
 
 -- the name of a group, where it has one that is a text
 abbrev pub name_in : Option Tree → Option (List ℕ)
@@ -79,20 +79,6 @@ name_of t = group_name (fields_in t)
 unfoldable pub groups_problems : (List ℕ → Bool) → List Tree → List Problem
 groups_problems before [] = []
 groups_problems before (t ∷ ts) = group_problems before t ++ groups_problems (and_name before (name_of t)) ts
-
--- A group, with the trees of its rules' expressions.
-pub record Group : Type 0 where
-  pub name : List ℕ
-  pub interval : Option ℕ
-  pub limit : ℕ
-  pub rules : List Rule
-
--- how many rules the groups have
-abbrev pub rule_count : List Group → ℕ
-rule_count groups = sum (map (λ g. length g.rules) groups)
-
-abbrev pub group_of_def : GroupDef → Group
-group_of_def d = record { name = d.name; interval = d.interval; limit = d.limit; rules = map rule_of_def d.rules }
 
 -- the rules that stand under a field of a group, which is that of the rules
 abbrev pub rules_by : List EntryTree → Tree → Option GroupField → List Rule

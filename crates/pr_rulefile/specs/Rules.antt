@@ -2,23 +2,23 @@
 use Rattle.std.specs.Prelude.{ℕ, Bool, true, false, is_some, List, [], ◌∷◌, ◌++◌, codes, Option, Some, None, unwrap_or, if◌then◌else◌}
 use Rattle.std.specs.List.{flat_map}
 use Rattle.std.specs.Option.{option_map}
-use Rattle.pr_ast.specs.Tree.{Tree as Expression, tree_of}
+use Rattle.pr_ast.specs.Tree.{Tree as Expression}
 use Rattle.pr_labels.specs.declared.pair.Pair.{Pair}
 use Rattle.pr_labels.specs.Names.{is_metric_name}
 use Rattle.pr_yaml.specs.Tree.{Tree, EntryTree}
-use Rattle.pr_fields.specs.declared.problem.Problem.{Problem}
-use Rattle.pr_fields.specs.declared.problem.ProblemKind.TheVariants.{UnknownField, NoName, TwoNames, BadName, NotForRecording}
-use Rattle.pr_fields.specs.Nodes.{line_of, text_of, fields_of, field, written, text_or_empty, fields_under}
-use Rattle.pr_fields.specs.Problems.{problem, by_text, by_fields, unless_absent}
-use Rattle.pr_fields.specs.Scalars.{text_problems, span_problems, span_under}
-use Rattle.pr_fields.specs.Labels.{labels_problems, put_labels, pairs_of}
-use Rattle.pr_rulefile.specs.declared.fields.RuleField.{RuleField}
-use Rattle.pr_rulefile.specs.declared.fields.RuleField.TheVariants as kind
-use Rattle.pr_rulefile.specs.declared.fields.Naming.{Naming}
-use Rattle.pr_rulefile.specs.declared.fields.Naming.TheVariants.{Neither, Record, Alert, Both}
-use Rattle.pr_rulefile.specs.declared.rules.RuleDef.{RuleDef}
+use Rattle.pr_rulefile.specs.declared.fields.problem.Problem.{Problem}
+use Rattle.pr_rulefile.specs.declared.fields.problem.ProblemKind.TheVariants.{UnknownField, NoName, TwoNames, BadName, NotForRecording}
+use Rattle.pr_rulefile.specs.Nodes.{line_of, text_of, fields_of, field, written, text_or_empty, fields_under}
+use Rattle.pr_rulefile.specs.Problems.{problem, by_text, by_fields, unless_absent}
+use Rattle.pr_rulefile.specs.Scalars.{text_problems, span_problems, span_under}
+use Rattle.pr_rulefile.specs.Labels.{labels_problems, put_labels, pairs_of}
+use Rattle.pr_rulefile.specs.declared.keys.RuleField.{RuleField}
+use Rattle.pr_rulefile.specs.declared.keys.RuleField.TheVariants as kind
+use Rattle.pr_rulefile.specs.declared.keys.Naming.{Naming}
+use Rattle.pr_rulefile.specs.declared.keys.Naming.TheVariants.{Neither, Record, Alert, Both}
 use Rattle.pr_rulefile.specs.Fields.{rule_field}
-use Rattle.pr_fields.specs.Expressions.{expression_under, expression_problems, tree_found}
+use Rattle.pr_rulefile.specs.Expressions.{expression_under, expression_problems, tree_found}
+use Rattle.spec_rules.specs.Definitions.{Rule, name_key}
 
 -- which of `record` and `alert` a rule has; an empty one is none
 abbrev pub naming_by : Bool → Bool → Naming
@@ -78,24 +78,6 @@ rule_in_problems line es =
 
 unfoldable pub rule_problems : Tree → List Problem
 rule_problems t = by_fields (rule_in_problems (line_of t)) (line_of t) (fields_of t)
-
--- A rule, with the tree of its expression.
-pub record Rule : Type 0 where
-  pub name : List ℕ
-  pub alert : Bool
-  pub expr : Expression
-  pub labels : List Pair
-  pub hold : ℕ
-  pub keep : ℕ
-  pub notes : List Pair
-
-abbrev pub rule_of_def : RuleDef → Rule
-rule_of_def d = record { name = d.name; alert = d.alert; expr = tree_of d.expr; labels = d.labels; hold = d.hold; keep = d.keep; notes = d.notes }
-
--- the alert where it is one, and else what it records
-abbrev pub name_key : Bool → List ℕ
-name_key true = codes "alert"
-name_key false = codes "record"
 
 -- The labels of the group come first, so those of the rule win.
 unfoldable pub rule_labels : List EntryTree → List EntryTree → List Pair

@@ -1,5 +1,5 @@
-use pr_fields::Problem;
-use pr_labels::words_crate::Items;
+use crate::fields::Problem;
+use pr_words::Items;
 use std::alloc::AllocError;
 
 /// Why a file is no rule file.

@@ -1,19 +1,19 @@
 // The fields of a file.
 ghost use Rattle.std.specs.Prelude.{◌≡◌, ◌++◌, List, OnOk, map};
-ghost use Rattle.std.specs.List.{flat_map};
+ghost use Rattle.std.specs.List.{flat_map, filter_map};
 ghost use Rattle.pr_yaml.specs.Tree.{tree_of, entry_tree_of};
-ghost use Rattle.std.specs.List.{filter_map};
-ghost use Rattle.pr_fields.specs.Nodes.{items_in};
-ghost use Rattle.pr_rulefile.specs.Groups.{Group, group_of};
+ghost use Rattle.pr_rulefile.specs.Nodes.{items_in};
+ghost use Rattle.spec_rules.specs.Definitions.{Group};
+ghost use Rattle.pr_rulefile.specs.Groups.{group_of};
 ghost use Rattle.pr_rulefile.specs.File.{groups_value_problems, file_field_problems, file_problems, groups_under, file_groups};
 
-use crate::gather::GroupSink;
-use crate::group::each_group;
-use pr_fields::{
+use crate::fields::{
     Problem, ProblemKind, fields_of, items_of, key_line_of, key_of, line_of, push, push_unknown,
     value_of,
 };
-use pr_yaml::{Entry, Node};
+use crate::gather::GroupSink;
+use crate::group::each_group;
+use pr_yaml::{MapEntry, Node};
 use std::alloc::{AllocError, Global};
 
 fn groups_at<G: GroupSink>(
@@ -35,7 +35,7 @@ fn groups_at<G: GroupSink>(
 #[tactic(auto, using(crate::proofs::Trees::no_groups), unfolding(crate::specs::File::file_field_problems, crate::specs::File::groups_under))]
 fn file_field<G: GroupSink>(
     alloc: Global,
-    entry: &Entry,
+    entry: &MapEntry,
     groups: &mut G,
     found: &mut Vec<Problem>,
 ) -> Result<(), AllocError>
@@ -54,7 +54,7 @@ fn file_field<G: GroupSink>(
 
 fn each_file_field<G: GroupSink>(
     alloc: Global,
-    entries: &[Entry],
+    entries: &[MapEntry],
     groups: &mut G,
     found: &mut Vec<Problem>,
 ) -> Result<(), AllocError>
@@ -70,7 +70,7 @@ fn each_file_field<G: GroupSink>(
 }
 
 /// The groups of a file, one after another. What is wrong with it goes behind what was found.
-#[tactic(auto, using(pr_fields::proofs::Trees::no_fields), unfolding(crate::specs::File::file_problems, crate::specs::File::file_groups))]
+#[tactic(auto, using(crate::proofs::FieldsTrees::no_fields), unfolding(crate::specs::File::file_problems, crate::specs::File::file_groups))]
 pub(crate) fn file_at<G: GroupSink>(
     alloc: Global,
     node: &Node,

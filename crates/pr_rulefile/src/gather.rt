@@ -1,9 +1,10 @@
 // What is made of the groups of a file.
 ghost use Rattle.std.specs.Prelude.{◌≡◌, ◌∷◌, List, OnOk};
-ghost use Rattle.pr_rulefile.specs.Groups.{Group, group_of_def};
+ghost use Rattle.spec_rules.specs.Definitions.{Group, group_of_def};
 ghost use Rattle.pr_rulefile.specs.File.{Gathered};
 
-use crate::rules::{GroupDef, RuleFile};
+use crate::rule_file::RuleFile;
+use spec_rules::GroupDef;
 use std::alloc::AllocError;
 
 /// What takes the groups of a file, one after another.
@@ -37,7 +38,7 @@ pub(crate) struct RuleCount {
 impl GroupSink for RuleCount {
     ghost use Rattle.std.specs.Prelude.{◌+◌};
     ghost use Rattle.pr_rulefile.specs.File.{so_many_rules};
-    ghost use Rattle.pr_rulefile.specs.Groups.{rule_count};
+    ghost use Rattle.spec_rules.specs.Definitions.{rule_count};
 
     ghost comes_to = { λ c more. so_many_rules (c.rules + rule_count more) };
 

@@ -3,25 +3,26 @@ ghost use Rattle.std.specs.Prelude.{◌≡◌, ◌++◌, ◌∷◌, [], ◌||◌
 ghost use Rattle.std.specs.List.{flat_map, filter_map, list_any};
 ghost use Rattle.std.specs.Option.{option_copied, option_map};
 ghost use Rattle.std.specs.Str.{bytes_eq};
-ghost use Rattle.pr_labels.specs.pr_words.Names.{knows};
+ghost use Rattle.pr_words.specs.Names.{knows};
 ghost use Rattle.pr_yaml.specs.Tree.{tree_of, entry_tree_of};
-ghost use Rattle.pr_fields.specs.Nodes.{line_of, text_of, items_of, written};
-ghost use Rattle.pr_fields.specs.Problems.{by_items};
-ghost use Rattle.pr_rulefile.specs.Rules.{rule_problems, rule_of, rule_of_def};
-ghost use Rattle.pr_rulefile.specs.Groups.{Group, no_name, and_name, group_name, by_name, group_name_problems, is_alert_rule, has_alerts, group_value_problems, group_field_problems, group_in_problems, group_problems, name_of, groups_problems, group_of_def, rules_by, rules_under, group_in, group_of};
+ghost use Rattle.pr_rulefile.specs.Nodes.{line_of, text_of, items_of, written};
+ghost use Rattle.pr_rulefile.specs.Problems.{by_items};
+ghost use Rattle.pr_rulefile.specs.Rules.{rule_problems, rule_of};
+ghost use Rattle.spec_rules.specs.Definitions.{rule_of_def, Group, group_of_def};
+ghost use Rattle.pr_rulefile.specs.Groups.{no_name, and_name, group_name, by_name, group_name_problems, is_alert_rule, has_alerts, group_value_problems, group_field_problems, group_in_problems, group_problems, name_of, groups_problems, rules_by, rules_under, group_in, group_of};
 
-use crate::fields::{GroupField, group_field};
-use crate::gather::GroupSink;
-use crate::rule::rule_at;
-use crate::rules::{GroupDef, RuleDef};
-use pr_fields::{
+use crate::fields::{
     Problem, ProblemKind, fields_in, fields_of, items_of, items_under, key_line_of, key_of,
     labels_problems, limit_problems, limit_under, line_of, push, push_duplicate, push_missing,
     push_unknown, span_problems, span_under, text_of, text_problems, value_of, written,
     written_text,
 };
-use pr_labels::words_crate::{Items, Text};
-use pr_yaml::{Entry, Node};
+use crate::gather::GroupSink;
+use crate::keys::{GroupField, group_field};
+use crate::rule::rule_at;
+use pr_words::{Items, Text};
+use pr_yaml::{MapEntry, Node};
+use spec_rules::{GroupDef, RuleDef};
 use std::alloc::{AllocError, Global};
 use std::collections::BTreeSet;
 
@@ -40,7 +41,7 @@ fn add_name<'a>(names: &mut BTreeSet<&'a [u8]>, name: &'a str) -> Result<(), All
 }
 
 #[tactic(auto, unfolding(crate::specs::Groups::group_name))]
-fn group_name(entries: &[Entry]) -> Option<&str>
+fn group_name(entries: &[MapEntry]) -> Option<&str>
     ensures { option_copied result ≡ group_name (map entry_tree_of entries.now) }
 {
     match written("name", entries) {
@@ -91,7 +92,7 @@ fn name_problems(
     alloc: Global,
     names: &BTreeSet<&[u8]>,
     line: u32,
-    entries: &[Entry],
+    entries: &[MapEntry],
     found: &mut Vec<Problem>,
 ) -> Result<(), AllocError>
     ensures { OnOk result (found.new.items ≡ found.old.items ++ group_name_problems (knows names.now) line (written (codes "name") (map entry_tree_of entries.now))) }
@@ -123,7 +124,7 @@ fn any_alert(items: &[Node]) -> bool
 }
 
 #[tactic(auto, unfolding(crate::specs::Groups::has_alerts))]
-fn has_alerts(entries: &[Entry]) -> bool
+fn has_alerts(entries: &[MapEntry]) -> bool
     ensures { result ≡ has_alerts (map entry_tree_of entries.now) }
 {
     any_alert(items_under("rules", entries))
@@ -132,7 +133,7 @@ fn has_alerts(entries: &[Entry]) -> bool
 // The rules of a group, behind those so far.
 fn each_rule(
     alloc: Global,
-    group: &[Entry],
+    group: &[MapEntry],
     items: &[Node],
     rules: &mut Items<RuleDef>,
     found: &mut Vec<Problem>,
@@ -152,7 +153,7 @@ fn each_rule(
 
 fn rules_at(
     alloc: Global,
-    group: &[Entry],
+    group: &[MapEntry],
     node: &Node,
     rules: &mut Items<RuleDef>,
     found: &mut Vec<Problem>,
@@ -171,7 +172,7 @@ fn rules_at(
 fn group_value(
     alloc: Global,
     alerts: bool,
-    group: &[Entry],
+    group: &[MapEntry],
     node: &Node,
     field: GroupField,
     rules: &mut Items<RuleDef>,
@@ -193,8 +194,8 @@ fn group_value(
 fn group_field_at(
     alloc: Global,
     alerts: bool,
-    group: &[Entry],
-    entry: &Entry,
+    group: &[MapEntry],
+    entry: &MapEntry,
     rules: &mut Items<RuleDef>,
     found: &mut Vec<Problem>,
 ) -> Result<(), AllocError>
@@ -213,7 +214,7 @@ fn group_field_at(
 fn each_group_field(
     alloc: Global,
     alerts: bool,
-    group: &[Entry],
+    group: &[MapEntry],
     found: &mut Vec<Problem>,
 ) -> Result<Items<RuleDef>, AllocError>
     ensures rules { IfOk result (λ rs. map rule_of_def rs ≡ flat_map (rules_under (map entry_tree_of group.now)) (map entry_tree_of group.now)) }
@@ -233,7 +234,7 @@ fn group_in(
     alloc: Global,
     names: &BTreeSet<&[u8]>,
     line: u32,
-    entries: &[Entry],
+    entries: &[MapEntry],
     found: &mut Vec<Problem>,
 ) -> Result<GroupDef, AllocError>
     ensures group { IfOk result (λ g. group_of_def g ≡ group_in (map entry_tree_of entries.now)) }

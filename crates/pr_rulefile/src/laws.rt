@@ -3,15 +3,16 @@ ghost use Rattle.std.specs.Prelude.{◌≡◌, ◌≢◌, ◌≤◌, ◌<◌, �
 ghost use Rattle.std.specs.List.{IsDistinct};
 ghost use Rattle.std.specs.Str.{bytes_eq};
 ghost use Rattle.pr_yaml.specs.Tree.{Tree, EntryTree};
-ghost use Rattle.pr_fields.specs.declared.problem.Problem.{Problem};
-ghost use Rattle.pr_fields.specs.Nodes.{fields_in, written};
-ghost use Rattle.pr_fields.specs.Labels.{HaveFreeNames, AreTemplates};
+ghost use Rattle.pr_rulefile.specs.declared.fields.problem.Problem.{Problem};
+ghost use Rattle.pr_rulefile.specs.Nodes.{fields_in, written};
+ghost use Rattle.pr_rulefile.specs.Labels.{HaveFreeNames};
+ghost use Rattle.spec_rules.specs.Definitions.{AreTemplates, Group};
 ghost use Rattle.pr_rulefile.specs.Rules.{rule_problems, rule_of};
-ghost use Rattle.pr_rulefile.specs.Groups.{Group, group_problems, group_of};
+ghost use Rattle.pr_rulefile.specs.Groups.{group_problems, group_of};
 ghost use Rattle.pr_rulefile.specs.File.{rule_file_of, gives_file, gives_problems};
-ghost use Rattle.pr_rulefile.specs.Sound.{HoldsOfGroups, HoldsOfRules, IsNamed, IsTyped};
+ghost use Rattle.pr_rulefile.specs.private.Sound.{HoldsOfGroups, HoldsOfRules, IsNamed, IsTyped};
 
-pub use pr_fields::laws::problems_are_told_in_order;
+pub use crate::fields::laws::problems_are_told_in_order;
 
 /// A node with which nothing is wrong is a rule, and so with a group: a file that is answered has
 /// left none out.

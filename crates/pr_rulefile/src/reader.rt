@@ -2,15 +2,15 @@
 ghost use Rattle.std.specs.Prelude.{◌≡◌, ◌<◌, ◌^◌, ◌++◌, List, Some, length, IfOk, IfErr, OnOk};
 ghost use Rattle.pr_yaml.specs.Tree.{tree_of};
 ghost use Rattle.pr_yaml.specs.Read.{gives_tree};
-ghost use Rattle.pr_rulefile.specs.Groups.{Group};
+ghost use Rattle.spec_rules.specs.Definitions.{Group};
 ghost use Rattle.pr_rulefile.specs.File.{gives_file, by_reading, file_groups, groups_given, rules_given, rule_file_of, groups_of_file, IsErrorOf};
 
 use crate::fault::RuleError;
+use crate::fields::{in_order, no_tree};
 use crate::file::file_at;
 use crate::gather::{GroupSink, RuleCount};
-use crate::rules::RuleFile;
-use pr_fields::{in_order, no_tree};
-use pr_labels::words_crate::Items;
+use crate::rule_file::RuleFile;
+use pr_words::Items;
 use pr_yaml::{Node, YamlError, read as read_tree};
 use std::alloc::Global;
 

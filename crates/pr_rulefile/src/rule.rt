@@ -4,25 +4,26 @@ ghost use Rattle.std.specs.List.{flat_map};
 ghost use Rattle.std.specs.Option.{option_map};
 ghost use Rattle.pr_ast.specs.Tree.{tree_of as expression_tree};
 ghost use Rattle.pr_yaml.specs.Tree.{tree_of, entry_tree_of};
-ghost use Rattle.pr_fields.specs.Problems.{by_text};
-ghost use Rattle.pr_fields.specs.Scalars.{span_problems, span_under};
-ghost use Rattle.pr_fields.specs.Labels.{labels_problems};
-ghost use Rattle.pr_fields.specs.Nodes.{line_of, text_of, field};
-ghost use Rattle.pr_rulefile.specs.Rules.{naming_by, naming_of, is_alert, records_only, naming_problems, recorded_problems, for_alerts, rule_value_problems, rule_field_problems, rule_in_problems, rule_problems, rule_of_def, name_key, rule_labels, rule_notes, rule_with, rule_in, rule_of};
+ghost use Rattle.pr_rulefile.specs.Problems.{by_text};
+ghost use Rattle.pr_rulefile.specs.Scalars.{span_problems, span_under};
+ghost use Rattle.pr_rulefile.specs.Labels.{labels_problems};
+ghost use Rattle.pr_rulefile.specs.Nodes.{line_of, text_of, field};
+ghost use Rattle.pr_rulefile.specs.Rules.{naming_by, naming_of, is_alert, records_only, naming_problems, recorded_problems, for_alerts, rule_value_problems, rule_field_problems, rule_in_problems, rule_problems, rule_labels, rule_notes, rule_with, rule_in, rule_of};
+ghost use Rattle.spec_rules.specs.Definitions.{rule_of_def, name_key};
 
-use crate::fields::{Naming, RuleField, rule_field};
-use crate::rules::RuleDef;
-use pr_ast::time::Span;
-use pr_fields::grammar::no_span;
-use pr_fields::types::Checked;
-use pr_fields::{
+use crate::fields::{
     Problem, ProblemKind, expression_under, fields_of, fields_under, key_line_of, key_of,
     labels_problems, line_of, pairs_of, push, push_not_for_recording, push_unknown, put_labels,
     span_problems, span_under, text_of, text_problems, value_of, written, written_text,
 };
-use pr_labels::words_crate::{Items, Text};
+use crate::keys::{Naming, RuleField, rule_field};
+use pr_ast::time::Span;
 use pr_labels::{Pair, is_metric_name};
-use pr_yaml::{Entry, Node};
+use pr_parse::grammar::no_span;
+use pr_parse::types::Checked;
+use pr_words::{Items, Text};
+use pr_yaml::{MapEntry, Node};
+use spec_rules::RuleDef;
 use std::alloc::{AllocError, Global};
 use std::collections::BTreeMap;
 
@@ -38,7 +39,7 @@ fn naming_by(recorded: bool, alert: bool) -> Naming
 }
 
 #[tactic(auto, unfolding(crate::specs::Rules::naming_of))]
-fn naming_of(entries: &[Entry]) -> Naming
+fn naming_of(entries: &[MapEntry]) -> Naming
     ensures { result ≡ naming_of (map entry_tree_of entries.now) }
 {
     naming_by(
@@ -97,7 +98,7 @@ fn record_problems(node: &Node, found: &mut Vec<Problem>) -> Result<(), AllocErr
 fn for_problems(
     alloc: Global,
     naming: Naming,
-    entry: &Entry,
+    entry: &MapEntry,
     found: &mut Vec<Problem>,
 ) -> Result<(), AllocError>
     ensures { OnOk result (found.new.items ≡ found.old.items ++ for_alerts naming (entry_tree_of entry.now) (span_problems (entry_tree_of entry.now).value)) }
@@ -112,7 +113,7 @@ fn for_problems(
 fn annotation_problems(
     alloc: Global,
     naming: Naming,
-    entry: &Entry,
+    entry: &MapEntry,
     found: &mut Vec<Problem>,
 ) -> Result<(), AllocError>
     ensures { OnOk result (found.new.items ≡ found.old.items ++ for_alerts naming (entry_tree_of entry.now) (labels_problems (is_alert naming) (entry_tree_of entry.now).value)) }
@@ -129,7 +130,7 @@ fn annotation_problems(
 fn rule_value_problems(
     alloc: Global,
     naming: Naming,
-    entry: &Entry,
+    entry: &MapEntry,
     field: RuleField,
     found: &mut Vec<Problem>,
 ) -> Result<(), AllocError>
@@ -149,7 +150,7 @@ fn rule_value_problems(
 fn rule_field_problems(
     alloc: Global,
     naming: Naming,
-    entry: &Entry,
+    entry: &MapEntry,
     found: &mut Vec<Problem>,
 ) -> Result<(), AllocError>
     ensures { OnOk result (found.new.items ≡ found.old.items ++ rule_field_problems naming (entry_tree_of entry.now)) }
@@ -166,7 +167,7 @@ fn rule_field_problems(
 fn each_rule_field(
     alloc: Global,
     naming: Naming,
-    entries: &[Entry],
+    entries: &[MapEntry],
     found: &mut Vec<Problem>,
 ) -> Result<(), AllocError>
     ensures { OnOk result (found.new.items ≡ found.old.items ++ flat_map (rule_field_problems naming) (map entry_tree_of entries.now)) }
@@ -186,7 +187,11 @@ fn name_key(alert: bool) -> &'static str
 }
 
 #[tactic(auto, unfolding(crate::specs::Rules::rule_labels))]
-fn rule_labels(alloc: Global, group: &[Entry], entries: &[Entry]) -> Result<Items<Pair>, AllocError>
+fn rule_labels(
+    alloc: Global,
+    group: &[MapEntry],
+    entries: &[MapEntry],
+) -> Result<Items<Pair>, AllocError>
     ensures { IfOk result (λ ps. ps ≡ rule_labels (map entry_tree_of group.now) (map entry_tree_of entries.now)) }
 {
     let mut labels = BTreeMap::new(alloc);
@@ -196,7 +201,7 @@ fn rule_labels(alloc: Global, group: &[Entry], entries: &[Entry]) -> Result<Item
 }
 
 #[tactic(auto, unfolding(crate::specs::Rules::rule_notes))]
-fn rule_notes(alloc: Global, entries: &[Entry]) -> Result<Items<Pair>, AllocError>
+fn rule_notes(alloc: Global, entries: &[MapEntry]) -> Result<Items<Pair>, AllocError>
     ensures { IfOk result (λ ps. ps ≡ rule_notes (map entry_tree_of entries.now)) }
 {
     let mut notes = BTreeMap::new(alloc);
@@ -205,7 +210,7 @@ fn rule_notes(alloc: Global, entries: &[Entry]) -> Result<Items<Pair>, AllocErro
 }
 
 // How long an alert of a rule is pending.
-fn held_for(entries: &[Entry]) -> Span
+fn held_for(entries: &[MapEntry]) -> Span
     ensures { result ≡ unwrap_or (span_under (field (codes "for") (map entry_tree_of entries.now))) 0 }
 {
     match span_under("for", entries) {
@@ -215,7 +220,7 @@ fn held_for(entries: &[Entry]) -> Span
 }
 
 // How long it keeps firing after it is over.
-fn kept_for(entries: &[Entry]) -> Span
+fn kept_for(entries: &[MapEntry]) -> Span
     ensures { result ≡ unwrap_or (span_under (field (codes "keep_firing_for") (map entry_tree_of entries.now))) 0 }
 {
     match span_under("keep_firing_for", entries) {
@@ -228,8 +233,8 @@ fn kept_for(entries: &[Entry]) -> Span
 #[tactic(auto, unfolding(crate::specs::Rules::rule_with))]
 fn rule_with(
     alloc: Global,
-    group: &[Entry],
-    entries: &[Entry],
+    group: &[MapEntry],
+    entries: &[MapEntry],
     expr: Checked,
 ) -> Result<RuleDef, AllocError>
     ensures { IfOk result (λ r. rule_of_def r ≡ rule_with (map entry_tree_of group.now) (map entry_tree_of entries.now) (expression_tree expr)) }
@@ -252,9 +257,9 @@ fn rule_with(
 #[tactic(auto, unfolding(crate::specs::Rules::rule_in_problems, crate::specs::Rules::rule_in))]
 fn rule_in(
     alloc: Global,
-    group: &[Entry],
+    group: &[MapEntry],
     line: u32,
-    entries: &[Entry],
+    entries: &[MapEntry],
     found: &mut Vec<Problem>,
 ) -> Result<Option<RuleDef>, AllocError>
     ensures rule { IfOk result (λ r. option_map rule_of_def r ≡ rule_in (map entry_tree_of group.now) line (map entry_tree_of entries.now)) }
@@ -275,7 +280,7 @@ fn rule_in(
 #[tactic(auto, unfolding(crate::specs::Rules::rule_problems, crate::specs::Rules::rule_of))]
 pub(crate) fn rule_at(
     alloc: Global,
-    group: &[Entry],
+    group: &[MapEntry],
     node: &Node,
     found: &mut Vec<Problem>,
 ) -> Result<Option<RuleDef>, AllocError>

@@ -1,45 +1,42 @@
 -- What comes of an order, by how its parts end.
-use Rattle.std.proofs.Common.{◌≡◌, ◌≢◌, ℕ, zero, suc, ◌+◌, ◌≤◌, ◌<◌, Bool, true, false, ◌||◌, not, ◌&&◌, cond, List, [], ◌∷◌, ◌++◌, Option, Some, None, Result, Ok, Err, IsErrAnd, IfErr, IfOk, OnOk, OnErr, IsSome, refl, sym, ap, ◌∙◌, subst, append-nil, length, map, nat_lt, arith, inl, inr, true≢false}
+use Rattle.std.proofs.Common.{◌≡◌, ◌≢◌, ℕ, ◌+◌, Bool, true, false, ◌||◌, not, ◌&&◌, List, [], ◌∷◌, ◌++◌, Option, Some, None, Result, Ok, Err, IsErrAnd, IfErr, IfOk, OnOk, OnErr, IsSome, refl, sym, ap, ◌∙◌, subst, append-nil, length, map, nat_lt, arith, inl, inr, true≢false}
 use Rattle.std.specs.List.{AllByRecursion, IsDistinct, list_any}
 use Rattle.std.specs.Str.{bytes_eq}
 use Rattle.std.proofs.lemmas.Slice.Eq.{bytes_eq-Decides}
 use Rattle.std.specs.Io.KnownBytes.{Appends}
-use Rattle.pr_history.specs.declared.entry.Entry.{Entry}
 use Rattle.pr_outside.specs.Causes.{Rose}
 use Rattle.pr_outside.specs.Courses.{GoesOn, IsInTime}
 use Rattle.pr_outside.specs.Meant.{Folder, Store}
-use Rattle.pr_reader.specs.pr_script.FileNames.{have_distinct_names, is_name_of}
-use Rattle.pr_reader.specs.pr_script.declared.order.Numbered.{Numbered}
-use Rattle.pr_reader.specs.pr_script.declared.order.Order.{Order}
-use Rattle.pr_reader.specs.pr_script.declared.order.Order.TheVariants as order
-use Rattle.pr_status.specs.Asks.{Asks, AsksBy}
-use Rattle.pr_status.specs.Ends.{Ends, LoadEnds, StopsBy, no_row}
-use Rattle.pr_status.specs.Outside.{AreTold, Held, NoneRose, Outside}
-use Rattle.pr_status.specs.declared.status.Stop.{Stop}
-use Rattle.pr_status.specs.declared.status.Stop.TheVariants as stop
-use Rattle.pr_status.proofs.Ended.{ends_memory, ends_on, in_time_on, quiet, stops_on}
-use Rattle.pr_status.proofs.Streams.{appends_none}
-use Rattle.pr_text.specs.pr_notices.Receivers.{Receiver}
-use Rattle.pr_queue.specs.Queues.{Waiting}
-use Rattle.pr_queue.specs.Standing as waiting
+use Rattle.pr_text.specs.FileNames.{have_distinct_names, is_name_of}
+use Rattle.pr_text.specs.declared.script.order.Numbered.{Numbered}
+use Rattle.pr_text.specs.declared.script.order.Order.{Order}
+use Rattle.pr_text.specs.declared.script.order.Order.TheVariants as order
+use Rattle.pr_outside.specs.Asks.{Asks, AsksBy}
+use Rattle.pr_outside.specs.Ends.{Ends, LoadEnds}
+use Rattle.pr_outside.specs.Outside.{AreTold, Held, NoneRose, Outside}
+use Rattle.pr_outside.specs.declared.status.status.Stop.{Stop}
+use Rattle.pr_outside.specs.declared.status.status.Stop.TheVariants as stop
+use Rattle.pr_outside.proofs.Ended.{ends_memory, ends_on, quiet}
+use Rattle.pr_outside.proofs.StatusStreams.{appends_none}
+use Rattle.pr_queue.specs.private.Standing as waiting
 use Rattle.pr_text.specs.Printed.{shown_report}
 use Rattle.pr_text.proofs.WorldRefusals.{reload_of_found}
-use Rattle.pr_text.specs.pr_world.Loading.{FileToLoad, all_found, found_outcome, reload_asked}
-use Rattle.pr_text.specs.pr_world.Outcome.{IsNotBefore, is_refusal, refuse, unless_backwards}
-use Rattle.pr_text.specs.pr_world.Settings.{of_a_run}
-use Rattle.pr_text.specs.pr_world.Step.{Step, next, step_by}
-use Rattle.pr_text.specs.pr_world.World.{World}
-use Rattle.pr_text.specs.pr_world.declared.event.Event.{Event}
-use Rattle.pr_text.specs.pr_world.declared.event.Event.TheVariants as event
-use Rattle.pr_text.specs.pr_world.declared.event.NamedFile.{NamedFile}
-use Rattle.pr_text.specs.pr_world.declared.report.Report.{Report}
-use Rattle.pr_text.specs.pr_world.declared.report.Report.TheVariants.{Backwards}
-use Rattle.pr_run.specs.Events.{KeepEnds}
-use Rattle.pr_run.specs.Files.{HasNames}
-use Rattle.pr_run.specs.Keeping.{KeepsProgress, Progress, Run, TellsOf, progress_after}
-use Rattle.pr_run.specs.Rows.{IsBadIn}
+use Rattle.pr_text.specs.spec_world.Loading.{FileToLoad, all_found, found_outcome, reload_asked}
+use Rattle.pr_text.specs.spec_world.private.Laws.{IsNotBefore, is_refusal}
+use Rattle.pr_text.specs.spec_world.Outcome.{refuse, unless_backwards}
+use Rattle.pr_text.specs.spec_world.Settings.{of_a_run}
+use Rattle.pr_text.specs.spec_world.Step.{Step, next, step_by}
+use Rattle.pr_text.specs.spec_world.World.{World}
+use Rattle.pr_text.specs.spec_world.declared.event.Event.{Event}
+use Rattle.pr_text.specs.spec_world.declared.event.Event.TheVariants as event
+use Rattle.pr_text.specs.spec_world.declared.event.NamedFile.{NamedFile}
+use Rattle.pr_text.specs.spec_world.declared.report.Report.{Report}
+use Rattle.pr_text.specs.spec_world.declared.report.Report.TheVariants.{Backwards}
+use Rattle.pr_queue.specs.spec_history.Stores.{KeepEnds, TellsHistory}
+use Rattle.pr_run.specs.private.Files.{HasNames}
+use Rattle.pr_run.specs.private.Keeping.{KeepsProgress, Progress, Run}
 use Rattle.pr_run.specs.Replies.{Reply, receivers_after}
-use Rattle.pr_run.specs.Standing.{Answers, Gives, Grows, HasGrown, IsGrown, Leaves, Replies, Stays, Waits, Writes}
+use Rattle.pr_run.specs.private.Standing.{AnswersOrder, WorldGives, StoreGrows, LeavesFront, ReceiversReply, StoreStays}
 use Rattle.pr_run.specs.Told.{State, Turn, asks_for, asks_in_time, content_by, reply_turn, step_turn, turn, turn_of}
 use Rattle.pr_run.proofs.Loads.{asks_none, asks_on}
 use Rattle.pr_run.proofs.Stops.{no_bad}
@@ -51,7 +48,7 @@ zero_rose r = omega (arith, r)
 module _ {E : Type 0} (stands_for : E → Store → World → Type 0) (w : World) (step : Step) (kept : E) where
   -- an event was handed to what keeps the world
   pub event_gives : (others : Outside) (a b : Store) (r : Result Report Stop) → IsSome b.rows → IfOk r (λ x. x ≡ step.report) → OnOk r (stands_for kept b step.world)
-      → OnErr r (TellsOf b w.history) → KeepEnds a b r → Gives stands_for w step 0 (record others { store = a }) (record others { store = b }) kept r
+      → OnErr r (TellsHistory b w.history) → KeepEnds a b r → WorldGives stands_for w step 0 (record others { store = a }) (record others { store = b }) kept r
   event_gives others a b (Ok x) some report world h ends = (report, world, asks_none others.files.calls)
   event_gives others a b (Err stop.Read) some report world h ends = zero_rose (ends quiet).cause.0
   event_gives others a b (Err stop.Load) some report world h ends = absurd (zero_rose (ends quiet).cause.1)
@@ -64,11 +61,11 @@ module _ {E : Type 0} (stands_for : E → Store → World → Type 0) (w : World
   event_gives others a b (Err stop.TooLong) some report world h ends = (ends quiet).cause.1
 
   -- files were loaded before it
-  pub gives_behind : (a b c : Outside) (all : ℕ) (r : Result Report Stop) → Asks a.files.calls b.files.calls all → Gives stands_for w step 0 b c kept r
-      → Gives stands_for w step all a c kept r
+  pub gives_behind : (a b c : Outside) (all : ℕ) (r : Result Report Stop) → Asks a.files.calls b.files.calls all → WorldGives stands_for w step 0 b c kept r
+      → WorldGives stands_for w step all a c kept r
   gives_behind a b c all r asks g = by r g
     where
-      waits : Stays w.history 0 0 b c → Stays w.history 0 all a c
+      waits : StoreStays w.history 0 0 b c → StoreStays w.history 0 all a c
       waits s = record {
         rows = s.rows;
         count = all + s.count;
@@ -77,7 +74,7 @@ module _ {E : Type 0} (stands_for : E → Store → World → Type 0) (w : World
         within = omega (arith, s.within);
       }
 
-      by : (r : Result Report Stop) → Gives stands_for w step 0 b c kept r → Gives stands_for w step all a c kept r
+      by : (r : Result Report Stop) → WorldGives stands_for w step 0 b c kept r → WorldGives stands_for w step all a c kept r
       by (Ok x) g =
           let same : all + 0 ≡ all = omega arith in
           (g.0, g.1, subst (Asks a.files.calls c.files.calls) same (asks_on a.files.calls b.files.calls c.files.calls all 0 asks g.2))
@@ -90,15 +87,15 @@ module _ {E : Type 0} (stands_for : E → Store → World → Type 0) (w : World
       by (Err stop.TooLong) g = g
 
   -- a load was stopped
-  pub load_gives : (T : Type 0) (others : Outside) (a b : Folder) (store : Store) (all : ℕ) (r : Result Report Stop) (s : Stop) → IsErrAnd r (λ y. y ≡ s) → TellsOf store w.history
+  pub load_gives : (T : Type 0) (others : Outside) (a b : Folder) (store : Store) (all : ℕ) (r : Result Report Stop) (s : Stop) → IsErrAnd r (λ y. y ≡ s) → TellsHistory store w.history
       → AsksBy {T = T} a.calls b.calls all (Err s) → LoadEnds {T = T} a b (Err s)
-      → Gives stands_for w step all (record others { files = a; store = store }) (record others { files = b; store = store }) kept r
+      → WorldGives stands_for w step all (record others { files = a; store = store }) (record others { files = b; store = store }) kept r
   load_gives T others a b store all (Ok x) s h tells asks ends = absurd h
   load_gives T others a b store all (Err y) s h tells asks ends =
-      subst (λ (z : Stop). Gives stands_for w step all (record others { files = a; store = store }) (record others { files = b; store = store }) kept (Err z)) (sym h) (by s asks ends)
+      subst (λ (z : Stop). WorldGives stands_for w step all (record others { files = a; store = store }) (record others { files = b; store = store }) kept (Err z)) (sym h) (by s asks ends)
     where
       by : (s : Stop) → AsksBy {T = T} a.calls b.calls all (Err s) → LoadEnds {T = T} a b (Err s)
-          → Gives stands_for w step all (record others { files = a; store = store }) (record others { files = b; store = store }) kept (Err s)
+          → WorldGives stands_for w step all (record others { files = a; store = store }) (record others { files = b; store = store }) kept (Err s)
       by stop.Read n ends = n
       by stop.Load n ends = record { rows = tells; count = n.0; asked = n.1; some = omega (arith, n.2); within = n.3 }
       by stop.Store n ends = absurd n
@@ -108,16 +105,16 @@ module _ {E : Type 0} (stands_for : E → Store → World → Type 0) (w : World
       by stop.TooLong n ends = n
 
 pub event_grown : {E : Type 0} (stands_for : E → Store → World → Type 0) (w : World) (e : Event) (kept : E) (b : Store) (r : Result Report Stop)
-    → OnOk r (stands_for kept b (next of_a_run w e).world) → OnErr r (TellsOf b w.history) → Grows stands_for w.history b kept r
+    → OnOk r (stands_for kept b (next of_a_run w e).world) → OnErr r (TellsHistory b w.history) → StoreGrows stands_for w.history b kept r
 event_grown stands_for w e kept b (Ok x) world h =
     record { world = (next of_a_run w e).world; more = (next of_a_run w e).rows; stands = world; grown = event_grows w e }
-event_grown stands_for w e kept b (Err s) world h = record { more = []; tells = subst (TellsOf b) (sym (append-nil w.history)) h }
+event_grown stands_for w e kept b (Err s) world h = record { more = []; tells = subst (TellsHistory b) (sym (append-nil w.history)) h }
 
 -- nothing happened
-pub stays_grown : {E T : Type 0} (stands_for : E → Store → World → Type 0) (tells : (e : E) (store : Store) (w : World) → stands_for e store w → TellsOf store w.history)
-    (w : World) (kept : E) (b : Store) (r : Result T Stop) → stands_for kept b w → Grows stands_for w.history b kept r
+pub stays_grown : {E T : Type 0} (stands_for : E → Store → World → Type 0) (tells : (e : E) (store : Store) (w : World) → stands_for e store w → TellsHistory store w.history)
+    (w : World) (kept : E) (b : Store) (r : Result T Stop) → stands_for kept b w → StoreGrows stands_for w.history b kept r
 stays_grown stands_for tells w kept b (Ok x) s = record { world = w; more = []; stands = s; grown = sym (append-nil w.history) }
-stays_grown stands_for tells w kept b (Err y) s = record { more = []; tells = subst (TellsOf b) (sym (append-nil w.history)) (tells kept b w s) }
+stays_grown stands_for tells w kept b (Err y) s = record { more = []; tells = subst (TellsHistory b) (sym (append-nil w.history)) (tells kept b w s) }
 
 -- Names
 
@@ -189,21 +186,6 @@ in_time_asks (Some last) time asks in_time = rw in_time refl
 
 -- Ends, one part behind another
 
-pub ends_behind : {T : Type 0} (bad : ℕ → Type 0) (long : Type 0) (a b c : Outside) (r : Result T Stop) → NoneRose a b → IsInTime a.input.course c.input.course
-    → GoesOn a.files.course b.files.course → GoesOn a.out.course b.out.course → Ends bad long b c r → Ends bad long a c r
-ends_behind {T} bad long a b c (Ok x) n ti gf go p = record {
-  cause = (p.cause.0 ∙ n.0, p.cause.1 ∙ n.1, p.cause.2 ∙ n.2, p.cause.3 ∙ n.3);
-  input = ti;
-  files = λ e. p.files (gf e);
-  out = λ e. p.out (go e);
-}
-ends_behind {T} bad long a b c (Err s) n ti gf go p = record {
-  cause = stops_on T T bad long a b c s n p.cause;
-  input = ti;
-  files = in_time_on a.files.course b.files.course c.files.course gf p.files;
-  out = in_time_on a.out.course b.out.course c.out.course go p.out;
-}
-
 -- Orders
 
 abbrev pub made : ℕ → Order → Numbered
@@ -231,8 +213,8 @@ files_told held s number time files content t = subst (λ (x : Turn). AreTold co
 
 -- an order that leaves the world as it is
 pub reply_answers : {E : Type 0} (stands_for : E → Store → World → Type 0) (held : Held) (p : Progress) (o : Numbered) (before now : Outside) (first run : Run E) (old new : List ℕ)
-    (reply : Reply) → turn held p.state o ≡ reply_turn p.state reply → Replies reply first run old new → KeepsProgress stands_for first before.store p
-    → now.store ≡ before.store → now.files ≡ before.files → Answers stands_for held p o before now run old new
+    (reply : Reply) → turn held p.state o ≡ reply_turn p.state reply → ReceiversReply reply first run old new → KeepsProgress stands_for first before.store p
+    → now.store ≡ before.store → now.files ≡ before.files → AnswersOrder stands_for held p o before now run old new
 reply_answers stands_for held p o before now first run old new reply is given keeps store files = record {
   text = given.text ∙ ap (λ (x : Turn). old ++ x.answer.text) (sym is);
   keeps = record {
@@ -248,12 +230,12 @@ reply_answers stands_for held p o before now first run old new reply is given ke
 -- it could not be answered
 pub reply_leaves : {E : Type 0} (stands_for : E → Store → World → Type 0) (held : Held) (p : Progress) (o : Numbered) (now : Outside) (first : Run E) (r : Result Unit Stop)
     (reply : Reply) → turn held p.state o ≡ reply_turn p.state reply → KeepsProgress stands_for first now.store p
-    → ((e : E) (store : Store) (w : World) → stands_for e store w → TellsOf store w.history) → IfErr r (λ y. y ≡ stop.Memory)
-    → IfErr r (Leaves (turn held p.state o) p.state.world.history now now)
+    → ((e : E) (store : Store) (w : World) → stands_for e store w → TellsHistory store w.history) → IfErr r (λ y. y ≡ stop.Memory)
+    → IfErr r (LeavesFront (turn held p.state o) p.state.world.history now now)
 reply_leaves stands_for held p o now first (Ok x) reply is keeps tells h = tt
 reply_leaves stands_for held p o now first (Err y) reply is keeps tells h =
-    subst (Leaves (turn held p.state o) p.state.world.history now now) (sym h)
-    (subst (λ (t : Turn). Leaves t p.state.world.history now now stop.Memory) (sym is) (inl (record {
+    subst (LeavesFront (turn held p.state o) p.state.world.history now now) (sym h)
+    (subst (λ (t : Turn). LeavesFront t p.state.world.history now now stop.Memory) (sym is) (inl (record {
       told = appends_none now.out.taken;
       stays = record { rows = tells first.kept now.store p.state.world keeps.world; count = 0; asked = asks_none now.files.calls; some = omega arith; within = omega arith };
     })))
@@ -261,9 +243,9 @@ reply_leaves stands_for held p o now first (Err y) reply is keeps tells h =
 module _ {E : Type 0} (stands_for : E → Store → World → Type 0) (held : Held) (p : Progress) (o : Numbered) (step : Step) (asks : List (List ℕ)) (before now : Outside)
     (is : turn held p.state o ≡ step_turn p.state step asks) where
   -- its report is told
-  pub answers_so : (run : Run E) (old new : List ℕ) (report : Report) (first : Bool) → Gives stands_for p.state.world step (length asks) before now run.kept (Ok report)
+  pub answers_so : (run : Run E) (old new : List ℕ) (report : Report) (first : Bool) → WorldGives stands_for p.state.world step (length asks) before now run.kept (Ok report)
       → is_refusal step.report ≡ step.refused → new ≡ old ++ shown_report report → run.refused ≡ (first || is_refusal report) → first ≡ p.refused
-      → waiting.StandsFor run.queues (receivers_after report p.state.receivers) → Answers stands_for held p o before now run old new
+      → waiting.StandsFor run.queues (receivers_after report p.state.receivers) → AnswersOrder stands_for held p o before now run old new
   answers_so run old new report first g told text refused started receivers = record {
     text = text ∙ ap (λ (r : Report). old ++ shown_report r) g.0 ∙ ap (λ (t : _). old ++ t.answer.text) (sym is);
     keeps = record {
@@ -277,12 +259,12 @@ module _ {E : Type 0} (stands_for : E → Store → World → Type 0) (held : He
   }
 
   -- it could not be answered
-  pub leaves_so : (kept : E) (s : Stop) → Appends before.out.taken now.out.taken [] → Gives stands_for p.state.world step (length asks) before now kept (Err s)
-      → Leaves (turn held p.state o) p.state.world.history before now s
-  leaves_so kept s none g = subst (λ (t : _). Leaves t p.state.world.history before now s) (sym is) (by s g)
+  pub leaves_so : (kept : E) (s : Stop) → Appends before.out.taken now.out.taken [] → WorldGives stands_for p.state.world step (length asks) before now kept (Err s)
+      → LeavesFront (turn held p.state o) p.state.world.history before now s
+  leaves_so kept s none g = subst (λ (t : _). LeavesFront t p.state.world.history before now s) (sym is) (by s g)
     where
-      by : (s : Stop) → Gives stands_for p.state.world step (length asks) before now kept (Err s)
-          → Leaves (step_turn p.state step asks) p.state.world.history before now s
+      by : (s : Stop) → WorldGives stands_for p.state.world step (length asks) before now kept (Err s)
+          → LeavesFront (step_turn p.state step asks) p.state.world.history before now s
       by stop.Read g = g
       by stop.Load g = record { told = none; stays = g }
       by stop.Store g = record { told = none; stays = g }
@@ -292,23 +274,23 @@ module _ {E : Type 0} (stands_for : E → Store → World → Type 0) (held : He
       by stop.TooLong g = g
 
   -- its report could not be told
-  pub leaves_told : (kept : E) (report : Report) (tells : TellsOf now.store step.world.history) → Appends before.out.taken now.out.taken []
-      → Gives stands_for p.state.world step (length asks) before now kept (Ok report) → Leaves (turn held p.state o) p.state.world.history before now stop.Memory
+  pub leaves_told : (kept : E) (report : Report) (tells : TellsHistory now.store step.world.history) → Appends before.out.taken now.out.taken []
+      → WorldGives stands_for p.state.world step (length asks) before now kept (Ok report) → LeavesFront (turn held p.state o) p.state.world.history before now stop.Memory
   leaves_told kept report tells none g =
-      subst (λ (t : _). Leaves t p.state.world.history before now stop.Memory) (sym is)
+      subst (λ (t : _). LeavesFront t p.state.world.history before now stop.Memory) (sym is)
       (inr (record { count = 0; told = none; rows = tells; asked = g.2 }))
 
   pub leaves_by : (kept : E) (r : Result Unit Stop) (s : Stop) → IsErrAnd r (λ y. y ≡ s) → Appends before.out.taken now.out.taken []
-      → Gives stands_for p.state.world step (length asks) before now kept (Err s) → IfErr r (Leaves (turn held p.state o) p.state.world.history before now)
+      → WorldGives stands_for p.state.world step (length asks) before now kept (Err s) → IfErr r (LeavesFront (turn held p.state o) p.state.world.history before now)
   leaves_by kept (Ok x) s h none g = absurd h
-  leaves_by kept (Err y) s h none g = subst (Leaves (turn held p.state o) p.state.world.history before now) (sym h) (leaves_so kept s none g)
+  leaves_by kept (Err y) s h none g = subst (LeavesFront (turn held p.state o) p.state.world.history before now) (sym h) (leaves_so kept s none g)
 
-  pub leaves_memory : (tells : (e : E) (store : Store) (w : World) → stands_for e store w → TellsOf store w.history) (kept : E) (report : Report) (r : Result Unit Stop)
+  pub leaves_memory : (tells : (e : E) (store : Store) (w : World) → stands_for e store w → TellsHistory store w.history) (kept : E) (report : Report) (r : Result Unit Stop)
       → IsErrAnd r (λ y. y ≡ stop.Memory) → Appends before.out.taken now.out.taken []
-      → Gives stands_for p.state.world step (length asks) before now kept (Ok report) → IfErr r (Leaves (turn held p.state o) p.state.world.history before now)
+      → WorldGives stands_for p.state.world step (length asks) before now kept (Ok report) → IfErr r (LeavesFront (turn held p.state o) p.state.world.history before now)
   leaves_memory tells kept report (Ok x) h none g = absurd h
   leaves_memory tells kept report (Err y) h none g =
-      subst (Leaves (turn held p.state o) p.state.world.history before now) (sym h) (leaves_told kept report (tells kept now.store step.world g.1) none g)
+      subst (LeavesFront (turn held p.state o) p.state.world.history before now) (sym h) (leaves_told kept report (tells kept now.store step.world g.1) none g)
 
 -- want of memory behind a part that was refused nothing
 pub memory_on : {T : Type 0} (bad : ℕ → Type 0) (long : Type 0) (a b : Outside) (r : Result T Stop) → IsErrAnd r (λ y. y ≡ stop.Memory) → NoneRose a b

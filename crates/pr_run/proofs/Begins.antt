@@ -1,19 +1,15 @@
 -- How a run begins.
-use Rattle.std.proofs.Common.{◌≡◌, ◌≢◌, ℕ, ◌≤◌, List, [], Option, Some, None, Result, Ok, Err, IfSome, IsErrAnd, OnErr, refl, sym, ap, ◌∙◌, subst, length, take, take_all, arith}
+use Rattle.std.proofs.Common.{◌≡◌, ℕ, List, [], Option, Some, None, Result, Ok, Err, IfSome, OnErr, sym, ap, ◌∙◌, subst, length, take}
 use Rattle.std.specs.Io.KnownBytes.{Appends}
-use Rattle.pr_history.specs.declared.entry.Entry.{Entry}
+use Rattle.pr_queue.specs.spec_history.declared.entry.Entry.{Entry}
 use Rattle.pr_outside.specs.declared.keeping.Row.{Row}
-use Rattle.pr_text.specs.pr_row.Histories.{history_of}
-use Rattle.pr_status.specs.Ends.{StopsBy, WriteEnds, no_row}
-use Rattle.pr_outside.specs.Meant.{Output}
-use Rattle.pr_status.specs.Outside.{Outside}
-use Rattle.pr_status.specs.declared.status.Stop.{Stop}
-use Rattle.pr_status.specs.declared.status.Stop.TheVariants as stop
-use Rattle.pr_status.proofs.Ended.{quiet}
+use Rattle.pr_queue.specs.spec_history.Histories.{history_of}
+use Rattle.pr_outside.specs.declared.status.status.Stop.{Stop}
 use Rattle.pr_text.specs.Printed.{shown_report}
-use Rattle.pr_text.specs.pr_world.declared.report.Report.TheVariants.{Opened}
-use Rattle.pr_run.specs.Beginning.{first_text}
-use Rattle.pr_run.specs.Told.{bad_row_text, told_of}
+use Rattle.pr_text.specs.spec_world.declared.report.Report.TheVariants.{Opened}
+use Rattle.pr_run.specs.private.Beginning.{first_text}
+use Rattle.pr_text.specs.BadRows.{bad_row_text}
+use Rattle.pr_run.specs.Told.{told_of}
 use Rattle.pr_run.proofs.Turns.{told_none}
 
 -- a front of the first line, by what the rows tell
@@ -43,13 +39,3 @@ none_front T old (Some rs) (Err s) p = (0, p)
 pub opened_whole : (old new : Option (List ℕ)) (history : List Entry) (size : ℕ) → size ≡ length history → Appends old new (shown_report (Opened size)) → Appends old new (told_of history [])
 opened_whole old new history size is p =
     subst (Appends old new) (ap (λ (k : ℕ). shown_report (Opened k)) is ∙ sym (told_none history)) p
-
-pub whole_front : (old new : Option (List ℕ)) (text : List ℕ) → Appends old new text → Appends old new (take (length text) text)
-whole_front old new text p = subst (Appends old new) (sym (take_all (length text) text (omega arith))) p
-
--- a write is stopped by no row
-pub write_row : (T U : Type 0) (x y : Output) (r : Result U Stop) (s : Stop) (index : ℕ) → IsErrAnd r (λ z. z ≡ s) → WriteEnds {T = T} x y (Err s) → r ≡ Err (stop.BadRow index) → ⊥
-write_row T U x y (Ok v) s index h w e = absurd h
-write_row T U x y (Err z) s index h w e =
-    let is : z ≡ stop.BadRow index = cc in
-    (subst (λ (q : Stop). StopsBy {T = T} no_row ⊥ (record quiet { out = x }) (record quiet { out = y }) (Err q)) (sym h ∙ is) (w quiet).cause).1

@@ -2,37 +2,37 @@
 use Rattle.std.proofs.Common.{◌≡◌, ◌≢◌, ℕ, ◌+◌, ◌≤◌, ◌<◌, ◌^◌, Bool, true, false, List, [], ◌∷◌, ◌++◌, None, Some, IfSome, IsSome, Result, Ok, Err, IfOk, refl, sym, ap, ◌∙◌, subst, append_assoc, append-nil, length, length-append, take, arith, ◌⊎◌, inl, inr}
 use Rattle.std.specs.declared.option.Option.{Option}
 use Rattle.std.specs.Io.KnownBytes.{Appends, IsAtEnd}
-use Rattle.pr_words.specs.Lines.{lines_of}
-use Rattle.pr_history.specs.declared.entry.Entry.{Entry}
+use Rattle.pr_outside.specs.pr_words.Lines.{lines_of}
+use Rattle.pr_queue.specs.spec_history.declared.entry.Entry.{Entry}
 use Rattle.pr_outside.specs.Meant.{Store}
-use Rattle.pr_reader.specs.pr_script.declared.order.Numbered.{Numbered}
-use Rattle.pr_reader.specs.pr_script.Orders.{orders_of, orders_after}
-use Rattle.pr_reader.proofs.ScriptBlocks.{orders_none}
-use Rattle.pr_status.specs.Asks.{Asks, AsksAt}
-use Rattle.pr_status.specs.Ends.{Place, at_input, at_file, at_store, at_output, anywhere, place_of}
-use Rattle.pr_status.specs.Outside.{AreTold, Held, Outside}
-use Rattle.pr_status.specs.Status.{IsLong, IsShort}
-use Rattle.pr_status.specs.declared.status.Stop.{Stop}
-use Rattle.pr_status.specs.declared.status.Stop.TheVariants as stop
-use Rattle.pr_status.proofs.Streams.{appends_on}
-use Rattle.pr_reader.specs.LineReading.{ahead, Counts, IsBeyond}
-use Rattle.pr_reader.specs.Reading.{HandsOrder, Takes, TakesOrders, IsCutAt}
-use Rattle.pr_reader.specs.Taken.{IsPrompt}
-use Rattle.pr_reader.proofs.Whole.{prompt_all, prompt_on}
-use Rattle.pr_reader.proofs.Orders.{takes_none, takes_on, follow}
-use Rattle.pr_text.specs.pr_world.World.{World, start}
+use Rattle.pr_text.specs.declared.script.order.Numbered.{Numbered}
+use Rattle.pr_text.specs.Orders.{orders_of, orders_after}
+use Rattle.pr_text.proofs.Blocks.{orders_none}
+use Rattle.pr_outside.specs.Asks.{Asks, AsksAt}
+use Rattle.pr_outside.specs.Ends.{StopPlace, at_input, at_file, at_store, at_output, anywhere, place_of}
+use Rattle.pr_outside.specs.Outside.{AreTold, Held, Outside}
+use Rattle.pr_outside.specs.Status.{IsLong, IsShort}
+use Rattle.pr_outside.specs.declared.status.status.Stop.{Stop}
+use Rattle.pr_outside.specs.declared.status.status.Stop.TheVariants as stop
+use Rattle.pr_outside.proofs.StatusStreams.{appends_on}
+use Rattle.pr_text.specs.private.LineReading.{ahead, CountsBytes, IsBeyond}
+use Rattle.pr_text.specs.private.Reading.{HandsOrder, Takes, TakesOrders, IsCutAt}
+use Rattle.pr_text.specs.Taken.{IsPrompt}
+use Rattle.pr_text.proofs.Whole.{prompt_all, prompt_on}
+use Rattle.pr_text.proofs.Orders.{takes_none, takes_on, follow}
+use Rattle.pr_text.specs.spec_world.World.{World, start}
 use Rattle.pr_run.specs.Front.{IsFront, IsPromptAt}
-use Rattle.pr_run.specs.Keeping.{KeepsProgress, Progress, Run, TellsOf, progress_after, unanswered}
-use Rattle.pr_run.specs.Rows.{AreKept}
+use Rattle.pr_run.specs.private.Keeping.{KeepsProgress, Progress, Run, progress_after, unanswered}
+use Rattle.pr_queue.specs.spec_history.Stores.{TellsHistory, AreKept}
 use Rattle.pr_run.specs.Runs.{EndsOver, IsWholeRun}
-use Rattle.pr_run.specs.Standing.{Grows, HasGrown, IsGrown, Leaves, Sends, Stands, Stays, Waits, Writes, progress_of}
-use Rattle.pr_run.specs.Told.{Answer, State, answers, answers_to, any_refused, asks_of, begun, kept_after, refuses, told, told_of, turn}
+use Rattle.pr_run.specs.private.Standing.{StoreGrows, HasGrown, IsGrown, LeavesFront, SendsAnswer, RunStands, StoreStays, WaitsBehind, WritesTurn, progress_of}
+use Rattle.pr_run.specs.Told.{OrderAnswer, State, answers, answers_to, any_refused, asks_of, begun, kept_after, refuses, told, told_of, turn}
 use Rattle.pr_run.proofs.Fronts.{asks_anywhere, asks_between, asks_file, asks_output, asks_store, asks_written, front_at, front_in}
 use Rattle.pr_run.proofs.Loads.{asks_none, asks_on}
 use Rattle.pr_run.proofs.Turns.{answer_count, answers_append, asks_append, orders_grow, progress_on, refused_of, told_left, told_more, told_right, told_same, turn_grows}
 
 -- the answers to orders over a history, and how far the run has come then
-abbrev pub answered : Held → List Entry → List Numbered → List Answer
+abbrev pub answered : Held → List Entry → List Numbered → List OrderAnswer
 answered held history orders = answers held (begun history) orders
 
 abbrev pub come : Held → List Entry → List Numbered → Progress
@@ -44,7 +44,7 @@ pub record Going {E : Type 0} (stands_for : E → Store → World → Type 0) (f
   pub taken : Takes entry.input.left ahead 0 number orders
   pub stands : (others : Outside) (held : Held) (history : List Entry) → KeepsProgress stands_for first entry.store (unanswered history)
       → Appends others.out.taken entry.out.taken (told_of history []) → IsSome now.store.rows → AreTold entry.files.content held (asks_of (answered held history orders))
-      → Stands stands_for held history orders run (record others { input = entry.input; files = entry.files }) now
+      → RunStands stands_for held history orders run (record others { input = entry.input; files = entry.files }) now
   pub grown : (w : World) → stands_for first.kept entry.store w → IsSome now.store.rows → IsGrown stands_for w.history now.store run.kept
 
 module _ {E : Type 0} (stands_for : E → Store → World → Type 0) (first : Run E) (entry : Outside) where
@@ -81,7 +81,7 @@ module _ {E : Type 0} (stands_for : E → Store → World → Type 0) (first : R
     -- one more order was answered whole
     pub going_on : HandsOrder b c m n (Some o) → (IsSome now.store.rows → IsSome mid.store.rows) → ((other : List ℕ) → mid.files.content other ≡ entry.files.content other)
         → ((held : Held) (p : Progress) → KeepsProgress stands_for run mid.store p → AreTold mid.files.content held (turn held p.state o).answer.asks → IsSome now.store.rows
-        → Sends stands_for held p o (record mid { input = now.input }) now next)
+        → SendsAnswer stands_for held p o (record mid { input = now.input }) now next)
         → ((w : World) → stands_for run.kept mid.store w → IsSome now.store.rows → IsGrown stands_for w.history now.store next.kept)
         → Going stands_for first entry next now c n
     going_on hands back same sends grows = record {
@@ -141,11 +141,11 @@ last_orders bytes unread (Some y) (Some z) m n orders t h = (
 
 -- an input that was read to its end is short, and one that is too long is long
 pub known_short : (a b left : Option (List ℕ)) (unread : List ℕ) (m n count : ℕ) (orders : List Numbered) → Takes a b 0 m orders → HandsOrder b (ahead unread left) m n None
-    → Counts a left 0 count → count < 2 ^ 32 → IsShort a
+    → CountsBytes a left 0 count → count < 2 ^ 32 → IsShort a
 known_short None b left unread m n count orders t h c lt = tt
 known_short (Some bytes) b left unread m n count orders t h c lt =
-    let ended : Counts (Some bytes) (Some []) 0 count =
-    subst (λ (l : Option (List ℕ)). Counts (Some bytes) l 0 count) (last_orders bytes unread b left m n orders t h).1 c in
+    let ended : CountsBytes (Some bytes) (Some []) 0 count =
+    subst (λ (l : Option (List ℕ)). CountsBytes (Some bytes) l 0 count) (last_orders bytes unread b left m n orders t h).1 c in
     omega (arith, ended, lt)
 
 pub known_long : (a : Option (List ℕ)) → IsBeyond a 0 → IsLong a
@@ -156,13 +156,13 @@ pub no_more : (o : Option Numbered) → ((x : Numbered) → o ≡ Some x → ⊥
 no_more None f = refl
 no_more (Some x) f = absurd (f x refl)
 
-pub has_grown : {E : Type 0} (stands_for : E → Store → World → Type 0) (tells : (e : E) (store : Store) (w : World) → stands_for e store w → TellsOf store w.history)
+pub has_grown : {E : Type 0} (stands_for : E → Store → World → Type 0) (tells : (e : E) (store : Store) (w : World) → stands_for e store w → TellsHistory store w.history)
     (history : List Entry) (store : Store) (kept : E) → IsGrown stands_for history store kept → HasGrown history store
 has_grown stands_for tells history store kept g =
-    record { more = g.more; tells = subst (TellsOf store) g.grown (tells kept store g.world g.stands) }
+    record { more = g.more; tells = subst (TellsHistory store) g.grown (tells kept store g.world g.stands) }
 
 pub grown_more : (a b : List Entry) (store : Store) (x : List Entry) → b ≡ a ++ x → HasGrown b store → HasGrown a store
 grown_more a b store x is g = record {
   more = x ++ g.more;
-  tells = subst (TellsOf store) (ap (λ (h : List Entry). h ++ g.more) is ∙ append_assoc a x g.more) g.tells;
+  tells = subst (TellsHistory store) (ap (λ (h : List Entry). h ++ g.more) is ∙ append_assoc a x g.more) g.tells;
 }

@@ -1,8 +1,6 @@
 pub mod ExpressionExamples
 pub mod Loads
 pub mod Turns
-pub mod Rows
-pub mod Endings
 pub mod Fronts
 pub mod Goings
 pub mod Stops

@@ -2,15 +2,15 @@
 use Rattle.std.proofs.Common.{◌≡◌, ℕ, ◌+◌, List, [], ◌∷◌, ◌++◌, Option, Some, None, Result, Ok, Err, IfOk, refl, sym, ap, ◌∙◌, subst, length, map, append_assoc, append-nil, arith}
 use Rattle.std.proofs.lemmas.List.{map-append}
 use Rattle.pr_outside.specs.Meant.{Content}
-use Rattle.pr_text.specs.pr_query.Answers.{go_on}
-use Rattle.pr_status.specs.Asks.{Asks, AsksBy}
-use Rattle.pr_status.specs.Outside.{AreTold, Held}
-use Rattle.pr_status.specs.declared.status.Stop.{Stop}
-use Rattle.pr_loading.specs.Loading.{Walk, walk, walked}
-use Rattle.pr_text.specs.pr_world.Loading.{FileToLoad, all_found, file_found}
-use Rattle.pr_text.specs.pr_world.declared.event.NamedFile.{NamedFile}
-use Rattle.pr_text.specs.pr_world.declared.report.Report.{Report}
-use Rattle.pr_run.specs.Files.{AreNamed, FitsLoaded, HasNames, fits_by, found_by, found_of, with_file, with_found}
+use Rattle.pr_text.specs.spec_meaning.Answers.{go_on}
+use Rattle.pr_outside.specs.Asks.{Asks, AsksBy}
+use Rattle.pr_outside.specs.Outside.{AreTold, Held}
+use Rattle.pr_outside.specs.declared.status.status.Stop.{Stop}
+use Rattle.pr_outside.specs.Loading.{Walk, walk, walked}
+use Rattle.pr_text.specs.spec_world.Loading.{FileToLoad, all_found, file_found}
+use Rattle.pr_text.specs.spec_world.declared.event.NamedFile.{NamedFile}
+use Rattle.pr_text.specs.spec_world.declared.report.Report.{Report}
+use Rattle.pr_run.specs.private.Files.{AreNamed, FitsLoaded, HasNames, fits_by, found_by, found_of, with_file, with_found}
 use Rattle.pr_run.specs.Told.{asks_after, asks_for, content_by}
 use Rattle.pr_run.specs.declared.files.Loaded.{Loaded}
 

@@ -3,37 +3,37 @@ use Rattle.std.proofs.Common.{◌≡◌, ◌≢◌, ℕ, ◌+◌, ◌≤◌, Boo
 use Rattle.std.specs.Prelude.{flat_map}
 use Rattle.std.specs.declared.option.Option.{Option}
 use Rattle.std.specs.Io.KnownBytes.{Appends}
-use Rattle.pr_words.specs.Lines.{lines_of}
-use Rattle.pr_history.specs.declared.entry.Entry.{Entry}
+use Rattle.pr_outside.specs.pr_words.Lines.{lines_of}
+use Rattle.pr_queue.specs.spec_history.declared.entry.Entry.{Entry}
 use Rattle.pr_outside.specs.Meant.{Input, Store}
-use Rattle.pr_reader.specs.pr_script.declared.order.Numbered.{Numbered}
-use Rattle.pr_reader.specs.pr_script.Orders.{orders_of}
-use Rattle.pr_status.specs.Asks.{AsksAt}
-use Rattle.pr_status.specs.Ends.{Place, at_input, at_file, at_store, at_output, anywhere, place_of}
-use Rattle.pr_status.specs.Outside.{AreTold, Held, Outside}
-use Rattle.pr_status.specs.declared.status.Stop.{Stop}
-use Rattle.pr_status.specs.declared.status.Stop.TheVariants as stop
+use Rattle.pr_text.specs.declared.script.order.Numbered.{Numbered}
+use Rattle.pr_text.specs.Orders.{orders_of}
+use Rattle.pr_outside.specs.Asks.{AsksAt}
+use Rattle.pr_outside.specs.Ends.{StopPlace, at_input, at_file, at_store, at_output, anywhere, place_of, ReadEnds}
+use Rattle.pr_outside.specs.Outside.{AreTold, Held, Outside}
+use Rattle.pr_outside.specs.declared.status.status.Stop.{Stop}
+use Rattle.pr_outside.specs.declared.status.status.Stop.TheVariants as stop
 use Rattle.pr_outside.specs.Causes.{Rose}
 use Rattle.pr_outside.specs.declared.keeping.Row.{Row}
-use Rattle.pr_text.specs.pr_row.Histories.{history_of}
-use Rattle.pr_status.specs.Ends.{ReadEnds}
-use Rattle.pr_status.proofs.Ended.{quiet}
-use Rattle.pr_status.proofs.Streams.{appends_on}
-use Rattle.pr_reader.specs.LineReading.{ahead}
-use Rattle.pr_reader.specs.Reading.{HandsOrder, Takes, TakesOrders, IsCutAt}
-use Rattle.pr_reader.specs.Taken.{IsPrompt}
-use Rattle.pr_reader.proofs.Whole.{prompt_all, prompt_on}
-use Rattle.pr_text.specs.pr_world.World.{World}
-use Rattle.pr_run.specs.Front.{IsFront, IsPromptAt, TellsRow, is_between}
-use Rattle.pr_run.specs.Keeping.{KeepsProgress, Progress, Run, TellsOf, unanswered}
-use Rattle.pr_run.specs.Rows.{AreKept, IsBadIn}
+use Rattle.pr_queue.specs.spec_history.Histories.{history_of}
+use Rattle.pr_outside.proofs.Ended.{quiet}
+use Rattle.pr_outside.proofs.StatusStreams.{appends_on}
+use Rattle.pr_text.specs.private.LineReading.{ahead}
+use Rattle.pr_text.specs.private.Reading.{HandsOrder, Takes, TakesOrders, IsCutAt}
+use Rattle.pr_text.specs.Taken.{IsPrompt}
+use Rattle.pr_text.proofs.Whole.{prompt_all, prompt_on}
+use Rattle.pr_text.specs.spec_world.World.{World}
+use Rattle.pr_run.specs.Front.{IsFront, IsPromptAt, is_between}
+use Rattle.pr_text.specs.BadRows.{TellsRow, bad_row_text}
+use Rattle.pr_run.specs.private.Keeping.{KeepsProgress, Progress, Run, unanswered}
+use Rattle.pr_queue.specs.spec_history.Stores.{TellsHistory, AreKept, IsBadIn}
 use Rattle.pr_run.specs.Runs.{EndsOver, IsWholeRun}
-use Rattle.pr_run.specs.Standing.{Leaves, Stands, Waits, Writes}
-use Rattle.pr_run.specs.Told.{Answer, Turn, answers, answers_to, any_refused, asks_of, bad_row_text, begun, kept, kept_after, refuses, told, told_of, turn}
+use Rattle.pr_run.specs.private.Standing.{LeavesFront, RunStands, WaitsBehind, WritesTurn}
+use Rattle.pr_run.specs.Told.{OrderAnswer, Turn, answers, answers_to, any_refused, asks_of, begun, kept, kept_after, refuses, told, told_of, turn}
 use Rattle.pr_run.proofs.Fronts.{asks_anywhere, asks_between, asks_file, asks_output, asks_store, asks_written, front_at, front_in}
 use Rattle.pr_run.proofs.Goings.{Going, answered, come, last_orders, next_orders, split_orders}
 use Rattle.pr_run.proofs.Loads.{asks_on}
-use Rattle.pr_run.proofs.Rows.{IsDecoding, kept_by}
+use Rattle.pr_queue.proofs.HistoryStoredRows.{IsDecoding, kept_by}
 use Rattle.pr_run.proofs.Turns.{answer_count, answers_append, asks_append, orders_grow, progress_on, refused_of, steps_of, told_left, told_right, told_same}
 
 -- so many orders are answered, and no order that was complete has come since
@@ -80,21 +80,21 @@ read_stop T long x y stop.Memory e = tt
 read_stop T long x y stop.TooLong e = tt
 
 -- rows that tell a history have no bad one
-pub no_bad : (store : Store) (history : List Entry) (index : ℕ) → IsSome store.rows → TellsOf store history → IsBadIn store index → ⊥
+pub no_bad : (store : Store) (history : List Entry) (index : ℕ) → IsSome store.rows → TellsHistory store history → IsBadIn store index → ⊥
 no_bad store history index some tells bad = by store.rows some tells bad
   where
     by : (rows : Option (List Row)) → IsSome rows → IfSome rows (λ rs. history_of rs ≡ Ok history) → IfSome rows (λ rs. history_of rs ≡ Err index) → ⊥
     by None some tells bad = absurd (cc)
     by (Some rs) some tells bad = cc
 
-module _ {E : Type 0} (stands_for : E → Store → World → Type 0) (only : IsDecoding) (tells : (e : E) (store : Store) (w : World) → stands_for e store w → TellsOf store w.history)
+module _ {E : Type 0} (stands_for : E → Store → World → Type 0) (only : IsDecoding) (tells : (e : E) (store : Store) (w : World) → stands_for e store w → TellsHistory store w.history)
     (first : Run E) (entry others : Outside) (history : List Entry) (bytes : List ℕ) (keeps : KeepsProgress stands_for first entry.store (unanswered history))
     (p : Appends others.out.taken entry.out.taken (told_of history [])) (is : entry.input.left ≡ Some bytes)
     (run : Run E) (mid : Outside) (b : Option (List ℕ)) (m : ℕ) (here : Going stands_for first entry run mid b m) where
   abbrev before : Outside
   before = record others { input = entry.input; files = entry.files }
 
-  abbrev done : Held → List Answer
+  abbrev done : Held → List OrderAnswer
   done held = answered held history here.orders
 
   abbrev taken_of : Takes (Some bytes) b 0 m here.orders
@@ -104,8 +104,8 @@ module _ {E : Type 0} (stands_for : E → Store → World → Type 0) (only : Is
       → answers_to held history bytes ≡ done held ++ answers held (come held history here.orders).state later
   all_of held later e = ap (answers held (begun history)) e ∙ answers_append held (unanswered history) here.orders later
 
-  stands_of : (held : Held) (rest : List Answer) → answers_to held history bytes ≡ done held ++ rest → AreTold entry.files.content held (asks_of (answers_to held history bytes))
-      → IsSome mid.store.rows → Stands stands_for held history here.orders run before mid
+  stands_of : (held : Held) (rest : List OrderAnswer) → answers_to held history bytes ≡ done held ++ rest → AreTold entry.files.content held (asks_of (answers_to held history bytes))
+      → IsSome mid.store.rows → RunStands stands_for held history here.orders run before mid
   stands_of held rest e told some =
       here.stands others held history keeps p some
       (told_left entry.files.content held (asks_of (done held)) (asks_of rest) (subst (AreTold entry.files.content held) (ap asks_of e ∙ asks_append (done held) rest) told))
@@ -117,7 +117,7 @@ module _ {E : Type 0} (stands_for : E → Store → World → Type 0) (only : Is
   count_is held = sym (answer_count held (begun history) here.orders)
 
   -- the next order could not be had
-  pub front_between : (input : Input) (place : Place) → place ≢ at_file → IsPromptAt place bytes input.left (length here.orders) → IsSome mid.store.rows
+  pub front_between : (input : Input) (place : StopPlace) → place ≢ at_file → IsPromptAt place bytes input.left (length here.orders) → IsSome mid.store.rows
       → (held : Held) → AreTold entry.files.content held (asks_of (answers_to held history bytes))
       → IsFront bytes place history (answers_to held history bytes) before (record mid { input = input })
   front_between input place other prompt some held told =
@@ -126,8 +126,8 @@ module _ {E : Type 0} (stands_for : E → Store → World → Type 0) (only : Is
       let all : answers_to held history bytes ≡ done held ++ rest = all_of held t.0 t.1 in
       let s = stands_of held rest all told some in
       let rows : AreKept (kept_after history (done held)) mid.store =
-      kept_by only mid.store (kept_after history (done held)) (subst (TellsOf mid.store) (history_is held) (tells run.kept mid.store (come held history here.orders).state.world s.keeps.world)) in
-      subst (λ (l : List Answer). IsFront bytes place history l before (record mid { input = input })) (sym all)
+      kept_by only mid.store (kept_after history (done held)) (subst (TellsHistory mid.store) (history_is held) (tells run.kept mid.store (come held history here.orders).state.world s.keeps.world)) in
+      subst (λ (l : List OrderAnswer). IsFront bytes place history l before (record mid { input = input })) (sym all)
       (front_at bytes history (done held) rest place before (record mid { input = input }) (length (asks_of (done held))) s.told
       (subst (IsPromptAt place bytes input.left) (count_is held) prompt) rows s.asked (asks_between place (done held) rest other))
 
@@ -147,10 +147,10 @@ module _ {E : Type 0} (stands_for : E → Store → World → Type 0) (only : Is
         whole = λ held told.
             let s = stands_of held [] (tail held) told some in
             record {
-              written = subst (λ (l : List Answer). Appends others.out.taken mid.out.taken (told_of history l)) (sym (all held)) s.told;
+              written = subst (λ (l : List OrderAnswer). Appends others.out.taken mid.out.taken (told_of history l)) (sym (all held)) s.told;
               refused = s.keeps.refused ∙ refused_of held (unanswered history) here.orders ∙ ap any_refused (sym (all held));
-              kept = subst (λ (l : List Answer). AreKept (kept_after history l) mid.store) (sym (all held))
-                  (kept_by only mid.store (kept_after history (done held)) (subst (TellsOf mid.store) (history_is held) (tells run.kept mid.store (come held history here.orders).state.world s.keeps.world)));
+              kept = subst (λ (l : List OrderAnswer). AreKept (kept_after history l) mid.store) (sym (all held))
+                  (kept_by only mid.store (kept_after history (done held)) (subst (TellsHistory mid.store) (history_is held) (tells run.kept mid.store (come held history here.orders).state.world s.keeps.world)));
               read = last.1;
             };
         front = λ held told. front_between input at_input (λ e. absurd (cc)) (prompt_ended bytes input.left here.orders last.1 last.0) some held told;
@@ -192,24 +192,24 @@ module _ {E : Type 0} (stands_for : E → Store → World → Type 0) (only : Is
     abbrev later : List Numbered
     later = (next_orders bytes b c m n here.orders o taken_of hands).0
 
-    abbrev rest : List Answer
+    abbrev rest : List OrderAnswer
     rest = answers held the.state later
 
     all : answers_to held history bytes ≡ done held ++ the.answer ∷ rest
     all = all_of held (o ∷ later) (next_orders bytes b c m n here.orders o taken_of hands).1
 
-    stood : Stands stands_for held history here.orders run before mid
+    stood : RunStands stands_for held history here.orders run before mid
     stood = stands_of held (the.answer ∷ rest) all told some
 
-    front_waits : (place : Place) (least : ℕ) → ((k : ℕ) → IsPromptAt place bytes now.input.left k)
+    front_waits : (place : StopPlace) (least : ℕ) → ((k : ℕ) → IsPromptAt place bytes now.input.left k)
         → ((k : ℕ) → least ≤ k → k ≤ length the.answer.asks → AsksAt place (steps_of (done held ++ the.answer ∷ rest)) (length (done held)) (length (asks_of (done held)) + k))
-        → Waits the (come held history here.orders).state.world.history least middle now → IsFront bytes place history (answers_to held history bytes) before now
+        → WaitsBehind the (come held history here.orders).state.world.history least middle now → IsFront bytes place history (answers_to held history bytes) before now
     front_waits place least prompt at w =
         let text : Appends others.out.taken now.out.taken (told_of history (done held)) =
         subst (Appends others.out.taken now.out.taken) (append-nil (told_of history (done held))) (appends_on others.out.taken mid.out.taken now.out.taken (told_of history (done held)) [] stood.told w.told) in
-        subst (λ (l : List Answer). IsFront bytes place history l before now) (sym all)
+        subst (λ (l : List OrderAnswer). IsFront bytes place history l before now) (sym all)
         (front_at bytes history (done held) (the.answer ∷ rest) place before now (length (asks_of (done held)) + w.stays.count) text (prompt (length (done held)))
-        (kept_by only now.store (kept_after history (done held)) (subst (TellsOf now.store) (history_is held) w.stays.rows))
+        (kept_by only now.store (kept_after history (done held)) (subst (TellsHistory now.store) (history_is held) w.stays.rows))
         (asks_on entry.files.calls mid.files.calls now.files.calls (length (asks_of (done held))) w.stays.count stood.asked w.stays.asked) (at w.stays.count w.stays.some w.stays.within))
 
     grown_is : the.state.world.history ≡ kept_after history (done held ++ the.answer ∷ [])
@@ -218,17 +218,17 @@ module _ {E : Type 0} (stands_for : E → Store → World → Type 0) (only : Is
         ∙ orders_grow held (unanswered history) (here.orders ++ o ∷ [])
         ∙ ap (kept_after history) (answers_append held (unanswered history) here.orders (o ∷ []))
 
-    front_writes : (place : Place) → ((k : ℕ) → IsPromptAt place bytes now.input.left k) → (is_between place (length (done held) + 1) ≡ true → ⊥)
+    front_writes : (place : StopPlace) → ((k : ℕ) → IsPromptAt place bytes now.input.left k) → (is_between place (length (done held) + 1) ≡ true → ⊥)
         → AsksAt place (steps_of (done held ++ the.answer ∷ rest)) (length (done held) + 1) (length (asks_of (done held)) + length the.answer.asks)
-        → Writes the middle now → IsFront bytes place history (answers_to held history bytes) before now
+        → WritesTurn the middle now → IsFront bytes place history (answers_to held history bytes) before now
     front_writes place prompt within at w =
-        subst (λ (l : List Answer). IsFront bytes place history l before now) (sym all)
+        subst (λ (l : List OrderAnswer). IsFront bytes place history l before now) (sym all)
         (front_in bytes history (done held) rest the.answer place mid.out.taken before now w.count (length (asks_of (done held)) + length the.answer.asks) stood.told w.told within
         (prompt (length (done held) + 1))
-        (kept_by only now.store (kept_after history (done held ++ the.answer ∷ [])) (subst (TellsOf now.store) grown_is w.rows))
+        (kept_by only now.store (kept_after history (done held ++ the.answer ∷ [])) (subst (TellsHistory now.store) grown_is w.rows))
         (asks_on entry.files.calls mid.files.calls now.files.calls (length (asks_of (done held))) (length the.answer.asks) stood.asked w.asked) at)
 
-    pub front_left : (s : Stop) → Leaves the (come held history here.orders).state.world.history middle now s
+    pub front_left : (s : Stop) → LeavesFront the (come held history here.orders).state.world.history middle now s
         → IsFront bytes (place_of {T = Bool} (Err s)) history (answers_to held history bytes) before now
     front_left stop.Read w = absurd w
     front_left stop.Load w = front_waits at_file 1 (λ k. tt) (λ k some le. asks_file (done held) rest the.answer k some le) w
@@ -239,7 +239,7 @@ module _ {E : Type 0} (stands_for : E → Store → World → Type 0) (only : Is
     front_left stop.Memory (inr w) = front_writes anywhere (λ k. tt) (λ e. absurd (cc)) (asks_written (done held) rest the.answer) w
     front_left stop.TooLong w = absurd w
 
-    leaves : (r : Result Bool Stop) (s : Stop) → IsErrAnd r (λ y. y ≡ s) → Leaves the (come held history here.orders).state.world.history middle now s
+    leaves : (r : Result Bool Stop) (s : Stop) → IsErrAnd r (λ y. y ≡ s) → LeavesFront the (come held history here.orders).state.world.history middle now s
         → IsFront bytes (place_of r) history (answers_to held history bytes) before now
     leaves (Ok x) s h w = absurd h
     leaves (Err y) s h w = subst (λ (z : Stop). IsFront bytes (place_of {T = Bool} (Err z)) history (answers_to held history bytes) before now) (sym h) (front_left s w)
@@ -253,7 +253,7 @@ module _ {E : Type 0} (stands_for : E → Store → World → Type 0) (only : Is
     -- an answer was stopped
     pub left_over : (r : Result Bool Stop) (s : Stop) → IsErrAnd r (λ y. y ≡ s) → ((other : List ℕ) → mid.files.content other ≡ entry.files.content other)
         → ((p : Progress) → KeepsProgress stands_for run mid.store p → AreTold mid.files.content held (turn held p.state o).answer.asks
-        → Leaves (turn held p.state o) p.state.world.history middle now s)
+        → LeavesFront (turn held p.state o) p.state.world.history middle now s)
         → IsFront bytes (place_of r) history (answers_to held history bytes) before now
     left_over r s h same f = leaves r s h (f (come held history here.orders) stood.keeps (told_same entry.files.content mid.files.content held the.answer.asks same asked))
 

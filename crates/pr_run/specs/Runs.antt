@@ -1,20 +1,21 @@
 -- What `run` promises, by what the four objects mean before and after it.
 use Rattle.std.specs.Prelude.{◌≡◌, ◌≢◌, ℕ, ◌<◌, ◌≤◌, ◌^◌, Bool, List, [], length, Option, Some, Result, Ok, Err, IfOk, IfSome}
 use Rattle.std.specs.Io.KnownBytes.{Appends}
-use Rattle.pr_history.specs.declared.entry.Entry.{Entry}
+use Rattle.pr_queue.specs.spec_history.declared.entry.Entry.{Entry}
 use Rattle.pr_outside.specs.declared.keeping.Row.{Row}
-use Rattle.pr_text.specs.pr_row.Histories.{history_of}
-use Rattle.pr_status.specs.Ends.{Ends, KnowsLength, place_of, status_of}
-use Rattle.pr_status.specs.Opening.{OpensBy}
-use Rattle.pr_status.specs.Outside.{Outside, AreCalm, Held, AreTold}
-use Rattle.pr_status.specs.Status.{IsLong, verdict}
-use Rattle.pr_status.specs.declared.status.Status.{Status}
-use Rattle.pr_status.specs.declared.status.Status.TheVariants as status
-use Rattle.pr_status.specs.declared.status.Stop.{Stop}
-use Rattle.pr_status.specs.declared.status.Stop.TheVariants.{Read, Load, Store, BadRow, Write, Memory, TooLong}
-use Rattle.pr_run.specs.Front.{IsBadStart, IsFront, TellsRow}
-use Rattle.pr_run.specs.Rows.{AreKept, IsBadIn, OverRows}
-use Rattle.pr_run.specs.Told.{answers_to, asks_of, bad_row_text, told, kept, refuses}
+use Rattle.pr_queue.specs.spec_history.Histories.{history_of}
+use Rattle.pr_outside.specs.Ends.{Ends, KnowsLength, place_of, status_of}
+use Rattle.pr_outside.specs.Opening.{OpensBy}
+use Rattle.pr_outside.specs.Outside.{Outside, AreCalm, Held, AreTold}
+use Rattle.pr_outside.specs.Status.{IsLong, verdict}
+use Rattle.pr_outside.specs.declared.status.status.Status.{Status}
+use Rattle.pr_outside.specs.declared.status.status.Status.TheVariants as status
+use Rattle.pr_outside.specs.declared.status.status.Stop.{Stop}
+use Rattle.pr_outside.specs.declared.status.status.Stop.TheVariants.{Read, Load, Store, BadRow, Write, Memory, TooLong}
+use Rattle.pr_text.specs.BadRows.{IsBadStart, TellsRow, bad_row_text}
+use Rattle.pr_run.specs.Front.{IsFront}
+use Rattle.pr_queue.specs.spec_history.Stores.{AreKept, IsBadIn, OverRows}
+use Rattle.pr_run.specs.Told.{answers_to, asks_of, told, kept, refuses}
 
 -- A run was whole: it wrote what is told, it refused what is refused, it kept the rows of the entries,
 -- and nothing is left of the input.

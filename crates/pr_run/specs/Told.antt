@@ -1,25 +1,25 @@
 -- What a run of the script writes, keeps and refuses, by what the files hold, the rows at the start
 -- and the bytes of its input.
-use Rattle.std.specs.Prelude.{ℕ, Bool, cond, nat_lt, List, [], ◌∷◌, ◌++◌, length, flat_map, codes, decimal, Option, Some, None, Result, Ok, Err}
+use Rattle.std.specs.Prelude.{ℕ, Bool, cond, nat_lt, List, [], ◌∷◌, ◌++◌, length, flat_map, Option, Some, None, Result, Ok, Err}
 use Rattle.std.specs.List.{list_any}
-use Rattle.pr_words.specs.Lines.{lines_of}
-use Rattle.pr_history.specs.declared.entry.Entry.{Entry}
-use Rattle.pr_text.specs.pr_notices.Receivers.{Receiver}
-use Rattle.pr_text.specs.pr_world.declared.event.NamedFile.{NamedFile}
-use Rattle.pr_text.specs.pr_world.declared.report.Report.{Report}
-use Rattle.pr_text.specs.pr_world.declared.report.Report.TheVariants.{Opened}
-use Rattle.pr_text.specs.pr_world.Loading.{FileToLoad, Holding, holds, is_missing, is_too_large, file_found, reload_asked}
-use Rattle.pr_text.specs.pr_world.Settings.{of_a_run}
-use Rattle.pr_text.specs.pr_world.Step.{Step, next}
-use Rattle.pr_text.specs.pr_world.World.{World, start}
-use Rattle.pr_reader.specs.pr_script.declared.order.Order.{Order}
-use Rattle.pr_reader.specs.pr_script.declared.order.Order.TheVariants as order
-use Rattle.pr_reader.specs.pr_script.declared.order.Numbered.{Numbered}
-use Rattle.pr_reader.specs.pr_script.Orders.{orders_of}
+use Rattle.pr_outside.specs.pr_words.Lines.{lines_of}
+use Rattle.pr_queue.specs.spec_history.declared.entry.Entry.{Entry}
+use Rattle.pr_queue.specs.spec_alerts.Receivers.{Receiver}
+use Rattle.pr_text.specs.spec_world.declared.event.NamedFile.{NamedFile}
+use Rattle.pr_text.specs.spec_world.declared.report.Report.{Report}
+use Rattle.pr_text.specs.spec_world.declared.report.Report.TheVariants.{Opened}
+use Rattle.pr_text.specs.spec_world.Loading.{FileToLoad, Holding, holds, is_missing, is_too_large, file_found, reload_asked}
+use Rattle.pr_text.specs.spec_world.Settings.{of_a_run}
+use Rattle.pr_text.specs.spec_world.Step.{Step, next}
+use Rattle.pr_text.specs.spec_world.World.{World, start}
+use Rattle.pr_text.specs.declared.script.order.Order.{Order}
+use Rattle.pr_text.specs.declared.script.order.Order.TheVariants as order
+use Rattle.pr_text.specs.declared.script.order.Numbered.{Numbered}
+use Rattle.pr_text.specs.Orders.{orders_of}
 use Rattle.pr_text.specs.Printed.{shown_report}
-use Rattle.pr_loading.specs.Loading as loading
-use Rattle.pr_loading.specs.Loading.{holding_by}
-use Rattle.pr_status.specs.Outside.{Held}
+use Rattle.pr_outside.specs.Loading as loading
+use Rattle.pr_outside.specs.Loading.{holding_by}
+use Rattle.pr_outside.specs.Outside.{Held}
 use Rattle.pr_run.specs.Replies.{Reply, bad_line_reply, flush_reply, receiver_reply, receivers_after}
 
 -- What is kept in mind between two orders: the world; and the receivers of notices, which are no part
@@ -34,7 +34,7 @@ begun rows = record { world = start rows; receivers = [] }
 
 -- what is told of an order: its text, the rows that are kept for it, whether it is refused, and the
 -- files that are asked for
-pub record Answer : Type 0 where
+pub record OrderAnswer : Type 0 where
   pub text : List ℕ
   pub rows : List Entry
   pub refused : Bool
@@ -42,7 +42,7 @@ pub record Answer : Type 0 where
 
 -- an order's answer, and what is kept in mind after it
 pub record Turn : Type 0 where
-  pub answer : Answer
+  pub answer : OrderAnswer
   pub state : State
 
 -- Files
@@ -99,38 +99,28 @@ unfoldable pub turn : Held → State → Numbered → Turn
 turn held s o = turn_of held s o.number o.order
 
 -- the answers to orders, one after another
-abbrev pub answers : Held → State → List Numbered → List Answer
+abbrev pub answers : Held → State → List Numbered → List OrderAnswer
 answers held s [] = []
 answers held s (o ∷ orders) = (turn held s o).answer ∷ answers held (turn held s o).state orders
 
 -- the answers to all orders of an input, over these rows at the start
-abbrev pub answers_to : Held → List Entry → List ℕ → List Answer
+abbrev pub answers_to : Held → List Entry → List ℕ → List OrderAnswer
 answers_to held rows bytes = answers held (begun rows) (orders_of (lines_of bytes))
 
 -- the files that are asked for
-abbrev pub asks_of : List Answer → List (List ℕ)
-asks_of answered = flat_map (λ (a : Answer). a.asks) answered
+abbrev pub asks_of : List OrderAnswer → List (List ℕ)
+asks_of answered = flat_map (λ (a : OrderAnswer). a.asks) answered
 
 -- the line that a run begins with, and then the texts of answers
-unfoldable pub told_of : List Entry → List Answer → List ℕ
-told_of rows answered = shown_report (Opened (length rows)) ++ flat_map (λ (a : Answer). a.text) answered
-
--- The only line where a row at the start is bad, and the last one where a run that begins anew finds
--- one.
-unfoldable pub bad_row_text : ℕ → List ℕ
-bad_row_text index = codes "bad row " ++ (decimal index ++ codes "\n")
-
--- the line of a bad row, by what the rows tell
-abbrev pub bad_text : Result (List Entry) ℕ → List ℕ
-bad_text (Ok history) = []
-bad_text (Err index) = bad_row_text index
+unfoldable pub told_of : List Entry → List OrderAnswer → List ℕ
+told_of rows answered = shown_report (Opened (length rows)) ++ flat_map (λ (a : OrderAnswer). a.text) answered
 
 -- the entries that are kept after answers: those at the start, and those of the answers
-abbrev pub kept_after : List Entry → List Answer → List Entry
-kept_after rows answered = rows ++ flat_map (λ (a : Answer). a.rows) answered
+abbrev pub kept_after : List Entry → List OrderAnswer → List Entry
+kept_after rows answered = rows ++ flat_map (λ (a : OrderAnswer). a.rows) answered
 
-abbrev pub any_refused : List Answer → Bool
-any_refused answered = list_any (λ (a : Answer). a.refused) answered
+abbrev pub any_refused : List OrderAnswer → Bool
+any_refused answered = list_any (λ (a : OrderAnswer). a.refused) answered
 
 -- what a run writes that reads these bytes, the entries that it keeps, and whether it refuses an order
 abbrev pub told : Held → List Entry → List ℕ → List ℕ

@@ -2,25 +2,25 @@
 ghost use Rattle.std.specs.Prelude.{◌≡◌, ℕ, ◌<◌, ◌≤◌, ◌^◌, List, length, map, Ok, Some, IfOk};
 ghost use Rattle.std.specs.declared.option.Option.{Option};
 ghost use Rattle.pr_outside.specs.Contents.{IsFound, IsWithinLimit, file_limit};
-ghost use Rattle.pr_loading.specs.Loading.{holding_by};
+ghost use Rattle.pr_outside.specs.Loading.{holding_by};
 ghost use Rattle.pr_text.specs.pr_rulefile.File.{rule_file_of};
-ghost use Rattle.pr_status.specs.Asks.{AsksBy};
-ghost use Rattle.pr_status.specs.Ends.{LoadEnds};
-ghost use Rattle.pr_status.specs.Outside.{AreTold, Held};
-ghost use Rattle.pr_text.specs.pr_world.Loading.{all_found, file_found, read_first, with_bytes};
-ghost use Rattle.pr_text.specs.pr_world.Rounds.{first_problem, groups_by};
-ghost use Rattle.pr_text.specs.pr_world.declared.event.NamedFile as named;
-ghost use Rattle.pr_run.specs.Files.{HasNames, found_of, read_as};
+ghost use Rattle.pr_outside.specs.Asks.{AsksBy};
+ghost use Rattle.pr_outside.specs.Ends.{LoadEnds};
+ghost use Rattle.pr_outside.specs.Outside.{AreTold, Held};
+ghost use Rattle.pr_text.specs.spec_world.Loading.{all_found, file_found, read_first, with_bytes};
+ghost use Rattle.pr_text.specs.spec_world.Rounds.{first_problem, groups_by};
+ghost use Rattle.pr_text.specs.spec_world.declared.event.NamedFile as named;
+ghost use Rattle.pr_run.specs.private.Files.{HasNames, found_of, read_as};
 ghost use Rattle.pr_run.specs.Told.{asks_for, content_by, holding_of};
 
-use pr_loading::{Taker, load_each};
-use pr_outside::{Files, Found};
-use pr_reader::script::FileToLoad;
-use pr_status::Stop;
-use pr_text::fields_crate::Problem;
+use pr_outside::loading::{Taker, load_each};
+use pr_outside::status::Stop;
+use pr_outside::words_crate::{Items, Text};
+use pr_outside::{FileContent, Files};
+use pr_text::rulefile::fields::Problem;
 use pr_text::rulefile::{RuleError, read};
+use pr_text::script::FileToLoad;
 use pr_text::world::{NamedFile, Report};
-use pr_words::{Items, Text};
 use std::alloc::{AllocError, Global};
 
 // The refusal of a file with these problems.
@@ -76,18 +76,18 @@ fn read_bytes(
 fn read_found(
     alloc: Global,
     file: &FileToLoad,
-    found: Found,
+    found: FileContent,
 ) -> Result<Result<NamedFile, Report>, AllocError>
     requires { IsWithinLimit found }
     ensures read { (content : Option (List ℕ)) → IsFound (Some content) found → IfOk result (λ r. r ≡ file_found file.now (holding_of (holding_by content))) }
     ensures name { IfOk result (λ r. IfOk r (λ f. f.name ≡ file.now.name)) }
 {
     match found {
-        Found::Bytes { bytes } => read_bytes(alloc, file.name.as_str(), bytes),
-        Found::Missing => Ok(Err(Report::Missing {
+        FileContent::Bytes { bytes } => read_bytes(alloc, file.name.as_str(), bytes),
+        FileContent::Missing => Ok(Err(Report::Missing {
             file: file.file.copy(alloc)?,
         })),
-        Found::TooLarge => Ok(Err(Report::TooLarge {
+        FileContent::TooLarge => Ok(Err(Report::TooLarge {
             file: file.file.copy(alloc)?,
         })),
     }
@@ -114,8 +114,8 @@ impl Loaded {
 }
 
 impl Taker<FileToLoad> for Loaded {
-    ghost use Rattle.pr_text.specs.pr_world.Loading.{FileToLoad};
-    ghost use Rattle.pr_run.specs.Files.{FitsLoaded, with_file};
+    ghost use Rattle.pr_text.specs.spec_world.Loading.{FileToLoad};
+    ghost use Rattle.pr_run.specs.private.Files.{FitsLoaded, with_file};
 
     ghost file = { λ (f : FileToLoad). f.file };
 
@@ -127,7 +127,12 @@ impl Taker<FileToLoad> for Loaded {
         name.file.as_str()
     }
 
-    fn take(&mut self, alloc: Global, name: &FileToLoad, found: Found) -> Result<bool, AllocError> {
+    fn take(
+        &mut self,
+        alloc: Global,
+        name: &FileToLoad,
+        found: FileContent,
+    ) -> Result<bool, AllocError> {
         match read_found(alloc, name, found)? {
             Ok(named) => {
                 self.files.push(named)?;

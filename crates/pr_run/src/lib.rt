@@ -6,8 +6,6 @@ mod files;
 mod receivers;
 mod running;
 mod session;
-mod worlds;
 
 pub use examples::{a_receiver_is_told_what_waits, a_value_is_told_for_five_minutes};
-pub use running::{bad_row_of, run, tell_bad_row, tell_opened};
-pub use worlds::Worlds;
+pub use running::run;

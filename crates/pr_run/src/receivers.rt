@@ -1,7 +1,7 @@
 // What orders do to the receivers of notices.
 ghost use Rattle.std.specs.Prelude.{◌≡◌, List, OnOk};
-ghost use Rattle.pr_text.specs.pr_notices.Receivers.{Receiver, after_offer};
-ghost use Rattle.pr_queue.specs.Standing as waiting;
+ghost use Rattle.pr_queue.specs.spec_alerts.Receivers.{Receiver, after_offer};
+ghost use Rattle.pr_queue.specs.private.Standing as waiting;
 ghost use Rattle.pr_run.specs.Replies.{all_sent, is_not_new, receivers_after};
 
 use pr_queue::{Joined, Notifier};

@@ -1,80 +1,32 @@
 // The command `run`: one order after another is asked for, and answered before the next one.
-ghost use Rattle.std.specs.Prelude.{◌≡◌, ◌≢◌, ◌++◌, ℕ, List, [], take, Err, IfOk, IfSome, IfNone, IfErr, IsSome, OnOk, OnErr};
+ghost use Rattle.std.specs.Prelude.{◌≡◌, ℕ, List, [], take, Err, IfOk, IfSome, IfErr, IsSome, OnOk, OnErr};
 ghost use Rattle.std.specs.Io.KnownBytes.{Appends};
-ghost use Rattle.pr_history.specs.declared.entry.Entry.{Entry};
-ghost use Rattle.pr_outside.specs.Kept.{StartsRows};
-ghost use Rattle.pr_text.specs.pr_row.Histories.{history_of};
-ghost use Rattle.pr_status.specs.Ends.{Ends, KnowsLength, WriteEnds};
-ghost use Rattle.pr_status.specs.Opening.{OpensBy};
-ghost use Rattle.pr_status.specs.Outside.{AreTold, Held, Outside};
-ghost use Rattle.pr_status.specs.Status.{IsLong};
-ghost use Rattle.pr_status.specs.declared.status.Stop.TheVariants as stop;
-ghost use Rattle.pr_text.specs.pr_world.World.{World};
-ghost use Rattle.pr_run.specs.Beginning.{Begins, first_text};
-ghost use Rattle.pr_run.specs.Front.{TellsRow};
-ghost use Rattle.pr_run.specs.Keeping.{KeepsProgress, Progress, unanswered};
-ghost use Rattle.pr_run.specs.Rows.{IsBadIn, OverRows};
+ghost use Rattle.pr_queue.specs.spec_history.declared.entry.Entry.{Entry};
+ghost use Rattle.pr_outside.specs.private.Kept.{StartsRows};
+ghost use Rattle.pr_queue.specs.spec_history.Histories.{history_of};
+ghost use Rattle.pr_outside.specs.Ends.{Ends, KnowsLength};
+ghost use Rattle.pr_outside.specs.Opening.{OpensBy};
+ghost use Rattle.pr_outside.specs.Outside.{AreTold, Held, Outside};
+ghost use Rattle.pr_outside.specs.Status.{IsLong};
+ghost use Rattle.pr_outside.specs.declared.status.status.Stop.TheVariants as stop;
+ghost use Rattle.pr_text.specs.spec_world.World.{World};
+ghost use Rattle.pr_run.specs.private.Beginning.{Begins, first_text};
+ghost use Rattle.pr_text.specs.BadRows.{TellsRow, bad_row_text};
+ghost use Rattle.pr_run.specs.private.Keeping.{KeepsProgress, Progress, unanswered};
+ghost use Rattle.pr_queue.specs.spec_history.Stores.{IsBadIn, OverRows};
 ghost use Rattle.pr_run.specs.Runs.{EndsBy, EndsOver};
-ghost use Rattle.pr_run.specs.Standing.{Grows, HasGrown, Leaves, Sends};
-ghost use Rattle.pr_run.specs.Told.{bad_row_text, told_of, turn};
-ghost use Rattle.pr_text.specs.Printed.{shown_report};
-ghost use Rattle.pr_text.specs.pr_world.declared.report.Report.TheVariants.{Opened};
+ghost use Rattle.pr_run.specs.private.Standing.{StoreGrows, HasGrown, LeavesFront, SendsAnswer};
+ghost use Rattle.pr_run.specs.Told.{told_of, turn};
 
 use crate::session::Session;
-use crate::worlds::Worlds;
+use pr_outside::status::{Stop, send};
 use pr_outside::{Files, Keeper, Sink, Source};
-use pr_reader::Reader;
-use pr_reader::script::Numbered;
-use pr_status::{Stop, send};
-use pr_text::kinds::push_number;
-use pr_text::push_report;
-use pr_text::row::laws::rows_decode_as_their_entries;
-use pr_text::world::Report;
-use std::alloc::{AllocError, Global};
-
-/// Writes the line that a command begins with which opened a store of so many rows.
-pub fn tell_opened<O: Sink>(alloc: Global, rows: u64, out: &mut O) -> Result<(), Stop>
-    ensures text { OnOk result (Appends (O.means out.old).taken (O.means out.new).taken (shown_report (Opened rows))) }
-    ensures front { (n : ℕ) × Appends (O.means out.old).taken (O.means out.new).taken (take n (shown_report (Opened rows))) }
-    ensures ends { WriteEnds (O.means out.old) (O.means out.new) result }
-{
-    let mut text = Vec::new(alloc);
-    push_report(&mut text, &Report::Opened { rows })?;
-    send(out, &text)?;
-    Ok(())
-}
-
-#[tactic(auto, unfolding(crate::specs::Told::bad_row_text))]
-fn push_bad_row(text: &mut Vec<u8>, index: u64) -> Result<(), AllocError>
-    ensures { OnOk result (text.new.items ≡ text.old.items ++ bad_row_text index) }
-{
-    text.extend_from_slice(b"bad row ")?;
-    push_number(text, index)?;
-    text.extend_from_slice(b"\n")
-}
-
-/// The index of the bad row that stopped a call, where one did.
-pub fn bad_row_of(stop: Stop) -> Option<u64>
-    ensures some { IfSome result (λ index. stop ≡ Stop.BadRow index) }
-    ensures none { IfNone result ((index : ℕ) → stop ≢ Stop.BadRow index) }
-{
-    match stop {
-        Stop::BadRow { index } => Some(index),
-        _ => None,
-    }
-}
-
-/// Writes the line of a bad row.
-pub fn tell_bad_row<O: Sink>(alloc: Global, index: u64, out: &mut O) -> Result<(), Stop>
-    ensures text { OnOk result (Appends (O.means out.old).taken (O.means out.new).taken (bad_row_text index)) }
-    ensures front { (n : ℕ) × Appends (O.means out.old).taken (O.means out.new).taken (take n (bad_row_text index)) }
-    ensures ends { WriteEnds (O.means out.old) (O.means out.new) result }
-{
-    let mut text = Vec::new(alloc);
-    push_bad_row(&mut text, index)?;
-    send(out, &text)?;
-    Ok(())
-}
+use pr_queue::history::row::laws::rows_decode_as_their_entries;
+use pr_text::reader::Reader;
+use pr_text::script::Numbered;
+use pr_text::world::Worlds;
+use pr_text::{bad_row_of, tell_bad_row, tell_opened};
+use std::alloc::Global;
 
 // Begins over the rows of the store of a path, and writes the first line; or the only one, where a
 // row is a bad one.
@@ -118,15 +70,15 @@ fn answer_order<E: Worlds + Drop, F: Files, K: Keeper, O: Sink>(
 ) -> Result<(), Stop>
     ensures sends { (others : Outside) (held : Held) (p : Progress) → KeepsProgress E.stands_for session.old (K.means keeper.old) p
         → AreTold (F.means files.old).content held (turn held p.state order).answer.asks → IsSome (K.means keeper.new).rows
-        → OnOk result (Sends E.stands_for held p order (record others { files = F.means files.old; store = K.means keeper.old; out = O.means out.old })
+        → OnOk result (SendsAnswer E.stands_for held p order (record others { files = F.means files.old; store = K.means keeper.old; out = O.means out.old })
         (record others { files = F.means files.new; store = K.means keeper.new; out = O.means out.new }) session.new) }
     ensures leaves { (others : Outside) (held : Held) (p : Progress) → KeepsProgress E.stands_for session.old (K.means keeper.old) p
         → AreTold (F.means files.old).content held (turn held p.state order).answer.asks → IsSome (K.means keeper.new).rows
-        → IfErr result (Leaves (turn held p.state order) p.state.world.history (record others { files = F.means files.old; store = K.means keeper.old; out = O.means out.old })
+        → IfErr result (LeavesFront (turn held p.state order) p.state.world.history (record others { files = F.means files.old; store = K.means keeper.old; out = O.means out.old })
         (record others { files = F.means files.new; store = K.means keeper.new; out = O.means out.new })) }
     ensures written { OnOk result ((text : List ℕ) × Appends (O.means out.old).taken (O.means out.new).taken text) }
     ensures row { (at : ℕ) → result ≡ Err (stop.BadRow at) → Appends (O.means out.old).taken (O.means out.new).taken (bad_row_text at) }
-    ensures grows { (w : World) → E.stands_for session.old.kept (K.means keeper.old) w → IsSome (K.means keeper.new).rows → Grows E.stands_for w.history (K.means keeper.new) session.new.kept result }
+    ensures grows { (w : World) → E.stands_for session.old.kept (K.means keeper.old) w → IsSome (K.means keeper.new).rows → StoreGrows E.stands_for w.history (K.means keeper.new) session.new.kept result }
     ensures told { IsSome (K.means keeper.new).rows → IsSome (K.means keeper.old).rows }
     ensures same { (other : List ℕ) → (F.means files.new).content other ≡ (F.means files.old).content other }
     ensures paths { (K.means keeper.new).paths ≡ (K.means keeper.old).paths }

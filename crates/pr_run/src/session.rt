@@ -1,33 +1,32 @@
 // A run of the script, order by order.
 ghost use Rattle.std.specs.Prelude.{◌≡◌, ◌++◌, ◌||◌, ℕ, List, [], length, nat_lt, false, true, Some, IfSome, IfNone, IsSome, OnOk, IfErr};
-ghost use Rattle.pr_text.specs.pr_notices.Receivers.{Receiver};
-ghost use Rattle.pr_queue.specs.Standing as waiting;
-ghost use Rattle.pr_status.specs.Ends.{Ends};
-ghost use Rattle.pr_status.specs.Outside.{AreTold, Held, Outside};
-ghost use Rattle.pr_text.specs.pr_world.Outcome.{IsNotBefore, is_refusal};
-ghost use Rattle.pr_text.specs.pr_world.Settings.{of_a_run};
-ghost use Rattle.pr_text.specs.pr_world.Loading.{reload_asked};
-ghost use Rattle.pr_text.specs.pr_world.Step.{HasDistinctFiles, next};
-ghost use Rattle.pr_text.specs.pr_world.World.{World};
+ghost use Rattle.pr_queue.specs.spec_alerts.Receivers.{Receiver};
+ghost use Rattle.pr_queue.specs.private.Standing as waiting;
+ghost use Rattle.pr_outside.specs.Ends.{Ends};
+ghost use Rattle.pr_outside.specs.Outside.{AreTold, Held, Outside};
+ghost use Rattle.pr_text.specs.spec_world.private.Laws.{IsNotBefore, is_refusal, HasDistinctFiles};
+ghost use Rattle.pr_text.specs.spec_world.Settings.{of_a_run};
+ghost use Rattle.pr_text.specs.spec_world.Loading.{reload_asked};
+ghost use Rattle.pr_text.specs.spec_world.Step.{next};
+ghost use Rattle.pr_text.specs.spec_world.World.{World};
 ghost use Rattle.pr_text.specs.Printed.{shown_report};
-ghost use Rattle.pr_reader.specs.pr_script.declared.order.Order.TheVariants as order;
-ghost use Rattle.pr_run.specs.Events.{has_files};
-ghost use Rattle.pr_run.specs.Keeping.{KeepsProgress, Progress};
+ghost use Rattle.pr_text.specs.declared.script.order.Order.TheVariants as order;
+ghost use Rattle.pr_run.specs.private.Events.{has_files};
+ghost use Rattle.pr_run.specs.private.Keeping.{KeepsProgress, Progress};
 ghost use Rattle.pr_run.specs.Replies.{bad_line_reply, flush_reply, receiver_reply, receivers_after};
-ghost use Rattle.pr_run.specs.Rows.{IsBadIn};
-ghost use Rattle.pr_run.specs.Standing.{Answers, Gives, Grows, Leaves, Replies};
+ghost use Rattle.pr_queue.specs.spec_history.Stores.{IsBadIn};
+ghost use Rattle.pr_run.specs.private.Standing.{AnswersOrder, WorldGives, StoreGrows, LeavesFront, ReceiversReply};
 ghost use Rattle.pr_run.specs.Told.{asks_for, asks_in_time, content_by, turn};
 
 use crate::files::load_files;
 use crate::receivers::{is_not_new, notify};
-use crate::worlds::Worlds;
+use pr_ast::time::Ms;
+use pr_outside::status::Stop;
 use pr_outside::{Files, Keeper};
 use pr_queue::Notifier;
-use pr_reader::script::{FilesToLoad, Numbered, Order};
-use pr_status::Stop;
-use pr_text::world::{Event, Report};
+use pr_text::script::{FilesToLoad, Numbered, Order};
+use pr_text::world::{Event, Report, Worlds};
 use pr_text::{push_bad_line, push_batch, push_joined, push_no_receiver, push_report};
-use pr_time::Ms;
 use std::alloc::{AllocError, Global};
 use std::marker::Model;
 
@@ -62,7 +61,7 @@ pub(crate) struct Session<E> {
 }
 
 impl<E> Model for Session<E> {
-    ghost use Rattle.pr_run.specs.Keeping.{Run};
+    ghost use Rattle.pr_run.specs.private.Keeping.{Run};
 
     ghost Value = { Run E };
 
@@ -99,10 +98,10 @@ impl<E: Worlds + Drop> Session<E> {
     ) -> Result<Report, Stop>
         requires { HasDistinctFiles event }
         ensures gives { (others : Outside) (w : World) → E.stands_for self.old.kept (K.means keeper.old) w → IsSome (K.means keeper.new).rows
-            → Gives E.stands_for w (next of_a_run w event) 0 (record others { store = K.means keeper.old }) (record others { store = K.means keeper.new }) self.new.kept result }
+            → WorldGives E.stands_for w (next of_a_run w event) 0 (record others { store = K.means keeper.old }) (record others { store = K.means keeper.new }) self.new.kept result }
         ensures refused { self.new.refused ≡ self.old.refused }
         ensures queues { self.new.queues ≡ self.old.queues }
-        ensures grows { (w : World) → E.stands_for self.old.kept (K.means keeper.old) w → IsSome (K.means keeper.new).rows → Grows E.stands_for w.history (K.means keeper.new) self.new.kept result }
+        ensures grows { (w : World) → E.stands_for self.old.kept (K.means keeper.old) w → IsSome (K.means keeper.new).rows → StoreGrows E.stands_for w.history (K.means keeper.new) self.new.kept result }
         ensures told { IsSome (K.means keeper.new).rows → IsSome (K.means keeper.old).rows }
         ensures paths { (K.means keeper.new).paths ≡ (K.means keeper.old).paths }
         ensures ends { (others : Outside) → Ends (IsBadIn (K.means keeper.new)) ⊥ (record others { store = K.means keeper.old }) (record others { store = K.means keeper.new }) result }
@@ -121,11 +120,11 @@ impl<E: Worlds + Drop> Session<E> {
     ) -> Result<Report, Stop>
         ensures gives { (others : Outside) (held : Held) (w : World) → E.stands_for self.old.kept (K.means keeper.old) w → IsNotBefore w.last time
             → AreTold (F.means files.old).content held (asks_for (content_by held) names.now) → IsSome (K.means keeper.new).rows
-            → Gives E.stands_for w (reload_asked of_a_run w time (content_by held) names.now) (length (asks_for (content_by held) names.now))
+            → WorldGives E.stands_for w (reload_asked of_a_run w time (content_by held) names.now) (length (asks_for (content_by held) names.now))
             (record others { files = F.means files.old; store = K.means keeper.old }) (record others { files = F.means files.new; store = K.means keeper.new }) self.new.kept result }
         ensures refused { self.new.refused ≡ self.old.refused }
         ensures queues { self.new.queues ≡ self.old.queues }
-        ensures grows { (w : World) → E.stands_for self.old.kept (K.means keeper.old) w → IsSome (K.means keeper.new).rows → Grows E.stands_for w.history (K.means keeper.new) self.new.kept result }
+        ensures grows { (w : World) → E.stands_for self.old.kept (K.means keeper.old) w → IsSome (K.means keeper.new).rows → StoreGrows E.stands_for w.history (K.means keeper.new) self.new.kept result }
         ensures told { IsSome (K.means keeper.new).rows → IsSome (K.means keeper.old).rows }
         ensures same { (other : List ℕ) → (F.means files.new).content other ≡ (F.means files.old).content other }
         ensures paths { (K.means keeper.new).paths ≡ (K.means keeper.old).paths }
@@ -149,11 +148,11 @@ impl<E: Worlds + Drop> Session<E> {
     ) -> Result<Report, Stop>
         ensures gives { (others : Outside) (held : Held) (w : World) → E.stands_for self.old.kept (K.means keeper.old) w
             → AreTold (F.means files.old).content held (asks_in_time w.last time (asks_for (content_by held) names.now)) → IsSome (K.means keeper.new).rows
-            → Gives E.stands_for w (reload_asked of_a_run w time (content_by held) names.now) (length (asks_in_time w.last time (asks_for (content_by held) names.now)))
+            → WorldGives E.stands_for w (reload_asked of_a_run w time (content_by held) names.now) (length (asks_in_time w.last time (asks_for (content_by held) names.now)))
             (record others { files = F.means files.old; store = K.means keeper.old }) (record others { files = F.means files.new; store = K.means keeper.new }) self.new.kept result }
         ensures refused { self.new.refused ≡ self.old.refused }
         ensures queues { self.new.queues ≡ self.old.queues }
-        ensures grows { (w : World) → E.stands_for self.old.kept (K.means keeper.old) w → IsSome (K.means keeper.new).rows → Grows E.stands_for w.history (K.means keeper.new) self.new.kept result }
+        ensures grows { (w : World) → E.stands_for self.old.kept (K.means keeper.old) w → IsSome (K.means keeper.new).rows → StoreGrows E.stands_for w.history (K.means keeper.new) self.new.kept result }
         ensures told { IsSome (K.means keeper.new).rows → IsSome (K.means keeper.old).rows }
         ensures same { (other : List ℕ) → (F.means files.new).content other ≡ (F.means files.old).content other }
         ensures paths { (K.means keeper.new).paths ≡ (K.means keeper.old).paths }
@@ -188,11 +187,11 @@ impl<E: Worlds + Drop> Session<E> {
     ) -> Result<(), Stop>
         ensures answers { (others : Outside) (held : Held) (p : Progress) (number : ℕ) → KeepsProgress E.stands_for self.old (K.means keeper.old) p
             → IsSome (K.means keeper.new).rows
-            → OnOk result (Answers E.stands_for held p (record { number = number; order = order.Event event }) (record others { store = K.means keeper.old }) (record others { store = K.means keeper.new }) self.new text.old.items text.new.items) }
+            → OnOk result (AnswersOrder E.stands_for held p (record { number = number; order = order.Event event }) (record others { store = K.means keeper.old }) (record others { store = K.means keeper.new }) self.new text.old.items text.new.items) }
         ensures leaves { (others : Outside) (held : Held) (p : Progress) (number : ℕ) → KeepsProgress E.stands_for self.old (K.means keeper.old) p
             → IsSome (K.means keeper.new).rows
-            → IfErr result (Leaves (turn held p.state (record { number = number; order = order.Event event })) p.state.world.history (record others { store = K.means keeper.old }) (record others { store = K.means keeper.new })) }
-        ensures grows { (w : World) → E.stands_for self.old.kept (K.means keeper.old) w → IsSome (K.means keeper.new).rows → Grows E.stands_for w.history (K.means keeper.new) self.new.kept result }
+            → IfErr result (LeavesFront (turn held p.state (record { number = number; order = order.Event event })) p.state.world.history (record others { store = K.means keeper.old }) (record others { store = K.means keeper.new })) }
+        ensures grows { (w : World) → E.stands_for self.old.kept (K.means keeper.old) w → IsSome (K.means keeper.new).rows → StoreGrows E.stands_for w.history (K.means keeper.new) self.new.kept result }
         ensures told { IsSome (K.means keeper.new).rows → IsSome (K.means keeper.old).rows }
         ensures paths { (K.means keeper.new).paths ≡ (K.means keeper.old).paths }
         ensures ends { (others : Outside) → Ends (IsBadIn (K.means keeper.new)) ⊥ (record others { store = K.means keeper.old }) (record others { store = K.means keeper.new }) result }
@@ -218,11 +217,11 @@ impl<E: Worlds + Drop> Session<E> {
     ) -> Result<(), Stop>
         ensures answers { (others : Outside) (held : Held) (p : Progress) (number : ℕ) → KeepsProgress E.stands_for self.old (K.means keeper.old) p
             → AreTold (F.means files.old).content held (turn held p.state (record { number = number; order = order.Reload time names })).answer.asks → IsSome (K.means keeper.new).rows
-            → OnOk result (Answers E.stands_for held p (record { number = number; order = order.Reload time names }) (record others { files = F.means files.old; store = K.means keeper.old }) (record others { files = F.means files.new; store = K.means keeper.new }) self.new text.old.items text.new.items) }
+            → OnOk result (AnswersOrder E.stands_for held p (record { number = number; order = order.Reload time names }) (record others { files = F.means files.old; store = K.means keeper.old }) (record others { files = F.means files.new; store = K.means keeper.new }) self.new text.old.items text.new.items) }
         ensures leaves { (others : Outside) (held : Held) (p : Progress) (number : ℕ) → KeepsProgress E.stands_for self.old (K.means keeper.old) p
             → AreTold (F.means files.old).content held (turn held p.state (record { number = number; order = order.Reload time names })).answer.asks → IsSome (K.means keeper.new).rows
-            → IfErr result (Leaves (turn held p.state (record { number = number; order = order.Reload time names })) p.state.world.history (record others { files = F.means files.old; store = K.means keeper.old }) (record others { files = F.means files.new; store = K.means keeper.new })) }
-        ensures grows { (w : World) → E.stands_for self.old.kept (K.means keeper.old) w → IsSome (K.means keeper.new).rows → Grows E.stands_for w.history (K.means keeper.new) self.new.kept result }
+            → IfErr result (LeavesFront (turn held p.state (record { number = number; order = order.Reload time names })) p.state.world.history (record others { files = F.means files.old; store = K.means keeper.old }) (record others { files = F.means files.new; store = K.means keeper.new })) }
+        ensures grows { (w : World) → E.stands_for self.old.kept (K.means keeper.old) w → IsSome (K.means keeper.new).rows → StoreGrows E.stands_for w.history (K.means keeper.new) self.new.kept result }
         ensures told { IsSome (K.means keeper.new).rows → IsSome (K.means keeper.old).rows }
         ensures same { (other : List ℕ) → (F.means files.new).content other ≡ (F.means files.old).content other }
         ensures paths { (K.means keeper.new).paths ≡ (K.means keeper.old).paths }
@@ -236,7 +235,7 @@ impl<E: Worlds + Drop> Session<E> {
 
     // Adds a receiver, and appends what became of its name.
     fn add_receiver(&mut self, text: &mut Vec<u8>, name: &str) -> Result<(), Stop>
-        ensures replies { OnOk result ((rs : List Receiver) → waiting.StandsFor self.old.queues rs → Replies (receiver_reply name.now rs) self.old self.new text.old.items text.new.items) }
+        ensures replies { OnOk result ((rs : List Receiver) → waiting.StandsFor self.old.queues rs → ReceiversReply (receiver_reply name.now rs) self.old self.new text.old.items text.new.items) }
         ensures kept { self.new.kept ≡ self.old.kept }
         ensures memory { IfErr result (λ s. s ≡ Stop.Memory) }
     {
@@ -248,7 +247,7 @@ impl<E: Worlds + Drop> Session<E> {
 
     // Appends what waits for a receiver, which takes it out; or that no receiver has the name.
     fn flush_receiver(&mut self, text: &mut Vec<u8>, name: &str) -> Result<(), Stop>
-        ensures replies { OnOk result ((rs : List Receiver) → waiting.StandsFor self.old.queues rs → Replies (flush_reply name.now rs) self.old self.new text.old.items text.new.items) }
+        ensures replies { OnOk result ((rs : List Receiver) → waiting.StandsFor self.old.queues rs → ReceiversReply (flush_reply name.now rs) self.old self.new text.old.items text.new.items) }
         ensures kept { self.new.kept ≡ self.old.kept }
         ensures memory { IfErr result (λ s. s ≡ Stop.Memory) }
     {
@@ -267,7 +266,7 @@ impl<E: Worlds + Drop> Session<E> {
 
     // Refuses a line that spells no order.
     fn refuse_line(&mut self, text: &mut Vec<u8>, number: u64) -> Result<(), Stop>
-        ensures replies { OnOk result ((rs : List Receiver) → waiting.StandsFor self.old.queues rs → Replies (bad_line_reply number rs) self.old self.new text.old.items text.new.items) }
+        ensures replies { OnOk result ((rs : List Receiver) → waiting.StandsFor self.old.queues rs → ReceiversReply (bad_line_reply number rs) self.old self.new text.old.items text.new.items) }
         ensures kept { self.new.kept ≡ self.old.kept }
         ensures memory { IfErr result (λ s. s ≡ Stop.Memory) }
     {
@@ -287,11 +286,11 @@ impl<E: Worlds + Drop> Session<E> {
     ) -> Result<(), Stop>
         ensures answers { (others : Outside) (held : Held) (p : Progress) → KeepsProgress E.stands_for self.old (K.means keeper.old) p
             → AreTold (F.means files.old).content held (turn held p.state order).answer.asks → IsSome (K.means keeper.new).rows
-            → OnOk result (Answers E.stands_for held p order (record others { files = F.means files.old; store = K.means keeper.old }) (record others { files = F.means files.new; store = K.means keeper.new }) self.new text.old.items text.new.items) }
+            → OnOk result (AnswersOrder E.stands_for held p order (record others { files = F.means files.old; store = K.means keeper.old }) (record others { files = F.means files.new; store = K.means keeper.new }) self.new text.old.items text.new.items) }
         ensures leaves { (others : Outside) (held : Held) (p : Progress) → KeepsProgress E.stands_for self.old (K.means keeper.old) p
             → AreTold (F.means files.old).content held (turn held p.state order).answer.asks → IsSome (K.means keeper.new).rows
-            → IfErr result (Leaves (turn held p.state order) p.state.world.history (record others { files = F.means files.old; store = K.means keeper.old }) (record others { files = F.means files.new; store = K.means keeper.new })) }
-        ensures grows { (w : World) → E.stands_for self.old.kept (K.means keeper.old) w → IsSome (K.means keeper.new).rows → Grows E.stands_for w.history (K.means keeper.new) self.new.kept result }
+            → IfErr result (LeavesFront (turn held p.state order) p.state.world.history (record others { files = F.means files.old; store = K.means keeper.old }) (record others { files = F.means files.new; store = K.means keeper.new })) }
+        ensures grows { (w : World) → E.stands_for self.old.kept (K.means keeper.old) w → IsSome (K.means keeper.new).rows → StoreGrows E.stands_for w.history (K.means keeper.new) self.new.kept result }
         ensures told { IsSome (K.means keeper.new).rows → IsSome (K.means keeper.old).rows }
         ensures same { (other : List ℕ) → (F.means files.new).content other ≡ (F.means files.old).content other }
         ensures paths { (K.means keeper.new).paths ≡ (K.means keeper.old).paths }

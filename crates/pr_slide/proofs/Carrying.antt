@@ -5,12 +5,12 @@ use Rattle.std.specs.List.Retain.{RetainsInTurn}
 use Rattle.std.specs.Option.{option_map, option_map_or}
 use Rattle.std.proofs.lemmas.Grind.{common_steps}
 use borrow.Author.Tests.{eqb-true}
-use Rattle.pr_history.specs.declared.entry.Entry.{Entry}
-use Rattle.pr_slide.specs.declared.window.Window.{Window}
-use Rattle.pr_slide.specs.Windows.{AreWindowsOf, HasWindow, Nodes, found, last_in, last_asks, passed_in, passed_of}
-use Rattle.pr_range.specs.Carried.{IsCarried, IsOnce, named_in, older_of}
-use Rattle.pr_slide.specs.Carried.{carried, number_from, renumbered}
-use Rattle.pr_slide.specs.Places.{AreApart, IsAbsent, numbers_of}
+use Rattle.pr_head.specs.spec_history.declared.entry.Entry.{Entry}
+use Rattle.pr_slide.specs.declared.window.SeriesWindow.{SeriesWindow}
+use Rattle.pr_slide.specs.private.Windows.{AreWindowsOf, HasWindow, Nodes, found, last_in, last_asks, passed_in, passed_of}
+use Rattle.pr_range.specs.private.Carried.{IsCarried, IsOnce, named_in, older_of}
+use Rattle.pr_slide.specs.private.Carried.{carried, number_from, renumbered}
+use Rattle.pr_slide.specs.private.Places.{AreApart, IsAbsent, numbers_of}
 use Rattle.pr_slide.proofs.Nodes.{Row}
 use Rattle.pr_slide.proofs.Numbers.{number_is, number_none}
 
@@ -82,7 +82,7 @@ is_carried from nodes once = record {
 
 pub fits_carried : (from : List (Option ℕ)) (nodes : Nodes) (history : List Entry) → IsOnce from → AreWindowsOf nodes history → AreWindowsOf (carried from nodes) history
 fits_carried from nodes history once fits = λ k q w at. by q w (older_of from k) (sym (windows_carried from nodes k q once) ∙ at) where
-  by : (q : ℕ) (w : Window) (o : Option ℕ) → option_and_then (λ j. found nodes j q) o ≡ Some w → HasWindow history q w
+  by : (q : ℕ) (w : SeriesWindow) (o : Option ℕ) → option_and_then (λ j. found nodes j q) o ≡ Some w → HasWindow history q w
   by q w None e = absurd (cc)
   by q w (Some j) e = fits j q w e
 

@@ -3,10 +3,10 @@ use Rattle.std.proofs.Common.{◌≡◌, ℕ, suc, ◌+◌, ◌<◌, ℤ, Bool, 
 use Rattle.std.specs.List.{prefix_len}
 use Rattle.std.proofs.lemmas.List.{take_more}
 use Rattle.std.proofs.lemmas.Option.{slice_get-get_or, slice_get_within}
-use Rattle.pr_history.specs.declared.spot.Spot.{Spot}
-use Rattle.pr_history.specs.Lookback.{is_after}
-use Rattle.pr_window.specs.Windows.{drop_while}
-use Rattle.pr_slide.specs.Later.{later}
+use Rattle.pr_head.specs.spec_history.declared.spot.Spot.{Spot}
+use Rattle.pr_head.specs.spec_history.Lookback.{is_after}
+use Rattle.pr_range.specs.pr_window.private.Windows.{drop_while}
+use Rattle.pr_slide.specs.private.Later.{later}
 
 pub dropped_is : (a : ℤ) (spots : List Spot) → drop_while (λ s. not (is_after a s.time)) spots ≡ later a spots
 dropped_is a [] = refl

@@ -4,28 +4,28 @@ use Rattle.std.specs.Option.{option_map}
 use Rattle.std.proofs.lemmas.List.{drop-drop, take-map, length-map}
 use Rattle.std.proofs.lemmas.List.Elements.{filter_map-append}
 use borrow.Author.Tests.{eqb-true}
-use Rattle.pr_labels.specs.declared.pair.Pair.{Pair}
-use Rattle.pr_history.specs.declared.entry.Entry.{Entry}
-use Rattle.pr_history.specs.declared.spot.Spot.{Spot}
-use Rattle.pr_history.specs.Admission.{entries_of}
-use Rattle.pr_history.specs.Lookback.{entries_until, spots_within}
+use Rattle.pr_head.specs.pr_labels.declared.pair.Pair.{Pair}
+use Rattle.pr_head.specs.spec_history.declared.entry.Entry.{Entry}
+use Rattle.pr_head.specs.spec_history.declared.spot.Spot.{Spot}
+use Rattle.pr_head.specs.spec_history.private.Laws.{entries_of, entries_until}
+use Rattle.pr_head.specs.spec_history.Lookback.{spots_within}
 use Rattle.pr_head.specs.declared.timed.Timed.{Timed}
-use Rattle.pr_head.specs.Stored.{Stored, position_of}
-use Rattle.pr_head.specs.Reads.{shown_of}
-use Rattle.pr_head.specs.Holds.{arrivals, samples_of, timed}
+use Rattle.pr_head.specs.private.Stored.{Stored, position_of}
+use Rattle.pr_head.specs.private.Reads.{shown_of}
+use Rattle.pr_head.specs.private.Holds.{arrivals, samples_of, timed}
 use Rattle.pr_head.proofs.Newest.{Rises}
-use Rattle.pr_vectors.specs.declared.range.Ask.{Ask}
-use Rattle.pr_vectors.specs.Ranges.{ask_cost}
+use Rattle.pr_range.specs.spec_vectors.declared.range.Ask.{Ask}
+use Rattle.pr_range.specs.spec_vectors.private.Laws.{ask_cost}
 use Rattle.pr_num.specs.declared.value.Num.{Num}
 use Rattle.pr_range.specs.declared.fault.RangeFault.{RangeFault}
-use Rattle.pr_range.specs.Asks.{AreMoved, IsAskAnswer, IsLater, IsReadyToAsk, LastAsk, MayAsk, passed_for, remembered}
-use Rattle.pr_range.specs.Spots.{samples_between, spots_of}
+use Rattle.pr_range.specs.private.Asks.{AreMoved, IsAskAnswer, IsLater, IsReadyToAsk, LastAsk, MayAsk, passed_for, remembered}
+use Rattle.pr_range.specs.private.Spots.{samples_between, spots_of}
 use Rattle.pr_range.proofs.Timeline.{until, after, between}
 use Rattle.pr_range.proofs.Lawful.{rising_samples, entries_until_is, spots_within_is}
 use Rattle.pr_range.proofs.Reading.{Placed, until_short}
-use Rattle.pr_slide.specs.declared.window.Window.{Window}
-use Rattle.pr_slide.specs.Later.{later}
-use Rattle.pr_slide.specs.Windows.{AreWindowsOf, HasWindow, IsPut, IsWindow, Nodes, found, last_in, last_asks, passed_in, passed_of, slid_spots, spots_in}
+use Rattle.pr_slide.specs.declared.window.SeriesWindow.{SeriesWindow}
+use Rattle.pr_slide.specs.private.Later.{later}
+use Rattle.pr_slide.specs.private.Windows.{AreWindowsOf, HasWindow, IsPut, IsWindow, Nodes, found, last_in, last_asks, passed_in, passed_of, slid_spots, spots_in}
 use Rattle.pr_slide.proofs.Slides.{later_again, rises_front, front_until, until_front, spots_same, window_step, between_front}
 
 -- what a window has for a later range
@@ -35,7 +35,7 @@ IsFront xs a spots passed = (later a.from spots ≡ spots_of (after a.from (take
 front_of : (history : List Entry) (labels : List Pair) (series node : ℕ) (a : Ask) (nodes : Nodes) → Rises 0 (samples_of history labels) → slice_get (arrivals history) series ≡ Some labels → AreWindowsOf nodes history
     → IsLater (last_asks nodes) node series a → IsFront (samples_of history labels) a (spots_in (found nodes node series)) (passed_in (found nodes node series))
 front_of history labels series node a nodes rising named fits ready = by (found nodes node series) refl where
-  by : (w : Option Window) → found nodes node series ≡ w → IsFront (samples_of history labels) a (spots_in w) (passed_in w)
+  by : (w : Option SeriesWindow) → found nodes node series ≡ w → IsFront (samples_of history labels) a (spots_in w) (passed_in w)
   by None k = (refl, omega arith)
   by (Some w) k =
       let has = fits node series w k in
@@ -118,11 +118,11 @@ fits_put nodes nodes' history labels s a node series fits named go put = λ k q 
       (subst (λ b. IsWindow history labels put.window.from b (position_of s a.to) (slid_spots s a (passed_of nodes node series) (spots_in (found nodes node series)))) (sym to_is)
       (subst (λ b. IsWindow history labels b a.to (position_of s a.to) (slid_spots s a (passed_of nodes node series) (spots_in (found nodes node series)))) (sym from_is) go.window)))
 
-  by : (k q : ℕ) (w : Window) (b t : Bool) → nat_eq series q ≡ t → cond (b && t) (Some put.window) (found nodes k q) ≡ Some w → HasWindow history q w
+  by : (k q : ℕ) (w : SeriesWindow) (b t : Bool) → nat_eq series q ≡ t → cond (b && t) (Some put.window) (found nodes k q) ≡ Some w → HasWindow history q w
   by k q w true true f at =
       let here : series ≡ q = eqb-true series q f in
       let is : put.window ≡ w = cc in
-      record { labels = labels; named = subst (λ n. slice_get (arrivals history) n ≡ Some labels) here named; window = subst (λ (v : Window). IsWindow history labels v.from v.to v.passed v.spots) is own }
+      record { labels = labels; named = subst (λ n. slice_get (arrivals history) n ≡ Some labels) here named; window = subst (λ (v : SeriesWindow). IsWindow history labels v.from v.to v.passed v.spots) is own }
   by k q w true false f at = fits k q w at
   by k q w false t f at = fits k q w at
 

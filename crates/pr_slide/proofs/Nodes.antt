@@ -3,17 +3,17 @@ use Rattle.std.proofs.Common.{◌≡◌, ℕ, zero, suc, ◌<◌, Bool, true, fa
 use Rattle.std.specs.Map.{lookup}
 use Rattle.std.proofs.lemmas.Grind.{common_steps}
 use borrow.Author.Tests.{eqb-true}
-use Rattle.pr_head.specs.Stored.{Stored}
-use Rattle.pr_vectors.specs.declared.range.Ask.{Ask}
-use Rattle.pr_slide.specs.declared.window.Window.{Window}
-use Rattle.pr_slide.specs.Windows.{IsPut, IsPutIn, IsSlid, Nodes, found}
-use Rattle.pr_slide.specs.Places.{IsNodePlace}
+use Rattle.pr_head.specs.private.Stored.{Stored}
+use Rattle.pr_range.specs.spec_vectors.declared.range.Ask.{Ask}
+use Rattle.pr_slide.specs.declared.window.SeriesWindow.{SeriesWindow}
+use Rattle.pr_slide.specs.private.Windows.{IsPut, IsPutIn, IsSlid, Nodes, found}
+use Rattle.pr_slide.specs.private.Places.{IsNodePlace}
 
 abbrev pub Row : Type 0
-Row = ℕ × List (ℕ × Window)
+Row = ℕ × List (ℕ × SeriesWindow)
 
 -- new ones have no windows
-abbrev no_windows : List (ℕ × Window)
+abbrev no_windows : List (ℕ × SeriesWindow)
 no_windows = []
 
 pub found_pushed : (node : ℕ) (nodes : Nodes) (k q : ℕ) → found (nodes ++ (node, []) ∷ []) k q ≡ found nodes k q

@@ -4,8 +4,8 @@ use Rattle.std.specs.List.{position_from}
 use Rattle.std.proofs.lemmas.Grind.{common_steps}
 use Rattle.std.proofs.lemmas.Iterator.Adapters.{position_from-zero}
 use borrow.Author.Tests.{eqb-true}
-use Rattle.pr_range.specs.Carried.{IsOnce}
-use Rattle.pr_slide.specs.Carried.{names, number_from}
+use Rattle.pr_range.specs.private.Carried.{IsOnce}
+use Rattle.pr_slide.specs.private.Carried.{names, number_from}
 
 is_at : (at j : ℕ) (from : List (Option ℕ)) (k : ℕ) → position_from (names j) at from ≡ Some k → (at ≤ k) × (slice_get from (k - at) ≡ Some (Some j))
 is_at at j [] k h = absurd (cc)

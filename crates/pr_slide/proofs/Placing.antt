@@ -5,9 +5,9 @@ use Rattle.std.specs.Option.{option_map}
 use Rattle.std.proofs.lemmas.Grind.{common_steps}
 use Rattle.std.proofs.lemmas.Option.{slice_get-map}
 use Rattle.std.proofs.lemmas.List.{get_or-map, length-append, length-map, length-take-le, map-append, take_all, take-append-le, take_more}
-use Rattle.pr_slide.specs.Places.{AreApart, ArePlacesOf, IsAbsent, IsFoundIn, IsNodePlace, IsPlaceIn, noted, numbers_of}
-use Rattle.pr_slide.specs.declared.window.Window.{Window}
-use Rattle.pr_slide.specs.Windows.{Nodes}
+use Rattle.pr_slide.specs.private.Places.{AreApart, ArePlacesOf, IsAbsent, IsFoundIn, IsNodePlace, IsPlaceIn, noted, numbers_of}
+use Rattle.pr_slide.specs.declared.window.SeriesWindow.{SeriesWindow}
+use Rattle.pr_slide.specs.private.Windows.{Nodes}
 use Rattle.pr_slide.proofs.Nodes.{Row}
 
 -- one more number at the end
@@ -78,7 +78,7 @@ eq_same : (n : ℕ) → nat_eq n n ≡ true
 eq_same n = grind (arith, common_steps)
 
 -- new windows stand at the end
-pub node_last : (nodes : Nodes) (node i : ℕ) (windows : List (ℕ × Window)) → IsAbsent (numbers_of nodes) node → length nodes ≡ i → IsNodePlace node i (nodes ++ (node, windows) ∷ [])
+pub node_last : (nodes : Nodes) (node i : ℕ) (windows : List (ℕ × SeriesWindow)) → IsAbsent (numbers_of nodes) node → length nodes ≡ i → IsNodePlace node i (nodes ++ (node, windows) ∷ [])
 node_last nodes node i windows h size =
     let all : numbers_of (nodes ++ (node, windows) ∷ []) ≡ numbers_of nodes ++ node ∷ [] = map-append (λ (n : Row). n.0) nodes ((node, windows) ∷ []) in
     let long : length (numbers_of nodes) ≡ i = length-map nodes (λ (n : Row). n.0) ∙ size in

@@ -3,14 +3,14 @@ use Rattle.std.proofs.Common.{◌≡◌, ℕ, zero, suc, ℤ, ◌-◌, ◌≤◌
 use Rattle.std.specs.List.{cons_option, filter_map, list_all}
 use Rattle.pr_num.specs.declared.value.Point.{Point}
 use Rattle.pr_num.specs.declared.value.Point.TheVariants.{Value, Stale}
-use Rattle.pr_history.specs.declared.entry.Entry.{Entry}
-use Rattle.pr_history.specs.Lookback.{is_after, is_until, spot_in}
+use Rattle.pr_head.specs.spec_history.declared.entry.Entry.{Entry}
+use Rattle.pr_head.specs.spec_history.Lookback.{is_after, is_until, spot_in}
 use Rattle.pr_head.specs.declared.timed.Timed.{Timed}
-use Rattle.pr_head.specs.Holds.{timed}
+use Rattle.pr_head.specs.private.Holds.{timed}
 use Rattle.pr_head.proofs.Newest.{Rises}
-use Rattle.pr_range.specs.Spots.{spots_of}
+use Rattle.pr_range.specs.private.Spots.{spots_of}
 use Rattle.pr_range.proofs.Timeline.{until, after, between, between_is, after_is, until_up, none_until, until_is_front}
-use Rattle.pr_slide.specs.Later.{later}
+use Rattle.pr_slide.specs.private.Later.{later}
 use Rattle.pr_slide.proofs.Successions.{after_up}
 
 -- what is after a later moment is after an earlier one

@@ -9,19 +9,19 @@ use Rattle.std.proofs.lemmas.List.Folds.{list_all-append}
 use Rattle.std.proofs.lemmas.List.Sums.{count_by-le-length, length-filter, sum_by-cons, sum_by_push}
 use Rattle.pr_num.specs.declared.value.Num.{Num}
 use Rattle.pr_num.specs.Total.{Tally, joined, no_values, total_of}
-use Rattle.pr_history.specs.declared.spot.Spot.{Spot}
-use Rattle.pr_history.specs.Lookback.{is_after}
-use Rattle.pr_vectors.specs.Histogram.{is_special}
-use Rattle.pr_vectors.specs.Ranges.{differ}
-use Rattle.pr_vectors.specs.Spots.{falls, has_special, last_of, neighbours, numbers_of}
-use Rattle.pr_window.specs.Folding.{folded}
-use Rattle.pr_folds.specs.declared.neighbours.Neighbours.{Neighbours}
-use Rattle.pr_folds.specs.Neighbours.{beside, neighbours_of, one_if, spot_alone}
-use Rattle.pr_folds.specs.Totals.{total_alone}
-use Rattle.pr_folds.proofs.Summaries.{sequence_folded, total_folded}
-use Rattle.pr_slide.specs.declared.successive.Counts.{Counts}
-use Rattle.pr_slide.specs.Later.{later}
-use Rattle.pr_slide.specs.Successions.{AreCounted, before_fall, before_falls, changes_at, changes_in, is_fall, rises, specials_in}
+use Rattle.pr_head.specs.spec_history.declared.spot.Spot.{Spot}
+use Rattle.pr_head.specs.spec_history.Lookback.{is_after}
+use Rattle.pr_range.specs.spec_vectors.Histogram.{is_special}
+use Rattle.pr_range.specs.spec_vectors.Ranges.{differ}
+use Rattle.pr_range.specs.spec_vectors.Spots.{falls, has_special, last_of, neighbours, numbers_of}
+use Rattle.pr_range.specs.pr_window.private.Folding.{folded}
+use Rattle.pr_range.specs.pr_window.declared.folds.neighbours.Neighbours.{Neighbours}
+use Rattle.pr_range.specs.pr_window.private.Neighbours.{beside, neighbours_of, one_if, spot_alone}
+use Rattle.pr_range.specs.pr_window.private.Totals.{total_alone}
+use Rattle.pr_range.proofs.WindowSummaries.{sequence_folded, total_folded}
+use Rattle.pr_slide.specs.declared.successive.SuccessiveCounts.{SuccessiveCounts}
+use Rattle.pr_slide.specs.private.Later.{later}
+use Rattle.pr_slide.specs.private.Successions.{AreCounted, before_fall, before_falls, changes_at, changes_in, is_fall, rises, specials_in}
 
 -- One more value at the end, of some.
 neighbours_push : {X : Type 0} (x : X) (xs : List X) (z : X) → neighbours ((x ∷ xs) ++ z ∷ []) ≡ neighbours (x ∷ xs) ++ (last_of x xs, z) ∷ []
@@ -156,7 +156,7 @@ some_counted (v ∷ vs) = ap (nat_lt 0) (sum_by-cons (λ (u : Num). cond (is_spe
   by true rest = grind (arith, common_steps)
   by false rest = let none : 0 + count_by is_special vs ≡ count_by is_special vs = omega arith in ap (nat_lt 0) none ∙ rest
 
-pub counts_fold : (x : Spot) (xs : List Spot) (counts : Counts) (s : Neighbours) → AreCounted (x ∷ xs) counts → s.first ≡ x → s.last ≡ last_of x xs → s.count ≡ length (x ∷ xs)
+pub counts_fold : (x : Spot) (xs : List Spot) (counts : SuccessiveCounts) (s : Neighbours) → AreCounted (x ∷ xs) counts → s.first ≡ x → s.last ≡ last_of x xs → s.count ≡ length (x ∷ xs)
     → s.lost ≡ total_of (numbers_of counts.fallen) → s.resets ≡ length counts.fallen → s.changes ≡ counts.changes → s.special ≡ nat_lt 0 counts.special → Some s ≡ folded spot_alone beside (x ∷ xs)
 counts_fold x xs counts s are first last count lost resets changes special = ap (λ (n : Neighbours). Some n) same ∙ sym (sequence_folded x xs) where
   more : s.count ≡ length xs + 1
@@ -178,7 +178,7 @@ counts_fold x xs counts s are first last count lost resets changes special = ap 
   same = λ i. record (neighbours_of x xs) { first = first i; last = last i; count = more i; lost = lost_is i; resets = resets_are i; changes = changes_are i; special = special_is i }
 
 -- The counts of values with one more, or with fewer.
-pub counted_more : (x : Spot) (xs : List Spot) (z : Spot) (before after : Counts) → AreCounted (x ∷ xs) before → (last_of x xs).time < z.time → after.fallen ≡ before.fallen ++ before_fall (last_of x xs) z
+pub counted_more : (x : Spot) (xs : List Spot) (z : Spot) (before after : SuccessiveCounts) → AreCounted (x ∷ xs) before → (last_of x xs).time < z.time → after.fallen ≡ before.fallen ++ before_fall (last_of x xs) z
     → after.changes ≡ before.changes + one_if (differ ((last_of x xs).value, z.value)) → after.special ≡ before.special + one_if (is_special z.value) → AreCounted ((x ∷ xs) ++ z ∷ []) after
 counted_more x xs z before after are later fallen changes special = record {
   rising = rising_push x xs z are.rising later;
@@ -187,7 +187,7 @@ counted_more x xs z before after are later fallen changes special = record {
   special = special ∙ ap (λ n. n + one_if (is_special z.value)) are.special ∙ sym (specials_push (x ∷ xs) z);
 }
 
-pub counted_later : (a : ℤ) (xs : List Spot) (before after : Counts) → AreCounted xs before → after.fallen ≡ later a before.fallen → after.changes ≡ changes_in (later a xs) → after.special ≡ specials_in (later a xs)
+pub counted_later : (a : ℤ) (xs : List Spot) (before after : SuccessiveCounts) → AreCounted xs before → after.fallen ≡ later a before.fallen → after.changes ≡ changes_in (later a xs) → after.special ≡ specials_in (later a xs)
     → AreCounted (later a xs) after
 counted_later a xs before after are fallen changes special = record {
   rising = rising_later a xs are.rising;

@@ -9,21 +9,21 @@ use Rattle.std.proofs.lemmas.Option.{slice_get-get_or}
 use borrow.Author.Tests.{eqb-true}
 use Rattle.indexmap.specs.IndexMap.{IsUnique, with_value_at}
 use Rattle.indexmap.proofs.CallerLemmas.{updates-with_value_at}
-use Rattle.pr_slide.specs.declared.window.Window.{Window}
+use Rattle.pr_slide.specs.declared.window.SeriesWindow.{SeriesWindow}
 
 -- what stands at a place
-entry_at : (windows : List (ℕ × Window)) (i series : ℕ) (w : Window) → slice_get (keys_of windows) i ≡ Some series → Some w ≡ slice_get (values_of windows) i → slice_get windows i ≡ Some (series, w)
+entry_at : (windows : List (ℕ × SeriesWindow)) (i series : ℕ) (w : SeriesWindow) → slice_get (keys_of windows) i ≡ Some series → Some w ≡ slice_get (values_of windows) i → slice_get windows i ≡ Some (series, w)
 entry_at [] i series w key value = absurd (cc)
 entry_at (e ∷ windows) zero series w key value = let first : e.0 ≡ series = cc in let second : e.1 ≡ w = cc in (λ i. Some (first i, second i))
 entry_at (e ∷ windows) (suc i) series w key value = entry_at windows i series w key value
 
 -- The window at a place is what is found of its series, and what is written there is what is found
 -- afterwards, while the others stay.
-pub record IsThere {S : Type 0} (m : HashMap ℕ Window S) (windows : List (ℕ × Window)) (i series : ℕ) (w : Window) : Type 0 where
+pub record IsThere {S : Type 0} (m : HashMap ℕ SeriesWindow S) (windows : List (ℕ × SeriesWindow)) (i series : ℕ) (w : SeriesWindow) : Type 0 where
   pub found : lookup (nat_eq series) windows ≡ Some w
-  pub put : (v : Window) (q : ℕ) → lookup (nat_eq q) (with_value_at m i v).entries ≡ cond (nat_eq series q) (Some v) (lookup (nat_eq q) windows)
+  pub put : (v : SeriesWindow) (q : ℕ) → lookup (nat_eq q) (with_value_at m i v).entries ≡ cond (nat_eq series q) (Some v) (lookup (nat_eq q) windows)
 
-pub there : {S : Type 0} (m : HashMap ℕ Window S) (windows : List (ℕ × Window)) (i series : ℕ) (w : Window) → m.entries ≡ windows → IsUnique nat_eq m → i < length m.entries
+pub there : {S : Type 0} (m : HashMap ℕ SeriesWindow S) (windows : List (ℕ × SeriesWindow)) (i series : ℕ) (w : SeriesWindow) → m.entries ≡ windows → IsUnique nat_eq m → i < length m.entries
     → (i < length windows → slice_get (keys_of windows) i ≡ Some series) → Some w ≡ slice_get (values_of m.entries) i → IsThere m windows i series w
 there m windows i series w same unique inside named value =
     let key : slice_get (keys_of m.entries) i ≡ Some series = subst (λ l. slice_get (keys_of l) i ≡ Some series) (sym same) (named (subst (λ l. i < length l) same inside)) in

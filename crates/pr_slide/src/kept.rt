@@ -1,14 +1,14 @@
 // Values with what they fold to, so that an ask need not go over them.
 ghost use Rattle.std.specs.Prelude.{◌≡◌, ◌<◌, ◌+◌, take, ◌++◌, ◌∷◌, [], IfOk, OnOk, length};
-ghost use Rattle.pr_window.specs.Folding.{folded};
-ghost use Rattle.pr_slide.specs.Later.{later};
+ghost use Rattle.pr_range.specs.pr_window.private.Folding.{folded};
+ghost use Rattle.pr_slide.specs.private.Later.{later};
 
 use crate::listed::is_after;
-use pr_folds::Summarize;
-use pr_history::Spot;
+use pr_head::history::Spot;
+use pr_head::words_crate::Steps;
 use pr_num::Num;
-use pr_window::{Fold, Window};
-use pr_words::Steps;
+use pr_range::window_crate::folds::Summarize;
+use pr_range::window_crate::{Fold, Window};
 use std::alloc::{AllocError, Global};
 use std::marker::{Brand, Model};
 use std::sync::ledger::{Blank, Ledger};
@@ -21,7 +21,7 @@ pub struct Kept<A, M: Fold<Spot, A>> {
 
 impl<A, M: Fold<Spot, A>> Model for Kept<A, M> {
     ghost use Rattle.std.specs.Prelude.{List};
-    ghost use Rattle.pr_history.specs.declared.spot.Spot.{Spot};
+    ghost use Rattle.pr_head.specs.spec_history.declared.spot.Spot.{Spot};
 
     ghost Value = { List Spot };
 

@@ -1,11 +1,11 @@
 // What windows that are true of a history tell.
 ghost use Rattle.std.specs.Prelude.{◌≡◌, ◌≤◌, ℕ, List, Some, slice_get};
-ghost use Rattle.pr_labels.specs.declared.pair.Pair.{Pair};
-ghost use Rattle.pr_history.specs.declared.entry.Entry.{Entry};
-ghost use Rattle.pr_history.specs.Lookback.{entries_until};
-ghost use Rattle.pr_head.specs.Holds.{arrivals};
-ghost use Rattle.pr_range.specs.Asks.{LastAsk};
-ghost use Rattle.pr_slide.specs.Windows.{AreWindowsOf, Nodes, last_asks, passed_of};
+ghost use Rattle.pr_head.specs.pr_labels.declared.pair.Pair.{Pair};
+ghost use Rattle.pr_head.specs.spec_history.declared.entry.Entry.{Entry};
+ghost use Rattle.pr_head.specs.spec_history.private.Laws.{entries_until};
+ghost use Rattle.pr_head.specs.private.Holds.{arrivals};
+ghost use Rattle.pr_range.specs.private.Asks.{LastAsk};
+ghost use Rattle.pr_slide.specs.private.Windows.{AreWindowsOf, Nodes, last_asks, passed_of};
 
 /// No more samples of a series were passed than it has until the end of the last range, so that the
 /// number does not fall where the next range ends no earlier.

@@ -14,12 +14,16 @@ mod successive;
 mod window;
 
 // What crates above name of those below.
+pub mod window_crate {
+    pub use pr_range::window_crate::{Fold, fold_items};
+}
+
 pub mod head {
-    pub use pr_head::Head;
+    pub use pr_head::{Append, Head};
 }
 
 pub mod range {
-    pub use pr_range::Ranges;
+    pub use pr_range::{Ask, PlainRanges, RangeFault, RangeFn, Ranges};
 }
 
 pub use laws::what_was_passed_is_no_more_than_the_range;

@@ -1,13 +1,13 @@
 // Values in a list.
 ghost use Rattle.std.specs.Prelude.{◌≡◌, ◌≤◌, ◌++◌, ◌∷◌, [], length, drop, OnOk, OnErr};
-ghost use Rattle.pr_history.specs.Lookback.{is_after};
-ghost use Rattle.pr_vectors.specs.Ranges.{over};
-ghost use Rattle.pr_range.specs.Answers.{AnswersAsk};
-ghost use Rattle.pr_range.specs.Asks.{HasArgument};
-ghost use Rattle.pr_range.specs.Spots.{AreWithin};
-ghost use Rattle.pr_slide.specs.Later.{later};
+ghost use Rattle.pr_head.specs.spec_history.Lookback.{is_after};
+ghost use Rattle.pr_range.specs.spec_vectors.Ranges.{over};
+ghost use Rattle.pr_range.specs.private.Answers.{AnswersAsk};
+ghost use Rattle.pr_range.specs.private.Asks.{HasArgument};
+ghost use Rattle.pr_range.specs.private.Spots.{AreWithin};
+ghost use Rattle.pr_slide.specs.private.Later.{later};
 
-use pr_history::Spot;
+use pr_head::history::Spot;
 use pr_num::Num;
 use pr_range::{Ask, RangeFault, over_list};
 use std::alloc::{AllocError, Global};
@@ -23,7 +23,7 @@ pub struct Listed {
 
 impl Model for Listed {
     ghost use Rattle.std.specs.Prelude.{◌+◌, ◌≤◌, List, length, drop};
-    ghost use Rattle.pr_history.specs.declared.spot.Spot.{Spot};
+    ghost use Rattle.pr_head.specs.spec_history.declared.spot.Spot.{Spot};
 
     ghost Value = { List Spot };
 

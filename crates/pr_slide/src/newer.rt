@@ -1,7 +1,7 @@
 // Under which numbers the windows of older range selectors go on.
 ghost use Rattle.std.specs.Prelude.{◌≡◌, position};
-ghost use Rattle.pr_range.specs.Carried.{IsOnce};
-ghost use Rattle.pr_slide.specs.Carried.{names, number_from};
+ghost use Rattle.pr_range.specs.private.Carried.{IsOnce};
+ghost use Rattle.pr_slide.specs.private.Carried.{names, number_from};
 
 // The first of some range selectors that goes on from an older one.
 fn first_from(from: &[Option<usize>], older: usize) -> Option<usize>

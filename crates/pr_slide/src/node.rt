@@ -1,22 +1,22 @@
 // The windows of one range selector.
 ghost use Rattle.std.specs.Prelude.{◌≡◌, ◌≢◌, ◌+◌, ◌-◌, ◌<◌, ◌≤◌, ◌++◌, ◌∷◌, [], ℕ, List, OnOk, Some, None, Err, cond, is_some, length, max, nat_eq, slice_get, true, unwrap_or};
 ghost use Rattle.std.specs.Map.{keys_of, lookup};
-ghost use Rattle.pr_labels.specs.declared.pair.Pair.{Pair};
-ghost use Rattle.pr_head.specs.Stored.{Stored, count_of, position_of};
-ghost use Rattle.pr_vectors.specs.Ranges.{over};
+ghost use Rattle.pr_head.specs.pr_labels.declared.pair.Pair.{Pair};
+ghost use Rattle.pr_head.specs.private.Stored.{Stored, count_of, position_of};
+ghost use Rattle.pr_range.specs.spec_vectors.Ranges.{over};
 ghost use Rattle.pr_range.specs.declared.fault.RangeFault.TheVariants.{Memory};
-ghost use Rattle.pr_range.specs.Answers.{AnswersAsk};
-ghost use Rattle.pr_range.specs.Asks.{HasArgument, remembered};
-ghost use Rattle.pr_range.specs.Spots.{AreWithin};
-ghost use Rattle.pr_slide.specs.declared.window.Window.{Window};
-ghost use Rattle.pr_slide.specs.Windows.{IsPutIn, passed_in, slid_spots, spots_in};
+ghost use Rattle.pr_range.specs.private.Answers.{AnswersAsk};
+ghost use Rattle.pr_range.specs.private.Asks.{HasArgument, remembered};
+ghost use Rattle.pr_range.specs.private.Spots.{AreWithin};
+ghost use Rattle.pr_slide.specs.declared.window.SeriesWindow.{SeriesWindow};
+ghost use Rattle.pr_slide.specs.private.Windows.{IsPutIn, passed_in, slid_spots, spots_in};
 
-use crate::window::Window;
+use crate::window::SeriesWindow;
 use indexmap::IndexMap;
 use pr_head::Head;
+use pr_head::words_crate::Steps;
 use pr_num::Num;
 use pr_range::{Ask, RangeFault};
-use pr_words::Steps;
 use std::alloc::Global;
 use std::marker::Model;
 use std::sync::ledger::Ledger;
@@ -26,16 +26,16 @@ use std::sync::ledger::Ledger;
 #[derive(Drop)]
 pub struct Node {
     number: usize,
-    windows: IndexMap<usize, Window>,
+    windows: IndexMap<usize, SeriesWindow>,
     // The place behind the window of the last ask: mostly that of the next one is there.
     next: usize,
 }
 
 impl Model for Node {
     ghost use Rattle.std.specs.Prelude.{ℕ, List};
-    ghost use Rattle.pr_slide.specs.declared.window.Window.{Window};
+    ghost use Rattle.pr_slide.specs.declared.window.SeriesWindow.{SeriesWindow};
 
-    ghost Value = { ℕ × List (ℕ × Window) };
+    ghost Value = { ℕ × List (ℕ × SeriesWindow) };
 
     ghost view = { λ n. (n.number, n.windows.entries) };
 }
@@ -134,7 +134,7 @@ impl Node {
         ensures reads { (e : List Pair × Stored) → slice_get head.now series ≡ Some e
             → reads.new ≤ reads.old + (position_of e.1 ask.now.to - max (position_of e.1 ask.now.from) 0) }
     {
-        let mut window = Window::new(alloc, ask.func);
+        let mut window = SeriesWindow::new(alloc, ask.func);
         let answer = window.ask(alloc, head, series, ask, reads);
         match self.windows.insert(series, window) {
             Ok(_) => answer,

@@ -1,7 +1,7 @@
 // Where the windows of each range selector stand.
 ghost use Rattle.std.specs.Prelude.{◌≡◌, ◌+◌, ◌<◌, ◌^◌, List, ℕ, OnOk, OnErr, length, nat_eq};
 ghost use Rattle.std.specs.Map.{lookup};
-ghost use Rattle.pr_slide.specs.Places.{ArePlacesOf, noted, numbers_of};
+ghost use Rattle.pr_slide.specs.private.Places.{ArePlacesOf, noted, numbers_of};
 
 use crate::node::Node;
 use indexmap::IndexMap;

@@ -1,25 +1,25 @@
 // Ranges that go on.
 ghost use Rattle.std.specs.Prelude.{◌≡◌, ◌≢◌, ◌+◌, ◌-◌, ◌<◌, ◌≤◌, ◌≤ℤ◌, ◌++◌, ◌∷◌, [], ℕ, List, Option, Some, None, Err, IfOk, IfSome, OnOk, is_some, length, max, slice_get, true, unwrap_or};
-ghost use Rattle.pr_labels.specs.declared.pair.Pair.{Pair};
-ghost use Rattle.pr_history.specs.declared.entry.Entry.{Entry};
-ghost use Rattle.pr_head.specs.Stored.{Stored, count_of, position_of};
-ghost use Rattle.pr_vectors.specs.Ranges.{over};
+ghost use Rattle.pr_head.specs.pr_labels.declared.pair.Pair.{Pair};
+ghost use Rattle.pr_head.specs.spec_history.declared.entry.Entry.{Entry};
+ghost use Rattle.pr_head.specs.private.Stored.{Stored, count_of, position_of};
+ghost use Rattle.pr_range.specs.spec_vectors.Ranges.{over};
 ghost use Rattle.pr_range.specs.declared.fault.RangeFault.TheVariants.{Memory};
-ghost use Rattle.pr_range.specs.Answers.{AnswersAsk};
-ghost use Rattle.pr_range.specs.Asks.{HasArgument};
-ghost use Rattle.pr_range.specs.Carried.{IsOnce};
-ghost use Rattle.pr_range.specs.Spots.{AreWithin};
-ghost use Rattle.pr_slide.specs.Places.{IsNodePlace};
-ghost use Rattle.pr_slide.specs.Carried.{carried, number_from};
-ghost use Rattle.pr_slide.specs.Windows.{AreWindowsOf, IsPut, found, last_asks, passed_in, passed_of, slid_spots, spots_in};
+ghost use Rattle.pr_range.specs.private.Answers.{AnswersAsk};
+ghost use Rattle.pr_range.specs.private.Asks.{HasArgument};
+ghost use Rattle.pr_range.specs.private.Carried.{IsOnce};
+ghost use Rattle.pr_range.specs.private.Spots.{AreWithin};
+ghost use Rattle.pr_slide.specs.private.Places.{IsNodePlace};
+ghost use Rattle.pr_slide.specs.private.Carried.{carried, number_from};
+ghost use Rattle.pr_slide.specs.private.Windows.{AreWindowsOf, IsPut, found, last_asks, passed_in, passed_of, slid_spots, spots_in};
 
 use crate::newer::number_near;
 use crate::node::Node;
 use crate::places::Places;
 use pr_head::Head;
+use pr_head::words_crate::Steps;
 use pr_num::Num;
 use pr_range::{Ask, PlainRanges, RangeFault, Ranges};
-use pr_words::Steps;
 use std::alloc::{AllocError, Global};
 use std::marker::Model;
 use std::sync::ledger::Ledger;
@@ -39,8 +39,8 @@ pub struct SlidingRanges {
 }
 
 impl Model for SlidingRanges {
-    ghost use Rattle.pr_slide.specs.Windows.{Nodes};
-    ghost use Rattle.pr_slide.specs.Places.{AreStandingAt, numbers_of};
+    ghost use Rattle.pr_slide.specs.private.Windows.{Nodes};
+    ghost use Rattle.pr_slide.specs.private.Places.{AreStandingAt, numbers_of};
 
     ghost Value = { Nodes };
 
@@ -192,8 +192,8 @@ impl SlidingRanges {
 
 impl Ranges for SlidingRanges {
     ghost use Rattle.std.specs.Prelude.{true};
-    ghost use Rattle.pr_slide.specs.Windows.{AreWindowsOf, last_asks, passed_of};
-    ghost use Rattle.pr_slide.specs.Growing.{fits_more};
+    ghost use Rattle.pr_slide.specs.private.Windows.{AreWindowsOf, last_asks, passed_of};
+    ghost use Rattle.pr_slide.specs.private.Growing.{fits_more};
 
     ghost keeps = { true };
 

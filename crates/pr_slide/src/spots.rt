@@ -1,20 +1,22 @@
 // The values of a window, oldest first, kept as its function needs them.
 ghost use Rattle.std.specs.Prelude.{◌≡◌, ◌++◌, ◌∷◌, [], OnOk, length, true};
-ghost use Rattle.pr_vectors.specs.declared.range.RangeFn.TheVariants.{MaxOverTime, MinOverTime};
-ghost use Rattle.pr_vectors.specs.Ranges.{over};
-ghost use Rattle.pr_folds.specs.Answers.{is_of_neighbours, is_of_total};
-ghost use Rattle.pr_range.specs.Answers.{AnswersAsk};
-ghost use Rattle.pr_range.specs.Asks.{HasArgument};
-ghost use Rattle.pr_range.specs.Spots.{AreWithin};
-ghost use Rattle.pr_slide.specs.Kinds.{kept_in};
-ghost use Rattle.pr_slide.specs.Later.{later};
+ghost use Rattle.pr_range.specs.spec_vectors.declared.range.RangeFn.TheVariants.{MaxOverTime, MinOverTime};
+ghost use Rattle.pr_range.specs.spec_vectors.Ranges.{over};
+ghost use Rattle.pr_range.specs.pr_window.private.Answers.{is_of_neighbours, is_of_total};
+ghost use Rattle.pr_range.specs.private.Answers.{AnswersAsk};
+ghost use Rattle.pr_range.specs.private.Asks.{HasArgument};
+ghost use Rattle.pr_range.specs.private.Spots.{AreWithin};
+ghost use Rattle.pr_slide.specs.private.Kinds.{kept_in};
+ghost use Rattle.pr_slide.specs.private.Later.{later};
 
 use crate::kept::Kept;
 use crate::listed::Listed;
 use crate::successive::Successive;
-use pr_folds::{Greatest, Least, Summarize, Totals, is_of_neighbours, is_of_total};
-use pr_history::Spot;
+use pr_head::history::Spot;
 use pr_num::{Num, Total};
+use pr_range::window_crate::folds::{
+    Greatest, Least, Summarize, Totals, is_of_neighbours, is_of_total,
+};
 use pr_range::{
     Ask, RangeFault, RangeFn, answer_from_extreme, answer_from_neighbours, answer_from_total,
     over_list,
@@ -24,7 +26,7 @@ use std::marker::Model;
 
 /// How values are kept.
 #[derive(Drop)]
-pub enum Kind {
+pub enum SpotStorage {
     /// In a list, which an ask goes over.
     Listed { spots: Listed },
     /// With their total.
@@ -40,16 +42,16 @@ pub enum Kind {
 /// The values of a window. Contracts see the values.
 #[derive(Drop)]
 pub struct Spots {
-    kind: Kind,
+    kind: SpotStorage,
 }
 
 impl Model for Spots {
     ghost use Rattle.std.specs.Prelude.{List};
-    ghost use Rattle.pr_history.specs.declared.spot.Spot.{Spot};
+    ghost use Rattle.pr_head.specs.spec_history.declared.spot.Spot.{Spot};
 
     ghost Value = { List Spot };
 
-    ghost use Rattle.pr_slide.specs.Kinds.{kept_in};
+    ghost use Rattle.pr_slide.specs.private.Kinds.{kept_in};
 
     ghost view = { λ s. kept_in s.kind };
 }
@@ -137,24 +139,24 @@ fn answer_neighbours(
 }
 
 // How the values of a function are kept.
-fn kind_for(alloc: Global, func: RangeFn) -> Kind
+fn kind_for(alloc: Global, func: RangeFn) -> SpotStorage
     ensures { kept_in result ≡ [] }
 {
     match func {
         RangeFn::SumOverTime
         | RangeFn::AvgOverTime
         | RangeFn::CountOverTime
-        | RangeFn::PresentOverTime => Kind::Totals {
+        | RangeFn::PresentOverTime => SpotStorage::Totals {
             spots: Kept::new(alloc),
         },
-        RangeFn::MaxOverTime => Kind::Greatest {
+        RangeFn::MaxOverTime => SpotStorage::Greatest {
             spots: Kept::new(alloc),
         },
-        RangeFn::MinOverTime => Kind::Least {
+        RangeFn::MinOverTime => SpotStorage::Least {
             spots: Kept::new(alloc),
         },
         RangeFn::Rate | RangeFn::Increase | RangeFn::Delta | RangeFn::Changes | RangeFn::Resets =>
-            Kind::Successive {
+            SpotStorage::Successive {
                 spots: Successive::new(alloc),
             },
         RangeFn::LastOverTime
@@ -162,7 +164,7 @@ fn kind_for(alloc: Global, func: RangeFn) -> Kind
         | RangeFn::Irate
         | RangeFn::Idelta
         | RangeFn::Deriv
-        | RangeFn::PredictLinear => Kind::Listed {
+        | RangeFn::PredictLinear => SpotStorage::Listed {
             spots: Listed::new(alloc),
         },
     }
@@ -184,11 +186,11 @@ impl Spots {
         ensures { AreWithin ask.now.from ask.now.to self.now → AnswersAsk (over ask.now self.now) result }
     {
         match &self.kind {
-            Kind::Listed { spots } => answer_listed(alloc, spots.as_slice(), ask),
-            Kind::Totals { spots } => answer_total(alloc, spots, ask),
-            Kind::Greatest { spots } => answer_greatest(alloc, spots, ask),
-            Kind::Least { spots } => answer_least(alloc, spots, ask),
-            Kind::Successive { spots } => answer_neighbours(alloc, spots, ask),
+            SpotStorage::Listed { spots } => answer_listed(alloc, spots.as_slice(), ask),
+            SpotStorage::Totals { spots } => answer_total(alloc, spots, ask),
+            SpotStorage::Greatest { spots } => answer_greatest(alloc, spots, ask),
+            SpotStorage::Least { spots } => answer_least(alloc, spots, ask),
+            SpotStorage::Successive { spots } => answer_neighbours(alloc, spots, ask),
         }
     }
 
@@ -197,11 +199,11 @@ impl Spots {
         ensures { result ≡ length self.now }
     {
         match &self.kind {
-            Kind::Listed { spots } => spots.as_slice().len(),
-            Kind::Totals { spots } => spots.len(),
-            Kind::Greatest { spots } => spots.len(),
-            Kind::Least { spots } => spots.len(),
-            Kind::Successive { spots } => spots.len(),
+            SpotStorage::Listed { spots } => spots.as_slice().len(),
+            SpotStorage::Totals { spots } => spots.len(),
+            SpotStorage::Greatest { spots } => spots.len(),
+            SpotStorage::Least { spots } => spots.len(),
+            SpotStorage::Successive { spots } => spots.len(),
         }
     }
 
@@ -221,11 +223,11 @@ impl Spots {
         // Names the type of a value to the check.
         let _value: Num = spot.value;
         match &mut self.kind {
-            Kind::Listed { spots } => spots.push(spot),
-            Kind::Totals { spots } => spots.push(spot),
-            Kind::Greatest { spots } => spots.push(spot),
-            Kind::Least { spots } => spots.push(spot),
-            Kind::Successive { spots } => spots.push(spot),
+            SpotStorage::Listed { spots } => spots.push(spot),
+            SpotStorage::Totals { spots } => spots.push(spot),
+            SpotStorage::Greatest { spots } => spots.push(spot),
+            SpotStorage::Least { spots } => spots.push(spot),
+            SpotStorage::Successive { spots } => spots.push(spot),
         }
     }
 
@@ -234,11 +236,11 @@ impl Spots {
         ensures { self.new ≡ later time self.old }
     {
         match &mut self.kind {
-            Kind::Listed { spots } => spots.drop_until(time),
-            Kind::Totals { spots } => spots.drop_until(time),
-            Kind::Greatest { spots } => spots.drop_until(time),
-            Kind::Least { spots } => spots.drop_until(time),
-            Kind::Successive { spots } => spots.drop_until(time),
+            SpotStorage::Listed { spots } => spots.drop_until(time),
+            SpotStorage::Totals { spots } => spots.drop_until(time),
+            SpotStorage::Greatest { spots } => spots.drop_until(time),
+            SpotStorage::Least { spots } => spots.drop_until(time),
+            SpotStorage::Successive { spots } => spots.drop_until(time),
         }
     }
 }

@@ -1,25 +1,25 @@
 // Values one after another, with what is counted of them, so that an ask need not go over them.
 ghost use Rattle.std.specs.Prelude.{◌≡◌, ◌+◌, ◌≤◌, ◌<◌, ◌++◌, ◌∷◌, [], IfOk, IfSome, OnOk, Some, length, true};
 ghost use Rattle.pr_num.specs.Total.{total_of};
-ghost use Rattle.pr_vectors.specs.Ranges.{differ};
-ghost use Rattle.pr_vectors.specs.Spots.{last_of, numbers_of};
-ghost use Rattle.pr_window.specs.Folding.{folded};
-ghost use Rattle.pr_folds.specs.Neighbours.{beside, one_if, spot_alone};
-ghost use Rattle.pr_slide.specs.Later.{later};
-ghost use Rattle.pr_slide.specs.Successions.{AreCounted, before_fall, changes_at, changes_in, specials_in};
+ghost use Rattle.pr_range.specs.spec_vectors.Ranges.{differ};
+ghost use Rattle.pr_range.specs.spec_vectors.Spots.{last_of, numbers_of};
+ghost use Rattle.pr_range.specs.pr_window.private.Folding.{folded};
+ghost use Rattle.pr_range.specs.pr_window.private.Neighbours.{beside, one_if, spot_alone};
+ghost use Rattle.pr_slide.specs.private.Later.{later};
+ghost use Rattle.pr_slide.specs.private.Successions.{AreCounted, before_fall, changes_at, changes_in, specials_in};
 
 use crate::kept::Kept;
 use crate::listed::{Listed, is_after};
-use pr_folds::{Neighbours, Totals, differ, falls, is_special, one_if};
-use pr_history::Spot;
+use pr_head::history::Spot;
 use pr_num::{Num, Total};
 use pr_range::last_of;
+use pr_range::window_crate::folds::{Neighbours, Totals, differ, falls, is_special, one_if};
 use std::alloc::{AllocError, Global};
 use std::marker::Model;
 
 /// What is counted of values one after another.
 #[derive(Drop)]
-pub struct Counts {
+pub struct SuccessiveCounts {
     /// The values that stand before a lower one, with their total.
     fallen: Kept<Total, Totals>,
     /// How many values differ from the one before.
@@ -32,15 +32,15 @@ pub struct Counts {
 #[derive(Drop)]
 pub struct Successive {
     spots: Listed,
-    counts: Counts,
+    counts: SuccessiveCounts,
     // Whether the counts are those of the values, whose times then rise.
     counted: bool,
 }
 
 impl Model for Successive {
     ghost use Rattle.std.specs.Prelude.{◌≡◌, List, true};
-    ghost use Rattle.pr_history.specs.declared.spot.Spot.{Spot};
-    ghost use Rattle.pr_slide.specs.Successions.{AreCounted};
+    ghost use Rattle.pr_head.specs.spec_history.declared.spot.Spot.{Spot};
+    ghost use Rattle.pr_slide.specs.private.Successions.{AreCounted};
 
     ghost Value = { List Spot };
 
@@ -99,7 +99,7 @@ fn lost(fallen: &Kept<Total, Totals>) -> Total
 }
 
 // The first value.
-fn count_first(counts: &mut Counts, spot: &Spot)
+fn count_first(counts: &mut SuccessiveCounts, spot: &Spot)
     requires { AreCounted [] counts.old }
     ensures { AreCounted (spot.now ∷ []) counts.new }
 {
@@ -108,7 +108,7 @@ fn count_first(counts: &mut Counts, spot: &Spot)
 
 // One more value, which comes after the last one.
 fn count_behind(
-    counts: &mut Counts,
+    counts: &mut SuccessiveCounts,
     first: &Spot,
     rest: &[Spot],
     spot: &Spot,
@@ -126,7 +126,7 @@ fn count_behind(
 
 // One more value, and whether it is counted: only where it comes after the last one.
 fn count_one_more(
-    counts: &mut Counts,
+    counts: &mut SuccessiveCounts,
     spots: &[Spot],
     spot: &Spot,
     counted: bool,
@@ -154,7 +154,7 @@ fn count_one_more(
 }
 
 // The first value is counted no more, but for that it may stand before a lower one.
-fn uncount_first(counts: &mut Counts, first: &Spot, rest: &[Spot])
+fn uncount_first(counts: &mut SuccessiveCounts, first: &Spot, rest: &[Spot])
     requires changes { counts.old.changes ≡ changes_in (first.now ∷ rest.now) }
     requires special { counts.old.special ≡ specials_in (first.now ∷ rest.now) }
     ensures fallen { counts.new.fallen ≡ counts.old.fallen }
@@ -166,7 +166,7 @@ fn uncount_first(counts: &mut Counts, first: &Spot, rest: &[Spot])
 }
 
 // The same of the first values that are not after a moment.
-fn uncount_leading(counts: &mut Counts, spots: &[Spot], time: i64)
+fn uncount_leading(counts: &mut SuccessiveCounts, spots: &[Spot], time: i64)
     requires changes { counts.old.changes ≡ changes_in spots.now }
     requires special { counts.old.special ≡ specials_in spots.now }
     ensures fallen { counts.new.fallen ≡ counts.old.fallen }
@@ -182,7 +182,7 @@ fn uncount_leading(counts: &mut Counts, spots: &[Spot], time: i64)
 }
 
 // The first values that are not after a moment are counted no more.
-fn uncount_until(counts: &mut Counts, spots: &[Spot], time: i64)
+fn uncount_until(counts: &mut SuccessiveCounts, spots: &[Spot], time: i64)
     requires { AreCounted spots.now counts.old }
     ensures { AreCounted (later time spots.now) counts.new }
 {
@@ -191,7 +191,7 @@ fn uncount_until(counts: &mut Counts, spots: &[Spot], time: i64)
 }
 
 // The same, if they are counted.
-fn uncount_if(counted: bool, counts: &mut Counts, spots: &[Spot], time: i64)
+fn uncount_if(counted: bool, counts: &mut SuccessiveCounts, spots: &[Spot], time: i64)
     requires { counted ≡ true → AreCounted spots.now counts.old }
     ensures { counted ≡ true → AreCounted (later time spots.now) counts.new }
 {
@@ -201,7 +201,12 @@ fn uncount_if(counted: bool, counts: &mut Counts, spots: &[Spot], time: i64)
 }
 
 // What some values fold to.
-fn counted_neighbours(counts: &Counts, first: &Spot, rest: &[Spot], count: u64) -> Neighbours
+fn counted_neighbours(
+    counts: &SuccessiveCounts,
+    first: &Spot,
+    rest: &[Spot],
+    count: u64,
+) -> Neighbours
     requires counted { AreCounted (first.now ∷ rest.now) counts.now }
     requires all { count ≡ length (first.now ∷ rest.now) }
     ensures { Some result ≡ folded spot_alone beside (first.now ∷ rest.now) }
@@ -218,7 +223,7 @@ fn counted_neighbours(counts: &Counts, first: &Spot, rest: &[Spot], count: u64) 
 }
 
 // What values fold to, if there are any.
-fn summary_of(counts: &Counts, spots: &[Spot]) -> Option<Neighbours>
+fn summary_of(counts: &SuccessiveCounts, spots: &[Spot]) -> Option<Neighbours>
     requires { AreCounted spots.now counts.now }
     ensures { result ≡ folded spot_alone beside spots.now }
 {
@@ -233,7 +238,7 @@ impl Successive {
     {
         Successive {
             spots: Listed::new(alloc),
-            counts: Counts {
+            counts: SuccessiveCounts {
                 fallen: Kept::new(alloc),
                 changes: 0,
                 special: 0,

@@ -1,20 +1,20 @@
 // One window: the values of the last range of a series.
 ghost use Rattle.std.specs.Prelude.{◌≡◌, ◌≢◌, ◌+◌, ◌-◌, ◌<◌, ◌≤◌, ◌++◌, ◌∷◌, [], ℕ, List, OnOk, Some, Err, length, max, slice_get};
-ghost use Rattle.pr_labels.specs.declared.pair.Pair.{Pair};
-ghost use Rattle.pr_head.specs.Stored.{Stored, count_of, position_of};
-ghost use Rattle.pr_vectors.specs.Ranges.{over};
+ghost use Rattle.pr_head.specs.pr_labels.declared.pair.Pair.{Pair};
+ghost use Rattle.pr_head.specs.private.Stored.{Stored, count_of, position_of};
+ghost use Rattle.pr_range.specs.spec_vectors.Ranges.{over};
 ghost use Rattle.pr_range.specs.declared.fault.RangeFault.TheVariants.{Memory};
-ghost use Rattle.pr_range.specs.Answers.{AnswersAsk};
-ghost use Rattle.pr_range.specs.Asks.{HasArgument, remembered};
-ghost use Rattle.pr_range.specs.Spots.{AreWithin, samples_between, spots_of};
-ghost use Rattle.pr_slide.specs.Windows.{last_in, slid_spots};
+ghost use Rattle.pr_range.specs.private.Answers.{AnswersAsk};
+ghost use Rattle.pr_range.specs.private.Asks.{HasArgument, remembered};
+ghost use Rattle.pr_range.specs.private.Spots.{AreWithin, samples_between, spots_of};
+ghost use Rattle.pr_slide.specs.private.Windows.{last_in, slid_spots};
 
 use crate::spots::Spots;
+use pr_head::history::Spot;
+use pr_head::words_crate::Steps;
 use pr_head::{Head, Timed};
-use pr_history::Spot;
 use pr_num::Num;
 use pr_range::{Ask, RangeFault, RangeFn};
-use pr_words::Steps;
 use std::alloc::{AllocError, Global};
 use std::sync::ledger::Ledger;
 
@@ -22,7 +22,7 @@ use std::sync::ledger::Ledger;
 /// many samples of the series were passed, and the values of those of them that are after the start
 /// of the range.
 #[derive(Drop)]
-pub struct Window {
+pub struct SeriesWindow {
     pub(crate) func: RangeFn,
     pub(crate) from: i64,
     pub(crate) to: i64,
@@ -84,13 +84,13 @@ fn push_between<G: Ledger>(
     Ok(())
 }
 
-impl Window {
+impl SeriesWindow {
     /// Nothing was passed yet.
-    pub(crate) fn new(alloc: Global, func: RangeFn) -> Window
+    pub(crate) fn new(alloc: Global, func: RangeFn) -> SeriesWindow
         ensures passed { result.passed ≡ 0 }
         ensures spots { result.spots ≡ [] }
     {
-        Window {
+        SeriesWindow {
             func,
             from: 0,
             to: 0,

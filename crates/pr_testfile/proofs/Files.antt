@@ -1,7 +1,7 @@
 -- What is told of a file: its tests, or all that is wrong.
 use Rattle.std.proofs.Common.{◌≡◌, ◌<◌, ℕ, length, arith, List, [], ◌∷◌, refl}
-use Rattle.pr_fields.specs.declared.problem.Problem.{Problem}
-use Rattle.pr_fields.specs.Order.{in_order}
+use Rattle.pr_rulefile.specs.declared.fields.problem.Problem.{Problem}
+use Rattle.pr_rulefile.specs.Order.{in_order}
 use Rattle.pr_testfile.specs.File.{PlainFile}
 use Rattle.pr_testfile.specs.Reading.{by_problems, gives_problems}
 

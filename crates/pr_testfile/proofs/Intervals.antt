@@ -4,9 +4,9 @@ use Rattle.std.specs.Prelude.{option_and_then, unwrap_or}
 use Rattle.std.proofs.lemmas.Bool.Decides.{nat_tests}
 use Rattle.pr_yaml.specs.Tree.{Tree, EntryTree}
 use Rattle.pr_yaml.specs.Read.{Reading, gives_tree, gives_fault, read_of}
-use Rattle.pr_fields.specs.declared.problem.Problem.{Problem}
-use Rattle.pr_fields.specs.Nodes.{text_of, fields_in, field}
-use Rattle.pr_fields.specs.Scalars.{short_span}
+use Rattle.pr_rulefile.specs.declared.fields.problem.Problem.{Problem}
+use Rattle.pr_rulefile.specs.Nodes.{text_of, fields_in, field}
+use Rattle.pr_rulefile.specs.Scalars.{short_span}
 use Rattle.pr_testfile.specs.Words.{evaluation_interval}
 use Rattle.pr_testfile.specs.Scalars.{if_positive, interval_of, interval_or}
 use Rattle.pr_testfile.specs.File.{PlainFile, minute, interval_under, file_problems, file_in}

@@ -2,16 +2,16 @@
 use Rattle.std.proofs.Common.{◌≡◌, ℕ, List, [], ◌∷◌, Bool, true, false, cond, ◌||◌, ap, sym, ◌∙◌, refl, Option, Some, None, ◌++◌, append_assoc, subst}
 use Rattle.std.specs.BTreeSet.{BTreeSet, Updates}
 use Rattle.std.specs.Ordering.{is_eq}
-use Rattle.pr_labels.specs.declared.pair.Pair.{Pair}
-use Rattle.pr_labels.specs.Order.{labels_cmp, labels_eq, labels_tie}
+use Rattle.pr_ast.specs.pr_labels.declared.pair.Pair.{Pair}
+use Rattle.pr_ast.specs.pr_labels.Order.{labels_cmp, labels_eq, labels_tie}
 use Rattle.pr_yaml.specs.Tree.{Tree}
-use Rattle.pr_fields.specs.declared.problem.Problem.{Problem}
-use Rattle.pr_fields.specs.declared.problem.ProblemKind.TheVariants.{DuplicateSeries}
-use Rattle.pr_fields.specs.Nodes.{line_of}
-use Rattle.pr_fields.specs.Problems.{problem}
+use Rattle.pr_rulefile.specs.declared.fields.problem.Problem.{Problem}
+use Rattle.pr_rulefile.specs.declared.fields.problem.ProblemKind.TheVariants.{DuplicateSeries}
+use Rattle.pr_rulefile.specs.Nodes.{line_of}
+use Rattle.pr_rulefile.specs.Problems.{problem}
 use Rattle.pr_testfile.specs.Scalars.{labels_under}
 use Rattle.pr_testfile.specs.Series.{by_labels, repeat_problems, series_of, and_series, duplicate_problems}
-use Rattle.pr_testfile.specs.Known.{knows_labels, line_under}
+use Rattle.pr_testfile.specs.private.Known.{knows_labels, line_under}
 
 one_more : (new old b : Bool) → new ≡ cond b true old → new ≡ (old || b)
 one_more new true true e = e

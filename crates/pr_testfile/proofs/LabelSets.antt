@@ -1,9 +1,9 @@
 -- The label set of pairs, or none where one of them has a fault.
 use Rattle.std.proofs.Common.{◌≡◌, ◌≢◌, ℕ, List, [], Option, Some, None, refl}
-use Rattle.pr_labels.specs.declared.fault.LabelFault.{LabelFault}
-use Rattle.pr_labels.specs.declared.fault.LabelFault.TheVariants.{BadName, Twice, Memory}
-use Rattle.pr_labels.specs.declared.pair.Pair.{Pair}
-use Rattle.pr_labels.specs.Edits.{labels_of, first_fault}
+use Rattle.pr_ast.specs.pr_labels.declared.fault.LabelFault.{LabelFault}
+use Rattle.pr_ast.specs.pr_labels.declared.fault.LabelFault.TheVariants.{BadName, Twice, Memory}
+use Rattle.pr_ast.specs.pr_labels.declared.pair.Pair.{Pair}
+use Rattle.pr_ast.specs.pr_labels.Edits.{labels_of, first_fault}
 use Rattle.pr_testfile.specs.Labels.{unless_faulty}
 
 pub no_fault : (pairs : List Pair) → first_fault pairs ≡ None → unless_faulty pairs (first_fault pairs) ≡ labels_of pairs

@@ -4,4 +4,9 @@ pub mod Files
 pub mod Exprs
 pub mod Intervals
 pub mod LabelSets
-pub use Rattle.pr_fields.proofs.KindsPlainTexts
+pub mod Parts
+pub mod Even
+pub mod Keeping
+mod Computing
+pub use Rattle.pr_rulefile.proofs.SomeProblems as RulefileSomeProblems
+pub use Rattle.pr_rulefile.proofs.SoundGroups as RulefileSoundGroups

@@ -4,16 +4,16 @@ use Rattle.std.specs.List.{filter_map}
 use Rattle.std.specs.Option.{option_map}
 use Rattle.std.specs.Ordering.{is_lt, ordering_then}
 use Rattle.pr_num.specs.declared.value.Num.TheVariants.{NaN}
-use Rattle.pr_labels.specs.Edits.{set_label}
-use Rattle.pr_labels.specs.Order.{labels_cmp}
+use Rattle.pr_ast.specs.pr_labels.Edits.{set_label}
+use Rattle.pr_ast.specs.pr_labels.Order.{labels_cmp}
 use Rattle.pr_yaml.specs.Tree.{Tree, EntryTree}
-use Rattle.pr_fields.specs.declared.problem.Problem.{Problem}
-use Rattle.pr_fields.specs.Nodes.{fields_of, field, text_or_empty, items_under, fields_under}
-use Rattle.pr_fields.specs.Scalars.{text_problems, span_problems, span_under}
-use Rattle.pr_fields.specs.Labels.{labels_problems}
-use Rattle.pr_fields.specs.Maps.{required, none_missing, map_problems, list_problems}
-use Rattle.pr_fields.specs.Order.{ordered}
-use Rattle.pr_lineage.specs.declared.found.Found.{Found}
+use Rattle.pr_rulefile.specs.declared.fields.problem.Problem.{Problem}
+use Rattle.pr_rulefile.specs.Nodes.{fields_of, field, text_or_empty, items_under, fields_under}
+use Rattle.pr_rulefile.specs.Scalars.{text_problems, span_problems, span_under}
+use Rattle.pr_rulefile.specs.Labels.{labels_problems}
+use Rattle.pr_rulefile.specs.Maps.{required, none_missing, map_problems, list_problems}
+use Rattle.pr_rulefile.specs.Order.{ordered}
+use Rattle.pr_rulefile.specs.spec_alerts.declared.found.RuleElement.{RuleElement}
 use Rattle.pr_testfile.specs.declared.fields.ExpectedField.{ExpectedField}
 use Rattle.pr_testfile.specs.declared.fields.ExpectedField.TheVariants.{ExpLabels, ExpAnnotations}
 use Rattle.pr_testfile.specs.declared.fields.AlertField.{AlertField}
@@ -50,21 +50,21 @@ abbrev pub alert_problems : Tree → List Problem
 alert_problems = map_problems alert_missing alert_fields
 
 -- An alert that is expected. Its name is that of the check.
-unfoldable pub found_in : List ℕ → List EntryTree → Found
+unfoldable pub found_in : List ℕ → List EntryTree → RuleElement
 found_in name es = record {
   labels = set_label (label_set (fields_under (field (codes "exp_labels") es))) (codes "alertname") name;
   notes = notes_of (fields_under (field exp_annotations es));
   value = NaN;
 }
 
-abbrev pub found_of : List ℕ → Tree → Option Found
+abbrev pub found_of : List ℕ → Tree → Option RuleElement
 found_of name t = option_map (found_in name) (fields_of t)
 
 -- alerts in label order, and those of equal labels in order of their annotations
-abbrev pub is_found_before : Found → Found → Bool
+abbrev pub is_found_before : RuleElement → RuleElement → Bool
 is_found_before a b = is_lt (ordering_then (labels_cmp a.labels b.labels) (labels_cmp a.notes b.notes))
 
-unfoldable pub founds_of : List ℕ → List Tree → List Found
+unfoldable pub founds_of : List ℕ → List Tree → List RuleElement
 founds_of name ts = ordered is_found_before (filter_map (found_of name) ts)
 
 -- when a check is made

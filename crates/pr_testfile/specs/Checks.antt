@@ -3,13 +3,13 @@ use Rattle.std.specs.Prelude.{ℕ, List, ◌++◌, codes, Option, Some, None, op
 use Rattle.std.specs.Option.{option_map}
 use Rattle.pr_num.specs.declared.value.Num.{Num}
 use Rattle.pr_ast.specs.Tree.{Tree as Expression, tree_of}
-use Rattle.pr_labels.specs.declared.item.Item.{Item}
+use Rattle.pr_ast.specs.pr_labels.declared.item.Item.{Item}
 use Rattle.pr_yaml.specs.Tree.{Tree, EntryTree}
-use Rattle.pr_fields.specs.declared.problem.Problem.{Problem}
-use Rattle.pr_fields.specs.Nodes.{line_of, text_of, fields_of, field, written, text_or_empty, items_under}
-use Rattle.pr_fields.specs.Scalars.{span_problems}
-use Rattle.pr_fields.specs.Expressions.{by_written, tree_found, expression_value_problems}
-use Rattle.pr_fields.specs.Maps.{required, map_problems, list_problems}
+use Rattle.pr_rulefile.specs.declared.fields.problem.Problem.{Problem}
+use Rattle.pr_rulefile.specs.Nodes.{line_of, text_of, fields_of, field, written, text_or_empty, items_under}
+use Rattle.pr_rulefile.specs.Scalars.{span_problems}
+use Rattle.pr_rulefile.specs.Expressions.{by_written, tree_found, expression_value_problems}
+use Rattle.pr_rulefile.specs.Maps.{required, map_problems, list_problems}
 use Rattle.pr_testfile.specs.declared.fields.CheckField.{CheckField}
 use Rattle.pr_testfile.specs.declared.fields.CheckField.TheVariants.{Expr, EvalTime, ExpSamples}
 use Rattle.pr_testfile.specs.declared.tests.ExprCheck.{ExprCheck}

@@ -3,10 +3,10 @@ use Rattle.std.specs.Prelude.{ℕ, List, codes, map, Option, Some, unwrap_or}
 use Rattle.std.specs.List.{filter_map}
 use Rattle.std.specs.Option.{option_map}
 use Rattle.pr_yaml.specs.Tree.{Tree, EntryTree}
-use Rattle.pr_fields.specs.declared.problem.Problem.{Problem}
-use Rattle.pr_fields.specs.Nodes.{text_of, fields_in, field, items_under}
-use Rattle.pr_fields.specs.Problems.{unless_absent}
-use Rattle.pr_fields.specs.Maps.{none_missing, map_problems, list_problems, texts_problems}
+use Rattle.pr_rulefile.specs.declared.fields.problem.Problem.{Problem}
+use Rattle.pr_rulefile.specs.Nodes.{text_of, fields_in, field, items_under}
+use Rattle.pr_rulefile.specs.Problems.{unless_absent}
+use Rattle.pr_rulefile.specs.Maps.{none_missing, map_problems, list_problems, texts_problems}
 use Rattle.pr_testfile.specs.declared.fields.FileField.{FileField}
 use Rattle.pr_testfile.specs.declared.fields.FileField.TheVariants.{RuleFiles, EvaluationInterval, GroupEvalOrder, FuzzyCompare, Tests}
 use Rattle.pr_testfile.specs.declared.tests.TestFile.{TestFile}

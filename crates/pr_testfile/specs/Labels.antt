@@ -1,10 +1,10 @@
 -- Labels and annotations that are expected, or that templates see.
 use Rattle.std.specs.Prelude.{List, [], Option, Some, None}
-use Rattle.pr_labels.specs.declared.fault.LabelFault.{LabelFault}
-use Rattle.pr_labels.specs.declared.pair.Pair.{Pair}
-use Rattle.pr_labels.specs.Edits.{labels_of, first_fault}
+use Rattle.pr_ast.specs.pr_labels.declared.fault.LabelFault.{LabelFault}
+use Rattle.pr_ast.specs.pr_labels.declared.pair.Pair.{Pair}
+use Rattle.pr_ast.specs.pr_labels.Edits.{labels_of, first_fault}
 use Rattle.pr_yaml.specs.Tree.{EntryTree}
-use Rattle.pr_fields.specs.Labels.{put_labels, pairs_of}
+use Rattle.pr_rulefile.specs.Labels.{put_labels, pairs_of}
 
 -- annotations, of which empty ones stay
 unfoldable pub notes_of : List EntryTree → List Pair

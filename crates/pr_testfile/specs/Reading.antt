@@ -2,11 +2,11 @@
 use Rattle.std.specs.Prelude.{◌≡◌, ℕ, List, [], ◌∷◌}
 use Rattle.pr_yaml.specs.Tree.{Tree}
 use Rattle.pr_yaml.specs.Read.{Reading, gives_tree, gives_fault, read_of}
-use Rattle.pr_fields.specs.declared.problem.Problem.{Problem}
-use Rattle.pr_fields.specs.declared.problem.ProblemKind.TheVariants.{Yaml}
-use Rattle.pr_fields.specs.Nodes.{fields_in}
-use Rattle.pr_fields.specs.Problems.{problem}
-use Rattle.pr_fields.specs.Order.{in_order}
+use Rattle.pr_rulefile.specs.declared.fields.problem.Problem.{Problem}
+use Rattle.pr_rulefile.specs.declared.fields.problem.ProblemKind.TheVariants.{Yaml}
+use Rattle.pr_rulefile.specs.Nodes.{fields_in}
+use Rattle.pr_rulefile.specs.Problems.{problem}
+use Rattle.pr_rulefile.specs.Order.{in_order}
 use Rattle.pr_testfile.specs.declared.fault.TestError.{TestError}
 use Rattle.pr_testfile.specs.declared.fault.TestError.TheVariants.{Problems, Memory}
 use Rattle.pr_testfile.specs.File.{file_problems, PlainFile, file_in}

@@ -4,13 +4,13 @@ use Rattle.std.specs.List.{filter_map}
 use Rattle.std.specs.Option.{option_map}
 use Rattle.std.specs.Ordering.{is_lt}
 use Rattle.pr_num.specs.declared.value.Num.{Num}
-use Rattle.pr_labels.specs.declared.item.Item.{Item}
-use Rattle.pr_labels.specs.Order.{labels_cmp}
+use Rattle.pr_ast.specs.pr_labels.declared.item.Item.{Item}
+use Rattle.pr_ast.specs.pr_labels.Order.{labels_cmp}
 use Rattle.pr_yaml.specs.Tree.{Tree, EntryTree}
-use Rattle.pr_fields.specs.declared.problem.Problem.{Problem}
-use Rattle.pr_fields.specs.Nodes.{fields_of, field}
-use Rattle.pr_fields.specs.Maps.{required, map_problems}
-use Rattle.pr_fields.specs.Order.{ordered}
+use Rattle.pr_rulefile.specs.declared.fields.problem.Problem.{Problem}
+use Rattle.pr_rulefile.specs.Nodes.{fields_of, field}
+use Rattle.pr_rulefile.specs.Maps.{required, map_problems}
+use Rattle.pr_rulefile.specs.Order.{ordered}
 use Rattle.pr_testfile.specs.declared.fields.SampleField.{SampleField}
 use Rattle.pr_testfile.specs.declared.fields.SampleField.TheVariants.{Labels, Value}
 use Rattle.pr_testfile.specs.Fields.{sample_field}

@@ -3,19 +3,19 @@ use Rattle.std.specs.Prelude.{ℕ, nat_lt, List, [], ◌∷◌, codes, Option, S
 use Rattle.std.specs.Str.{bytes_eq}
 use Rattle.pr_num.specs.declared.value.Num.{Num}
 use Rattle.pr_num.specs.declared.value.Num.TheVariants.{NaN}
-use Rattle.pr_labels.specs.declared.pair.Pair.{Pair}
-use Rattle.pr_series.specs.SeriesReading.{series_labels}
+use Rattle.pr_ast.specs.pr_labels.declared.pair.Pair.{Pair}
+use Rattle.pr_ast.specs.pr_labels.SeriesReading.{series_labels}
 use Rattle.pr_yaml.specs.Tree.{Tree}
-use Rattle.pr_inputs.specs.declared.stretch.Stretch.{Stretch}
-use Rattle.pr_inputs.specs.declared.values.Values.{Values}
-use Rattle.pr_inputs.specs.declared.values.Values.TheVariants.{Stretches, TooMany, Bad}
-use Rattle.pr_inputs.specs.Numbers.{number_of}
-use Rattle.pr_inputs.specs.Values.{values_of}
-use Rattle.pr_fields.specs.declared.problem.Problem.{Problem}
-use Rattle.pr_fields.specs.declared.problem.ProblemKind.TheVariants.{BadSeries, BadValues, TooManyValues, BadValue, FuzzyCompare}
-use Rattle.pr_fields.specs.Nodes.{line_of, text_of}
-use Rattle.pr_fields.specs.Problems.{problem, by_text}
-use Rattle.pr_fields.specs.Scalars.{short_span, by_span}
+use Rattle.pr_testfile.specs.declared.inputs.stretch.Stretch.{Stretch}
+use Rattle.pr_testfile.specs.declared.inputs.values.Values.{Values}
+use Rattle.pr_testfile.specs.declared.inputs.values.Values.TheVariants.{Stretches, TooMany, Bad}
+use Rattle.pr_testfile.specs.Numbers.{number_of}
+use Rattle.pr_testfile.specs.Values.{values_of}
+use Rattle.pr_rulefile.specs.declared.fields.problem.Problem.{Problem}
+use Rattle.pr_rulefile.specs.declared.fields.problem.ProblemKind.TheVariants.{BadSeries, BadValues, TooManyValues, BadValue, FuzzyCompare}
+use Rattle.pr_rulefile.specs.Nodes.{line_of, text_of}
+use Rattle.pr_rulefile.specs.Problems.{problem, by_text}
+use Rattle.pr_rulefile.specs.Scalars.{short_span, by_span}
 
 -- Intervals are lengths of time above 0.
 abbrev pub if_positive : Option ℕ → Option ℕ

@@ -3,19 +3,19 @@ use Rattle.std.specs.Prelude.{ℕ, ◌*◌, max, Bool, false, ◌||◌, List, []
 use Rattle.std.specs.List.{flat_map, filter_map, fold, range_with_len, slice_get}
 use Rattle.std.specs.Option.{option_map}
 use Rattle.pr_num.specs.declared.value.Point.{Point}
-use Rattle.pr_labels.specs.declared.pair.Pair.{Pair}
-use Rattle.pr_labels.specs.Order.{labels_eq}
+use Rattle.pr_ast.specs.pr_labels.declared.pair.Pair.{Pair}
+use Rattle.pr_ast.specs.pr_labels.Order.{labels_eq}
 use Rattle.pr_yaml.specs.Tree.{Tree, EntryTree}
-use Rattle.pr_inputs.specs.declared.stretch.Stretch.{Stretch}
-use Rattle.pr_inputs.specs.declared.input.InputSeries.{InputSeries}
-use Rattle.pr_inputs.specs.declared.input.Input.{Input}
-use Rattle.pr_inputs.specs.Points.{points, total}
-use Rattle.pr_fields.specs.declared.problem.Problem.{Problem}
-use Rattle.pr_fields.specs.declared.problem.ProblemKind.TheVariants.{DuplicateSeries}
-use Rattle.pr_fields.specs.Nodes.{line_of, items_in, fields_of, fields_in, field}
-use Rattle.pr_fields.specs.Problems.{problem}
-use Rattle.pr_fields.specs.Maps.{required, map_problems, list_problems}
-use Rattle.pr_lineage.specs.pr_history.declared.entry.Entry.{Entry}
+use Rattle.pr_testfile.specs.declared.inputs.stretch.Stretch.{Stretch}
+use Rattle.pr_testfile.specs.declared.inputs.input.InputSeries.{InputSeries}
+use Rattle.pr_testfile.specs.declared.inputs.input.Input.{Input}
+use Rattle.pr_testfile.specs.Points.{points, total}
+use Rattle.pr_rulefile.specs.declared.fields.problem.Problem.{Problem}
+use Rattle.pr_rulefile.specs.declared.fields.problem.ProblemKind.TheVariants.{DuplicateSeries}
+use Rattle.pr_rulefile.specs.Nodes.{line_of, items_in, fields_of, fields_in, field}
+use Rattle.pr_rulefile.specs.Problems.{problem}
+use Rattle.pr_rulefile.specs.Maps.{required, map_problems, list_problems}
+use Rattle.pr_rulefile.specs.spec_history.declared.entry.Entry.{Entry}
 use Rattle.pr_testfile.specs.declared.fields.SeriesField.{SeriesField}
 use Rattle.pr_testfile.specs.declared.fields.SeriesField.TheVariants as kind
 use Rattle.pr_testfile.specs.Fields.{series_field}

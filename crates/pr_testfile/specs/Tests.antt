@@ -2,14 +2,14 @@
 use Rattle.std.specs.Prelude.{ℕ, false, List, codes, map, Option, Some, unwrap_or}
 use Rattle.std.specs.List.{filter_map}
 use Rattle.std.specs.Option.{option_map}
-use Rattle.pr_labels.specs.declared.pair.Pair.{Pair}
+use Rattle.pr_ast.specs.pr_labels.declared.pair.Pair.{Pair}
 use Rattle.pr_yaml.specs.Tree.{Tree, EntryTree}
-use Rattle.pr_fields.specs.declared.problem.Problem.{Problem}
-use Rattle.pr_fields.specs.Nodes.{fields_of, fields_in, field, text_or_empty, items_under, fields_under}
-use Rattle.pr_fields.specs.Scalars.{text_problems}
-use Rattle.pr_fields.specs.Labels.{labels_problems}
-use Rattle.pr_fields.specs.Maps.{none_missing, map_problems, list_problems}
-use Rattle.pr_lineage.specs.pr_history.declared.entry.Entry.{Entry}
+use Rattle.pr_rulefile.specs.declared.fields.problem.Problem.{Problem}
+use Rattle.pr_rulefile.specs.Nodes.{fields_of, fields_in, field, text_or_empty, items_under, fields_under}
+use Rattle.pr_rulefile.specs.Scalars.{text_problems}
+use Rattle.pr_rulefile.specs.Labels.{labels_problems}
+use Rattle.pr_rulefile.specs.Maps.{none_missing, map_problems, list_problems}
+use Rattle.pr_rulefile.specs.spec_history.declared.entry.Entry.{Entry}
 use Rattle.pr_testfile.specs.declared.fields.TestField.{TestField}
 use Rattle.pr_testfile.specs.declared.fields.TestField.TheVariants.{Interval, Name, InputSeries, AlertRuleTest, PromqlExprTest, ExternalLabels, ExternalUrl}
 use Rattle.pr_testfile.specs.declared.tests.AlertCheck.{AlertCheck}

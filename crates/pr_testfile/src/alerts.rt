@@ -2,10 +2,10 @@
 ghost use Rattle.std.specs.Prelude.{◌≡◌, ◌++◌, ◌∷◌, [], OnOk, IfOk, map, codes};
 ghost use Rattle.std.specs.List.{filter_map};
 ghost use Rattle.std.specs.Ordering.{ordering_then};
-ghost use Rattle.pr_labels.specs.Edits.{set_label};
-ghost use Rattle.pr_labels.specs.Order.{labels_cmp};
+ghost use Rattle.pr_ast.specs.pr_labels.Edits.{set_label};
+ghost use Rattle.pr_ast.specs.pr_labels.Order.{labels_cmp};
 ghost use Rattle.pr_yaml.specs.Tree.{tree_of, entry_tree_of};
-ghost use Rattle.pr_fields.specs.Order.{ordered};
+ghost use Rattle.pr_rulefile.specs.Order.{ordered};
 ghost use Rattle.pr_testfile.specs.Labels.{label_set};
 ghost use Rattle.pr_testfile.specs.Alerts.{found_in, found_of, is_found_before, founds_of, time_under, alert_in, alert_of};
 
@@ -13,16 +13,16 @@ use crate::fields::{AlertField, ExpectedField, alert_field, expected_field};
 use crate::labels::{label_set, notes_of, text_under};
 use crate::tests::AlertCheck;
 use crate::words::exp_annotations;
-use pr_fields::{
+use pr_ast::labels::Labels;
+use pr_ast::time::Ms;
+use pr_num::Num;
+use pr_rulefile::alerts_crate::RuleElement;
+use pr_rulefile::fields::{
     ItemForm, MapForm, Problem, field, fields_of, fields_under, items_under, labels_problems,
     list_problems, map_problems, require, span_problems, span_under, text_problems,
 };
-use pr_inputs::time::Ms;
-use pr_labels::Labels;
-use pr_lineage::Found;
-use pr_num::Num;
 use pr_words::{Items, Text};
-use pr_yaml::{Entry, Node};
+use pr_yaml::{MapEntry, Node};
 use std::alloc::{AllocError, Global};
 use std::cmp::Ordering;
 
@@ -30,7 +30,7 @@ use std::cmp::Ordering;
 struct ExpectedForm;
 
 impl MapForm for ExpectedForm {
-    ghost use Rattle.pr_fields.specs.Maps.{none_missing};
+    ghost use Rattle.pr_rulefile.specs.Maps.{none_missing};
     ghost use Rattle.pr_testfile.specs.Alerts.{expected_fields};
 
     ghost fields = { λ _ key. expected_fields key };
@@ -62,7 +62,7 @@ impl MapForm for ExpectedForm {
         &self,
         _alloc: Global,
         _line: u32,
-        _entries: &[Entry],
+        _entries: &[MapEntry],
         _found: &mut Vec<Problem>,
     ) -> Result<(), AllocError> {
         Ok(())
@@ -118,7 +118,7 @@ impl MapForm for AlertForm {
         &self,
         alloc: Global,
         line: u32,
-        entries: &[Entry],
+        entries: &[MapEntry],
         found: &mut Vec<Problem>,
     ) -> Result<(), AllocError> {
         require(alloc, line, "eval_time", field("eval_time", entries), found)?;
@@ -140,7 +140,7 @@ impl ItemForm for AlertItems {
 }
 
 // The label set of a map, with the name of an alert.
-fn named(alloc: Global, entries: &[Entry], name: &str) -> Result<Labels, AllocError>
+fn named(alloc: Global, entries: &[MapEntry], name: &str) -> Result<Labels, AllocError>
     ensures { IfOk result (λ l. l ≡ set_label (label_set (map entry_tree_of entries.now)) (codes "alertname") name.now) }
 {
     let mut labels = label_set(alloc, entries)?;
@@ -153,7 +153,7 @@ fn put_found(
     alloc: Global,
     name: &str,
     node: &Node,
-    founds: &mut Vec<Found>,
+    founds: &mut Vec<RuleElement>,
 ) -> Result<(), AllocError>
     ensures { OnOk result (founds.new.items ≡ founds.old.items ++ filter_map (found_of name.now) (tree_of node.now ∷ [])) }
 {
@@ -161,7 +161,7 @@ fn put_found(
         Some(entries) => {
             let labels = named(alloc, fields_under("exp_labels", entries), name)?;
             let notes = notes_of(alloc, fields_under(exp_annotations(), entries))?;
-            founds.push(Found {
+            founds.push(RuleElement {
                 labels,
                 notes,
                 value: Num::NaN,
@@ -172,7 +172,7 @@ fn put_found(
     }
 }
 
-fn compare(a: &Found, b: &Found) -> Ordering
+fn compare(a: &RuleElement, b: &RuleElement) -> Ordering
     ensures { result ≡ ordering_then (labels_cmp a.now.labels b.now.labels) (labels_cmp a.now.notes b.now.notes) }
 {
     a.labels
@@ -184,7 +184,7 @@ fn compare(a: &Found, b: &Found) -> Ordering
 ///
 /// # Errors
 /// Where memory runs out.
-pub fn founds_in_order(mut founds: Vec<Found>) -> Result<Items<Found>, AllocError>
+pub fn founds_in_order(mut founds: Vec<RuleElement>) -> Result<Items<RuleElement>, AllocError>
     ensures { IfOk result (λ list. list ≡ ordered is_found_before founds.items) }
 {
     founds.sort_by(|a, b| compare(a, b))?;
@@ -192,7 +192,7 @@ pub fn founds_in_order(mut founds: Vec<Found>) -> Result<Items<Found>, AllocErro
 }
 
 #[tactic(auto, unfolding(crate::specs::Alerts::founds_of))]
-fn founds_of(alloc: Global, name: &str, items: &[Node]) -> Result<Items<Found>, AllocError>
+fn founds_of(alloc: Global, name: &str, items: &[Node]) -> Result<Items<RuleElement>, AllocError>
     ensures { IfOk result (λ list. list ≡ founds_of name.now (map tree_of items.now)) }
 {
     let mut founds = Vec::new(alloc);
@@ -205,7 +205,7 @@ fn founds_of(alloc: Global, name: &str, items: &[Node]) -> Result<Items<Found>, 
 }
 
 /// When a check with these fields is made.
-pub(crate) fn time_under(entries: &[Entry]) -> Ms
+pub(crate) fn time_under(entries: &[MapEntry]) -> Ms
     ensures { result ≡ time_under (map entry_tree_of entries.now) }
 {
     match span_under("eval_time", entries) {

@@ -10,14 +10,14 @@ use crate::alerts::time_under;
 use crate::fields::{CheckField, check_field};
 use crate::samples::{SampleItems, samples_of};
 use crate::tests::ExprCheck;
-use pr_fields::types::Checked;
-use pr_fields::{
+use pr_rulefile::fields::{
     ItemForm, MapForm, Problem, expression_value_problems, field, fields_of, items_under,
     list_problems, map_problems, require, span_problems, text_of, typed_expression, written,
     written_text,
 };
+use pr_rulefile::types::Checked;
 use pr_words::{Items, Text};
-use pr_yaml::{Entry, Node};
+use pr_yaml::{MapEntry, Node};
 use std::alloc::{AllocError, Global};
 
 // The check of an expression.
@@ -56,7 +56,7 @@ impl MapForm for CheckForm {
         &self,
         alloc: Global,
         line: u32,
-        entries: &[Entry],
+        entries: &[MapEntry],
         found: &mut Vec<Problem>,
     ) -> Result<(), AllocError> {
         require(alloc, line, "eval_time", field("eval_time", entries), found)?;
@@ -95,7 +95,7 @@ fn expr_in(alloc: Global, value: Option<&Node>) -> Result<Option<Checked>, Alloc
 
 // The check of a map with this expression.
 #[tactic(auto, unfolding(crate::specs::Checks::check_with))]
-fn check_with(alloc: Global, entries: &[Entry], expr: Checked) -> Result<ExprCheck, AllocError>
+fn check_with(alloc: Global, entries: &[MapEntry], expr: Checked) -> Result<ExprCheck, AllocError>
     ensures { IfOk result (λ c. plain_check c ≡ check_with (map entry_tree_of entries.now) (expression_tree expr)) }
 {
     let text = Text::from_str(alloc, written_text("expr", entries))?;

@@ -1,10 +1,10 @@
 //! What the definitions say of small trees.
 ghost use Rattle.std.specs.Prelude.{◌≡◌, ◌∷◌, [], codes};
-ghost use Rattle.pr_labels.specs.LabelSet.{pair_of};
+ghost use Rattle.pr_ast.specs.pr_labels.LabelSet.{pair_of};
 ghost use Rattle.pr_yaml.specs.Tree.{map_node, no_entries, entry_then, absent_node};
-ghost use Rattle.pr_yaml.specs.Worked.{plain, quoted};
-ghost use Rattle.pr_fields.specs.declared.problem.ProblemKind.TheVariants.{WantMap, WantList, UnknownField, Missing, FuzzyCompare};
-ghost use Rattle.pr_fields.specs.Problems.{problem};
+ghost use Rattle.pr_yaml.specs.private.Worked.{plain, quoted};
+ghost use Rattle.pr_rulefile.specs.declared.fields.problem.ProblemKind.TheVariants.{WantMap, WantList, UnknownField, Missing, FuzzyCompare};
+ghost use Rattle.pr_rulefile.specs.Problems.{problem};
 ghost use Rattle.pr_testfile.specs.Labels.{label_set, notes_of};
 ghost use Rattle.pr_testfile.specs.Samples.{sample_problems};
 ghost use Rattle.pr_testfile.specs.Alerts.{alert_problems};
@@ -13,7 +13,7 @@ ghost use Rattle.pr_testfile.specs.File.{file_problems, interval_under};
 
 /// A file that says nothing has no tests. A field that no table has is told at its key, whatever
 /// its value is.
-#[tactic(auto, unfolding(crate::specs::File::file_problems, crate::specs::Scalars::fuzzy_problems, crate::specs::Words::evaluation_interval, crate::specs::Words::group_eval_order, crate::specs::Words::fuzzy_compare, pr_fields::specs::Maps::map_problems, pr_fields::specs::Maps::list_problems, pr_fields::specs::Nodes::field, pr_yaml::specs::Tree::is_absent_text))]
+#[tactic(auto, unfolding(crate::specs::File::file_problems, crate::specs::Scalars::fuzzy_problems, crate::specs::Words::evaluation_interval, crate::specs::Words::group_eval_order, crate::specs::Words::fuzzy_compare, pr_rulefile::specs::Maps::map_problems, pr_rulefile::specs::Maps::list_problems, pr_rulefile::specs::Nodes::field, pr_yaml::specs::Tree::is_absent_text))]
 pub fn files_have_these_problems()
     ensures nothing { file_problems (absent_node 1) ≡ [] }
     ensures no_map { file_problems (plain 1 (codes "a")) ≡ problem 1 WantMap ∷ [] }
@@ -26,7 +26,7 @@ pub fn files_have_these_problems()
 
 /// What has to be there, in this order, at the line of its map; an empty expression is none, but an
 /// empty name is one.
-#[tactic(auto, unfolding(pr_fields::specs::Maps::map_problems, pr_fields::specs::Maps::list_problems, pr_fields::specs::Nodes::field, pr_fields::specs::Nodes::written, pr_fields::specs::Expressions::expression_value_problems, pr_yaml::specs::Tree::is_absent_text))]
+#[tactic(auto, unfolding(pr_rulefile::specs::Maps::map_problems, pr_rulefile::specs::Maps::list_problems, pr_rulefile::specs::Nodes::field, pr_rulefile::specs::Nodes::written, pr_rulefile::specs::Expressions::expression_value_problems, pr_yaml::specs::Tree::is_absent_text))]
 pub fn checks_have_these_fields()
     ensures alert { alert_problems (map_node 4 no_entries) ≡ problem 4 (Missing (codes "eval_time")) ∷ problem 4 (Missing (codes "alertname")) ∷ [] }
     ensures expression { check_problems (map_node 4 no_entries) ≡ problem 4 (Missing (codes "eval_time")) ∷ problem 4 (Missing (codes "expr")) ∷ [] }
@@ -37,7 +37,7 @@ pub fn checks_have_these_fields()
 
 /// Labels that are expected have values that are not empty; annotations may be empty, but are
 /// there.
-#[tactic(auto, unfolding(crate::specs::Labels::label_set, crate::specs::Labels::notes_of, pr_fields::specs::Labels::put_labels, pr_yaml::specs::Tree::is_absent_text))]
+#[tactic(auto, unfolding(crate::specs::Labels::label_set, crate::specs::Labels::notes_of, pr_rulefile::specs::Labels::put_labels, pr_yaml::specs::Tree::is_absent_text))]
 pub fn empty_labels_are_none()
     ensures labels { label_set ((record { key = codes "b"; line = 1; value = quoted 1 [] }) ∷ (record { key = codes "a"; line = 1; value = plain 1 (codes "x") }) ∷ []) ≡ pair_of (codes "a") (codes "x") ∷ [] }
     ensures notes { notes_of ((record { key = codes "b"; line = 1; value = quoted 1 [] }) ∷ (record { key = codes "a"; line = 1; value = absent_node 1 }) ∷ []) ≡ pair_of (codes "b") [] ∷ [] }

@@ -9,11 +9,11 @@ use crate::scalars::{fuzzy_problems, interval_or, interval_problems};
 use crate::test::{TestItems, tests_of};
 use crate::tests::TestFile;
 use crate::words::{evaluation_interval, group_eval_order};
-use pr_fields::{
+use pr_ast::time::Span;
+use pr_rulefile::fields::{
     MapForm, Problem, field, fields_in, items_under, list_problems, map_problems, texts_problems,
 };
-use pr_inputs::time::Span;
-use pr_yaml::{Entry, Node};
+use pr_yaml::{MapEntry, Node};
 use std::alloc::{AllocError, Global};
 
 // A test file, whose groups are evaluated at the interval, where one is told.
@@ -23,7 +23,7 @@ struct FileForm {
 }
 
 impl MapForm for FileForm {
-    ghost use Rattle.pr_fields.specs.Maps.{none_missing};
+    ghost use Rattle.pr_rulefile.specs.Maps.{none_missing};
     ghost use Rattle.pr_testfile.specs.File.{file_fields};
 
     ghost fields = { λ f key. file_fields f.interval key };
@@ -63,7 +63,7 @@ impl MapForm for FileForm {
         &self,
         _alloc: Global,
         _line: u32,
-        _entries: &[Entry],
+        _entries: &[MapEntry],
         _found: &mut Vec<Problem>,
     ) -> Result<(), AllocError> {
         Ok(())
@@ -77,7 +77,7 @@ fn minute() -> Span
 }
 
 // The interval of a file with these fields.
-fn file_interval(entries: &[Entry]) -> Option<Span>
+fn file_interval(entries: &[MapEntry]) -> Option<Span>
     ensures { result ≡ file_interval (map entry_tree_of entries.now) }
 {
     interval_or(Some(minute()), field(evaluation_interval(), entries))
@@ -99,7 +99,7 @@ pub(crate) fn file_problems(
     map_problems(alloc, &FileForm { interval }, node, found)
 }
 
-fn interval_of_file(entries: &[Entry]) -> Span
+fn interval_of_file(entries: &[MapEntry]) -> Span
     ensures { result ≡ interval_under (map entry_tree_of entries.now) }
 {
     match file_interval(entries) {
@@ -110,7 +110,7 @@ fn interval_of_file(entries: &[Entry]) -> Span
 
 /// The tests of a file with these fields.
 #[tactic(auto, unfolding(crate::specs::File::file_in))]
-pub(crate) fn file_in(alloc: Global, entries: &[Entry]) -> Result<TestFile, AllocError>
+pub(crate) fn file_in(alloc: Global, entries: &[MapEntry]) -> Result<TestFile, AllocError>
     ensures { IfOk result (λ f. plain_file f ≡ file_in (map entry_tree_of entries.now)) }
 {
     let rule_files = texts_of(alloc, items_under("rule_files", entries))?;

@@ -1,21 +1,21 @@
 // Labels, annotations and texts.
 ghost use Rattle.std.specs.Prelude.{◌≡◌, ◌++◌, ◌∷◌, [], OnOk, IfOk, map};
 ghost use Rattle.std.specs.List.{filter_map};
-ghost use Rattle.pr_labels.specs.Edits.{first_fault};
+ghost use Rattle.pr_ast.specs.pr_labels.Edits.{first_fault};
 ghost use Rattle.pr_yaml.specs.Tree.{tree_of, entry_tree_of};
-ghost use Rattle.pr_fields.specs.Nodes.{text_of, field, text_or_empty};
+ghost use Rattle.pr_rulefile.specs.Nodes.{text_of, field, text_or_empty};
 ghost use Rattle.pr_testfile.specs.Labels.{notes_of, unless_faulty, label_set};
 
-use pr_fields::{field, pairs_of, put_labels, text_of};
-use pr_labels::{LabelFault, Labels, Pair};
+use pr_ast::labels::{LabelFault, Labels, Pair};
+use pr_rulefile::fields::{field, pairs_of, put_labels, text_of};
 use pr_words::{Items, Text};
-use pr_yaml::{Entry, Node};
+use pr_yaml::{MapEntry, Node};
 use std::alloc::{AllocError, Global};
 use std::collections::BTreeMap;
 
 /// The annotations of a map.
 #[tactic(auto, unfolding(crate::specs::Labels::notes_of))]
-pub(crate) fn notes_of(alloc: Global, entries: &[Entry]) -> Result<Items<Pair>, AllocError>
+pub(crate) fn notes_of(alloc: Global, entries: &[MapEntry]) -> Result<Items<Pair>, AllocError>
     ensures { IfOk result (λ ps. ps ≡ notes_of (map entry_tree_of entries.now)) }
 {
     let mut notes = BTreeMap::new(alloc);
@@ -38,7 +38,7 @@ fn unless_faulty(alloc: Global, pairs: &[Pair]) -> Result<Labels, AllocError>
 
 /// The label set of a map.
 #[tactic(auto, unfolding(crate::specs::Labels::label_set))]
-pub(crate) fn label_set(alloc: Global, entries: &[Entry]) -> Result<Labels, AllocError>
+pub(crate) fn label_set(alloc: Global, entries: &[MapEntry]) -> Result<Labels, AllocError>
     ensures { IfOk result (λ l. l ≡ label_set (map entry_tree_of entries.now)) }
 {
     let pairs = notes_of(alloc, entries)?;
@@ -46,7 +46,7 @@ pub(crate) fn label_set(alloc: Global, entries: &[Entry]) -> Result<Labels, Allo
 }
 
 /// The text of the field of this name, empty where it has none.
-pub(crate) fn text_under<'a>(key: &str, entries: &'a [Entry]) -> &'a str
+pub(crate) fn text_under<'a>(key: &str, entries: &'a [MapEntry]) -> &'a str
     ensures { result.now ≡ text_or_empty (field key.now (map entry_tree_of entries.now)) }
 {
     match field(key, entries) {

@@ -8,7 +8,7 @@ ghost use Rattle.pr_testfile.specs.Reading.{gives_file, by_reading, test_file_of
 use crate::fault::TestError;
 use crate::file::{file_in, file_problems};
 use crate::tests::TestFile;
-use pr_fields::{fields_in, in_order, no_tree};
+use pr_rulefile::fields::{fields_in, in_order, no_tree};
 use pr_yaml::{Node, YamlError, read as read_tree};
 use std::alloc::Global;
 

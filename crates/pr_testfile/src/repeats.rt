@@ -1,15 +1,15 @@
 // Series that stand twice in a test.
 ghost use Rattle.std.specs.Prelude.{◌≡◌, ◌++◌, ◌||◌, List, OnOk, IfOk, map, option_map, Some};
-ghost use Rattle.pr_labels.specs.declared.pair.Pair.{Pair};
-ghost use Rattle.pr_labels.specs.Order.{labels_eq};
+ghost use Rattle.pr_ast.specs.pr_labels.declared.pair.Pair.{Pair};
+ghost use Rattle.pr_ast.specs.pr_labels.Order.{labels_eq};
 ghost use Rattle.pr_yaml.specs.Tree.{tree_of};
 ghost use Rattle.pr_testfile.specs.Scalars.{labels_under};
 ghost use Rattle.pr_testfile.specs.Series.{no_series, and_series, by_labels, repeat_problems, series_of, duplicate_problems};
-ghost use Rattle.pr_testfile.specs.Known.{knows_labels, line_under};
+ghost use Rattle.pr_testfile.specs.private.Known.{knows_labels, line_under};
 
 use crate::scalars::labels_under;
-use pr_fields::{Problem, ProblemKind, field, fields_in, line_of, push};
-use pr_labels::Labels;
+use pr_ast::labels::Labels;
+use pr_rulefile::fields::{Problem, ProblemKind, field, fields_in, line_of, push};
 use pr_yaml::Node;
 use std::alloc::{AllocError, Global};
 use std::collections::BTreeSet;

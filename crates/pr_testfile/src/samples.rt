@@ -2,16 +2,16 @@
 ghost use Rattle.std.specs.Prelude.{◌≡◌, ◌++◌, ◌∷◌, [], OnOk, IfOk, map};
 ghost use Rattle.std.specs.List.{filter_map};
 ghost use Rattle.pr_yaml.specs.Tree.{tree_of};
-ghost use Rattle.pr_fields.specs.Order.{ordered};
+ghost use Rattle.pr_rulefile.specs.Order.{ordered};
 ghost use Rattle.pr_testfile.specs.Samples.{is_item_before, sample_in, sample_of, samples_of};
 
 use crate::fields::{SampleField, sample_field};
 use crate::scalars::{labels_or_none, number_problems, number_under, series_problems};
-use pr_fields::{ItemForm, MapForm, Problem, field, fields_of, map_problems, require};
-use pr_labels::Item;
+use pr_ast::labels::Item;
 use pr_num::Num;
+use pr_rulefile::fields::{ItemForm, MapForm, Problem, field, fields_of, map_problems, require};
 use pr_words::Items;
-use pr_yaml::{Entry, Node};
+use pr_yaml::{MapEntry, Node};
 use std::alloc::{AllocError, Global};
 
 // A sample that is expected.
@@ -49,7 +49,7 @@ impl MapForm for SampleForm {
         &self,
         alloc: Global,
         line: u32,
-        entries: &[Entry],
+        entries: &[MapEntry],
         found: &mut Vec<Problem>,
     ) -> Result<(), AllocError> {
         require(alloc, line, "value", field("value", entries), found)

@@ -1,15 +1,15 @@
 // Lengths of time above 0, series, values, numbers.
 ghost use Rattle.std.specs.Prelude.{◌≡◌, ◌++◌, [], OnOk, IfOk, option_map, unwrap_or};
-ghost use Rattle.pr_series.specs.SeriesReading.{series_labels};
+ghost use Rattle.pr_ast.specs.pr_labels.SeriesReading.{series_labels};
 ghost use Rattle.pr_yaml.specs.Tree.{tree_of};
 ghost use Rattle.pr_testfile.specs.Scalars.{interval_of, interval_problems, interval_in, interval_or, series_problems, series_in, labels_under, values_problems, stretches_under, number_problems, number_under, fuzzy_problems};
 
-use pr_fields::{Problem, ProblemKind, line_of, push, short_span, text_of};
-use pr_inputs::time::Span;
-use pr_inputs::{Stretch, Values, number_of, read_values};
-use pr_labels::Labels;
+use crate::inputs::{Stretch, Values, number_of, read_values};
+use pr_ast::labels::Labels;
+use pr_ast::labels::series::{TextFault, read_series_text};
+use pr_ast::time::Span;
 use pr_num::Num;
-use pr_series::{TextFault, read_series_text};
+use pr_rulefile::fields::{Problem, ProblemKind, line_of, push, short_span, text_of};
 use pr_words::Items;
 use pr_yaml::Node;
 use std::alloc::{AllocError, Global};

@@ -5,15 +5,15 @@ ghost use Rattle.pr_yaml.specs.Tree.{tree_of};
 ghost use Rattle.pr_testfile.specs.Series.{inputs_problems, series_with, input_of};
 
 use crate::fields::{SeriesField, series_field};
+use crate::inputs::InputSeries;
 use crate::repeats::duplicate_problems;
 use crate::scalars::{labels_or_none, series_problems, stretches_under, values_problems};
-use pr_fields::{
+use pr_ast::time::Span;
+use pr_rulefile::fields::{
     ItemForm, MapForm, Problem, field, fields_of, items_in, list_problems, map_problems, require,
 };
-use pr_inputs::InputSeries;
-use pr_inputs::time::Span;
 use pr_words::Items;
-use pr_yaml::{Entry, Node};
+use pr_yaml::{MapEntry, Node};
 use std::alloc::{AllocError, Global};
 
 // A series of a test, whose values stand at the multiples of the interval, where one is told.
@@ -54,7 +54,7 @@ impl MapForm for SeriesForm {
         &self,
         alloc: Global,
         line: u32,
-        entries: &[Entry],
+        entries: &[MapEntry],
         found: &mut Vec<Problem>,
     ) -> Result<(), AllocError> {
         require(alloc, line, "series", field("series", entries), found)?;

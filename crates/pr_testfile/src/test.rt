@@ -2,7 +2,7 @@
 ghost use Rattle.std.specs.Prelude.{◌≡◌, ◌++◌, ◌∷◌, [], Some, OnOk, IfOk, map, unwrap_or};
 ghost use Rattle.std.specs.List.{filter_map};
 ghost use Rattle.pr_yaml.specs.Tree.{tree_of, entry_tree_of};
-ghost use Rattle.pr_fields.specs.Nodes.{field, fields_under, text_or_empty};
+ghost use Rattle.pr_rulefile.specs.Nodes.{field, fields_under, text_or_empty};
 ghost use Rattle.pr_testfile.specs.Words.{external_labels, external_url};
 ghost use Rattle.pr_testfile.specs.Labels.{label_set};
 ghost use Rattle.pr_testfile.specs.Tests.{test_interval, test_problems, plain_test, test_in, test_of};
@@ -10,6 +10,7 @@ ghost use Rattle.pr_testfile.specs.Tests.{test_interval, test_problems, plain_te
 use crate::alerts::{AlertItems, alerts_of};
 use crate::checks::{CheckItems, checks_of};
 use crate::fields::{TestField, test_field};
+use crate::inputs::Input;
 use crate::labels::{label_set, text_under};
 use crate::scalars::{interval_or, interval_problems};
 use crate::series::{inputs_problems, series_of};
@@ -17,15 +18,14 @@ use crate::tests::Test;
 use crate::words::{
     alert_rule_test, external_labels, external_url, input_series, promql_expr_test,
 };
-use pr_fields::tmpl::External;
-use pr_fields::{
+use pr_ast::time::Span;
+use pr_rulefile::fields::{
     ItemForm, MapForm, Problem, field, fields_in, fields_of, fields_under, items_under,
     labels_problems, list_problems, map_problems, text_problems,
 };
-use pr_inputs::Input;
-use pr_inputs::time::Span;
+use pr_rulefile::tmpl::External;
 use pr_words::{Items, Text};
-use pr_yaml::{Entry, Node};
+use pr_yaml::{MapEntry, Node};
 use std::alloc::{AllocError, Global};
 
 // A test, the values of whose series stand at the multiples of the interval, where one is told.
@@ -35,7 +35,7 @@ struct TestForm {
 }
 
 impl MapForm for TestForm {
-    ghost use Rattle.pr_fields.specs.Maps.{none_missing};
+    ghost use Rattle.pr_rulefile.specs.Maps.{none_missing};
     ghost use Rattle.pr_testfile.specs.Tests.{test_fields};
 
     ghost fields = { λ f key. test_fields f.interval key };
@@ -72,7 +72,7 @@ impl MapForm for TestForm {
         &self,
         _alloc: Global,
         _line: u32,
-        _entries: &[Entry],
+        _entries: &[MapEntry],
         _found: &mut Vec<Problem>,
     ) -> Result<(), AllocError> {
         Ok(())
@@ -96,7 +96,7 @@ impl ItemForm for TestItems {
 }
 
 // The interval of a test with these fields, in a file with that interval.
-fn test_interval(default: Option<Span>, entries: &[Entry]) -> Option<Span>
+fn test_interval(default: Option<Span>, entries: &[MapEntry]) -> Option<Span>
     ensures { result ≡ test_interval default (map entry_tree_of entries.now) }
 {
     interval_or(default, field("interval", entries))
@@ -115,7 +115,7 @@ fn test_problems(
     map_problems(alloc, &TestForm { interval }, node, found)
 }
 
-fn external_in(alloc: Global, entries: &[Entry]) -> Result<External, AllocError>
+fn external_in(alloc: Global, entries: &[MapEntry]) -> Result<External, AllocError>
     ensures labels { IfOk result (λ x. x.labels ≡ label_set (fields_under (field external_labels (map entry_tree_of entries.now)))) }
     ensures url { IfOk result (λ x. x.url ≡ text_or_empty (field external_url (map entry_tree_of entries.now))) }
 {
@@ -124,7 +124,7 @@ fn external_in(alloc: Global, entries: &[Entry]) -> Result<External, AllocError>
     Ok(External { labels, url })
 }
 
-fn interval_of_test(default: Span, entries: &[Entry]) -> Span
+fn interval_of_test(default: Span, entries: &[MapEntry]) -> Span
     ensures { result ≡ unwrap_or (test_interval (Some default) (map entry_tree_of entries.now)) default }
 {
     match test_interval(Some(default), entries) {

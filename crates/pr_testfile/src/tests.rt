@@ -1,11 +1,11 @@
 // Test files as values.
-use pr_fields::tmpl::External;
-use pr_fields::types::Checked;
-use pr_inputs::Input;
-use pr_inputs::time::{Ms, Span};
-use pr_labels::Item;
-use pr_lineage::Found;
+use crate::inputs::Input;
+use pr_ast::labels::Item;
+use pr_ast::time::{Ms, Span};
 use pr_num::Num;
+use pr_rulefile::alerts_crate::RuleElement;
+use pr_rulefile::tmpl::External;
+use pr_rulefile::types::Checked;
 use pr_words::{Items, Text};
 
 /// Which alerts of a name are to fire at a time. (Prometheus: Unit testing for rules,
@@ -15,7 +15,7 @@ pub struct AlertCheck {
     pub time: Ms,
     pub name: Text,
     /// In label order, and those of equal labels in order of their annotations.
-    pub expected: Items<Found>,
+    pub expected: Items<RuleElement>,
 }
 
 /// What an expression is to give at a time. (Prometheus: Unit testing for rules,

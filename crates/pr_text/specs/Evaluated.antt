@@ -1,24 +1,24 @@
 -- The printed lines of an evaluation, and of the alerts that are asked for.
 use Rattle.std.specs.Prelude.{ℕ, ◌+◌, Bool, true, false, List, [], ◌∷◌, ◌++◌, length, codes, count_by, decimal, flat_map}
-use Rattle.pr_num.specs.declared.value.Num.{Num}
-use Rattle.pr_num.specs.declared.value.Point.{Point}
-use Rattle.pr_num.specs.Shown.{shown}
-use Rattle.pr_labels.specs.declared.pair.Pair.{Pair}
-use Rattle.pr_labels.specs.SeriesText.{series_text}
-use Rattle.pr_world.specs.pr_kinds.Kinds.{number_text}
-use Rattle.pr_row.specs.pr_history.declared.append.Append.{Append}
-use Rattle.pr_row.specs.pr_history.declared.append.Append.TheVariants.{Added, Same, OutOfOrder, Conflict}
-use Rattle.pr_row.specs.Points.{shown_point}
-use Rattle.pr_notices.specs.pr_lineage.declared.restored.Restored.{Restored}
-use Rattle.pr_notices.specs.pr_lineage.Records.{state_text}
-use Rattle.pr_world.specs.pr_rules.declared.fault.RuleFault.{RuleFault}
-use Rattle.pr_world.specs.pr_rules.declared.fault.RuleFault.TheVariants.{Eval, SameAfterRule, LimitExceeded}
-use Rattle.pr_world.specs.pr_rules.declared.report.GroupReport.{GroupReport}
-use Rattle.pr_world.specs.pr_rules.declared.report.Put.{Put}
-use Rattle.pr_world.specs.pr_rules.declared.report.RuleOutcome.{RuleOutcome}
-use Rattle.pr_world.specs.pr_rules.declared.report.RuleOutcome.TheVariants.{Fine, Fault}
-use Rattle.pr_world.specs.pr_rules.declared.report.RuleReport.{RuleReport}
-use Rattle.pr_world.specs.declared.report.AlertLine.{AlertLine}
+use Rattle.spec_world.specs.pr_num.declared.value.Num.{Num}
+use Rattle.spec_world.specs.pr_num.declared.value.Point.{Point}
+use Rattle.spec_world.specs.pr_num.Shown.{shown}
+use Rattle.spec_world.specs.pr_labels.declared.pair.Pair.{Pair}
+use Rattle.spec_world.specs.pr_labels.SeriesText.{series_text}
+use Rattle.pr_words.specs.Appending.{number_text}
+use Rattle.spec_world.specs.spec_history.declared.append.Append.{Append}
+use Rattle.spec_world.specs.spec_history.declared.append.Append.TheVariants.{Added, Same, OutOfOrder, Conflict}
+use Rattle.spec_world.specs.spec_history.Points.{shown_point}
+use Rattle.spec_world.specs.spec_alerts.declared.restored.Restored.{Restored}
+use Rattle.spec_world.specs.spec_alerts.Records.{state_text}
+use Rattle.spec_world.specs.spec_rules.declared.fault.RuleFault.{RuleFault}
+use Rattle.spec_world.specs.spec_rules.declared.fault.RuleFault.TheVariants.{Eval, SameAfterRule, LimitExceeded}
+use Rattle.spec_world.specs.spec_rules.declared.report.GroupReport.{GroupReport}
+use Rattle.spec_world.specs.spec_rules.declared.report.Put.{Put}
+use Rattle.spec_world.specs.spec_rules.declared.report.RuleOutcome.{RuleOutcome}
+use Rattle.spec_world.specs.spec_rules.declared.report.RuleOutcome.TheVariants.{Fine, Fault}
+use Rattle.spec_world.specs.spec_rules.declared.report.RuleReport.{RuleReport}
+use Rattle.spec_world.specs.declared.report.AlertLine.{AlertLine}
 use Rattle.pr_text.specs.Answers.{evaluated_rules, limit_exceeded, late_after, same_after_rule}
 use Rattle.pr_text.specs.Faults.{fault_text}
 use Rattle.pr_text.specs.Notices.{sending_lines}

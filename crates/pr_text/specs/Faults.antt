@@ -1,9 +1,9 @@
 -- The printed kinds of faults that an expression gives: the name of the kind, and then what it tells.
 use Rattle.std.specs.Prelude.{ℕ, List, [], ◌++◌, codes}
-use Rattle.pr_labels.specs.SeriesText.{series_text}
-use Rattle.pr_world.specs.pr_query.declared.fault.FaultKind.{FaultKind}
-use Rattle.pr_world.specs.pr_query.declared.fault.FaultKind.TheVariants as fault
-use Rattle.pr_world.specs.pr_kinds.Kinds.{number_text}
+use Rattle.spec_world.specs.pr_labels.SeriesText.{series_text}
+use Rattle.spec_world.specs.spec_meaning.declared.fault.FaultKind.{FaultKind}
+use Rattle.spec_world.specs.spec_meaning.declared.fault.FaultKind.TheVariants as fault
+use Rattle.pr_words.specs.Appending.{number_text}
 
 unfoldable pub fault_word : FaultKind → List ℕ
 fault_word (fault.ManyToMany key) = codes "ManyToMany"

@@ -1,13 +1,13 @@
 -- The printed lines of notices: what an evaluation sends, and what receivers are told.
 use Rattle.std.specs.Prelude.{ℕ, Bool, true, false, List, ◌++◌, length, codes, decimal, flat_map, Option, Some, None}
-use Rattle.pr_num.specs.Shown.{shown}
-use Rattle.pr_strings.specs.Quoted.{quoted_text}
-use Rattle.pr_labels.specs.declared.pair.Pair.{Pair}
-use Rattle.pr_labels.specs.SeriesText.{series_text}
-use Rattle.pr_notices.specs.pr_lineage.declared.sending.Sending.{Sending}
-use Rattle.pr_notices.specs.declared.batch.Batch.{Batch}
-use Rattle.pr_notices.specs.declared.joined.Joined.{Joined}
-use Rattle.pr_notices.specs.declared.joined.Joined.TheVariants.{New, Known, Full}
+use Rattle.spec_world.specs.pr_num.Shown.{shown}
+use Rattle.pr_words.specs.Quoted.{quoted_text}
+use Rattle.spec_world.specs.pr_labels.declared.pair.Pair.{Pair}
+use Rattle.spec_world.specs.pr_labels.SeriesText.{series_text}
+use Rattle.spec_world.specs.spec_alerts.declared.sending.Sending.{Sending}
+use Rattle.spec_world.specs.spec_alerts.declared.notices.batch.Batch.{Batch}
+use Rattle.spec_world.specs.spec_alerts.declared.notices.joined.Joined.{Joined}
+use Rattle.spec_world.specs.spec_alerts.declared.notices.joined.Joined.TheVariants.{New, Known, Full}
 use Rattle.pr_text.specs.Answers.{deliver_firing, deliver_resolved, send_firing, send_resolved, too_many_receivers}
 
 -- a notice, behind its first words

@@ -1,22 +1,23 @@
 -- The printed lines of answers.
 use Rattle.std.specs.Prelude.{ℕ, List, ◌++◌, length, codes, decimal, flat_map}
-use Rattle.pr_num.specs.declared.value.Num.{Num}
-use Rattle.pr_num.specs.declared.value.Point.{Point}
-use Rattle.pr_num.specs.Shown.{shown}
-use Rattle.pr_strings.specs.Quoted.{quoted_text}
-use Rattle.pr_labels.specs.declared.item.Item.{Item}
-use Rattle.pr_labels.specs.SeriesText.{series_text}
-use Rattle.pr_world.specs.pr_kinds.declared.kind.QueryKind.{QueryKind}
-use Rattle.pr_world.specs.pr_kinds.Kinds.{expo_word, kind_text}
-use Rattle.pr_world.specs.pr_fields.declared.problem.ProblemKind.{ProblemKind}
-use Rattle.pr_world.specs.pr_fields.Printed.{problem_text}
-use Rattle.pr_row.specs.Points.{shown_point}
+use Rattle.spec_world.specs.pr_num.declared.value.Num.{Num}
+use Rattle.spec_world.specs.pr_num.declared.value.Point.{Point}
+use Rattle.spec_world.specs.pr_num.Shown.{shown}
+use Rattle.pr_words.specs.Quoted.{quoted_text}
+use Rattle.spec_world.specs.pr_labels.declared.item.Item.{Item}
+use Rattle.spec_world.specs.pr_labels.SeriesText.{series_text}
+use Rattle.spec_world.specs.pr_parse.declared.query_kind.QueryKind.{QueryKind}
+use Rattle.spec_world.specs.pr_expo.Words.{expo_word}
+use Rattle.spec_world.specs.pr_parse.QueryKinds.{kind_text}
+use Rattle.spec_world.specs.pr_rulefile.declared.fields.problem.ProblemKind.{ProblemKind}
+use Rattle.spec_world.specs.pr_rulefile.Printed.{problem_text}
+use Rattle.spec_world.specs.spec_history.Points.{shown_point}
 use Rattle.pr_text.specs.Answers.{dropped_conflict, dropped_out_of_order, backwards_last, scraped_added, bad_scrape_line, not_later_last, reloaded_groups}
 use Rattle.pr_text.specs.Evaluated.{alerts_text, evaluated_text}
-use Rattle.pr_world.specs.declared.report.Report.{Report}
-use Rattle.pr_world.specs.declared.report.Report.TheVariants.{Opened, Added, Same, OutOfOrder, Conflict, Scraped, BadScrape, Failed, Gone, Evaluated, NoGroup, NotLater, Reloaded, Missing, TooLarge, Refused, Restarted, Alerts, Scalar, Vector, QueryFault, QueryRefused, Backwards}
-use Rattle.pr_world.specs.pr_expo_line.declared.place.ExpoKind.{ExpoKind}
-use Rattle.pr_world.specs.pr_query.declared.fault.FaultKind.{FaultKind}
+use Rattle.spec_world.specs.declared.report.Report.{Report}
+use Rattle.spec_world.specs.declared.report.Report.TheVariants.{Opened, Added, Same, OutOfOrder, Conflict, Scraped, BadScrape, Failed, Gone, Evaluated, NoGroup, NotLater, Reloaded, Missing, TooLarge, Refused, Restarted, Alerts, Scalar, Vector, QueryFault, QueryRefused, Backwards}
+use Rattle.spec_world.specs.pr_expo.declared.expo_line.place.ExpoKind.{ExpoKind}
+use Rattle.spec_world.specs.spec_meaning.declared.fault.FaultKind.{FaultKind}
 use Rattle.pr_text.specs.Faults.{fault_text}
 use Rattle.pr_text.specs.Values.{place_text}
 

@@ -1,12 +1,12 @@
 // The printed lines of an evaluation, and of the alerts that are asked for.
-#![tactic(auto, using(pr_labels::proofs::Fronts::front_on, pr_strings::proofs::Fronts::front_after))]
+#![tactic(auto, using(pr_words::proofs::Fronts::front_on, pr_words::proofs::Fronts::front_after))]
 
 ghost use Rattle.std.specs.Prelude.{◌≡◌, ◌++◌, ◌+◌, OnOk, codes, decimal, flat_map, length, take};
-ghost use Rattle.pr_num.specs.Shown.{shown};
-ghost use Rattle.pr_labels.specs.SeriesText.{series_text};
-ghost use Rattle.pr_world.specs.pr_kinds.Kinds.{number_text};
-ghost use Rattle.pr_row.specs.Points.{shown_point};
-ghost use Rattle.pr_notices.specs.pr_lineage.Records.{state_text};
+ghost use Rattle.spec_world.specs.pr_num.Shown.{shown};
+ghost use Rattle.spec_world.specs.pr_labels.SeriesText.{series_text};
+ghost use Rattle.pr_words.specs.Appending.{number_text};
+ghost use Rattle.spec_world.specs.spec_history.Points.{shown_point};
+ghost use Rattle.spec_world.specs.spec_alerts.Records.{state_text};
 ghost use Rattle.pr_text.specs.Answers.{evaluated_rules, limit_exceeded, late_after, same_after_rule};
 ghost use Rattle.pr_text.specs.Evaluated.{alert_text, alerts_text, conflict_line, counts_text, evaluated_text, fault_count, has_failed, late_line, outcome_text, put_line, put_line_by, restored_line, rule_fault_text, rule_lines, rules_text, sample_line, stale_line};
 ghost use Rattle.pr_text.specs.Notices.{sending_lines};
@@ -15,14 +15,14 @@ ghost use Rattle.pr_text.specs.Values.{place_text};
 use crate::faults::push_fault_kind;
 use crate::notices::push_sendings;
 use crate::values::{push_place, push_point, push_value};
-use pr_labels::Labels;
-use pr_notices::lineage::{Restored, State};
-use pr_num::{Num, Point};
-use pr_row::history::Append;
-use pr_row::time::Ms;
-use pr_world::AlertLine;
-use pr_world::kinds::{push_number, push_number_after};
-use pr_world::rules_crate::{GroupReport, Put, RuleFault, RuleOutcome, RuleReport};
+use pr_words::{push_number, push_number_after};
+use spec_world::AlertLine;
+use spec_world::alerts_crate::{Restored, State};
+use spec_world::history::Append;
+use spec_world::labels::Labels;
+use spec_world::num::{Num, Point};
+use spec_world::rules_crate::{GroupReport, Put, RuleFault, RuleOutcome, RuleReport};
+use spec_world::time::Ms;
 use std::alloc::AllocError;
 
 #[tactic(auto, unfolding(crate::specs::Answers::evaluated_rules))]

@@ -1,13 +1,13 @@
 // The printed kinds of faults that an expression gives.
-#![tactic(auto, using(pr_labels::proofs::Fronts::front_on, pr_strings::proofs::Fronts::front_after))]
+#![tactic(auto, using(pr_words::proofs::Fronts::front_on, pr_words::proofs::Fronts::front_after))]
 
 ghost use Rattle.std.specs.Prelude.{◌≡◌, ◌++◌, OnOk, codes, length, take};
-ghost use Rattle.pr_labels.specs.SeriesText.{series_text};
+ghost use Rattle.spec_world.specs.pr_labels.SeriesText.{series_text};
 ghost use Rattle.pr_text.specs.Faults.{fault_word, fault_rest, fault_text};
 
-use pr_labels::Labels;
-use pr_world::kinds::push_number_after;
-use pr_world::query_crate::FaultKind;
+use pr_words::push_number_after;
+use spec_world::labels::Labels;
+use spec_world::meaning::FaultKind;
 use std::alloc::AllocError;
 
 #[tactic(auto, unfolding(crate::specs::Faults::fault_word))]

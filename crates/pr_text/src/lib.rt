@@ -1,4 +1,4 @@
-//! How the answers of a run are printed.
+//! The texts of a run: what the lines of its script ask for, and how its answers are printed.
 #![tactic(auto)]
 
 mod evaluated;
@@ -6,35 +6,34 @@ mod examples;
 mod faults;
 mod notices;
 mod printed;
+pub mod reader;
+mod rows;
+pub mod script;
 mod values;
 
 // What crates above name of those below.
-pub mod kinds {
-    pub use pr_world::kinds::push_number;
+pub mod time {
+    pub use spec_world::time::Ms;
 }
 
-pub mod fields_crate {
-    pub use pr_world::fields_crate::Problem;
+pub mod labels {
+    pub use spec_world::labels::{Labels, Pair};
 }
 
-pub mod rulefile {
-    pub use pr_world::rulefile::{RuleError, read};
-}
-
-pub mod row {
-    pub use pr_row::laws;
-}
-
-pub mod lineage {
-    pub use pr_notices::lineage::Found;
+pub mod history {
+    pub use spec_world::history::row;
 }
 
 pub mod rules_crate {
-    pub use pr_world::rules_crate::RuleReport;
+    pub use spec_world::rules_crate::RuleReport;
+}
+
+pub mod rulefile {
+    pub use spec_world::rulefile::{RuleError, fields, read};
 }
 
 pub mod world {
-    pub use pr_world::{Event, NamedFile, Report};
+    pub use spec_world::{Event, NamedFile, Report, Worlds};
 }
 
 pub use examples::{
@@ -43,4 +42,5 @@ pub use examples::{
 };
 pub use notices::{push_batch, push_joined, push_no_receiver};
 pub use printed::{push_bad_line, push_query_fault, push_report};
+pub use rows::{bad_row_of, tell_bad_row, tell_opened};
 pub use values::push_value;

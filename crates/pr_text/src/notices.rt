@@ -1,19 +1,19 @@
 // The printed lines of notices: what an evaluation sends, and what receivers are told.
-#![tactic(auto, using(pr_labels::proofs::Fronts::front_on, pr_strings::proofs::Fronts::front_after))]
+#![tactic(auto, using(pr_words::proofs::Fronts::front_on, pr_words::proofs::Fronts::front_after))]
 
 ghost use Rattle.std.specs.Prelude.{◌≡◌, ◌++◌, OnOk, OnErr, codes, decimal, flat_map, length, take};
-ghost use Rattle.pr_num.specs.Shown.{shown};
+ghost use Rattle.spec_world.specs.pr_num.Shown.{shown};
 ghost use Rattle.pr_text.specs.Answers.{deliver_firing, deliver_resolved, send_firing, send_resolved, too_many_receivers};
 ghost use Rattle.pr_text.specs.Notices.{batch_line, batch_text, delivery_lines, delivery_word, joined_text, no_receiver_text, note_line, notice_text, sending_lines, sending_word};
 
 use crate::values::push_value;
-use pr_labels::Pair;
-use pr_notices::lineage::Sending;
-use pr_notices::{Batch, Joined};
-use pr_num::Num;
-use pr_row::time::Ms;
-use pr_strings::write_string;
-use pr_world::kinds::{push_number, whole_or_none};
+use pr_words::strings::write_string;
+use pr_words::{push_number, whole_or_none};
+use spec_world::alerts_crate::Sending;
+use spec_world::alerts_crate::notices::{Batch, Joined};
+use spec_world::labels::Pair;
+use spec_world::num::Num;
+use spec_world::time::Ms;
 use std::alloc::AllocError;
 
 #[tactic(auto, unfolding(crate::specs::Answers::send_firing))]

@@ -1,26 +1,27 @@
 // The printed lines of answers.
-#![tactic(auto, using(pr_labels::proofs::Fronts::front_on, pr_strings::proofs::Fronts::front_after))]
+#![tactic(auto, using(pr_words::proofs::Fronts::front_on, pr_words::proofs::Fronts::front_after))]
 
 ghost use Rattle.std.specs.Prelude.{◌≡◌, ◌++◌, OnOk, OnErr, codes, flat_map, length, take};
-ghost use Rattle.pr_num.specs.Shown.{shown};
-ghost use Rattle.pr_strings.specs.Quoted.{quoted_text};
-ghost use Rattle.pr_labels.specs.SeriesText.{series_text};
-ghost use Rattle.pr_world.specs.pr_kinds.Kinds.{expo_word};
+ghost use Rattle.spec_world.specs.pr_num.Shown.{shown};
+ghost use Rattle.pr_words.specs.Quoted.{quoted_text};
+ghost use Rattle.spec_world.specs.pr_labels.SeriesText.{series_text};
+ghost use Rattle.spec_world.specs.pr_expo.Words.{expo_word};
 ghost use Rattle.pr_text.specs.Answers.{dropped_conflict, dropped_out_of_order, backwards_last, scraped_added, bad_scrape_line, not_later_last, reloaded_groups};
 ghost use Rattle.pr_text.specs.Printed.{opened_text, out_of_order_text, conflict_text, stale_text, scraped_text, bad_scrape_text, failed_text, gone_text, item_text, vector_text, backwards_text, scalar_text, no_group_text, not_later_text, reloaded_text, missing_text, too_large_text, refused_text, restarted_text, query_fault_text, query_refused_text, shown_report, bad_line_text};
 
 use crate::evaluated::{push_alerts, push_evaluated};
 use crate::faults::push_fault_kind;
 use crate::values::{push_place, push_point, push_value};
-use pr_labels::{Item, Labels};
-use pr_num::{Num, Point};
-use pr_row::time::Ms;
-use pr_strings::write_string;
-use pr_world::Report;
-use pr_world::expo_line::ExpoKind;
-use pr_world::fields_crate::{ProblemKind, push_problem_kind};
-use pr_world::kinds::{QueryKind, expo_word, push_number, push_query_kind, whole_or_none};
-use pr_world::query_crate::FaultKind;
+use pr_words::strings::write_string;
+use pr_words::{push_number, whole_or_none};
+use spec_world::Report;
+use spec_world::expo::expo_line::{ExpoKind, expo_word};
+use spec_world::labels::{Item, Labels};
+use spec_world::meaning::FaultKind;
+use spec_world::num::{Num, Point};
+use spec_world::parse::{QueryKind, push_query_kind};
+use spec_world::rulefile::fields::{ProblemKind, push_problem_kind};
+use spec_world::time::Ms;
 use std::alloc::AllocError;
 
 #[tactic(auto, unfolding(crate::specs::Answers::dropped_conflict))]

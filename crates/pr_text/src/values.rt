@@ -1,14 +1,14 @@
 // The printed values and places that stand in answers.
-#![tactic(auto, using(pr_labels::proofs::Fronts::front_on, pr_strings::proofs::Fronts::front_after))]
+#![tactic(auto, using(pr_words::proofs::Fronts::front_on, pr_words::proofs::Fronts::front_after))]
 
 ghost use Rattle.std.specs.Prelude.{◌≡◌, ◌++◌, OnOk, length, take};
-ghost use Rattle.pr_num.specs.Shown.{shown};
-ghost use Rattle.pr_row.specs.Points.{shown_point};
+ghost use Rattle.spec_world.specs.pr_num.Shown.{shown};
+ghost use Rattle.spec_world.specs.spec_history.Points.{shown_point};
 ghost use Rattle.pr_text.specs.Values.{place_text};
 
-use pr_num::{Num, Point};
-use pr_row::write_point;
-use pr_world::kinds::push_number;
+use pr_words::push_number;
+use spec_world::history::row::write_point;
+use spec_world::num::{Num, Point};
 use std::alloc::AllocError;
 
 /// Appends a number. Want of memory alone is an error, and then what stood there stays.
@@ -17,7 +17,7 @@ pub fn push_value(text: &mut Vec<u8>, v: Num) -> Result<(), AllocError>
     ensures front { take (length text.old.items) text.new.items ≡ text.old.items }
 {
     let mut buffer = [0u8; 40];
-    let count = pr_num::write(v, &mut buffer);
+    let count = spec_world::num::write(v, &mut buffer);
     text.extend_from_slice(&buffer[..count])
 }
 

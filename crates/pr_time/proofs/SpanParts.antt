@@ -7,10 +7,10 @@ use Rattle.pr_time.specs.declared.text.Letter.{Letter}
 use Rattle.pr_time.specs.declared.text.Letter.TheVariants.{Digit}
 use Rattle.pr_time.specs.declared.text.Unit.{Unit as TimeUnit}
 use Rattle.pr_time.specs.declared.text.Unit.TheVariants.{Year, Week, Day, Hour, Minute, Second, Millisecond}
-use Rattle.pr_time.specs.SpanText.{production, Rule, Text, After, From, Value, count, scaled, span, digit, other_digit_at, ms_of, rank, shifted, below}
-use Rattle.pr_time.specs.SpanParts.{letters_of, IsNumber, one_digit, digit_more, AreParts, no_part, a_part, IsSpanText, zero_alone, some_parts}
+use Rattle.pr_time.specs.SpanText.{production, Rule, Text, After, From, SpanValue, count, scaled, span, digit, other_digit_at, ms_of, rank, shifted, below}
+use Rattle.pr_time.specs.private.SpanParts.{letters_of, IsNumber, one_digit, digit_more, AreParts, no_part, a_part, IsSpanText, zero_alone, some_parts}
 
-abbrev pub RuleReads : Rule → List Letter → Value → Type 0
+abbrev pub RuleReads : Rule → List Letter → SpanValue → Type 0
 RuleReads n ts v = Reads production (rule n) ts v []
 
 -- a number is read, as one after a zero or as one with another digit first
@@ -42,7 +42,7 @@ number_read (digit_more ts n d h) rest = subst (λ us. Reads production (fold sh
 abbrev UnitRead : TimeUnit → TimeUnit → Type 0
 UnitRead u v = (rest : List Letter) (ms : ℕ) → RuleReads (After v) rest (span ms) → RuleReads (From u) (letters_of v ++ rest) (scaled (ms_of v) ms)
 
-up : {u v : TimeUnit} {f : Form Letter Rule Value} {ts : List Letter} {x : Value} → production (From u) ≡ either f (rule (From v)) → RuleReads (From v) ts x → RuleReads (From u) ts x
+up : {u v : TimeUnit} {f : Form Letter Rule SpanValue} {ts : List Letter} {x : SpanValue} → production (From u) ≡ either f (rule (From v)) → RuleReads (From v) ts x → RuleReads (From u) ts x
 up {ts = ts} {x = x} e d = is_rule (subst (λ y. Reads production y ts x []) (sym e) (is_right d))
 
 unit_ms : (v : TimeUnit) → 6 ≤ rank v → UnitRead Millisecond v

@@ -9,9 +9,9 @@ use Rattle.pr_forms.specs.Run.{bad}
 use Rattle.pr_forms.proofs.Public.{read_whole, only_value, not_whole, no_reading, rest_place, bad_place, end_place, left_short}
 use Rattle.pr_time.specs.declared.text.SpanFault.{SpanFault}
 use Rattle.pr_time.specs.declared.text.SpanFault.TheVariants.{BadSpan, SpanTooLong}
-use Rattle.pr_time.specs.SpanText.{production, letter_of, seen, Text, Value, span, ReadsSpan, IsBadPlace, Refuses, IsTooLong}
+use Rattle.pr_time.specs.SpanText.{production, letter_of, seen, Text, SpanValue, span, ReadsSpan, IsBadPlace, Refuses, IsTooLong}
 use Rattle.pr_forms.specs.Language.{Gives}
-use Rattle.pr_time.specs.SpanReader.{spans, Measures, kept}
+use Rattle.pr_time.specs.private.SpanReader.{spans, MeasuresSpan, kept}
 use Rattle.pr_time.proofs.SpanTable.{known}
 use Rattle.pr_time.specs.SpanTable.{table}
 
@@ -25,19 +25,19 @@ limited None ms exact r h e k = rw e (refl, above (cases_lt (2 ^ 40) ms))
     above (inr le) = absurd (h le)
 limited (Some x) ms exact r h e k = rw e (let is : x ≡ ms = h.1 in let le : ms ≤ 2 ^ 40 = h.0 in omega (arith, k))
 
-too_long : (v : Value) (exact : ℕ) (e : SpanFault) → span exact ≡ v → (e ≡ SpanTooLong) × (2 ^ 40 < exact) → IsTooLong v e
+too_long : (v : SpanValue) (exact : ℕ) (e : SpanFault) → span exact ≡ v → (e ≡ SpanTooLong) × (2 ^ 40 < exact) → IsTooLong v e
 too_long v exact e h k = subst (λ x. IsTooLong v x) (sym k.0) (subst (λ x. IsTooLong x SpanTooLong) h k.1)
 
-span_same : (v : Value) (exact s : ℕ) → span exact ≡ v → s ≡ exact → v ≡ span s
+span_same : (v : SpanValue) (exact s : ℕ) → span exact ≡ v → s ≡ exact → v ≡ span s
 span_same v exact s h k = sym h ∙ ap span (sym k)
 
-module _ (text rest : List ℕ) (ms : ℕ) (m : Measures (rule Text) text ms rest) where
+module _ (text rest : List ℕ) (ms : ℕ) (m : MeasuresSpan (rule Text) text ms rest) where
   pub ok_span : (o : Option ℕ) (r : Result ℕ SpanFault) → length rest ≡ 0 → SomeIff o (ms ≤ 2 ^ 40) ms → r ≡ ok_or o SpanTooLong → IfOk r (ReadsSpan text)
   ok_span o r none h e = MatchResult-weaker r (limited o ms m.exact r h e m.is_kept)
       (λ s k. subst (λ x. ReadsSpan text x) (sym k) (read_whole letter_of production table known Text text rest (span m.exact) m.gives none)) (λ x k. tt)
 
   pub ok_only : (o : Option ℕ) (r : Result ℕ SpanFault) → SomeIff o (ms ≤ 2 ^ 40) ms → r ≡ ok_or o SpanTooLong →
-      (v : Value) → Reads production (rule Text) (seen text) v [] → MatchResult r (λ s. v ≡ span s) (IsTooLong v)
+      (v : SpanValue) → Reads production (rule Text) (seen text) v [] → MatchResult r (λ s. v ≡ span s) (IsTooLong v)
   ok_only o r h e v d = let is = only_value letter_of production table known Text text rest (span m.exact) v m.gives d in
       MatchResult-weaker r (limited o ms m.exact r h e m.is_kept) (λ s k. span_same v m.exact s is k) (λ x k. too_long v m.exact x is k)
 
@@ -47,7 +47,7 @@ module _ (text rest : List ℕ) (ms : ℕ) (m : Measures (rule Text) text ms res
       (λ s k. end_place letter_of production table known Text text rest (span m.exact) m.gives none)
       (λ x k. subst (λ y. Refuses text y) (sym k.0) (m.exact, read_whole letter_of production table known Text text rest (span m.exact) m.gives none, k.1))
 
-  pub some_left : (v : Value) (b : Bool) (place : ℕ) → b ≡ (length rest == 0) → b ≡ false → Reads production (rule Text) (seen text) v [] → IsTooLong v (BadSpan place)
+  pub some_left : (v : SpanValue) (b : Bool) (place : ℕ) → b ≡ (length rest == 0) → b ≡ false → Reads production (rule Text) (seen text) v [] → IsTooLong v (BadSpan place)
   some_left v b place e h d = absurd (not_whole letter_of production table known Text text rest (span m.exact) v b m.gives e h d)
 
   pub left_place : IsBadPlace text (length text - length rest)
@@ -57,7 +57,7 @@ module _ (text rest : List ℕ) (ms : ℕ) (m : Measures (rule Text) text ms res
   left_is_short = left_short letter_of production table known Text text rest _ m.gives refl
 
 module _ (text rest : List ℕ) (q : Gives spans (rule Text) text (bad (seen rest))) where
-  pub none_read : (v : Value) (place : ℕ) → Reads production (rule Text) (seen text) v [] → IsTooLong v (BadSpan place)
+  pub none_read : (v : SpanValue) (place : ℕ) → Reads production (rule Text) (seen text) v [] → IsTooLong v (BadSpan place)
   none_read v place d = absurd (no_reading letter_of production table known Text text rest v q d)
 
   pub none_place : IsBadPlace text (length text - length rest)

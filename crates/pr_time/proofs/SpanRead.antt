@@ -11,7 +11,7 @@ use Rattle.pr_time.specs.declared.text.Letter.{Letter}
 use Rattle.pr_time.specs.declared.text.Letter.TheVariants.{Digit, D, H, M, S}
 use Rattle.pr_time.specs.declared.text.Unit.{Unit as TimeUnit}
 use Rattle.pr_time.specs.declared.text.Unit.TheVariants.{Year, Day, Hour, Minute, Second, Millisecond}
-use Rattle.pr_time.specs.SpanText.{production, Text, After, From, Value, count, scaled, span, digit, other_digit_at, shifted, letter_of, seen, ReadsSpan}
+use Rattle.pr_time.specs.SpanText.{production, Text, After, From, SpanValue, count, scaled, span, digit, other_digit_at, shifted, letter_of, seen, ReadsSpan}
 use Rattle.pr_time.specs.SpanShown.{part_text, parts_text, shown_span}
 
 digit_letter : (n : ℕ) → n < 10 → letter_of (48 + n) ≡ Digit n
@@ -49,10 +49,10 @@ FromReads greatest ts s ms = Reads production (rule (From greatest)) ts (scaled 
 abbrev AfterReads : TimeUnit → List Letter → ℕ → Type 0
 AfterReads u ts ms = Reads production (rule (After u)) ts (span ms) []
 
-hour_year : {ts : List Letter} {v : Value} → Reads production (rule (From Hour)) ts v [] → Reads production (rule (From Year)) ts v []
+hour_year : {ts : List Letter} {v : SpanValue} → Reads production (rule (From Hour)) ts v [] → Reads production (rule (From Year)) ts v []
 hour_year d = is_rule (is_right (is_rule (is_right (is_rule (is_right d)))))
 
-minute_hour : {ts : List Letter} {v : Value} → Reads production (rule (From Minute)) ts v [] → Reads production (rule (From Hour)) ts v []
+minute_hour : {ts : List Letter} {v : SpanValue} → Reads production (rule (From Minute)) ts v [] → Reads production (rule (From Hour)) ts v []
 minute_hour d = is_rule (is_right d)
 
 d_year : (ts : List Letter) (ms : ℕ) → AfterReads Day ts ms → FromReads Year (D ∷ ts) 86400000 ms

@@ -2,7 +2,7 @@
 use Rattle.std.proofs.Common.{◌≡◌, ℕ, suc, ◌-◌, nat_le, List, [], ◌∷◌, true, length, refl, inl, inr, ap, ◌∙◌, Some, None}
 use Rattle.std.specs.Prelude.{◌⊎◌, Option}
 use Rattle.pr_forms.specs.Form.{rule}
-use Rattle.pr_forms.specs.Run.{Runs, Outcome, good, bad, left_of}
+use Rattle.pr_forms.specs.Run.{Runs, ReaderOutcome, good, bad, left_of}
 use Rattle.pr_forms.specs.Reading.{EndsIn, Ends, reading}
 use Rattle.pr_forms.proofs.Ending.{Answered, rule_answered, given_reads, reads_given, given_place}
 use Rattle.pr_forms.proofs.Places.{run_place, only_reading}
@@ -10,7 +10,7 @@ use Rattle.pr_forms.proofs.Sound.{meets, reads}
 use Rattle.pr_time.specs.declared.text.Letter.{Letter}
 use Rattle.pr_time.specs.declared.text.Unit.{Unit as TimeUnit}
 use Rattle.pr_time.specs.declared.text.Unit.TheVariants.{Year, Week, Day, Hour, Minute, Second, Millisecond}
-use Rattle.pr_time.specs.SpanText.{production, seen, below, Rule, Text, AfterZero, After, From, AfterM, NoUnit, Value, count, scaled, span, mark, ReadsSpan, IsBadPlace}
+use Rattle.pr_time.specs.SpanText.{production, seen, below, Rule, Text, AfterZero, After, From, AfterM, NoUnit, SpanValue, count, scaled, span, mark, ReadsSpan, IsBadPlace}
 use Rattle.pr_time.specs.SpanAnswer.{span_in, span_of, bad_span_place}
 use Rattle.pr_time.proofs.SpanTable.{known}
 use Rattle.pr_time.specs.SpanTable.{table, from_rank, step_rank, steps}
@@ -65,10 +65,10 @@ span_or_none text = by_outcome a.outcome a.runs
     a : Answered production table (rule Text) (seen text)
     a = rule_answered production table known step_rank steps ends Text (seen text)
 
-    only : (o : Outcome Letter Value) → Runs production table (rule Text) (seen text) o → (ms : ℕ) → ReadsSpan text ms → o ≡ good (span ms) []
+    only : (o : ReaderOutcome Letter SpanValue) → Runs production table (rule Text) (seen text) o → (ms : ℕ) → ReadsSpan text ms → o ≡ good (span ms) []
     only o q ms d = only_reading production table known Text (seen text) o (span ms) q d
 
-    by_outcome : (o : Outcome Letter Value) → Runs production table (rule Text) (seen text) o → ((ms : ℕ) × ReadsSpan text ms) ⊎ ((ms : ℕ) → ReadsSpan text ms → ⊥)
+    by_outcome : (o : ReaderOutcome Letter SpanValue) → Runs production table (rule Text) (seen text) o → ((ms : ℕ) × ReadsSpan text ms) ⊎ ((ms : ℕ) → ReadsSpan text ms → ⊥)
     by_outcome (bad rest) q = inr (λ ms d. let e = only (bad rest) q ms d in absurd (cc))
     by_outcome (good (span ms) []) q = inl (ms, reads (meets q))
     by_outcome (good v (t ∷ rest)) q = inr (λ ms d. let e = only (good v (t ∷ rest)) q ms d in absurd (cc))
@@ -90,7 +90,7 @@ pub reading_of_span : (text : List ℕ) (ms : ℕ) → span_of text ≡ Some ms 
 unfolding span_of
 reading_of_span text ms e = by_value (reading production table steps (rule Text) (seen text)) refl e
   where
-    by_value : (o : Option Value) → reading production table steps (rule Text) (seen text) ≡ o → span_in o ≡ Some ms → ReadsSpan text ms
+    by_value : (o : Option SpanValue) → reading production table steps (rule Text) (seen text) ≡ o → span_in o ≡ Some ms → ReadsSpan text ms
     by_value (Some (span n)) h i = let k : n ≡ ms = cc in given_reads production table known step_rank steps ends Text (seen text) (span ms) (h ∙ ap (λ m. Some (span m)) k)
     by_value (Some (count n)) h i = cc
     by_value (Some (scaled n s)) h i = cc

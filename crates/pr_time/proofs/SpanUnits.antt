@@ -3,15 +3,15 @@ use Rattle.std.proofs.Common.{◌≡◌, List, [], ◌∷◌, Option, Some, None
 use Rattle.std.specs.Prelude.{MatchOption, ◌⊎◌}
 use Rattle.pr_forms.specs.Form.{Form, pair, either, rule}
 use Rattle.pr_forms.specs.Table.{is_next}
-use Rattle.pr_forms.specs.Run.{Runs, Takes, Lacks, Outcome, good, bad, run_rule, run_left, run_right, run_pair, run_first, run_second, run_token, run_other, run_end, run_nothing}
+use Rattle.pr_forms.specs.Run.{Runs, Takes, Lacks, ReaderOutcome, good, bad, run_rule, run_left, run_right, run_pair, run_first, run_second, run_token, run_other, run_end, run_nothing}
 use Rattle.pr_forms.proofs.Ways.{take_side, take_side_bad, other_side}
 use Rattle.pr_time.specs.declared.text.Letter.{Letter}
 use Rattle.pr_time.specs.declared.text.Letter.TheVariants.{Y, W, D, H, M, S}
 use Rattle.pr_time.specs.declared.text.Unit.{Unit as TimeUnit}
 use Rattle.pr_time.specs.declared.text.Unit.TheVariants.{Year, Week, Day, Hour, Minute, Second, Millisecond}
-use Rattle.pr_time.specs.SpanText.{production, Rule, After, From, Value, unit, ms_of, scaled, span, followed}
+use Rattle.pr_time.specs.SpanText.{production, Rule, After, From, SpanValue, unit, ms_of, scaled, span, followed}
 use Rattle.pr_forms.specs.Carries.{Carries}
-use Rattle.pr_time.specs.SpanReader.{unit_left}
+use Rattle.pr_time.specs.private.SpanReader.{unit_left}
 use Rattle.pr_time.specs.SpanTable.{table}
 
 -- After the unit there come the parts after it, in letters.
@@ -54,7 +54,7 @@ abbrev pub Chosen : TimeUnit → List Letter → Option TimeUnit → List Letter
 Chosen greatest ts o rest = MatchOption o (Runs production table (rule (From greatest)) ts (bad ts)) (λ u. EntersAt greatest ts u rest)
 
 -- the rule of a unit goes on to the one of smaller units
-lift : (u v : TimeUnit) (f : Form Letter Rule Value) (ts rest : List Letter) (o : Option TimeUnit) → production (From u) ≡ either f (rule (From v)) → is_next table f ts ≡ false →
+lift : (u v : TimeUnit) (f : Form Letter Rule SpanValue) (ts rest : List Letter) (o : Option TimeUnit) → production (From u) ≡ either f (rule (From v)) → is_next table f ts ≡ false →
     Chosen v ts o rest → Chosen u ts o rest
 lift u v f ts rest None e n h = run_rule (subst (λ x. Runs production table x ts (bad ts)) (sym e) (run_right n h))
 lift u v f ts rest (Some x) e n h = record {
@@ -112,7 +112,7 @@ pub unit_none : (greatest : TimeUnit) (t : Letter) (ts rest : List Letter) → t
 unit_none greatest t ts rest e other h = rw e (subst (λ o. Chosen greatest (t ∷ rest) o rest) h (units greatest t rest other))
 
 -- after an m, from minutes on
-pub many_m : (greatest : TimeUnit) (rest : List Letter) (o : Outcome Letter Value) → (greatest ≡ Second → ⊥) → (greatest ≡ Millisecond → ⊥) →
+pub many_m : (greatest : TimeUnit) (rest : List Letter) (o : ReaderOutcome Letter SpanValue) → (greatest ≡ Second → ⊥) → (greatest ≡ Millisecond → ⊥) →
     Runs production table (rule (From Minute)) (M ∷ rest) o → Runs production table (rule (From greatest)) (M ∷ rest) o
 many_m Second rest o a b h = absurd (a refl)
 many_m Millisecond rest o a b h = absurd (b refl)
@@ -130,7 +130,7 @@ minutes greatest rest a b l = record {
 }
 
 -- milliseconds, in an m or alone
-small_m : (rest : List Letter) (o : Outcome Letter Value) → Runs production table (pair followed (unit Millisecond) (rule (After Millisecond))) rest o → (greatest : TimeUnit) →
+small_m : (rest : List Letter) (o : ReaderOutcome Letter SpanValue) → Runs production table (pair followed (unit Millisecond) (rule (After Millisecond))) rest o → (greatest : TimeUnit) →
     Runs production table (rule (From Minute)) (M ∷ rest) o → Runs production table (rule (From Millisecond)) (M ∷ rest) o → Runs production table (rule (From greatest)) (M ∷ rest) o
 small_m rest o g Millisecond h k = k
 small_m rest o g Second h k = run_rule (run_right refl k)

@@ -1,7 +1,6 @@
 pub mod SpanText
 pub mod SpanTable
-pub mod SpanReader
 pub mod SpanShown
-pub mod SpanParts
 pub mod SpanAnswer
+pub mod private
 pub use Rattle.pr_forms.specs as pr_forms

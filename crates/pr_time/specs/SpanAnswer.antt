@@ -2,10 +2,10 @@
 use Rattle.std.specs.Prelude.{ℕ, Option, Some, None, List}
 use Rattle.pr_forms.specs.Form.{rule}
 use Rattle.pr_forms.specs.Reading.{reading, bad_place}
-use Rattle.pr_time.specs.SpanText.{production, seen, Text, Value, span}
+use Rattle.pr_time.specs.SpanText.{production, seen, Text, SpanValue, span}
 use Rattle.pr_time.specs.SpanTable.{table, steps}
 
-abbrev pub span_in : Option Value → Option ℕ
+abbrev pub span_in : Option SpanValue → Option ℕ
 span_in (Some (span ms)) = Some ms
 span_in _ = None
 

@@ -40,15 +40,15 @@ rank Second = 5
 rank Millisecond = 6
 
 -- What stands for a part of a span text.
-pub data Value : Type 0 where
+pub data SpanValue : Type 0 where
   -- the number that digits write
-  count : ℕ → Value
+  count : ℕ → SpanValue
   -- a unit, and the milliseconds of the parts after it
-  scaled : ℕ → ℕ → Value
+  scaled : ℕ → ℕ → SpanValue
   -- milliseconds
-  span : ℕ → Value
+  span : ℕ → SpanValue
   -- a letter that has no value alone
-  mark : Value
+  mark : SpanValue
 
 -- The rules.
 pub data Rule : Type 0 where
@@ -65,27 +65,27 @@ pub data Rule : Type 0 where
   -- a unit where none is left, which nothing is
   NoUnit : Rule
 
-abbrev pub digit_at : Letter → Option Value
+abbrev pub digit_at : Letter → Option SpanValue
 digit_at (Digit n) = Some (count n)
 digit_at _ = None
 
-abbrev pub zero_at : Letter → Option Value
+abbrev pub zero_at : Letter → Option SpanValue
 zero_at (Digit zero) = Some mark
 zero_at _ = None
 
-abbrev pub other_digit_at : Letter → Option Value
+abbrev pub other_digit_at : Letter → Option SpanValue
 other_digit_at (Digit (suc n)) = Some (count (suc n))
 other_digit_at _ = None
 
-abbrev pub none_at : Letter → Option Value
+abbrev pub none_at : Letter → Option SpanValue
 none_at _ = None
 
-abbrev pub m_at : Letter → Option Value
+abbrev pub m_at : Letter → Option SpanValue
 m_at M = Some mark
 m_at _ = None
 
 -- the letter of a unit that is written by one letter other than m
-abbrev pub unit_at : TimeUnit → Letter → Option Value
+abbrev pub unit_at : TimeUnit → Letter → Option SpanValue
 unit_at Year Y = Some (scaled (ms_of Year) 0)
 unit_at Week W = Some (scaled (ms_of Week) 0)
 unit_at Day D = Some (scaled (ms_of Day) 0)
@@ -94,30 +94,30 @@ unit_at Second S = Some (scaled (ms_of Second) 0)
 unit_at Millisecond S = Some (scaled (ms_of Millisecond) 0)
 unit_at _ _ = None
 
-abbrev pub digit : Form Letter Rule Value
+abbrev pub digit : Form Letter Rule SpanValue
 digit = token digit_at
 
-abbrev pub unit : TimeUnit → Form Letter Rule Value
+abbrev pub unit : TimeUnit → Form Letter Rule SpanValue
 unit u = token (unit_at u)
 
 -- how the values of parts are joined
-abbrev pub shifted : Value → Value → Value
+abbrev pub shifted : SpanValue → SpanValue → SpanValue
 shifted (count n) (count d) = count (n * 10 + d)
 shifted _ _ = mark
 
-abbrev pub times : Value → Value → Value
+abbrev pub times : SpanValue → SpanValue → SpanValue
 times (count n) (scaled s ms) = span (n * s + ms)
 times _ _ = mark
 
-abbrev pub followed : Value → Value → Value
+abbrev pub followed : SpanValue → SpanValue → SpanValue
 followed (scaled s z) (span ms) = scaled s ms
 followed _ _ = mark
 
-abbrev pub second_of : Value → Value → Value
+abbrev pub second_of : SpanValue → SpanValue → SpanValue
 second_of v w = w
 
 -- a number, and then its unit with the parts after it
-abbrev pub amount : Form Letter Rule Value → Rule → Form Letter Rule Value
+abbrev pub amount : Form Letter Rule SpanValue → Rule → Form Letter Rule SpanValue
 amount digits n = pair times digits (rule n)
 
 -- the next smaller unit, that is written apart from the others
@@ -144,7 +144,7 @@ below u = From (smaller u)
 --   after-m    = "s" after(ms) | after(m)
 --   from(s)    = "s" after(s) | from(ms)
 --   from(ms)   = "m" "s" after(ms)
-abbrev pub production : Rule → Form Letter Rule Value
+abbrev pub production : Rule → Form Letter Rule SpanValue
 production Text = either (pair second_of (token zero_at) (rule AfterZero)) (amount (fold shifted (token other_digit_at) digit) (From Year))
 production AfterZero = either (amount (turns shifted (count 0) digit) (From Year)) (nothing (span 0))
 production (After u) = either (amount (fold shifted digit digit) (below u)) (nothing (span 0))
@@ -171,6 +171,6 @@ Refuses text (BadSpan at) = IsBadPlace text at
 Refuses text SpanTooLong = (ms : ℕ) × ReadsSpan text ms × (2 ^ 40 < ms)
 
 -- A text with this value is refused so: only where the value is a span that is too long.
-abbrev pub IsTooLong : Value → SpanFault → Type 0
+abbrev pub IsTooLong : SpanValue → SpanFault → Type 0
 IsTooLong (span ms) SpanTooLong = 2 ^ 40 < ms
 IsTooLong _ _ = ⊥

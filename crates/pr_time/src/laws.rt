@@ -2,7 +2,7 @@
 ghost use Rattle.std.specs.Prelude.{◌≡◌, ℕ, List, ◌≤◌, ◌^◌, ◌++◌, ◌⊎◌, ◌↔◌, Some, codes};
 ghost use Rattle.pr_forms.specs.Table.{IsDecided};
 ghost use Rattle.pr_time.specs.SpanText.{production, seen, ReadsSpan, IsBadPlace};
-ghost use Rattle.pr_time.specs.SpanParts.{IsSpanText};
+ghost use Rattle.pr_time.specs.private.SpanParts.{IsSpanText};
 ghost use Rattle.pr_time.specs.SpanAnswer.{span_of, bad_span_place};
 ghost use Rattle.pr_time.specs.SpanShown.{shown_span};
 ghost use Rattle.pr_time.specs.SpanTable.{table};

@@ -1,38 +1,12 @@
 //! The texts of spans.
 ghost use Rattle.std.specs.Prelude.{◌≡◌, ℕ, List, [], ◌∷◌, ◌<◌, ◌≤◌, ◌^◌, ◌+◌, min, length, IfOk, IfSome, MatchOption, MatchResult, option_map};
-ghost use Rattle.pr_forms.specs.Form.{Form, rule};
+ghost use Rattle.pr_forms.specs.Form.{Form, rule, Reads};
 ghost use Rattle.pr_forms.specs.Run.{good, bad};
 ghost use Rattle.pr_time.specs.declared.text.Letter.{Letter};
 ghost use Rattle.pr_time.specs.declared.text.Unit.TheVariants.{Millisecond};
-ghost use Rattle.pr_time.specs.SpanText.{
-  letter_of,
-  seen,
-  ms_of,
-  smaller,
-  rank,
-  digit,
-  digit_at,
-  unit,
-  unit_at,
-  amount,
-  count,
-  scaled,
-  span,
-  Value,
-  Rule,
-  Text,
-  After,
-  From,
-  AfterZero,
-  production,
-  ReadsSpan,
-  IsBadPlace,
-  Refuses,
-  IsTooLong,
-};
+ghost use Rattle.pr_time.specs.SpanText.{letter_of, seen, ms_of, smaller, rank, digit, digit_at, unit, unit_at, amount, count, scaled, span, SpanValue, Rule, Text, After, From, AfterZero, production, ReadsSpan, IsBadPlace, Refuses, IsTooLong};
 ghost use Rattle.pr_forms.specs.Language.{Gives, Takes, Lacks};
-ghost use Rattle.pr_time.specs.SpanReader.{spans, IsFront, kept, Digits, Counts, Measures, Enters, with_m, starts_amount, named, unit_left};
-ghost use Rattle.pr_forms.specs.Form.{Reads};
+ghost use Rattle.pr_time.specs.private.SpanReader.{spans, IsFront, kept, Digits, ReadsCount, MeasuresSpan, Enters, with_m, starts_amount, named, unit_left};
 
 use crate::value::Span;
 use pr_forms::{place_of, take};
@@ -196,8 +170,8 @@ fn after_s(text: &[u8]) -> Option<((), &[u8])>
 /// The number that the digits at the front write after `first`, and what follows them.
 fn number_in(first: u64, text: &[u8]) -> (u64, &[u8])
     requires { first ≤ 2 ^ 40 + 1 }
-    ensures read { (f : Form Letter Rule Value) (start : List ℕ) (n : ℕ) → first ≡ kept n → Digits f start n text.now →
-        Counts f start result.0 result.1.now }
+    ensures read { (f : Form Letter Rule SpanValue) (start : List ℕ) (n : ℕ) → first ≡ kept n → Digits f start n text.now →
+        ReadsCount f start result.0 result.1.now }
     ensures small { result.0 ≤ 2 ^ 40 + 1 }
     ensures shorter { length result.1.now ≤ length text.now }
 {
@@ -259,8 +233,8 @@ fn unit_in(greatest: Unit, text: &[u8]) -> Result<(Unit, &[u8]), &[u8]>
 #[cycle(parts)]
 fn amount_in(greatest: Unit, first: u64, text: &[u8]) -> Result<(u64, &[u8]), &[u8]>
     requires { first ≤ 2 ^ 40 + 1 }
-    ensures read { (f : Form Letter Rule Value) (start : List ℕ) (n : ℕ) → first ≡ kept n → Digits f start n text.now →
-        MatchResult result (λ x. Measures (amount f (From greatest)) start x.0 x.1.now) (λ rest. Gives spans (amount f (From greatest)) start (bad (seen rest.now))) }
+    ensures read { (f : Form Letter Rule SpanValue) (start : List ℕ) (n : ℕ) → first ≡ kept n → Digits f start n text.now →
+        MatchResult result (λ x. MeasuresSpan (amount f (From greatest)) start x.0 x.1.now) (λ rest. Gives spans (amount f (From greatest)) start (bad (seen rest.now))) }
 {
     let (number, after_number) = number_in(first, text);
     let (unit, after_unit) = unit_in(greatest, after_number)?;
@@ -277,7 +251,7 @@ fn amount_in(greatest: Unit, first: u64, text: &[u8]) -> Result<(u64, &[u8]), &[
 /// The parts after one with this unit, in milliseconds, and what follows them.
 #[cycle(parts)]
 fn parts_after(last: Unit, text: &[u8]) -> Result<(u64, &[u8]), &[u8]>
-    ensures read { MatchResult result (λ x. Measures (rule (After last)) text.now x.0 x.1.now)
+    ensures read { MatchResult result (λ x. MeasuresSpan (rule (After last)) text.now x.0 x.1.now)
         (λ rest. Gives spans (rule (After last)) text.now (bad (seen rest.now))) }
 {
     let Some((first, rest)) = digit_in(text) else {
@@ -303,7 +277,7 @@ fn goes_on(text: &[u8]) -> bool
 /// What a zero at the front writes with what follows it: nothing, or a number with its unit and the
 /// parts after it.
 fn zero_in(text: &[u8]) -> Result<(u64, &[u8]), &[u8]>
-    ensures read { MatchResult result (λ x. Measures (rule AfterZero) text.now x.0 x.1.now)
+    ensures read { MatchResult result (λ x. MeasuresSpan (rule AfterZero) text.now x.0 x.1.now)
         (λ rest. Gives spans (rule AfterZero) text.now (bad (seen rest.now))) }
 {
     if goes_on(text) {
@@ -315,7 +289,7 @@ fn zero_in(text: &[u8]) -> Result<(u64, &[u8]), &[u8]>
 
 /// The span text at the front, in milliseconds, and what follows it.
 fn span_in(text: &[u8]) -> Result<(u64, &[u8]), &[u8]>
-    ensures read { MatchResult result (λ x. Measures (rule Text) text.now x.0 x.1.now)
+    ensures read { MatchResult result (λ x. MeasuresSpan (rule Text) text.now x.0 x.1.now)
         (λ rest. Gives spans (rule Text) text.now (bad (seen rest.now))) }
 {
     match digit_in(text) {
@@ -351,7 +325,7 @@ pub fn read_span(text: &[u8]) -> Result<Span, SpanFault>
     // A span that is answered is what the text reads as.
     ensures span { IfOk result (ReadsSpan text.now) }
     // What the text reads as is answered, unless it is too long.
-    ensures only { (v : Value) → Reads production (rule Text) (seen text.now) v [] → MatchResult result (λ s. v ≡ span s) (IsTooLong v) }
+    ensures only { (v : SpanValue) → Reads production (rule Text) (seen text.now) v [] → MatchResult result (λ s. v ≡ span s) (IsTooLong v) }
     // Else the fault says which byte is the first bad one.
     ensures place { MatchResult result (λ _. IsBadPlace text.now (length text.now)) (Refuses text.now) }
 {

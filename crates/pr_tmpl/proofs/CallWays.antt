@@ -1,24 +1,24 @@
 -- The ways of a reader through the calls of pipes.
 use Rattle.std.proofs.Common.{◌≡◌, ℕ, Bor, false, Some, None, List, [], ◌∷◌, ◌++◌, refl, sym, ap, subst, ◌∙◌, append_assoc, append-nil, Result, Ok, Err}
 use Rattle.std.specs.Result.{MatchResult}
-use Rattle.pr_forms.specs.declared.reader.Fault.{Fault}
-use Rattle.pr_forms.specs.declared.reader.Fault.TheVariants.{Bad, Memory}
-use Rattle.pr_forms.specs.Form.{token, pair, rule}
-use Rattle.pr_forms.specs.Run.{Runs, good, bad, run_first, run_second, run_rule, run_chosen_end, run_unchosen}
-use Rattle.pr_forms.proofs.Carrying.{carry_on, carry_with, carry_made, carry_of, carry_rule, carry_second}
-use Rattle.pr_tmpl.specs.declared.kind.Kind.{Kind}
-use Rattle.pr_tmpl.specs.declared.kind.Kind.TheVariants.{Bar, Close, Quote, Dollar, Point, SmallP, SmallH}
+use Rattle.pr_labels.specs.pr_forms.declared.reader.Fault.{Fault}
+use Rattle.pr_labels.specs.pr_forms.declared.reader.Fault.TheVariants.{Bad, Memory}
+use Rattle.pr_labels.specs.pr_forms.Form.{token, pair, rule}
+use Rattle.pr_labels.specs.pr_forms.Run.{Runs, good, bad, run_first, run_second, run_rule, run_chosen_end, run_unchosen}
+use Rattle.pr_labels.proofs.FormsCarrying.{carry_on, carry_with, carry_made, carry_of, carry_rule, carry_second}
+use Rattle.pr_tmpl.specs.declared.kind.TemplateByte.{TemplateByte}
+use Rattle.pr_tmpl.specs.declared.kind.TemplateByte.TheVariants.{Bar, Close, Quote, Dollar, Point, SmallP, SmallH}
 use Rattle.pr_tmpl.specs.declared.template.Operand.{Operand}
 use Rattle.pr_tmpl.specs.declared.template.Call.{Call}
 use Rattle.pr_tmpl.specs.Pieces.{Piece, plain, pieces}
-use Rattle.pr_tmpl.specs.Letters.{IsPlain, HasNoPlain, IsSign, IsNoSign}
-use Rattle.pr_tmpl.specs.Reader.{Gives, FailsAt, Leads, Hands}
+use Rattle.pr_tmpl.specs.private.Letters.{IsPlain, HasNoPlain, IsSign, IsNoSign}
+use Rattle.pr_tmpl.specs.private.Reader.{Gives, FailsAt, Leads, Hands}
 use Rattle.pr_tmpl.specs.TemplateText.{Rule, parts, piped, operand, call, mark, production, blanks, second_of, closed, any_at, close_at, anything, next_rule, first_rule, call_rule, Text, FromOperand, FromCall, AnOperand, ACall, After, Next, Barred, Closing}
 use Rattle.pr_tmpl.specs.TemplateTable.{table}
-use Rattle.pr_tmpl.specs.Pipes.{after_gap, a_pipe, after_bar, IsCall, CallsSoFar, IsCalls, IsFromOperand, IsPipe}
+use Rattle.pr_tmpl.specs.private.Pipes.{after_gap, a_pipe, after_bar, IsCall, CallsSoFar, IsCalls, IsFromOperand, IsPipe}
 use Rattle.pr_tmpl.proofs.WordWays.{chosen_word, choice, unchosen, unchosen_piece, takes_close, lacks_close}
 
-pub no_call : (k : Kind) (b : ℕ) → (k ≡ SmallP → ⊥) → (k ≡ SmallH → ⊥) → call_rule (plain k b) ≡ None
+pub no_call : (k : TemplateByte) (b : ℕ) → (k ≡ SmallP → ⊥) → (k ≡ SmallH → ⊥) → call_rule (plain k b) ≡ None
 no_call SmallP b p h = absurd (p refl)
 no_call SmallH b p h = absurd (h refl)
 no_call _ b p h = refl
@@ -102,22 +102,22 @@ pub call_first_fails : (text : List ℕ) (end : List Piece) → Runs production 
 call_first_fails text end k = run_first k
 
 -- a pipe
-first_leads : (n : Rule) (text at rest : List ℕ) (k : Kind) (b : ℕ) → Gives blanks text (good mark (pieces at)) → IsPlain at k b rest → first_rule (plain k b) ≡ Some n → table.empty n ≡ false → Leads a_pipe text (production n) at
+first_leads : (n : Rule) (text at rest : List ℕ) (k : TemplateByte) (b : ℕ) → Gives blanks text (good mark (pieces at)) → IsPlain at k b rest → first_rule (plain k b) ≡ Some n → table.empty n ≡ false → Leads a_pipe text (production n) at
 first_leads n text at rest k b h p e s = carry_on (carry_second h) (carry_on carry_rule (choice first_rule anything n (plain k b) at rest p.pieces_are e s))
 
-pub from_operand_gives : (text at rest : List ℕ) (k : Kind) (b : ℕ) (before : List Call) (r : Result (Operand × List Call × Bor (List ℕ)) (Fault ℕ)) → before ≡ [] → Gives blanks text (good mark (pieces at)) → IsPlain at k b rest → first_rule (plain k b) ≡ Some FromOperand
+pub from_operand_gives : (text at rest : List ℕ) (k : TemplateByte) (b : ℕ) (before : List Call) (r : Result (Operand × List Call × Bor (List ℕ)) (Fault ℕ)) → before ≡ [] → Gives blanks text (good mark (pieces at)) → IsPlain at k b rest → first_rule (plain k b) ≡ Some FromOperand
     → MatchResult r (λ x. IsFromOperand before at x.0 x.1 x.2.now) (FailsAt (production FromOperand) at) → MatchResult r (λ x. IsPipe a_pipe text x.0 x.1 x.2.now) (FailsAt a_pipe text)
 from_operand_gives text at rest k b before (Ok x) e h p f m = subst (λ (cs : List Call). IsPipe a_pipe text x.0 cs x.2.now) (sym (m.calls_are ∙ ap (λ (xs : List Call). xs ++ m.more) e)) (carry_on (first_leads FromOperand text at rest k b h p f refl) m.hands)
 from_operand_gives text at rest k b before (Err (Bad end)) e h p f m = (first_leads FromOperand text at rest k b h p f refl).fails (pieces end.now) m
 from_operand_gives text at rest k b before (Err Memory) e h p f m = tt
 
-pub from_call_gives : (text at rest : List ℕ) (k : Kind) (b : ℕ) (r : Result (Operand × List Call × Bor (List ℕ)) (Fault ℕ)) → Gives blanks text (good mark (pieces at)) → IsPlain at k b rest → first_rule (plain k b) ≡ Some FromCall
+pub from_call_gives : (text at rest : List ℕ) (k : TemplateByte) (b : ℕ) (r : Result (Operand × List Call × Bor (List ℕ)) (Fault ℕ)) → Gives blanks text (good mark (pieces at)) → IsPlain at k b rest → first_rule (plain k b) ≡ Some FromCall
     → MatchResult r (λ x. IsPipe (production FromCall) at x.0 x.1 x.2.now) (FailsAt (production FromCall) at) → MatchResult r (λ x. IsPipe a_pipe text x.0 x.1 x.2.now) (FailsAt a_pipe text)
 from_call_gives text at rest k b (Ok x) h p f m = carry_on (first_leads FromCall text at rest k b h p f refl) m
 from_call_gives text at rest k b (Err (Bad end)) h p f m = (first_leads FromCall text at rest k b h p f refl).fails (pieces end.now) m
 from_call_gives text at rest k b (Err Memory) h p f m = tt
 
-no_first : (k : Kind) (b : ℕ) → (k ≡ Quote → ⊥) → (k ≡ Dollar → ⊥) → (k ≡ Point → ⊥) → (k ≡ SmallP → ⊥) → (k ≡ SmallH → ⊥) → first_rule (plain k b) ≡ None
+no_first : (k : TemplateByte) (b : ℕ) → (k ≡ Quote → ⊥) → (k ≡ Dollar → ⊥) → (k ≡ Point → ⊥) → (k ≡ SmallP → ⊥) → (k ≡ SmallH → ⊥) → first_rule (plain k b) ≡ None
 no_first Quote b q d p f h = absurd (q refl)
 no_first Dollar b q d p f h = absurd (d refl)
 no_first Point b q d p f h = absurd (p refl)
@@ -125,7 +125,7 @@ no_first SmallP b q d p f h = absurd (f refl)
 no_first SmallH b q d p f h = absurd (h refl)
 no_first _ b q d p f h = refl
 
-pub no_pipe : (text at rest : List ℕ) (k : Kind) (b : ℕ) → Gives blanks text (good mark (pieces at)) → IsPlain at k b rest → (k ≡ Quote → ⊥) → (k ≡ Dollar → ⊥) → (k ≡ Point → ⊥) → (k ≡ SmallP → ⊥) → (k ≡ SmallH → ⊥) → Gives a_pipe text (bad (pieces at))
+pub no_pipe : (text at rest : List ℕ) (k : TemplateByte) (b : ℕ) → Gives blanks text (good mark (pieces at)) → IsPlain at k b rest → (k ≡ Quote → ⊥) → (k ≡ Dollar → ⊥) → (k ≡ Point → ⊥) → (k ≡ SmallP → ⊥) → (k ≡ SmallH → ⊥) → Gives a_pipe text (bad (pieces at))
 no_pipe text at rest k b h i q d p f g = run_second h (run_rule (unchosen_piece first_rule anything (plain k b) at rest i.pieces_are (no_first k b q d p f g)))
 
 pub no_pipe_end : (text at : List ℕ) → Gives blanks text (good mark (pieces at)) → HasNoPlain at → Gives a_pipe text (bad (pieces at))

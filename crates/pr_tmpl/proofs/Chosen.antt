@@ -1,7 +1,7 @@
 -- The rules that a piece may choose: what holds of each of them holds of the chosen one.
 use Rattle.std.proofs.Common.{◌≡◌, ℕ, List, [], ◌∷◌, ◌++◌, Some, None, Bool, true, false, subst}
 use Rattle.std.specs.Prelude.{if◌then◌else◌}
-use Rattle.pr_tmpl.specs.declared.kind.Kind.TheVariants.{Quote, Open, Close, Bar, Dollar, Point, SmallE, SmallH, SmallL, SmallP, SmallV, CapitalD, CapitalE, CapitalL, CapitalP, CapitalU, CapitalV}
+use Rattle.pr_tmpl.specs.declared.kind.TemplateByte.TheVariants.{Quote, Open, Close, Bar, Dollar, Point, SmallE, SmallH, SmallL, SmallP, SmallV, CapitalD, CapitalE, CapitalL, CapitalP, CapitalU, CapitalV}
 use Rattle.pr_tmpl.specs.Pieces.{Piece, plain}
 use Rattle.pr_tmpl.specs.TemplateText.{Rule, PlainPiece, Brace, PieceAfterBrace, SecondBrace, FromOperand, FromCall, Literal, Dollared, Dotted, ValueWord, LabelsWord, ExternalWord, ExternalLabelsWord, UrlWord, NameByte, PrintfWord, HumanizeWord, PercentageWord, DurationWord, Barred, Closing, is_name_part, is_name_start, text_rule, opened_rule, first_rule, operand_rule, dollar_rule, dot_rule, external_rule, name_start, name_byte, call_rule, scale_rule, next_rule}
 

@@ -2,20 +2,20 @@
 use Rattle.std.proofs.Common.{◌≡◌, refl, codes, [], ◌∷◌, ◌++◌, Some}
 use Rattle.std.specs.Fmt.{digits}
 use Rattle.std.specs.Prelude.{pos}
-use Rattle.pr_forms.specs.Reading.{reading, bad_place}
-use Rattle.pr_humanize.specs.pr_num.Half.{half_abs}
-use Rattle.pr_humanize.specs.pr_num.Reads.{reads}
-use Rattle.pr_humanize.specs.pr_num.Shown.{shown, fraction_text}
-use Rattle.pr_humanize.specs.pr_num.declared.value.Num.TheVariants.{Finite, NaN}
-use Rattle.pr_humanize.specs.Decimals.{fixed, digits_text, cut_text, four_digits}
-use Rattle.pr_humanize.specs.Humanized.{great, small, scaled_text, percent_text, clock_text, seconds_text}
+use Rattle.pr_labels.specs.pr_forms.Reading.{reading, bad_place}
+use Rattle.pr_num.specs.Half.{half_abs}
+use Rattle.pr_num.specs.Reads.{reads}
+use Rattle.pr_num.specs.Shown.{shown, fraction_text}
+use Rattle.pr_num.specs.declared.value.Num.TheVariants.{Finite, NaN}
+use Rattle.pr_tmpl.specs.Decimals.{fixed, digits_text, cut_text, four_digits}
+use Rattle.pr_tmpl.specs.Humanized.{great, small, scaled_text, percent_text, clock_text, seconds_text}
 use Rattle.pr_labels.specs.LabelSet.{named}
 use Rattle.pr_tmpl.specs.declared.template.External.{External}
 use Rattle.pr_tmpl.specs.declared.template.Verb.TheVariants.{Plain, Fixed}
 use Rattle.pr_tmpl.specs.declared.template.Operand.TheVariants.{Value, Label, ExternalLabel, ExternalUrl, Words as Quoted}
 use Rattle.pr_tmpl.specs.declared.template.Call.TheVariants.{Printf, Humanize, HumanizePercentage, HumanizeDuration}
 use Rattle.pr_tmpl.specs.declared.template.Part.TheVariants.{Words, Pipe}
-use Rattle.pr_labels.specs.pr_strings.StringAnswer.{string_of, bad_string_place}
+use Rattle.pr_labels.specs.pr_words.StringAnswer.{string_of, bad_string_place}
 use lib.Utf8.{encode}
 use Rattle.pr_tmpl.specs.Pieces.{pieces}
 use Rattle.pr_tmpl.specs.TemplateReading.{template_parts, bad_piece, bad_template_place}

@@ -3,16 +3,16 @@ use Rattle.std.proofs.Common.{◌≡◌, ℕ, ◌-◌, Bool, true, false, Option
 use Rattle.std.specs.Result.{MatchResult, IsErrAnd}
 use Rattle.std.specs.Prelude.{is_some, codes}
 use Prim.Native.Char.{code}
-use Rattle.pr_forms.specs.declared.reader.Fault.{Fault}
-use Rattle.pr_forms.specs.declared.reader.Fault.TheVariants.{Bad, Memory}
-use Rattle.pr_forms.specs.Form.{Form, token, pair, either, rule}
-use Rattle.pr_forms.specs.Run.{Runs, good, bad, run_token, run_other, run_end, run_pair, run_first, run_left, run_right, run_rule, run_nothing}
-use Rattle.pr_forms.specs.Table.{is_next}
-use Rattle.pr_forms.specs.Carries.{Carries}
-use Rattle.pr_forms.proofs.Steps.{next_pair}
-use Rattle.pr_forms.proofs.Carrying.{carry_on, carry_with, carry_made, carry_of, carry_rule, carry_left, carry_right, carry_second, leading as leading_on}
-use Rattle.pr_tmpl.specs.declared.kind.Kind.{Kind}
-use Rattle.pr_tmpl.specs.declared.kind.Kind.TheVariants.{Quote, Percent, Point, Digit, SmallF, SmallS, SmallV}
+use Rattle.pr_labels.specs.pr_forms.declared.reader.Fault.{Fault}
+use Rattle.pr_labels.specs.pr_forms.declared.reader.Fault.TheVariants.{Bad, Memory}
+use Rattle.pr_labels.specs.pr_forms.Form.{Form, token, pair, either, rule}
+use Rattle.pr_labels.specs.pr_forms.Run.{Runs, good, bad, run_token, run_other, run_end, run_pair, run_first, run_left, run_right, run_rule, run_nothing}
+use Rattle.pr_labels.specs.pr_forms.Table.{is_next}
+use Rattle.pr_labels.specs.pr_forms.Carries.{Carries}
+use Rattle.pr_labels.proofs.FormsSteps.{next_pair}
+use Rattle.pr_labels.proofs.FormsCarrying.{carry_on, carry_with, carry_made, carry_of, carry_rule, carry_left, carry_right, carry_second, leading as leading_on}
+use Rattle.pr_tmpl.specs.declared.kind.TemplateByte.{TemplateByte}
+use Rattle.pr_tmpl.specs.declared.kind.TemplateByte.TheVariants.{Quote, Percent, Point, Digit, SmallF, SmallS, SmallV}
 use Rattle.pr_tmpl.specs.declared.quoted.Within.{Within}
 use Rattle.pr_tmpl.specs.declared.quoted.Within.TheVariants.{Before as InFront, After as Behind}
 use Rattle.pr_tmpl.specs.declared.quoted.Wanted.{Wanted}
@@ -21,17 +21,17 @@ use Rattle.pr_tmpl.specs.declared.template.Verb.{Verb}
 use Rattle.pr_tmpl.specs.declared.template.Verb.TheVariants.{Plain as PlainVerb, Fixed}
 use Rattle.pr_tmpl.specs.declared.template.Call.TheVariants.{Printf}
 use Rattle.pr_tmpl.specs.Pieces.{Piece, plain, escape, broken, part, pieces}
-use Rattle.pr_tmpl.specs.Letters.{IsBreak, IsSign, IsNoSign}
-use Rattle.pr_tmpl.specs.Reader.{Gives, FailsAt, Leads, Hands}
-use Rattle.pr_tmpl.specs.TemplateText.{Rule, Value, bytes, format, mark, verb, call, Before, AfterVerb, Places, LetterF, SecondPercent, Formatted, Breaking, Wanted as WantedRule, production, broken_at, broken_off, bytes_joined, before_verb, leading, second_of, percent_at, verb_at, verb_of, point_at, digit_at, digit_of, f_at}
+use Rattle.pr_tmpl.specs.private.Letters.{IsBreak, IsSign, IsNoSign}
+use Rattle.pr_tmpl.specs.private.Reader.{Gives, FailsAt, Leads, Hands}
+use Rattle.pr_tmpl.specs.TemplateText.{Rule, TemplateValue, bytes, format, mark, verb, call, Before, AfterVerb, Places, LetterF, SecondPercent, Formatted, Breaking, Wanted as WantedRule, production, broken_at, broken_off, bytes_joined, before_verb, leading, second_of, percent_at, verb_at, verb_of, point_at, digit_at, digit_of, f_at}
 use Rattle.pr_tmpl.specs.TemplateTable.{table}
-use Rattle.pr_tmpl.specs.Quotes.{rule_of, Tail, tail, given, after_bytes, ReachesAsOwn, Stops, first_byte, CountsAs, IsControl, IsNoControl, BreaksOffAt, verb_wanted, IsWanted, LeadsUpTo, GoesOnBehind}
+use Rattle.pr_tmpl.specs.private.Quotes.{rule_of, Tail, tail, given, after_bytes, ReachesAsOwn, Stops, first_byte, CountsAs, IsControl, IsNoControl, BreaksOffAt, verb_wanted, IsWanted, LeadsUpTo, GoesOnBehind}
 use Rattle.pr_tmpl.proofs.Pieces.{pieces_at_end}
 use Rattle.pr_tmpl.proofs.WordWays.{takes_quote, lacks_quote}
 use Rattle.pr_tmpl.proofs.QuoteWays.{no_break, break_off, break_next, stopped, tail_of, reached_more, own_breaks}
 
 -- exits with the fault of a part
-pub fail_exit : {Y : Type 0} (P : Y → Type 0) (f g : Form Piece Rule Value) (text rest : List ℕ) (r : Result Y (Fault ℕ)) (e : Fault ℕ) → IsErrAnd r (λ y. y ≡ e)
+pub fail_exit : {Y : Type 0} (P : Y → Type 0) (f g : Form Piece Rule TemplateValue) (text rest : List ℕ) (r : Result Y (Fault ℕ)) (e : Fault ℕ) → IsErrAnd r (λ y. y ≡ e)
     → ((end : List Piece) → Runs production table g (pieces rest) (bad end) → Runs production table f (pieces text) (bad end)) → FailsAt g rest e → MatchResult r P (FailsAt f text)
 fail_exit P f g text rest (Ok x) e h k b = absurd h
 fail_exit P f g text rest (Err y) e h k b = step y (subst (FailsAt g rest) (sym h) b)
@@ -40,7 +40,7 @@ fail_exit P f g text rest (Err y) e h k b = step y (subst (FailsAt g rest) (sym 
     step (Bad at) j = k (pieces at.now) j
     step Memory j = tt
 
-pub break_exit : {Y : Type 0} (P : Y → Type 0) (f : Form Piece Rule Value) (text at : List ℕ) (r : Result Y (Fault ℕ)) (e : Fault ℕ) → IsErrAnd r (λ y. y ≡ e)
+pub break_exit : {Y : Type 0} (P : Y → Type 0) (f : Form Piece Rule TemplateValue) (text at : List ℕ) (r : Result Y (Fault ℕ)) (e : Fault ℕ) → IsErrAnd r (λ y. y ≡ e)
     → ((rest : List ℕ) → IsBreak at rest → Gives f text (bad (pieces rest))) → BreaksOffAt at e → MatchResult r P (FailsAt f text)
 break_exit P f text at (Ok x) e h k b = absurd h
 break_exit P f text at (Err y) e h k b = step y (subst (BreaksOffAt at) (sym h) b)
@@ -50,15 +50,15 @@ break_exit P f text at (Err y) e h k b = step y (subst (BreaksOffAt at) (sym h) 
     step Memory j = tt
 
 -- pieces that count
-counts_whole : (t : Piece) (k : Kind) (b : ℕ) → CountsAs t k b → is_some (broken_at t) ≡ false
+counts_whole : (t : Piece) (k : TemplateByte) (b : ℕ) → CountsAs t k b → is_some (broken_at t) ≡ false
 counts_whole (plain l c) k b h = refl
 counts_whole (escape l raw means) k b h = refl
 counts_whole broken k b h = absurd h
 counts_whole (part c) k b h = refl
 
-pub no_control_end : (text : List ℕ) (wanted : Kind) → text ≡ [] → IsNoControl text wanted
+pub no_control_end : (text : List ℕ) (wanted : TemplateByte) → text ≡ [] → IsNoControl text wanted
 no_control_end text wanted e = let i : pieces text ≡ [] = ap pieces e ∙ pieces_at_end in record {
-  whole = subst (λ (ps : List Piece). is_next {V = Value} table broken_off ps ≡ false) (sym i) refl;
+  whole = subst (λ (ps : List Piece). is_next {V = TemplateValue} table broken_off ps ≡ false) (sym i) refl;
   none = λ t ps byte h k. not_empty t ps (sym i ∙ h);
 }
   where
@@ -109,10 +109,10 @@ other_digit (escape _ raw means) h = refl
 other_digit _ h = refl
 
 -- a rule that wants one piece, or an escape that breaks off
-module _ (p : Piece → Option Value) (wanted : Kind) (value : ℕ → Value) (n : Rule) (c : Value → Value → Value) (f : Form Piece Rule Value) (is : production n ≡ either broken_off (pair c (token p) f))
+module _ (p : Piece → Option TemplateValue) (wanted : TemplateByte) (value : ℕ → TemplateValue) (n : Rule) (c : TemplateValue → TemplateValue → TemplateValue) (f : Form Piece Rule TemplateValue) (is : production n ≡ either broken_off (pair c (token p) f))
     (own : (t : Piece) (b : ℕ) → CountsAs t wanted b → p t ≡ Some (value b)) (other : (t : Piece) → ((b : ℕ) → CountsAs t wanted b → ⊥) → p t ≡ None) where
   sought : (text rest : List ℕ) (b : ℕ) → IsControl text wanted b rest → Carries production table (rule n) (pieces text) (c (value b)) f (pieces rest) (λ w. w)
-  sought text rest b h = carry_on carry_rule (subst (λ (g : Form Piece Rule Value). Carries production table g (pieces text) (c (value b)) f (pieces rest) (λ w. w)) (sym is)
+  sought text rest b h = carry_on carry_rule (subst (λ (g : Form Piece Rule TemplateValue). Carries production table g (pieces text) (c (value b)) f (pieces rest) (λ w. w)) (sym is)
       (carry_on (carry_right (no_break h.piece text (pieces rest) h.pieces_are (counts_whole h.piece wanted b h.counts)))
       (subst (λ (ps : List Piece). Carries production table (pair c (token p) f) ps (c (value b)) f (pieces rest) (λ w. w)) (sym h.pieces_are) (carry_second (run_token (own h.piece b h.counts))))))
 
@@ -121,10 +121,10 @@ module _ (p : Piece → Option Value) (wanted : Kind) (value : ℕ → Value) (n
   first_lacks (t ∷ ts) h = run_other (other t (λ b k. h t ts b refl k))
 
   not_sought : (text : List ℕ) → IsNoControl text wanted → Gives (rule n) text (bad (pieces text))
-  not_sought text h = run_rule (subst (λ (g : Form Piece Rule Value). Runs production table g (pieces text) (bad (pieces text))) (sym is) (run_right h.whole (run_first (first_lacks (pieces text) h.none))))
+  not_sought text h = run_rule (subst (λ (g : Form Piece Rule TemplateValue). Runs production table g (pieces text) (bad (pieces text))) (sym is) (run_right h.whole (run_first (first_lacks (pieces text) h.none))))
 
   sought_breaks : (text rest : List ℕ) → IsBreak text rest → Gives (rule n) text (bad (pieces rest))
-  sought_breaks text rest h = run_rule (subst (λ (g : Form Piece Rule Value). Runs production table g (pieces text) (bad (pieces rest))) (sym is) (run_left (break_next text rest h) (break_off text rest h)))
+  sought_breaks text rest h = run_rule (subst (λ (g : Form Piece Rule TemplateValue). Runs production table g (pieces text) (bad (pieces rest))) (sym is) (run_left (break_next text rest h) (break_off text rest h)))
 
 pub f_read : (text rest : List ℕ) (b : ℕ) → IsControl text SmallF b rest → Leads (rule LetterF) text (rule AfterVerb) rest
 f_read = sought f_at SmallF (λ b. mark) LetterF second_of (rule AfterVerb) refl own_f other_f
@@ -155,65 +155,65 @@ pub digit_breaks : (text rest : List ℕ) → IsBreak text rest → Gives (rule 
 digit_breaks = sought_breaks digit_at Digit (λ x. verb (Fixed (x - code "0"))) Places leading (rule LetterF) refl own_digit other_digit
 
 -- what a piece of some kind is to the tests
-abbrev percent_of : Kind → Option Value
+abbrev percent_of : TemplateByte → Option TemplateValue
 percent_of Percent = Some (bytes (codes "%"))
 percent_of _ = None
 
-abbrev point_of : Kind → Option Value
+abbrev point_of : TemplateByte → Option TemplateValue
 point_of Point = Some mark
 point_of _ = None
 
-plain_percent : (k : Kind) (b : ℕ) → percent_at (plain k b) ≡ percent_of k
+plain_percent : (k : TemplateByte) (b : ℕ) → percent_at (plain k b) ≡ percent_of k
 plain_percent Percent b = refl
 plain_percent _ b = refl
 
-escape_percent : (k : Kind) (raw means : List ℕ) → percent_at (escape k raw means) ≡ percent_of k
+escape_percent : (k : TemplateByte) (raw means : List ℕ) → percent_at (escape k raw means) ≡ percent_of k
 escape_percent Percent raw means = refl
 escape_percent _ raw means = refl
 
-plain_point : (k : Kind) (b : ℕ) → point_at (plain k b) ≡ point_of k
+plain_point : (k : TemplateByte) (b : ℕ) → point_at (plain k b) ≡ point_of k
 plain_point Point b = refl
 plain_point _ b = refl
 
-escape_point : (k : Kind) (raw means : List ℕ) → point_at (escape k raw means) ≡ point_of k
+escape_point : (k : TemplateByte) (raw means : List ℕ) → point_at (escape k raw means) ≡ point_of k
 escape_point Point raw means = refl
 escape_point _ raw means = refl
 
-counted_percent : (t : Piece) (k : Kind) (b : ℕ) → CountsAs t k b → percent_at t ≡ percent_of k
+counted_percent : (t : Piece) (k : TemplateByte) (b : ℕ) → CountsAs t k b → percent_at t ≡ percent_of k
 counted_percent (plain l c) k b h = plain_percent l c ∙ ap percent_of (sym h.0)
 counted_percent (escape l raw means) k b h = escape_percent l raw means ∙ ap percent_of (sym h.0)
 counted_percent broken k b h = absurd h
 counted_percent (part c) k b h = absurd h
 
-counted_point : (t : Piece) (k : Kind) (b : ℕ) → CountsAs t k b → point_at t ≡ point_of k
+counted_point : (t : Piece) (k : TemplateByte) (b : ℕ) → CountsAs t k b → point_at t ≡ point_of k
 counted_point (plain l c) k b h = plain_point l c ∙ ap point_of (sym h.0)
 counted_point (escape l raw means) k b h = escape_point l raw means ∙ ap point_of (sym h.0)
 counted_point broken k b h = absurd h
 counted_point (part c) k b h = absurd h
 
-counted_verb : (t : Piece) (k : Kind) (b : ℕ) → CountsAs t k b → verb_at t ≡ verb_of k
+counted_verb : (t : Piece) (k : TemplateByte) (b : ℕ) → CountsAs t k b → verb_at t ≡ verb_of k
 counted_verb (plain l c) k b h = ap verb_of (sym h.0)
 counted_verb (escape l raw means) k b h = ap verb_of (sym h.0)
 counted_verb broken k b h = absurd h
 counted_verb (part c) k b h = absurd h
 
 -- what stands after a `%`
-abbrev after_second : Form Piece Rule Value
+abbrev after_second : Form Piece Rule TemplateValue
 after_second = pair before_verb (token percent_at) (rule Before)
 
-abbrev with_verb : Form Piece Rule Value
+abbrev with_verb : Form Piece Rule TemplateValue
 with_verb = pair leading (token verb_at) (rule AfterVerb)
 
-abbrev with_point : Form Piece Rule Value
+abbrev with_point : Form Piece Rule TemplateValue
 with_point = pair second_of (token point_at) (rule Places)
 
-no_next : (c : Value → Value → Value) (p : Piece → Option Value) (f : Form Piece Rule Value) (t : Piece) (us : List Piece) → p t ≡ None → is_next {V = Value} table (pair c (token p) f) (t ∷ us) ≡ false
+no_next : (c : TemplateValue → TemplateValue → TemplateValue) (p : Piece → Option TemplateValue) (f : Form Piece Rule TemplateValue) (t : Piece) (us : List Piece) → p t ≡ None → is_next {V = TemplateValue} table (pair c (token p) f) (t ∷ us) ≡ false
 no_next c p f t us e = next_pair table c (token p) f (t ∷ us) false refl (ap is_some e)
 
-a_next : (c : Value → Value → Value) (p : Piece → Option Value) (f : Form Piece Rule Value) (t : Piece) (us : List Piece) (v : Value) → p t ≡ Some v → is_next {V = Value} table (pair c (token p) f) (t ∷ us) ≡ true
+a_next : (c : TemplateValue → TemplateValue → TemplateValue) (p : Piece → Option TemplateValue) (f : Form Piece Rule TemplateValue) (t : Piece) (us : List Piece) (v : TemplateValue) → p t ≡ Some v → is_next {V = TemplateValue} table (pair c (token p) f) (t ∷ us) ≡ true
 a_next c p f t us v e = next_pair table c (token p) f (t ∷ us) true refl (ap is_some e)
 
-whole_next : (t : Piece) (us : List Piece) → is_some (broken_at t) ≡ false → is_next {V = Value} table broken_off (t ∷ us) ≡ false
+whole_next : (t : Piece) (us : List Piece) → is_some (broken_at t) ≡ false → is_next {V = TemplateValue} table broken_off (t ∷ us) ≡ false
 whole_next t us h = next_pair table second_of (token broken_at) (rule Breaking) (t ∷ us) false refl h
 
 percent_wanted : (t : Piece) (us : List Piece) → percent_at t ≡ Some (bytes (codes "%")) → Carries production table (rule WantedRule) (t ∷ us) (before_verb (bytes (codes "%"))) (rule Before) us (λ v. v)
@@ -230,56 +230,56 @@ point_wanted t us p w v e = carry_on carry_rule (carry_on (carry_right (no_next 
 none_wanted : (t : Piece) (us : List Piece) → percent_at t ≡ None → is_some (broken_at t) ≡ false → verb_at t ≡ None → point_at t ≡ None → Runs production table (rule WantedRule) (t ∷ us) (bad (t ∷ us))
 none_wanted t us p w v e = run_rule (run_right (no_next before_verb percent_at (rule Before) t us p) (run_right (whole_next t us w) (run_right (no_next leading verb_at (rule AfterVerb) t us v) (run_first (run_other e)))))
 
-pub wanted_percent : (text rest : List ℕ) (k : Kind) (b : ℕ) → IsControl text k b rest → k ≡ Percent → IsWanted text AnotherPercent rest
+pub wanted_percent : (text rest : List ℕ) (k : TemplateByte) (b : ℕ) → IsControl text k b rest → k ≡ Percent → IsWanted text AnotherPercent rest
 wanted_percent text rest k b h e = subst (λ (ps : List Piece). Carries production table (rule WantedRule) ps (before_verb (bytes (codes "%"))) (rule Before) (pieces rest) (λ v. v)) (sym h.pieces_are)
     (percent_wanted h.piece (pieces rest) (counted_percent h.piece k b h.counts ∙ ap percent_of e))
 
-wanted_verb : (text rest : List ℕ) (k l : Kind) (b : ℕ) (v : Verb) → IsControl text k b rest → k ≡ l → percent_of l ≡ None → verb_of l ≡ Some (verb v) → Hands (rule WantedRule) text (leading (verb v)) (rule AfterVerb) rest (λ w. w)
+wanted_verb : (text rest : List ℕ) (k l : TemplateByte) (b : ℕ) (v : Verb) → IsControl text k b rest → k ≡ l → percent_of l ≡ None → verb_of l ≡ Some (verb v) → Hands (rule WantedRule) text (leading (verb v)) (rule AfterVerb) rest (λ w. w)
 wanted_verb text rest k l b v h e p i = subst (λ (ps : List Piece). Carries production table (rule WantedRule) ps (leading (verb v)) (rule AfterVerb) (pieces rest) (λ w. w)) (sym h.pieces_are)
     (verb_is_wanted h.piece (pieces rest) v (counted_percent h.piece k b h.counts ∙ (ap percent_of e ∙ p)) (counts_whole h.piece k b h.counts) (counted_verb h.piece k b h.counts ∙ (ap verb_of e ∙ i)))
 
-pub wanted_f : (text rest : List ℕ) (k : Kind) (b : ℕ) → IsControl text k b rest → k ≡ SmallF → IsWanted text (WantedFixed 6) rest
+pub wanted_f : (text rest : List ℕ) (k : TemplateByte) (b : ℕ) → IsControl text k b rest → k ≡ SmallF → IsWanted text (WantedFixed 6) rest
 wanted_f text rest k b h e = wanted_verb text rest k SmallF b (Fixed 6) h e refl refl
 
-wanted_v : (text rest : List ℕ) (k : Kind) (b : ℕ) → IsControl text k b rest → k ≡ SmallV → IsWanted text WantedPlain rest
+wanted_v : (text rest : List ℕ) (k : TemplateByte) (b : ℕ) → IsControl text k b rest → k ≡ SmallV → IsWanted text WantedPlain rest
 wanted_v text rest k b h e = wanted_verb text rest k SmallV b PlainVerb h e refl refl
 
-wanted_s : (text rest : List ℕ) (k : Kind) (b : ℕ) → IsControl text k b rest → k ≡ SmallS → IsWanted text WantedPlain rest
+wanted_s : (text rest : List ℕ) (k : TemplateByte) (b : ℕ) → IsControl text k b rest → k ≡ SmallS → IsWanted text WantedPlain rest
 wanted_s text rest k b h e = wanted_verb text rest k SmallS b PlainVerb h e refl refl
 
-pub wanted_word : (text rest : List ℕ) (k : Kind) (b : ℕ) → IsControl text k b rest → (k ≡ SmallV) ⊎ (k ≡ SmallS) → IsWanted text WantedPlain rest
+pub wanted_word : (text rest : List ℕ) (k : TemplateByte) (b : ℕ) → IsControl text k b rest → (k ≡ SmallV) ⊎ (k ≡ SmallS) → IsWanted text WantedPlain rest
 wanted_word text rest k b h e = elim e [ inl v ↦ wanted_v text rest k b h v | inr s ↦ wanted_s text rest k b h s ]
 
-pub wanted_point : (text rest : List ℕ) (k : Kind) (b : ℕ) → IsControl text k b rest → k ≡ Point → Leads (rule WantedRule) text (rule Places) rest
+pub wanted_point : (text rest : List ℕ) (k : TemplateByte) (b : ℕ) → IsControl text k b rest → k ≡ Point → Leads (rule WantedRule) text (rule Places) rest
 wanted_point text rest k b h e = subst (λ (ps : List Piece). Carries production table (rule WantedRule) ps (λ w. w) (rule Places) (pieces rest) (λ w. w)) (sym h.pieces_are)
     (point_wanted h.piece (pieces rest) (counted_percent h.piece k b h.counts ∙ ap percent_of e) (counts_whole h.piece k b h.counts) (counted_verb h.piece k b h.counts ∙ ap verb_of e) (counted_point h.piece k b h.counts ∙ ap point_of e))
 
-pub wanted_places : (text at rest : List ℕ) (k : Kind) (b n : ℕ) → IsControl text k b at → k ≡ Point → Hands (rule Places) at (leading (verb (Fixed n))) (rule AfterVerb) rest (λ v. v) → IsWanted text (WantedFixed n) rest
+pub wanted_places : (text at rest : List ℕ) (k : TemplateByte) (b n : ℕ) → IsControl text k b at → k ≡ Point → Hands (rule Places) at (leading (verb (Fixed n))) (rule AfterVerb) rest (λ v. v) → IsWanted text (WantedFixed n) rest
 wanted_places text at rest k b n h e k2 = carry_on (wanted_point text at k b h e) k2
 
-not_percent : (k : Kind) → (k ≡ Percent → ⊥) → percent_of k ≡ None
+not_percent : (k : TemplateByte) → (k ≡ Percent → ⊥) → percent_of k ≡ None
 not_percent Percent h = absurd (h refl)
 not_percent _ h = refl
 
-not_point : (k : Kind) → (k ≡ Point → ⊥) → point_of k ≡ None
+not_point : (k : TemplateByte) → (k ≡ Point → ⊥) → point_of k ≡ None
 not_point Point h = absurd (h refl)
 not_point _ h = refl
 
-not_verb : (k : Kind) → (k ≡ SmallF → ⊥) → (k ≡ SmallV → ⊥) → (k ≡ SmallS → ⊥) → verb_of k ≡ None
+not_verb : (k : TemplateByte) → (k ≡ SmallF → ⊥) → (k ≡ SmallV → ⊥) → (k ≡ SmallS → ⊥) → verb_of k ≡ None
 not_verb SmallF f v s = absurd (f refl)
 not_verb SmallV f v s = absurd (v refl)
 not_verb SmallS f v s = absurd (s refl)
 not_verb _ f v s = refl
 
-pub unwanted : (text rest : List ℕ) (k : Kind) (b : ℕ) → IsControl text k b rest → (k ≡ Percent → ⊥) → (k ≡ SmallF → ⊥) → (k ≡ SmallV → ⊥) → (k ≡ SmallS → ⊥) → (k ≡ Point → ⊥) → Gives (rule WantedRule) text (bad (pieces text))
+pub unwanted : (text rest : List ℕ) (k : TemplateByte) (b : ℕ) → IsControl text k b rest → (k ≡ Percent → ⊥) → (k ≡ SmallF → ⊥) → (k ≡ SmallV → ⊥) → (k ≡ SmallS → ⊥) → (k ≡ Point → ⊥) → Gives (rule WantedRule) text (bad (pieces text))
 unwanted text rest k b h p f v s d = subst (λ (ps : List Piece). Runs production table (rule WantedRule) ps (bad ps)) (sym h.pieces_are)
     (none_wanted h.piece (pieces rest) (counted_percent h.piece k b h.counts ∙ not_percent k p) (counts_whole h.piece k b h.counts) (counted_verb h.piece k b h.counts ∙ not_verb k f v s) (counted_point h.piece k b h.counts ∙ not_point k d))
 
 pub unwanted_end : (text : List ℕ) → text ≡ [] → Gives (rule WantedRule) text (bad (pieces text))
 unwanted_end text e = subst (λ (ps : List Piece). Runs production table (rule WantedRule) ps (bad ps)) (sym (ap pieces e ∙ pieces_at_end)) (run_rule (run_right refl (run_right refl (run_right refl (run_first run_end)))))
 
-break_is_no_percent : (text rest : List ℕ) → IsBreak text rest → is_next {V = Value} table after_second (pieces text) ≡ false
-break_is_no_percent text rest h = subst (λ (ps : List Piece). is_next {V = Value} table after_second ps ≡ false) (sym h.pieces_are) refl
+break_is_no_percent : (text rest : List ℕ) → IsBreak text rest → is_next {V = TemplateValue} table after_second (pieces text) ≡ false
+break_is_no_percent text rest h = subst (λ (ps : List Piece). is_next {V = TemplateValue} table after_second ps ≡ false) (sym h.pieces_are) refl
 
 pub wanted_breaks : (text rest : List ℕ) → IsBreak text rest → Gives (rule WantedRule) text (bad (pieces rest))
 wanted_breaks text rest h = run_rule (run_right (break_is_no_percent text rest h) (run_left (break_next text rest h) (break_off text rest h)))
@@ -322,7 +322,7 @@ verb_reached text rest next bs cs new (WantedFixed p) r h n e = subst (λ (xs : 
 verb_reached text rest next bs cs new WantedPlain r h n e = subst (λ (xs : List ℕ). Hands (rule Before) text (format xs PlainVerb) (rule AfterVerb) next bytes) (sym e) (carry_with (λ es. tail cs PlainVerb es) r h)
 
 -- the text after a verb
-abbrev second_form : Form Piece Rule Value
+abbrev second_form : Form Piece Rule TemplateValue
 second_form = pair second_of (token percent_at) (rule SecondPercent)
 
 behind_percent : (at after : List ℕ) (b : ℕ) → Stops Behind at → IsControl at Percent b after → Leads (rule AfterVerb) at (rule SecondPercent) after
@@ -339,7 +339,7 @@ goes_on text at after next bs b r s h k = reached_more Behind text at next bs (c
 pub second_fails : (text at after bs : List ℕ) (b : ℕ) → ReachesAsOwn Behind text bs at → Stops Behind at → IsControl at Percent b after → (end : List Piece) → Runs production table (rule SecondPercent) (pieces after) (bad end) → Runs production table (rule AfterVerb) (pieces text) (bad end)
 second_fails text at after bs b r s h end k = r.fails end ((behind_percent at after b s h).fails end k)
 
-no_second_next : (ps : List Piece) → ((t : Piece) (qs : List Piece) (b : ℕ) → ps ≡ t ∷ qs → CountsAs t Percent b → ⊥) → is_next {V = Value} table second_form ps ≡ false
+no_second_next : (ps : List Piece) → ((t : Piece) (qs : List Piece) (b : ℕ) → ps ≡ t ∷ qs → CountsAs t Percent b → ⊥) → is_next {V = TemplateValue} table second_form ps ≡ false
 no_second_next [] h = refl
 no_second_next (t ∷ ts) h = no_next second_of percent_at (rule SecondPercent) t ts (other_percent t (λ b k. h t ts b refl k))
 

@@ -2,22 +2,22 @@
 use Rattle.std.proofs.Common.{◌≡◌, ◌<◌, ◌≤◌, ℕ, zero, suc, ◌-◌, true, false, Option, Some, None, List, [], ◌∷◌, ◌++◌, length, drop, refl, sym, ap, subst, ◌∙◌, arith, ◌==◌, nat_le, length-append, length-take, min}
 use Rattle.std.proofs.lemmas.Bool.Decides.{nat_tests}
 use Rattle.std.specs.Prelude.{codes}
-use Rattle.pr_labels.specs.pr_strings.StringAnswer.{string_of, bad_string_place}
-use Rattle.pr_labels.specs.pr_strings.Strings.{IsString as IsStringText, IsBadPlace, production, seen, Text, content}
-use Rattle.pr_labels.specs.pr_strings.Language.{text_strings}
-use Rattle.pr_labels.proofs.StringsStringPublic.{unread}
-use Rattle.pr_labels.proofs.StringsStringTable.{known as string_known}
-use Rattle.pr_forms.specs.Language.{Gives as StringGives}
-use Rattle.pr_forms.specs.Run.{good, bad}
-use Rattle.pr_forms.specs.Form.{rule}
-use Rattle.pr_forms.proofs.Places.{one_place, only_reading}
-use Rattle.pr_labels.proofs.StringsStringAnswers.{string_of_reading, reading_of_string, place_of_text}
-use Rattle.pr_labels.specs.pr_strings.StringTable.{table as string_table}
-use Rattle.pr_tmpl.specs.declared.kind.Kind.{Kind}
+use Rattle.pr_labels.specs.pr_words.StringAnswer.{string_of, bad_string_place}
+use Rattle.pr_labels.specs.pr_words.Strings.{IsString as IsStringText, IsBadPlace, production, seen, Text, content}
+use Rattle.pr_labels.specs.pr_words.private.Language.{text_strings}
+use Rattle.pr_labels.proofs.WordsStringPublic.{unread}
+use Rattle.pr_labels.proofs.WordsStringTable.{known as string_known}
+use Rattle.pr_labels.specs.pr_forms.Language.{Gives as StringGives}
+use Rattle.pr_labels.specs.pr_forms.Run.{good, bad}
+use Rattle.pr_labels.specs.pr_forms.Form.{rule}
+use Rattle.pr_labels.proofs.FormsPlaces.{one_place, only_reading}
+use Rattle.pr_labels.proofs.WordsStringAnswers.{string_of_reading, reading_of_string, place_of_text}
+use Rattle.pr_labels.specs.pr_words.StringTable.{table as string_table}
+use Rattle.pr_tmpl.specs.declared.kind.TemplateByte.{TemplateByte}
 use Rattle.pr_tmpl.specs.Pieces.{Piece, plain, kind_of, kind_of_all, escape_bytes, escape_quoted, escape_parts, escaped, pieces}
 use Rattle.pr_tmpl.specs.declared.letter.Letter.{Letter}
 use Rattle.pr_tmpl.specs.declared.letter.Letter.TheVariants.{Plain, Escape, Broken}
-use Rattle.pr_tmpl.specs.Letters.{FollowsBackslash, IsLetter, IsPlain, NoPlain, no_piece, an_escape, a_break, HasNoPlain, IsAscii, HasNoAscii, IsNoString, IsEscape, IsBreak}
+use Rattle.pr_tmpl.specs.private.Letters.{FollowsBackslash, IsLetter, IsPlain, NoPlain, no_piece, an_escape, a_break, HasNoPlain, IsAscii, HasNoAscii, IsNoString, IsEscape, IsBreak}
 use Rattle.pr_tmpl.proofs.Pieces.{pieces_at_end, pieces_at_plain, pieces_at_backslash, escape_front, parts_front}
 
 yes_if : (b : ℕ) → b ≡ 92 → (b == 92) ≡ true
@@ -39,9 +39,9 @@ pub backslashed : (text rest : List ℕ) (b : ℕ) → text ≡ b ∷ rest → b
 backslashed text rest b e h = subst NoPlain (sym (ap pieces e ∙ pieces_at_backslash b rest (yes_if b h))) (escape_next pieces (escape_bytes rest) rest (string_of (escape_quoted (escape_bytes rest))))
 
 -- a byte that begins no escape
-pub plainly : (text rest : List ℕ) (b : ℕ) (k : Kind) → text ≡ b ∷ rest → (b ≡ 92 → ⊥) → k ≡ kind_of b → IsPlain text k b rest
+pub plainly : (text rest : List ℕ) (b : ℕ) (k : TemplateByte) → text ≡ b ∷ rest → (b ≡ 92 → ⊥) → k ≡ kind_of b → IsPlain text k b rest
 plainly text rest b k e h i = record {
-  pieces_are = ap pieces e ∙ (pieces_at_plain b rest (no_if b h) ∙ ap (λ (x : Kind). plain x b ∷ pieces rest) (sym i));
+  pieces_are = ap pieces e ∙ (pieces_at_plain b rest (no_if b h) ∙ ap (λ (x : TemplateByte). plain x b ∷ pieces rest) (sym i));
   bytes_are = e;
   kind_is = i;
 }
@@ -95,7 +95,7 @@ pub no_string : (text : List ℕ) → ((bytes : List ℕ) → IsStringText text 
 no_string text h = not_some (string_of text) (λ bytes e. h bytes (reading_of_string text bytes e))
 
 -- what stands after a backslash is a letter
-pub an_escape_stands : (text rest after : List ℕ) (b : ℕ) (k : Kind) (means : List ℕ) → text ≡ b ∷ rest → b ≡ 92
+pub an_escape_stands : (text rest after : List ℕ) (b : ℕ) (k : TemplateByte) (means : List ℕ) → text ≡ b ∷ rest → b ≡ 92
     → string_of (escape_quoted (escape_bytes rest)) ≡ Some means → k ≡ kind_of_all means → after ≡ drop (length (escape_bytes rest)) rest → IsEscape text k means after
 an_escape_stands text rest after b k means e h s i d = record {
   raw = codes "\\" ++ escape_bytes rest;
@@ -131,7 +131,7 @@ read_before text bytes rest q h = no_string text (λ others d. not_ended rest h 
 taken_is : (text q : List ℕ) (n : ℕ) → q ≡ escape_quoted (escape_bytes text) → n ≡ length q → n - 3 ≡ length (escape_bytes text)
 taken_is text q n e h = let k = length-append (escape_bytes text) (codes "\"") in let l = ap length e in omega (arith, k, l, h)
 
-pub follows_escape : (text q after means : List ℕ) (k : Kind) (n : ℕ) → q ≡ escape_quoted (escape_bytes text) → n ≡ length q → string_of q ≡ Some means → k ≡ kind_of_all means → after ≡ drop (n - 3) text
+pub follows_escape : (text q after means : List ℕ) (k : TemplateByte) (n : ℕ) → q ≡ escape_quoted (escape_bytes text) → n ≡ length q → string_of q ≡ Some means → k ≡ kind_of_all means → after ≡ drop (n - 3) text
     → (string_of (escape_quoted (escape_bytes text)) ≡ Some means) × (k ≡ kind_of_all means) × (after ≡ drop (length (escape_bytes text)) text)
 follows_escape text q after means k n e h s i d = (subst (λ (x : List ℕ). string_of x ≡ Some means) e s, i, d ∙ ap (λ (m : ℕ). drop m text) (taken_is text q n e h))
 

@@ -11,3 +11,6 @@ pub mod FormatWays
 pub mod CallWays
 pub mod TextWays
 pub mod TextKept
+pub mod Written
+pub mod Tens
+pub mod ShownText

@@ -3,7 +3,7 @@ use Rattle.std.proofs.Common.{◌≡◌, ℕ, zero, suc, ◌≤◌, Bool, true, 
 use Rattle.std.proofs.lemmas.Bool.Decides.{nat_tests}
 use Rattle.std.specs.Prelude.{codes, if◌then◌else◌}
 use Prim.Native.Char.{code}
-use Rattle.pr_labels.specs.pr_strings.StringAnswer.{string_of}
+use Rattle.pr_labels.specs.pr_words.StringAnswer.{string_of}
 use Rattle.pr_tmpl.specs.Pieces.{Piece, plain, escape, broken, part, raw_text, kind_of, kind_of_all, ascii_front, escape_length, escape_bytes, escape_quoted, escape_parts, escaped, at_backslash, pieces_in, pieces}
 
 same_if : (a b : ℕ) → (a == b) ≡ true → a ≡ b

@@ -2,30 +2,30 @@
 use Rattle.std.proofs.Common.{◌≡◌, ℕ, Bool, true, false, Option, Some, None, List, [], ◌∷◌, ◌++◌, map, refl, sym, ap, subst, ◌∙◌, append_assoc, append-nil, ◌==◌}
 use Rattle.std.specs.Prelude.{is_some}
 use Prim.Native.Char.{code}
-use Rattle.pr_labels.specs.pr_strings.StringAnswer.{string_of}
-use Rattle.pr_forms.specs.Form.{Form, token, pair, either, rule, nothing}
-use Rattle.pr_forms.specs.Run.{Runs, Outcome, good, bad, run_token, run_other, run_end, run_pair, run_first, run_second, run_left, run_right, run_rule, run_nothing}
-use Rattle.pr_forms.specs.Table.{is_next}
-use Rattle.pr_forms.specs.Carries.{Carries}
-use Rattle.pr_forms.proofs.Steps.{next_pair}
-use Rattle.pr_forms.proofs.Carrying.{carry_with, carry_made}
-use Rattle.pr_tmpl.specs.declared.kind.Kind.{Kind}
-use Rattle.pr_tmpl.specs.declared.kind.Kind.TheVariants.{Quote, Feed, Percent}
+use Rattle.pr_labels.specs.pr_words.StringAnswer.{string_of}
+use Rattle.pr_labels.specs.pr_forms.Form.{Form, token, pair, either, rule, nothing}
+use Rattle.pr_labels.specs.pr_forms.Run.{Runs, ReaderOutcome, good, bad, run_token, run_other, run_end, run_pair, run_first, run_second, run_left, run_right, run_rule, run_nothing}
+use Rattle.pr_labels.specs.pr_forms.Table.{is_next}
+use Rattle.pr_labels.specs.pr_forms.Carries.{Carries}
+use Rattle.pr_labels.proofs.FormsSteps.{next_pair}
+use Rattle.pr_labels.proofs.FormsCarrying.{carry_with, carry_made}
+use Rattle.pr_tmpl.specs.declared.kind.TemplateByte.{TemplateByte}
+use Rattle.pr_tmpl.specs.declared.kind.TemplateByte.TheVariants.{Quote, Feed, Percent}
 use Rattle.pr_tmpl.specs.declared.letter.Letter.{Letter}
 use Rattle.pr_tmpl.specs.declared.letter.Letter.TheVariants.{Plain, Escape, Broken}
 use Rattle.pr_tmpl.specs.declared.quoted.Within.{Within}
 use Rattle.pr_tmpl.specs.declared.quoted.Within.TheVariants.{Content as InContent, Before as InFront, After as Behind}
 use Rattle.pr_tmpl.specs.Pieces.{Piece, plain, escape, part, pieces, escaped, escape_bytes, escape_quoted}
-use Rattle.pr_tmpl.specs.Letters.{IsBreak, IsLetter, IsSign, IsNoSign}
-use Rattle.pr_tmpl.specs.Reader.{Gives}
+use Rattle.pr_tmpl.specs.private.Letters.{IsBreak, IsLetter, IsSign, IsNoSign}
+use Rattle.pr_tmpl.specs.private.Reader.{Gives}
 use Rattle.pr_tmpl.proofs.Pieces.{pieces_at_end, pieces_at_plain, pieces_at_backslash}
 use Rattle.pr_tmpl.proofs.WordWays.{takes_quote, lacks_quote}
 use Rattle.pr_tmpl.specs.declared.template.Verb.TheVariants.{Plain as PlainVerb}
-use Rattle.pr_tmpl.specs.TemplateText.{Rule, Value, bytes, format, Content, Before, AfterVerb, Breaking, production, content_at, text_at, broken_at, broken_off, bytes_joined, before_verb, second_of, quote_at, percent_at, Wanted, SecondPercent}
+use Rattle.pr_tmpl.specs.TemplateText.{Rule, TemplateValue, bytes, format, Content, Before, AfterVerb, Breaking, production, content_at, text_at, broken_at, broken_off, bytes_joined, before_verb, second_of, quote_at, percent_at, Wanted, SecondPercent}
 use Rattle.pr_tmpl.specs.TemplateTable.{table}
-use Rattle.pr_tmpl.specs.Quotes.{rule_of, own_at, is_own, means_of, Tail, tail, given, after_bytes, ReachesAsOwn, Stops}
+use Rattle.pr_tmpl.specs.private.Quotes.{rule_of, own_at, is_own, means_of, Tail, tail, given, after_bytes, ReachesAsOwn, Stops}
 
-own_plain : (w : Within) (k : Kind) (b : ℕ) → is_own w (Plain k b) ≡ true → own_at w (plain k b) ≡ Some (bytes (b ∷ []))
+own_plain : (w : Within) (k : TemplateByte) (b : ℕ) → is_own w (Plain k b) ≡ true → own_at w (plain k b) ≡ Some (bytes (b ∷ []))
 own_plain InContent Quote b e = absurd (cc)
 own_plain InContent Feed b e = absurd (cc)
 own_plain InContent _ b e = refl
@@ -38,14 +38,14 @@ own_plain Behind Feed b e = absurd (cc)
 own_plain Behind Percent b e = absurd (cc)
 own_plain Behind _ b e = refl
 
-own_escape : (w : Within) (k : Kind) (raw : List ℕ) (means : _) → is_own w (Escape k means) ≡ true → own_at w (escape k raw means.items) ≡ Some (bytes means.items)
+own_escape : (w : Within) (k : TemplateByte) (raw : List ℕ) (means : _) → is_own w (Escape k means) ≡ true → own_at w (escape k raw means.items) ≡ Some (bytes means.items)
 own_escape InContent _ raw means e = refl
 own_escape InFront Percent raw means e = absurd (cc)
 own_escape InFront _ raw means e = refl
 own_escape Behind Percent raw means e = absurd (cc)
 own_escape Behind _ raw means e = refl
 
-none_plain : (w : Within) (k : Kind) (b : ℕ) → is_own w (Plain k b) ≡ false → own_at w (plain k b) ≡ None
+none_plain : (w : Within) (k : TemplateByte) (b : ℕ) → is_own w (Plain k b) ≡ false → own_at w (plain k b) ≡ None
 none_plain InContent Quote b e = refl
 none_plain InContent Feed b e = refl
 none_plain InContent _ b e = absurd (cc)
@@ -58,18 +58,18 @@ none_plain Behind Feed b e = refl
 none_plain Behind Percent b e = refl
 none_plain Behind _ b e = absurd (cc)
 
-none_escape : (w : Within) (k : Kind) (raw : List ℕ) (means : _) → is_own w (Escape k means) ≡ false → own_at w (escape k raw means.items) ≡ None
+none_escape : (w : Within) (k : TemplateByte) (raw : List ℕ) (means : _) → is_own w (Escape k means) ≡ false → own_at w (escape k raw means.items) ≡ None
 none_escape InContent _ raw means e = absurd (cc)
 none_escape InFront Percent raw means e = refl
 none_escape InFront _ raw means e = absurd (cc)
 none_escape Behind Percent raw means e = refl
 none_escape Behind _ raw means e = absurd (cc)
 
-next_of : (w : Within) (t : Piece) (text : List ℕ) (us : List Piece) → pieces text ≡ t ∷ us → own_at w t ≡ None → is_next {V = Value} table (token (own_at w)) (pieces text) ≡ false
-next_of w t text us e h = subst (λ (ps : List Piece). is_next {V = Value} table (token (own_at w)) ps ≡ false) (sym e) (ap is_some h)
+next_of : (w : Within) (t : Piece) (text : List ℕ) (us : List Piece) → pieces text ≡ t ∷ us → own_at w t ≡ None → is_next {V = TemplateValue} table (token (own_at w)) (pieces text) ≡ false
+next_of w t text us e h = subst (λ (ps : List Piece). is_next {V = TemplateValue} table (token (own_at w)) ps ≡ false) (sym e) (ap is_some h)
 
-pub no_break : (t : Piece) (text : List ℕ) (us : List Piece) → pieces text ≡ t ∷ us → is_some (broken_at t) ≡ false → is_next {V = Value} table broken_off (pieces text) ≡ false
-no_break t text us e h = subst (λ (ps : List Piece). is_next {V = Value} table broken_off ps ≡ false) (sym e) (next_pair table second_of (token broken_at) (rule Breaking) (t ∷ us) false refl h)
+pub no_break : (t : Piece) (text : List ℕ) (us : List Piece) → pieces text ≡ t ∷ us → is_some (broken_at t) ≡ false → is_next {V = TemplateValue} table broken_off (pieces text) ≡ false
+no_break t text us e h = subst (λ (ps : List Piece). is_next {V = TemplateValue} table broken_off ps ≡ false) (sym e) (next_pair table second_of (token broken_at) (rule Breaking) (t ∷ us) false refl h)
 
 -- a piece that stands for itself
 own_read : (w : Within) (t : Piece) (us : List Piece) (means : List ℕ) → own_at w t ≡ Some (bytes means) → (x : Tail) (end : List Piece) → Runs production table (rule (rule_of w)) us (good (given w x) end) → Runs production table (rule (rule_of w)) (t ∷ us) (good (given w (after_bytes means x)) end)
@@ -98,8 +98,8 @@ own_none w Broken text rest h e n = absurd (n refl)
 
 pub own_none_end : (w : Within) (text : List ℕ) → text ≡ [] → Stops w text
 own_none_end w text e = let i : pieces text ≡ [] = ap pieces e ∙ pieces_at_end in record {
-  own = subst (λ (ps : List Piece). is_next {V = Value} table (token (own_at w)) ps ≡ false) (sym i) refl;
-  whole = subst (λ (ps : List Piece). is_next {V = Value} table broken_off ps ≡ false) (sym i) refl;
+  own = subst (λ (ps : List Piece). is_next {V = TemplateValue} table (token (own_at w)) ps ≡ false) (sym i) refl;
+  whole = subst (λ (ps : List Piece). is_next {V = TemplateValue} table broken_off ps ≡ false) (sym i) refl;
 }
 
 -- an escape that breaks off
@@ -121,26 +121,26 @@ no_part (b ∷ bs) = by_test (b == code "\\") refl where
 pub break_off : (text rest : List ℕ) → IsBreak text rest → Gives broken_off text (bad (pieces rest))
 break_off text rest h = subst (λ (ps : List Piece). Runs production table broken_off ps (bad (pieces rest))) (sym h.pieces_are) (run_second (run_token refl) (breaking_fails h.parts (pieces rest) (no_part rest)))
 
-pub break_next : (text rest : List ℕ) → IsBreak text rest → is_next {V = Value} table broken_off (pieces text) ≡ true
-break_next text rest h = subst (λ (ps : List Piece). is_next {V = Value} table broken_off ps ≡ true) (sym h.pieces_are) refl
+pub break_next : (text rest : List ℕ) → IsBreak text rest → is_next {V = TemplateValue} table broken_off (pieces text) ≡ true
+break_next text rest h = subst (λ (ps : List Piece). is_next {V = TemplateValue} table broken_off ps ≡ true) (sym h.pieces_are) refl
 
-none_at_break : (w : Within) (text rest : List ℕ) → IsBreak text rest → is_next {V = Value} table (token (own_at w)) (pieces text) ≡ false
-none_at_break InContent text rest h = subst (λ (ps : List Piece). is_next {V = Value} table (token content_at) ps ≡ false) (sym h.pieces_are) refl
-none_at_break InFront text rest h = subst (λ (ps : List Piece). is_next {V = Value} table (token text_at) ps ≡ false) (sym h.pieces_are) refl
-none_at_break Behind text rest h = subst (λ (ps : List Piece). is_next {V = Value} table (token text_at) ps ≡ false) (sym h.pieces_are) refl
+none_at_break : (w : Within) (text rest : List ℕ) → IsBreak text rest → is_next {V = TemplateValue} table (token (own_at w)) (pieces text) ≡ false
+none_at_break InContent text rest h = subst (λ (ps : List Piece). is_next {V = TemplateValue} table (token content_at) ps ≡ false) (sym h.pieces_are) refl
+none_at_break InFront text rest h = subst (λ (ps : List Piece). is_next {V = TemplateValue} table (token text_at) ps ≡ false) (sym h.pieces_are) refl
+none_at_break Behind text rest h = subst (λ (ps : List Piece). is_next {V = TemplateValue} table (token text_at) ps ≡ false) (sym h.pieces_are) refl
 
 -- what stands after what stands for itself
-abbrev pub tail_of : Within → Form Piece Rule Value
+abbrev pub tail_of : Within → Form Piece Rule TemplateValue
 tail_of InContent = pair second_of (token quote_at) (nothing (bytes []))
 tail_of InFront = pair second_of (token percent_at) (rule Wanted)
 tail_of Behind = either (pair second_of (token percent_at) (rule SecondPercent)) (pair second_of (token quote_at) (nothing (bytes [])))
 
-past_own : (w : Within) (text : List ℕ) (o : Outcome Piece Value) → is_next {V = Value} table (token (own_at w)) (pieces text) ≡ false → Runs production table (either broken_off (tail_of w)) (pieces text) o → Gives (rule (rule_of w)) text o
+past_own : (w : Within) (text : List ℕ) (o : ReaderOutcome Piece TemplateValue) → is_next {V = TemplateValue} table (token (own_at w)) (pieces text) ≡ false → Runs production table (either broken_off (tail_of w)) (pieces text) o → Gives (rule (rule_of w)) text o
 past_own InContent text o e k = run_rule (run_right (next_pair table bytes_joined (token content_at) (rule Content) (pieces text) false refl e) k)
 past_own InFront text o e k = run_rule (run_right (next_pair table before_verb (token text_at) (rule Before) (pieces text) false refl e) k)
 past_own Behind text o e k = run_rule (run_right (next_pair table bytes_joined (token text_at) (rule AfterVerb) (pieces text) false refl e) k)
 
-pub stopped : (w : Within) (text : List ℕ) (o : Outcome Piece Value) → Stops w text → Gives (tail_of w) text o → Gives (rule (rule_of w)) text o
+pub stopped : (w : Within) (text : List ℕ) (o : ReaderOutcome Piece TemplateValue) → Stops w text → Gives (tail_of w) text o → Gives (rule (rule_of w)) text o
 stopped w text o h k = past_own w text o h.own (run_right h.whole k)
 
 pub own_breaks : (w : Within) (text rest : List ℕ) → IsBreak text rest → Gives (rule (rule_of w)) text (bad (pieces rest))

@@ -1,11 +1,11 @@
 -- The grammar of templates ends: so the parts of a text are a function of it.
 use Rattle.std.proofs.Common.{◌≡◌, ℕ, suc, nat_le, Option, Some, None, false, true, List, refl, ap}
-use Rattle.pr_forms.specs.Form.{rule}
-use Rattle.pr_forms.specs.Reading.{EndsIn, Ends, reading}
-use Rattle.pr_forms.proofs.Ending.{given_reads, reads_given, given_place}
+use Rattle.pr_labels.specs.pr_forms.Form.{rule}
+use Rattle.pr_labels.specs.pr_forms.Reading.{EndsIn, Ends, reading}
+use Rattle.pr_labels.proofs.FormsEnding.{given_reads, reads_given, given_place}
 use Rattle.pr_tmpl.specs.declared.template.Part.{Part}
 use Rattle.pr_tmpl.specs.Pieces.{pieces}
-use Rattle.pr_tmpl.specs.TemplateText.{production, Value, parts, piped, operand, call, bytes, verb, format, mark, Rule, Text, PlainPiece, Brace, Opened, PieceAfterBrace, SecondBrace, First, FromOperand, FromCall, AnOperand, Literal, Dollared, Dotted, ValueWord, LabelsWord, ExternalWord, ExternalLabelsWord, UrlWord, Content, Breaking, Name, NameByte, NameRest, ACall, PrintfWord, HumanizeWord, Scale, PercentageWord, DurationWord, Formatted, Before, Wanted, Places, LetterF, AfterVerb, SecondPercent, After, Next, Barred, Closing, IsTemplate, IsBadPiece}
+use Rattle.pr_tmpl.specs.TemplateText.{production, TemplateValue, parts, piped, operand, call, bytes, verb, format, mark, Rule, Text, PlainPiece, Brace, Opened, PieceAfterBrace, SecondBrace, First, FromOperand, FromCall, AnOperand, Literal, Dollared, Dotted, ValueWord, LabelsWord, ExternalWord, ExternalLabelsWord, UrlWord, Content, Breaking, Name, NameByte, NameRest, ACall, PrintfWord, HumanizeWord, Scale, PercentageWord, DurationWord, Formatted, Before, Wanted, Places, LetterF, AfterVerb, SecondPercent, After, Next, Barred, Closing, IsTemplate, IsBadPiece}
 use Rattle.pr_tmpl.specs.TemplateTable.{table, rank, steps}
 use Rattle.pr_tmpl.specs.TemplateReading.{parts_in, template_parts, bad_piece}
 use Rattle.pr_tmpl.proofs.TemplateTable.{known}
@@ -64,7 +64,7 @@ below_known _ = refl
 pub ends : Ends production table rank steps
 ends = record { some = refl; below = below_known; ends = ends_known }
 
-value_given : (o : Option Value) (ps : List Part) → parts_in o ≡ Some ps → o ≡ Some (parts ps)
+value_given : (o : Option TemplateValue) (ps : List Part) → parts_in o ≡ Some ps → o ≡ Some (parts ps)
 value_given None ps e = absurd (cc)
 value_given (Some (parts qs)) ps e = cc
 value_given (Some (piped cs qs)) ps e = absurd (cc)

@@ -1,9 +1,9 @@
 -- One piece ahead decides the grammar of templates.
 use Rattle.std.proofs.Common.{◌≡◌, Bool, true, false, refl}
-use Rattle.pr_forms.specs.Table.{empty_of, starts_of, more_of, parts_at, is_solid, Binds, IsDecided}
-use Rattle.pr_forms.proofs.Decided.{plain_binds}
+use Rattle.pr_labels.specs.pr_forms.Table.{empty_of, starts_of, more_of, parts_at, is_solid, Binds, IsDecided}
+use Rattle.pr_labels.proofs.FormsDecided.{plain_binds}
 use Rattle.pr_tmpl.proofs.Chosen.{at_operand, after_dollar, after_dot, after_external, at_name, in_name, at_call, at_scale}
-use Rattle.pr_tmpl.specs.declared.kind.Kind.TheVariants.{Blank}
+use Rattle.pr_tmpl.specs.declared.kind.TemplateByte.TheVariants.{Blank}
 use Rattle.pr_tmpl.specs.Pieces.{Piece, plain, escape}
 use Rattle.pr_tmpl.specs.TemplateText.{production, Rule, Text, PlainPiece, Opened, PieceAfterBrace, SecondBrace, First, FromOperand, FromCall, AnOperand, Dollared, Dotted, LabelsWord, ExternalWord, ExternalLabelsWord, Content, Breaking, Name, NameByte, NameRest, ACall, PrintfWord, HumanizeWord, Scale, Formatted, Before, Wanted, Places, LetterF, AfterVerb, SecondPercent, After, Next, Barred, name_goes_on, scale_goes_on, nothing_follows}
 use Rattle.pr_tmpl.specs.TemplateTable.{table}

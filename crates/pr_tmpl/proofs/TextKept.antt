@@ -1,25 +1,24 @@
 -- A text that is UTF-8 is cut around ASCII bytes alone.
-use Rattle.std.proofs.Common.{◌≡◌, ◌<◌, ◌≤◌, ℕ, zero, suc, Bool, true, false, List, [], ◌∷◌, ◌++◌, length, drop, take, ◌-◌, refl, sym, ap, subst, ◌∙◌, arith, append_assoc, append-nil, lit<, Result, Ok, Err}
+use Rattle.std.proofs.Common.{◌≡◌, ◌<◌, ◌≤◌, ℕ, zero, suc, Bool, true, false, List, [], ◌∷◌, ◌++◌, length, drop, take, ◌-◌, refl, sym, ap, subst, ◌∙◌, arith, append_assoc, append-nil, lit<, Result, Ok, Err, inl, inr}
 use Rattle.std.proofs.lemmas.Bool.Decides.{nat_tests}
 use Rattle.std.proofs.lemmas.Str.{IsUtf8-append, IsUtf8-nil}
 use Rattle.std.proofs.lemmas.Bool.{cases_lt}
-use Rattle.std.proofs.Common.{inl, inr}
 use Rattle.std.specs.Prelude.{codes, nat_le, nat_lt, ◌&&◌, ◌⊎◌, IfOk, if◌then◌else◌}
 use Rattle.std.specs.Str.{IsUtf8}
-use Rattle.pr_labels.specs.pr_strings.Reader.{KeepsText, KeepsFront, SplitsText}
-use Rattle.pr_labels.proofs.StringsStringUtf8.{before_byte, after_byte, keeps_after, byte_text}
-use Rattle.pr_tmpl.specs.declared.kind.Kind.{Kind}
-use Rattle.pr_tmpl.specs.declared.kind.Kind.TheVariants.{Open, Digit, SmallV, SmallS, Other}
+use Rattle.pr_labels.specs.pr_words.private.Reader.{KeepsText, KeepsFront, SplitsText}
+use Rattle.pr_labels.proofs.WordsStringUtf8.{before_byte, after_byte, keeps_after, byte_text}
+use Rattle.pr_tmpl.specs.declared.kind.TemplateByte.{TemplateByte}
+use Rattle.pr_tmpl.specs.declared.kind.TemplateByte.TheVariants.{Open, Digit, SmallV, SmallS, Other}
 use Rattle.pr_tmpl.specs.declared.letter.Letter.{Letter}
 use Rattle.pr_tmpl.specs.declared.letter.Letter.TheVariants.{Plain, Escape, Broken}
 use Rattle.pr_tmpl.specs.declared.quoted.Within.{Within}
 use Rattle.pr_tmpl.specs.declared.quoted.Within.TheVariants.{Content, Before, After}
 use Rattle.pr_tmpl.specs.Pieces.{escape, kind_of, kind_of_all, ascii_front, escape_bytes, escape_quoted, escape_length}
-use Rattle.pr_tmpl.specs.Letters.{IsEscape, IsLetter, MeansText, LetterText, are_ascii}
-use Rattle.pr_tmpl.specs.Reader.{KeepsTextBy, BeginsText, CutsText}
-use Rattle.pr_tmpl.specs.Quotes.{is_own, means_of, first_byte, IsControl}
+use Rattle.pr_tmpl.specs.private.Letters.{IsEscape, IsLetter, MeansText, LetterText, are_ascii}
+use Rattle.pr_tmpl.specs.private.Reader.{KeepsTextBy, BeginsText, CutsText}
+use Rattle.pr_tmpl.specs.private.Quotes.{is_own, means_of, first_byte, IsControl}
 use Rattle.pr_tmpl.specs.TemplateText.{is_name_start, is_name_part}
-use Rattle.pr_tmpl.specs.Parsed.{opens, IsWords}
+use Rattle.pr_tmpl.specs.private.Parsed.{opens, IsWords}
 use Rattle.pr_tmpl.proofs.TextWays.{take_front}
 
 -- a byte that has a kind of its own is ASCII
@@ -29,29 +28,29 @@ high b h = grind (arith, nat_tests)
 small_byte : (b : ℕ) → (kind_of b ≡ Other → ⊥) → b < 128
 small_byte b h = elim (cases_lt b 128) [ inl lt ↦ lt | inr ge ↦ absurd (h (high b ge)) ]
 
-small_kind : (k : Kind) (b : ℕ) → k ≡ kind_of b → (k ≡ Other → ⊥) → b < 128
+small_kind : (k : TemplateByte) (b : ℕ) → k ≡ kind_of b → (k ≡ Other → ⊥) → b < 128
 small_kind k b e h = small_byte b (λ o. h (e ∙ o))
 
-pub kind_text : (k : Kind) (text rest : List ℕ) (b : ℕ) → text ≡ b ∷ rest → k ≡ kind_of b → KeepsTextBy k text rest
+pub kind_text : (k : TemplateByte) (text rest : List ℕ) (b : ℕ) → text ≡ b ∷ rest → k ≡ kind_of b → KeepsTextBy k text rest
 kind_text Other text rest b e h = tt
 kind_text k text rest b e h = keeps_after text rest b e (small_kind k b h (λ o. cc))
 
-pub any_kind : (k : Kind) (text rest : List ℕ) → KeepsText text rest → KeepsTextBy k text rest
+pub any_kind : (k : TemplateByte) (text rest : List ℕ) → KeepsText text rest → KeepsTextBy k text rest
 any_kind Other text rest h = tt
 any_kind k text rest h = h
 
-pub same_kind : (k wanted : Kind) (text rest : List ℕ) → k ≡ wanted → KeepsTextBy k text rest → KeepsTextBy wanted text rest
-same_kind k wanted text rest e h = subst (λ (x : Kind). KeepsTextBy x text rest) e h
+pub same_kind : (k wanted : TemplateByte) (text rest : List ℕ) → k ≡ wanted → KeepsTextBy k text rest → KeepsTextBy wanted text rest
+same_kind k wanted text rest e h = subst (λ (x : TemplateByte). KeepsTextBy x text rest) e h
 
-pub letter_kind : (k : Kind) (text rest : List ℕ) → is_name_start k ≡ true → KeepsTextBy k text rest → KeepsText text rest
+pub letter_kind : (k : TemplateByte) (text rest : List ℕ) → is_name_start k ≡ true → KeepsTextBy k text rest → KeepsText text rest
 letter_kind Other text rest e h = absurd (cc)
 letter_kind k text rest e h = h
 
-pub label_kind : (k : Kind) (text rest : List ℕ) → is_name_part k ≡ true → KeepsTextBy k text rest → KeepsText text rest
+pub label_kind : (k : TemplateByte) (text rest : List ℕ) → is_name_part k ≡ true → KeepsTextBy k text rest → KeepsText text rest
 label_kind Other text rest e h = absurd (cc)
 label_kind k text rest e h = h
 
-pub word_kind : (k : Kind) (text rest : List ℕ) → (k ≡ SmallV) ⊎ (k ≡ SmallS) → KeepsTextBy k text rest → KeepsText text rest
+pub word_kind : (k : TemplateByte) (text rest : List ℕ) → (k ≡ SmallV) ⊎ (k ≡ SmallS) → KeepsTextBy k text rest → KeepsText text rest
 word_kind k text rest e h = elim e [ inl v ↦ same_kind k SmallV text rest v h | inr s ↦ same_kind k SmallS text rest s h ]
 
 pub kept_on : (text at rest : List ℕ) → KeepsText text at → KeepsText at rest → KeepsText text rest
@@ -141,8 +140,8 @@ other_owns Content b = refl
 other_owns Before b = refl
 other_owns After b = refl
 
-not_own : (w : Within) (k : Kind) (b : ℕ) → is_own w (Plain k b) ≡ false → k ≡ Other → ⊥
-not_own w k b e o = let t : is_own w (Plain k b) ≡ true = ap (λ (x : Kind). is_own w (Plain x b)) o ∙ other_owns w b in let f : true ≡ false = sym t ∙ e in cc
+not_own : (w : Within) (k : TemplateByte) (b : ℕ) → is_own w (Plain k b) ≡ false → k ≡ Other → ⊥
+not_own w k b e o = let t : is_own w (Plain k b) ≡ true = ap (λ (x : TemplateByte). is_own w (Plain x b)) o ∙ other_owns w b in let f : true ≡ false = sym t ∙ e in cc
 
 pub other_begins : (w : Within) (l : Letter) (text rest : List ℕ) → IsLetter text l rest → LetterText text l rest → is_own w l ≡ false → (l ≡ Broken → ⊥) → BeginsText text
 other_begins w (Plain k b) text rest h m e n = begins_at text rest b h.bytes_are (small_kind k b h.kind_is (not_own w k b e))
@@ -186,7 +185,7 @@ digit_means (b ∷ []) e = digit_byte b e
     digit_byte b e = grind (arith, nat_tests)
 digit_means (a ∷ b ∷ bs) e = absurd (cc)
 
-pub escape_control : (text rest means : List ℕ) (k : Kind) (b : ℕ) → IsEscape text k means rest → b ≡ first_byte means → IsControl text k b rest
+pub escape_control : (text rest means : List ℕ) (k : TemplateByte) (b : ℕ) → IsEscape text k means rest → b ≡ first_byte means → IsControl text k b rest
 escape_control text rest means k b h e = record {
   piece = escape k h.raw means;
   pieces_are = h.pieces_are;

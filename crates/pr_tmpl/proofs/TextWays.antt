@@ -3,16 +3,16 @@ use Rattle.std.proofs.Common.{◌≡◌, ℕ, zero, suc, ◌≤◌, ◌+◌, ◌
 use Rattle.std.proofs.lemmas.Bool.Decides.{nat_tests}
 use Rattle.std.specs.Prelude.{is_some, codes}
 use Prim.Native.Char.{code}
-use Rattle.pr_forms.specs.Form.{rule}
-use Rattle.pr_forms.specs.Run.{Runs, good, bad, run_token, run_pair, run_second, run_left, run_right, run_rule, run_nothing, run_chosen, run_chosen_bad}
-use Rattle.pr_forms.specs.Carries.{Carries}
-use Rattle.pr_forms.proofs.Carrying.{carry_with, carry_made, carry_of}
-use Rattle.pr_forms.proofs.Decided.{shrinks}
-use Rattle.pr_forms.proofs.Sound.{meets, reads, begins}
-use Rattle.pr_forms.proofs.Places.{run_place, only_reading, one_place}
-use Rattle.pr_forms.proofs.Suffixes.{Suffix, here, there, suffix_length, begins_suffix}
-use Rattle.pr_tmpl.specs.declared.kind.Kind.{Kind}
-use Rattle.pr_tmpl.specs.declared.kind.Kind.TheVariants.{Open}
+use Rattle.pr_labels.specs.pr_forms.Form.{rule}
+use Rattle.pr_labels.specs.pr_forms.Run.{Runs, good, bad, run_token, run_pair, run_second, run_left, run_right, run_rule, run_nothing, run_chosen, run_chosen_bad}
+use Rattle.pr_labels.specs.pr_forms.Carries.{Carries}
+use Rattle.pr_labels.proofs.FormsCarrying.{carry_with, carry_made, carry_of}
+use Rattle.pr_labels.proofs.FormsDecided.{shrinks}
+use Rattle.pr_labels.proofs.FormsSound.{meets, reads, begins}
+use Rattle.pr_labels.proofs.FormsPlaces.{run_place, only_reading, one_place}
+use Rattle.pr_labels.proofs.FormsSuffixes.{Suffix, here, there, suffix_length, begins_suffix}
+use Rattle.pr_tmpl.specs.declared.kind.TemplateByte.{TemplateByte}
+use Rattle.pr_tmpl.specs.declared.kind.TemplateByte.TheVariants.{Open}
 use Rattle.pr_tmpl.specs.declared.letter.Letter.{Letter}
 use Rattle.pr_tmpl.specs.declared.letter.Letter.TheVariants.{Plain, Escape, Broken}
 use Rattle.pr_tmpl.specs.declared.template.Operand.{Operand}
@@ -20,11 +20,11 @@ use Rattle.pr_tmpl.specs.declared.template.Call.{Call}
 use Rattle.pr_tmpl.specs.declared.template.Part.{Part}
 use Rattle.pr_tmpl.specs.declared.template.Part.TheVariants.{Words, Pipe}
 use Rattle.pr_tmpl.specs.Pieces.{Piece, plain, escape, broken, part, raw_of, raw_text, pieces, kind_of}
-use Rattle.pr_tmpl.specs.Letters.{IsPlain, IsLetter}
-use Rattle.pr_tmpl.specs.Reader.{Gives}
-use Rattle.pr_tmpl.specs.Pipes.{a_pipe, IsPipe}
-use Rattle.pr_tmpl.specs.Parsed.{opens, led_by, words_part, IsWords, IsOpened, IsAllWords, IsStep, IsTurn, HasPartsUpTo}
-use Rattle.pr_tmpl.specs.TemplateText.{Value, parts, with_text, text_rule, opened_rule, Text, PlainPiece, PieceAfterBrace, production}
+use Rattle.pr_tmpl.specs.private.Letters.{IsPlain, IsLetter}
+use Rattle.pr_tmpl.specs.private.Reader.{Gives}
+use Rattle.pr_tmpl.specs.private.Pipes.{a_pipe, IsPipe}
+use Rattle.pr_tmpl.specs.private.Parsed.{opens, led_by, words_part, IsWords, IsOpened, IsAllWords, IsStep, IsTurn, HasPartsUpTo}
+use Rattle.pr_tmpl.specs.TemplateText.{TemplateValue, parts, with_text, text_rule, opened_rule, Text, PlainPiece, PieceAfterBrace, production}
 use Rattle.pr_tmpl.specs.TemplateTable.{table}
 use Rattle.pr_tmpl.specs.TemplateReading.{template_parts, bad_piece, bad_template_place}
 use Rattle.pr_tmpl.proofs.Pieces.{pieces_at_end, pieces_are_all}
@@ -75,7 +75,7 @@ after_brace c t us b bs e h = carry_made (λ ps. ap (λ (xs : List ℕ). parts (
 two_braces : (b c : ℕ) (us : List Piece) → Carries production table (rule Text) (plain Open b ∷ (plain Open c ∷ us)) (λ v. v) a_pipe us (λ v. v)
 two_braces b c us = record { reads = good_pipe; fails = bad_pipe }
   where
-    good_pipe : (v : Value) (end : List Piece) → Runs production table a_pipe us (good v end) → Runs production table (rule Text) (plain Open b ∷ (plain Open c ∷ us)) (good v end)
+    good_pipe : (v : TemplateValue) (end : List Piece) → Runs production table a_pipe us (good v end) → Runs production table (rule Text) (plain Open b ∷ (plain Open c ∷ us)) (good v end)
     good_pipe v end k = let short = (shrinks k).is in
         run_rule (run_left refl (run_chosen refl (omega (arith, short)) (run_pair (run_token refl) (run_rule (run_left refl (run_chosen refl short (run_pair (run_token refl) k)))))))
 
@@ -87,22 +87,22 @@ parts_words [] us = no_words us
 parts_words (b ∷ bs) us = words_joined (part b ∷ (map part bs ++ us)) (map part bs ++ us) us (b ∷ []) bs (a_piece (part b) (map part bs ++ us) b [] refl refl) (parts_words bs us)
 
 -- letters
-shut_text : (k : Kind) (b c : ℕ) → opens (Plain k b) ≡ false → text_rule (plain k c) ≡ Some PlainPiece
+shut_text : (k : TemplateByte) (b c : ℕ) → opens (Plain k b) ≡ false → text_rule (plain k c) ≡ Some PlainPiece
 shut_text Open b c e = absurd (cc)
 shut_text _ b c e = refl
 
-shut_opened : (k : Kind) (b c : ℕ) → opens (Plain k b) ≡ false → opened_rule (plain k c) ≡ Some PieceAfterBrace
+shut_opened : (k : TemplateByte) (b c : ℕ) → opens (Plain k b) ≡ false → opened_rule (plain k c) ≡ Some PieceAfterBrace
 shut_opened Open b c e = absurd (cc)
 shut_opened _ b c e = refl
 
-some_raw : (text rest raw means : List ℕ) (k : Kind) → pieces text ≡ escape k raw means ∷ pieces rest → text ≡ raw ++ rest → raw ≡ [] → ⊥
+some_raw : (text rest raw means : List ℕ) (k : TemplateByte) → pieces text ≡ escape k raw means ∷ pieces rest → text ≡ raw ++ rest → raw ≡ [] → ⊥
 some_raw text rest raw means k p e h = let same : text ≡ rest = e ∙ ap (λ (xs : List ℕ). xs ++ rest) h in let long : length (pieces text) ≡ suc (length (pieces rest)) = ap length p in let like = ap (λ (xs : List ℕ). length (pieces xs)) same in omega (arith, long, like)
 
-escape_words : (text rest raw means : List ℕ) (k : Kind) → pieces text ≡ escape k raw means ∷ pieces rest → text ≡ raw ++ rest → AreWords (escape k raw means ∷ pieces rest) raw (pieces rest)
+escape_words : (text rest raw means : List ℕ) (k : TemplateByte) → pieces text ≡ escape k raw means ∷ pieces rest → text ≡ raw ++ rest → AreWords (escape k raw means ∷ pieces rest) raw (pieces rest)
 escape_words text rest [] means k p e = absurd (some_raw text rest [] means k p e refl)
 escape_words text rest (b ∷ bs) means k p e = a_piece (escape k (b ∷ bs) means) (pieces rest) b bs refl refl
 
-escape_after : (c : ℕ) (text rest raw means : List ℕ) (k : Kind) → pieces text ≡ escape k raw means ∷ pieces rest → text ≡ raw ++ rest → AreWords (plain Open c ∷ (escape k raw means ∷ pieces rest)) (code "{" ∷ raw) (pieces rest)
+escape_after : (c : ℕ) (text rest raw means : List ℕ) (k : TemplateByte) → pieces text ≡ escape k raw means ∷ pieces rest → text ≡ raw ++ rest → AreWords (plain Open c ∷ (escape k raw means ∷ pieces rest)) (code "{" ∷ raw) (pieces rest)
 escape_after c text rest [] means k p e = absurd (some_raw text rest [] means k p e refl)
 escape_after c text rest (b ∷ bs) means k p e = after_brace c (escape k (b ∷ bs) means) (pieces rest) b bs refl refl
 
@@ -124,7 +124,7 @@ record IsBrace (text rest : List ℕ) : Type 0 where
   pub pieces_are : pieces text ≡ plain Open byte ∷ pieces rest
   pub bytes_are : text ≡ code "{" ∷ rest
 
-brace_of : (k : Kind) (b : ℕ) (text rest : List ℕ) → IsPlain text k b rest → opens (Plain k b) ≡ true → IsBrace text rest
+brace_of : (k : TemplateByte) (b : ℕ) (text rest : List ℕ) → IsPlain text k b rest → opens (Plain k b) ≡ true → IsBrace text rest
 brace_of Open b text rest h e = record { byte = b; pieces_are = h.pieces_are; bytes_are = h.bytes_are ∙ ap (λ (x : ℕ). x ∷ rest) (open_byte b h.kind_is) }
 brace_of _ b text rest h e = absurd (cc)
 
@@ -230,7 +230,7 @@ not_given : (text rest : List ℕ) (o : Option (List Part)) → Gives (rule Text
 not_given text rest None q e = refl
 not_given text rest (Some ps) q e = absurd (not_good (pieces rest) (parts ps) (only_reading production table known Text (pieces text) _ (parts ps) q (parts_read text ps e)))
   where
-    not_good : (ps : List Piece) (v : Value) → bad ps ≡ good v [] → ⊥
+    not_good : (ps : List Piece) (v : TemplateValue) → bad ps ≡ good v [] → ⊥
     not_good ps v e = cc
 
 no_template : (text rest : List ℕ) → Gives (rule Text) text (bad (pieces rest)) → template_parts text ≡ None

@@ -3,9 +3,6 @@ pub mod Pieces
 pub mod TemplateText
 pub mod TemplateTable
 pub mod TemplateReading
-pub mod Letters
-pub mod Reader
-pub mod Quotes
-pub mod Pipes
-pub mod Parsed
-pub mod Faults
+pub mod Decimals
+pub mod Humanized
+pub mod private

@@ -2,36 +2,36 @@
 -- other byte is one. So a character that an escape writes has the place of its backslash.
 use Rattle.std.specs.Prelude.{Bool, ℕ, zero, suc, ◌-◌, ◌==◌, nat_le, ◌&&◌, ◌||◌, Option, Some, None, List, [], ◌∷◌, ◌++◌, length, take, drop, map, flat_map, codes, if◌then◌else◌}
 use Prim.Native.Char.{code}
-use Rattle.pr_tmpl.specs.declared.kind.Kind.{Kind}
-use Rattle.pr_tmpl.specs.declared.kind.Kind.TheVariants.{Quote, Feed, Blank, Open, Close, Bar, Dollar, Point, Percent, Digit, SmallE, SmallF, SmallH, SmallL, SmallP, SmallS, SmallV, CapitalD, CapitalE, CapitalL, CapitalP, CapitalU, CapitalV, OtherLetter, Other}
-use Rattle.pr_labels.specs.pr_strings.StringAnswer.{string_of, bad_string_place}
+use Rattle.pr_tmpl.specs.declared.kind.TemplateByte.{TemplateByte}
+use Rattle.pr_tmpl.specs.declared.kind.TemplateByte.TheVariants.{Quote, Feed, Blank, Open, Close, Bar, Dollar, Point, Percent, Digit, SmallE, SmallF, SmallH, SmallL, SmallP, SmallS, SmallV, CapitalD, CapitalE, CapitalL, CapitalP, CapitalU, CapitalV, OtherLetter, Other}
+use Rattle.pr_labels.specs.pr_words.StringAnswer.{string_of, bad_string_place}
 
 abbrev pub is_other_letter : ℕ → Bool
 is_other_letter b = (nat_le (code "A") b && nat_le b (code "Z")) || (nat_le (code "a") b && nat_le b (code "z")) || b == code "_"
 
-abbrev pub capital_of : ℕ → Kind
+abbrev pub capital_of : ℕ → TemplateByte
 capital_of b = if b == code "D" then CapitalD else (if b == code "E" then CapitalE else (if b == code "L" then CapitalL else (if b == code "P" then CapitalP else
     (if b == code "U" then CapitalU else (if b == code "V" then CapitalV else (if is_other_letter b then OtherLetter else Other))))))
 
-abbrev pub small_of : ℕ → Kind
+abbrev pub small_of : ℕ → TemplateByte
 small_of b = if b == code "e" then SmallE else (if b == code "f" then SmallF else (if b == code "h" then SmallH else (if b == code "l" then SmallL else
     (if b == code "p" then SmallP else (if b == code "s" then SmallS else (if b == code "v" then SmallV else capital_of b))))))
 
-abbrev pub kind_of : ℕ → Kind
+abbrev pub kind_of : ℕ → TemplateByte
 kind_of b = if b == code "\"" then Quote else (if b == code "\n" then Feed else (if b == code " " || b == code "\t" then Blank else (if b == code "{" then Open else
     (if b == code "}" then Close else (if b == code "|" then Bar else (if b == code "$" then Dollar else (if b == code "." then Point else (if b == code "%" then Percent else
     (if nat_le (code "0") b && nat_le b (code "9") then Digit else small_of b)))))))))
 
 -- the kind of what an escape means: of a byte, or of a longer character
-abbrev pub kind_of_all : List ℕ → Kind
+abbrev pub kind_of_all : List ℕ → TemplateByte
 kind_of_all (b ∷ []) = kind_of b
 kind_of_all bs = Other
 
 pub data Piece : Type 0 where
   -- a byte that begins no escape
-  plain : Kind → ℕ → Piece
+  plain : TemplateByte → ℕ → Piece
   -- an escape: its own bytes, and those that it means with their kind
-  escape : Kind → List ℕ → List ℕ → Piece
+  escape : TemplateByte → List ℕ → List ℕ → Piece
   -- the backslash of an escape that breaks off, and a byte of it after that
   broken : Piece
   part : ℕ → Piece

@@ -1,13 +1,13 @@
 -- What a text is read as, as a function of it: the parts of the template, or the first bad place.
 use Rattle.std.specs.Prelude.{ℕ, Option, Some, None, List, length, take}
-use Rattle.pr_forms.specs.Form.{rule}
-use Rattle.pr_forms.specs.Reading.{reading, bad_place}
+use Rattle.pr_labels.specs.pr_forms.Form.{rule}
+use Rattle.pr_labels.specs.pr_forms.Reading.{reading, bad_place}
 use Rattle.pr_tmpl.specs.declared.template.Part.{Part}
 use Rattle.pr_tmpl.specs.Pieces.{raw_text, pieces}
-use Rattle.pr_tmpl.specs.TemplateText.{Value, parts, Text, production}
+use Rattle.pr_tmpl.specs.TemplateText.{TemplateValue, parts, Text, production}
 use Rattle.pr_tmpl.specs.TemplateTable.{table, steps}
 
-abbrev pub parts_in : Option Value → Option (List Part)
+abbrev pub parts_in : Option TemplateValue → Option (List Part)
 parts_in (Some (parts ps)) = Some ps
 parts_in _ = None
 

@@ -1,8 +1,8 @@
 -- What one piece ahead tells of the rules, and that they end: no part of what a text means.
 use Rattle.std.specs.Prelude.{ℕ, ◌||◌, Bool, true, false, is_some}
-use Rattle.pr_forms.specs.Table.{Table}
-use Rattle.pr_tmpl.specs.declared.kind.Kind.{Kind}
-use Rattle.pr_tmpl.specs.declared.kind.Kind.TheVariants.{Quote, Feed, Point, Percent}
+use Rattle.pr_labels.specs.pr_forms.Table.{Table}
+use Rattle.pr_tmpl.specs.declared.kind.TemplateByte.{TemplateByte}
+use Rattle.pr_tmpl.specs.declared.kind.TemplateByte.TheVariants.{Quote, Feed, Point, Percent}
 use Rattle.pr_tmpl.specs.Pieces.{Piece, plain, escape, broken, part}
 use Rattle.pr_tmpl.specs.TemplateText.{Rule, Text, Opened, First, FromOperand, FromCall, AnOperand, Literal, Dollared, Dotted, ValueWord, LabelsWord, ExternalWord, ExternalLabelsWord, UrlWord, Content, Breaking, Name, NameByte, NameRest, ACall, PrintfWord, HumanizeWord, Scale, PercentageWord, DurationWord, Formatted, Before, Wanted, Places, LetterF, AfterVerb, SecondPercent, After, Next, blank_at, quote_at, broken_at, part_at, percent_at, verb_of, digit_at, f_at, first_rule, operand_rule, name_start, call_rule, scale_rule, next_rule, name_goes_on, scale_goes_on}
 
@@ -14,7 +14,7 @@ is_content (plain Feed b) = false
 is_content (part b) = false
 is_content _ = true
 
-abbrev pub is_wanted : Kind → Bool
+abbrev pub is_wanted : TemplateByte → Bool
 is_wanted Percent = true
 is_wanted Point = true
 is_wanted k = is_some (verb_of k)

@@ -1,7 +1,7 @@
 -- The texts of templates, the formats of printf among them.
 use Rattle.std.specs.Prelude.{ℕ, ◌-◌, ◌==◌, Bool, true, false, Option, Some, None, is_some, List, [], ◌∷◌, ◌++◌, codes, if◌then◌else◌}
 use Prim.Native.Char.{code}
-use Rattle.pr_forms.specs.Form.{Form, token, nothing, pair, either, turns, chosen, rule, Reads, IsFirstBad}
+use Rattle.pr_labels.specs.pr_forms.Form.{Form, token, nothing, pair, either, turns, chosen, rule, Reads, IsFirstBad}
 use Rattle.pr_tmpl.specs.declared.template.Verb.{Verb}
 use Rattle.pr_tmpl.specs.declared.template.Verb.TheVariants.{Plain, Fixed}
 use Rattle.pr_tmpl.specs.declared.template.Operand.{Operand}
@@ -10,25 +10,25 @@ use Rattle.pr_tmpl.specs.declared.template.Call.{Call}
 use Rattle.pr_tmpl.specs.declared.template.Call.TheVariants.{Printf, Humanize, HumanizePercentage, HumanizeDuration}
 use Rattle.pr_tmpl.specs.declared.template.Part.{Part}
 use Rattle.pr_tmpl.specs.declared.template.Part.TheVariants.{Words, Pipe}
-use Rattle.pr_tmpl.specs.declared.kind.Kind.{Kind}
-use Rattle.pr_tmpl.specs.declared.kind.Kind.TheVariants.{Quote, Feed, Blank, Open, Close, Bar, Dollar, Point, Percent, Digit, SmallE, SmallF, SmallH, SmallL, SmallP, SmallS, SmallV, CapitalD, CapitalE, CapitalL, CapitalP, CapitalU, CapitalV, OtherLetter}
+use Rattle.pr_tmpl.specs.declared.kind.TemplateByte.{TemplateByte}
+use Rattle.pr_tmpl.specs.declared.kind.TemplateByte.TheVariants.{Quote, Feed, Blank, Open, Close, Bar, Dollar, Point, Percent, Digit, SmallE, SmallF, SmallH, SmallL, SmallP, SmallS, SmallV, CapitalD, CapitalE, CapitalL, CapitalP, CapitalU, CapitalV, OtherLetter}
 use Rattle.pr_tmpl.specs.Pieces.{Piece, plain, escape, broken, part, raw_of, pieces}
 
 -- What stands for a part of a template.
-pub data Value : Type 0 where
+pub data TemplateValue : Type 0 where
   -- the parts from here on
-  parts : List Part → Value
+  parts : List Part → TemplateValue
   -- the calls that a pipe still goes through, and the parts after it
-  piped : List Call → List Part → Value
+  piped : List Call → List Part → TemplateValue
   -- an operand, a call, and the bytes of a text or of a name
-  operand : Operand → Value
-  call : Call → Value
-  bytes : List ℕ → Value
+  operand : Operand → TemplateValue
+  call : Call → TemplateValue
+  bytes : List ℕ → TemplateValue
   -- a verb, and a format from here on: a text, its verb and the text after it
-  verb : Verb → Value
-  format : List ℕ → Verb → List ℕ → Value
+  verb : Verb → TemplateValue
+  format : List ℕ → Verb → List ℕ → TemplateValue
   -- a piece that has no value alone
-  mark : Value
+  mark : TemplateValue
 
 -- The rules. A rule that a piece chooses reads that piece too; it is named after it where its own
 -- name says no more.
@@ -87,47 +87,47 @@ pub data Rule : Type 0 where
   Barred : Rule
   Closing : Rule
 
-abbrev pub any_at : Piece → Option Value
+abbrev pub any_at : Piece → Option TemplateValue
 any_at t = Some mark
 
-abbrev pub raw_at : Piece → Option Value
+abbrev pub raw_at : Piece → Option TemplateValue
 raw_at t = Some (bytes (raw_of t))
 
-abbrev pub blank_at : Piece → Option Value
+abbrev pub blank_at : Piece → Option TemplateValue
 blank_at (plain Blank b) = Some mark
 blank_at _ = None
 
-abbrev pub close_at : Piece → Option Value
+abbrev pub close_at : Piece → Option TemplateValue
 close_at (plain Close b) = Some mark
 close_at _ = None
 
-abbrev pub quote_at : Piece → Option Value
+abbrev pub quote_at : Piece → Option TemplateValue
 quote_at (plain Quote b) = Some mark
 quote_at _ = None
 
-abbrev pub this_at : ℕ → Piece → Option Value
+abbrev pub this_at : ℕ → Piece → Option TemplateValue
 this_at n (plain k b) = if b == n then Some mark else None
 this_at n _ = None
 
 -- pieces of a string: what stands for itself or is an escape, and an escape that breaks off
-abbrev pub content_at : Piece → Option Value
+abbrev pub content_at : Piece → Option TemplateValue
 content_at (plain Quote b) = None
 content_at (plain Feed b) = None
 content_at (plain k b) = Some (bytes (b ∷ []))
 content_at (escape k raw means) = Some (bytes means)
 content_at _ = None
 
-abbrev pub broken_at : Piece → Option Value
+abbrev pub broken_at : Piece → Option TemplateValue
 broken_at broken = Some mark
 broken_at _ = None
 
-abbrev pub part_at : Piece → Option Value
+abbrev pub part_at : Piece → Option TemplateValue
 part_at (part b) = Some mark
 part_at _ = None
 
 -- pieces of a format: the same without `%`; `%`; verbs of one letter, where `%f` has six places; a
 -- point; a number of places
-abbrev pub text_at : Piece → Option Value
+abbrev pub text_at : Piece → Option TemplateValue
 text_at (plain Quote b) = None
 text_at (plain Feed b) = None
 text_at (plain Percent b) = None
@@ -136,23 +136,23 @@ text_at (escape Percent raw means) = None
 text_at (escape k raw means) = Some (bytes means)
 text_at _ = None
 
-abbrev pub percent_at : Piece → Option Value
+abbrev pub percent_at : Piece → Option TemplateValue
 percent_at (plain Percent b) = Some (bytes (codes "%"))
 percent_at (escape Percent raw means) = Some (bytes (codes "%"))
 percent_at _ = None
 
-abbrev pub verb_of : Kind → Option Value
+abbrev pub verb_of : TemplateByte → Option TemplateValue
 verb_of SmallF = Some (verb (Fixed 6))
 verb_of SmallV = Some (verb Plain)
 verb_of SmallS = Some (verb Plain)
 verb_of _ = None
 
-abbrev pub verb_at : Piece → Option Value
+abbrev pub verb_at : Piece → Option TemplateValue
 verb_at (plain k b) = verb_of k
 verb_at (escape k raw means) = verb_of k
 verb_at _ = None
 
-abbrev pub point_at : Piece → Option Value
+abbrev pub point_at : Piece → Option TemplateValue
 point_at (plain Point b) = Some mark
 point_at (escape Point raw means) = Some mark
 point_at _ = None
@@ -161,18 +161,18 @@ abbrev pub digit_of : List ℕ → ℕ
 digit_of [] = 0
 digit_of (b ∷ bs) = b - code "0"
 
-abbrev pub digit_at : Piece → Option Value
+abbrev pub digit_at : Piece → Option TemplateValue
 digit_at (plain Digit b) = Some (verb (Fixed (b - code "0")))
 digit_at (escape Digit raw means) = Some (verb (Fixed (digit_of means)))
 digit_at _ = None
 
-abbrev pub f_at : Piece → Option Value
+abbrev pub f_at : Piece → Option TemplateValue
 f_at (plain SmallF b) = Some mark
 f_at (escape SmallF raw means) = Some mark
 f_at _ = None
 
 -- names of labels begin with letters and underscores, and go on with digits too
-abbrev pub is_name_start : Kind → Bool
+abbrev pub is_name_start : TemplateByte → Bool
 is_name_start SmallE = true
 is_name_start SmallF = true
 is_name_start SmallH = true
@@ -189,7 +189,7 @@ is_name_start CapitalV = true
 is_name_start OtherLetter = true
 is_name_start _ = false
 
-abbrev pub is_name_part : Kind → Bool
+abbrev pub is_name_part : TemplateByte → Bool
 is_name_part Digit = true
 is_name_part k = is_name_start k
 
@@ -257,7 +257,7 @@ next_rule (plain Close b) = Some Closing
 next_rule _ = None
 
 -- how the values of parts are joined
-abbrev pub second_of : Value → Value → Value
+abbrev pub second_of : TemplateValue → TemplateValue → TemplateValue
 second_of v w = w
 
 -- a text before parts; texts that stand together are one
@@ -265,55 +265,55 @@ abbrev pub with_text : List ℕ → List Part → List Part
 with_text bs (Words cs ∷ ps) = Words (bs ++ cs) ∷ ps
 with_text bs ps = Words bs ∷ ps
 
-abbrev pub texted : Value → Value → Value
+abbrev pub texted : TemplateValue → TemplateValue → TemplateValue
 texted (bytes bs) (parts ps) = parts (with_text bs ps)
 texted v w = mark
 
-abbrev pub braced : Value → Value → Value
+abbrev pub braced : TemplateValue → TemplateValue → TemplateValue
 braced (bytes bs) (parts ps) = parts (with_text (code "{" ∷ bs) ps)
 braced v w = mark
 
-abbrev pub begun : Value → Value → Value
+abbrev pub begun : TemplateValue → TemplateValue → TemplateValue
 begun (operand o) (piped cs ps) = parts (Pipe o cs ∷ ps)
 begun v w = mark
 
-abbrev pub led : Value → Value → Value
+abbrev pub led : TemplateValue → TemplateValue → TemplateValue
 led (call c) (parts (Pipe o cs ∷ ps)) = parts (Pipe o (c ∷ cs) ∷ ps)
 led v w = mark
 
-abbrev pub gone_through : Value → Value → Value
+abbrev pub gone_through : TemplateValue → TemplateValue → TemplateValue
 gone_through (call c) (piped cs ps) = piped (c ∷ cs) ps
 gone_through v w = mark
 
-abbrev pub closed : Value → Value → Value
+abbrev pub closed : TemplateValue → TemplateValue → TemplateValue
 closed v (parts ps) = piped [] ps
 closed v w = mark
 
-abbrev pub bytes_joined : Value → Value → Value
+abbrev pub bytes_joined : TemplateValue → TemplateValue → TemplateValue
 bytes_joined (bytes bs) (bytes cs) = bytes (bs ++ cs)
 bytes_joined v w = mark
 
-abbrev pub literal : Value → Value → Value
+abbrev pub literal : TemplateValue → TemplateValue → TemplateValue
 literal v (bytes bs) = operand (Quoted bs)
 literal v w = mark
 
-abbrev pub label : Value → Value → Value
+abbrev pub label : TemplateValue → TemplateValue → TemplateValue
 label v (bytes name) = operand (Label name)
 label v w = mark
 
-abbrev pub external_label : Value → Value → Value
+abbrev pub external_label : TemplateValue → TemplateValue → TemplateValue
 external_label v (bytes name) = operand (ExternalLabel name)
 external_label v w = mark
 
-abbrev pub before_verb : Value → Value → Value
+abbrev pub before_verb : TemplateValue → TemplateValue → TemplateValue
 before_verb (bytes bs) (format cs v es) = format (bs ++ cs) v es
 before_verb v w = mark
 
-abbrev pub leading : Value → Value → Value
+abbrev pub leading : TemplateValue → TemplateValue → TemplateValue
 leading (verb v) (bytes es) = format [] v es
 leading v w = mark
 
-abbrev pub formatted : Value → Value → Value
+abbrev pub formatted : TemplateValue → TemplateValue → TemplateValue
 formatted v (format bs f es) = call (Printf (record { before = bs; verb = f; after = es }))
 formatted v w = mark
 
@@ -332,20 +332,20 @@ scale_goes_on t = is_some (scale_rule t)
 abbrev pub nothing_follows : Piece → Bool
 nothing_follows t = false
 
-abbrev pub blanks : Form Piece Rule Value
+abbrev pub blanks : Form Piece Rule TemplateValue
 blanks = turns second_of mark (token blank_at)
 
 -- these bytes, and then a form
-abbrev pub spelled : List ℕ → Form Piece Rule Value → Form Piece Rule Value
+abbrev pub spelled : List ℕ → Form Piece Rule TemplateValue → Form Piece Rule TemplateValue
 spelled [] f = f
 spelled (n ∷ ns) f = pair second_of (token (this_at n)) (spelled ns f)
 
 -- the piece that chose the rule, and then a form
-abbrev pub after_any : Form Piece Rule Value → Form Piece Rule Value
+abbrev pub after_any : Form Piece Rule TemplateValue → Form Piece Rule TemplateValue
 after_any f = pair second_of (token any_at) f
 
 -- an escape of a string that breaks off
-abbrev pub broken_off : Form Piece Rule Value
+abbrev pub broken_off : Form Piece Rule TemplateValue
 broken_off = pair second_of (token broken_at) (rule Breaking)
 
 -- The grammar, where a rule that a piece chooses stands in its place:
@@ -365,7 +365,7 @@ broken_off = pair second_of (token broken_at) (rule Breaking)
 --   after-verb = piece after-verb | "%" "%" after-verb | "\""
 --   after      = blanks ("|" blanks call after | "}" "}" text)
 -- A format and a string that has an escape which breaks off can go on with the parts of it alone.
-abbrev pub production : Rule → Form Piece Rule Value
+abbrev pub production : Rule → Form Piece Rule TemplateValue
 production Text = either (chosen text_rule anything) (nothing (parts []))
 production PlainPiece = pair texted (token raw_at) (rule Text)
 production Brace = after_any (rule Opened)

@@ -9,7 +9,7 @@ ghost use Rattle.pr_tmpl.specs.declared.template.Call.TheVariants.{Printf, Human
 ghost use Rattle.pr_tmpl.specs.declared.template.Part.TheVariants.{Words, Pipe};
 ghost use Rattle.pr_tmpl.specs.TemplateReading.{template_parts, bad_template_place};
 ghost use Rattle.pr_tmpl.specs.Expansion.{expansion};
-ghost use Rattle.pr_humanize.specs.pr_num.declared.value.Num.TheVariants.{Finite, NaN};
+ghost use Rattle.pr_num.specs.declared.value.Num.TheVariants.{Finite, NaN};
 
 /// What small texts are as templates, and how those expand.
 pub fn small_templates_expand_so()

@@ -1,7 +1,7 @@
 // The laws of the texts of templates, each as the contract of a function that does nothing.
 ghost use Rattle.std.specs.Prelude.{◌≡◌, ℕ, List, Some};
-ghost use Rattle.pr_forms.specs.Table.{IsDecided};
-ghost use Rattle.pr_forms.specs.Reading.{Ends};
+ghost use Rattle.pr_labels.specs.pr_forms.Table.{IsDecided};
+ghost use Rattle.pr_labels.specs.pr_forms.Reading.{Ends};
 ghost use Rattle.pr_tmpl.specs.declared.template.Part.{Part};
 ghost use Rattle.pr_tmpl.specs.Pieces.{pieces, raw_text};
 ghost use Rattle.pr_tmpl.specs.TemplateText.{production, IsTemplate, IsBadPiece};

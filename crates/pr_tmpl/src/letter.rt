@@ -1,28 +1,28 @@
 //! The pieces of a text, one after the other.
 ghost use Rattle.std.specs.Prelude.{◌≡◌, List, ◌<◌, ◌≤◌, [], drop, length, IfOk, IfErr, IfSome, MatchOption, MatchResult, string_bytes};
-ghost use Rattle.pr_labels.specs.pr_strings.Reader.{IsMemory, KeepsText};
-ghost use Rattle.pr_tmpl.specs.Reader.{KeepsTextBy};
+ghost use Rattle.pr_labels.specs.pr_words.private.Reader.{IsMemory, KeepsText};
+ghost use Rattle.pr_tmpl.specs.private.Reader.{KeepsTextBy};
 ghost use Rattle.pr_tmpl.specs.Pieces.{escape_length, escape_bytes, escape_quoted, ascii_front};
-ghost use Rattle.pr_tmpl.specs.Letters.{IsPlain, HasNoPlain, IsAscii, HasNoAscii, IsString, IsNoString, FollowsBackslash, IsLetter, MeansText, LetterText};
+ghost use Rattle.pr_tmpl.specs.private.Letters.{IsPlain, HasNoPlain, IsAscii, HasNoAscii, IsString, IsNoString, FollowsBackslash, IsLetter, MeansText, LetterText};
 
-use crate::kind::{Kind, kind_of, kind_of_all};
-use pr_forms::Fault;
-use pr_labels::strings::read_string;
+use crate::kind::{TemplateByte, kind_of, kind_of_all};
+use pr_labels::forms::Fault;
+use pr_labels::words_crate::strings::read_string;
 use std::alloc::{AllocError, Global};
 
 /// What stands at the front of a text.
 #[derive(Debug, Drop)]
 pub(crate) enum Letter {
     /// A byte that begins no escape.
-    Plain(Kind, u8),
+    Plain(TemplateByte, u8),
     /// An escape: the bytes that it means, and their kind.
-    Escape(Kind, Vec<u8>),
+    Escape(TemplateByte, Vec<u8>),
     /// An escape that breaks off.
     Broken,
 }
 
 /// The byte at the front with its kind, where it begins no escape, and what follows it.
-pub(crate) fn front(text: &[u8]) -> Option<(Kind, u8, &[u8])>
+pub(crate) fn front(text: &[u8]) -> Option<(TemplateByte, u8, &[u8])>
     ensures read { MatchOption result (HasNoPlain text.now) (λ x. IsPlain text.now x.0 x.1 x.2.now) }
     ensures shorter { IfSome result (λ x. length x.2.now < length text.now) }
     ensures text { IfSome result (λ x. KeepsTextBy x.0 text.now x.2.now) }

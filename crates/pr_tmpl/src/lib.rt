@@ -3,6 +3,7 @@
 
 mod examples;
 mod expand;
+pub mod humanize;
 mod kind;
 mod laws;
 mod letter;

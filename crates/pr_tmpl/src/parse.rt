@@ -1,20 +1,20 @@
 //! Reading a template.
 ghost use Rattle.std.specs.Prelude.{◌≡◌, ◌<◌, ◌≤◌, ◌++◌, [], Some, length, IfOk, IfErr, IfSome, IsTrue, MatchOption, MatchResult};
-ghost use Rattle.pr_forms.specs.Form.{rule};
-ghost use Rattle.pr_forms.specs.Run.{good};
+ghost use Rattle.pr_labels.specs.pr_forms.Form.{rule};
+ghost use Rattle.pr_labels.specs.pr_forms.Run.{good};
 ghost use Rattle.std.specs.Str.{IsUtf8};
-ghost use Rattle.pr_labels.specs.pr_strings.Reader.{IsMemory, KeepsText, SplitsText};
-ghost use Rattle.pr_tmpl.specs.Reader.{Gives, FailsAt, CutsText};
-ghost use Rattle.pr_tmpl.specs.Parsed.{opens, words_part, IsStep, IsTurn, IsOpened, IsAllWords};
-ghost use Rattle.pr_tmpl.specs.Faults.{IsNoTemplate};
+ghost use Rattle.pr_labels.specs.pr_words.private.Reader.{IsMemory, KeepsText, SplitsText};
+ghost use Rattle.pr_tmpl.specs.private.Reader.{Gives, FailsAt, CutsText};
+ghost use Rattle.pr_tmpl.specs.private.Parsed.{opens, words_part, IsStep, IsTurn, IsOpened, IsAllWords};
+ghost use Rattle.pr_tmpl.specs.private.Faults.{IsNoTemplate};
 ghost use Rattle.pr_tmpl.specs.TemplateText.{parts, Text as TextRule};
 ghost use Rattle.pr_tmpl.specs.TemplateReading.{template_parts};
 
-use crate::kind::Kind;
+use crate::kind::TemplateByte;
 use crate::letter::{Letter, letter_in};
 use crate::pipe::pipe_in;
 use crate::template::{Part, Template};
-use pr_forms::{Fault, place_of};
+use pr_labels::forms::{Fault, place_of};
 use pr_labels::words_crate::Text;
 use std::alloc::{AllocError, Global};
 
@@ -42,7 +42,7 @@ impl From<AllocError> for TmplError {
 fn is_open(letter: &Letter) -> bool
     ensures { result ≡ opens letter.now }
 {
-    matches!(letter, Letter::Plain(Kind::Open, _))
+    matches!(letter, Letter::Plain(TemplateByte::Open, _))
 }
 
 /// Whether an opening brace is the letter at the front, and what follows that; none at the end.

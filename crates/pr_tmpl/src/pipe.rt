@@ -1,22 +1,22 @@
 //! The pipes of a template.
 ghost use Rattle.std.specs.Prelude.{◌<◌, ◌≤◌, [], codes, length, IfOk, IfSome, IsTrue, MatchResult};
 ghost use Rattle.std.specs.Str.{IsUtf8};
-ghost use Rattle.pr_forms.specs.Form.{rule, nothing, chosen};
-ghost use Rattle.pr_forms.specs.Run.{good, bad};
+ghost use Rattle.pr_labels.specs.pr_forms.Form.{rule, nothing, chosen};
+ghost use Rattle.pr_labels.specs.pr_forms.Run.{good, bad};
 ghost use Rattle.pr_tmpl.specs.Pieces.{pieces};
-ghost use Rattle.pr_tmpl.specs.declared.kind.Kind.TheVariants.{Bar};
+ghost use Rattle.pr_tmpl.specs.declared.kind.TemplateByte.TheVariants.{Bar};
 ghost use Rattle.pr_tmpl.specs.TemplateText.{operand, call, parts, piped, spelled, production, AnOperand, ACall, Scale, Formatted, FromOperand, FromCall, After, Next, Text as TextRule, dollar_rule, dot_rule, external_rule, name_goes_on};
-ghost use Rattle.pr_labels.specs.pr_strings.Reader.{KeepsText};
-ghost use Rattle.pr_tmpl.specs.Letters.{IsNoSign, are_ascii};
-ghost use Rattle.pr_tmpl.specs.Reader.{Gives, FailsAt, Hands};
-ghost use Rattle.pr_tmpl.specs.Pipes.{after_gap, after_bar, a_pipe, IsCall, IsCalls, IsFromOperand, IsPipe};
+ghost use Rattle.pr_labels.specs.pr_words.private.Reader.{KeepsText};
+ghost use Rattle.pr_tmpl.specs.private.Letters.{IsNoSign, are_ascii};
+ghost use Rattle.pr_tmpl.specs.private.Reader.{Gives, FailsAt, Hands};
+ghost use Rattle.pr_tmpl.specs.private.Pipes.{after_gap, after_bar, a_pipe, IsCall, IsCalls, IsFromOperand, IsPipe};
 
-use crate::kind::Kind;
+use crate::kind::TemplateByte;
 use crate::letter::front;
 use crate::quoted::{content_in, format_in};
 use crate::template::{Call, Operand};
 use crate::words::{blanks_in, gap_in, label_in, sign_in, word_in};
-use pr_forms::Fault;
+use pr_labels::forms::Fault;
 use pr_labels::words_crate::Items;
 use std::alloc::Global;
 
@@ -48,11 +48,11 @@ fn external_part(alloc: Global, text: &[u8]) -> Result<(Operand, &[u8]), Fault<'
         return Err(Fault::Bad(text));
     };
     match kind {
-        Kind::CapitalL => {
+        TemplateByte::CapitalL => {
             let (name, end) = label_in(alloc, rest)?;
             Ok((Operand::ExternalLabel(name), end))
         }
-        Kind::CapitalU => operand_word(b"RL", Operand::ExternalUrl, rest),
+        TemplateByte::CapitalU => operand_word(b"RL", Operand::ExternalUrl, rest),
         _ => Err(Fault::Bad(text)),
     }
 }
@@ -79,12 +79,12 @@ fn dollared(alloc: Global, text: &[u8]) -> Result<(Operand, &[u8]), Fault<'_, u8
         return Err(Fault::Bad(text));
     };
     match kind {
-        Kind::SmallV => operand_word(b"alue", Operand::Value, rest),
-        Kind::SmallL => {
+        TemplateByte::SmallV => operand_word(b"alue", Operand::Value, rest),
+        TemplateByte::SmallL => {
             let (name, end) = label_in(alloc, rest)?;
             Ok((Operand::Label(name), end))
         }
-        Kind::SmallE => external_operand(alloc, rest),
+        TemplateByte::SmallE => external_operand(alloc, rest),
         _ => Err(Fault::Bad(text)),
     }
 }
@@ -99,12 +99,12 @@ fn dotted(alloc: Global, text: &[u8]) -> Result<(Operand, &[u8]), Fault<'_, u8>>
         return Err(Fault::Bad(text));
     };
     match kind {
-        Kind::CapitalV => operand_word(b"alue", Operand::Value, rest),
-        Kind::CapitalL => {
+        TemplateByte::CapitalV => operand_word(b"alue", Operand::Value, rest),
+        TemplateByte::CapitalL => {
             let (name, end) = label_in(alloc, rest)?;
             Ok((Operand::Label(name), end))
         }
-        Kind::CapitalE => external_operand(alloc, rest),
+        TemplateByte::CapitalE => external_operand(alloc, rest),
         _ => Err(Fault::Bad(text)),
     }
 }
@@ -120,12 +120,12 @@ fn operand_in(alloc: Global, text: &[u8]) -> Result<(Operand, &[u8]), Fault<'_, 
         return Err(Fault::Bad(text));
     };
     match kind {
-        Kind::Quote => {
+        TemplateByte::Quote => {
             let (words, end) = content_in(alloc, rest)?;
             Ok((Operand::Words(words), end))
         }
-        Kind::Dollar => dollared(alloc, rest),
-        Kind::Point => dotted(alloc, rest),
+        TemplateByte::Dollar => dollared(alloc, rest),
+        TemplateByte::Point => dotted(alloc, rest),
         _ => Err(Fault::Bad(text)),
     }
 }
@@ -158,8 +158,8 @@ fn scale_in(text: &[u8]) -> Result<(Call, &[u8]), Fault<'_, u8>>
         return Ok((Call::Humanize, text));
     };
     match kind {
-        Kind::CapitalP => call_word(b"ercentage", Call::HumanizePercentage, rest),
-        Kind::CapitalD => call_word(b"uration", Call::HumanizeDuration, rest),
+        TemplateByte::CapitalP => call_word(b"ercentage", Call::HumanizePercentage, rest),
+        TemplateByte::CapitalD => call_word(b"uration", Call::HumanizeDuration, rest),
         _ => Ok((Call::Humanize, text)),
     }
 }
@@ -218,8 +218,8 @@ fn call_in(alloc: Global, text: &[u8]) -> Result<(Call, &[u8]), Fault<'_, u8>>
         return Err(Fault::Bad(text));
     };
     match kind {
-        Kind::SmallP => printf_call(alloc, rest),
-        Kind::SmallH => humanize_call(rest),
+        TemplateByte::SmallP => printf_call(alloc, rest),
+        TemplateByte::SmallH => humanize_call(rest),
         _ => Err(Fault::Bad(text)),
     }
 }
@@ -243,8 +243,8 @@ fn braces_in(text: &[u8]) -> Result<&[u8], &[u8]>
     ensures shorter { IfOk result (λ rest. length rest.now ≤ length text.now) }
     ensures text { IfOk result (λ rest. KeepsText text.now rest.now) }
 {
-    match sign_in(Kind::Close, text) {
-        Some(second) => match sign_in(Kind::Close, second) {
+    match sign_in(TemplateByte::Close, text) {
+        Some(second) => match sign_in(TemplateByte::Close, second) {
             Some(end) => Ok(end),
             None => Err(second),
         },
@@ -265,7 +265,7 @@ fn calls_in(
 {
     let mut calls = before;
     let mut rest = blanks_in(text);
-    while let Some(at) = sign_in(Kind::Bar, rest) {
+    while let Some(at) = sign_in(TemplateByte::Bar, rest) {
         let (call, next) = call_between(alloc, at)?;
         calls.push(call)?;
         rest = next;
@@ -323,11 +323,11 @@ pub(crate) fn pipe_in(
         return Err(Fault::Bad(at));
     };
     match kind {
-        Kind::Quote => from_operand(alloc, Items::empty(alloc), at),
-        Kind::Dollar => from_operand(alloc, Items::empty(alloc), at),
-        Kind::Point => from_operand(alloc, Items::empty(alloc), at),
-        Kind::SmallP => from_call(alloc, at),
-        Kind::SmallH => from_call(alloc, at),
+        TemplateByte::Quote => from_operand(alloc, Items::empty(alloc), at),
+        TemplateByte::Dollar => from_operand(alloc, Items::empty(alloc), at),
+        TemplateByte::Point => from_operand(alloc, Items::empty(alloc), at),
+        TemplateByte::SmallP => from_call(alloc, at),
+        TemplateByte::SmallH => from_call(alloc, at),
         _ => Err(Fault::Bad(at)),
     }
 }

@@ -1,21 +1,21 @@
 //! The strings of a pipe, and the formats of `printf`.
 ghost use Rattle.std.specs.Prelude.{◌≡◌, ◌<◌, ◌≤◌, ◌++◌, [], codes, length, IfOk, IfSome, OnOk, MatchOption, MatchResult};
 ghost use Rattle.std.specs.Str.{IsUtf8};
-ghost use Rattle.pr_forms.specs.Form.{rule};
-ghost use Rattle.pr_forms.specs.Run.{good};
+ghost use Rattle.pr_labels.specs.pr_forms.Form.{rule};
+ghost use Rattle.pr_labels.specs.pr_forms.Run.{good};
 ghost use Rattle.pr_tmpl.specs.Pieces.{pieces};
 ghost use Rattle.pr_tmpl.specs.declared.template.Verb.TheVariants.{Fixed};
 ghost use Rattle.pr_tmpl.specs.declared.template.Call.TheVariants.{Printf};
 ghost use Rattle.pr_tmpl.specs.TemplateText.{bytes as bytes_value, verb, format, call, bytes_joined, leading, Content as ContentRule, Before as BeforeRule, Wanted as WantedRule, Places as PlacesRule, LetterF, AfterVerb, SecondPercent, Formatted};
-ghost use Rattle.pr_labels.specs.pr_strings.Reader.{KeepsText, KeepsFront};
-ghost use Rattle.pr_tmpl.specs.Reader.{Gives, FailsAt, Leads, Hands, KeepsTextBy, BeginsText};
-ghost use Rattle.pr_tmpl.specs.Quotes.{is_own, means_of, rule_of, ReachesAsOwn, Stops, first_byte, IsControl, IsNoControl, BreaksOffAt, verb_wanted, HasFewPlaces, IsWanted, LeadsUpTo, GoesOnBehind};
+ghost use Rattle.pr_labels.specs.pr_words.private.Reader.{KeepsText, KeepsFront};
+ghost use Rattle.pr_tmpl.specs.private.Reader.{Gives, FailsAt, Leads, Hands, KeepsTextBy, BeginsText};
+ghost use Rattle.pr_tmpl.specs.private.Quotes.{is_own, means_of, rule_of, ReachesAsOwn, Stops, first_byte, IsControl, IsNoControl, BreaksOffAt, verb_wanted, HasFewPlaces, IsWanted, LeadsUpTo, GoesOnBehind};
 
-use crate::kind::Kind;
+use crate::kind::TemplateByte;
 use crate::letter::{Letter, letter_in};
 use crate::template::{Format, Places, Verb};
 use crate::words::sign_in;
-use pr_forms::Fault;
+use pr_labels::forms::Fault;
 use pr_labels::words_crate::Text;
 use std::alloc::{AllocError, Global};
 
@@ -33,8 +33,8 @@ fn is_own(within: Within, letter: &Letter) -> bool
     ensures { result ≡ is_own within letter.now }
 {
     match letter {
-        Letter::Plain(Kind::Quote, _) | Letter::Plain(Kind::Feed, _) => false,
-        Letter::Plain(Kind::Percent, _) | Letter::Escape(Kind::Percent, _) => {
+        Letter::Plain(TemplateByte::Quote, _) | Letter::Plain(TemplateByte::Feed, _) => false,
+        Letter::Plain(TemplateByte::Percent, _) | Letter::Escape(TemplateByte::Percent, _) => {
             matches!(within, Within::Content)
         }
         Letter::Plain(_, _) | Letter::Escape(_, _) => true,
@@ -103,7 +103,7 @@ pub(crate) fn content_in(alloc: Global, text: &[u8]) -> Result<(Text, &[u8]), Fa
     ensures text { IfOk result (λ x. IsUtf8 x.1.now) }
 {
     let (means, rest) = means_in(alloc, Within::Content, text)?;
-    match sign_in(Kind::Quote, rest) {
+    match sign_in(TemplateByte::Quote, rest) {
         Some(after) => Ok((means, after)),
         None => Err(Fault::Bad(rest)),
     }
@@ -121,7 +121,10 @@ fn first_of(bytes: &[u8]) -> u8
 
 /// The letter at the front as it counts in a format: its kind, the first byte that it means, and
 /// what follows it. The fault is at an escape that breaks off.
-fn control_in(alloc: Global, text: &[u8]) -> Result<Option<(Kind, u8, &[u8])>, Fault<'_, u8>>
+fn control_in(
+    alloc: Global,
+    text: &[u8],
+) -> Result<Option<(TemplateByte, u8, &[u8])>, Fault<'_, u8>>
     ensures read { MatchResult result (λ o. MatchOption o (text.now ≡ []) (λ x. IsControl text.now x.0 x.1 x.2.now)) (BreaksOffAt text.now) }
     ensures shorter { IfOk result (λ o. IfSome o (λ x. length x.2.now < length text.now)) }
     ensures text { IfOk result (λ o. IfSome o (λ x. KeepsTextBy x.0 text.now x.2.now)) }
@@ -138,7 +141,11 @@ fn control_in(alloc: Global, text: &[u8]) -> Result<Option<(Kind, u8, &[u8])>, F
 
 /// What follows the letter of this kind at the front, and the first byte that it means.
 #[tactic(auto, using(crate::proofs::TextKept::same_kind))]
-fn sought_in(alloc: Global, wanted: Kind, text: &[u8]) -> Result<Option<(u8, &[u8])>, Fault<'_, u8>>
+fn sought_in(
+    alloc: Global,
+    wanted: TemplateByte,
+    text: &[u8],
+) -> Result<Option<(u8, &[u8])>, Fault<'_, u8>>
     ensures read { MatchResult result (λ o. MatchOption o (IsNoControl text.now wanted) (λ x. IsControl text.now wanted x.0 x.1.now)) (BreaksOffAt text.now) }
     ensures shorter { IfOk result (λ o. IfSome o (λ x. length x.1.now < length text.now)) }
     ensures text { IfOk result (λ o. IfSome o (λ x. KeepsTextBy wanted text.now x.1.now)) }
@@ -159,7 +166,7 @@ fn letter_f_in(alloc: Global, text: &[u8]) -> Result<&[u8], Fault<'_, u8>>
     ensures shorter { IfOk result (λ rest. length rest.now ≤ length text.now) }
     ensures text { IfOk result (λ rest. KeepsText text.now rest.now) }
 {
-    match sought_in(alloc, Kind::SmallF, text)? {
+    match sought_in(alloc, TemplateByte::SmallF, text)? {
         Some((_byte, rest)) => Ok(rest),
         None => Err(Fault::Bad(text)),
     }
@@ -172,7 +179,7 @@ fn second_percent_in(alloc: Global, text: &[u8]) -> Result<&[u8], Fault<'_, u8>>
     ensures shorter { IfOk result (λ rest. length rest.now ≤ length text.now) }
     ensures text { IfOk result (λ rest. KeepsText text.now rest.now) }
 {
-    match sought_in(alloc, Kind::Percent, text)? {
+    match sought_in(alloc, TemplateByte::Percent, text)? {
         Some((_byte, rest)) => Ok(rest),
         None => Err(Fault::Bad(text)),
     }
@@ -185,7 +192,7 @@ fn digit_in(alloc: Global, text: &[u8]) -> Result<(u8, &[u8]), Fault<'_, u8>>
     ensures shorter { IfOk result (λ x. length x.1.now ≤ length text.now) }
     ensures text { IfOk result (λ x. KeepsText text.now x.1.now) }
 {
-    match sought_in(alloc, Kind::Digit, text)? {
+    match sought_in(alloc, TemplateByte::Digit, text)? {
         Some((byte, rest)) => Ok((byte.saturating_sub(b'0'), rest)),
         None => Err(Fault::Bad(text)),
     }
@@ -222,10 +229,10 @@ fn wanted_in(alloc: Global, text: &[u8]) -> Result<(Wanted, &[u8]), Fault<'_, u8
         return Err(Fault::Bad(text));
     };
     match kind {
-        Kind::Percent => Ok((Wanted::Percent, rest)),
-        Kind::SmallF => Ok((Wanted::Fixed(6), rest)),
-        Kind::SmallV | Kind::SmallS => Ok((Wanted::Plain, rest)),
-        Kind::Point => {
+        TemplateByte::Percent => Ok((Wanted::Percent, rest)),
+        TemplateByte::SmallF => Ok((Wanted::Fixed(6), rest)),
+        TemplateByte::SmallV | TemplateByte::SmallS => Ok((Wanted::Plain, rest)),
+        TemplateByte::Point => {
             let (places, after) = places_in(alloc, rest)?;
             Ok((Wanted::Fixed(places), after))
         }
@@ -256,7 +263,7 @@ fn up_to_wanted(alloc: Global, text: &[u8]) -> Result<(Text, Wanted, &[u8]), Fau
     ensures text { IfOk result (λ x. IsUtf8 x.2.now) }
 {
     let (means, at) = means_in(alloc, Within::Before, text)?;
-    let Some((_byte, after)) = sought_in(alloc, Kind::Percent, at)? else {
+    let Some((_byte, after)) = sought_in(alloc, TemplateByte::Percent, at)? else {
         return Err(Fault::Bad(at));
     };
     let (wanted, next) = wanted_in(alloc, after)?;
@@ -296,12 +303,12 @@ fn up_to_percent(alloc: Global, text: &[u8]) -> Result<(Text, bool, &[u8]), Faul
     ensures text { IfOk result (λ x. IsUtf8 x.2.now) }
 {
     let (means, at) = means_in(alloc, Within::After, text)?;
-    match sought_in(alloc, Kind::Percent, at)? {
+    match sought_in(alloc, TemplateByte::Percent, at)? {
         Some((_byte, after)) => {
             let rest = second_percent_in(alloc, after)?;
             Ok((means, true, rest))
         }
-        None => match sign_in(Kind::Quote, at) {
+        None => match sign_in(TemplateByte::Quote, at) {
             Some(after) => Ok((means, false, after)),
             None => Err(Fault::Bad(at)),
         },
@@ -335,7 +342,7 @@ pub(crate) fn format_in(alloc: Global, text: &[u8]) -> Result<(Format, &[u8]), F
     ensures shorter { IfOk result (λ x. length x.1.now ≤ length text.now) }
     ensures text { IfOk result (λ x. IsUtf8 x.1.now) }
 {
-    let Some(inside) = sign_in(Kind::Quote, text) else {
+    let Some(inside) = sign_in(TemplateByte::Quote, text) else {
         return Err(Fault::Bad(text));
     };
     let (before, wanted, rest) = before_in(alloc, inside)?;

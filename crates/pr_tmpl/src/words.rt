@@ -1,22 +1,22 @@
 //! The words of a pipe.
 ghost use Rattle.std.specs.Prelude.{◌≡◌, ◌<◌, ◌≤◌, ◌∷◌, ◌++◌, [], ℕ, List, codes, length, IfOk, IfSome, IsTrue, MatchOption, MatchResult};
-ghost use Rattle.pr_forms.specs.Form.{Form, rule, pair, token};
-ghost use Rattle.pr_forms.specs.Run.{good, bad};
+ghost use Rattle.pr_labels.specs.pr_forms.Form.{Form, rule, pair, token};
+ghost use Rattle.pr_labels.specs.pr_forms.Run.{good, bad};
 ghost use Rattle.pr_tmpl.specs.Pieces.{Piece, pieces};
-ghost use Rattle.pr_tmpl.specs.TemplateText.{Rule, Value, bytes, mark, blanks, blank_at, spelled, second_of, is_name_start, is_name_part, Name, NameRest};
-ghost use Rattle.pr_tmpl.specs.Letters.{IsSign, IsNoSign, are_ascii};
-ghost use Rattle.pr_labels.specs.pr_strings.Reader.{KeepsText};
-ghost use Rattle.pr_tmpl.specs.Reader.{Gives, FailsAt, Leads, KeepsTextBy};
+ghost use Rattle.pr_tmpl.specs.TemplateText.{Rule, TemplateValue, bytes, mark, blanks, blank_at, spelled, second_of, is_name_start, is_name_part, Name, NameRest};
+ghost use Rattle.pr_tmpl.specs.private.Letters.{IsSign, IsNoSign, are_ascii};
+ghost use Rattle.pr_labels.specs.pr_words.private.Reader.{KeepsText};
+ghost use Rattle.pr_tmpl.specs.private.Reader.{Gives, FailsAt, Leads, KeepsTextBy};
 
-use crate::kind::Kind;
+use crate::humanize::push_byte;
+use crate::kind::TemplateByte;
 use crate::letter::front;
-use pr_forms::Fault;
-use pr_humanize::push_byte;
+use pr_labels::forms::Fault;
 use pr_labels::words_crate::Text;
 use std::alloc::Global;
 
 /// What follows the byte of this kind at the front.
-pub(crate) fn sign_in(wanted: Kind, text: &[u8]) -> Option<&[u8]>
+pub(crate) fn sign_in(wanted: TemplateByte, text: &[u8]) -> Option<&[u8]>
     ensures read { MatchOption result (IsNoSign wanted text.now) (λ rest. IsSign wanted text.now rest.now) }
     ensures shorter { IfSome result (λ rest. length rest.now < length text.now) }
     ensures text { IfSome result (λ rest. KeepsTextBy wanted text.now rest.now) }
@@ -34,7 +34,7 @@ pub(crate) fn blanks_in(text: &[u8]) -> &[u8]
     ensures text { KeepsText text.now result.now }
 {
     let mut rest = text;
-    while let Some(after) = sign_in(Kind::Blank, rest) {
+    while let Some(after) = sign_in(TemplateByte::Blank, rest) {
         rest = after;
     }
     rest
@@ -42,12 +42,12 @@ pub(crate) fn blanks_in(text: &[u8]) -> &[u8]
 
 /// What follows one blank or more at the front.
 pub(crate) fn gap_in(text: &[u8]) -> Result<&[u8], &[u8]>
-    ensures read { MatchResult result (λ rest. (f : Form Piece Rule Value) → Leads (pair second_of (token blank_at) (pair second_of blanks f)) text.now f rest.now)
-        (λ rest. (f : Form Piece Rule Value) → Gives (pair second_of (token blank_at) (pair second_of blanks f)) text.now (bad (pieces rest.now))) }
+    ensures read { MatchResult result (λ rest. (f : Form Piece Rule TemplateValue) → Leads (pair second_of (token blank_at) (pair second_of blanks f)) text.now f rest.now)
+        (λ rest. (f : Form Piece Rule TemplateValue) → Gives (pair second_of (token blank_at) (pair second_of blanks f)) text.now (bad (pieces rest.now))) }
     ensures shorter { IfOk result (λ rest. length rest.now ≤ length text.now) }
     ensures text { IfOk result (λ rest. KeepsText text.now rest.now) }
 {
-    match sign_in(Kind::Blank, text) {
+    match sign_in(TemplateByte::Blank, text) {
         Some(rest) => Ok(blanks_in(rest)),
         None => Err(text),
     }
@@ -56,8 +56,8 @@ pub(crate) fn gap_in(text: &[u8]) -> Result<&[u8], &[u8]>
 /// What follows these bytes at the front.
 pub(crate) fn word_in<'a>(word: &[u8], text: &'a [u8]) -> Result<&'a [u8], &'a [u8]>
     requires { IsTrue (are_ascii word.now) }
-    ensures read { MatchResult result (λ rest. (f : Form Piece Rule Value) → Leads (spelled word.now f) text.now f rest.now)
-        (λ rest. (f : Form Piece Rule Value) → Gives (spelled word.now f) text.now (bad (pieces rest.now))) }
+    ensures read { MatchResult result (λ rest. (f : Form Piece Rule TemplateValue) → Leads (spelled word.now f) text.now f rest.now)
+        (λ rest. (f : Form Piece Rule TemplateValue) → Gives (spelled word.now f) text.now (bad (pieces rest.now))) }
     ensures shorter { IfOk result (λ rest. length rest.now ≤ length text.now) }
     ensures text { IfOk result (λ rest. KeepsText text.now rest.now) }
 {
@@ -77,32 +77,32 @@ pub(crate) fn word_in<'a>(word: &[u8], text: &'a [u8]) -> Result<&'a [u8], &'a [
 }
 
 /// Whether a name may begin with a byte of this kind.
-fn is_name_start(kind: Kind) -> bool
+fn is_name_start(kind: TemplateByte) -> bool
     ensures { result ≡ is_name_start kind }
 {
     matches!(
         kind,
-        Kind::SmallE
-            | Kind::SmallF
-            | Kind::SmallH
-            | Kind::SmallL
-            | Kind::SmallP
-            | Kind::SmallS
-            | Kind::SmallV
-            | Kind::CapitalD
-            | Kind::CapitalE
-            | Kind::CapitalL
-            | Kind::CapitalP
-            | Kind::CapitalU
-            | Kind::CapitalV
-            | Kind::OtherLetter
+        TemplateByte::SmallE
+            | TemplateByte::SmallF
+            | TemplateByte::SmallH
+            | TemplateByte::SmallL
+            | TemplateByte::SmallP
+            | TemplateByte::SmallS
+            | TemplateByte::SmallV
+            | TemplateByte::CapitalD
+            | TemplateByte::CapitalE
+            | TemplateByte::CapitalL
+            | TemplateByte::CapitalP
+            | TemplateByte::CapitalU
+            | TemplateByte::CapitalV
+            | TemplateByte::OtherLetter
     )
 }
 
-fn is_name_part(kind: Kind) -> bool
+fn is_name_part(kind: TemplateByte) -> bool
     ensures { result ≡ is_name_part kind }
 {
-    matches!(kind, Kind::Digit) || is_name_start(kind)
+    matches!(kind, TemplateByte::Digit) || is_name_start(kind)
 }
 
 /// The byte at the front, where a name may go on with it, and what follows it.

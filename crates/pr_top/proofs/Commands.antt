@@ -1,35 +1,35 @@
 -- What each command promises, by how it ended; and the cause of its status.
 use Rattle.std.proofs.Common.{◌≡◌, ◌≢◌, ℕ, ◌<◌, ◌≤◌, ◌^◌, Bool, true, false, List, [], Option, None, Some, IfSome, Result, Ok, Err, IfOk, OnOk, inl, inr, refl, sym, ap, ◌∙◌, subst, length, take, take_all, arith}
 use Rattle.std.specs.Io.KnownBytes.{Appends}
-use Rattle.pr_backfill_command.specs.pr_history.declared.entry.Entry.{Entry}
+use Rattle.pr_engine.specs.spec_history.declared.entry.Entry.{Entry}
 use Rattle.pr_outside.specs.Causes.{IsCalm, Rose}
 use Rattle.pr_outside.specs.declared.keeping.Row.{Row}
-use Rattle.pr_backfill_command.specs.pr_row.Histories.{history_of}
-use Rattle.pr_status.specs.Ends.{Ends, KnowsLength, StopsBy, no_row, place_of, status_of, stop_status}
-use Rattle.pr_status.specs.Opening.{OpensBy}
-use Rattle.pr_status.specs.Outside.{Outside, AreCalm, AreTold, Held}
-use Rattle.pr_status.specs.Status.{HasCause, IsLong, verdict}
-use Rattle.pr_status.specs.declared.status.Status.{Status}
-use Rattle.pr_status.specs.declared.status.Status.TheVariants as status
-use Rattle.pr_status.specs.declared.status.Stop.{Stop}
-use Rattle.pr_status.specs.declared.status.Stop.TheVariants as stop
-use Rattle.pr_status.proofs.Causes.{ending_cause, stop_cause}
-use Rattle.pr_status.proofs.Ended.{calm_stop}
-use Rattle.pr_status.proofs.Telling.{at_told, long_not_short, status_is}
-use Rattle.pr_check_loops.specs.Checks.{Checked, ends_by}
-use Rattle.pr_check_loops.specs.FileChecks.{MeansFileCheck, Telling}
-use Rattle.pr_check_loops.specs.InputChecks.{MeansInputCheck}
-use Rattle.pr_check_loops.specs.declared.verdict.Verdict.{Verdict}
-use Rattle.pr_check_loops.specs.declared.verdict.Verdict.TheVariants.{Good, Complaints, Refused}
-use Rattle.pr_backfill_command.specs.pr_checks.Metrics.{metrics_told}
-use Rattle.pr_backfill_command.specs.pr_checks.RuleFiles.{rules_told}
-use Rattle.pr_backfill_command.specs.pr_test_texts.TestsTold.{tests_told}
-use Rattle.pr_exercise_command.specs.pr_run.Front.{TellsRow}
-use Rattle.pr_exercise_command.specs.pr_run.Rows.{IsBadIn, OverRows}
-use Rattle.pr_exercise_command.specs.pr_run.Runs.{EndsBy, EndsInto, EndsOver, IsStopped, IsWholeRun, MeansRun, RunsBy}
-use Rattle.pr_exercise_command.specs.pr_run.Told.{answers_to, asks_of, bad_row_text, refuses}
-use Rattle.pr_exercise_command.specs.Means.{MeansExercise, exercise_status}
-use Rattle.pr_backfill_command.specs.pr_backfill_texts.Means.{MeansBackfill}
+use Rattle.pr_engine.specs.spec_history.Histories.{history_of}
+use Rattle.pr_outside.specs.Ends.{Ends, KnowsLength, StopsBy, no_row, place_of, status_of, stop_status}
+use Rattle.pr_outside.specs.Opening.{OpensBy}
+use Rattle.pr_outside.specs.Outside.{Outside, AreCalm, AreTold, Held}
+use Rattle.pr_outside.specs.Status.{HasCause, IsLong, verdict}
+use Rattle.pr_outside.specs.declared.status.status.Status.{Status}
+use Rattle.pr_outside.specs.declared.status.status.Status.TheVariants as status
+use Rattle.pr_outside.specs.declared.status.status.Stop.{Stop}
+use Rattle.pr_outside.specs.declared.status.status.Stop.TheVariants as stop
+use Rattle.pr_outside.proofs.Causes.{ending_cause, stop_cause}
+use Rattle.pr_outside.proofs.Ended.{calm_stop}
+use Rattle.pr_outside.proofs.Telling.{at_told, long_not_short, status_is}
+use Rattle.pr_outside.specs.Checks.{Checked, ends_by}
+use Rattle.pr_outside.specs.FileChecks.{MeansFileCheck, Telling}
+use Rattle.pr_outside.specs.InputChecks.{MeansInputCheck}
+use Rattle.pr_outside.specs.declared.check_loops.verdict.Verdict.{Verdict}
+use Rattle.pr_outside.specs.declared.check_loops.verdict.Verdict.TheVariants.{Good, Complaints, Refused}
+use Rattle.pr_backfill.specs.pr_checks.Metrics.{metrics_told}
+use Rattle.pr_backfill.specs.pr_checks.RuleFiles.{rules_told}
+use Rattle.pr_test.specs.TestsTold.{tests_told}
+use Rattle.pr_backfill.specs.pr_text.BadRows.{TellsRow, bad_row_text}
+use Rattle.pr_engine.specs.spec_history.Stores.{IsBadIn, OverRows}
+use Rattle.pr_run.specs.Runs.{EndsBy, EndsInto, EndsOver, IsStopped, IsWholeRun, MeansRun, RunsBy}
+use Rattle.pr_run.specs.Told.{answers_to, asks_of, refuses}
+use Rattle.pr_exercise.specs.Means.{MeansExercise, exercise_status}
+use Rattle.pr_backfill.specs.Means.{MeansBackfill}
 use Rattle.pr_top.specs.Command.{Command, runs, tests_rules, checks_rules, checks_metrics, exercises, backfills}
 use Rattle.pr_top.specs.Means.{HasBadRow, MeansCommand, MeansUsage, usage_status}
 use Rattle.pr_top.specs.Usage.{usage_text}

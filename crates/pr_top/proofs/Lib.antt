@@ -1,5 +1,3 @@
 pub mod Commands
 pub mod WordTimes
-pub mod EngineEnds
-pub use Rattle.pr_backfill_command.proofs.KindsPlainTexts
-pub use Rattle.pr_exercise_command.proofs.RunExpressionExamples
+pub use Rattle.pr_run.proofs.ExpressionExamples as RunExpressionExamples

@@ -2,12 +2,12 @@
 use Rattle.std.proofs.Common.{◌≡◌, ℕ, ◌≤◌, ◌<◌, ◌^◌, Bool, true, false, cond, List, [], Option, Some, None, refl, sym, ap, ◌∙◌, arith, Global, String, ◌∷◌, length, map, string_bytes}
 use Rattle.std.specs.Prelude.{nat_lt}
 use Rattle.std.proofs.lemmas.Bool.{lt-ltb, ltb-true}
-use Rattle.pr_forms.specs.Form.{rule, Reads}
-use Rattle.pr_time.specs.SpanAnswer.{span_of}
-use Rattle.pr_time.specs.SpanText.{production, seen, Text, Value, span, IsTooLong, ReadsSpan}
-use Rattle.pr_time.specs.declared.text.SpanFault.{SpanFault}
-use Rattle.pr_time.specs.declared.text.SpanFault.TheVariants.{BadSpan, SpanTooLong}
-use Rattle.pr_time.proofs.SpanTotal.{reading_of_span, span_of_reading}
+use Rattle.pr_test.specs.pr_forms.Form.{rule, Reads}
+use Rattle.pr_engine.specs.pr_time.SpanAnswer.{span_of}
+use Rattle.pr_engine.specs.pr_time.SpanText.{production, seen, Text, SpanValue, span, IsTooLong, ReadsSpan}
+use Rattle.pr_engine.specs.pr_time.declared.text.SpanFault.{SpanFault}
+use Rattle.pr_engine.specs.pr_time.declared.text.SpanFault.TheVariants.{BadSpan, SpanTooLong}
+use Rattle.pr_engine.proofs.TimeSpanTotal.{reading_of_span, span_of_reading}
 use Rattle.pr_top.specs.Command.{backfill_of, step_in, step_of}
 
 small_enough : (ms : ℕ) → ms ≤ 2 ^ 40 → nat_lt (2 ^ 40) ms ≡ false
@@ -27,7 +27,7 @@ none ms large = ap (λ (b : Bool). cond b None (Some ms)) (lt-ltb (2 ^ 40) ms la
 pub step_read : (word : List ℕ) (s : ℕ) → ReadsSpan word s → s ≤ 2 ^ 40 → Some s ≡ step_of word
 step_read word s reads small = sym (ap step_in (span_of_reading word s reads) ∙ step s small)
 
-pub no_step : (word : List ℕ) (e : SpanFault) → ((v : Value) → Reads production (rule Text) (seen word) v [] → IsTooLong v e) → None ≡ step_of word
+pub no_step : (word : List ℕ) (e : SpanFault) → ((v : SpanValue) → Reads production (rule Text) (seen word) v [] → IsTooLong v e) → None ≡ step_of word
 no_step word e only = sym (by (span_of word) refl)
   where
     too_long : (ms : ℕ) (e : SpanFault) → IsTooLong (span ms) e → 2 ^ 40 < ms

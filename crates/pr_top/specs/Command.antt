@@ -4,10 +4,10 @@ use Prim.Native.Char.{code}
 use Rattle.std.specs.List.{list_all}
 use Rattle.std.specs.Option.{option_map}
 use Rattle.std.specs.Str.{bytes_eq}
-use Rattle.pr_words.specs.Decimals.{plain_decimal}
-use Rattle.pr_time.specs.SpanAnswer.{span_of}
-use Rattle.pr_exercise_command.specs.pr_script.Script.{written_time}
-use Rattle.pr_backfill_command.specs.pr_backfill.Times.{backfill_times, times_from}
+use Rattle.pr_outside.specs.pr_words.Decimals.{plain_decimal}
+use Rattle.pr_engine.specs.pr_time.SpanAnswer.{span_of}
+use Rattle.pr_backfill.specs.pr_text.Script.{written_time}
+use Rattle.pr_backfill.specs.Times.{backfill_times, times_from}
 
 -- All that the words may ask for. Names are those of files, and a path is that of a store; the empty
 -- path is a store in memory.

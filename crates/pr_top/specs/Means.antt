@@ -2,20 +2,20 @@
 use Rattle.std.specs.Prelude.{◌≡◌, ◌≢◌, ℕ, List, take, Option, Some, None, Result, Ok, Err, OnOk}
 use Rattle.std.specs.Io.KnownBytes.{Appends}
 use Rattle.pr_outside.specs.Meant.{Store}
-use Rattle.pr_status.specs.Ends.{Ends, no_row, stop_status}
-use Rattle.pr_status.specs.Outside.{Outside, AreCalm}
-use Rattle.pr_status.specs.declared.status.Status.{Status}
-use Rattle.pr_status.specs.declared.status.Status.TheVariants as status
-use Rattle.pr_status.specs.declared.status.Stop.{Stop}
-use Rattle.pr_check_loops.specs.FileChecks.{MeansFileCheck}
-use Rattle.pr_check_loops.specs.InputChecks.{MeansInputCheck}
-use Rattle.pr_backfill_command.specs.pr_checks.Metrics.{metrics_told}
-use Rattle.pr_backfill_command.specs.pr_checks.RuleFiles.{rules_told}
-use Rattle.pr_backfill_command.specs.pr_test_texts.TestsTold.{tests_told}
-use Rattle.pr_exercise_command.specs.pr_run.Rows.{IsBadIn}
-use Rattle.pr_exercise_command.specs.pr_run.Runs.{MeansRun}
-use Rattle.pr_exercise_command.specs.Means.{MeansExercise}
-use Rattle.pr_backfill_command.specs.pr_backfill_texts.Means.{MeansBackfill}
+use Rattle.pr_outside.specs.Ends.{Ends, no_row, stop_status}
+use Rattle.pr_outside.specs.Outside.{Outside, AreCalm}
+use Rattle.pr_outside.specs.declared.status.status.Status.{Status}
+use Rattle.pr_outside.specs.declared.status.status.Status.TheVariants as status
+use Rattle.pr_outside.specs.declared.status.status.Stop.{Stop}
+use Rattle.pr_outside.specs.FileChecks.{MeansFileCheck}
+use Rattle.pr_outside.specs.InputChecks.{MeansInputCheck}
+use Rattle.pr_backfill.specs.pr_checks.Metrics.{metrics_told}
+use Rattle.pr_backfill.specs.pr_checks.RuleFiles.{rules_told}
+use Rattle.pr_test.specs.TestsTold.{tests_told}
+use Rattle.pr_engine.specs.spec_history.Stores.{IsBadIn}
+use Rattle.pr_run.specs.Runs.{MeansRun}
+use Rattle.pr_exercise.specs.Means.{MeansExercise}
+use Rattle.pr_backfill.specs.Means.{MeansBackfill}
 use Rattle.pr_top.specs.Command.{Command, runs, tests_rules, checks_rules, checks_metrics, exercises, backfills}
 use Rattle.pr_top.specs.Usage.{usage_text}
 

@@ -1,15 +1,15 @@
 // The commands, by the words of the command line.
 ghost use Rattle.std.specs.Prelude.{◌≡◌, map, string_bytes};
 ghost use Rattle.std.specs.List.{list_all};
-ghost use Rattle.pr_exercise_command.specs.pr_script.Script.{written_time};
+ghost use Rattle.pr_backfill.specs.pr_text.Script.{written_time};
 ghost use Rattle.pr_top.specs.Command.{are_names, backfill_by, backfill_of, check_of, command_of, exercise_of, is_file_word, run_of, step_of, test_of, times_by, times_of};
 ghost use Rattle.pr_top.specs.Words.{asks_for};
 
-use pr_backfill_command::Times;
-use pr_exercise_command::Rounds;
-use pr_time::{Ms, Span, read_span};
-use pr_words::laws::plain_decimals_are_printed_numbers;
-use pr_words::plain_decimal;
+use pr_backfill::backfill_command::Times;
+use pr_engine::time::{Ms, Span, read_span};
+use pr_exercise::Rounds;
+use pr_outside::words_crate::laws::plain_decimals_are_printed_numbers;
+use pr_outside::words_crate::plain_decimal;
 
 /// What the words ask for.
 #[derive(Drop)]

@@ -2,8 +2,21 @@
 #![tactic(auto)]
 
 mod command;
-mod engine;
+pub mod program;
 mod top;
 
-pub use pr_status::Status;
+// What crates above name of those below.
+pub mod tmpl {
+    pub use pr_backfill::tmpl::{External, Template};
+}
+
+pub mod rules_crate {
+    pub use pr_backfill::rules_crate::RuleDef;
+}
+
+pub mod rulefile {
+    pub use pr_test::rulefile::read;
+}
+
+pub use pr_outside::status::Status;
 pub use top::{promtool, promtool_over};

@@ -1,29 +1,30 @@
 // The program as one call.
 ghost use Rattle.std.specs.Prelude.{◌≡◌, ℕ, List, Some, false, map, string_bytes};
-ghost use Rattle.pr_status.specs.Outside.{Outside};
-ghost use Rattle.pr_status.specs.Status.{HasCause};
-ghost use Rattle.pr_check_loops.specs.FileChecks.{MeansFileCheck};
-ghost use Rattle.pr_check_loops.specs.InputChecks.{MeansInputCheck};
-ghost use Rattle.pr_backfill_command.specs.pr_checks.Metrics.{metrics_told};
-ghost use Rattle.pr_backfill_command.specs.pr_checks.RuleFiles.{rules_told};
+ghost use Rattle.pr_outside.specs.Outside.{Outside};
+ghost use Rattle.pr_outside.specs.Status.{HasCause};
+ghost use Rattle.pr_outside.specs.FileChecks.{MeansFileCheck};
+ghost use Rattle.pr_outside.specs.InputChecks.{MeansInputCheck};
+ghost use Rattle.pr_backfill.specs.pr_checks.Metrics.{metrics_told};
+ghost use Rattle.pr_backfill.specs.pr_checks.RuleFiles.{rules_told};
 ghost use Rattle.pr_top.specs.Command.{command_of, uses, uses_of};
-ghost use Rattle.pr_exercise_command.specs.pr_run.Runs.{MeansRun};
+ghost use Rattle.pr_run.specs.Runs.{MeansRun};
 ghost use Rattle.pr_top.specs.Means.{HasBadRow, MeansCommand, MeansUsage};
 ghost use Rattle.pr_top.specs.Usage.{usage_text};
 ghost use Rattle.pr_top.specs.Words.{asked_by};
 
 use super::command::{Command, command_of};
-use super::engine::RunEngine;
-use pr_backfill_command::backfill;
-use pr_backfill_command::checks::{Metrics, RuleFiles};
-use pr_backfill_command::range::Ranges;
-use pr_backfill_command::slide::SlidingRanges;
-use pr_backfill_command::test_command::test_rules;
-use pr_check_loops::{check_files, check_input};
-use pr_exercise_command::exercise;
-use pr_exercise_command::run::{Worlds, run};
+use pr_backfill::backfill_command::backfill;
+use pr_backfill::checks::{Metrics, RuleFiles};
+use pr_backfill::world::Worlds;
+use pr_engine::RunEngine;
+use pr_exercise::exercise;
+use pr_outside::check_loops::{check_files, check_input};
+use pr_outside::status::{Status, send, status_of};
 use pr_outside::{Files, Keeper, Sink, Source};
-use pr_status::{Status, send, status_of};
+use pr_run::run;
+use pr_test::range::Ranges;
+use pr_test::slide::SlidingRanges;
+use pr_test::test_rules;
 use std::alloc::Global;
 
 const USAGE: &[u8] =

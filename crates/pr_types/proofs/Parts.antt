@@ -15,7 +15,7 @@ use Rattle.pr_ast.specs.declared.names.BinOp.{BinOp}
 use Rattle.pr_ast.specs.declared.names.Func.{Func}
 use Rattle.pr_ast.specs.declared.names.Func.TheVariants as func
 use Rattle.pr_ast.specs.declared.selector.Selector.{Selector}
-use Rattle.pr_ast.specs.Steps.{is_step, has_steps}
+use Rattle.pr_ast.specs.private.Steps.{is_step, has_steps}
 use Rattle.pr_ast.specs.Tree.{Tree, number, text, select, range, sub, neg, binary, call, aggregate, none, more}
 use Rattle.pr_types.specs.declared.kind.ValueType.{ValueType}
 use Rattle.pr_types.specs.declared.kind.ValueType.TheVariants.{Scalar, Vector, Range, Text}
@@ -27,7 +27,7 @@ use Rattle.pr_types.specs.declared.signature.Operand.{Operand}
 use Rattle.pr_types.specs.Signatures.{fault, is_type, wanted, kind_wanting, first_wrong, wrong_operand, accepted, are_counted, no_fault, func_signature, agg_signature}
 use Rattle.pr_types.specs.Selectors.{tests_of, checked_tests, are_good, is_open}
 use Rattle.pr_types.specs.Operations.{is_scalar, is_instant, instant, over_times, operation_fault, operation_type}
-use Rattle.pr_types.specs.Parts.{arguments, AreArguments, AreOperands, may_give}
+use Rattle.pr_types.specs.private.Parts.{arguments, AreArguments, AreOperands, may_give}
 use Rattle.pr_types.specs.Typed.{typed, operands, operand, start, go_on, unless, typed_operation, typed_subquery, step_fault, typed_call, typed_aggregation, content_at, label_fault, pattern_at, with_texts, replaces, joins, counts_values}
 
 -- where the whole is well, so was the first part

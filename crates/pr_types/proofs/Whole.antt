@@ -11,7 +11,7 @@ use Rattle.pr_types.specs.declared.kind.TypeFault.{TypeFault}
 use Rattle.pr_types.specs.Signatures.{fault}
 use Rattle.pr_types.specs.Operations.{is_instant}
 use Rattle.pr_types.specs.Typed.{typed, checked, go_on, whole, within_kept, kept}
-use Rattle.pr_types.specs.Checking.{MayEvaluate}
+use Rattle.pr_types.specs.private.Checking.{MayEvaluate}
 use Rattle.pr_types.proofs.Parts.{went_on, steps_of_typed}
 
 -- the number of 64 bits tells whether samples are kept long enough

@@ -2,13 +2,13 @@
 ghost use Rattle.std.specs.Prelude.{◌≡◌, true, Some, Ok, ◌<◌, length, slice_get, if◌then◌else◌, IfOk, OnOk};
 ghost use Rattle.pr_ast.specs.Tree.{tree_of};
 ghost use Rattle.pr_types.specs.Typed.{within_kept, not_instant, whole, checked};
-ghost use Rattle.pr_types.specs.Answered.{Answers};
-ghost use Rattle.pr_types.specs.Built.{Adds, tests_in, patterns_in};
-ghost use Rattle.pr_types.specs.Numbers.{exact_counts};
-ghost use Rattle.pr_types.specs.Checking.{MayEvaluate, Verdict};
+ghost use Rattle.pr_types.specs.private.Answered.{Answers};
+ghost use Rattle.pr_types.specs.private.Built.{Adds, tests_in, patterns_in};
+ghost use Rattle.pr_types.specs.private.Numbers.{exact_counts};
+ghost use Rattle.pr_types.specs.private.Checking.{MayEvaluate, Verdict};
 
 use crate::building::Built;
-use crate::counting::{Counts, counts_in};
+use crate::counting::{SelectorCounts, counts_in};
 use crate::kind::{TypeError, TypeFault, TypeKind, ValueType};
 use crate::typing::{start, type_of};
 use pr_ast::words_crate::Items;
@@ -40,7 +40,7 @@ impl Model for Checked {
 
     ghost coded = { Prim.hlevel (codes, kinds.the_row.coded) };
 
-    ghost use Rattle.pr_types.specs.Checking.{IsChecked};
+    ghost use Rattle.pr_types.specs.private.Checking.{IsChecked};
 
     ghost view = { λ c. c.expr };
 
@@ -64,7 +64,7 @@ impl Checked {
     }
 
     /// How many selectors, range selectors and patterns it has.
-    pub fn counts(&self) -> Counts
+    pub fn counts(&self) -> SelectorCounts
         ensures { result ≡ exact_counts (tree_of self.now) }
     {
         let selectors = self.selectors.as_slice().len();
@@ -94,13 +94,13 @@ impl Checked {
 }
 
 // The counts of an expression with so many selectors and patterns.
-fn counts_with(e: &Expr, selectors: usize, patterns: usize) -> Counts
+fn counts_with(e: &Expr, selectors: usize, patterns: usize) -> SelectorCounts
     requires selectors { selectors ≡ length (tests_in (tree_of e.now)) }
     requires patterns { patterns ≡ length (patterns_in (tree_of e.now)) }
     ensures { result ≡ exact_counts (tree_of e.now) }
 {
     let ranges = counts_in(e).ranges;
-    Counts {
+    SelectorCounts {
         selectors,
         ranges,
         patterns,

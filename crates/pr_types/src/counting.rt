@@ -2,7 +2,7 @@
 ghost use Rattle.std.specs.Prelude.{◌≡◌, if◌then◌else◌};
 ghost use Rattle.pr_ast.specs.Tree.{tree_of, trees_of};
 ghost use Rattle.pr_types.specs.Typed.{replaces};
-ghost use Rattle.pr_types.specs.Numbers.{counts_in, counts_together};
+ghost use Rattle.pr_types.specs.private.Numbers.{counts_in, counts_together};
 
 use crate::texts::replaces;
 use pr_ast::{Expr, ExprKind, Func};
@@ -10,22 +10,22 @@ use pr_ast::{Expr, ExprKind, Func};
 /// How many selectors an expression has, ranges among them, how many range selectors, and how often
 /// it calls `label_replace`. Each of the three is numbered from 0 on its own.
 #[derive(Clone, Copy, PartialEq, Eq, Debug)]
-pub struct Counts {
+pub struct SelectorCounts {
     pub selectors: usize,
     pub ranges: usize,
     pub patterns: usize,
 }
 
-const NONE: Counts = Counts {
+const NONE: SelectorCounts = SelectorCounts {
     selectors: 0,
     ranges: 0,
     patterns: 0,
 };
 
-fn counts_together(one: Counts, other: Counts) -> Counts
+fn counts_together(one: SelectorCounts, other: SelectorCounts) -> SelectorCounts
     ensures { result ≡ counts_together one other }
 {
-    Counts {
+    SelectorCounts {
         selectors: one.selectors.saturating_add(other.selectors),
         ranges: one.ranges.saturating_add(other.ranges),
         patterns: one.patterns.saturating_add(other.patterns),
@@ -33,11 +33,11 @@ fn counts_together(one: Counts, other: Counts) -> Counts
 }
 
 // What a call has of its own.
-fn own(func: Func) -> Counts
+fn own(func: Func) -> SelectorCounts
     ensures { result ≡ record { selectors = 0; ranges = 0; patterns = if replaces func then 1 else 0 } }
 {
     if replaces(func) {
-        Counts {
+        SelectorCounts {
             patterns: 1,
             ..NONE
         }
@@ -49,16 +49,16 @@ fn own(func: Func) -> Counts
 /// The counts of an expression or of a part of one; each is 2^64 - 1 where there are more. They
 /// tell how far the numbers go on over a part that is not visited.
 #[cycle(counting)]
-pub fn counts_in(e: &Expr) -> Counts
+pub fn counts_in(e: &Expr) -> SelectorCounts
     ensures { result ≡ counts_in (tree_of e.now) }
 {
     match &e.kind {
         ExprKind::Number { .. } | ExprKind::Text { .. } => NONE,
-        ExprKind::Select { .. } => Counts {
+        ExprKind::Select { .. } => SelectorCounts {
             selectors: 1,
             ..NONE
         },
-        ExprKind::Range { .. } => Counts {
+        ExprKind::Range { .. } => SelectorCounts {
             selectors: 1,
             ranges: 1,
             ..NONE
@@ -74,7 +74,7 @@ pub fn counts_in(e: &Expr) -> Counts
 }
 
 #[cycle(counting)]
-fn counts_of(args: &[Expr]) -> Counts
+fn counts_of(args: &[Expr]) -> SelectorCounts
     ensures { result ≡ counts_in (trees_of args.now) }
 {
     let mut found = NONE;

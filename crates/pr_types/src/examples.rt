@@ -3,7 +3,7 @@
 ghost use Rattle.std.specs.Prelude.{◌≡◌, codes, Some, None, Ok, Err, true, false, [], ◌∷◌};
 ghost use Rattle.pr_ast.specs.pr_labels.declared.matching.Card.TheVariants as card;
 ghost use Rattle.pr_ast.specs.Tree.{call, none};
-ghost use Rattle.pr_ast.specs.Examples.{matcher, one, two};
+ghost use Rattle.pr_ast.specs.private.Examples.{matcher, one, two};
 ghost use Rattle.pr_ast.specs.declared.names.BinOp.TheVariants as op;
 ghost use Rattle.pr_ast.specs.declared.names.Func.TheVariants as func;
 ghost use Rattle.pr_ast.specs.declared.names.AggOp.TheVariants as agg;
@@ -12,24 +12,7 @@ ghost use Rattle.pr_types.specs.declared.kind.ValueType.TheVariants as type;
 ghost use Rattle.pr_types.specs.declared.kind.TypeKind.TheVariants as kind;
 ghost use Rattle.pr_types.specs.Signatures.{fault};
 ghost use Rattle.pr_types.specs.Typed.{typed, checked};
-ghost use Rattle.pr_types.specs.Examples.{
-  from,
-  one_at,
-  text_at,
-  x_at,
-  x_before,
-  range_at,
-  matchers_alone,
-  x_with,
-  subquery_of,
-  negated,
-  operation_of,
-  compared_at,
-  call_of,
-  aggregate_of,
-  four,
-  matching_by,
-};
+ghost use Rattle.pr_types.specs.private.Examples.{from, one_at, text_at, x_at, x_before, range_at, matchers_alone, x_with, subquery_of, negated, operation_of, compared_at, call_of, aggregate_of, four, matching_by};
 
 /// `x`, `{}`, `{a=""}`, `{a!=""}`, `{a!="b"}`, `x{a=""}`.
 #[tactic(auto, unfolding(pr_match::specs::Matcher::may_follow, pr_match::specs::Matcher::meets, pr_match::specs::Matcher::meets_all))]

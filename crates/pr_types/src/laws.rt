@@ -14,17 +14,17 @@ ghost use Rattle.pr_ast.specs.declared.names.AggOp.TheVariants as agg;
 ghost use Rattle.pr_ast.specs.declared.selector.Selector.{Selector};
 ghost use Rattle.pr_ast.specs.Tree.{Tree, select, range, sub, neg, binary, call, aggregate, more};
 ghost use Rattle.pr_ast.specs.Reach.{reads_back};
-ghost use Rattle.pr_ast.specs.Steps.{has_steps};
+ghost use Rattle.pr_ast.specs.private.Steps.{has_steps};
 ghost use Rattle.pr_types.specs.declared.kind.ValueType.{ValueType};
 ghost use Rattle.pr_types.specs.declared.kind.ValueType.TheVariants.{Vector, Range};
 ghost use Rattle.pr_types.specs.Signatures.{func_signature, agg_signature};
 ghost use Rattle.pr_types.specs.Selectors.{tests_of, checked_tests};
 ghost use Rattle.pr_types.specs.Operations.{is_instant};
 ghost use Rattle.pr_types.specs.Typed.{typed, checked, content_at, step_fault, kept};
-ghost use Rattle.pr_types.specs.Built.{tests_in};
-ghost use Rattle.pr_types.specs.Numbers.{ranges_in, counts_in, exact_counts};
-ghost use Rattle.pr_types.specs.Checking.{MayEvaluate};
-ghost use Rattle.pr_types.specs.Parts.{arguments, AreArguments, AreOperands, may_give};
+ghost use Rattle.pr_types.specs.private.Built.{tests_in};
+ghost use Rattle.pr_types.specs.private.Numbers.{ranges_in, counts_in, exact_counts};
+ghost use Rattle.pr_types.specs.private.Checking.{MayEvaluate};
+ghost use Rattle.pr_types.specs.private.Parts.{arguments, AreArguments, AreOperands, may_give};
 
 /// The parts of an expression that has a type have types, and those that the expression wants: so
 /// whoever walks down a checked expression knows the type of each part.

@@ -14,13 +14,8 @@ mod signature;
 mod texts;
 mod typing;
 
-// What crates above name of those below.
-pub mod lex {
-    pub use pr_ast::lex::LexKind;
-}
-
 pub use checking::{Checked, check};
-pub use counting::{Counts, counts_in};
+pub use counting::{SelectorCounts, counts_in};
 pub use examples::{
     calls_have_these_types, faults_come_in_order, operations_have_these_types,
     reach_ends_at_45_days, selectors_have_these_types,

@@ -7,7 +7,7 @@ ghost use Rattle.pr_types.specs.Typed.{typed_operation, step_fault, typed_subque
 use crate::kind::{TypeFault, TypeKind, ValueType};
 use crate::signature::{Operand, is_type, wanting};
 use pr_ast::BinOp;
-use pr_ast::labels_crate::{Card, Matching};
+use pr_ast::labels::{Card, Matching};
 use pr_ast::time::Span;
 use pr_ast::words_crate::Text;
 

@@ -2,14 +2,14 @@
 ghost use Rattle.std.specs.Prelude.{◌≡◌, ◌++◌, ◌∷◌, [], OnOk};
 ghost use Rattle.pr_ast.specs.Tree.{tree_of, trees_of};
 ghost use Rattle.pr_types.specs.Typed.{content, content_at, label_fault, go_on, pattern_at, unless, replaces, joins, counts_values, typed_call, typed_aggregation};
-ghost use Rattle.pr_types.specs.Answered.{Answers};
-ghost use Rattle.pr_types.specs.Built.{own_patterns};
+ghost use Rattle.pr_types.specs.private.Answered.{Answers};
+ghost use Rattle.pr_types.specs.private.Built.{own_patterns};
 
 use crate::building::Built;
 use crate::kind::{TypeError, TypeKind, ValueType};
 use crate::selection::pattern_error;
 use crate::signature::{Operand, Signature};
-use pr_ast::labels_crate::is_label_name;
+use pr_ast::labels::is_label_name;
 use pr_ast::{AggOp, Expr, ExprKind, Func};
 use pr_match::Pattern;
 use std::alloc::Global;

@@ -3,8 +3,8 @@ ghost use Rattle.std.specs.Prelude.{◌≡◌, ◌∷◌, [], ◌++◌, OnOk};
 ghost use Rattle.pr_ast.specs.Tree.{tree_of, trees_of};
 ghost use Rattle.pr_types.specs.Selectors.{tests_of, checked_tests};
 ghost use Rattle.pr_types.specs.Typed.{go_on, start, typed, operands};
-ghost use Rattle.pr_types.specs.Answered.{Answers, Offers};
-ghost use Rattle.pr_types.specs.Built.{Adds};
+ghost use Rattle.pr_types.specs.private.Answered.{Answers, Offers};
+ghost use Rattle.pr_types.specs.private.Built.{Adds};
 
 use crate::building::Built;
 use crate::kind::{TypeError, TypeFault, ValueType};

@@ -6,18 +6,17 @@ use Rattle.std.specs.Option.{option_map}
 use Rattle.std.specs.Str.{bytes_eq}
 use Rattle.std.proofs.lemmas.List.{length-map}
 use Rattle.std.proofs.lemmas.Option.{slice_get-map}
-use Rattle.pr_history.specs.declared.entry.Entry.{Entry}
-use Rattle.pr_group.specs.pr_lineage.declared.found.Found.{Found}
-use Rattle.pr_group.specs.pr_lineage.declared.record.Record.{Record}
-use Rattle.pr_group.specs.pr_lineage.Records.{is_firing, records}
-use Rattle.pr_slide.specs.pr_range.Asks.{LastAsks, Passed}
-use Rattle.pr_group.specs.pr_rulefile.declared.rules.RuleDef.{RuleDef}
-use Rattle.pr_group.specs.pr_rulefile.Groups.{Group as Definition}
-use Rattle.pr_group.specs.pr_rulefile.Rules.{Rule, rule_of_def}
-use Rattle.pr_group.specs.pr_rules.Groups.{Group, RuleState, rules_of}
-use Rattle.pr_expected.specs.pr_verdict.Verdict.{firing_by, firing_of, found_of}
-use Rattle.pr_group.specs.pr_rule_step.declared.remembered.Remembered.{Remembered}
-use Rattle.pr_group.specs.Keeping.{KeepsGroup, KeptGroup, alerts_at, alerts_of_rule}
+use Rattle.pr_slide.specs.spec_history.declared.entry.Entry.{Entry}
+use Rattle.pr_group.specs.spec_alerts.declared.found.RuleElement.{RuleElement}
+use Rattle.pr_group.specs.spec_alerts.declared.record.Record.{Record}
+use Rattle.pr_group.specs.spec_alerts.Records.{is_firing, records}
+use Rattle.pr_slide.specs.pr_range.private.Asks.{LastAsks, Passed}
+use Rattle.pr_group.specs.spec_rules.declared.definitions.RuleDef.{RuleDef}
+use Rattle.pr_group.specs.spec_rules.Definitions.{Group as Definition, Rule, rule_of_def}
+use Rattle.pr_group.specs.spec_rules.Groups.{Group, RuleState, rules_of}
+use Rattle.spec_tests.specs.Verdict.{firing_by, firing_of, found_of}
+use Rattle.pr_group.specs.pr_rule.declared.remembered.Remembered.{Remembered}
+use Rattle.pr_group.specs.private.Keeping.{KeepsGroup, KeptGroup, alerts_at, alerts_of_rule}
 use Rattle.pr_unit.proofs.Lists.{IsThere, flat_joined, take_there, there_within, within_list}
 
 -- one more of some
@@ -27,10 +26,10 @@ flat_next {X} {Y} f xs n x there =
     ∙ sym (flat_joined f (take n xs) (x ∷ []))
     ∙ ap (flat_map f) (sym (take_there xs n x there))
 
-pub one_more_found : {X : Type 0} (f : X → List Found) (first before after : List Found) (xs : List X) (n : ℕ) (x : X) → slice_get xs n ≡ Some x
+pub one_more_found : {X : Type 0} (f : X → List RuleElement) (first before after : List RuleElement) (xs : List X) (n : ℕ) (x : X) → slice_get xs n ≡ Some x
     → before ≡ first ++ flat_map f (take n xs) → after ≡ before ++ f x → after ≡ first ++ flat_map f (take (n + 1) xs)
 one_more_found f first before after xs n x there is more =
-    more ∙ ap (λ (l : List Found). l ++ f x) is ∙ append_assoc first (flat_map f (take n xs)) (f x) ∙ ap (λ (l : List Found). first ++ l) (flat_next f xs n x there)
+    more ∙ ap (λ (l : List RuleElement). l ++ f x) is ∙ append_assoc first (flat_map f (take n xs)) (f x) ∙ ap (λ (l : List RuleElement). first ++ l) (flat_next f xs n x there)
 
 -- the rules of a group that is kept
 same_rules : {R : Type 0} (fits : R → List Entry → Type 0) (last : R → LastAsks) (passed : R → Passed) (k : KeptGroup R) (history : List Entry) (g : Group) → KeepsGroup fits last passed k history g
@@ -57,11 +56,11 @@ rule_is fits last passed k history g n code r h there at =
 is_named : (code : RuleDef) (r : RuleState) (name : List ℕ) → r.rule ≡ rule_of_def code → (r.rule.alert && bytes_eq r.rule.name name) ≡ (code.alert && bytes_eq code.name name)
 is_named code r name h = ap (λ (x : Rule). x.alert && bytes_eq x.name name) h
 
-pub none_fire : (code : RuleDef) (r : RuleState) (name : List ℕ) (founds : List Found) → r.rule ≡ rule_of_def code → (code.alert && bytes_eq code.name name) ≡ false → founds ≡ founds ++ firing_of name r
+pub none_fire : (code : RuleDef) (r : RuleState) (name : List ℕ) (founds : List RuleElement) → r.rule ≡ rule_of_def code → (code.alert && bytes_eq code.name name) ≡ false → founds ≡ founds ++ firing_of name r
 none_fire code r name founds h not =
     sym (append-nil founds) ∙ ap (λ (b : Bool). founds ++ firing_by b r) (sym (is_named code r name h ∙ not))
 
-pub these_fire : (code : RuleDef) (r : RuleState) (name : List ℕ) (rs : List Record) (founds new : List Found) → r.rule ≡ rule_of_def code → (code.alert && bytes_eq code.name name) ≡ true → rs ≡ records r.lineage
+pub these_fire : (code : RuleDef) (r : RuleState) (name : List ℕ) (rs : List Record) (founds new : List RuleElement) → r.rule ≡ rule_of_def code → (code.alert && bytes_eq code.name name) ≡ true → rs ≡ records r.lineage
     → new ≡ founds ++ map found_of (filter (λ a. is_firing a.state) rs) → new ≡ founds ++ firing_of name r
 these_fire code r name rs founds new h named stands is =
     is ∙ ap (λ (l : List Record). founds ++ map found_of (filter (λ (a : Record). is_firing a.state) l)) stands

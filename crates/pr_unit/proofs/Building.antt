@@ -1,17 +1,17 @@
 -- The groups of files, one after another.
 use Rattle.std.proofs.Common.{◌≡◌, ℕ, List, [], ◌∷◌, ◌++◌, map, refl, sym, ap, subst, ◌∙◌, append_assoc, append-nil}
-use Rattle.pr_history.specs.declared.entry.Entry.{Entry}
-use Rattle.pr_slide.specs.pr_range.Asks.{LastAsks, Passed}
-use Rattle.pr_group.specs.pr_rulefile.declared.rules.GroupDef.{GroupDef}
-use Rattle.pr_group.specs.pr_rulefile.Groups.{group_of_def}
-use Rattle.pr_group.specs.pr_rules.Groups.{Group, fresh}
-use Rattle.pr_group.specs.pr_rules.Reloads.{LoadedFile}
-use Rattle.pr_group.specs.pr_rules.Settings.{Settings}
-use Rattle.pr_group.specs.pr_rules.Replays.{unwaiting_groups}
-use Rattle.pr_expected.specs.pr_world.declared.event.NamedFile.{NamedFile}
-use Rattle.pr_group.specs.Keeping.{KeepsGroup, KeptGroup, settings_of}
-use Rattle.pr_unit.specs.Kept.{KeepsGroups}
-use Rattle.pr_unit.specs.Loaded.{LoadAs, LoadsAs}
+use Rattle.pr_slide.specs.spec_history.declared.entry.Entry.{Entry}
+use Rattle.pr_slide.specs.pr_range.private.Asks.{LastAsks, Passed}
+use Rattle.pr_group.specs.spec_rules.declared.definitions.GroupDef.{GroupDef}
+use Rattle.pr_group.specs.spec_rules.Definitions.{group_of_def}
+use Rattle.pr_group.specs.spec_rules.Groups.{Group, fresh}
+use Rattle.pr_group.specs.spec_rules.Reloads.{LoadedFile}
+use Rattle.pr_group.specs.spec_rules.Settings.{Settings}
+use Rattle.pr_group.specs.spec_rules.Replays.{unwaiting_groups}
+use Rattle.spec_tests.specs.spec_world.declared.event.NamedFile.{NamedFile}
+use Rattle.pr_group.specs.private.Keeping.{KeepsGroup, KeptGroup, settings_of}
+use Rattle.pr_unit.specs.private.Kept.{KeepsGroups}
+use Rattle.pr_unit.specs.private.Loaded.{LoadAs, LoadsAs}
 use Rattle.pr_unit.proofs.Keeping.{one_more_kept, none_kept}
 
 -- So many groups are kept: with those of the definitions that are left they are all.

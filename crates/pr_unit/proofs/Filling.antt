@@ -3,13 +3,13 @@ use Rattle.std.proofs.Common.{◌≡◌, ◌≢◌, ℕ, zero, suc, ◌+◌, ◌
 use Rattle.std.specs.Prelude.{◌==◌, not, false, slice_set}
 use Rattle.std.proofs.lemmas.Bool.Decides.{nat_tests}
 use Rattle.std.specs.List.{AllByRecursion, enumerate_from, flat_map}
-use Rattle.pr_expected.specs.pr_verdict.declared.failure.Failure.{Failure}
-use Rattle.pr_group.specs.pr_rules.Groups.{Group}
-use Rattle.pr_feeding.specs.pr_testfile.Tests.{PlainTest}
-use Rattle.pr_expected.specs.pr_verdict.Verdict.{alert_check, expr_check, test_verdict}
-use Rattle.pr_test_rounds.proofs.Evaluating.{same_or_not, set_other}
-use Rattle.pr_unit.specs.Run.{IsOutside}
-use Rattle.pr_unit.specs.Slots.{AreAllFilled, AreFilled, AreFilling, empty_slots}
+use Rattle.spec_tests.specs.declared.failure.Failure.{Failure}
+use Rattle.pr_group.specs.spec_rules.Groups.{Group}
+use Rattle.spec_tests.specs.pr_testfile.Tests.{PlainTest}
+use Rattle.spec_tests.specs.Verdict.{alert_check, expr_check, test_verdict}
+use Rattle.spec_tests.proofs.Evaluating.{same_or_not, set_other}
+use Rattle.pr_unit.specs.private.Run.{IsOutside}
+use Rattle.pr_unit.specs.private.Slots.{AreAllFilled, AreFilled, AreFilling, empty_slots}
 use Rattle.pr_unit.proofs.Lists.{same_there, set_here, set_length, within_list}
 
 all_there : {X : Type 0} (P : X → Type 0) (xs : List X) → AllByRecursion P xs → (k : ℕ) (x : X) → slice_get xs k ≡ Some x → P x

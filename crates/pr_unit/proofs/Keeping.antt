@@ -2,15 +2,15 @@
 use Rattle.std.proofs.Common.{◌≡◌, ℕ, zero, suc, not, List, [], ◌∷◌, ◌++◌, filter, slice_get, Some, refl, sym, ap, ◌∙◌}
 use Rattle.std.specs.List.{AllZip}
 use Rattle.std.specs.Str.{bytes_eq}
-use Rattle.pr_history.specs.declared.entry.Entry.{Entry}
-use Rattle.pr_slide.specs.pr_range.Asks.{LastAsks, Passed}
-use Rattle.pr_group.specs.pr_rulefile.Groups.{Group as Definition}
-use Rattle.pr_group.specs.pr_rules.Groups.{Group}
-use Rattle.pr_group.specs.pr_rules.Settings.{Settings}
-use Rattle.pr_expected.specs.pr_verdict.Events.{by_names, is_called}
-use Rattle.pr_group.specs.Keeping.{KeepsGroup, KeptGroup, settings_of}
-use Rattle.pr_unit.specs.Kept.{KeepsGroups, name_of}
-use Rattle.pr_unit.specs.Ordered.{is_so_named, named_first}
+use Rattle.pr_slide.specs.spec_history.declared.entry.Entry.{Entry}
+use Rattle.pr_slide.specs.pr_range.private.Asks.{LastAsks, Passed}
+use Rattle.pr_group.specs.spec_rules.Definitions.{Group as Definition}
+use Rattle.pr_group.specs.spec_rules.Groups.{Group}
+use Rattle.pr_group.specs.spec_rules.Settings.{Settings}
+use Rattle.spec_tests.specs.Events.{by_names, is_called}
+use Rattle.pr_group.specs.private.Keeping.{KeepsGroup, KeptGroup, settings_of}
+use Rattle.pr_unit.specs.private.Kept.{KeepsGroups, name_of}
+use Rattle.pr_unit.specs.private.Ordered.{is_so_named, named_first}
 use Rattle.pr_unit.proofs.Lists.{zip_each, zip_filtered, zip_joined, zip_long, zip_there}
 
 -- what is kept of one group

@@ -9,3 +9,9 @@ pub mod Named
 pub mod Filling
 pub mod Answers
 pub mod Alerts
+pub mod Points
+pub mod Going
+pub mod FeedingFeeding
+mod Meant
+mod FiringAlerts
+mod Placing

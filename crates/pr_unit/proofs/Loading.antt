@@ -4,21 +4,20 @@ use Rattle.std.specs.Prelude.{All}
 use Rattle.std.specs.List.{AllByRecursion, IsDistinct}
 use Rattle.std.specs.Str.{bytes_eq}
 use Rattle.std.proofs.lemmas.List.Elements.{All-from_recursion, recursion_from_All}
-use Rattle.pr_group.specs.pr_query.Answers.{go_on}
-use Rattle.pr_group.specs.pr_rulefile.declared.rules.GroupDef.{GroupDef}
-use Rattle.pr_group.specs.pr_rulefile.declared.rules.RuleDef.{RuleDef}
-use Rattle.pr_group.specs.pr_rulefile.File.{RuleReading, gives_file, gives_problems, rule_file_of}
-use Rattle.pr_group.specs.pr_rulefile.Groups.{Group as Definition, group_of_def}
-use Rattle.pr_group.specs.pr_rulefile.Rules.{rule_of_def}
-use Rattle.pr_group.proofs.RulefileSomeProblems.{problem_is_told}
-use Rattle.pr_group.proofs.RulefileSoundGroups.{all_rules, sound_file}
-use Rattle.pr_group.specs.pr_rule_result.Templates.{HasTemplates, HaveTemplates}
-use Rattle.pr_group.specs.pr_rules.Reloads.{LoadedFile}
-use Rattle.pr_expected.specs.pr_world.declared.event.NamedFile.{NamedFile}
-use Rattle.pr_expected.specs.pr_world.declared.report.Report.{Report}
-use Rattle.pr_expected.specs.pr_world.Rounds.{all_loaded, groups_by, with_groups}
-use Rattle.pr_test_rounds.specs.Rounds.{AreToldApart}
-use Rattle.pr_unit.specs.Loaded.{LoadAs, LoadsAs}
+use Rattle.pr_group.specs.spec_meaning.Answers.{go_on}
+use Rattle.pr_group.specs.spec_rules.declared.definitions.GroupDef.{GroupDef}
+use Rattle.pr_group.specs.spec_rules.declared.definitions.RuleDef.{RuleDef}
+use Rattle.spec_tests.specs.pr_rulefile.File.{RuleReading, gives_file, gives_problems, rule_file_of}
+use Rattle.pr_group.specs.spec_rules.Definitions.{Group as Definition, group_of_def, rule_of_def}
+use Rattle.spec_tests.proofs.RulefileSomeProblems.{problem_is_told}
+use Rattle.spec_tests.proofs.RulefileSoundGroups.{all_rules, sound_file}
+use Rattle.pr_group.specs.pr_rule.private.Templates.{HasTemplates, HaveTemplates}
+use Rattle.pr_group.specs.spec_rules.Reloads.{LoadedFile}
+use Rattle.spec_tests.specs.spec_world.declared.event.NamedFile.{NamedFile}
+use Rattle.spec_tests.specs.spec_world.declared.report.Report.{Report}
+use Rattle.spec_tests.specs.spec_world.Rounds.{all_loaded, groups_by, with_groups}
+use Rattle.spec_tests.specs.private.Rounds.{AreToldApart}
+use Rattle.pr_unit.specs.private.Loaded.{LoadAs, LoadsAs}
 
 -- Files that load as these are those of a reload.
 

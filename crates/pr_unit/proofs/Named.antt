@@ -1,6 +1,6 @@
 -- What is named comes first, name by name.
 use Rattle.std.proofs.Common.{◌≡◌, ℕ, not, List, ◌∷◌, ◌++◌, filter, sym, ap, ◌∙◌, append_assoc}
-use Rattle.pr_unit.specs.Ordered.{is_so_named, named_first}
+use Rattle.pr_unit.specs.private.Ordered.{is_so_named, named_first}
 
 pub names_next : {X : Type 0} (named : X → List ℕ) (names after : List (List ℕ)) (name : List ℕ) (done others new left all : List X) → names ≡ name ∷ after
     → done ++ named_first named names others ≡ all → new ≡ done ++ filter (is_so_named named name) others → left ≡ filter (λ x. not (is_so_named named name x)) others

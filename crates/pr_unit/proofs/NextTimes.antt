@@ -2,14 +2,14 @@
 use Rattle.std.proofs.Common.{◌≡◌, ℕ, zero, suc, ◌<◌, ◌≤◌, Bool, true, false, cond, nat_lt, nat_le, max, List, [], ◌∷◌, ◌++◌, map, fold, slice_get, Option, Some, None, ◌⊎◌, inl, inr, refl, sym, ap, subst, arith}
 use Rattle.std.specs.List.{AllByRecursion}
 use Rattle.std.proofs.lemmas.Bool.Decides.{nat_tests}
-use Rattle.pr_feeding.specs.pr_testfile.declared.tests.AlertCheck.{AlertCheck}
-use Rattle.pr_feeding.specs.pr_testfile.declared.tests.ExprCheck.{ExprCheck}
-use Rattle.pr_feeding.specs.pr_testfile.declared.tests.Test.{Test}
-use Rattle.pr_feeding.specs.pr_testfile.Checks.{PlainCheck, plain_check}
-use Rattle.pr_feeding.specs.pr_testfile.Tests.{plain_test}
-use Rattle.pr_expected.specs.pr_verdict.Events.{last_check, later_of}
-use Rattle.pr_unit.specs.Run.{IsNextCheck, IsOutside}
-use Rattle.pr_unit.specs.Times.{earlier_of, next_time, sooner_of}
+use Rattle.spec_tests.specs.pr_testfile.declared.tests.AlertCheck.{AlertCheck}
+use Rattle.spec_tests.specs.pr_testfile.declared.tests.ExprCheck.{ExprCheck}
+use Rattle.spec_tests.specs.pr_testfile.declared.tests.Test.{Test}
+use Rattle.spec_tests.specs.pr_testfile.Checks.{PlainCheck, plain_check}
+use Rattle.spec_tests.specs.pr_testfile.Tests.{plain_test}
+use Rattle.spec_tests.specs.Events.{last_check, later_of}
+use Rattle.pr_unit.specs.private.Run.{IsNextCheck, IsOutside}
+use Rattle.pr_unit.specs.private.Times.{earlier_of, next_time, sooner_of}
 
 -- No time is from one on
 

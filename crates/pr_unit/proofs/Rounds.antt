@@ -2,25 +2,26 @@
 use Rattle.std.proofs.Common.{◌≡◌, ◌≢◌, ℕ, pos, ◌-ℤ◌, ◌+◌, ◌<◌, ◌≤◌, List, ◌++◌, map, take, length, slice_get, Some, ◌⊎◌, inl, inr, sym, ap, subst, ◌∙◌, arith}
 use Rattle.std.specs.Prelude.{slice_set}
 use Rattle.std.proofs.lemmas.List.{length-map}
-use Rattle.pr_history.specs.declared.entry.Entry.{Entry}
-use Rattle.pr_history.specs.Admission.{IsLawful, put_all}
-use Rattle.pr_history.proofs.Lawful.{put_all_lawful}
-use Rattle.pr_slide.specs.pr_head.Holds.{Holds, IsWhole}
-use Rattle.pr_slide.specs.pr_range.Asks.{LastAsks, Passed}
-use Rattle.pr_feeding.specs.pr_puts.Puts.{admitted}
-use Rattle.pr_feeding.proofs.PutsPutting.{puts_admitted}
-use Rattle.pr_feeding.specs.pr_intake.Intake.{HasTaken, Series}
-use Rattle.pr_group.specs.pr_rules.Evaluations.{GroupStep, group_step}
-use Rattle.pr_group.specs.pr_rules.Groups.{Group}
-use Rattle.pr_group.specs.pr_rules.Settings.{Settings}
-use Rattle.pr_expected.specs.pr_world.Step.{next, world_after}
-use Rattle.pr_expected.specs.pr_world.World.{World}
-use Rattle.pr_expected.specs.pr_verdict.Events.{eval_at}
-use Rattle.pr_test_rounds.specs.Rounds.{AreApart, HaveSites, IsInRound, site}
-use Rattle.pr_test_rounds.proofs.Adding.{HasAdded}
-use Rattle.pr_test_rounds.proofs.Evaluating.{HasEvaluated, next_in_round, same_or_not, set_other, world_next}
-use Rattle.pr_group.specs.Keeping.{KeepsGroup, KeptGroup, MayEvaluateOver, settings_of}
-use Rattle.pr_unit.specs.Kept.{KeepsGroups, StandsForWorld}
+use Rattle.pr_slide.specs.spec_history.declared.entry.Entry.{Entry}
+use Rattle.pr_slide.specs.spec_history.private.Laws.{IsLawful}
+use Rattle.pr_slide.specs.spec_history.Admission.{put_all}
+use Rattle.pr_slide.proofs.HistoryLawful.{put_all_lawful}
+use Rattle.pr_slide.specs.pr_head.private.Holds.{Holds, IsWhole}
+use Rattle.pr_slide.specs.pr_range.private.Asks.{LastAsks, Passed}
+use Rattle.pr_slide.specs.spec_history.Puts.{admitted}
+use Rattle.pr_slide.proofs.HistoryPutting.{puts_admitted}
+use Rattle.pr_slide.specs.pr_head.private.Intake.{HasTaken, Series}
+use Rattle.pr_group.specs.spec_rules.Evaluations.{GroupStep, group_step}
+use Rattle.pr_group.specs.spec_rules.Groups.{Group}
+use Rattle.pr_group.specs.spec_rules.Settings.{Settings}
+use Rattle.spec_tests.specs.spec_world.Step.{next, world_after}
+use Rattle.spec_tests.specs.spec_world.World.{World}
+use Rattle.spec_tests.specs.Events.{eval_at}
+use Rattle.spec_tests.specs.private.Rounds.{AreApart, HaveSites, IsInRound, site}
+use Rattle.spec_tests.proofs.Adding.{HasAdded}
+use Rattle.spec_tests.proofs.Evaluating.{HasEvaluated, next_in_round, same_or_not, set_other, world_next}
+use Rattle.pr_group.specs.private.Keeping.{KeepsGroup, KeptGroup, MayEvaluateOver, settings_of}
+use Rattle.pr_unit.specs.private.Kept.{KeepsGroups, StandsForWorld}
 use Rattle.pr_unit.proofs.Lists.{IsThere, set_here, set_length, take_there, take_whole, there_within, within_list}
 
 -- what is kept of a group stands for it over each later history too

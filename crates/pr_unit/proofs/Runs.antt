@@ -2,28 +2,28 @@
 use Rattle.std.proofs.Common.{◌≡◌, ℕ, ℤ, zero, suc, ◌+◌, ◌-◌, ◌*◌, ◌/◌, ◌<◌, ◌≤◌, List, [], map, length, Option, Some, ◌⊎◌, inl, inr, refl, sym, ap, subst, ◌∙◌, arith}
 use Rattle.std.proofs.Math.Nat.{mul-le-mul_right}
 use Rattle.std.proofs.lemmas.List.{length-map}
-use Rattle.pr_history.specs.declared.entry.Entry.{Entry}
-use Rattle.pr_slide.specs.pr_head.Holds.{Holds, IsWhole}
-use Rattle.pr_feeding.specs.pr_inputs.declared.input.Input.{Input}
-use Rattle.pr_slide.specs.pr_range.Asks.{LastAsks, Passed}
-use Rattle.pr_feeding.specs.pr_intake.Intake.{HasTaken}
-use Rattle.pr_group.specs.pr_rules.Groups.{Group}
-use Rattle.pr_group.specs.pr_rules.Settings.{Settings}
-use Rattle.pr_expected.specs.pr_world.Step.{world_after}
-use Rattle.pr_expected.specs.pr_world.World.{World}
-use Rattle.pr_feeding.specs.pr_testfile.Series.{entries_at, places}
-use Rattle.pr_feeding.specs.pr_testfile.Tests.{plain_test}
-use Rattle.pr_feeding.specs.pr_testfile.declared.tests.Test.{Test}
-use Rattle.pr_expected.specs.pr_verdict.Events.{begun, eval_at, last_check, settings_of, world_at}
-use Rattle.pr_test_rounds.specs.Rounds.{AreApart, AreNew, HasCome, HaveSites, IsInRound, place_events, round_events, site}
-use Rattle.pr_test_rounds.proofs.Adding.{HasAdded}
-use Rattle.pr_test_rounds.proofs.Coming.{begins, goes_by, place_comes, round_comes, world_is}
-use Rattle.pr_test_rounds.proofs.Evaluating.{begins_round}
-use Rattle.pr_feeding.specs.Feeding.{HasFed}
-use Rattle.pr_group.specs.Keeping.{KeptGroup}
+use Rattle.pr_slide.specs.spec_history.declared.entry.Entry.{Entry}
+use Rattle.pr_slide.specs.pr_head.private.Holds.{Holds, IsWhole}
+use Rattle.spec_tests.specs.pr_testfile.declared.inputs.input.Input.{Input}
+use Rattle.pr_slide.specs.pr_range.private.Asks.{LastAsks, Passed}
+use Rattle.pr_slide.specs.pr_head.private.Intake.{HasTaken}
+use Rattle.pr_group.specs.spec_rules.Groups.{Group}
+use Rattle.pr_group.specs.spec_rules.Settings.{Settings}
+use Rattle.spec_tests.specs.spec_world.Step.{world_after}
+use Rattle.spec_tests.specs.spec_world.World.{World}
+use Rattle.spec_tests.specs.pr_testfile.Series.{entries_at, places}
+use Rattle.spec_tests.specs.pr_testfile.Tests.{plain_test}
+use Rattle.spec_tests.specs.pr_testfile.declared.tests.Test.{Test}
+use Rattle.spec_tests.specs.Events.{begun, eval_at, last_check, settings_of, world_at}
+use Rattle.spec_tests.specs.private.Rounds.{AreApart, AreNew, HasCome, HaveSites, IsInRound, place_events, round_events, site}
+use Rattle.spec_tests.proofs.Adding.{HasAdded}
+use Rattle.spec_tests.proofs.Coming.{begins, goes_by, place_comes, round_comes, world_is}
+use Rattle.spec_tests.proofs.Evaluating.{begins_round}
+use Rattle.pr_unit.specs.private.Feeding.{HasFed}
+use Rattle.pr_group.specs.private.Keeping.{KeptGroup}
 use Rattle.pr_unit.specs.declared.run.Run.{Run}
-use Rattle.pr_unit.specs.Kept.{KeepsGroups, StandsForWorld}
-use Rattle.pr_unit.specs.Run.{HasRun, HasRunTest, rounds_until}
+use Rattle.pr_unit.specs.private.Kept.{KeepsGroups, StandsForWorld}
+use Rattle.pr_unit.specs.private.Run.{HasRun, HasRunTest, rounds_until}
 use Rattle.pr_unit.proofs.Rounds.{Stays, stands_added}
 
 -- The beginning

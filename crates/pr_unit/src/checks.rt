@@ -1,24 +1,24 @@
 // Checks at the time that a test has come to.
 ghost use Rattle.std.specs.Prelude.{◌≡◌, ℕ, ◌+◌, ◌<◌, List, IfOk, OnOk, length, map};
-ghost use Rattle.pr_group.specs.pr_rules.Groups.{Group};
-ghost use Rattle.pr_group.specs.pr_rules.Settings.{Settings};
-ghost use Rattle.pr_expected.specs.pr_world.World.{World};
-ghost use Rattle.pr_group.specs.pr_query.Meaning.{meaning};
-ghost use Rattle.pr_feeding.specs.pr_testfile.Checks.{plain_check};
-ghost use Rattle.pr_feeding.specs.pr_testfile.Tests.{PlainTest};
-ghost use Rattle.pr_expected.specs.pr_verdict.Events.{world_at};
-ghost use Rattle.pr_expected.specs.pr_verdict.Verdict.{alert_check, alert_failure, expr_check, expr_failure, firing, given_by};
-ghost use Rattle.pr_unit.specs.Kept.{StandsForWorld};
-ghost use Rattle.pr_unit.specs.Slots.{AreFilled, AreFilling};
+ghost use Rattle.pr_group.specs.spec_rules.Groups.{Group};
+ghost use Rattle.pr_group.specs.spec_rules.Settings.{Settings};
+ghost use Rattle.spec_tests.specs.spec_world.World.{World};
+ghost use Rattle.pr_group.specs.spec_meaning.Meaning.{meaning};
+ghost use Rattle.spec_tests.specs.pr_testfile.Checks.{plain_check};
+ghost use Rattle.spec_tests.specs.pr_testfile.Tests.{PlainTest};
+ghost use Rattle.spec_tests.specs.Events.{world_at};
+ghost use Rattle.spec_tests.specs.Verdict.{alert_check, alert_failure, expr_check, expr_failure, firing, given_by};
+ghost use Rattle.pr_unit.specs.private.Kept.{StandsForWorld};
+ghost use Rattle.pr_unit.specs.private.Slots.{AreFilled, AreFilling};
 
+use crate::expected::{alert_failure, expr_failure, given};
 use crate::firing::firing;
 use crate::run::Run;
-use pr_expected::verdict::Failure;
-use pr_expected::{alert_failure, expr_failure, given};
-use pr_feeding::testfile::{AlertCheck, ExprCheck};
+use pr_ast::time::{Ms, Span};
+use pr_ast::words_crate::Items;
 use pr_slide::range::Ranges;
-use pr_time::{Ms, Span};
-use pr_words::Items;
+use spec_tests::Failure;
+use spec_tests::testfile::{AlertCheck, ExprCheck};
 use std::alloc::{AllocError, Global};
 
 // The number of a check or a test, counted from 1. So many as 2^32 of them count as want of memory.

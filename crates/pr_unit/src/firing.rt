@@ -2,23 +2,23 @@
 ghost use Rattle.std.specs.Prelude.{◌≡◌, ℕ, ◌<◌, ◌++◌, ◌&&◌, List, IfOk, OnOk, length, slice_get, Some};
 ghost use Rattle.std.specs.List.{flat_map};
 ghost use Rattle.std.specs.Str.{bytes_eq};
-ghost use Rattle.pr_history.specs.declared.entry.Entry.{Entry};
-ghost use Rattle.pr_feeding.specs.pr_fields.Order.{ordered};
-ghost use Rattle.pr_group.specs.pr_rules.Groups.{Group, RuleState};
-ghost use Rattle.pr_group.specs.pr_rules.Settings.{Settings};
-ghost use Rattle.pr_feeding.specs.pr_testfile.Alerts.{is_found_before};
-ghost use Rattle.pr_expected.specs.pr_verdict.Verdict.{firing_of};
-ghost use Rattle.pr_group.specs.Keeping.{KeepsGroup};
-ghost use Rattle.pr_unit.specs.Kept.{KeepsGroups};
+ghost use Rattle.pr_slide.specs.spec_history.declared.entry.Entry.{Entry};
+ghost use Rattle.spec_tests.specs.pr_rulefile.Order.{ordered};
+ghost use Rattle.pr_group.specs.spec_rules.Groups.{Group, RuleState};
+ghost use Rattle.pr_group.specs.spec_rules.Settings.{Settings};
+ghost use Rattle.spec_tests.specs.pr_testfile.Alerts.{is_found_before};
+ghost use Rattle.spec_tests.specs.Verdict.{firing_of};
+ghost use Rattle.pr_group.specs.private.Keeping.{KeepsGroup};
+ghost use Rattle.pr_unit.specs.private.Kept.{KeepsGroups};
 
-use pr_expected::push_firing;
-use pr_feeding::testfile::founds_in_order;
+use crate::expected::push_firing;
+use pr_ast::words_crate::Items;
 use pr_group::GroupOver;
-use pr_group::alert::records_of_a_lineage_stand_for_it;
-use pr_group::lineage::Found;
-use pr_group::rulefile::RuleDef;
+use pr_group::alerts_crate::RuleElement;
+use pr_group::rule::alert::records_of_a_lineage_stand_for_it;
+use pr_group::rules_crate::RuleDef;
 use pr_slide::range::Ranges;
-use pr_words::Items;
+use spec_tests::testfile::founds_in_order;
 use std::alloc::{AllocError, Global};
 
 fn is_alert_named(rule: &RuleDef, name: &str) -> bool
@@ -33,7 +33,7 @@ fn push_rule<R: Ranges + Drop>(
     group: &GroupOver<R>,
     number: usize,
     name: &str,
-    founds: &mut Vec<Found>,
+    founds: &mut Vec<RuleElement>,
 ) -> Result<(), AllocError>
     requires { number < length group.now.def.rules }
     ensures { (history : List Entry) (g : Group) (r : RuleState) → KeepsGroup R.fits R.last R.passed group.now history g → slice_get g.rules number ≡ Some r
@@ -53,7 +53,7 @@ fn push_group<R: Ranges + Drop>(
     alloc: Global,
     group: &GroupOver<R>,
     name: &str,
-    founds: &mut Vec<Found>,
+    founds: &mut Vec<RuleElement>,
 ) -> Result<(), AllocError>
     ensures { (history : List Entry) (g : Group) → KeepsGroup R.fits R.last R.passed group.now history g
         → OnOk result (founds.new.items ≡ founds.old.items ++ flat_map (firing_of name.now) g.rules) }
@@ -72,7 +72,7 @@ pub(crate) fn firing<R: Ranges + Drop>(
     alloc: Global,
     groups: &[GroupOver<R>],
     name: &str,
-) -> Result<Items<Found>, AllocError>
+) -> Result<Items<RuleElement>, AllocError>
     ensures { (history : List Entry) (s : Settings) (gs : List Group) → KeepsGroups R.fits R.last R.passed groups.now history s gs
         → IfOk result (λ list. list ≡ ordered is_found_before (flat_map (λ g. flat_map (firing_of name.now) g.rules) gs)) }
 {

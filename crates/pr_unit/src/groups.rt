@@ -1,23 +1,24 @@
 // The groups of rule files, to which nothing has happened.
 ghost use Rattle.std.specs.Prelude.{◌≡◌, ◌<◌, ◌^◌, ◌++◌, All, List, IfOk, OnOk, length, map};
-ghost use Rattle.pr_history.specs.declared.entry.Entry.{Entry};
-ghost use Rattle.pr_group.specs.pr_rulefile.Groups.{group_of_def};
-ghost use Rattle.pr_group.specs.pr_rule_result.Templates.{HaveTemplates};
-ghost use Rattle.pr_group.specs.pr_rules.Groups.{Group, fresh};
-ghost use Rattle.pr_group.specs.pr_rules.Reloads.{LoadedFile};
-ghost use Rattle.pr_group.specs.pr_rules.Replays.{unwaiting_groups};
-ghost use Rattle.pr_group.specs.pr_rules.Settings.{Settings};
-ghost use Rattle.pr_group.specs.Keeping.{KeepsGroup, settings_of};
-ghost use Rattle.pr_unit.specs.Kept.{KeepsGroups};
-ghost use Rattle.pr_unit.specs.Loaded.{AreShort, LoadAs, LoadsAs};
+ghost use Rattle.pr_slide.specs.spec_history.declared.entry.Entry.{Entry};
+ghost use Rattle.pr_group.specs.spec_rules.Definitions.{group_of_def};
+ghost use Rattle.pr_group.specs.pr_rule.private.Templates.{HaveTemplates};
+ghost use Rattle.pr_group.specs.spec_rules.Groups.{Group, fresh};
+ghost use Rattle.pr_group.specs.spec_rules.Reloads.{LoadedFile};
+ghost use Rattle.pr_group.specs.spec_rules.Replays.{unwaiting_groups};
+ghost use Rattle.pr_group.specs.spec_rules.Settings.{Settings};
+ghost use Rattle.pr_group.specs.private.Keeping.{KeepsGroup, settings_of};
+ghost use Rattle.pr_unit.specs.private.Kept.{KeepsGroups};
+ghost use Rattle.pr_unit.specs.private.Loaded.{AreShort, LoadAs, LoadsAs};
 
-use pr_expected::world::NamedFile;
-use pr_feeding::tmpl::External;
+use pr_ast::time::Span;
+use pr_ast::words_crate::{Items, Text};
 use pr_group::GroupOver;
-use pr_group::rulefile::{GroupDef, RuleError, read};
+use pr_group::rules_crate::GroupDef;
+use pr_group::tmpl::External;
 use pr_slide::range::Ranges;
-use pr_time::Span;
-use pr_words::{Items, Text};
+use spec_tests::rulefile::{RuleError, read};
+use spec_tests::world::NamedFile;
 use std::alloc::{AllocError, Global};
 
 fn copy_external(alloc: Global, external: &External) -> Result<External, AllocError>

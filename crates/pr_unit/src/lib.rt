@@ -2,6 +2,8 @@
 #![tactic(auto)]
 
 mod checks;
+pub mod expected;
+pub mod feeding;
 mod firing;
 mod groups;
 mod order;
@@ -13,6 +15,10 @@ mod tests;
 mod times;
 
 // What crates above name of those below.
+pub mod tests_crate {
+    pub use spec_tests::{Failure, Shown};
+}
+
 pub mod range {
     pub use pr_slide::range::Ranges;
 }

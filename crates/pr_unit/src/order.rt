@@ -1,11 +1,11 @@
 // The order in which groups are evaluated.
 ghost use Rattle.std.specs.Prelude.{◌≡◌, ◌++◌, IfOk, OnOk, filter, not};
-ghost use Rattle.pr_unit.specs.Ordered.{is_so_named, named_first};
-ghost use Rattle.pr_unit.specs.Kept.{name_of};
+ghost use Rattle.pr_unit.specs.private.Ordered.{is_so_named, named_first};
+ghost use Rattle.pr_unit.specs.private.Kept.{name_of};
 
+use pr_ast::words_crate::Text;
 use pr_group::GroupOver;
 use pr_slide::range::Ranges;
-use pr_words::Text;
 use std::alloc::{AllocError, Global};
 
 fn is_named<R: Ranges + Drop>(name: &str, group: &GroupOver<R>) -> bool

@@ -1,20 +1,20 @@
 // A test while it runs.
 ghost use Rattle.std.specs.Prelude.{◌≡◌, ℕ, ◌+◌, ◌*◌, ◌<◌, ◌≤◌, ◌^◌, ◌↔◌, List, IsTrue, IfOk, OnOk};
-ghost use Rattle.pr_feeding.specs.pr_inputs.declared.input.Input.{Input};
-ghost use Rattle.pr_group.specs.pr_rules.Groups.{Group};
-ghost use Rattle.pr_group.specs.pr_rules.Settings.{Settings};
-ghost use Rattle.pr_test_rounds.specs.Rounds.{AreApart, AreNew};
-ghost use Rattle.pr_history.specs.declared.entry.Entry.{Entry};
-ghost use Rattle.pr_unit.specs.Kept.{KeepsGroups};
-ghost use Rattle.pr_unit.specs.Run.{HasRun};
+ghost use Rattle.spec_tests.specs.pr_testfile.declared.inputs.input.Input.{Input};
+ghost use Rattle.pr_group.specs.spec_rules.Groups.{Group};
+ghost use Rattle.pr_group.specs.spec_rules.Settings.{Settings};
+ghost use Rattle.spec_tests.specs.private.Rounds.{AreApart, AreNew};
+ghost use Rattle.pr_slide.specs.spec_history.declared.entry.Entry.{Entry};
+ghost use Rattle.pr_unit.specs.private.Kept.{KeepsGroups};
+ghost use Rattle.pr_unit.specs.private.Run.{HasRun};
 
+use crate::feeding::{Feed, places};
 use crate::round::evaluate_all;
-use pr_feeding::inputs::Input;
-use pr_feeding::{Feed, places};
+use pr_ast::time::{Ms, Span};
 use pr_group::{GroupOver, a_kept_group_stays};
 use pr_slide::head::Head;
 use pr_slide::range::Ranges;
-use pr_time::{Ms, Span};
+use spec_tests::testfile::inputs::Input;
 use std::alloc::{AllocError, Global};
 
 /// What a test has come to.

@@ -1,10 +1,10 @@
 // What is found at checks, each in its slot.
 ghost use Rattle.std.specs.Prelude.{◌≡◌, ◌++◌, IfOk, OnOk, length};
 ghost use Rattle.std.specs.List.{flat_map};
-ghost use Rattle.pr_unit.specs.Slots.{empty_slots};
+ghost use Rattle.pr_unit.specs.private.Slots.{empty_slots};
 
-use pr_expected::verdict::Failure;
-use pr_words::Items;
+use pr_ast::words_crate::Items;
+use spec_tests::Failure;
 use std::alloc::{AllocError, Global};
 
 /// So many slots in which nothing is found.

@@ -1,17 +1,17 @@
 // One test.
 ghost use Rattle.std.specs.Prelude.{◌≡◌, ◌+◌, ◌<◌, ◌++◌, ℕ, List, IfOk, OnOk};
-ghost use Rattle.pr_history.specs.declared.entry.Entry.{Entry};
-ghost use Rattle.pr_group.specs.pr_rules.Groups.{Group};
-ghost use Rattle.pr_group.specs.pr_rules.Reloads.{LoadedFile};
-ghost use Rattle.pr_group.specs.pr_rules.Replays.{unwaiting_groups};
-ghost use Rattle.pr_feeding.specs.pr_testfile.Tests.{plain_test};
-ghost use Rattle.pr_test_rounds.specs.Rounds.{AreApart, AreToldApart};
-ghost use Rattle.pr_expected.specs.pr_verdict.Events.{by_names, settings_of};
-ghost use Rattle.pr_expected.specs.pr_verdict.Verdict.{test_verdict};
-ghost use Rattle.pr_unit.specs.Kept.{KeepsGroups};
-ghost use Rattle.pr_unit.specs.Loaded.{AreShort, LoadAs};
-ghost use Rattle.pr_unit.specs.Run.{HasRunTest, IsNextCheck};
-ghost use Rattle.pr_unit.specs.Slots.{AreAllFilled, HasFilled};
+ghost use Rattle.pr_slide.specs.spec_history.declared.entry.Entry.{Entry};
+ghost use Rattle.pr_group.specs.spec_rules.Groups.{Group};
+ghost use Rattle.pr_group.specs.spec_rules.Reloads.{LoadedFile};
+ghost use Rattle.pr_group.specs.spec_rules.Replays.{unwaiting_groups};
+ghost use Rattle.spec_tests.specs.pr_testfile.Tests.{plain_test};
+ghost use Rattle.spec_tests.specs.private.Rounds.{AreApart, AreToldApart};
+ghost use Rattle.spec_tests.specs.Events.{by_names, settings_of};
+ghost use Rattle.spec_tests.specs.Verdict.{test_verdict};
+ghost use Rattle.pr_unit.specs.private.Kept.{KeepsGroups};
+ghost use Rattle.pr_unit.specs.private.Loaded.{AreShort, LoadAs};
+ghost use Rattle.pr_unit.specs.private.Run.{HasRunTest, IsNextCheck};
+ghost use Rattle.pr_unit.specs.private.Slots.{AreAllFilled, HasFilled};
 
 use crate::checks::{fill_alerts, fill_exprs, number_of};
 use crate::groups::groups_of;
@@ -19,13 +19,13 @@ use crate::order::in_order;
 use crate::run::Run;
 use crate::slots::{empty_slots, gather};
 use crate::times::{next_time, times_of};
-use pr_expected::verdict::Failure;
-use pr_expected::world::NamedFile;
-use pr_feeding::testfile::{Test, TestFile};
+use pr_ast::time::{Ms, Span};
+use pr_ast::words_crate::Items;
 use pr_group::GroupOver;
 use pr_slide::range::Ranges;
-use pr_time::{Ms, Span};
-use pr_words::Items;
+use spec_tests::Failure;
+use spec_tests::testfile::{Test, TestFile};
+use spec_tests::world::NamedFile;
 use std::alloc::{AllocError, Global};
 
 /// What is found at the checks of a test, each in its slot.

@@ -2,18 +2,18 @@
 ghost use Rattle.std.specs.Prelude.{◌≡◌, ◌<◌, List, Ok, IfOk, map};
 ghost use Rattle.std.specs.List.{IsDistinct};
 ghost use Rattle.std.specs.Str.{bytes_eq};
-ghost use Rattle.pr_group.specs.pr_rules.Reloads.{LoadedFile};
-ghost use Rattle.pr_expected.specs.pr_world.Rounds.{all_loaded};
-ghost use Rattle.pr_feeding.specs.pr_testfile.File.{plain_file};
-ghost use Rattle.pr_expected.specs.pr_verdict.Verdict.{verdict};
-ghost use Rattle.pr_unit.specs.Loaded.{AreShort};
+ghost use Rattle.pr_group.specs.spec_rules.Reloads.{LoadedFile};
+ghost use Rattle.spec_tests.specs.spec_world.Rounds.{all_loaded};
+ghost use Rattle.spec_tests.specs.pr_testfile.File.{plain_file};
+ghost use Rattle.spec_tests.specs.Verdict.{verdict};
+ghost use Rattle.pr_unit.specs.private.Loaded.{AreShort};
 
 use crate::test::run_test;
-use pr_expected::verdict::Failure;
-use pr_expected::world::NamedFile;
-use pr_feeding::testfile::TestFile;
 use pr_slide::SlidingRanges;
 use pr_slide::range::Ranges;
+use spec_tests::Failure;
+use spec_tests::testfile::TestFile;
+use spec_tests::world::NamedFile;
 use std::alloc::{AllocError, Global};
 
 /// The checks of a test file whose expectation differs from what happens, in the order of the file:

@@ -1,9 +1,9 @@
 // When the checks of a test are made.
 ghost use Rattle.std.specs.Prelude.{◌≡◌, ◌++◌, IfOk, OnOk, map};
-ghost use Rattle.pr_unit.specs.Times.{earlier_of, next_time};
+ghost use Rattle.pr_unit.specs.private.Times.{earlier_of, next_time};
 
-use pr_feeding::testfile::{AlertCheck, ExprCheck, Test};
-use pr_time::Ms;
+use pr_ast::time::Ms;
+use spec_tests::testfile::{AlertCheck, ExprCheck, Test};
 use std::alloc::{AllocError, Global};
 
 fn push_alert_times(checks: &[AlertCheck], times: &mut Vec<Ms>) -> Result<(), AllocError>

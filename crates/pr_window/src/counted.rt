@@ -1,9 +1,9 @@
 // Combining that counts itself.
 ghost use Rattle.std.specs.Prelude.{◌≡◌, ◌+◌, ◌^◌, ◌<◌};
-ghost use Rattle.pr_window.specs.Folding.{Combines};
+ghost use Rattle.pr_window.specs.private.Folding.{Combines};
 
 use crate::fold::Fold;
-use pr_words::Steps;
+use spec_vectors::words_crate::Steps;
 use std::sync::ledger::Ledger;
 
 /// A closure for combining that can only be called by a step. What a window does is handed this in

@@ -1,13 +1,13 @@
 // What a window keeps, and the steps of its calls.
 ghost use Rattle.std.specs.Prelude.{◌≡◌, ◌+◌, ◌-◌, ◌^◌, ◌<◌, ◌≤◌, ◌++◌, ◌∷◌, [], Bool, List, length, map, take, drop, OnOk, OnErr, slice_get};
 ghost use Rattle.std.specs.List.{prefix_len};
-ghost use Rattle.pr_window.specs.Folding.{Combines};
-ghost use Rattle.pr_window.specs.Windows.{AreLight, Decides, items_of, joined, suffixes, summaries_of};
+ghost use Rattle.pr_window.specs.private.Folding.{Combines};
+ghost use Rattle.pr_window.specs.private.Windows.{AreLight, Decides, items_of, joined, suffixes, summaries_of};
 
 use crate::counted::Counted;
 use crate::fold::Fold;
 use crate::held::Held;
-use pr_words::Steps;
+use spec_vectors::words_crate::Steps;
 use std::alloc::AllocError;
 use std::collections::VecDeque;
 use std::sync::ledger::Ledger;

@@ -4,6 +4,7 @@
 mod counted;
 mod fold;
 mod folded;
+pub mod folds;
 mod held;
 mod kept;
 mod laws;
@@ -11,7 +12,11 @@ mod window;
 
 // What crates above name of those below.
 pub mod words_crate {
-    pub use pr_words::{Items, Steps};
+    pub use spec_vectors::words_crate::Items;
+}
+
+pub mod labels {
+    pub use spec_vectors::labels::{Grouping, Item, Labels};
 }
 
 pub use fold::Fold;

@@ -1,13 +1,13 @@
 // A window over a sequence, with the fold of its items.
 ghost use Rattle.std.specs.Prelude.{◌≡◌, ◌≤◌, ◌+◌, ◌++◌, ◌∷◌, [], Bool, length, IfSome, IfNone, OnOk, OnErr, option_map, slice_get};
-ghost use Rattle.pr_window.specs.Folding.{folded, Lifts, Combines};
-ghost use Rattle.pr_window.specs.Windows.{Decides, drop_while};
+ghost use Rattle.pr_window.specs.private.Folding.{folded, Lifts, Combines};
+ghost use Rattle.pr_window.specs.private.Windows.{Decides, drop_while};
 
 use crate::counted::Counted;
 use crate::fold::Fold;
 use crate::held::Held;
 use crate::kept::{both, drop_gone, first_summary, push_held, settle};
-use pr_words::Steps;
+use spec_vectors::words_crate::Steps;
 use std::alloc::{AllocError, Global};
 use std::collections::VecDeque;
 use std::marker::{Model, PhantomData};
@@ -26,7 +26,7 @@ pub struct Window<T, A, M: Fold<T, A>> {
 
 impl<T, A, M: Fold<T, A>> Model for Window<T, A, M> {
     ghost use Rattle.std.specs.Prelude.{◌-◌, length};
-    ghost use Rattle.pr_window.specs.Windows.{Windowed, IsKept, items_of};
+    ghost use Rattle.pr_window.specs.private.Windows.{Windowed, IsKept, items_of};
 
     ghost Value = { Windowed T };
 

@@ -1,7 +1,7 @@
 -- The text from a line on, byte by byte.
 use Rattle.std.proofs.Common.{◌≡◌, ℕ, zero, suc, ◌-◌, ◌<◌, List, [], ◌∷◌, Bool, true, false, refl, arith, sym}
 use Rattle.std.specs.Prelude.{if◌then◌else◌}
-use Rattle.pr_yaml_scan.specs.pr_words.Lines.{is_feed}
+use Rattle.pr_words.specs.Lines.{is_feed}
 use Rattle.pr_yaml.specs.Faults.{from_line}
 
 pub at_the_end : (n : ℕ) → from_line n [] ≡ []

@@ -2,10 +2,10 @@
 use Rattle.std.proofs.Common.{◌≡◌, ◌≢◌, ℕ, List, [], ◌∷◌, length, Bool, true, false, Option, Some, None, refl, ap, sym, ◌∙◌, subst, arith}
 use Rattle.std.proofs.lemmas.Bool.Decides.{nat_tests}
 use Rattle.std.specs.Prelude.{nat_eq, not, ◌&&◌, if◌then◌else◌}
-use Rattle.pr_yaml_scan.specs.pr_forms.Carries.{ChoosesNone, no_token, no_rule}
-use Rattle.pr_yaml_scan.specs.declared.token.Token.{Token}
+use Rattle.pr_words.specs.pr_forms.Carries.{ChoosesNone, no_token, no_rule}
+use Rattle.pr_yaml.specs.declared.yaml_scan.token.Token.{Token}
 use Rattle.pr_yaml.specs.Grammar.{Letter, key_at, letter_of, letters, entry_from, pair_from, is_taken, Entry, Pair}
-use Rattle.pr_yaml.specs.Reader.{key_among, NoEntry, NoPair}
+use Rattle.pr_yaml.specs.private.Reader.{key_among, NoEntry, NoPair}
 
 pub none_at_end : {N : Type 0} (q : Letter → Option N) (ts : List Token) → length ts ≡ 0 → ChoosesNone q (letters ts)
 none_at_end q [] e = no_token

@@ -8,10 +8,10 @@ use Rattle.std.specs.Cmp.Lexicographic.{slice_cmp, texts_ties}
 use Rattle.std.specs.Ordering.{nat_cmp, is_eq}
 use Rattle.std.specs.declared.cmp.Ordering.{Ordering}
 use Rattle.std.specs.Str.{bytes_eq}
-use Rattle.pr_yaml_scan.specs.pr_words.Names.{is_among, knows}
-use Rattle.pr_yaml.specs.declared.node.Entry.{Entry}
+use Rattle.pr_words.specs.Names.{is_among, knows}
+use Rattle.pr_yaml.specs.declared.node.MapEntry.{MapEntry}
 use Rattle.pr_yaml.specs.Tree.{EntryTree, entry_tree_of}
-use Rattle.pr_yaml.specs.Reader.{keys_of, keys_in}
+use Rattle.pr_yaml.specs.private.Reader.{keys_of, keys_in}
 
 abbrev key_cmp : Bor (List ℕ) → Bor (List ℕ) → Ordering
 key_cmp x y = slice_cmp nat_cmp x.now y.now
@@ -23,13 +23,13 @@ one_more new true false e = e
 one_more new false false e = e
 
 -- the entries with one more
-pub entries_more : (es all : List Entry) (e : Entry) → all ≡ es ++ e ∷ [] → map entry_tree_of all ≡ map entry_tree_of es ++ entry_tree_of e ∷ []
+pub entries_more : (es all : List MapEntry) (e : MapEntry) → all ≡ es ++ e ∷ [] → map entry_tree_of all ≡ map entry_tree_of es ++ entry_tree_of e ∷ []
 entries_more es all e h = ap (map entry_tree_of) h ∙ map-append entry_tree_of es (e ∷ [])
 
 pub keys_more : (es all : List EntryTree) (e : EntryTree) → all ≡ es ++ e ∷ [] → keys_of all ≡ keys_of es ++ e.key ∷ []
 keys_more es all e h = ap keys_of h ∙ map-append (λ x. x.key) es (e ∷ [])
 
-pub known_more : (old new : BTreeSet (Bor (List ℕ))) (key : Bor (List ℕ)) (es all : List Entry) (e : Entry) → Updates key_cmp old new key true → (entry_tree_of e).key ≡ key.now →
+pub known_more : (old new : BTreeSet (Bor (List ℕ))) (key : Bor (List ℕ)) (es all : List MapEntry) (e : MapEntry) → Updates key_cmp old new key true → (entry_tree_of e).key ≡ key.now →
     ((name : List ℕ) → knows old name ≡ is_among name (keys_in es)) → all ≡ es ++ e ∷ [] → (name : List ℕ) → knows new name ≡ is_among name (keys_in all)
 known_more old new key es all e u h known i name =
     let asked : Bor (List ℕ) = record { ref_ptr = (0, 0); now = name } in

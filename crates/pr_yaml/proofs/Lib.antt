@@ -10,3 +10,17 @@ pub mod ReadLaws
 pub mod DistinctKeys
 pub mod Depths
 pub mod ReturnLines
+pub mod Lines
+pub mod PlainLines
+pub mod QuotedLines
+pub mod BlockLines
+pub mod ReaderFacts
+pub mod Shorter
+pub mod ScanLoop
+pub mod ScanLaws
+pub mod Returns
+pub mod LegibleLines
+pub mod LegibleTexts
+pub mod LegibleParts
+pub mod TokenPlaces
+pub use Rattle.pr_words.proofs.PlainTexts as WordsPlainTexts

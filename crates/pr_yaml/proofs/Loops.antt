@@ -3,26 +3,26 @@ use Rattle.std.proofs.Common.{◌≡◌, ℕ, ◌+◌, ◌≤◌, ◌<◌, List,
 use Rattle.std.proofs.lemmas.List.{map-append}
 use Rattle.std.specs.Borrow.{Bor}
 use Rattle.std.specs.Prelude.{MatchResult, IfOk}
-use Rattle.pr_yaml_scan.specs.pr_forms.Form.{Form, token, rule}
-use Rattle.pr_yaml_scan.specs.pr_forms.Run.{good, bad, Takes, Lacks}
-use Rattle.pr_yaml_scan.specs.pr_forms.Carries.{Chooses, ChoosesNone}
-use Rattle.pr_yaml_scan.specs.pr_forms.Language.{Gives, FailsAt}
-use Rattle.pr_yaml_scan.specs.pr_forms.declared.reader.Fault.{Fault}
-use Rattle.pr_yaml_scan.specs.pr_forms.declared.reader.Fault.TheVariants.{Bad, Memory}
-use Rattle.pr_yaml_scan.specs.declared.token.Token.{Token}
+use Rattle.pr_words.specs.pr_forms.Form.{Form, token, rule}
+use Rattle.pr_words.specs.pr_forms.Run.{good, bad, Takes, Lacks}
+use Rattle.pr_words.specs.pr_forms.Carries.{Chooses, ChoosesNone}
+use Rattle.pr_words.specs.pr_forms.Language.{Gives, FailsAt}
+use Rattle.pr_words.specs.pr_forms.declared.reader.Fault.{Fault}
+use Rattle.pr_words.specs.pr_forms.declared.reader.Fault.TheVariants.{Bad, Memory}
+use Rattle.pr_yaml.specs.declared.yaml_scan.token.Token.{Token}
 use Rattle.pr_yaml.specs.declared.node.Node.{Node}
-use Rattle.pr_yaml.specs.declared.node.Entry.{Entry}
+use Rattle.pr_yaml.specs.declared.node.MapEntry.{MapEntry}
 use Rattle.pr_yaml.specs.Tree.{Tree, EntryTree, tree_of, entry_tree_of}
-use Rattle.pr_yaml.specs.Grammar.{Letter, letters, Value, tree, at, items, entries, mark, or_absent, Rule, MoreEntries, Under, MoreDashes, Values, Pairs, PairValue, value_from, dash_in, comma_in, production}
+use Rattle.pr_yaml.specs.Grammar.{Letter, letters, YamlValue, tree, at, items, entries, mark, or_absent, Rule, MoreEntries, Under, MoreDashes, Values, Pairs, PairValue, value_from, dash_in, comma_in, production}
 use Rattle.pr_yaml.specs.GrammarTable.{table, yaml}
-use Rattle.pr_yaml.specs.Reader.{IsEntry, NoEntry, IsPair, NoPair, maybe_node, keys_in, GivesValue, HasRead}
+use Rattle.pr_yaml.specs.private.Reader.{IsEntry, NoEntry, IsPair, NoPair, maybe_node, keys_in, GivesValue, HasRead}
 use Rattle.pr_yaml.proofs.Keys.{keys_more}
 use Rattle.pr_yaml.proofs.Ways.{R, C, letters_shorter, one_more, all_read, last_read, entry_step, entries_over, dash_step, dashes_over, value_step, value_last, values_over, pair_step, pair_last, pairs_over}
 
 -- a node that was begun is the value of a form that its first token chooses
-pub started_value : (d : Bool) (f : Form Letter Rule Value) (line : ℕ) (ts : List Token) (n : Rule) (r : Result (Node × Bor (List Token)) (Fault Token)) →
+pub started_value : (d : Bool) (f : Form Letter Rule YamlValue) (line : ℕ) (ts : List Token) (n : Rule) (r : Result (Node × Bor (List Token)) (Fault Token)) →
     MatchResult r (λ x. Gives (yaml d) (production d n) ts (good (tree (tree_of x.0)) (letters x.1.now))) (FailsAt (yaml d) (production d n) ts) → IfOk r (λ x. length x.1.now < length ts) →
-    ((end : List Letter) (v : Value) → length end < length (letters ts) → R d (production d n) (letters ts) (good v end) → R d f (letters ts) (good v end)) →
+    ((end : List Letter) (v : YamlValue) → length end < length (letters ts) → R d (production d n) (letters ts) (good v end) → R d f (letters ts) (good v end)) →
     ((end : List Letter) → R d (production d n) (letters ts) (bad end) → R d f (letters ts) (bad end)) →
     MatchResult r (λ x. GivesValue d f line ts x.0 x.1.now) (FailsAt (yaml d) f ts)
 started_value d f line ts n (Ok x) g s taken refused = (tree (tree_of x.0), (taken (letters x.1.now) (tree (tree_of x.0)) (letters_shorter x.1.now ts s) g, refl))
@@ -30,15 +30,15 @@ started_value d f line ts n (Err (Bad rest)) g s taken refused = refused (letter
 started_value d f line ts n (Err Memory) g s taken refused = tt
 
 -- an equal tree
-pub equal_tree : (d : Bool) (f : Form Letter Rule Value) (ts end : List Letter) (t u : Tree) → u ≡ t → R d f ts (good (tree t) end) → R d f ts (good (tree u) end)
+pub equal_tree : (d : Bool) (f : Form Letter Rule YamlValue) (ts end : List Letter) (t u : Tree) → u ≡ t → R d f ts (good (tree t) end) → R d f ts (good (tree u) end)
 equal_tree d f ts end t u e h = subst (λ x. R d f ts (good (tree x) end)) (sym e) h
 
 -- an entry with the value that was read
-made_entry : (line : ℕ) (key : List ℕ) (v : Value) (node : Node) → or_absent line v ≡ tree_of node → (es all : List EntryTree) → all ≡ es ++ record { key = key; line = line; value = tree_of node } ∷ [] →
+made_entry : (line : ℕ) (key : List ℕ) (v : YamlValue) (node : Node) → or_absent line v ≡ tree_of node → (es all : List EntryTree) → all ≡ es ++ record { key = key; line = line; value = tree_of node } ∷ [] →
     all ≡ es ++ record { key = key; line = line; value = or_absent line v } ∷ []
 made_entry line key v node e es all h = rw e h
 
-pub map_more : (d : Bool) (k r : ℕ) (tokens before following after : List Token) (old new : List Entry) (line : ℕ) (key : List ℕ) (node : Node) →
+pub map_more : (d : Bool) (k r : ℕ) (tokens before following after : List Token) (old new : List MapEntry) (line : ℕ) (key : List ℕ) (node : Node) →
     HasRead d (rule (MoreEntries k r [])) tokens entries (map entry_tree_of old) (rule (MoreEntries k r (keys_in old))) before → IsEntry d k (keys_in old) line key (letters before) (letters following) →
     GivesValue d (rule (Under k r)) line following node after → map entry_tree_of new ≡ map entry_tree_of old ++ record { key = key; line = line; value = tree_of node } ∷ [] →
     length following < length before → length after ≤ length following → HasRead d (rule (MoreEntries k r [])) tokens entries (map entry_tree_of new) (rule (MoreEntries k r (keys_in new))) after
@@ -51,7 +51,7 @@ map_more d k r tokens before following after old new line key node h i v e lt le
       shorter = let s = h.shorter in omega (arith, s, lt, le);
     }
 
-pub map_over : (d : Bool) (k r : ℕ) (tokens before : List Token) (old : List Entry) → HasRead d (rule (MoreEntries k r [])) tokens entries (map entry_tree_of old) (rule (MoreEntries k r (keys_in old))) before →
+pub map_over : (d : Bool) (k r : ℕ) (tokens before : List Token) (old : List MapEntry) → HasRead d (rule (MoreEntries k r [])) tokens entries (map entry_tree_of old) (rule (MoreEntries k r (keys_in old))) before →
     NoEntry d k (keys_in old) (letters before) → R d (rule (MoreEntries k r [])) (letters tokens) (good (entries (map entry_tree_of old)) (letters before))
 map_over d k r tokens before old h i = all_read d entries (map entry_tree_of old) h.carries (entries_over d k r (keys_in old) (letters before) i)
 
@@ -86,7 +86,7 @@ pub values_end : (d : Bool) (r : ℕ) (tokens before : List Token) (old : List N
     R d (rule (Values r)) (letters tokens) (good (items (map tree_of old)) (letters before))
 values_end d r tokens before old h i = all_read d items (map tree_of old) h.carries (values_over d r i)
 
-module _ (d : Bool) (r : ℕ) (tokens before following after : List Token) (old new : List Entry) (line : ℕ) (key : List ℕ) (node : Node)
+module _ (d : Bool) (r : ℕ) (tokens before following after : List Token) (old new : List MapEntry) (line : ℕ) (key : List ℕ) (node : Node)
     (h : HasRead d (rule (Pairs r [])) tokens entries (map entry_tree_of old) (rule (Pairs r (keys_in old))) before) (i : IsPair d (keys_in old) line key (letters before) (letters following))
     (v : GivesValue d (rule (PairValue r)) line following node after) (e : map entry_tree_of new ≡ map entry_tree_of old ++ record { key = key; line = line; value = tree_of node } ∷ []) where
   all_pairs : map entry_tree_of new ≡ map entry_tree_of old ++ record { key = key; line = line; value = or_absent line v.0 } ∷ []
@@ -105,6 +105,6 @@ module _ (d : Bool) (r : ℕ) (tokens before following after : List Token) (old 
   pub pairs_last : Lacks (production d) (table d) (token comma_in) (letters after) → R d (rule (Pairs r [])) (letters tokens) (good (entries (map entry_tree_of new)) (letters after))
   pairs_last c = last_read d entries (map entry_tree_of old) (map entry_tree_of new) _ all_pairs h.carries (pair_last d r i v.1.0 c)
 
-pub pairs_end : (d : Bool) (r : ℕ) (tokens before : List Token) (old : List Entry) → HasRead d (rule (Pairs r [])) tokens entries (map entry_tree_of old) (rule (Pairs r (keys_in old))) before → NoPair d (keys_in old) (letters before) →
+pub pairs_end : (d : Bool) (r : ℕ) (tokens before : List Token) (old : List MapEntry) → HasRead d (rule (Pairs r [])) tokens entries (map entry_tree_of old) (rule (Pairs r (keys_in old))) before → NoPair d (keys_in old) (letters before) →
     R d (rule (Pairs r [])) (letters tokens) (good (entries (map entry_tree_of old)) (letters before))
 pairs_end d r tokens before old h i = all_read d entries (map entry_tree_of old) h.carries (pairs_over d r (keys_in old) (letters before) i)

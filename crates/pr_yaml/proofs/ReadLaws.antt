@@ -3,22 +3,22 @@ use Rattle.std.proofs.Common.{◌≡◌, ◌↔◌, ℕ, ◌≤◌, nat_le, List
 use Rattle.std.specs.Prelude.{MatchResult, IfOk, IfErr, Result, Ok, Err, slice_get}
 use Rattle.std.proofs.lemmas.Bool.Decides.{nat_tests}
 use Rattle.std.proofs.lemmas.List.{length-map}
-use Rattle.pr_yaml_scan.specs.pr_forms.Form.{rule, Begins, IsFirstBad, at_whole}
-use Rattle.pr_yaml_scan.proofs.FormsPlaces.{cut_short}
-use Rattle.pr_yaml_scan.specs.declared.token.Token.{Token}
-use Rattle.pr_yaml_scan.specs.declared.fault.YamlKind.{YamlKind}
-use Rattle.pr_yaml_scan.specs.declared.fault.BadPlace.{BadPlace}
-use Rattle.pr_yaml_scan.specs.Tokens.{HasPlaces}
-use Rattle.pr_yaml_scan.specs.Scan.{scanned_places}
-use Rattle.pr_yaml_scan.proofs.ScanLaws.{is_function}
+use Rattle.pr_words.specs.pr_forms.Form.{rule, Begins, IsFirstBad, at_whole}
+use Rattle.pr_words.proofs.FormsPlaces.{cut_short}
+use Rattle.pr_yaml.specs.declared.yaml_scan.token.Token.{Token}
+use Rattle.pr_yaml.specs.declared.yaml_scan.fault.YamlKind.{YamlKind}
+use Rattle.pr_yaml.specs.declared.yaml_scan.fault.BadPlace.{BadPlace}
+use Rattle.pr_yaml.specs.Tokens.{HasPlaces}
+use Rattle.pr_yaml.specs.Scan.{scanned_places}
+use Rattle.pr_yaml.proofs.ScanLaws.{is_function}
 use Rattle.pr_yaml.specs.declared.node.Node.{Node}
 use Rattle.pr_yaml.specs.declared.fault.YamlError.{YamlError}
 use Rattle.pr_yaml.specs.declared.fault.YamlError.TheVariants.{Fault, Memory}
 use Rattle.pr_yaml.specs.Tree.{Tree, tree_of}
-use Rattle.pr_yaml.specs.Grammar.{Letter, letter_of, letters, Value, or_absent, Whole, production}
+use Rattle.pr_yaml.specs.Grammar.{Letter, letter_of, letters, YamlValue, or_absent, Whole, production}
 use Rattle.pr_yaml.specs.Trees.{levels, stop, goes_on, tree_in}
 use Rattle.pr_yaml.specs.Read.{gives_tree, gives_fault, at_end, at_stop, read_tokens, read_of, IsFaultOf}
-use Rattle.pr_yaml.specs.Derived.{HasValue, IsTree, IsEndFault, IsFaultAt, HasFault, Refuses, Misses}
+use Rattle.pr_yaml.specs.private.Derived.{HasValue, IsTree, IsEndFault, IsFaultAt, HasFault, Refuses, Misses}
 use Rattle.pr_yaml.proofs.WholeTrees.{stop_place, stop_is, tree_is, no_tree, tree_read}
 
 -- from the tokens that a text has
@@ -84,7 +84,7 @@ pub tree_both : (text : List ℕ) (tree : Tree) → (read_of text ≡ gives_tree
 tree_both text tree = (tree_there text tree, tree_given text tree)
 
 -- so is a fault
-no_value : (tokens : List Token) → tree_in true levels (letters tokens) ≡ None → (v : Value) → HasValue tokens v → ⊥
+no_value : (tokens : List Token) → tree_in true levels (letters tokens) ≡ None → (v : YamlValue) → HasValue tokens v → ⊥
 no_value tokens e v h = let x = tree_is true levels (letters tokens) v h in let y : None ≡ Some (or_absent 1 v) = sym e ∙ x in cc
 
 end_fault : (text : List ℕ) (tokens : List Token) (bad : Option BadPlace) (found : Option Tree) (line : ℕ) (kind : YamlKind) → tree_in true levels (letters tokens) ≡ found → at_end text tokens bad found ≡ gives_fault line kind → IsEndFault text tokens bad line kind

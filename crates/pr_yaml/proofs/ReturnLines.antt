@@ -6,18 +6,18 @@ use Rattle.std.specs.Prelude.{slice_get, count_by}
 use Rattle.std.specs.List.{slice_split, onto_first, list_all}
 use Rattle.std.specs.Str.{is_utf8}
 use Rattle.std.proofs.lemmas.List.Sums.{sum_by-cons}
-use Rattle.pr_yaml_scan.specs.pr_words.Lines.{is_feed, without_return, ended, text_lines}
-use Rattle.pr_yaml_scan.specs.pr_words.Bytes.{is_blank}
-use Rattle.pr_yaml_scan.specs.Bytes.{without_mark}
-use Rattle.pr_yaml_scan.specs.Worked.{has_return, with_returns}
-use Rattle.pr_yaml_scan.specs.Rising.{StandsIn, AllStandIn}
-use Rattle.pr_yaml_scan.specs.Scan.{scanned_places}
-use Rattle.pr_yaml_scan.specs.declared.token.Token.{Token}
-use Rattle.pr_yaml_scan.specs.declared.fault.BadPlace.{BadPlace}
-use Rattle.pr_yaml_scan.proofs.ScanLoop.{seen_whole}
-use Rattle.pr_yaml_scan.proofs.ScanLaws.{is_function}
-use Rattle.pr_yaml_scan.proofs.TokenPlaces.{tokens_stand}
-use Rattle.pr_yaml_scan.proofs.Returns.{same_lines, same_places, mark_returns, return_mark}
+use Rattle.pr_words.specs.Lines.{is_feed, without_return, ended, text_lines}
+use Rattle.pr_words.specs.Bytes.{is_blank}
+use Rattle.pr_yaml.specs.Bytes.{without_mark}
+use Rattle.pr_yaml.specs.private.YamlScanWorked.{has_return, with_returns}
+use Rattle.pr_yaml.specs.private.Rising.{StandsIn, AllStandIn}
+use Rattle.pr_yaml.specs.Scan.{scanned_places}
+use Rattle.pr_yaml.specs.declared.yaml_scan.token.Token.{Token}
+use Rattle.pr_yaml.specs.declared.yaml_scan.fault.BadPlace.{BadPlace}
+use Rattle.pr_yaml.proofs.ScanLoop.{seen_whole}
+use Rattle.pr_yaml.proofs.ScanLaws.{is_function}
+use Rattle.pr_yaml.proofs.TokenPlaces.{tokens_stand}
+use Rattle.pr_yaml.proofs.Returns.{same_lines, same_places, mark_returns, return_mark}
 use Rattle.pr_yaml.specs.Tree.{Tree}
 use Rattle.pr_yaml.specs.Grammar.{letters}
 use Rattle.pr_yaml.specs.Trees.{levels, stop, tree_in}

@@ -2,8 +2,8 @@
 use Rattle.std.proofs.Common.{◌≡◌, ℕ, Bool, true, false, List, refl, sym, subst, arith, Some, None}
 use Rattle.std.proofs.lemmas.Bool.Decides.{nat_tests}
 use Rattle.std.specs.Prelude.{if◌then◌else◌, nat_le, nat_eq, ◌&&◌, not}
-use Rattle.pr_yaml_scan.specs.pr_forms.Table.{empty_of, starts_of, more_of, parts_at, is_solid, Binds, IsDecided}
-use Rattle.pr_yaml_scan.proofs.FormsDecided.{plain_binds}
+use Rattle.pr_words.specs.pr_forms.Table.{empty_of, starts_of, more_of, parts_at, is_solid, Binds, IsDecided}
+use Rattle.pr_words.proofs.FormsDecided.{plain_binds}
 use Rattle.pr_yaml.specs.Grammar.{Letter, text_at, key_at, dash_at, list_open, list_close, map_open, map_close, comma_at, column_of, Rule, Whole, Node, Leaf, Map, Entries, Entry, MoreEntries, Under, Items, Dashes, MoreDashes, FlowList, Values, AfterValue, FlowMap, Pairs, Pair, PairValue, AfterPair, production, is_allowed, node_from, value_from, list_from, entry_from, pair_from, is_within, is_item_more, is_in_map, is_taken}
 use Rattle.pr_yaml.specs.GrammarTable.{table}
 

@@ -1,7 +1,7 @@
 -- The grammar of trees ends: so what a text is, is a function of it.
 use Rattle.std.proofs.Common.{◌≡◌, ℕ, suc, nat_le, Bool, true, false, List, refl, subst, Some}
 use Rattle.std.specs.Prelude.{nat_eq, ◌&&◌, not}
-use Rattle.pr_yaml_scan.specs.pr_forms.Reading.{EndsIn, Ends}
+use Rattle.pr_words.specs.pr_forms.Reading.{EndsIn, Ends}
 use Rattle.pr_yaml.specs.Grammar.{Letter, text_at, key_at, dash_at, list_open, list_close, map_open, map_close, comma_at, Rule, Whole, Node, Leaf, Map, Entries, Entry, MoreEntries, Under, Items, Dashes, MoreDashes, FlowList, Values, AfterValue, FlowMap, Pairs, Pair, PairValue, AfterPair, production, is_allowed, is_taken, node_from, value_from, list_from, entry_from, pair_from}
 use Rattle.pr_yaml.specs.GrammarTable.{table, empty_rule, rank, steps}
 use Rattle.pr_yaml.proofs.TreeTable.{cond_some, cond_none}

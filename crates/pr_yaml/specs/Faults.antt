@@ -1,16 +1,16 @@
 -- The kind of a fault.
 use Rattle.std.specs.Prelude.{ℕ, zero, suc, ◌+◌, ◌-◌, ◌||◌, ◌&&◌, nat_lt, Bool, true, false, Option, Some, None, List, [], ◌∷◌, ◌++◌, length, take, count_by, if◌then◌else◌}
 use Rattle.std.specs.List.{list_all}
-use Rattle.pr_yaml_scan.specs.pr_words.Lines.{is_feed}
-use Rattle.pr_yaml_scan.specs.pr_words.Bytes.{is_blank}
-use Rattle.pr_yaml_scan.specs.Bytes.{without_mark}
-use Rattle.pr_yaml_scan.specs.declared.token.Token.{Token}
-use Rattle.pr_yaml_scan.specs.declared.token.TokenKind.{TokenKind}
-use Rattle.pr_yaml_scan.specs.declared.token.TokenKind.TheVariants.{ListOpen, ListClose, MapOpen, MapClose}
-use Rattle.pr_yaml_scan.specs.declared.fault.YamlKind.{YamlKind}
-use Rattle.pr_yaml_scan.specs.declared.fault.YamlKind.TheVariants.{Flow, Indent, Extra, DuplicateKey, TooDeep}
-use Rattle.pr_yaml_scan.specs.declared.fault.TokenStart.{TokenStart}
-use Rattle.pr_yaml_scan.specs.declared.fault.BadPlace.{BadPlace}
+use Rattle.pr_words.specs.Lines.{is_feed}
+use Rattle.pr_words.specs.Bytes.{is_blank}
+use Rattle.pr_yaml.specs.Bytes.{without_mark}
+use Rattle.pr_yaml.specs.declared.yaml_scan.token.Token.{Token}
+use Rattle.pr_yaml.specs.declared.yaml_scan.token.TokenKind.{TokenKind}
+use Rattle.pr_yaml.specs.declared.yaml_scan.token.TokenKind.TheVariants.{ListOpen, ListClose, MapOpen, MapClose}
+use Rattle.pr_yaml.specs.declared.yaml_scan.fault.YamlKind.{YamlKind}
+use Rattle.pr_yaml.specs.declared.yaml_scan.fault.YamlKind.TheVariants.{Flow, Indent, Extra, DuplicateKey, TooDeep}
+use Rattle.pr_yaml.specs.declared.yaml_scan.fault.TokenStart.{TokenStart}
+use Rattle.pr_yaml.specs.declared.yaml_scan.fault.BadPlace.{BadPlace}
 use Rattle.pr_yaml.specs.Grammar.{letters, text_at, key_at}
 use Rattle.pr_yaml.specs.Trees.{levels, goes_on}
 

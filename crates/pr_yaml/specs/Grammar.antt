@@ -1,10 +1,10 @@
 -- The trees of YAML texts over their tokens, by columns.
 use Rattle.std.specs.Prelude.{ℕ, ◌+◌, ◌-◌, Option, Some, None, Bool, true, false, ◌||◌, ◌&&◌, not, if◌then◌else◌, nat_eq, nat_le, nat_lt, is_some, List, [], ◌∷◌, ◌++◌, map}
-use Rattle.pr_yaml_scan.specs.pr_words.Names.{is_among}
-use Rattle.pr_yaml_scan.specs.pr_forms.Form.{Form, token, nothing, pair, either, rule, chosen}
-use Rattle.pr_yaml_scan.specs.declared.token.Token.{Token}
-use Rattle.pr_yaml_scan.specs.declared.token.TokenKind.{TokenKind}
-use Rattle.pr_yaml_scan.specs.declared.token.TokenKind.TheVariants.{Dash, Key, Text, ListOpen, ListClose, MapOpen, MapClose, Comma}
+use Rattle.pr_words.specs.Names.{is_among}
+use Rattle.pr_words.specs.pr_forms.Form.{Form, token, nothing, pair, either, rule, chosen}
+use Rattle.pr_yaml.specs.declared.yaml_scan.token.Token.{Token}
+use Rattle.pr_yaml.specs.declared.yaml_scan.token.TokenKind.{TokenKind}
+use Rattle.pr_yaml.specs.declared.yaml_scan.token.TokenKind.TheVariants.{Dash, Key, Text, ListOpen, ListClose, MapOpen, MapClose, Comma}
 use Rattle.pr_yaml.specs.Tree.{Tree, text_node, list_node, map_node, EntryTree, trees_from, entries_from, absent_node}
 
 -- A token as the grammar sees it, with its line and its column.
@@ -45,17 +45,17 @@ column_of (map_close line column) = column
 column_of (comma_at line column) = column
 
 -- What stands for a part of a text.
-pub data Value : Type 0 where
-  tree : Tree → Value
+pub data YamlValue : Type 0 where
+  tree : Tree → YamlValue
   -- a sign or a key on a line
-  at : ℕ → Value
+  at : ℕ → YamlValue
   -- an entry; the items of a list, and the entries of a map
-  entry : EntryTree → Value
-  items : List Tree → Value
-  entries : List EntryTree → Value
+  entry : EntryTree → YamlValue
+  items : List Tree → YamlValue
+  entries : List EntryTree → YamlValue
   -- no value, and one that says nothing
-  absent : Value
-  mark : Value
+  absent : YamlValue
+  mark : YamlValue
 
 -- The rules. In their names: `line` is the line of the token that a map or a list begins with;
 -- `column` is where the tokens of a rule stand, but for `Node`, which stands at it or further on;
@@ -127,83 +127,83 @@ pair_from distinct room keys (key_at line c key) =
     if not (is_taken distinct key keys) then Some (Pair room keys key) else None
 pair_from distinct room keys _ = None
 
-abbrev pub leaf_in : Letter → Option Value
+abbrev pub leaf_in : Letter → Option YamlValue
 leaf_in (text_at line column text quoted) = Some (tree (text_node line text quoted))
 leaf_in _ = None
 
-abbrev pub key_in : ℕ → Letter → Option Value
+abbrev pub key_in : ℕ → Letter → Option YamlValue
 key_in column (key_at line c key) = if nat_eq column c then Some (at line) else None
 key_in column _ = None
 
-abbrev pub any_key_in : Letter → Option Value
+abbrev pub any_key_in : Letter → Option YamlValue
 any_key_in (key_at line column key) = Some (at line)
 any_key_in _ = None
 
-abbrev pub dash_in : ℕ → Letter → Option Value
+abbrev pub dash_in : ℕ → Letter → Option YamlValue
 dash_in column (dash_at line c) = if nat_eq column c then Some (at line) else None
 dash_in column _ = None
 
-abbrev pub list_open_in : Letter → Option Value
+abbrev pub list_open_in : Letter → Option YamlValue
 list_open_in (list_open line column) = Some (at line)
 list_open_in _ = None
 
-abbrev pub list_close_in : Letter → Option Value
+abbrev pub list_close_in : Letter → Option YamlValue
 list_close_in (list_close line column) = Some mark
 list_close_in _ = None
 
-abbrev pub map_open_in : Letter → Option Value
+abbrev pub map_open_in : Letter → Option YamlValue
 map_open_in (map_open line column) = Some (at line)
 map_open_in _ = None
 
-abbrev pub map_close_in : Letter → Option Value
+abbrev pub map_close_in : Letter → Option YamlValue
 map_close_in (map_close line column) = Some mark
 map_close_in _ = None
 
-abbrev pub comma_in : Letter → Option Value
+abbrev pub comma_in : Letter → Option YamlValue
 comma_in (comma_at line column) = Some mark
 comma_in _ = None
 
 -- How the values of parts are joined.
-abbrev pub first_of : Value → Value → Value
+abbrev pub first_of : YamlValue → YamlValue → YamlValue
 first_of v w = v
 
-abbrev pub second_of : Value → Value → Value
+abbrev pub second_of : YamlValue → YamlValue → YamlValue
 second_of v w = w
 
 -- the value of a key or a dash on a line, which may be absent
-abbrev pub or_absent : ℕ → Value → Tree
+abbrev pub or_absent : ℕ → YamlValue → Tree
 or_absent line (tree t) = t
 or_absent line _ = absent_node line
 
-abbrev pub entry_of : List ℕ → Value → Value → Value
+abbrev pub entry_of : List ℕ → YamlValue → YamlValue → YamlValue
 entry_of key (at line) v = entry (record { key = key; line = line; value = or_absent line v })
 entry_of key _ v = mark
 
-abbrev pub entry_before : Value → Value → Value
+abbrev pub entry_before : YamlValue → YamlValue → YamlValue
 entry_before (entry e) (entries es) = entries (e ∷ es)
 entry_before _ _ = mark
 
-abbrev pub item_of : Value → Value → Value
+abbrev pub item_of : YamlValue → YamlValue → YamlValue
 item_of (at line) v = tree (or_absent line v)
 item_of _ v = mark
 
-abbrev pub item_before : Value → Value → Value
+abbrev pub item_before : YamlValue → YamlValue → YamlValue
 item_before (tree t) (items ts) = items (t ∷ ts)
 item_before _ _ = mark
 
-abbrev pub map_on : ℕ → Value → Value → Value
+abbrev pub map_on : ℕ → YamlValue → YamlValue → YamlValue
 map_on line v (entries es) = tree (map_node line (entries_from es))
 map_on line v _ = mark
 
-abbrev pub list_on : ℕ → Value → Value → Value
+abbrev pub list_on : ℕ → YamlValue → YamlValue → YamlValue
 list_on line v (items ts) = tree (list_node line (trees_from ts))
 list_on line v _ = mark
 
-abbrev pub flow_map_of : Value → Value → Value
+abbrev pub flow_map_of : YamlValue → YamlValue → YamlValue
 flow_map_of (at line) v = map_on line mark v
 flow_map_of _ v = mark
 
-abbrev pub flow_list_of : Value → Value → Value
+abbrev pub flow_list_of : YamlValue → YamlValue → YamlValue
 flow_list_of (at line) v = list_on line mark v
 flow_list_of _ v = mark
 
@@ -233,7 +233,7 @@ is_in_map t = true
 --   flow    = "[" [ value { "," value } [","] ] "]" | "{" [ pair { "," pair } [","] ] "}"
 --   value   = text | flow
 --   pair    = key [ value ]                           no key of its map twice
-abbrev pub production : Bool → Rule → Form Letter Rule Value
+abbrev pub production : Bool → Rule → Form Letter Rule YamlValue
 production distinct (Whole room) = either (rule (Node 0 room)) (nothing absent)
 production distinct (Node column room) = chosen (node_from column room) (is_within column)
 production distinct Leaf = token leaf_in

@@ -1,9 +1,9 @@
 -- What one token ahead tells of the rules of trees: no part of what a text means.
 use Rattle.std.specs.Prelude.{ℕ, ◌+◌, Bool, true, false, ◌||◌, is_some, []}
-use Rattle.pr_yaml_scan.specs.pr_forms.Table.{Table}
-use Rattle.pr_yaml_scan.specs.pr_forms.Language.{Language}
-use Rattle.pr_yaml_scan.specs.declared.token.Token.{Token}
-use Rattle.pr_yaml.specs.Grammar.{Letter, letter_of, Value, Rule, Whole, Node, Leaf, Map, Entries, Entry, MoreEntries, Under, Items, Dashes, MoreDashes, FlowList, Values, AfterValue, FlowMap, Pairs, Pair, PairValue, AfterPair, production, node_from, value_from, list_from, entry_from, pair_from, leaf_in, key_in, any_key_in, dash_in, list_open_in, map_open_in, comma_in, is_within, is_item_more, is_in_map}
+use Rattle.pr_words.specs.pr_forms.Table.{Table}
+use Rattle.pr_words.specs.pr_forms.Language.{Language}
+use Rattle.pr_yaml.specs.declared.yaml_scan.token.Token.{Token}
+use Rattle.pr_yaml.specs.Grammar.{Letter, letter_of, YamlValue, Rule, Whole, Node, Leaf, Map, Entries, Entry, MoreEntries, Under, Items, Dashes, MoreDashes, FlowList, Values, AfterValue, FlowMap, Pairs, Pair, PairValue, AfterPair, production, node_from, value_from, list_from, entry_from, pair_from, leaf_in, key_in, any_key_in, dash_in, list_open_in, map_open_in, comma_in, is_within, is_item_more, is_in_map}
 
 abbrev pub empty_rule : Rule → Bool
 empty_rule (Whole room) = true
@@ -62,7 +62,7 @@ abbrev pub table : Bool → Table Letter Rule
 table distinct = record { empty = empty_rule; starts = starts_rule distinct; more = more_rule }
 
 -- the language of trees
-abbrev pub yaml : Bool → Language Token Letter Rule Value
+abbrev pub yaml : Bool → Language Token Letter Rule YamlValue
 yaml distinct = record { production = production distinct; table = table distinct; see = letter_of }
 
 -- how many steps a rule makes at most before it comes to a token, and a bound on that

@@ -1,12 +1,15 @@
 pub mod Tree
 pub mod Grammar
 pub mod GrammarTable
-pub mod Reader
 pub mod Trees
 pub mod Faults
 pub mod Read
-pub mod Derived
-pub mod Distinct
-pub mod Depth
-pub mod Worked
-pub use Rattle.pr_yaml_scan.specs as pr_yaml_scan
+pub mod Bytes
+pub mod Lines
+pub mod Plain
+pub mod Quoted
+pub mod Block
+pub mod Tokens
+pub mod Scan
+pub mod private
+pub use Rattle.pr_words.specs as pr_words

@@ -1,11 +1,11 @@
 -- What a YAML text is read as, as a function of it: its tree, or the line and the kind of its first
 -- fault.
 use Rattle.std.specs.Prelude.{◌≡◌, ℕ, true, Option, Some, None, List, slice_get}
-use Rattle.pr_yaml_scan.specs.declared.token.Token.{Token}
-use Rattle.pr_yaml_scan.specs.declared.fault.YamlKind.{YamlKind}
-use Rattle.pr_yaml_scan.specs.declared.fault.YamlKind.TheVariants.{Flow}
-use Rattle.pr_yaml_scan.specs.declared.fault.BadPlace.{BadPlace}
-use Rattle.pr_yaml_scan.specs.Scan.{scanned_places}
+use Rattle.pr_yaml.specs.declared.yaml_scan.token.Token.{Token}
+use Rattle.pr_yaml.specs.declared.yaml_scan.fault.YamlKind.{YamlKind}
+use Rattle.pr_yaml.specs.declared.yaml_scan.fault.YamlKind.TheVariants.{Flow}
+use Rattle.pr_yaml.specs.declared.yaml_scan.fault.BadPlace.{BadPlace}
+use Rattle.pr_yaml.specs.Scan.{scanned_places}
 use Rattle.pr_yaml.specs.declared.fault.YamlError.{YamlError}
 use Rattle.pr_yaml.specs.declared.fault.YamlError.TheVariants.{Fault, Memory}
 use Rattle.pr_yaml.specs.Tree.{Tree}

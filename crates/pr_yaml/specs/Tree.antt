@@ -2,9 +2,9 @@
 use Rattle.std.specs.Prelude.{ℕ, Bool, false, ◌||◌, codes, List, [], ◌∷◌}
 use Rattle.std.specs.Str.{bytes_eq}
 use Rattle.pr_yaml.specs.declared.node.Node.{Node}
-use Rattle.pr_yaml.specs.declared.node.Entry.{Entry}
-use Rattle.pr_yaml.specs.declared.node.Kind.TheFolds.{fold-Node, fold-Entry}
-use Rattle.pr_yaml.specs.declared.node.Kind.TheOpen.{Kind-F, Node-F, Entry-F, Text, List as ListKind, Map as MapKind}
+use Rattle.pr_yaml.specs.declared.node.MapEntry.{MapEntry}
+use Rattle.pr_yaml.specs.declared.node.NodeKind.TheFolds.{fold-Node, fold-MapEntry}
+use Rattle.pr_yaml.specs.declared.node.NodeKind.TheOpen.{NodeKind-F, Node-F, MapEntry-F, Text, List as ListKind, Map as MapKind}
 
 mutual
   pub data Tree : Type 0 where
@@ -59,12 +59,12 @@ is_absent (text_node line text false) = is_absent_text text
 is_absent _ = false
 
 -- what the code's nodes are
-abbrev pub kind_step : Kind-F (ℕ → Tree) EntryTree Tree → ℕ → Tree
+abbrev pub kind_step : NodeKind-F (ℕ → Tree) EntryTree Tree → ℕ → Tree
 kind_step (Text text quoted) line = text_node line text quoted
 kind_step (ListKind items) line = list_node line (trees_from items.items)
 kind_step (MapKind entries) line = map_node line (entries_from entries.items)
 
-abbrev pub entry_step : Entry-F (ℕ → Tree) EntryTree Tree → EntryTree
+abbrev pub entry_step : MapEntry-F (ℕ → Tree) EntryTree Tree → EntryTree
 entry_step e = record { key = e.key; line = e.line; value = e.value }
 
 abbrev pub node_step : Node-F (ℕ → Tree) EntryTree Tree → Tree
@@ -74,5 +74,5 @@ node_step n = n.kind n.line
 abbrev pub tree_of : Node → Tree
 tree_of = fold-Node (ℕ → Tree) EntryTree Tree kind_step entry_step node_step
 
-abbrev pub entry_tree_of : Entry → EntryTree
-entry_tree_of = fold-Entry (ℕ → Tree) EntryTree Tree kind_step entry_step node_step
+abbrev pub entry_tree_of : MapEntry → EntryTree
+entry_tree_of = fold-MapEntry (ℕ → Tree) EntryTree Tree kind_step entry_step node_step

@@ -1,7 +1,7 @@
 -- The tree of tokens, and up to where they can go on, as functions of them.
 use Rattle.std.specs.Prelude.{◌≡◌, ℕ, Option, None, Bool, nat_le, List, length, option_map}
-use Rattle.pr_yaml_scan.specs.pr_forms.Form.{rule}
-use Rattle.pr_yaml_scan.specs.pr_forms.Reading.{reading, bad_place}
+use Rattle.pr_words.specs.pr_forms.Form.{rule}
+use Rattle.pr_words.specs.pr_forms.Reading.{reading, bad_place}
 use Rattle.pr_yaml.specs.declared.whole.TreeFault.{TreeFault}
 use Rattle.pr_yaml.specs.declared.whole.TreeFault.TheVariants.{Bad, Memory}
 use Rattle.pr_yaml.specs.Tree.{Tree}

@@ -1,9 +1,9 @@
 //! What the definitions say of small texts.
 ghost use Rattle.std.specs.Prelude.{◌≡◌, ◌++◌, codes, true, false};
-ghost use Rattle.pr_yaml_scan.specs.declared.fault.YamlKind.TheVariants.{Anchor, Flow, Extra, Indent, Colon, DuplicateKey, TooDeep};
+ghost use Rattle.pr_yaml.specs.declared.yaml_scan.fault.YamlKind.TheVariants.{Anchor, Flow, Extra, Indent, Colon, DuplicateKey, TooDeep};
 ghost use Rattle.pr_yaml.specs.Tree.{list_node, map_node, no_trees, tree_then, no_entries, entry_then, absent_node, is_absent};
 ghost use Rattle.pr_yaml.specs.Read.{gives_tree, gives_fault};
-ghost use Rattle.pr_yaml.specs.Worked.{reading_of, plain, quoted, list_signs, list_ends, list_inside};
+ghost use Rattle.pr_yaml.specs.private.Worked.{reading_of, plain, quoted, list_signs, list_ends, list_inside};
 
 /// A list may stand under its key at the key's column, and the next key goes on with the map; a
 /// value may be absent.

@@ -1,5 +1,5 @@
 // Why a text has no tree.
-use pr_yaml_scan::YamlKind;
+use crate::yaml_scan::YamlKind;
 use std::alloc::AllocError;
 
 /// Why a YAML text has no tree.

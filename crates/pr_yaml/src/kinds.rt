@@ -2,22 +2,11 @@
 ghost use Rattle.std.specs.Prelude.{◌≡◌, ◌+◌, ◌<◌, ◌^◌, ◌++◌, ◌∷◌, [], false, length, count_by, take, IfOk, OnOk};
 ghost use Rattle.pr_yaml.specs.Grammar.{letters, letter_of};
 ghost use Rattle.pr_yaml.specs.Trees.{levels, goes_on};
-ghost use Rattle.pr_yaml.specs.Faults.{
-  opens_flow,
-  closes_flow,
-  is_inside,
-  from_line,
-  is_first_of_line,
-  place_kind,
-  token_kind,
-  may_begin,
-  scan_kind,
-  end_line_of,
-};
+ghost use Rattle.pr_yaml.specs.Faults.{opens_flow, closes_flow, is_inside, from_line, is_first_of_line, place_kind, token_kind, may_begin, scan_kind, end_line_of};
 
 use crate::whole::goes_on;
-use pr_yaml_scan::words_crate::{Text, is_blank};
-use pr_yaml_scan::{BadPlace, Token, TokenKind, TokenStart, YamlKind, without_mark};
+use crate::yaml_scan::{BadPlace, Token, TokenKind, TokenStart, YamlKind, without_mark};
+use pr_words::{Text, is_blank};
 use std::alloc::{AllocError, Global};
 
 /// How many maps and lists may stand in one another.

@@ -1,20 +1,20 @@
 //! The laws of trees, as the contracts of functions that do nothing.
 ghost use Rattle.std.specs.Prelude.{◌≡◌, ◌≤◌, ◌↔◌, ℕ, Bool, true, false, List, []};
 ghost use Rattle.std.specs.Str.{is_utf8};
-ghost use Rattle.pr_yaml_scan.specs.pr_forms.Form.{rule, Begins};
-ghost use Rattle.pr_yaml_scan.specs.pr_forms.Table.{IsDecided};
-ghost use Rattle.pr_yaml_scan.specs.pr_forms.Reading.{Ends};
-ghost use Rattle.pr_yaml_scan.specs.Bytes.{without_mark};
-ghost use Rattle.pr_yaml_scan.specs.Worked.{has_return, with_returns};
-ghost use Rattle.pr_yaml_scan.specs.declared.fault.YamlKind.{YamlKind};
+ghost use Rattle.pr_words.specs.pr_forms.Form.{rule, Begins};
+ghost use Rattle.pr_words.specs.pr_forms.Table.{IsDecided};
+ghost use Rattle.pr_words.specs.pr_forms.Reading.{Ends};
+ghost use Rattle.pr_yaml.specs.Bytes.{without_mark};
+ghost use Rattle.pr_yaml.specs.private.YamlScanWorked.{has_return, with_returns};
+ghost use Rattle.pr_yaml.specs.declared.yaml_scan.fault.YamlKind.{YamlKind};
 ghost use Rattle.pr_yaml.specs.Tree.{Tree};
 ghost use Rattle.pr_yaml.specs.Grammar.{Letter, production, Whole};
 ghost use Rattle.pr_yaml.specs.GrammarTable.{table, rank, steps};
 ghost use Rattle.pr_yaml.specs.Trees.{goes_on};
 ghost use Rattle.pr_yaml.specs.Read.{read_of, gives_tree, gives_fault};
-ghost use Rattle.pr_yaml.specs.Derived.{IsTree, HasFault};
-ghost use Rattle.pr_yaml.specs.Distinct.{has_distinct_keys};
-ghost use Rattle.pr_yaml.specs.Depth.{height};
+ghost use Rattle.pr_yaml.specs.private.Derived.{IsTree, HasFault};
+ghost use Rattle.pr_yaml.specs.private.Distinct.{has_distinct_keys};
+ghost use Rattle.pr_yaml.specs.private.Depth.{height};
 
 /// One token ahead decides the grammar of trees, and it ends: so tokens have one tree at most, and
 /// are read without going back.

@@ -1,4 +1,4 @@
-//! The trees of YAML texts in the profile of rule files.
+//! The tokens and the trees of YAML texts in the profile of rule and test files.
 #![tactic(auto)]
 
 pub mod examples;
@@ -12,12 +12,13 @@ mod reader;
 mod tokens;
 mod trees;
 mod whole;
+pub mod yaml_scan;
 
 // What crates above name of those below.
-pub mod yaml_scan {
-    pub use pr_yaml_scan::YamlKind;
+pub mod words_crate {
+    pub use pr_words::{Items, Text, push_number};
 }
 
 pub use fault::YamlError;
-pub use node::{Entry, Kind, Node};
+pub use node::{MapEntry, Node, NodeKind};
 pub use reader::read;

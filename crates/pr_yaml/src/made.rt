@@ -1,18 +1,9 @@
 // The nodes of a tree.
 ghost use Rattle.std.specs.Prelude.{◌≡◌, IfOk, map};
-ghost use Rattle.pr_yaml.specs.Tree.{
-  text_node,
-  list_node,
-  map_node,
-  absent_node,
-  trees_from,
-  entries_from,
-  tree_of,
-  entry_tree_of,
-};
+ghost use Rattle.pr_yaml.specs.Tree.{text_node, list_node, map_node, absent_node, trees_from, entries_from, tree_of, entry_tree_of};
 
-use crate::node::{Entry, Kind, Node};
-use pr_yaml_scan::words_crate::Text;
+use crate::node::{MapEntry, Node, NodeKind};
+use pr_words::Text;
 use std::alloc::{AllocError, Global};
 
 /// A scalar.
@@ -26,7 +17,7 @@ pub(crate) fn text_made(
 {
     Ok(Node {
         line,
-        kind: Kind::Text {
+        kind: NodeKind::Text {
             text: Text::from_str(alloc, text)?,
             quoted,
         },
@@ -39,7 +30,7 @@ pub(crate) fn absent_made(alloc: Global, line: u32) -> Node
 {
     Node {
         line,
-        kind: Kind::Text {
+        kind: NodeKind::Text {
             text: Text::new(String::new(alloc)),
             quoted: false,
         },
@@ -51,15 +42,15 @@ pub(crate) fn list_made(line: u32, items: Vec<Node>) -> Node
 {
     Node {
         line,
-        kind: Kind::List { items },
+        kind: NodeKind::List { items },
     }
 }
 
-pub(crate) fn map_made(line: u32, entries: Vec<Entry>) -> Node
+pub(crate) fn map_made(line: u32, entries: Vec<MapEntry>) -> Node
     ensures { tree_of result ≡ map_node line (entries_from (map entry_tree_of entries.items)) }
 {
     Node {
         line,
-        kind: Kind::Map { entries },
+        kind: NodeKind::Map { entries },
     }
 }

@@ -2,7 +2,7 @@
 ghost use Rattle.std.specs.Prelude.{◌≡◌};
 ghost use Rattle.pr_yaml.specs.Tree.{is_absent_text};
 
-use pr_yaml_scan::words_crate::Text;
+use pr_words::Text;
 
 /// A node of the tree of a text.
 #[cycle(tree)]
@@ -11,25 +11,25 @@ pub struct Node {
     /// The line of its first token, from 1. An absent node has the line of the key or dash that it
     /// is the value of, and 1 where it is the whole text.
     pub line: u32,
-    pub kind: Kind,
+    pub kind: NodeKind,
 }
 
 /// What a node is.
 #[cycle(tree)]
 #[derive(Drop, Debug)]
-pub enum Kind {
+pub enum NodeKind {
     /// A scalar, which is quoted, or a block scalar, or neither. An absent node is the text of no
     /// byte that is not quoted.
     Text { text: Text, quoted: bool },
     List { items: Vec<Node> },
     /// Entries in the order of the text. No key stands twice.
-    Map { entries: Vec<Entry> },
+    Map { entries: Vec<MapEntry> },
 }
 
 /// A key of a map, with its value.
 #[cycle(tree)]
 #[derive(Drop, Debug)]
-pub struct Entry {
+pub struct MapEntry {
     pub key: Text,
     /// The line of the key, from 1.
     pub line: u32,
@@ -46,7 +46,7 @@ impl Node {
         ensures { result ≡ is_absent (tree_of self.now) }
     {
         match &self.kind {
-            Kind::Text { text, quoted } => !*quoted && is_absent_text(text.as_str()),
+            NodeKind::Text { text, quoted } => !*quoted && is_absent_text(text.as_str()),
             _ => false,
         }
     }

@@ -2,13 +2,13 @@
 ghost use Rattle.std.specs.Prelude.{◌≡◌, ◌<◌, ◌^◌, length, IfOk, IfErr, MatchResult};
 ghost use Rattle.pr_yaml.specs.Tree.{Tree, tree_of};
 ghost use Rattle.pr_yaml.specs.Read.{gives_tree, read_tokens, read_of, IsFaultOf};
-ghost use Rattle.pr_yaml.specs.Derived.{IsTree, Refuses, Misses};
+ghost use Rattle.pr_yaml.specs.private.Derived.{IsTree, Refuses, Misses};
 
 use crate::fault::YamlError;
 use crate::kinds::{LEVELS, end_line_of, scan_kind, token_kind};
 use crate::node::Node;
 use crate::whole::{TreeFault, whole_tree};
-use pr_yaml_scan::{BadPlace, Token, YamlKind, scan_places};
+use crate::yaml_scan::{BadPlace, Token, YamlKind, scan_places};
 use std::alloc::Global;
 
 /// What a text with these tokens, and this bad place or none after them, is read as.

@@ -1,36 +1,16 @@
 // Single tokens, as the reader of trees takes them.
 ghost use Rattle.std.specs.Prelude.{◌≡◌, ◌-◌, ◌<◌, ℕ, Bool, length, IfSome, MatchOption, option_map};
-ghost use Rattle.pr_yaml_scan.specs.pr_forms.Form.{token};
-ghost use Rattle.pr_yaml_scan.specs.pr_forms.Carries.{Chooses, ChoosesNone};
-ghost use Rattle.pr_yaml_scan.specs.pr_forms.Language.{Takes, Lacks};
+ghost use Rattle.pr_words.specs.pr_forms.Form.{token};
+ghost use Rattle.pr_words.specs.pr_forms.Carries.{Chooses, ChoosesNone};
+ghost use Rattle.pr_words.specs.pr_forms.Language.{Takes, Lacks};
 ghost use Rattle.pr_yaml.specs.Tree.{text_node};
-ghost use Rattle.pr_yaml.specs.Grammar.{
-  letter_of,
-  key_at,
-  is_taken,
-  letters,
-  at,
-  tree,
-  mark,
-  node_of,
-  node_from,
-  flow_node_of,
-  value_from,
-  list_from,
-  leaf_in,
-  dash_in,
-  list_open_in,
-  list_close_in,
-  map_open_in,
-  map_close_in,
-  comma_in,
-};
+ghost use Rattle.pr_yaml.specs.Grammar.{letter_of, key_at, is_taken, letters, at, tree, mark, node_of, node_from, flow_node_of, value_from, list_from, leaf_in, dash_in, list_open_in, list_close_in, map_open_in, map_close_in, comma_in};
 ghost use Rattle.pr_yaml.specs.GrammarTable.{yaml};
-ghost use Rattle.pr_yaml.specs.Reader.{rule_of, key_among, keys_in, IsEntry, NoEntry, IsPair, NoPair};
+ghost use Rattle.pr_yaml.specs.private.Reader.{rule_of, key_among, keys_in, IsEntry, NoEntry, IsPair, NoPair};
 
-use crate::found::Found;
-use pr_yaml_scan::forms::take;
-use pr_yaml_scan::{Token, TokenKind};
+use crate::found::EntriesSoFar;
+use crate::yaml_scan::{Token, TokenKind};
+use pr_words::forms::take;
 
 /// What a node is by its first token: a scalar; a map or a list in a block, with the line and the
 /// column of that token; a flow.
@@ -174,7 +154,7 @@ fn key_of(token: &Token) -> Option<(u32, u32, &str)>
 }
 
 /// Whether a key is none of its map, since it stands there already and keys are distinct.
-fn is_taken(distinct: bool, found: &Found<'_>, key: &str) -> bool
+fn is_taken(distinct: bool, found: &EntriesSoFar<'_>, key: &str) -> bool
     ensures { result ≡ is_taken distinct key.now (keys_in found.now.entries.items) }
 {
     distinct && found.has(key)
@@ -184,7 +164,7 @@ fn is_taken(distinct: bool, found: &Found<'_>, key: &str) -> bool
 pub(crate) fn key_in<'a>(
     distinct: bool,
     column: u32,
-    found: &Found<'_>,
+    found: &EntriesSoFar<'_>,
     tokens: &'a [Token],
 ) -> Option<((u32, &'a str), &'a [Token])>
     ensures read { MatchOption result (NoEntry distinct column (keys_in found.now.entries.items) (letters tokens.now)) (λ x. IsEntry distinct column (keys_in found.now.entries.items) x.0.0 x.0.1.now (letters tokens.now) (letters x.1.now)) }
@@ -209,7 +189,7 @@ pub(crate) fn key_in<'a>(
 /// The same in a flow, at any column.
 pub(crate) fn pair_in<'a>(
     distinct: bool,
-    found: &Found<'_>,
+    found: &EntriesSoFar<'_>,
     tokens: &'a [Token],
 ) -> Option<((u32, &'a str), &'a [Token])>
     ensures read { MatchOption result (NoPair distinct (keys_in found.now.entries.items) (letters tokens.now)) (λ x. IsPair distinct (keys_in found.now.entries.items) x.0.0 x.0.1.now (letters tokens.now) (letters x.1.now)) }

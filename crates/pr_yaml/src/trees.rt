@@ -1,38 +1,23 @@
 // The reader of trees. How deep it calls itself is bounded by the room that a text has for maps and
 // lists in one another.
 ghost use Rattle.std.specs.Prelude.{◌≡◌, ◌<◌, ◌≤◌, Bool, [], length, map, IfOk, MatchResult};
-ghost use Rattle.pr_yaml_scan.specs.pr_forms.Form.{token, rule};
-ghost use Rattle.pr_yaml_scan.specs.pr_forms.Run.{good};
-ghost use Rattle.pr_yaml_scan.specs.pr_forms.Language.{Gives, FailsAt};
+ghost use Rattle.pr_words.specs.pr_forms.Form.{token, rule};
+ghost use Rattle.pr_words.specs.pr_forms.Run.{good};
+ghost use Rattle.pr_words.specs.pr_forms.Language.{Gives, FailsAt};
 ghost use Rattle.pr_yaml.specs.Tree.{tree_of, entry_tree_of};
-ghost use Rattle.pr_yaml.specs.Grammar.{
-  letters,
-  tree,
-  items,
-  entries,
-  leaf_in,
-  production,
-  Map as MapRule,
-  Items,
-  Under,
-  FlowList as FlowListRule,
-  FlowMap as FlowMapRule,
-  Values,
-  Pairs,
-  PairValue,
-};
+ghost use Rattle.pr_yaml.specs.Grammar.{letters, tree, items, entries, leaf_in, production, Map as MapRule, Items, Under, FlowList as FlowListRule, FlowMap as FlowMapRule, Values, Pairs, PairValue};
 ghost use Rattle.pr_yaml.specs.GrammarTable.{yaml};
-ghost use Rattle.pr_yaml.specs.Reader.{rule_of, maybe_node, GivesValue};
+ghost use Rattle.pr_yaml.specs.private.Reader.{rule_of, maybe_node, GivesValue};
 
-use crate::found::Found;
+use crate::found::EntriesSoFar;
 use crate::made::{absent_made, list_made, map_made, text_made};
-use crate::node::{Entry, Node};
+use crate::node::{MapEntry, Node};
 use crate::tokens::{
     Start, comma_in, dash_in, key_in, list_close_in, list_open_in, list_start, map_close_in,
     map_open_in, node_start, pair_in, text_in, value_start,
 };
-use pr_yaml_scan::Token;
-use pr_yaml_scan::forms::Fault;
+use crate::yaml_scan::Token;
+use pr_words::forms::Fault;
 use std::alloc::Global;
 
 /// A scalar.
@@ -80,7 +65,7 @@ fn map_at(
     ensures read { MatchResult result (λ x. Gives (yaml distinct) (production distinct (MapRule line column room)) tokens.now (good (tree (tree_of x.0)) (letters x.1.now))) (FailsAt (yaml distinct) (production distinct (MapRule line column room)) tokens.now) }
     ensures shorter { IfOk result (λ x. length x.1.now < length tokens.now) }
 {
-    let mut found = Found::empty(alloc);
+    let mut found = EntriesSoFar::empty(alloc);
     let Some(_first) = key_in(distinct, column, &found, tokens) else {
         return Err(Fault::Bad(tokens));
     };
@@ -246,11 +231,11 @@ fn pairs_at(
     distinct: bool,
     room: u32,
     tokens: &[Token],
-) -> Result<(Vec<Entry>, &[Token]), Fault<'_, Token>>
+) -> Result<(Vec<MapEntry>, &[Token]), Fault<'_, Token>>
     ensures read { MatchResult result (λ x. Gives (yaml distinct) (rule (Pairs room [])) tokens.now (good (entries (map entry_tree_of x.0.items)) (letters x.1.now))) (FailsAt (yaml distinct) (rule (Pairs room [])) tokens.now) }
     ensures shorter { IfOk result (λ x. length x.1.now ≤ length tokens.now) }
 {
-    let mut found = Found::empty(alloc);
+    let mut found = EntriesSoFar::empty(alloc);
     let mut rest = tokens;
     'pairs: while let Some(((line, key), following)) = pair_in(distinct, &found, rest) {
         let (value, after) = pair_value_at(alloc, distinct, line, room, following)?;

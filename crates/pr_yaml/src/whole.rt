@@ -6,8 +6,8 @@ ghost use Rattle.pr_yaml.specs.Trees.{stop, goes_on, tree_in, IsNoTree};
 
 use crate::node::Node;
 use crate::trees::node_at;
-use pr_yaml_scan::Token;
-use pr_yaml_scan::forms::{Fault, place_of};
+use crate::yaml_scan::Token;
+use pr_words::forms::{Fault, place_of};
 use std::alloc::{AllocError, Global};
 
 /// Why tokens have no tree.

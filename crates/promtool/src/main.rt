@@ -1,9 +1,9 @@
-//! The program: it hands what the process was given to `pr_program`, and ends with its status.
+//! The program: it hands what the process was given to `pr_top::program`, and ends with its status.
 #![tactic(auto)]
 
 use sqlite::Unknown;
 use std::process::ExitCode;
 
 fn main(rt: HostRuntime) -> ExitCode {
-    pr_program::ended(&rt, Unknown)
+    pr_top::program::ended(&rt, Unknown)
 }

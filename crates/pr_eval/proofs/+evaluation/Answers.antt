@@ -3,24 +3,24 @@ use Rattle.std.proofs.Common.{◌≡◌, ◌+◌, ◌<◌, length, [], ◌∷◌
 use Rattle.pr_ast.specs.declared.names.Func.TheVariants.{PredictLinear}
 use Rattle.pr_ast.specs.Tree.{call, more, none, tree_of, trees_of}
 use Rattle.pr_ast.proofs.Args.{trees_of-next}
-use Rattle.pr_range_calls.specs.pr_types.declared.counting.Counts.{Counts}
-use Rattle.pr_range_calls.specs.pr_types.Built.{own_patterns}
-use Rattle.pr_range_calls.specs.pr_types.Numbers.{ranges_in}
-use Rattle.pr_range_calls.specs.pr_vectors.declared.range.RangeFn.TheVariants.{PredictLinear as Predict, PresentOverTime}
-use Rattle.pr_range_calls.specs.pr_query.declared.value.Value.{Value}
-use Rattle.pr_range_calls.specs.pr_query.Aggregations.{summed_up}
-use Rattle.pr_range_calls.specs.pr_query.Calls.{value_of_call}
-use Rattle.pr_range_calls.specs.pr_query.Meaning.{given, meaning, operands, ranges, ranges as series_meant}
-use Rattle.pr_range_calls.specs.pr_query.Operations.{negated_value, operated}
-use Rattle.pr_range_calls.specs.pr_query.Answers.{go_on, fault}
-use Rattle.pr_range_calls.specs.pr_values.declared.error.EvalError.{EvalError}
-use Rattle.pr_range_calls.specs.pr_values.declared.error.EvalError.TheVariants as error
-use Rattle.pr_range_calls.specs.pr_values.Answers.{AnswersTo}
-use Rattle.pr_range_calls.specs.pr_values.Plain.{all_plain}
-use Rattle.pr_eval.specs.Asking.{asked_for}
-use Rattle.pr_eval.specs.Evaluated.{IsEvaluated, MayTake, kept_by}
-use Rattle.pr_eval.specs.Parts.{counts_after}
-use Rattle.pr_eval.specs.Ranged.{call_in, made_of, prediction_by, quantile_by, use_alone, AreSeries}
+use Rattle.spec_meaning.specs.pr_types.declared.counting.SelectorCounts.{SelectorCounts}
+use Rattle.spec_meaning.specs.pr_types.private.Built.{own_patterns}
+use Rattle.spec_meaning.specs.pr_types.private.Numbers.{ranges_in}
+use Rattle.pr_range.specs.spec_vectors.declared.range.RangeFn.TheVariants.{PredictLinear as Predict, PresentOverTime}
+use Rattle.spec_meaning.specs.declared.value.Value.{Value}
+use Rattle.spec_meaning.specs.Aggregations.{summed_up}
+use Rattle.spec_meaning.specs.Calls.{value_of_call}
+use Rattle.spec_meaning.specs.Meaning.{given, meaning, operands, ranges, ranges as series_meant}
+use Rattle.spec_meaning.specs.Operations.{negated_value, operated}
+use Rattle.spec_meaning.specs.Answers.{go_on, fault}
+use Rattle.pr_eval.specs.declared.values.error.EvalError.{EvalError}
+use Rattle.pr_eval.specs.declared.values.error.EvalError.TheVariants as error
+use Rattle.pr_eval.specs.private.Answers.{AnswersTo}
+use Rattle.pr_eval.specs.private.Plain.{all_plain}
+use Rattle.pr_eval.specs.private.Asking.{asked_for}
+use Rattle.pr_eval.specs.private.Evaluated.{IsEvaluated, MayTake, kept_by}
+use Rattle.pr_eval.specs.private.Parts.{counts_after}
+use Rattle.pr_eval.specs.private.Ranged.{call_in, made_of, prediction_by, quantile_by, use_alone, AreSeries}
 use Rattle.pr_eval.proofs.Answering.{both_give, ends, ends_right, gives}
 use Rattle.pr_eval.proofs.Fronts.{all_args, args_may, args_part, args_taken}
 use Rattle.pr_eval.proofs.Operands.{aggregate_one, aggregate_two, call_ends, call_gives, operands_end, out_of_memory, plain_given}
@@ -32,14 +32,14 @@ use Rattle.pr_eval.proofs.NoRange.{range_unvalued, sub_unvalued}
 use Rattle.pr_eval.proofs.Sizes.{argument_smaller}
 use Rattle.pr_eval.proofs.Inside.{inside_may, inside_taken, same_all}
 use Rattle.std.proofs.lemmas.List.{take_all}
-use Rattle.pr_range_calls.specs.pr_query.Cost.{cost, nothing_passed}
-use Rattle.pr_range_calls.specs.pr_query.Given.{elements_in}
-use Rattle.pr_range_calls.specs.pr_query.Subqueries.{at_each}
-use Rattle.pr_range_calls.specs.Taken.{taken}
+use Rattle.spec_meaning.specs.private.Cost.{cost, nothing_passed}
+use Rattle.spec_meaning.specs.Given.{elements_in}
+use Rattle.spec_meaning.specs.Subqueries.{at_each}
+use Rattle.pr_eval.specs.private.Taken.{taken}
 use Rattle.pr_eval.proofs.EachTime.{each_more}
 use Rattle.pr_eval.proofs.Gathering.{each_fails, last_taken, last_taken_as, more_taken}
-use Rattle.pr_range_calls.specs.pr_vectors.Ranges.{longest}
-use Rattle.pr_range_calls.specs.pr_query.declared.fault.FaultKind.TheVariants as kind
+use Rattle.pr_range.specs.spec_vectors.Ranges.{longest}
+use Rattle.spec_meaning.specs.declared.fault.FaultKind.TheVariants as kind
 use Rattle.pr_eval.proofs.Subqueries.{counts_of_sub, each_may, each_taken, fault_given, fault_taken, inner_part, none_taken, series_given, step_given, taken_as, times_same, too_many}
 
 pub evaluate::eval_at-returns-in-Number-clause-taken : goal.evaluate::eval_at-returns-in-Number-clause-taken
@@ -49,7 +49,7 @@ evaluate::eval_at-returns-in-Number-clause-taken g t c = λ history func may.
     let now = tree_of c.args.e.now in
     let before = kept_by (g.R.Ranges.last c.args.ranges.now) (g.R.Ranges.passed c.args.ranges.now) in
     let Fits = g.R.Ranges.fits c.args.ranges.now history in
-    number_taken g.R.Ranges.keeps scope.inside scope.step history func now _ _ scope.time n before Fits c.args.reads.now _ c.is_number.ensures.tree may.fits
+    number_taken g.R.Ranges.keeps scope.inside scope.step history func now _ _ scope.time n before Fits c.args.reads.now _ c.lemma_is_number.ensures.tree may.fits
 
 pub evaluate::eval_at-returns-in-Text-clause-taken : goal.evaluate::eval_at-returns-in-Text-clause-taken
 evaluate::eval_at-returns-in-Text-clause-taken g t c = λ history func may.
@@ -58,7 +58,7 @@ evaluate::eval_at-returns-in-Text-clause-taken g t c = λ history func may.
     let now = tree_of c.args.e.now in
     let before = kept_by (g.R.Ranges.last c.args.ranges.now) (g.R.Ranges.passed c.args.ranges.now) in
     let Fits = g.R.Ranges.fits c.args.ranges.now history in
-    text_taken g.R.Ranges.keeps scope.inside scope.step history func now _ _ scope.time n before Fits c.args.reads.now _ c.is_text.ensures.tree may.fits
+    text_taken g.R.Ranges.keeps scope.inside scope.step history func now _ _ scope.time n before Fits c.args.reads.now _ c.lemma_is_text.ensures.tree may.fits
 
 pub evaluate::eval_at-returns-in-Select-clause-answer : goal.evaluate::eval_at-returns-in-Select-clause-answer
 evaluate::eval_at-returns-in-Select-clause-answer g t c = λ history func may.
@@ -84,8 +84,8 @@ operators::negation-returns-in-Ok-clause-answer g t c = λ history func may.
     let after = kept_by (g.R.Ranges.last c.eval_at.new.ranges) (g.R.Ranges.passed c.eval_at.new.ranges) in
     let Fits' = g.R.Ranges.fits c.eval_at.new.ranges history in
     let next = negated_value c.args.e.now.place in
-    let inner_may = part_may g.R.Ranges.keeps scope.inside scope.step history func now inner [] (λ f. f) c.is_neg.ensures.one n scope.time scope.head.now before Fits may in
-    subst (λ u. AnswersTo (meaning scope.step history u scope.time) c.negated_value.result) (sym c.is_neg.ensures.tree)
+    let inner_may = part_may g.R.Ranges.keeps scope.inside scope.step history func now inner [] (λ f. f) c.lemma_is_neg.ensures.one n scope.time scope.head.now before Fits may in
+    subst (λ u. AnswersTo (meaning scope.step history u scope.time) c.negated_value.result) (sym c.lemma_is_neg.ensures.tree)
     (gives next (meaning scope.step history inner scope.time) c.in-Ok.value c.negated_value.result (c.in-Ok.ensures.answer history func inner_may) c.negated_value.ensures.answer)
 
 pub operators::negation-returns-in-Ok-clause-taken : goal.operators::negation-returns-in-Ok-clause-taken
@@ -99,8 +99,8 @@ operators::negation-returns-in-Ok-clause-taken g t c = λ history func may.
     let after = kept_by (g.R.Ranges.last c.eval_at.new.ranges) (g.R.Ranges.passed c.eval_at.new.ranges) in
     let Fits' = g.R.Ranges.fits c.eval_at.new.ranges history in
     let next = negated_value c.args.e.now.place in
-    let inner_may = part_may g.R.Ranges.keeps scope.inside scope.step history func now inner [] (λ f. f) c.is_neg.ensures.one n scope.time scope.head.now before Fits may in
-    part_taken_as g.R.Ranges.keeps scope.inside scope.step history func now inner [] (λ f. f) c.is_neg.ensures.one n scope.time before after Fits' c.args.reads.now c.eval_at.new.reads c.in-Ok.value c.negated_value.result (c.in-Ok.ensures.taken history func inner_may)
+    let inner_may = part_may g.R.Ranges.keeps scope.inside scope.step history func now inner [] (λ f. f) c.lemma_is_neg.ensures.one n scope.time scope.head.now before Fits may in
+    part_taken_as g.R.Ranges.keeps scope.inside scope.step history func now inner [] (λ f. f) c.lemma_is_neg.ensures.one n scope.time before after Fits' c.args.reads.now c.eval_at.new.reads c.in-Ok.value c.negated_value.result (c.in-Ok.ensures.taken history func inner_may)
 
 pub operators::negation-returns-in-Err-clause-answer : goal.operators::negation-returns-in-Err-clause-answer
 operators::negation-returns-in-Err-clause-answer g t c = λ history func may.
@@ -113,8 +113,8 @@ operators::negation-returns-in-Err-clause-answer g t c = λ history func may.
     let after = kept_by (g.R.Ranges.last c.eval_at.new.ranges) (g.R.Ranges.passed c.eval_at.new.ranges) in
     let Fits' = g.R.Ranges.fits c.eval_at.new.ranges history in
     let next = negated_value c.args.e.now.place in
-    let inner_may = part_may g.R.Ranges.keeps scope.inside scope.step history func now inner [] (λ f. f) c.is_neg.ensures.one n scope.time scope.head.now before Fits may in
-    subst (λ u. AnswersTo (meaning scope.step history u scope.time) (Err c.in-Err.error)) (sym c.is_neg.ensures.tree)
+    let inner_may = part_may g.R.Ranges.keeps scope.inside scope.step history func now inner [] (λ f. f) c.lemma_is_neg.ensures.one n scope.time scope.head.now before Fits may in
+    subst (λ u. AnswersTo (meaning scope.step history u scope.time) (Err c.in-Err.error)) (sym c.lemma_is_neg.ensures.tree)
     (ends next (meaning scope.step history inner scope.time) c.in-Err.error (c.in-Err.ensures.answer history func inner_may))
 
 pub operators::negation-returns-in-Err-clause-taken : goal.operators::negation-returns-in-Err-clause-taken
@@ -128,8 +128,8 @@ operators::negation-returns-in-Err-clause-taken g t c = λ history func may.
     let after = kept_by (g.R.Ranges.last c.eval_at.new.ranges) (g.R.Ranges.passed c.eval_at.new.ranges) in
     let Fits' = g.R.Ranges.fits c.eval_at.new.ranges history in
     let next = negated_value c.args.e.now.place in
-    let inner_may = part_may g.R.Ranges.keeps scope.inside scope.step history func now inner [] (λ f. f) c.is_neg.ensures.one n scope.time scope.head.now before Fits may in
-    part_taken g.R.Ranges.keeps scope.inside scope.step history func now inner [] (λ f. f) c.is_neg.ensures.one n scope.time before after Fits' c.args.reads.now c.eval_at.new.reads (Err c.in-Err.error) (c.in-Err.ensures.taken history func inner_may)
+    let inner_may = part_may g.R.Ranges.keeps scope.inside scope.step history func now inner [] (λ f. f) c.lemma_is_neg.ensures.one n scope.time scope.head.now before Fits may in
+    part_taken g.R.Ranges.keeps scope.inside scope.step history func now inner [] (λ f. f) c.lemma_is_neg.ensures.one n scope.time before after Fits' c.args.reads.now c.eval_at.new.reads (Err c.in-Err.error) (c.in-Err.ensures.taken history func inner_may)
 
 pub aggregate::aggregation-returns-in-Ok-clause-answer : goal.aggregate::aggregation-returns-in-Ok-clause-answer
 aggregate::aggregation-returns-in-Ok-clause-answer g t c = λ history func may.
@@ -142,9 +142,9 @@ aggregate::aggregation-returns-in-Ok-clause-answer g t c = λ history func may.
     let after = kept_by (g.R.Ranges.last c.eval_at.new.ranges) (g.R.Ranges.passed c.eval_at.new.ranges) in
     let Fits' = g.R.Ranges.fits c.eval_at.new.ranges history in
     let next = λ (v : Value). summed_up c.args.e.now.place c.args.op c.args.by.now (more none inner) (given None v ∷ []) in
-    let inner_may = part_may g.R.Ranges.keeps scope.inside scope.step history func now inner [] (λ f. f) c.is_aggregate.ensures.one n scope.time scope.head.now before Fits may in
-    subst (λ u. AnswersTo (meaning scope.step history u scope.time) c.aggregated_one.result) (sym c.is_aggregate.ensures.tree)
-    (subst (λ m. AnswersTo m c.aggregated_one.result) (sym (aggregate_one scope.step history inner scope.time (summed_up c.args.e.now.place c.args.op c.args.by.now (more none inner)) (c.is_aggregate.ensures.valued c.requires.valued)))
+    let inner_may = part_may g.R.Ranges.keeps scope.inside scope.step history func now inner [] (λ f. f) c.lemma_is_aggregate.ensures.one n scope.time scope.head.now before Fits may in
+    subst (λ u. AnswersTo (meaning scope.step history u scope.time) c.aggregated_one.result) (sym c.lemma_is_aggregate.ensures.tree)
+    (subst (λ m. AnswersTo m c.aggregated_one.result) (sym (aggregate_one scope.step history inner scope.time (summed_up c.args.e.now.place c.args.op c.args.by.now (more none inner)) (c.lemma_is_aggregate.ensures.valued c.requires.valued)))
     (gives next (meaning scope.step history inner scope.time) c.in-Ok.vector c.aggregated_one.result (c.in-Ok.ensures.answer history func inner_may) (c.aggregated_one.ensures.answer (more none inner))))
 
 pub aggregate::aggregation-returns-in-Ok-clause-taken : goal.aggregate::aggregation-returns-in-Ok-clause-taken
@@ -158,8 +158,8 @@ aggregate::aggregation-returns-in-Ok-clause-taken g t c = λ history func may.
     let after = kept_by (g.R.Ranges.last c.eval_at.new.ranges) (g.R.Ranges.passed c.eval_at.new.ranges) in
     let Fits' = g.R.Ranges.fits c.eval_at.new.ranges history in
     let next = λ (v : Value). summed_up c.args.e.now.place c.args.op c.args.by.now (more none inner) (given None v ∷ []) in
-    let inner_may = part_may g.R.Ranges.keeps scope.inside scope.step history func now inner [] (λ f. f) c.is_aggregate.ensures.one n scope.time scope.head.now before Fits may in
-    part_taken_as g.R.Ranges.keeps scope.inside scope.step history func now inner [] (λ f. f) c.is_aggregate.ensures.one n scope.time before after Fits' c.args.reads.now c.eval_at.new.reads c.in-Ok.vector c.aggregated_one.result (c.in-Ok.ensures.taken history func inner_may)
+    let inner_may = part_may g.R.Ranges.keeps scope.inside scope.step history func now inner [] (λ f. f) c.lemma_is_aggregate.ensures.one n scope.time scope.head.now before Fits may in
+    part_taken_as g.R.Ranges.keeps scope.inside scope.step history func now inner [] (λ f. f) c.lemma_is_aggregate.ensures.one n scope.time before after Fits' c.args.reads.now c.eval_at.new.reads c.in-Ok.vector c.aggregated_one.result (c.in-Ok.ensures.taken history func inner_may)
 
 pub aggregate::aggregation-returns-in-Err-clause-answer : goal.aggregate::aggregation-returns-in-Err-clause-answer
 aggregate::aggregation-returns-in-Err-clause-answer g t c = λ history func may.
@@ -172,9 +172,9 @@ aggregate::aggregation-returns-in-Err-clause-answer g t c = λ history func may.
     let after = kept_by (g.R.Ranges.last c.eval_at.new.ranges) (g.R.Ranges.passed c.eval_at.new.ranges) in
     let Fits' = g.R.Ranges.fits c.eval_at.new.ranges history in
     let next = λ (v : Value). summed_up c.args.e.now.place c.args.op c.args.by.now (more none inner) (given None v ∷ []) in
-    let inner_may = part_may g.R.Ranges.keeps scope.inside scope.step history func now inner [] (λ f. f) c.is_aggregate.ensures.one n scope.time scope.head.now before Fits may in
-    subst (λ u. AnswersTo (meaning scope.step history u scope.time) (Err c.in-Err.error)) (sym c.is_aggregate.ensures.tree)
-    (subst (λ m. AnswersTo m (Err c.in-Err.error)) (sym (aggregate_one scope.step history inner scope.time (summed_up c.args.e.now.place c.args.op c.args.by.now (more none inner)) (c.is_aggregate.ensures.valued c.requires.valued)))
+    let inner_may = part_may g.R.Ranges.keeps scope.inside scope.step history func now inner [] (λ f. f) c.lemma_is_aggregate.ensures.one n scope.time scope.head.now before Fits may in
+    subst (λ u. AnswersTo (meaning scope.step history u scope.time) (Err c.in-Err.error)) (sym c.lemma_is_aggregate.ensures.tree)
+    (subst (λ m. AnswersTo m (Err c.in-Err.error)) (sym (aggregate_one scope.step history inner scope.time (summed_up c.args.e.now.place c.args.op c.args.by.now (more none inner)) (c.lemma_is_aggregate.ensures.valued c.requires.valued)))
     (ends next (meaning scope.step history inner scope.time) c.in-Err.error (c.in-Err.ensures.answer history func inner_may)))
 
 pub aggregate::aggregation-returns-in-Err-clause-taken : goal.aggregate::aggregation-returns-in-Err-clause-taken
@@ -188,8 +188,8 @@ aggregate::aggregation-returns-in-Err-clause-taken g t c = λ history func may.
     let after = kept_by (g.R.Ranges.last c.eval_at.new.ranges) (g.R.Ranges.passed c.eval_at.new.ranges) in
     let Fits' = g.R.Ranges.fits c.eval_at.new.ranges history in
     let next = λ (v : Value). summed_up c.args.e.now.place c.args.op c.args.by.now (more none inner) (given None v ∷ []) in
-    let inner_may = part_may g.R.Ranges.keeps scope.inside scope.step history func now inner [] (λ f. f) c.is_aggregate.ensures.one n scope.time scope.head.now before Fits may in
-    part_taken g.R.Ranges.keeps scope.inside scope.step history func now inner [] (λ f. f) c.is_aggregate.ensures.one n scope.time before after Fits' c.args.reads.now c.eval_at.new.reads (Err c.in-Err.error) (c.in-Err.ensures.taken history func inner_may)
+    let inner_may = part_may g.R.Ranges.keeps scope.inside scope.step history func now inner [] (λ f. f) c.lemma_is_aggregate.ensures.one n scope.time scope.head.now before Fits may in
+    part_taken g.R.Ranges.keeps scope.inside scope.step history func now inner [] (λ f. f) c.lemma_is_aggregate.ensures.one n scope.time before after Fits' c.args.reads.now c.eval_at.new.reads (Err c.in-Err.error) (c.in-Err.ensures.taken history func inner_may)
 
 pub operators::operation-returns-in-Err-clause-answer : goal.operators::operation-returns-in-Err-clause-answer
 operators::operation-returns-in-Err-clause-answer g t c = λ history func may.
@@ -206,8 +206,8 @@ operators::operation-returns-in-Err-clause-answer g t c = λ history func may.
     let f = operated c.args.e.now.place c.args.op c.args.with_bool c.args.matching.now in
     let left_meant = meaning scope.step history left scope.time in
     let right_meant = meaning scope.step history right scope.time in
-    let left_may = first_may g.R.Ranges.keeps scope.inside scope.step history func now left right c.is_binary.ensures.two n (n + ranges_in left) scope.time refl scope.head.now before Fits may in
-    subst (λ u. AnswersTo (meaning scope.step history u scope.time) (Err c.in-Err.error)) (sym c.is_binary.ensures.tree)
+    let left_may = first_may g.R.Ranges.keeps scope.inside scope.step history func now left right c.lemma_is_binary.ensures.two n (n + ranges_in left) scope.time refl scope.head.now before Fits may in
+    subst (λ u. AnswersTo (meaning scope.step history u scope.time) (Err c.in-Err.error)) (sym c.lemma_is_binary.ensures.tree)
     (ends (λ v. go_on (f v) right_meant) left_meant c.in-Err.error (c.in-Err.ensures.answer history func left_may))
 
 pub operators::operation-returns-in-Err-clause-taken : goal.operators::operation-returns-in-Err-clause-taken
@@ -225,8 +225,8 @@ operators::operation-returns-in-Err-clause-taken g t c = λ history func may.
     let f = operated c.args.e.now.place c.args.op c.args.with_bool c.args.matching.now in
     let left_meant = meaning scope.step history left scope.time in
     let right_meant = meaning scope.step history right scope.time in
-    let left_may = first_may g.R.Ranges.keeps scope.inside scope.step history func now left right c.is_binary.ensures.two n (n + ranges_in left) scope.time refl scope.head.now before Fits may in
-    one_taken g.R.Ranges.keeps scope.inside scope.step history func now left right c.is_binary.ensures.two n (n + ranges_in left) scope.time refl before between Fits1 c.args.reads.now c.eval_at.new.reads c.in-Err.error (c.in-Err.ensures.taken history func left_may)
+    let left_may = first_may g.R.Ranges.keeps scope.inside scope.step history func now left right c.lemma_is_binary.ensures.two n (n + ranges_in left) scope.time refl scope.head.now before Fits may in
+    one_taken g.R.Ranges.keeps scope.inside scope.step history func now left right c.lemma_is_binary.ensures.two n (n + ranges_in left) scope.time refl before between Fits1 c.args.reads.now c.eval_at.new.reads c.in-Err.error (c.in-Err.ensures.taken history func left_may)
 
 pub operators::operation-returns-in-Err-eval_at-clause-answer : goal.operators::operation-returns-in-Err-eval_at-clause-answer
 operators::operation-returns-in-Err-eval_at-clause-answer g t c = λ history func may.
@@ -243,13 +243,13 @@ operators::operation-returns-in-Err-eval_at-clause-answer g t c = λ history fun
     let f = operated c.args.e.now.place c.args.op c.args.with_bool c.args.matching.now in
     let left_meant = meaning scope.step history left scope.time in
     let right_meant = meaning scope.step history right scope.time in
-    let left_may = first_may g.R.Ranges.keeps scope.inside scope.step history func now left right c.is_binary.ensures.two n (n + ranges_in left) scope.time refl scope.head.now before Fits may in
-    let is : m ≡ n + ranges_in left = ap (λ (k : Counts). k.ranges) c.in-Ok.ensures.count in
+    let left_may = first_may g.R.Ranges.keeps scope.inside scope.step history func now left right c.lemma_is_binary.ensures.two n (n + ranges_in left) scope.time refl scope.head.now before Fits may in
+    let is : m ≡ n + ranges_in left = ap (λ (k : SelectorCounts). k.ranges) c.in-Ok.ensures.count in
     let first = c.in-Ok.ensures.taken history func left_may in
-    let right_may = second_may g.R.Ranges.keeps scope.inside scope.step history func now left right c.is_binary.ensures.two n m scope.time is scope.head.now before between Fits Fits1 c.args.reads.now c.eval_at.new.reads c.in-Ok.a may first in
+    let right_may = second_may g.R.Ranges.keeps scope.inside scope.step history func now left right c.lemma_is_binary.ensures.two n m scope.time is scope.head.now before between Fits Fits1 c.args.reads.now c.eval_at.new.reads c.in-Ok.a may first in
     let last = kept_by (g.R.Ranges.last c.eval_at-in-Ok.new.ranges) (g.R.Ranges.passed c.eval_at-in-Ok.new.ranges) in
     let Fits2 = g.R.Ranges.fits c.eval_at-in-Ok.new.ranges history in
-    subst (λ u. AnswersTo (meaning scope.step history u scope.time) (Err c.in-Err-eval_at.error)) (sym c.is_binary.ensures.tree)
+    subst (λ u. AnswersTo (meaning scope.step history u scope.time) (Err c.in-Err-eval_at.error)) (sym c.lemma_is_binary.ensures.tree)
     (ends_right f left_meant right_meant c.in-Ok.a c.in-Err-eval_at.error (c.in-Ok.ensures.answer history func left_may) (c.in-Err-eval_at.ensures.answer history func right_may))
 
 pub operators::operation-returns-in-Err-eval_at-clause-taken : goal.operators::operation-returns-in-Err-eval_at-clause-taken
@@ -267,13 +267,13 @@ operators::operation-returns-in-Err-eval_at-clause-taken g t c = λ history func
     let f = operated c.args.e.now.place c.args.op c.args.with_bool c.args.matching.now in
     let left_meant = meaning scope.step history left scope.time in
     let right_meant = meaning scope.step history right scope.time in
-    let left_may = first_may g.R.Ranges.keeps scope.inside scope.step history func now left right c.is_binary.ensures.two n (n + ranges_in left) scope.time refl scope.head.now before Fits may in
-    let is : m ≡ n + ranges_in left = ap (λ (k : Counts). k.ranges) c.in-Ok.ensures.count in
+    let left_may = first_may g.R.Ranges.keeps scope.inside scope.step history func now left right c.lemma_is_binary.ensures.two n (n + ranges_in left) scope.time refl scope.head.now before Fits may in
+    let is : m ≡ n + ranges_in left = ap (λ (k : SelectorCounts). k.ranges) c.in-Ok.ensures.count in
     let first = c.in-Ok.ensures.taken history func left_may in
-    let right_may = second_may g.R.Ranges.keeps scope.inside scope.step history func now left right c.is_binary.ensures.two n m scope.time is scope.head.now before between Fits Fits1 c.args.reads.now c.eval_at.new.reads c.in-Ok.a may first in
+    let right_may = second_may g.R.Ranges.keeps scope.inside scope.step history func now left right c.lemma_is_binary.ensures.two n m scope.time is scope.head.now before between Fits Fits1 c.args.reads.now c.eval_at.new.reads c.in-Ok.a may first in
     let last = kept_by (g.R.Ranges.last c.eval_at-in-Ok.new.ranges) (g.R.Ranges.passed c.eval_at-in-Ok.new.ranges) in
     let Fits2 = g.R.Ranges.fits c.eval_at-in-Ok.new.ranges history in
-    two_taken g.R.Ranges.keeps scope.inside scope.step history func now left right c.is_binary.ensures.two n m scope.time is before between last Fits1 Fits2 c.args.reads.now c.eval_at.new.reads c.eval_at-in-Ok.new.reads c.in-Ok.a (Err c.in-Err-eval_at.error) first (c.in-Err-eval_at.ensures.taken history func right_may)
+    two_taken g.R.Ranges.keeps scope.inside scope.step history func now left right c.lemma_is_binary.ensures.two n m scope.time is before between last Fits1 Fits2 c.args.reads.now c.eval_at.new.reads c.eval_at-in-Ok.new.reads c.in-Ok.a (Err c.in-Err-eval_at.error) first (c.in-Err-eval_at.ensures.taken history func right_may)
 
 pub operators::operation-returns-in-Ok-eval_at-clause-answer : goal.operators::operation-returns-in-Ok-eval_at-clause-answer
 operators::operation-returns-in-Ok-eval_at-clause-answer g t c = λ history func may.
@@ -290,13 +290,13 @@ operators::operation-returns-in-Ok-eval_at-clause-answer g t c = λ history func
     let f = operated c.args.e.now.place c.args.op c.args.with_bool c.args.matching.now in
     let left_meant = meaning scope.step history left scope.time in
     let right_meant = meaning scope.step history right scope.time in
-    let left_may = first_may g.R.Ranges.keeps scope.inside scope.step history func now left right c.is_binary.ensures.two n (n + ranges_in left) scope.time refl scope.head.now before Fits may in
-    let is : m ≡ n + ranges_in left = ap (λ (k : Counts). k.ranges) c.in-Ok.ensures.count in
+    let left_may = first_may g.R.Ranges.keeps scope.inside scope.step history func now left right c.lemma_is_binary.ensures.two n (n + ranges_in left) scope.time refl scope.head.now before Fits may in
+    let is : m ≡ n + ranges_in left = ap (λ (k : SelectorCounts). k.ranges) c.in-Ok.ensures.count in
     let first = c.in-Ok.ensures.taken history func left_may in
-    let right_may = second_may g.R.Ranges.keeps scope.inside scope.step history func now left right c.is_binary.ensures.two n m scope.time is scope.head.now before between Fits Fits1 c.args.reads.now c.eval_at.new.reads c.in-Ok.a may first in
+    let right_may = second_may g.R.Ranges.keeps scope.inside scope.step history func now left right c.lemma_is_binary.ensures.two n m scope.time is scope.head.now before between Fits Fits1 c.args.reads.now c.eval_at.new.reads c.in-Ok.a may first in
     let last = kept_by (g.R.Ranges.last c.eval_at-in-Ok.new.ranges) (g.R.Ranges.passed c.eval_at-in-Ok.new.ranges) in
     let Fits2 = g.R.Ranges.fits c.eval_at-in-Ok.new.ranges history in
-    subst (λ u. AnswersTo (meaning scope.step history u scope.time) c.operated.result) (sym c.is_binary.ensures.tree)
+    subst (λ u. AnswersTo (meaning scope.step history u scope.time) c.operated.result) (sym c.lemma_is_binary.ensures.tree)
     (both_give f left_meant right_meant c.in-Ok.a c.in-Ok-eval_at.b c.operated.result (c.in-Ok.ensures.answer history func left_may) (c.in-Ok-eval_at.ensures.answer history func right_may) c.operated.ensures.answer)
 
 pub operators::operation-returns-in-Ok-eval_at-clause-taken : goal.operators::operation-returns-in-Ok-eval_at-clause-taken
@@ -314,13 +314,13 @@ operators::operation-returns-in-Ok-eval_at-clause-taken g t c = λ history func 
     let f = operated c.args.e.now.place c.args.op c.args.with_bool c.args.matching.now in
     let left_meant = meaning scope.step history left scope.time in
     let right_meant = meaning scope.step history right scope.time in
-    let left_may = first_may g.R.Ranges.keeps scope.inside scope.step history func now left right c.is_binary.ensures.two n (n + ranges_in left) scope.time refl scope.head.now before Fits may in
-    let is : m ≡ n + ranges_in left = ap (λ (k : Counts). k.ranges) c.in-Ok.ensures.count in
+    let left_may = first_may g.R.Ranges.keeps scope.inside scope.step history func now left right c.lemma_is_binary.ensures.two n (n + ranges_in left) scope.time refl scope.head.now before Fits may in
+    let is : m ≡ n + ranges_in left = ap (λ (k : SelectorCounts). k.ranges) c.in-Ok.ensures.count in
     let first = c.in-Ok.ensures.taken history func left_may in
-    let right_may = second_may g.R.Ranges.keeps scope.inside scope.step history func now left right c.is_binary.ensures.two n m scope.time is scope.head.now before between Fits Fits1 c.args.reads.now c.eval_at.new.reads c.in-Ok.a may first in
+    let right_may = second_may g.R.Ranges.keeps scope.inside scope.step history func now left right c.lemma_is_binary.ensures.two n m scope.time is scope.head.now before between Fits Fits1 c.args.reads.now c.eval_at.new.reads c.in-Ok.a may first in
     let last = kept_by (g.R.Ranges.last c.eval_at-in-Ok.new.ranges) (g.R.Ranges.passed c.eval_at-in-Ok.new.ranges) in
     let Fits2 = g.R.Ranges.fits c.eval_at-in-Ok.new.ranges history in
-    two_taken_as g.R.Ranges.keeps scope.inside scope.step history func now left right c.is_binary.ensures.two n m scope.time is before between last Fits1 Fits2 c.args.reads.now c.eval_at.new.reads c.eval_at-in-Ok.new.reads c.in-Ok.a c.in-Ok-eval_at.b c.operated.result first (c.in-Ok-eval_at.ensures.taken history func right_may)
+    two_taken_as g.R.Ranges.keeps scope.inside scope.step history func now left right c.lemma_is_binary.ensures.two n m scope.time is before between last Fits1 Fits2 c.args.reads.now c.eval_at.new.reads c.eval_at-in-Ok.new.reads c.in-Ok.a c.in-Ok-eval_at.b c.operated.result first (c.in-Ok-eval_at.ensures.taken history func right_may)
 
 pub aggregate::aggregation_by-returns-in-Err-clause-answer : goal.aggregate::aggregation_by-returns-in-Err-clause-answer
 aggregate::aggregation_by-returns-in-Err-clause-answer g t c = λ history func may.
@@ -337,9 +337,9 @@ aggregate::aggregation_by-returns-in-Err-clause-answer g t c = λ history func m
     let f = (λ (v w : Value). summed_up c.args.e.now.place c.args.op c.args.by.now (more (more none left) right) (given None v ∷ given None w ∷ [])) in
     let left_meant = meaning scope.step history left scope.time in
     let right_meant = meaning scope.step history right scope.time in
-    let left_may = first_may g.R.Ranges.keeps scope.inside scope.step history func now left right c.is_aggregate_by.ensures.two n (n + ranges_in left) scope.time refl scope.head.now before Fits may in
-    subst (λ u. AnswersTo (meaning scope.step history u scope.time) (Err c.in-Err.error)) (sym c.is_aggregate_by.ensures.tree)
-    (subst (λ m. AnswersTo m (Err c.in-Err.error)) (sym (aggregate_two scope.step history left right scope.time (summed_up c.args.e.now.place c.args.op c.args.by.now (more (more none left) right)) (c.is_aggregate_by.ensures.param_valued c.requires.valued) (c.is_aggregate_by.ensures.inner_valued c.requires.valued)))
+    let left_may = first_may g.R.Ranges.keeps scope.inside scope.step history func now left right c.lemma_is_aggregate_by.ensures.two n (n + ranges_in left) scope.time refl scope.head.now before Fits may in
+    subst (λ u. AnswersTo (meaning scope.step history u scope.time) (Err c.in-Err.error)) (sym c.lemma_is_aggregate_by.ensures.tree)
+    (subst (λ m. AnswersTo m (Err c.in-Err.error)) (sym (aggregate_two scope.step history left right scope.time (summed_up c.args.e.now.place c.args.op c.args.by.now (more (more none left) right)) (c.lemma_is_aggregate_by.ensures.param_valued c.requires.valued) (c.lemma_is_aggregate_by.ensures.inner_valued c.requires.valued)))
     (ends (λ v. go_on (f v) right_meant) left_meant c.in-Err.error (c.in-Err.ensures.answer history func left_may)))
 
 pub aggregate::aggregation_by-returns-in-Err-clause-taken : goal.aggregate::aggregation_by-returns-in-Err-clause-taken
@@ -357,8 +357,8 @@ aggregate::aggregation_by-returns-in-Err-clause-taken g t c = λ history func ma
     let f = (λ (v w : Value). summed_up c.args.e.now.place c.args.op c.args.by.now (more (more none left) right) (given None v ∷ given None w ∷ [])) in
     let left_meant = meaning scope.step history left scope.time in
     let right_meant = meaning scope.step history right scope.time in
-    let left_may = first_may g.R.Ranges.keeps scope.inside scope.step history func now left right c.is_aggregate_by.ensures.two n (n + ranges_in left) scope.time refl scope.head.now before Fits may in
-    one_taken g.R.Ranges.keeps scope.inside scope.step history func now left right c.is_aggregate_by.ensures.two n (n + ranges_in left) scope.time refl before between Fits1 c.args.reads.now c.eval_at.new.reads c.in-Err.error (c.in-Err.ensures.taken history func left_may)
+    let left_may = first_may g.R.Ranges.keeps scope.inside scope.step history func now left right c.lemma_is_aggregate_by.ensures.two n (n + ranges_in left) scope.time refl scope.head.now before Fits may in
+    one_taken g.R.Ranges.keeps scope.inside scope.step history func now left right c.lemma_is_aggregate_by.ensures.two n (n + ranges_in left) scope.time refl before between Fits1 c.args.reads.now c.eval_at.new.reads c.in-Err.error (c.in-Err.ensures.taken history func left_may)
 
 pub aggregate::aggregation_by-returns-in-Err-eval_at-clause-answer : goal.aggregate::aggregation_by-returns-in-Err-eval_at-clause-answer
 aggregate::aggregation_by-returns-in-Err-eval_at-clause-answer g t c = λ history func may.
@@ -375,14 +375,14 @@ aggregate::aggregation_by-returns-in-Err-eval_at-clause-answer g t c = λ histor
     let f = (λ (v w : Value). summed_up c.args.e.now.place c.args.op c.args.by.now (more (more none left) right) (given None v ∷ given None w ∷ [])) in
     let left_meant = meaning scope.step history left scope.time in
     let right_meant = meaning scope.step history right scope.time in
-    let left_may = first_may g.R.Ranges.keeps scope.inside scope.step history func now left right c.is_aggregate_by.ensures.two n (n + ranges_in left) scope.time refl scope.head.now before Fits may in
-    let is : m ≡ n + ranges_in left = ap (λ (k : Counts). k.ranges) c.in-Ok.ensures.count in
+    let left_may = first_may g.R.Ranges.keeps scope.inside scope.step history func now left right c.lemma_is_aggregate_by.ensures.two n (n + ranges_in left) scope.time refl scope.head.now before Fits may in
+    let is : m ≡ n + ranges_in left = ap (λ (k : SelectorCounts). k.ranges) c.in-Ok.ensures.count in
     let first = c.in-Ok.ensures.taken history func left_may in
-    let right_may = second_may g.R.Ranges.keeps scope.inside scope.step history func now left right c.is_aggregate_by.ensures.two n m scope.time is scope.head.now before between Fits Fits1 c.args.reads.now c.eval_at.new.reads c.in-Ok.a may first in
+    let right_may = second_may g.R.Ranges.keeps scope.inside scope.step history func now left right c.lemma_is_aggregate_by.ensures.two n m scope.time is scope.head.now before between Fits Fits1 c.args.reads.now c.eval_at.new.reads c.in-Ok.a may first in
     let last = kept_by (g.R.Ranges.last c.eval_at-in-Ok.new.ranges) (g.R.Ranges.passed c.eval_at-in-Ok.new.ranges) in
     let Fits2 = g.R.Ranges.fits c.eval_at-in-Ok.new.ranges history in
-    subst (λ u. AnswersTo (meaning scope.step history u scope.time) (Err c.in-Err-eval_at.error)) (sym c.is_aggregate_by.ensures.tree)
-    (subst (λ m. AnswersTo m (Err c.in-Err-eval_at.error)) (sym (aggregate_two scope.step history left right scope.time (summed_up c.args.e.now.place c.args.op c.args.by.now (more (more none left) right)) (c.is_aggregate_by.ensures.param_valued c.requires.valued) (c.is_aggregate_by.ensures.inner_valued c.requires.valued)))
+    subst (λ u. AnswersTo (meaning scope.step history u scope.time) (Err c.in-Err-eval_at.error)) (sym c.lemma_is_aggregate_by.ensures.tree)
+    (subst (λ m. AnswersTo m (Err c.in-Err-eval_at.error)) (sym (aggregate_two scope.step history left right scope.time (summed_up c.args.e.now.place c.args.op c.args.by.now (more (more none left) right)) (c.lemma_is_aggregate_by.ensures.param_valued c.requires.valued) (c.lemma_is_aggregate_by.ensures.inner_valued c.requires.valued)))
     (ends_right f left_meant right_meant c.in-Ok.a c.in-Err-eval_at.error (c.in-Ok.ensures.answer history func left_may) (c.in-Err-eval_at.ensures.answer history func right_may)))
 
 pub aggregate::aggregation_by-returns-in-Err-eval_at-clause-taken : goal.aggregate::aggregation_by-returns-in-Err-eval_at-clause-taken
@@ -400,13 +400,13 @@ aggregate::aggregation_by-returns-in-Err-eval_at-clause-taken g t c = λ history
     let f = (λ (v w : Value). summed_up c.args.e.now.place c.args.op c.args.by.now (more (more none left) right) (given None v ∷ given None w ∷ [])) in
     let left_meant = meaning scope.step history left scope.time in
     let right_meant = meaning scope.step history right scope.time in
-    let left_may = first_may g.R.Ranges.keeps scope.inside scope.step history func now left right c.is_aggregate_by.ensures.two n (n + ranges_in left) scope.time refl scope.head.now before Fits may in
-    let is : m ≡ n + ranges_in left = ap (λ (k : Counts). k.ranges) c.in-Ok.ensures.count in
+    let left_may = first_may g.R.Ranges.keeps scope.inside scope.step history func now left right c.lemma_is_aggregate_by.ensures.two n (n + ranges_in left) scope.time refl scope.head.now before Fits may in
+    let is : m ≡ n + ranges_in left = ap (λ (k : SelectorCounts). k.ranges) c.in-Ok.ensures.count in
     let first = c.in-Ok.ensures.taken history func left_may in
-    let right_may = second_may g.R.Ranges.keeps scope.inside scope.step history func now left right c.is_aggregate_by.ensures.two n m scope.time is scope.head.now before between Fits Fits1 c.args.reads.now c.eval_at.new.reads c.in-Ok.a may first in
+    let right_may = second_may g.R.Ranges.keeps scope.inside scope.step history func now left right c.lemma_is_aggregate_by.ensures.two n m scope.time is scope.head.now before between Fits Fits1 c.args.reads.now c.eval_at.new.reads c.in-Ok.a may first in
     let last = kept_by (g.R.Ranges.last c.eval_at-in-Ok.new.ranges) (g.R.Ranges.passed c.eval_at-in-Ok.new.ranges) in
     let Fits2 = g.R.Ranges.fits c.eval_at-in-Ok.new.ranges history in
-    two_taken g.R.Ranges.keeps scope.inside scope.step history func now left right c.is_aggregate_by.ensures.two n m scope.time is before between last Fits1 Fits2 c.args.reads.now c.eval_at.new.reads c.eval_at-in-Ok.new.reads c.in-Ok.a (Err c.in-Err-eval_at.error) first (c.in-Err-eval_at.ensures.taken history func right_may)
+    two_taken g.R.Ranges.keeps scope.inside scope.step history func now left right c.lemma_is_aggregate_by.ensures.two n m scope.time is before between last Fits1 Fits2 c.args.reads.now c.eval_at.new.reads c.eval_at-in-Ok.new.reads c.in-Ok.a (Err c.in-Err-eval_at.error) first (c.in-Err-eval_at.ensures.taken history func right_may)
 
 pub aggregate::aggregation_by-returns-in-Ok-eval_at-clause-answer : goal.aggregate::aggregation_by-returns-in-Ok-eval_at-clause-answer
 aggregate::aggregation_by-returns-in-Ok-eval_at-clause-answer g t c = λ history func may.
@@ -423,14 +423,14 @@ aggregate::aggregation_by-returns-in-Ok-eval_at-clause-answer g t c = λ history
     let f = (λ (v w : Value). summed_up c.args.e.now.place c.args.op c.args.by.now (more (more none left) right) (given None v ∷ given None w ∷ [])) in
     let left_meant = meaning scope.step history left scope.time in
     let right_meant = meaning scope.step history right scope.time in
-    let left_may = first_may g.R.Ranges.keeps scope.inside scope.step history func now left right c.is_aggregate_by.ensures.two n (n + ranges_in left) scope.time refl scope.head.now before Fits may in
-    let is : m ≡ n + ranges_in left = ap (λ (k : Counts). k.ranges) c.in-Ok.ensures.count in
+    let left_may = first_may g.R.Ranges.keeps scope.inside scope.step history func now left right c.lemma_is_aggregate_by.ensures.two n (n + ranges_in left) scope.time refl scope.head.now before Fits may in
+    let is : m ≡ n + ranges_in left = ap (λ (k : SelectorCounts). k.ranges) c.in-Ok.ensures.count in
     let first = c.in-Ok.ensures.taken history func left_may in
-    let right_may = second_may g.R.Ranges.keeps scope.inside scope.step history func now left right c.is_aggregate_by.ensures.two n m scope.time is scope.head.now before between Fits Fits1 c.args.reads.now c.eval_at.new.reads c.in-Ok.a may first in
+    let right_may = second_may g.R.Ranges.keeps scope.inside scope.step history func now left right c.lemma_is_aggregate_by.ensures.two n m scope.time is scope.head.now before between Fits Fits1 c.args.reads.now c.eval_at.new.reads c.in-Ok.a may first in
     let last = kept_by (g.R.Ranges.last c.eval_at-in-Ok.new.ranges) (g.R.Ranges.passed c.eval_at-in-Ok.new.ranges) in
     let Fits2 = g.R.Ranges.fits c.eval_at-in-Ok.new.ranges history in
-    subst (λ u. AnswersTo (meaning scope.step history u scope.time) c.aggregated_two.result) (sym c.is_aggregate_by.ensures.tree)
-    (subst (λ m. AnswersTo m c.aggregated_two.result) (sym (aggregate_two scope.step history left right scope.time (summed_up c.args.e.now.place c.args.op c.args.by.now (more (more none left) right)) (c.is_aggregate_by.ensures.param_valued c.requires.valued) (c.is_aggregate_by.ensures.inner_valued c.requires.valued)))
+    subst (λ u. AnswersTo (meaning scope.step history u scope.time) c.aggregated_two.result) (sym c.lemma_is_aggregate_by.ensures.tree)
+    (subst (λ m. AnswersTo m c.aggregated_two.result) (sym (aggregate_two scope.step history left right scope.time (summed_up c.args.e.now.place c.args.op c.args.by.now (more (more none left) right)) (c.lemma_is_aggregate_by.ensures.param_valued c.requires.valued) (c.lemma_is_aggregate_by.ensures.inner_valued c.requires.valued)))
     (both_give f left_meant right_meant c.in-Ok.a c.in-Ok-eval_at.b c.aggregated_two.result (c.in-Ok.ensures.answer history func left_may) (c.in-Ok-eval_at.ensures.answer history func right_may) (c.aggregated_two.ensures.answer (more (more none left) right) (λ same. refl))))
 
 pub aggregate::aggregation_by-returns-in-Ok-eval_at-clause-taken : goal.aggregate::aggregation_by-returns-in-Ok-eval_at-clause-taken
@@ -448,13 +448,13 @@ aggregate::aggregation_by-returns-in-Ok-eval_at-clause-taken g t c = λ history 
     let f = (λ (v w : Value). summed_up c.args.e.now.place c.args.op c.args.by.now (more (more none left) right) (given None v ∷ given None w ∷ [])) in
     let left_meant = meaning scope.step history left scope.time in
     let right_meant = meaning scope.step history right scope.time in
-    let left_may = first_may g.R.Ranges.keeps scope.inside scope.step history func now left right c.is_aggregate_by.ensures.two n (n + ranges_in left) scope.time refl scope.head.now before Fits may in
-    let is : m ≡ n + ranges_in left = ap (λ (k : Counts). k.ranges) c.in-Ok.ensures.count in
+    let left_may = first_may g.R.Ranges.keeps scope.inside scope.step history func now left right c.lemma_is_aggregate_by.ensures.two n (n + ranges_in left) scope.time refl scope.head.now before Fits may in
+    let is : m ≡ n + ranges_in left = ap (λ (k : SelectorCounts). k.ranges) c.in-Ok.ensures.count in
     let first = c.in-Ok.ensures.taken history func left_may in
-    let right_may = second_may g.R.Ranges.keeps scope.inside scope.step history func now left right c.is_aggregate_by.ensures.two n m scope.time is scope.head.now before between Fits Fits1 c.args.reads.now c.eval_at.new.reads c.in-Ok.a may first in
+    let right_may = second_may g.R.Ranges.keeps scope.inside scope.step history func now left right c.lemma_is_aggregate_by.ensures.two n m scope.time is scope.head.now before between Fits Fits1 c.args.reads.now c.eval_at.new.reads c.in-Ok.a may first in
     let last = kept_by (g.R.Ranges.last c.eval_at-in-Ok.new.ranges) (g.R.Ranges.passed c.eval_at-in-Ok.new.ranges) in
     let Fits2 = g.R.Ranges.fits c.eval_at-in-Ok.new.ranges history in
-    two_taken_as g.R.Ranges.keeps scope.inside scope.step history func now left right c.is_aggregate_by.ensures.two n m scope.time is before between last Fits1 Fits2 c.args.reads.now c.eval_at.new.reads c.eval_at-in-Ok.new.reads c.in-Ok.a c.in-Ok-eval_at.b c.aggregated_two.result first (c.in-Ok-eval_at.ensures.taken history func right_may)
+    two_taken_as g.R.Ranges.keeps scope.inside scope.step history func now left right c.lemma_is_aggregate_by.ensures.two n m scope.time is before between last Fits1 Fits2 c.args.reads.now c.eval_at.new.reads c.eval_at-in-Ok.new.reads c.in-Ok.a c.in-Ok-eval_at.b c.aggregated_two.result first (c.in-Ok-eval_at.ensures.taken history func right_may)
 
 pub call::plain_call-returns-in-Ok-clause-answer : goal.call::plain_call-returns-in-Ok-clause-answer
 call::plain_call-returns-in-Ok-clause-answer g t c = λ history func may.
@@ -467,8 +467,8 @@ call::plain_call-returns-in-Ok-clause-answer g t c = λ history func may.
     let f = c.args.func in
     let after = kept_by (g.R.Ranges.last c.operands.new.ranges) (g.R.Ranges.passed c.operands.new.ranges) in
     let Fits' = g.R.Ranges.fits c.operands.new.ranges history in
-    let args_may = part_may g.R.Ranges.keeps scope.inside scope.step history func now ts (own_patterns f ts) (λ h. asked_for f) c.is_call.ensures.one n scope.time scope.head.now before Fits may in
-    subst (λ u. AnswersTo (meaning scope.step history u scope.time) c.called_with.result) (sym c.is_call.ensures.tree)
+    let args_may = part_may g.R.Ranges.keeps scope.inside scope.step history func now ts (own_patterns f ts) (λ h. asked_for f) c.lemma_is_call.ensures.one n scope.time scope.head.now before Fits may in
+    subst (λ u. AnswersTo (meaning scope.step history u scope.time) c.called_with.result) (sym c.lemma_is_call.ensures.tree)
     (call_gives (value_of_call history c.args.e.now.place f ts scope.time) (operands scope.step history ts scope.time) c.operands.new.given.items c.called_with.result (c.in-Ok.ensures.answer history (asked_for f) args_may)
     (subst (λ vs. AnswersTo (value_of_call history c.args.e.now.place f ts scope.time (all_plain vs)) c.called_with.result) c.deref.ensures.value (c.called_with.ensures.answer history)))
 
@@ -483,8 +483,8 @@ call::plain_call-returns-in-Ok-clause-taken g t c = λ history func may.
     let f = c.args.func in
     let after = kept_by (g.R.Ranges.last c.operands.new.ranges) (g.R.Ranges.passed c.operands.new.ranges) in
     let Fits' = g.R.Ranges.fits c.operands.new.ranges history in
-    let args_may = part_may g.R.Ranges.keeps scope.inside scope.step history func now ts (own_patterns f ts) (λ h. asked_for f) c.is_call.ensures.one n scope.time scope.head.now before Fits may in
-    part_taken_as g.R.Ranges.keeps scope.inside scope.step history func now ts (own_patterns f ts) (λ h. asked_for f) c.is_call.ensures.one n scope.time before after Fits' c.args.reads.now c.operands.new.reads c.in-Ok.field-0 c.called_with.result
+    let args_may = part_may g.R.Ranges.keeps scope.inside scope.step history func now ts (own_patterns f ts) (λ h. asked_for f) c.lemma_is_call.ensures.one n scope.time scope.head.now before Fits may in
+    part_taken_as g.R.Ranges.keeps scope.inside scope.step history func now ts (own_patterns f ts) (λ h. asked_for f) c.lemma_is_call.ensures.one n scope.time before after Fits' c.args.reads.now c.operands.new.reads c.in-Ok.field-0 c.called_with.result
     (c.in-Ok.ensures.taken history (asked_for f) args_may)
 
 pub call::plain_call-returns-clause-answer : goal.call::plain_call-returns-clause-answer
@@ -498,8 +498,8 @@ call::plain_call-returns-clause-answer g t c = λ history func may.
     let f = c.args.func in
     let after = kept_by (g.R.Ranges.last c.operands.new.ranges) (g.R.Ranges.passed c.operands.new.ranges) in
     let Fits' = g.R.Ranges.fits c.operands.new.ranges history in
-    let args_may = part_may g.R.Ranges.keeps scope.inside scope.step history func now ts (own_patterns f ts) (λ h. asked_for f) c.is_call.ensures.one n scope.time scope.head.now before Fits may in
-    subst (λ u. AnswersTo (meaning scope.step history u scope.time) (Err c.in-Err.error)) (sym c.is_call.ensures.tree)
+    let args_may = part_may g.R.Ranges.keeps scope.inside scope.step history func now ts (own_patterns f ts) (λ h. asked_for f) c.lemma_is_call.ensures.one n scope.time scope.head.now before Fits may in
+    subst (λ u. AnswersTo (meaning scope.step history u scope.time) (Err c.in-Err.error)) (sym c.lemma_is_call.ensures.tree)
     (call_ends (value_of_call history c.args.e.now.place f ts scope.time) (operands scope.step history ts scope.time) c.operands.new.given.items c.in-Err.error (c.in-Err.ensures.answer history (asked_for f) args_may))
 
 pub call::plain_call-returns-clause-taken : goal.call::plain_call-returns-clause-taken
@@ -513,61 +513,61 @@ call::plain_call-returns-clause-taken g t c = λ history func may.
     let f = c.args.func in
     let after = kept_by (g.R.Ranges.last c.operands.new.ranges) (g.R.Ranges.passed c.operands.new.ranges) in
     let Fits' = g.R.Ranges.fits c.operands.new.ranges history in
-    let args_may = part_may g.R.Ranges.keeps scope.inside scope.step history func now ts (own_patterns f ts) (λ h. asked_for f) c.is_call.ensures.one n scope.time scope.head.now before Fits may in
-    part_taken_fault g.R.Ranges.keeps scope.inside scope.step history func now ts (own_patterns f ts) (λ h. asked_for f) c.is_call.ensures.one n scope.time before after Fits' c.args.reads.now c.operands.new.reads c.in-Err.error
+    let args_may = part_may g.R.Ranges.keeps scope.inside scope.step history func now ts (own_patterns f ts) (λ h. asked_for f) c.lemma_is_call.ensures.one n scope.time scope.head.now before Fits may in
+    part_taken_fault g.R.Ranges.keeps scope.inside scope.step history func now ts (own_patterns f ts) (λ h. asked_for f) c.lemma_is_call.ensures.one n scope.time before after Fits' c.args.reads.now c.operands.new.reads c.in-Err.error
     (c.in-Err.ensures.taken history (asked_for f) args_may)
 
-pub call::plain_call-args_stand_at-requires-clause-part : goal.call::plain_call-args_stand_at-requires-clause-part
-call::plain_call-args_stand_at-requires-clause-part g t c =
-    c.is_call.ensures.part (tree_of c.args.scope.now.checked.now) c.args.number.now c.requires.part
+pub call::plain_call-lemma_args_stand_at-requires-clause-part : goal.call::plain_call-lemma_args_stand_at-requires-clause-part
+call::plain_call-lemma_args_stand_at-requires-clause-part g t c =
+    c.lemma_is_call.ensures.part (tree_of c.args.scope.now.checked.now) c.args.number.now c.requires.part
 
-pub call::plain_call-args_stand_at-requires-clause-valued : goal.call::plain_call-args_stand_at-requires-clause-valued
-call::plain_call-args_stand_at-requires-clause-valued g t c =
-    c.is_call.ensures.valued c.requires.valued c.requires.plain
+pub call::plain_call-lemma_args_stand_at-requires-clause-valued : goal.call::plain_call-lemma_args_stand_at-requires-clause-valued
+call::plain_call-lemma_args_stand_at-requires-clause-valued g t c =
+    c.lemma_is_call.ensures.valued c.requires.valued c.requires.plain
 
 pub call::plain_call-called_with-requires-clause-replaced : goal.call::plain_call-called_with-requires-clause-replaced
 call::plain_call-called_with-requires-clause-replaced g t c =
-    c.is_call.ensures.replaced c.requires.valued
+    c.lemma_is_call.ensures.replaced c.requires.valued
 
 pub call::plain_call-called_with-requires-clause-joined : goal.call::plain_call-called_with-requires-clause-joined
 call::plain_call-called_with-requires-clause-joined g t c =
-    c.is_call.ensures.joined c.requires.valued
+    c.lemma_is_call.ensures.joined c.requires.valued
 
 pub call::plain_call-called_with-requires-clause-pattern : goal.call::plain_call-called_with-requires-clause-pattern
 call::plain_call-called_with-requires-clause-pattern g t c =
-    c.is_call.ensures.pattern (tree_of c.args.scope.now.checked.now) c.args.number.now c.operands.new.number c.requires.part c.in-Ok.ensures.count
+    c.lemma_is_call.ensures.pattern (tree_of c.args.scope.now.checked.now) c.args.number.now c.operands.new.number c.requires.part c.in-Ok.ensures.count
 
-pub operators::negation-stands_at-requires : goal.operators::negation-stands_at-requires
-operators::negation-stands_at-requires g t c =
-    c.is_neg.ensures.part (tree_of c.args.scope.now.checked.now) c.args.number.now c.requires.part
+pub operators::negation-lemma_stands_at-requires : goal.operators::negation-lemma_stands_at-requires
+operators::negation-lemma_stands_at-requires g t c =
+    c.lemma_is_neg.ensures.part (tree_of c.args.scope.now.checked.now) c.args.number.now c.requires.part
 
-pub aggregate::aggregation-stands_at-requires : goal.aggregate::aggregation-stands_at-requires
-aggregate::aggregation-stands_at-requires g t c =
-    c.is_aggregate.ensures.part (tree_of c.args.scope.now.checked.now) c.args.number.now c.requires.part
+pub aggregate::aggregation-lemma_stands_at-requires : goal.aggregate::aggregation-lemma_stands_at-requires
+aggregate::aggregation-lemma_stands_at-requires g t c =
+    c.lemma_is_aggregate.ensures.part (tree_of c.args.scope.now.checked.now) c.args.number.now c.requires.part
 
 pub aggregate::aggregation-aggregated_one-requires-clause-op : goal.aggregate::aggregation-aggregated_one-requires-clause-op
 aggregate::aggregation-aggregated_one-requires-clause-op g t c =
-    c.is_aggregate.ensures.op c.requires.valued
+    c.lemma_is_aggregate.ensures.op c.requires.valued
 
-pub operators::operation-stands_at-requires : goal.operators::operation-stands_at-requires
-operators::operation-stands_at-requires g t c =
-    c.is_binary.ensures.left_part (tree_of c.args.scope.now.checked.now) c.args.number.now c.requires.part
+pub operators::operation-lemma_stands_at-requires : goal.operators::operation-lemma_stands_at-requires
+operators::operation-lemma_stands_at-requires g t c =
+    c.lemma_is_binary.ensures.left_part (tree_of c.args.scope.now.checked.now) c.args.number.now c.requires.part
 
-pub operators::operation-stands_at-requires-in-Ok : goal.operators::operation-stands_at-requires-in-Ok
-operators::operation-stands_at-requires-in-Ok g t c =
-    c.is_binary.ensures.right_part (tree_of c.args.scope.now.checked.now) c.args.number.now c.eval_at.new.number c.in-Ok.ensures.count c.requires.part
+pub operators::operation-lemma_stands_at-requires-in-Ok : goal.operators::operation-lemma_stands_at-requires-in-Ok
+operators::operation-lemma_stands_at-requires-in-Ok g t c =
+    c.lemma_is_binary.ensures.right_part (tree_of c.args.scope.now.checked.now) c.args.number.now c.eval_at.new.number c.in-Ok.ensures.count c.requires.part
 
-pub aggregate::aggregation_by-stands_at-requires : goal.aggregate::aggregation_by-stands_at-requires
-aggregate::aggregation_by-stands_at-requires g t c =
-    c.is_aggregate_by.ensures.param_part (tree_of c.args.scope.now.checked.now) c.args.number.now c.requires.part
+pub aggregate::aggregation_by-lemma_stands_at-requires : goal.aggregate::aggregation_by-lemma_stands_at-requires
+aggregate::aggregation_by-lemma_stands_at-requires g t c =
+    c.lemma_is_aggregate_by.ensures.param_part (tree_of c.args.scope.now.checked.now) c.args.number.now c.requires.part
 
-pub aggregate::aggregation_by-stands_at-requires-in-Ok : goal.aggregate::aggregation_by-stands_at-requires-in-Ok
-aggregate::aggregation_by-stands_at-requires-in-Ok g t c =
-    c.is_aggregate_by.ensures.inner_part (tree_of c.args.scope.now.checked.now) c.args.number.now c.eval_at.new.number c.in-Ok.ensures.count c.requires.part
+pub aggregate::aggregation_by-lemma_stands_at-requires-in-Ok : goal.aggregate::aggregation_by-lemma_stands_at-requires-in-Ok
+aggregate::aggregation_by-lemma_stands_at-requires-in-Ok g t c =
+    c.lemma_is_aggregate_by.ensures.inner_part (tree_of c.args.scope.now.checked.now) c.args.number.now c.eval_at.new.number c.in-Ok.ensures.count c.requires.part
 
 pub aggregate::aggregation_by-aggregated_two-requires-clause-label : goal.aggregate::aggregation_by-aggregated_two-requires-clause-label
 aggregate::aggregation_by-aggregated_two-requires-clause-label g t c =
-    c.is_aggregate_by.ensures.label c.requires.valued
+    c.lemma_is_aggregate_by.ensures.label c.requires.valued
 
 pub call::call-timestamps-requires-clause-tree : goal.call::call-timestamps-requires-clause-tree
 call::call-timestamps-requires-clause-tree g t c =
@@ -586,8 +586,8 @@ call::call-returns-in-Some-clause-taken g t c = λ history func may.
     let Fits = g.R.Ranges.fits c.args.ranges.now history in
     stamps_taken g.R.Ranges.keeps scope.inside scope.step history func now _ _ _ scope.time n before Fits c.args.reads.now c.timestamps.new.reads c.timestamps.result (c.requires.tree ∙ (λ i. call c.args.e.now.place (c.in-Some.ensures.some.0 i) (c.in-Some.ensures.some.1 i))) may.fits (c.timestamps.ensures.reads history may.keeps.holds)
 
-pub call::operands-arg_stands_at-requires-clause-part : goal.call::operands-arg_stands_at-requires-clause-part
-call::operands-arg_stands_at-requires-clause-part g t c =
+pub call::operands-lemma_arg_stands_at-requires-clause-part : goal.call::operands-lemma_arg_stands_at-requires-clause-part
+call::operands-lemma_arg_stands_at-requires-clause-part g t c =
     let scope = c.args.scope.now in
     let whole = tree_of scope.checked.now in
     let es = c.args.args.now in
@@ -602,8 +602,8 @@ call::operands-arg_stands_at-requires-clause-part g t c =
     let valued = c.requires.valued i e (slice_get-get_or es i e c.loop-arg-test.true ∙ ap Some (sym c.arg-item.is)) in
     second_part whole n m more_first first (tree_of e) two c.loop-arg.invariant.count (args_part whole n (i + 1) es c.requires.part)
 
-pub call::operands-arg_stands_at-requires-clause-valued : goal.call::operands-arg_stands_at-requires-clause-valued
-call::operands-arg_stands_at-requires-clause-valued g t c =
+pub call::operands-lemma_arg_stands_at-requires-clause-valued : goal.call::operands-lemma_arg_stands_at-requires-clause-valued
+call::operands-lemma_arg_stands_at-requires-clause-valued g t c =
     let scope = c.args.scope.now in
     let whole = tree_of scope.checked.now in
     let es = c.args.args.now in
@@ -649,7 +649,7 @@ call::operands-loop-arg-preserved g t c =
           let Fits = g.R.Ranges.fits c.args.ranges.now history in
           let Fits1 = g.R.Ranges.fits c.loop-arg.ranges history in
           let Fits2 = g.R.Ranges.fits c.eval_at.new.ranges history in
-          let is : m.ranges ≡ n.ranges + ranges_in first = ap (λ (k : Counts). k.ranges) c.loop-arg.invariant.count in
+          let is : m.ranges ≡ n.ranges + ranges_in first = ap (λ (k : SelectorCounts). k.ranges) c.loop-arg.invariant.count in
           let front = args_may scope.head.now scope.inside history func (i + 1) es scope.time n.ranges Fits before may in
           let arg_may = second_may g.R.Ranges.keeps scope.inside scope.step history func more_first first (tree_of e) two n.ranges m.ranges scope.time is scope.head.now before between Fits Fits1 c.args.reads.now c.loop-arg.reads tt front (c.loop-arg.invariant.taken history func may) in
           plain_given scope.step history more_first first (tree_of e) scope.time c.loop-arg.given.items c.push_value.new.values.items c.in-Ok.value next valued (c.loop-arg.invariant.answer history func may) (c.in-Ok.ensures.answer history func arg_may) c.in_ok-push_value-in-Ok.ensures;
@@ -660,7 +660,7 @@ call::operands-loop-arg-preserved g t c =
           let Fits = g.R.Ranges.fits c.args.ranges.now history in
           let Fits1 = g.R.Ranges.fits c.loop-arg.ranges history in
           let Fits2 = g.R.Ranges.fits c.eval_at.new.ranges history in
-          let is : m.ranges ≡ n.ranges + ranges_in first = ap (λ (k : Counts). k.ranges) c.loop-arg.invariant.count in
+          let is : m.ranges ≡ n.ranges + ranges_in first = ap (λ (k : SelectorCounts). k.ranges) c.loop-arg.invariant.count in
           let front = args_may scope.head.now scope.inside history func (i + 1) es scope.time n.ranges Fits before may in
           let arg_may = second_may g.R.Ranges.keeps scope.inside scope.step history func more_first first (tree_of e) two n.ranges m.ranges scope.time is scope.head.now before between Fits Fits1 c.args.reads.now c.loop-arg.reads tt front (c.loop-arg.invariant.taken history func may) in
           two_taken_as g.R.Ranges.keeps scope.inside scope.step history func more_first first (tree_of e) two n.ranges m.ranges scope.time is before between after Fits1 Fits2 c.args.reads.now c.loop-arg.reads c.eval_at.new.reads tt c.in-Ok.value _
@@ -688,7 +688,7 @@ call::operands-returns-in-Err-clause-answer g t c =
     let Fits = g.R.Ranges.fits c.args.ranges.now history in
     let Fits1 = g.R.Ranges.fits c.loop-arg.ranges history in
     let Fits2 = g.R.Ranges.fits c.eval_at.new.ranges history in
-    let is : m.ranges ≡ n.ranges + ranges_in first = ap (λ (k : Counts). k.ranges) c.loop-arg.invariant.count in
+    let is : m.ranges ≡ n.ranges + ranges_in first = ap (λ (k : SelectorCounts). k.ranges) c.loop-arg.invariant.count in
     let front = args_may scope.head.now scope.inside history func (i + 1) es scope.time n.ranges Fits before may in
     let arg_may = second_may g.R.Ranges.keeps scope.inside scope.step history func more_first first (tree_of e) two n.ranges m.ranges scope.time is scope.head.now before between Fits Fits1 c.args.reads.now c.loop-arg.reads tt front (c.loop-arg.invariant.taken history func may) in
     operands_end scope.step history (i + 1) i es (tree_of e) scope.time c.loop-arg.given.items c.loop-arg.given.items c.in-Err.error next valued (c.loop-arg.invariant.answer history func may) (c.in-Err.ensures.answer history func arg_may)
@@ -714,7 +714,7 @@ call::operands-returns-in-Err-clause-taken g t c =
     let Fits = g.R.Ranges.fits c.args.ranges.now history in
     let Fits1 = g.R.Ranges.fits c.loop-arg.ranges history in
     let Fits2 = g.R.Ranges.fits c.eval_at.new.ranges history in
-    let is : m.ranges ≡ n.ranges + ranges_in first = ap (λ (k : Counts). k.ranges) c.loop-arg.invariant.count in
+    let is : m.ranges ≡ n.ranges + ranges_in first = ap (λ (k : SelectorCounts). k.ranges) c.loop-arg.invariant.count in
     let front = args_may scope.head.now scope.inside history func (i + 1) es scope.time n.ranges Fits before may in
     let arg_may = second_may g.R.Ranges.keeps scope.inside scope.step history func more_first first (tree_of e) two n.ranges m.ranges scope.time is scope.head.now before between Fits Fits1 c.args.reads.now c.loop-arg.reads tt front (c.loop-arg.invariant.taken history func may) in
     args_taken g.R.Ranges.keeps scope.inside scope.step history func (i + 1) es scope.time n.ranges before after Fits2 c.args.reads.now c.eval_at.new.reads c.in-Err.error
@@ -742,7 +742,7 @@ call::operands-returns-in_err-push_value-in-Ok-clause-taken g t c =
     let Fits = g.R.Ranges.fits c.args.ranges.now history in
     let Fits1 = g.R.Ranges.fits c.loop-arg.ranges history in
     let Fits2 = g.R.Ranges.fits c.eval_at.new.ranges history in
-    let is : m.ranges ≡ n.ranges + ranges_in first = ap (λ (k : Counts). k.ranges) c.loop-arg.invariant.count in
+    let is : m.ranges ≡ n.ranges + ranges_in first = ap (λ (k : SelectorCounts). k.ranges) c.loop-arg.invariant.count in
     let front = args_may scope.head.now scope.inside history func (i + 1) es scope.time n.ranges Fits before may in
     let arg_may = second_may g.R.Ranges.keeps scope.inside scope.step history func more_first first (tree_of e) two n.ranges m.ranges scope.time is scope.head.now before between Fits Fits1 c.args.reads.now c.loop-arg.reads tt front (c.loop-arg.invariant.taken history func may) in
     let memory : Result (Unit {0}) EvalError = Err error.Memory in
@@ -775,14 +775,14 @@ call::operands-returns-clause-taken g t c = λ history func may.
 
 pub evaluate::eval_at-unreachable-requires : goal.evaluate::eval_at-unreachable-requires
 evaluate::eval_at-unreachable-requires g t c =
-    range_unvalued (tree_of c.args.e.now) c.args.e.now.place c.in-Range.selector c.in-Range.span c.is_range.ensures.tree c.requires.valued
+    range_unvalued (tree_of c.args.e.now) c.args.e.now.place c.in-Range.selector c.in-Range.span c.lemma_is_range.ensures.tree c.requires.valued
 
 pub evaluate::eval_at-unreachable-requires-in-Sub : goal.evaluate::eval_at-unreachable-requires-in-Sub
 evaluate::eval_at-unreachable-requires-in-Sub g t c =
-    sub_unvalued (tree_of c.args.e.now) c.args.e.now.place _ _ _ _ c.is_sub.ensures.tree c.requires.valued
+    sub_unvalued (tree_of c.args.e.now) c.args.e.now.place _ _ _ _ c.lemma_is_sub.ensures.tree c.requires.valued
 
-pub call::operands-is_among-requires : goal.call::operands-is_among-requires
-call::operands-is_among-requires g t c = argument_smaller c.loop-arg.arg-index c.args.args.now c.arg-item.result c.loop-arg-test.true c.arg-item.is
+pub call::operands-lemma_is_among-requires : goal.call::operands-lemma_is_among-requires
+call::operands-lemma_is_among-requires g t c = argument_smaller c.loop-arg.arg-index c.args.args.now c.arg-item.result c.loop-arg-test.true c.arg-item.is
 
 pub range_call::prediction-returns-in-Ok-clause-answer : goal.range_call::prediction-returns-in-Ok-clause-answer
 range_call::prediction-returns-in-Ok-clause-answer g t c = λ history may.
@@ -793,13 +793,13 @@ range_call::prediction-returns-in-Ok-clause-answer g t c = λ history may.
     let Fits = g.R.Ranges.fits c.args.ranges.now history in
     let left = tree_of c.args.e.now in
     let right = tree_of c.args.scalar.now in
-    let two = c.are_pair.ensures.two in
+    let two = c.lemma_are_pair.ensures.two in
     let behind = n + ranges_in left in
     let left_meant = ranges scope.step history left scope.time in
     let right_meant = meaning scope.step history right scope.time in
-    let meant = ap (λ u. go_on (value_of_call history c.args.place PredictLinear u scope.time) (operands scope.step history u scope.time)) c.are_pair.ensures.args ∙ call_before scope.step history c.args.place left right scope.time c.requires.typed (scalar_valued right c.requires.scalar) in
+    let meant = ap (λ u. go_on (value_of_call history c.args.place PredictLinear u scope.time) (operands scope.step history u scope.time)) c.lemma_are_pair.ensures.args ∙ call_before scope.step history c.args.place left right scope.time c.requires.typed (scalar_valued right c.requires.scalar) in
     let m = c.behind_range.result.ranges in
-    let is : m ≡ behind = ap (λ (k : Counts). k.ranges) c.behind_range.ensures in
+    let is : m ≡ behind = ap (λ (k : SelectorCounts). k.ranges) c.behind_range.ensures in
     let right_may = second_may_begin g.R.Ranges.keeps scope.inside scope.step history Predict now left right two n m scope.time is scope.head.now before Fits may in
     let between = kept_by (g.R.Ranges.last c.eval_at.new.ranges) (g.R.Ranges.passed c.eval_at.new.ranges) in
     let Fits1 = g.R.Ranges.fits c.eval_at.new.ranges history in
@@ -820,13 +820,13 @@ range_call::prediction-returns-in-Ok-clause-taken g t c = λ history may.
     let Fits = g.R.Ranges.fits c.args.ranges.now history in
     let left = tree_of c.args.e.now in
     let right = tree_of c.args.scalar.now in
-    let two = c.are_pair.ensures.two in
+    let two = c.lemma_are_pair.ensures.two in
     let behind = n + ranges_in left in
     let left_meant = ranges scope.step history left scope.time in
     let right_meant = meaning scope.step history right scope.time in
-    let meant = ap (λ u. go_on (value_of_call history c.args.place PredictLinear u scope.time) (operands scope.step history u scope.time)) c.are_pair.ensures.args ∙ call_before scope.step history c.args.place left right scope.time c.requires.typed (scalar_valued right c.requires.scalar) in
+    let meant = ap (λ u. go_on (value_of_call history c.args.place PredictLinear u scope.time) (operands scope.step history u scope.time)) c.lemma_are_pair.ensures.args ∙ call_before scope.step history c.args.place left right scope.time c.requires.typed (scalar_valued right c.requires.scalar) in
     let m = c.behind_range.result.ranges in
-    let is : m ≡ behind = ap (λ (k : Counts). k.ranges) c.behind_range.ensures in
+    let is : m ≡ behind = ap (λ (k : SelectorCounts). k.ranges) c.behind_range.ensures in
     let right_may = second_may_begin g.R.Ranges.keeps scope.inside scope.step history Predict now left right two n m scope.time is scope.head.now before Fits may in
     let between = kept_by (g.R.Ranges.last c.eval_at.new.ranges) (g.R.Ranges.passed c.eval_at.new.ranges) in
     let Fits1 = g.R.Ranges.fits c.eval_at.new.ranges history in
@@ -847,17 +847,17 @@ range_call::prediction-returns-in-Err-clause-answer g t c = λ history may.
     let Fits = g.R.Ranges.fits c.args.ranges.now history in
     let left = tree_of c.args.e.now in
     let right = tree_of c.args.scalar.now in
-    let two = c.are_pair.ensures.two in
+    let two = c.lemma_are_pair.ensures.two in
     let behind = n + ranges_in left in
     let left_meant = ranges scope.step history left scope.time in
     let right_meant = meaning scope.step history right scope.time in
-    let meant = ap (λ u. go_on (value_of_call history c.args.place PredictLinear u scope.time) (operands scope.step history u scope.time)) c.are_pair.ensures.args ∙ call_before scope.step history c.args.place left right scope.time c.requires.typed (scalar_valued right c.requires.scalar) in
+    let meant = ap (λ u. go_on (value_of_call history c.args.place PredictLinear u scope.time) (operands scope.step history u scope.time)) c.lemma_are_pair.ensures.args ∙ call_before scope.step history c.args.place left right scope.time c.requires.typed (scalar_valued right c.requires.scalar) in
     let m = c.behind_range.result.ranges in
-    let is : m ≡ behind = ap (λ (k : Counts). k.ranges) c.behind_range.ensures in
+    let is : m ≡ behind = ap (λ (k : SelectorCounts). k.ranges) c.behind_range.ensures in
     let right_may = second_may_begin g.R.Ranges.keeps scope.inside scope.step history Predict now left right two n m scope.time is scope.head.now before Fits may in
     let between = kept_by (g.R.Ranges.last c.eval_at.new.ranges) (g.R.Ranges.passed c.eval_at.new.ranges) in
     let Fits1 = g.R.Ranges.fits c.eval_at.new.ranges history in
-    let chosen = ap (λ u. ranges scope.step history u scope.time) c.is_range.ensures.tree in
+    let chosen = ap (λ u. ranges scope.step history u scope.time) c.lemma_is_range.ensures.tree in
     subst (λ r. AnswersTo r (Err c.in-Err.error)) (sym meant)
     (scalar_ends c.args.place left_meant _ right_meant c.in-Err.error chosen (c.in-Err.ensures.answer history Predict right_may))
 
@@ -870,13 +870,13 @@ range_call::prediction-returns-in-Err-clause-taken g t c = λ history may.
     let Fits = g.R.Ranges.fits c.args.ranges.now history in
     let left = tree_of c.args.e.now in
     let right = tree_of c.args.scalar.now in
-    let two = c.are_pair.ensures.two in
+    let two = c.lemma_are_pair.ensures.two in
     let behind = n + ranges_in left in
     let left_meant = ranges scope.step history left scope.time in
     let right_meant = meaning scope.step history right scope.time in
-    let meant = ap (λ u. go_on (value_of_call history c.args.place PredictLinear u scope.time) (operands scope.step history u scope.time)) c.are_pair.ensures.args ∙ call_before scope.step history c.args.place left right scope.time c.requires.typed (scalar_valued right c.requires.scalar) in
+    let meant = ap (λ u. go_on (value_of_call history c.args.place PredictLinear u scope.time) (operands scope.step history u scope.time)) c.lemma_are_pair.ensures.args ∙ call_before scope.step history c.args.place left right scope.time c.requires.typed (scalar_valued right c.requires.scalar) in
     let m = c.behind_range.result.ranges in
-    let is : m ≡ behind = ap (λ (k : Counts). k.ranges) c.behind_range.ensures in
+    let is : m ≡ behind = ap (λ (k : SelectorCounts). k.ranges) c.behind_range.ensures in
     let right_may = second_may_begin g.R.Ranges.keeps scope.inside scope.step history Predict now left right two n m scope.time is scope.head.now before Fits may in
     let between = kept_by (g.R.Ranges.last c.eval_at.new.ranges) (g.R.Ranges.passed c.eval_at.new.ranges) in
     let Fits1 = g.R.Ranges.fits c.eval_at.new.ranges history in
@@ -891,11 +891,11 @@ range_call::prediction-returns-in-Err-series_of-clause-answer g t c = λ history
     let Fits = g.R.Ranges.fits c.args.ranges.now history in
     let left = tree_of c.args.e.now in
     let right = tree_of c.args.scalar.now in
-    let two = c.are_pair.ensures.two in
+    let two = c.lemma_are_pair.ensures.two in
     let behind = n + ranges_in left in
     let left_meant = ranges scope.step history left scope.time in
     let right_meant = meaning scope.step history right scope.time in
-    let meant = ap (λ u. go_on (value_of_call history c.args.place PredictLinear u scope.time) (operands scope.step history u scope.time)) c.are_pair.ensures.args ∙ call_before scope.step history c.args.place left right scope.time c.requires.typed (scalar_valued right c.requires.scalar) in
+    let meant = ap (λ u. go_on (value_of_call history c.args.place PredictLinear u scope.time) (operands scope.step history u scope.time)) c.lemma_are_pair.ensures.args ∙ call_before scope.step history c.args.place left right scope.time c.requires.typed (scalar_valued right c.requires.scalar) in
     let left_may = first_may g.R.Ranges.keeps scope.inside scope.step history Predict now left right two n behind scope.time refl scope.head.now before Fits may in
     let between = kept_by (g.R.Ranges.last c.series_of.new.ranges) (g.R.Ranges.passed c.series_of.new.ranges) in
     let Fits1 = g.R.Ranges.fits c.series_of.new.ranges history in
@@ -911,11 +911,11 @@ range_call::prediction-returns-in-Err-series_of-clause-taken g t c = λ history 
     let Fits = g.R.Ranges.fits c.args.ranges.now history in
     let left = tree_of c.args.e.now in
     let right = tree_of c.args.scalar.now in
-    let two = c.are_pair.ensures.two in
+    let two = c.lemma_are_pair.ensures.two in
     let behind = n + ranges_in left in
     let left_meant = ranges scope.step history left scope.time in
     let right_meant = meaning scope.step history right scope.time in
-    let meant = ap (λ u. go_on (value_of_call history c.args.place PredictLinear u scope.time) (operands scope.step history u scope.time)) c.are_pair.ensures.args ∙ call_before scope.step history c.args.place left right scope.time c.requires.typed (scalar_valued right c.requires.scalar) in
+    let meant = ap (λ u. go_on (value_of_call history c.args.place PredictLinear u scope.time) (operands scope.step history u scope.time)) c.lemma_are_pair.ensures.args ∙ call_before scope.step history c.args.place left right scope.time c.requires.typed (scalar_valued right c.requires.scalar) in
     let left_may = first_may g.R.Ranges.keeps scope.inside scope.step history Predict now left right two n behind scope.time refl scope.head.now before Fits may in
     let between = kept_by (g.R.Ranges.last c.series_of.new.ranges) (g.R.Ranges.passed c.series_of.new.ranges) in
     let Fits1 = g.R.Ranges.fits c.series_of.new.ranges history in
@@ -930,16 +930,16 @@ range_call::prediction-returns-in-Err-eval_at-clause-answer g t c = λ history m
     let Fits = g.R.Ranges.fits c.args.ranges.now history in
     let left = tree_of c.args.e.now in
     let right = tree_of c.args.scalar.now in
-    let two = c.are_pair.ensures.two in
+    let two = c.lemma_are_pair.ensures.two in
     let behind = n + ranges_in left in
     let left_meant = ranges scope.step history left scope.time in
     let right_meant = meaning scope.step history right scope.time in
-    let meant = ap (λ u. go_on (value_of_call history c.args.place PredictLinear u scope.time) (operands scope.step history u scope.time)) c.are_pair.ensures.args ∙ call_before scope.step history c.args.place left right scope.time c.requires.typed (scalar_valued right c.requires.scalar) in
+    let meant = ap (λ u. go_on (value_of_call history c.args.place PredictLinear u scope.time) (operands scope.step history u scope.time)) c.lemma_are_pair.ensures.args ∙ call_before scope.step history c.args.place left right scope.time c.requires.typed (scalar_valued right c.requires.scalar) in
     let left_may = first_may g.R.Ranges.keeps scope.inside scope.step history Predict now left right two n behind scope.time refl scope.head.now before Fits may in
     let between = kept_by (g.R.Ranges.last c.series_of.new.ranges) (g.R.Ranges.passed c.series_of.new.ranges) in
     let Fits1 = g.R.Ranges.fits c.series_of.new.ranges history in
     let m = c.series_of.new.number.ranges in
-    let is : m ≡ behind = ap (λ (k : Counts). k.ranges) c.in-Ok-series_of.ensures.count in
+    let is : m ≡ behind = ap (λ (k : SelectorCounts). k.ranges) c.in-Ok-series_of.ensures.count in
     let first = c.in-Ok-series_of.ensures.taken history Predict left_may in
     let series = c.in-Ok-series_of.ensures.answer history Predict left_may in
     let right_may = second_may g.R.Ranges.keeps scope.inside scope.step history Predict now left right two n m scope.time is scope.head.now before between Fits Fits1 c.args.reads.now c.series_of.new.reads c.in-Ok-series_of.series may first in
@@ -958,16 +958,16 @@ range_call::prediction-returns-in-Err-eval_at-clause-taken g t c = λ history ma
     let Fits = g.R.Ranges.fits c.args.ranges.now history in
     let left = tree_of c.args.e.now in
     let right = tree_of c.args.scalar.now in
-    let two = c.are_pair.ensures.two in
+    let two = c.lemma_are_pair.ensures.two in
     let behind = n + ranges_in left in
     let left_meant = ranges scope.step history left scope.time in
     let right_meant = meaning scope.step history right scope.time in
-    let meant = ap (λ u. go_on (value_of_call history c.args.place PredictLinear u scope.time) (operands scope.step history u scope.time)) c.are_pair.ensures.args ∙ call_before scope.step history c.args.place left right scope.time c.requires.typed (scalar_valued right c.requires.scalar) in
+    let meant = ap (λ u. go_on (value_of_call history c.args.place PredictLinear u scope.time) (operands scope.step history u scope.time)) c.lemma_are_pair.ensures.args ∙ call_before scope.step history c.args.place left right scope.time c.requires.typed (scalar_valued right c.requires.scalar) in
     let left_may = first_may g.R.Ranges.keeps scope.inside scope.step history Predict now left right two n behind scope.time refl scope.head.now before Fits may in
     let between = kept_by (g.R.Ranges.last c.series_of.new.ranges) (g.R.Ranges.passed c.series_of.new.ranges) in
     let Fits1 = g.R.Ranges.fits c.series_of.new.ranges history in
     let m = c.series_of.new.number.ranges in
-    let is : m ≡ behind = ap (λ (k : Counts). k.ranges) c.in-Ok-series_of.ensures.count in
+    let is : m ≡ behind = ap (λ (k : SelectorCounts). k.ranges) c.in-Ok-series_of.ensures.count in
     let first = c.in-Ok-series_of.ensures.taken history Predict left_may in
     let series = c.in-Ok-series_of.ensures.answer history Predict left_may in
     let right_may = second_may g.R.Ranges.keeps scope.inside scope.step history Predict now left right two n m scope.time is scope.head.now before between Fits Fits1 c.args.reads.now c.series_of.new.reads c.in-Ok-series_of.series may first in
@@ -984,16 +984,16 @@ range_call::prediction-returns-in-Ok-eval_at-clause-answer g t c = λ history ma
     let Fits = g.R.Ranges.fits c.args.ranges.now history in
     let left = tree_of c.args.e.now in
     let right = tree_of c.args.scalar.now in
-    let two = c.are_pair.ensures.two in
+    let two = c.lemma_are_pair.ensures.two in
     let behind = n + ranges_in left in
     let left_meant = ranges scope.step history left scope.time in
     let right_meant = meaning scope.step history right scope.time in
-    let meant = ap (λ u. go_on (value_of_call history c.args.place PredictLinear u scope.time) (operands scope.step history u scope.time)) c.are_pair.ensures.args ∙ call_before scope.step history c.args.place left right scope.time c.requires.typed (scalar_valued right c.requires.scalar) in
+    let meant = ap (λ u. go_on (value_of_call history c.args.place PredictLinear u scope.time) (operands scope.step history u scope.time)) c.lemma_are_pair.ensures.args ∙ call_before scope.step history c.args.place left right scope.time c.requires.typed (scalar_valued right c.requires.scalar) in
     let left_may = first_may g.R.Ranges.keeps scope.inside scope.step history Predict now left right two n behind scope.time refl scope.head.now before Fits may in
     let between = kept_by (g.R.Ranges.last c.series_of.new.ranges) (g.R.Ranges.passed c.series_of.new.ranges) in
     let Fits1 = g.R.Ranges.fits c.series_of.new.ranges history in
     let m = c.series_of.new.number.ranges in
-    let is : m ≡ behind = ap (λ (k : Counts). k.ranges) c.in-Ok-series_of.ensures.count in
+    let is : m ≡ behind = ap (λ (k : SelectorCounts). k.ranges) c.in-Ok-series_of.ensures.count in
     let first = c.in-Ok-series_of.ensures.taken history Predict left_may in
     let series = c.in-Ok-series_of.ensures.answer history Predict left_may in
     let right_may = second_may g.R.Ranges.keeps scope.inside scope.step history Predict now left right two n m scope.time is scope.head.now before between Fits Fits1 c.args.reads.now c.series_of.new.reads c.in-Ok-series_of.series may first in
@@ -1012,16 +1012,16 @@ range_call::prediction-returns-in-Ok-eval_at-clause-taken g t c = λ history may
     let Fits = g.R.Ranges.fits c.args.ranges.now history in
     let left = tree_of c.args.e.now in
     let right = tree_of c.args.scalar.now in
-    let two = c.are_pair.ensures.two in
+    let two = c.lemma_are_pair.ensures.two in
     let behind = n + ranges_in left in
     let left_meant = ranges scope.step history left scope.time in
     let right_meant = meaning scope.step history right scope.time in
-    let meant = ap (λ u. go_on (value_of_call history c.args.place PredictLinear u scope.time) (operands scope.step history u scope.time)) c.are_pair.ensures.args ∙ call_before scope.step history c.args.place left right scope.time c.requires.typed (scalar_valued right c.requires.scalar) in
+    let meant = ap (λ u. go_on (value_of_call history c.args.place PredictLinear u scope.time) (operands scope.step history u scope.time)) c.lemma_are_pair.ensures.args ∙ call_before scope.step history c.args.place left right scope.time c.requires.typed (scalar_valued right c.requires.scalar) in
     let left_may = first_may g.R.Ranges.keeps scope.inside scope.step history Predict now left right two n behind scope.time refl scope.head.now before Fits may in
     let between = kept_by (g.R.Ranges.last c.series_of.new.ranges) (g.R.Ranges.passed c.series_of.new.ranges) in
     let Fits1 = g.R.Ranges.fits c.series_of.new.ranges history in
     let m = c.series_of.new.number.ranges in
-    let is : m ≡ behind = ap (λ (k : Counts). k.ranges) c.in-Ok-series_of.ensures.count in
+    let is : m ≡ behind = ap (λ (k : SelectorCounts). k.ranges) c.in-Ok-series_of.ensures.count in
     let first = c.in-Ok-series_of.ensures.taken history Predict left_may in
     let series = c.in-Ok-series_of.ensures.answer history Predict left_may in
     let right_may = second_may g.R.Ranges.keeps scope.inside scope.step history Predict now left right two n m scope.time is scope.head.now before between Fits Fits1 c.args.reads.now c.series_of.new.reads c.in-Ok-series_of.series may first in
@@ -1038,17 +1038,17 @@ range_call::range_call-returns-in_ok-made-in-Alone-clause-answer g t c = λ hist
     let Fits = g.R.Ranges.fits c.args.ranges.now history in
     let ts = trees_of c.args.args.now in
     let f = c.args.func in
-    let args_may = part_may g.R.Ranges.keeps scope.inside scope.step history func now ts [] (λ h. asked_for f) c.is_range_call.ensures.one n scope.time scope.head.now before Fits may in
+    let args_may = part_may g.R.Ranges.keeps scope.inside scope.step history func now ts [] (λ h. asked_for f) c.lemma_is_range_call.ensures.one n scope.time scope.head.now before Fits may in
     let range = c.in-Alone.range.now in
     let t = tree_of range in
     let known = c.in-Alone.ensures in
     let made_is = c.in_ok-made-in-Alone.ensures in
     let func_is = ap (λ u. (call_in u).func) made_is ∙ use_func c.args.e.now.place f ts c.requires.range in
-    let range_may = part_may g.R.Ranges.keeps scope.inside scope.step history (asked_for f) ts t [] (λ h. h) c.is_alone.ensures.one n scope.time scope.head.now before Fits args_may in
+    let range_may = part_may g.R.Ranges.keeps scope.inside scope.step history (asked_for f) ts t [] (λ h. h) c.lemma_is_alone.ensures.one n scope.time scope.head.now before Fits args_may in
     let over_may = subst (λ q. MayTake scope.head.now scope.inside history q t scope.time n Fits before.last) (sym func_is) range_may in
     let after = kept_by (g.R.Ranges.last c.over_range.new.ranges) (g.R.Ranges.passed c.over_range.new.ranges) in
     let Fits' = g.R.Ranges.fits c.over_range.new.ranges history in
-    let meant = ap (λ u. meaning scope.step history u scope.time) (c.is_range_call.ensures.tree ∙ ap (call c.args.e.now.place f) known.0) ∙ call_alone scope.step history c.args.e.now.place f t scope.time c.requires.range known.1.1 known.1.0 in
+    let meant = ap (λ u. meaning scope.step history u scope.time) (c.lemma_is_range_call.ensures.tree ∙ ap (call c.args.e.now.place f) known.0) ∙ call_alone scope.step history c.args.e.now.place f t scope.time c.requires.range known.1.1 known.1.0 in
     let made = made_is ∙ ap (use_alone c.args.e.now.place f) known.0 in
     subst (λ m. AnswersTo m c.over_range.result) (sym (meant ∙ ap (λ u. go_on (made_of u) (ranges scope.step history t scope.time)) (sym made))) (c.over_range.ensures.answer history over_may)
 
@@ -1061,18 +1061,18 @@ range_call::range_call-returns-in_ok-made-in-Alone-clause-taken g t c = λ histo
     let Fits = g.R.Ranges.fits c.args.ranges.now history in
     let ts = trees_of c.args.args.now in
     let f = c.args.func in
-    let args_may = part_may g.R.Ranges.keeps scope.inside scope.step history func now ts [] (λ h. asked_for f) c.is_range_call.ensures.one n scope.time scope.head.now before Fits may in
+    let args_may = part_may g.R.Ranges.keeps scope.inside scope.step history func now ts [] (λ h. asked_for f) c.lemma_is_range_call.ensures.one n scope.time scope.head.now before Fits may in
     let range = c.in-Alone.range.now in
     let t = tree_of range in
     let known = c.in-Alone.ensures in
     let made_is = c.in_ok-made-in-Alone.ensures in
     let func_is = ap (λ u. (call_in u).func) made_is ∙ use_func c.args.e.now.place f ts c.requires.range in
-    let range_may = part_may g.R.Ranges.keeps scope.inside scope.step history (asked_for f) ts t [] (λ h. h) c.is_alone.ensures.one n scope.time scope.head.now before Fits args_may in
+    let range_may = part_may g.R.Ranges.keeps scope.inside scope.step history (asked_for f) ts t [] (λ h. h) c.lemma_is_alone.ensures.one n scope.time scope.head.now before Fits args_may in
     let over_may = subst (λ q. MayTake scope.head.now scope.inside history q t scope.time n Fits before.last) (sym func_is) range_may in
     let after = kept_by (g.R.Ranges.last c.over_range.new.ranges) (g.R.Ranges.passed c.over_range.new.ranges) in
     let Fits' = g.R.Ranges.fits c.over_range.new.ranges history in
-    part_taken g.R.Ranges.keeps scope.inside scope.step history func now ts [] (λ h. asked_for f) c.is_range_call.ensures.one n scope.time before after Fits' c.args.reads.now c.over_range.new.reads c.over_range.result
-    (part_taken g.R.Ranges.keeps scope.inside scope.step history (asked_for f) ts t [] (λ h. h) c.is_alone.ensures.one n scope.time before after Fits' c.args.reads.now c.over_range.new.reads c.over_range.result
+    part_taken g.R.Ranges.keeps scope.inside scope.step history func now ts [] (λ h. asked_for f) c.lemma_is_range_call.ensures.one n scope.time before after Fits' c.args.reads.now c.over_range.new.reads c.over_range.result
+    (part_taken g.R.Ranges.keeps scope.inside scope.step history (asked_for f) ts t [] (λ h. h) c.lemma_is_alone.ensures.one n scope.time before after Fits' c.args.reads.now c.over_range.new.reads c.over_range.result
     (subst (λ q. IsEvaluated g.R.Ranges.keeps scope.inside scope.step history q t scope.time n before after Fits' c.args.reads.now c.over_range.new.reads c.over_range.result) func_is (c.over_range.ensures.taken history over_may)))
 
 pub range_call::range_call-returns-in-Err-clause-answer : goal.range_call::range_call-returns-in-Err-clause-answer
@@ -1084,17 +1084,17 @@ range_call::range_call-returns-in-Err-clause-answer g t c = λ history func may.
     let Fits = g.R.Ranges.fits c.args.ranges.now history in
     let ts = trees_of c.args.args.now in
     let f = c.args.func in
-    let args_may = part_may g.R.Ranges.keeps scope.inside scope.step history func now ts [] (λ h. asked_for f) c.is_range_call.ensures.one n scope.time scope.head.now before Fits may in
+    let args_may = part_may g.R.Ranges.keeps scope.inside scope.step history func now ts [] (λ h. asked_for f) c.lemma_is_range_call.ensures.one n scope.time scope.head.now before Fits may in
     let known = c.in-Behind.ensures in
     let left = tree_of c.in-Behind.scalar.now in
     let t = tree_of c.in-Behind.range.now in
-    let two = c.are_pair.ensures.two in
+    let two = c.lemma_are_pair.ensures.two in
     let left_meant = meaning scope.step history left scope.time in
     let right_meant = ranges scope.step history t scope.time in
     let left_may = first_may g.R.Ranges.keeps scope.inside scope.step history (asked_for f) ts left t two n (n + ranges_in left) scope.time refl scope.head.now before Fits args_may in
     let between = kept_by (g.R.Ranges.last c.eval_at.new.ranges) (g.R.Ranges.passed c.eval_at.new.ranges) in
     let Fits1 = g.R.Ranges.fits c.eval_at.new.ranges history in
-    let meant = ap (λ u. meaning scope.step history u scope.time) (c.is_range_call.ensures.tree ∙ (λ i. call c.args.e.now.place (known.0 i) (known.1.0 i))) ∙ call_behind scope.step history c.args.e.now.place left t scope.time (scalar_valued left known.1.1.0) known.1.1.1 in
+    let meant = ap (λ u. meaning scope.step history u scope.time) (c.lemma_is_range_call.ensures.tree ∙ (λ i. call c.args.e.now.place (known.0 i) (known.1.0 i))) ∙ call_behind scope.step history c.args.e.now.place left t scope.time (scalar_valued left known.1.1.0) known.1.1.1 in
     subst (λ m. AnswersTo m (Err c.in-Err.error)) (sym meant)
     (ends (λ v. go_on (made_of (quantile_by c.args.e.now.place v)) right_meant) left_meant c.in-Err.error (c.in-Err.ensures.answer history (asked_for f) left_may))
 
@@ -1107,18 +1107,18 @@ range_call::range_call-returns-in-Err-clause-taken g t c = λ history func may.
     let Fits = g.R.Ranges.fits c.args.ranges.now history in
     let ts = trees_of c.args.args.now in
     let f = c.args.func in
-    let args_may = part_may g.R.Ranges.keeps scope.inside scope.step history func now ts [] (λ h. asked_for f) c.is_range_call.ensures.one n scope.time scope.head.now before Fits may in
+    let args_may = part_may g.R.Ranges.keeps scope.inside scope.step history func now ts [] (λ h. asked_for f) c.lemma_is_range_call.ensures.one n scope.time scope.head.now before Fits may in
     let known = c.in-Behind.ensures in
     let left = tree_of c.in-Behind.scalar.now in
     let t = tree_of c.in-Behind.range.now in
-    let two = c.are_pair.ensures.two in
+    let two = c.lemma_are_pair.ensures.two in
     let left_meant = meaning scope.step history left scope.time in
     let right_meant = ranges scope.step history t scope.time in
     let left_may = first_may g.R.Ranges.keeps scope.inside scope.step history (asked_for f) ts left t two n (n + ranges_in left) scope.time refl scope.head.now before Fits args_may in
     let between = kept_by (g.R.Ranges.last c.eval_at.new.ranges) (g.R.Ranges.passed c.eval_at.new.ranges) in
     let Fits1 = g.R.Ranges.fits c.eval_at.new.ranges history in
-    let meant = ap (λ u. meaning scope.step history u scope.time) (c.is_range_call.ensures.tree ∙ (λ i. call c.args.e.now.place (known.0 i) (known.1.0 i))) ∙ call_behind scope.step history c.args.e.now.place left t scope.time (scalar_valued left known.1.1.0) known.1.1.1 in
-    part_taken g.R.Ranges.keeps scope.inside scope.step history func now ts [] (λ h. asked_for f) c.is_range_call.ensures.one n scope.time before between Fits1 c.args.reads.now c.eval_at.new.reads (Err c.in-Err.error)
+    let meant = ap (λ u. meaning scope.step history u scope.time) (c.lemma_is_range_call.ensures.tree ∙ (λ i. call c.args.e.now.place (known.0 i) (known.1.0 i))) ∙ call_behind scope.step history c.args.e.now.place left t scope.time (scalar_valued left known.1.1.0) known.1.1.1 in
+    part_taken g.R.Ranges.keeps scope.inside scope.step history func now ts [] (λ h. asked_for f) c.lemma_is_range_call.ensures.one n scope.time before between Fits1 c.args.reads.now c.eval_at.new.reads (Err c.in-Err.error)
     (one_taken g.R.Ranges.keeps scope.inside scope.step history (asked_for f) ts left t two n (n + ranges_in left) scope.time refl before between Fits1 c.args.reads.now c.eval_at.new.reads c.in-Err.error (c.in-Err.ensures.taken history (asked_for f) left_may))
 
 pub range_call::range_call-returns-in-Ok-clause-answer : goal.range_call::range_call-returns-in-Ok-clause-answer
@@ -1130,19 +1130,19 @@ range_call::range_call-returns-in-Ok-clause-answer g t c = λ history func may.
     let Fits = g.R.Ranges.fits c.args.ranges.now history in
     let ts = trees_of c.args.args.now in
     let f = c.args.func in
-    let args_may = part_may g.R.Ranges.keeps scope.inside scope.step history func now ts [] (λ h. asked_for f) c.is_range_call.ensures.one n scope.time scope.head.now before Fits may in
+    let args_may = part_may g.R.Ranges.keeps scope.inside scope.step history func now ts [] (λ h. asked_for f) c.lemma_is_range_call.ensures.one n scope.time scope.head.now before Fits may in
     let known = c.in-Behind.ensures in
     let left = tree_of c.in-Behind.scalar.now in
     let t = tree_of c.in-Behind.range.now in
-    let two = c.are_pair.ensures.two in
+    let two = c.lemma_are_pair.ensures.two in
     let left_meant = meaning scope.step history left scope.time in
     let right_meant = ranges scope.step history t scope.time in
     let left_may = first_may g.R.Ranges.keeps scope.inside scope.step history (asked_for f) ts left t two n (n + ranges_in left) scope.time refl scope.head.now before Fits args_may in
     let between = kept_by (g.R.Ranges.last c.eval_at.new.ranges) (g.R.Ranges.passed c.eval_at.new.ranges) in
     let Fits1 = g.R.Ranges.fits c.eval_at.new.ranges history in
-    let meant = ap (λ u. meaning scope.step history u scope.time) (c.is_range_call.ensures.tree ∙ (λ i. call c.args.e.now.place (known.0 i) (known.1.0 i))) ∙ call_behind scope.step history c.args.e.now.place left t scope.time (scalar_valued left known.1.1.0) known.1.1.1 in
+    let meant = ap (λ u. meaning scope.step history u scope.time) (c.lemma_is_range_call.ensures.tree ∙ (λ i. call c.args.e.now.place (known.0 i) (known.1.0 i))) ∙ call_behind scope.step history c.args.e.now.place left t scope.time (scalar_valued left known.1.1.0) known.1.1.1 in
     let m = c.eval_at.new.number.ranges in
-    let is : m ≡ n + ranges_in left = ap (λ (k : Counts). k.ranges) c.in-Ok.ensures.count in
+    let is : m ≡ n + ranges_in left = ap (λ (k : SelectorCounts). k.ranges) c.in-Ok.ensures.count in
     let first = c.in-Ok.ensures.taken history (asked_for f) left_may in
     let range_may = second_may g.R.Ranges.keeps scope.inside scope.step history (asked_for f) ts left t two n m scope.time is scope.head.now before between Fits Fits1 c.args.reads.now c.eval_at.new.reads c.in-Ok.value args_may first in
     let func_is = ap (λ u. (call_in u).func) c.quantile_by-made.ensures ∙ sym (ap asked_for known.0) in
@@ -1162,26 +1162,26 @@ range_call::range_call-returns-in-Ok-clause-taken g t c = λ history func may.
     let Fits = g.R.Ranges.fits c.args.ranges.now history in
     let ts = trees_of c.args.args.now in
     let f = c.args.func in
-    let args_may = part_may g.R.Ranges.keeps scope.inside scope.step history func now ts [] (λ h. asked_for f) c.is_range_call.ensures.one n scope.time scope.head.now before Fits may in
+    let args_may = part_may g.R.Ranges.keeps scope.inside scope.step history func now ts [] (λ h. asked_for f) c.lemma_is_range_call.ensures.one n scope.time scope.head.now before Fits may in
     let known = c.in-Behind.ensures in
     let left = tree_of c.in-Behind.scalar.now in
     let t = tree_of c.in-Behind.range.now in
-    let two = c.are_pair.ensures.two in
+    let two = c.lemma_are_pair.ensures.two in
     let left_meant = meaning scope.step history left scope.time in
     let right_meant = ranges scope.step history t scope.time in
     let left_may = first_may g.R.Ranges.keeps scope.inside scope.step history (asked_for f) ts left t two n (n + ranges_in left) scope.time refl scope.head.now before Fits args_may in
     let between = kept_by (g.R.Ranges.last c.eval_at.new.ranges) (g.R.Ranges.passed c.eval_at.new.ranges) in
     let Fits1 = g.R.Ranges.fits c.eval_at.new.ranges history in
-    let meant = ap (λ u. meaning scope.step history u scope.time) (c.is_range_call.ensures.tree ∙ (λ i. call c.args.e.now.place (known.0 i) (known.1.0 i))) ∙ call_behind scope.step history c.args.e.now.place left t scope.time (scalar_valued left known.1.1.0) known.1.1.1 in
+    let meant = ap (λ u. meaning scope.step history u scope.time) (c.lemma_is_range_call.ensures.tree ∙ (λ i. call c.args.e.now.place (known.0 i) (known.1.0 i))) ∙ call_behind scope.step history c.args.e.now.place left t scope.time (scalar_valued left known.1.1.0) known.1.1.1 in
     let m = c.eval_at.new.number.ranges in
-    let is : m ≡ n + ranges_in left = ap (λ (k : Counts). k.ranges) c.in-Ok.ensures.count in
+    let is : m ≡ n + ranges_in left = ap (λ (k : SelectorCounts). k.ranges) c.in-Ok.ensures.count in
     let first = c.in-Ok.ensures.taken history (asked_for f) left_may in
     let range_may = second_may g.R.Ranges.keeps scope.inside scope.step history (asked_for f) ts left t two n m scope.time is scope.head.now before between Fits Fits1 c.args.reads.now c.eval_at.new.reads c.in-Ok.value args_may first in
     let func_is = ap (λ u. (call_in u).func) c.quantile_by-made.ensures ∙ sym (ap asked_for known.0) in
     let over_may = subst (λ q. MayTake scope.head.now scope.inside history q t scope.time m Fits1 between.last) (sym func_is) range_may in
     let last = kept_by (g.R.Ranges.last c.over_range-in-Ok.new.ranges) (g.R.Ranges.passed c.over_range-in-Ok.new.ranges) in
     let Fits2 = g.R.Ranges.fits c.over_range-in-Ok.new.ranges history in
-    part_taken g.R.Ranges.keeps scope.inside scope.step history func now ts [] (λ h. asked_for f) c.is_range_call.ensures.one n scope.time before last Fits2 c.args.reads.now c.over_range-in-Ok.new.reads c.over_range-in-Ok.result
+    part_taken g.R.Ranges.keeps scope.inside scope.step history func now ts [] (λ h. asked_for f) c.lemma_is_range_call.ensures.one n scope.time before last Fits2 c.args.reads.now c.over_range-in-Ok.new.reads c.over_range-in-Ok.result
     (two_taken g.R.Ranges.keeps scope.inside scope.step history (asked_for f) ts left t two n m scope.time is before between last Fits1 Fits2 c.args.reads.now c.eval_at.new.reads c.over_range-in-Ok.new.reads c.in-Ok.value c.over_range-in-Ok.result first
     (subst (λ q. IsEvaluated g.R.Ranges.keeps scope.inside scope.step history q t scope.time m between last Fits2 c.eval_at.new.reads c.over_range-in-Ok.new.reads c.over_range-in-Ok.result) func_is (c.over_range-in-Ok.ensures.taken history over_may)))
 
@@ -1194,13 +1194,13 @@ range_call::range_call-returns-in-Before-clause-answer g t c = λ history func m
     let Fits = g.R.Ranges.fits c.args.ranges.now history in
     let ts = trees_of c.args.args.now in
     let f = c.args.func in
-    let args_may = part_may g.R.Ranges.keeps scope.inside scope.step history func now ts [] (λ h. asked_for f) c.is_range_call.ensures.one n scope.time scope.head.now before Fits may in
+    let args_may = part_may g.R.Ranges.keeps scope.inside scope.step history func now ts [] (λ h. asked_for f) c.lemma_is_range_call.ensures.one n scope.time scope.head.now before Fits may in
     let known = c.in-Before.ensures in
     let func_is = ap asked_for known.0 in
     let over_may = subst (λ q. MayTake scope.head.now scope.inside history q ts scope.time n Fits before.last) func_is args_may in
     let after = kept_by (g.R.Ranges.last c.prediction.new.ranges) (g.R.Ranges.passed c.prediction.new.ranges) in
     let Fits' = g.R.Ranges.fits c.prediction.new.ranges history in
-    subst (λ u. AnswersTo (meaning scope.step history u scope.time) c.prediction.result) (sym (c.is_range_call.ensures.tree ∙ ap (λ g. call c.args.e.now.place g ts) known.0)) (c.prediction.ensures.answer history over_may)
+    subst (λ u. AnswersTo (meaning scope.step history u scope.time) c.prediction.result) (sym (c.lemma_is_range_call.ensures.tree ∙ ap (λ g. call c.args.e.now.place g ts) known.0)) (c.prediction.ensures.answer history over_may)
 
 pub range_call::over_range-returns-in-Ok-clause-answer : goal.range_call::over_range-returns-in-Ok-clause-answer
 range_call::over_range-returns-in-Ok-clause-answer g t c = λ history may.
@@ -1232,45 +1232,45 @@ range_call::over_range-returns-in-Err-clause-taken g t c = λ history may.
     took_fault g.R.Ranges.keeps history _ n _ before (kept_by (g.R.Ranges.last c.series_of.new.ranges) (g.R.Ranges.passed c.series_of.new.ranges)) (g.R.Ranges.fits c.series_of.new.ranges history) c.args.reads.now c.series_of.new.reads c.in-Err.error
     (c.in-Err.ensures.taken history (call_in c.args.made.now).func may)
 
-pub range_call::prediction-stands_at-requires : goal.range_call::prediction-stands_at-requires
-range_call::prediction-stands_at-requires g t c =
-    c.are_pair.ensures.first_part (tree_of c.args.scope.now.checked.now) c.args.number.now c.requires.part
+pub range_call::prediction-lemma_stands_at-requires : goal.range_call::prediction-lemma_stands_at-requires
+range_call::prediction-lemma_stands_at-requires g t c =
+    c.lemma_are_pair.ensures.first_part (tree_of c.args.scope.now.checked.now) c.args.number.now c.requires.part
 
-pub range_call::prediction-arg_stands_at-requires-clause-part : goal.range_call::prediction-arg_stands_at-requires-clause-part
-range_call::prediction-arg_stands_at-requires-clause-part g t c =
-    c.are_pair.ensures.second_part (tree_of c.args.scope.now.checked.now) c.args.number.now c.behind_range.result c.behind_range.ensures c.requires.part
+pub range_call::prediction-lemma_arg_stands_at-requires-clause-part : goal.range_call::prediction-lemma_arg_stands_at-requires-clause-part
+range_call::prediction-lemma_arg_stands_at-requires-clause-part g t c =
+    c.lemma_are_pair.ensures.second_part (tree_of c.args.scope.now.checked.now) c.args.number.now c.behind_range.result c.behind_range.ensures c.requires.part
 
-pub range_call::prediction-arg_stands_at-requires-clause-valued : goal.range_call::prediction-arg_stands_at-requires-clause-valued
-range_call::prediction-arg_stands_at-requires-clause-valued g t c =
+pub range_call::prediction-lemma_arg_stands_at-requires-clause-valued : goal.range_call::prediction-lemma_arg_stands_at-requires-clause-valued
+range_call::prediction-lemma_arg_stands_at-requires-clause-valued g t c =
     scalar_valued (tree_of c.args.scalar.now) c.requires.scalar
 
-pub range_call::prediction-arg_stands_at-requires-in-Ok-series_of-clause-part : goal.range_call::prediction-arg_stands_at-requires-in-Ok-series_of-clause-part
-range_call::prediction-arg_stands_at-requires-in-Ok-series_of-clause-part g t c =
-    c.are_pair.ensures.second_part (tree_of c.args.scope.now.checked.now) c.args.number.now c.series_of.new.number c.in-Ok-series_of.ensures.count c.requires.part
+pub range_call::prediction-lemma_arg_stands_at-requires-in-Ok-series_of-clause-part : goal.range_call::prediction-lemma_arg_stands_at-requires-in-Ok-series_of-clause-part
+range_call::prediction-lemma_arg_stands_at-requires-in-Ok-series_of-clause-part g t c =
+    c.lemma_are_pair.ensures.second_part (tree_of c.args.scope.now.checked.now) c.args.number.now c.series_of.new.number c.in-Ok-series_of.ensures.count c.requires.part
 
-pub range_call::prediction-arg_stands_at-requires-in-Ok-series_of-clause-valued : goal.range_call::prediction-arg_stands_at-requires-in-Ok-series_of-clause-valued
-range_call::prediction-arg_stands_at-requires-in-Ok-series_of-clause-valued g t c =
+pub range_call::prediction-lemma_arg_stands_at-requires-in-Ok-series_of-clause-valued : goal.range_call::prediction-lemma_arg_stands_at-requires-in-Ok-series_of-clause-valued
+range_call::prediction-lemma_arg_stands_at-requires-in-Ok-series_of-clause-valued g t c =
     scalar_valued (tree_of c.args.scalar.now) c.requires.scalar
 
-pub range_call::range_call-stands_at-requires : goal.range_call::range_call-stands_at-requires
-range_call::range_call-stands_at-requires g t c =
-    c.is_alone.ensures.part (tree_of c.args.scope.now.checked.now) c.args.number.now (c.is_range_call.ensures.part (tree_of c.args.scope.now.checked.now) c.args.number.now c.requires.part)
+pub range_call::range_call-lemma_stands_at-requires : goal.range_call::range_call-lemma_stands_at-requires
+range_call::range_call-lemma_stands_at-requires g t c =
+    c.lemma_is_alone.ensures.part (tree_of c.args.scope.now.checked.now) c.args.number.now (c.lemma_is_range_call.ensures.part (tree_of c.args.scope.now.checked.now) c.args.number.now c.requires.part)
 
-pub range_call::range_call-arg_stands_at-requires-clause-part : goal.range_call::range_call-arg_stands_at-requires-clause-part
-range_call::range_call-arg_stands_at-requires-clause-part g t c =
-    c.are_pair.ensures.first_part (tree_of c.args.scope.now.checked.now) c.args.number.now (c.is_range_call.ensures.part (tree_of c.args.scope.now.checked.now) c.args.number.now c.requires.part)
+pub range_call::range_call-lemma_arg_stands_at-requires-clause-part : goal.range_call::range_call-lemma_arg_stands_at-requires-clause-part
+range_call::range_call-lemma_arg_stands_at-requires-clause-part g t c =
+    c.lemma_are_pair.ensures.first_part (tree_of c.args.scope.now.checked.now) c.args.number.now (c.lemma_is_range_call.ensures.part (tree_of c.args.scope.now.checked.now) c.args.number.now c.requires.part)
 
-pub range_call::range_call-arg_stands_at-requires-clause-valued : goal.range_call::range_call-arg_stands_at-requires-clause-valued
-range_call::range_call-arg_stands_at-requires-clause-valued g t c =
+pub range_call::range_call-lemma_arg_stands_at-requires-clause-valued : goal.range_call::range_call-lemma_arg_stands_at-requires-clause-valued
+range_call::range_call-lemma_arg_stands_at-requires-clause-valued g t c =
     scalar_valued (tree_of c.in-Behind.scalar.now) c.in-Behind.ensures.1.1.0
 
-pub range_call::range_call-stands_at-requires-in-Ok : goal.range_call::range_call-stands_at-requires-in-Ok
-range_call::range_call-stands_at-requires-in-Ok g t c =
-    c.are_pair.ensures.second_part (tree_of c.args.scope.now.checked.now) c.args.number.now c.eval_at.new.number c.in-Ok.ensures.count (c.is_range_call.ensures.part (tree_of c.args.scope.now.checked.now) c.args.number.now c.requires.part)
+pub range_call::range_call-lemma_stands_at-requires-in-Ok : goal.range_call::range_call-lemma_stands_at-requires-in-Ok
+range_call::range_call-lemma_stands_at-requires-in-Ok g t c =
+    c.lemma_are_pair.ensures.second_part (tree_of c.args.scope.now.checked.now) c.args.number.now c.eval_at.new.number c.in-Ok.ensures.count (c.lemma_is_range_call.ensures.part (tree_of c.args.scope.now.checked.now) c.args.number.now c.requires.part)
 
-pub range_call::range_call-all_stand_at-requires : goal.range_call::range_call-all_stand_at-requires
-range_call::range_call-all_stand_at-requires g t c =
-    c.is_range_call.ensures.part (tree_of c.args.scope.now.checked.now) c.args.number.now c.requires.part
+pub range_call::range_call-lemma_all_stand_at-requires : goal.range_call::range_call-lemma_all_stand_at-requires
+range_call::range_call-lemma_all_stand_at-requires g t c =
+    c.lemma_is_range_call.ensures.part (tree_of c.args.scope.now.checked.now) c.args.number.now c.requires.part
 
 pub subquery::value_at-returns-clause-answer :
     goal.subquery::value_at-returns-clause-answer
@@ -1379,9 +1379,9 @@ pub subquery::series_of-step_or-step-requires-clause-own :
 subquery::series_of-step_or-step-requires-clause-own g t c =
     step_given (tree_of c.args.e.now) c.args.e.now.place (tree_of c.args.inner.now) c.args.span c.args.step c.args.offset c.requires.tree (tree_of c.args.scope.now.checked.now) c.args.number.now c.requires.part
 
-pub subquery::series_of-stands_at-requires :
-    goal.subquery::series_of-stands_at-requires
-subquery::series_of-stands_at-requires g t c =
+pub subquery::series_of-lemma_stands_at-requires :
+    goal.subquery::series_of-lemma_stands_at-requires
+subquery::series_of-lemma_stands_at-requires g t c =
     inner_part (tree_of c.args.e.now) c.args.e.now.place (tree_of c.args.inner.now) c.args.span c.args.step c.args.offset c.requires.tree (tree_of c.args.scope.now.checked.now) c.args.number.now c.requires.part
 
 pub subquery::series_of-returns-then-count-gt-LONGEST-clause-answer :

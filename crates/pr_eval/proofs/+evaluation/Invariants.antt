@@ -1,20 +1,20 @@
 use Rattle.std.proofs.Common.{◌+◌, ◌*◌, ◌≡◌, List, take, Result, Ok, sum_by}
-use Rattle.pr_range_calls.specs.pr_history.declared.entry.Entry.{Entry}
+use Rattle.pr_range.specs.spec_history.declared.entry.Entry.{Entry}
 use Rattle.pr_ast.specs.Tree.{trees_of, tree_of}
-use Rattle.pr_range_calls.specs.pr_vectors.declared.range.RangeFn.{RangeFn}
-use Rattle.pr_range_calls.specs.pr_query.Meaning.{operands, meaning}
-use Rattle.pr_range_calls.specs.pr_values.declared.error.EvalError.{EvalError}
-use Rattle.pr_range_calls.specs.pr_values.Plain.{all_plain}
-use Rattle.pr_eval.specs.Evaluated.{IsEvaluated, MayTake, kept_by}
-use Rattle.pr_eval.specs.Parts.{counts_after}
-use Rattle.pr_eval.specs.Sizes.{node_count}
+use Rattle.pr_range.specs.spec_vectors.declared.range.RangeFn.{RangeFn}
+use Rattle.spec_meaning.specs.Meaning.{operands, meaning}
+use Rattle.pr_eval.specs.declared.values.error.EvalError.{EvalError}
+use Rattle.pr_eval.specs.private.Plain.{all_plain}
+use Rattle.pr_eval.specs.private.Evaluated.{IsEvaluated, MayTake, kept_by}
+use Rattle.pr_eval.specs.private.Parts.{counts_after}
+use Rattle.pr_eval.specs.private.Sizes.{node_count}
 use Rattle.pr_eval.proofs.+evaluation.Given as goal
 use Rattle.std.specs.BTreeMap.{IsOrdered}
 use Rattle.pr_labels.specs.Order.{labels_cmp}
-use Rattle.pr_range_calls.specs.pr_query.Cost.{cost, nothing_passed}
-use Rattle.pr_range_calls.specs.pr_query.Subqueries.{Taken, at_each}
-use Rattle.pr_range_calls.specs.Taken.{AreTaken}
-use Rattle.pr_eval.specs.Subqueries.{MayTakeEach, TakesInside}
+use Rattle.spec_meaning.specs.private.Cost.{cost, nothing_passed}
+use Rattle.spec_meaning.specs.Subqueries.{Taken, at_each}
+use Rattle.pr_eval.specs.private.Taken.{AreTaken}
+use Rattle.pr_eval.specs.private.Subqueries.{MayTakeEach, TakesInside}
 
 -- how many nodes the part has, and then which function stands above which
 abbrev pub decreases-evaluate::eval_at : goal.decreases-evaluate::eval_at

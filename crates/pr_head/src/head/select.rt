@@ -2,9 +2,10 @@
 ghost use Rattle.std.specs.Prelude.{◌≡◌, ◌<◌, length, map, List, IfOk};
 ghost use Rattle.std.specs.List.{All};
 ghost use Rattle.pr_labels.specs.Rising.{IsRising};
-ghost use Rattle.pr_history.specs.declared.entry.Entry.{Entry};
-ghost use Rattle.pr_history.specs.Series.{chosen, has_values};
-ghost use Rattle.pr_head.specs.Holds.{arrivals, chosen_of, labels_at, sets_of, Holds};
+ghost use Rattle.spec_history.specs.declared.entry.Entry.{Entry};
+ghost use Rattle.spec_history.specs.Series.{chosen};
+ghost use Rattle.spec_history.specs.private.Laws.{has_values};
+ghost use Rattle.pr_head.specs.private.Holds.{arrivals, chosen_of, labels_at, sets_of, Holds};
 
 use crate::head::Head;
 use pr_labels::Pair;

@@ -1,14 +1,14 @@
 // Label sets of some of the labels of another.
 ghost use Rattle.std.specs.Prelude.{◌≡◌, filter, IfOk};
-ghost use Rattle.pr_strings.specs.pr_words.Names.{knows};
-ghost use Rattle.pr_labels.specs.Chosen.{HasNames, is_chosen};
+ghost use Rattle.pr_words.specs.Names.{knows};
+ghost use Rattle.pr_labels.specs.private.Chosen.{HasNames, is_chosen};
 ghost use Rattle.pr_labels.specs.Edits.{is_listed, listed_labels, unlisted_labels, key_labels};
 ghost use Rattle.pr_labels.specs.LabelSet.{IsLabelSet};
 
 use super::known::known_names;
 use super::{Labels, METRIC_LABEL};
 use crate::pair::Pair;
-use pr_strings::words_crate::Text;
+use pr_words::Text;
 use std::alloc::{AllocError, Global};
 use std::collections::BTreeSet;
 
@@ -56,7 +56,7 @@ fn is_one_of(many: &Option<BTreeSet<&[u8]>>, names: &[Text], pair: &Pair) -> boo
 }
 
 // Whether the pair is chosen: its name is listed, or is not.
-#[tactic(auto, unfolding(crate::specs::Chosen::is_chosen))]
+#[tactic(auto, unfolding(crate::specs::private::Chosen::is_chosen))]
 fn is_chosen(listed: bool, many: &Option<BTreeSet<&[u8]>>, names: &[Text], pair: &Pair) -> bool
     requires { HasNames many.now names.now }
     ensures { result ≡ is_chosen listed names.now pair.now }

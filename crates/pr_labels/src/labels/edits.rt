@@ -11,7 +11,7 @@ use super::shared::SharedPairs;
 use crate::fault::LabelFault;
 use crate::names::is_label_name;
 use crate::pair::Pair;
-use pr_strings::words_crate::Text;
+use pr_words::Text;
 use std::alloc::{AllocError, Global};
 use std::mem;
 

@@ -1,7 +1,7 @@
 // Pairs with the key by which they are compared.
 ghost use Rattle.std.specs.Prelude.{◌≡◌, ◌++◌, ◌∷◌, [], drop, flat_map, string_bytes, IfOk, IfSome, OnOk};
 ghost use Rattle.std.specs.List.{list_all};
-ghost use Rattle.pr_labels.specs.OrderKey.{HasOrderKeys, IsOrderKey, has_texts_without_end, is_without_end, key_end, key_part, order_key};
+ghost use Rattle.pr_labels.specs.private.OrderKey.{HasOrderKeys, IsOrderKey, has_texts_without_end, is_without_end, key_end, key_part, order_key};
 
 use crate::pair::Pair;
 use std::alloc::{AllocError, Global};
@@ -34,7 +34,7 @@ impl Model for KeyedPairs {
     ghost use Rattle.std.specs.Prelude.{List, string_bytes};
     ghost use Rattle.std.specs.Option.{ForSome};
     ghost use Rattle.pr_labels.specs.declared.pair.Pair.{Pair};
-    ghost use Rattle.pr_labels.specs.OrderKey.{HasOrderKeys};
+    ghost use Rattle.pr_labels.specs.private.OrderKey.{HasOrderKeys};
 
     ghost Value = { List Pair };
 

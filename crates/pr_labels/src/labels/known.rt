@@ -1,9 +1,9 @@
 // Names that are put in order once, to be found among many.
 ghost use Rattle.std.specs.Prelude.{◌≡◌, ◌||◌, ℕ, List, not, IfOk, OnOk};
 ghost use Rattle.std.specs.Str.{bytes_eq};
-ghost use Rattle.pr_strings.specs.pr_words.Names.{is_among, knows};
+ghost use Rattle.pr_words.specs.Names.{is_among, knows};
 
-use pr_strings::words_crate::Text;
+use pr_words::Text;
 use std::alloc::{AllocError, Global};
 use std::collections::BTreeSet;
 

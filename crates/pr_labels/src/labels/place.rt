@@ -4,7 +4,7 @@ ghost use Rattle.std.specs.Cmp.Lexicographic.{slice_cmp};
 ghost use Rattle.std.specs.Ordering.{nat_cmp};
 ghost use Rattle.pr_labels.specs.Edits.{is_above, is_below};
 ghost use Rattle.pr_labels.specs.LabelSet.{IsLabelSet};
-ghost use Rattle.pr_labels.specs.Places.{IsGapFor, IsPlaceOf};
+ghost use Rattle.pr_labels.specs.private.Places.{IsGapFor, IsPlaceOf};
 
 use crate::pair::Pair;
 use std::cmp::Ordering;

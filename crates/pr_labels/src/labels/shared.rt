@@ -1,7 +1,7 @@
 ghost use Rattle.std.specs.Prelude.{◌≡◌, ◌<◌, [], length, drop, IfOk, IfSome, OnErr, MatchResult};
 ghost use Rattle.std.specs.List.{remove};
 ghost use Rattle.pr_labels.specs.Order.{labels_cmp, labels_eq};
-ghost use Rattle.pr_labels.specs.OrderKey.{IsOrderKey};
+ghost use Rattle.pr_labels.specs.private.OrderKey.{IsOrderKey};
 
 use super::copies::{copy_others, copy_pairs};
 use super::keyed::KeyedPairs;
@@ -44,7 +44,7 @@ fn rest_of(pairs: &[Pair]) -> &[Pair]
 impl Model for SharedPairs {
     ghost use Rattle.std.specs.Prelude.{List};
     ghost use Rattle.pr_labels.specs.declared.pair.Pair.{Pair};
-    ghost use Rattle.pr_labels.specs.Held.{held_pairs};
+    ghost use Rattle.pr_labels.specs.private.Held.{held_pairs};
 
     ghost Value = { List Pair };
 

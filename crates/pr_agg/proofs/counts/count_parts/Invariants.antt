@@ -1,7 +1,7 @@
 use Rattle.std.proofs.Common.{take}
-use Rattle.pr_folds.specs.pr_vectors.Aggregation.{value_group}
-use Rattle.pr_agg.specs.Counts.{both_parts, one_each}
-use Rattle.pr_agg.specs.Parts.{AreParts}
+use Rattle.pr_window.specs.spec_vectors.Aggregation.{value_group}
+use Rattle.pr_agg.specs.private.Counts.{both_parts, one_each}
+use Rattle.pr_agg.specs.private.Parts.{AreParts}
 use Rattle.pr_agg.proofs.counts.count_parts.Given as goal
 
 -- the elements so far are counted

@@ -1,8 +1,8 @@
 use Rattle.std.proofs.Common.{IfOk, List, ◌≡◌, subst}
 use Rattle.pr_num.specs.declared.value.Num.{Num}
-use Rattle.pr_labels.specs.declared.item.Item.{Item}
-use Rattle.pr_folds.specs.pr_vectors.Aggregation.{counted}
-use Rattle.pr_folds.proofs.VectorsAggregation.{counted_is_vector}
+use Rattle.pr_window.specs.pr_labels.declared.item.Item.{Item}
+use Rattle.pr_window.specs.spec_vectors.Aggregation.{counted}
+use Rattle.pr_window.proofs.VectorsAggregation.{counted_is_vector}
 use Rattle.pr_agg.proofs.Answered.{still_vector}
 use Rattle.pr_agg.proofs.Counting.{counts_are}
 use Rattle.pr_agg.proofs.counts.count_values.Goals as goal

@@ -1,5 +1,5 @@
-use Rattle.pr_folds.specs.pr_vectors.Aggregation.{first_of_parts, least_first, is_within, rank}
-use Rattle.pr_folds.proofs.VectorsVectors.{vector_filter}
+use Rattle.pr_window.specs.spec_vectors.Aggregation.{first_of_parts, least_first, is_within, rank}
+use Rattle.pr_window.proofs.VectorsVectors.{vector_filter}
 use Rattle.pr_agg.proofs.Answered.{still_vector}
 use Rattle.pr_agg.proofs.firsts.bottomk.Goals as goal
 

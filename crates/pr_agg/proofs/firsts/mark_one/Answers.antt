@@ -3,10 +3,10 @@ use Rattle.std.proofs.lemmas.Option.{slice_get_read}
 use Rattle.std.specs.Option.{unwrap_or}
 use Rattle.std.specs.BTreeMap.{Updates, get}
 use Rattle.pr_num.specs.declared.value.Num.{Num}
-use Rattle.pr_labels.specs.declared.pair.Pair.{Pair}
-use Rattle.pr_labels.specs.declared.item.Item.{Item}
-use Rattle.pr_labels.specs.Order.{labels_cmp}
-use Rattle.pr_folds.specs.pr_vectors.Aggregation.{group_of, is_within}
+use Rattle.pr_window.specs.pr_labels.declared.pair.Pair.{Pair}
+use Rattle.pr_window.specs.pr_labels.declared.item.Item.{Item}
+use Rattle.pr_window.specs.pr_labels.Order.{labels_cmp}
+use Rattle.pr_window.specs.spec_vectors.Aggregation.{group_of, is_within}
 use Rattle.pr_agg.proofs.firsts.mark_one.Goals as goal
 
 some_same : (x y : Item Num) → Some x ≡ Some y → x ≡ y

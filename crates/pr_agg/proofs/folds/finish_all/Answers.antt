@@ -1,11 +1,11 @@
 use Rattle.std.proofs.Common.{◌≡◌, ap, sym, ◌∙◌, List, ◌∷◌, ◌++◌, Ok}
 use Rattle.std.specs.Map.{keys_of}
-use Rattle.pr_folds.specs.pr_vectors.Vectors.{label_sets}
+use Rattle.pr_window.specs.spec_vectors.Vectors.{label_sets}
 use Rattle.std.proofs.lemmas.Map.Iter.{rest_more}
 use Rattle.pr_num.specs.declared.value.Num.{Num}
-use Rattle.pr_labels.specs.declared.pair.Pair.{Pair}
-use Rattle.pr_labels.specs.declared.item.Item.{Item}
-use Rattle.pr_agg.specs.Parts.{after_items, finished_all}
+use Rattle.pr_window.specs.pr_labels.declared.pair.Pair.{Pair}
+use Rattle.pr_window.specs.pr_labels.declared.item.Item.{Item}
+use Rattle.pr_agg.specs.private.Parts.{after_items, finished_all}
 use Rattle.pr_agg.proofs.Finishing.{finished_more, labels_more}
 use Rattle.pr_agg.proofs.folds.finish_all.Goals as goal
 

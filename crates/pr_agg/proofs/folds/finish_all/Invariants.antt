@@ -1,9 +1,9 @@
 use Rattle.std.proofs.Common.{◌≡◌, ◌++◌, Result}
 use Rattle.std.specs.Map.{keys_of}
-use Rattle.pr_folds.specs.pr_vectors.Vectors.{label_sets}
+use Rattle.pr_window.specs.spec_vectors.Vectors.{label_sets}
 use Rattle.pr_num.specs.declared.value.Num.{Num}
 use Rattle.pr_num.specs.declared.value.TooWide.{TooWide}
-use Rattle.pr_agg.specs.Parts.{Finishes, after_items, finished_all}
+use Rattle.pr_agg.specs.private.Parts.{Finishes, after_items, finished_all}
 use Rattle.pr_agg.proofs.folds.finish_all.Given as goal
 
 -- the elements so far, and those to come

@@ -2,10 +2,10 @@ use Rattle.std.proofs.Common.{◌≡◌, subst, List, map, Result, Ok, Err, Matc
 use Rattle.pr_num.specs.declared.value.Num.{Num}
 use Rattle.pr_num.specs.declared.value.TooWide.{TooWide}
 use Rattle.pr_num.specs.Arithmetic.{too_wide}
-use Rattle.pr_labels.specs.declared.item.Item.{Item}
+use Rattle.pr_window.specs.pr_labels.declared.item.Item.{Item}
 use Rattle.pr_agg.specs.declared.fault.AggFault.TheVariants as fault
 use Rattle.std.specs.BTreeMap.{keys}
-use Rattle.pr_folds.specs.pr_vectors.Aggregation.{group_of}
+use Rattle.pr_window.specs.spec_vectors.Aggregation.{group_of}
 use Rattle.pr_agg.proofs.Answered.{labels_rise}
 use Rattle.pr_agg.proofs.Finishing.{parts_answer}
 use Rattle.pr_agg.proofs.folds.group_fold.Goals as goal

@@ -1,9 +1,9 @@
 use Rattle.std.proofs.Common.{List, ap, sym, ◌∙◌}
 use Rattle.std.specs.Map.{keys_of}
 use Rattle.pr_num.specs.declared.value.Num.{Num}
-use Rattle.pr_labels.specs.declared.pair.Pair.{Pair}
-use Rattle.pr_labels.specs.Rising.{with_labels}
-use Rattle.pr_labels.proofs.LabelMaps.{keys_insert}
+use Rattle.pr_window.specs.pr_labels.declared.pair.Pair.{Pair}
+use Rattle.pr_window.specs.pr_labels.Rising.{with_labels}
+use Rattle.pr_window.proofs.LabelsLabelMaps.{keys_insert}
 use Rattle.pr_agg.proofs.Known.{known_some}
 use Rattle.pr_agg.proofs.lists.add_value.Goals as goal
 

@@ -2,13 +2,13 @@ use Rattle.std.proofs.Common.{◌≡◌, ◌+◌, ◌<◌, ap, sym, ◌∙◌, s
 use Rattle.std.proofs.lemmas.List.{take_more}
 use Rattle.std.specs.BTreeMap.{Updates, get, keys}
 use Rattle.pr_num.specs.declared.value.Num.{Num}
-use Rattle.pr_labels.specs.declared.pair.Pair.{Pair}
-use Rattle.pr_labels.specs.declared.item.Item.{Item}
-use Rattle.pr_labels.specs.Order.{labels_cmp}
-use Rattle.pr_labels.specs.Rising.{with_labels}
-use Rattle.pr_folds.specs.pr_vectors.Aggregation.{group_of}
-use Rattle.pr_folds.specs.pr_window.Folding.{with_next}
-use Rattle.pr_agg.specs.Lists.{alone, one_after_other}
+use Rattle.pr_window.specs.pr_labels.declared.pair.Pair.{Pair}
+use Rattle.pr_window.specs.pr_labels.declared.item.Item.{Item}
+use Rattle.pr_window.specs.pr_labels.Order.{labels_cmp}
+use Rattle.pr_window.specs.pr_labels.Rising.{with_labels}
+use Rattle.pr_window.specs.spec_vectors.Aggregation.{group_of}
+use Rattle.pr_window.specs.private.Folding.{with_next}
+use Rattle.pr_agg.specs.private.Lists.{alone, one_after_other}
 use Rattle.pr_agg.proofs.Gathering.{parts_known}
 use Rattle.pr_agg.proofs.lists.gather.Goals as goal
 

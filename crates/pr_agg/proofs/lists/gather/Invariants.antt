@@ -1,7 +1,7 @@
 use Rattle.std.proofs.Common.{take}
-use Rattle.pr_folds.specs.pr_vectors.Aggregation.{group_of}
-use Rattle.pr_agg.specs.Lists.{alone, one_after_other}
-use Rattle.pr_agg.specs.Parts.{AreParts}
+use Rattle.pr_window.specs.spec_vectors.Aggregation.{group_of}
+use Rattle.pr_agg.specs.private.Lists.{alone, one_after_other}
+use Rattle.pr_agg.specs.private.Parts.{AreParts}
 use Rattle.pr_agg.proofs.lists.gather.Given as goal
 
 -- the elements so far are gathered

@@ -1,8 +1,8 @@
 use Rattle.std.proofs.Common.{IfOk, subst}
-use Rattle.pr_folds.specs.pr_vectors.Aggregation.{of_groups, always, quantile_of_values}
-use Rattle.pr_folds.specs.pr_vectors.Vectors.{IsVector}
-use Rattle.pr_folds.proofs.VectorsAggregation.{aggregated_is_vector}
-use Rattle.pr_agg.specs.Lists.{quantiles_in}
+use Rattle.pr_window.specs.spec_vectors.Aggregation.{of_groups, always, quantile_of_values}
+use Rattle.pr_window.specs.spec_vectors.private.Laws.{IsVector}
+use Rattle.pr_window.proofs.VectorsAggregation.{aggregated_is_vector}
+use Rattle.pr_agg.specs.private.Lists.{quantiles_in}
 use Rattle.pr_agg.proofs.Answered.{as_answered, still_vector}
 use Rattle.pr_agg.proofs.Gathered.{quantiles_are}
 use Rattle.pr_agg.proofs.lists.quantile.Goals as goal

@@ -5,7 +5,7 @@ use Rattle.std.specs.Ordering.{is_lt}
 use Rattle.pr_num.specs.declared.value.Num.{Num}
 use Rattle.pr_num.specs.Order.{order_of}
 use Rattle.pr_num.proofs.Algebra.{order_is_total}
-use Rattle.pr_folds.proofs.VectorsValueOrder.{sorted_in_order}
+use Rattle.pr_window.proofs.VectorsValueOrder.{sorted_in_order}
 use Rattle.pr_agg.proofs.lists.sorted.Goals as goal
 
 pub returns-clause-values : goal.returns-clause-values

@@ -3,11 +3,11 @@ use Rattle.std.proofs.lemmas.List.{take_more, length-take}
 use Rattle.std.specs.Option.{IfSome}
 use Rattle.std.specs.BTreeMap.{get}
 use Rattle.pr_num.specs.declared.value.Num.{Num}
-use Rattle.pr_labels.specs.declared.pair.Pair.{Pair}
-use Rattle.pr_labels.specs.declared.item.Item.{Item}
-use Rattle.pr_labels.specs.Order.{labels_cmp}
-use Rattle.pr_folds.specs.pr_vectors.Aggregation.{group_of}
-use Rattle.pr_folds.specs.pr_window.Folding.{with_next}
+use Rattle.pr_window.specs.pr_labels.declared.pair.Pair.{Pair}
+use Rattle.pr_window.specs.pr_labels.declared.item.Item.{Item}
+use Rattle.pr_window.specs.pr_labels.Order.{labels_cmp}
+use Rattle.pr_window.specs.spec_vectors.Aggregation.{group_of}
+use Rattle.pr_window.specs.private.Folding.{with_next}
 use Rattle.pr_agg.proofs.Gathering.{part_weight, parts_more}
 use Rattle.pr_agg.proofs.parts.fold_parts.Goals as goal
 

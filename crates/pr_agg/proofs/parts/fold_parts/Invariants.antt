@@ -1,6 +1,6 @@
 use Rattle.std.proofs.Common.{take}
-use Rattle.pr_folds.specs.pr_vectors.Aggregation.{group_of}
-use Rattle.pr_agg.specs.Parts.{AreParts}
+use Rattle.pr_window.specs.spec_vectors.Aggregation.{group_of}
+use Rattle.pr_agg.specs.private.Parts.{AreParts}
 use Rattle.pr_agg.proofs.parts.fold_parts.Given as goal
 
 -- the elements so far are in their parts

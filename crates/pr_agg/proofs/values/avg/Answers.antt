@@ -1,9 +1,9 @@
 use Rattle.std.proofs.Common.{rules, Ok, ◌≡◌}
-use Rattle.pr_folds.specs.pr_vectors.Aggregation.{of_groups, always, mean_of_values}
-use Rattle.pr_folds.specs.pr_vectors.Vectors.{IsVector}
+use Rattle.pr_window.specs.spec_vectors.Aggregation.{of_groups, always, mean_of_values}
+use Rattle.pr_window.specs.spec_vectors.private.Laws.{IsVector}
 use Rattle.pr_num.specs.Total.{joined, one_value}
-use Rattle.pr_agg.specs.Finished.{mean_finished}
-use Rattle.pr_agg.specs.Parts.{fold_and_finish}
+use Rattle.pr_agg.specs.private.Finished.{mean_finished}
+use Rattle.pr_agg.specs.private.Parts.{fold_and_finish}
 use Rattle.pr_agg.proofs.Answered.{always_answered, carried}
 use Rattle.pr_agg.proofs.Folded.{mean_folded}
 use Rattle.pr_agg.proofs.values.avg.Goals as goal

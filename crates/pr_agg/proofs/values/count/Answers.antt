@@ -1,9 +1,9 @@
 use Rattle.std.proofs.Common.{rules, Ok, ◌≡◌}
-use Rattle.pr_folds.specs.pr_vectors.Aggregation.{of_groups, always, count_of_values}
-use Rattle.pr_folds.specs.pr_vectors.Vectors.{IsVector}
-use Rattle.pr_agg.specs.Counts.{both_parts, one_each}
-use Rattle.pr_agg.specs.Finished.{count_finished}
-use Rattle.pr_agg.specs.Parts.{fold_and_finish}
+use Rattle.pr_window.specs.spec_vectors.Aggregation.{of_groups, always, count_of_values}
+use Rattle.pr_window.specs.spec_vectors.private.Laws.{IsVector}
+use Rattle.pr_agg.specs.private.Counts.{both_parts, one_each}
+use Rattle.pr_agg.specs.private.Finished.{count_finished}
+use Rattle.pr_agg.specs.private.Parts.{fold_and_finish}
 use Rattle.pr_agg.proofs.Answered.{always_answered, carried}
 use Rattle.pr_agg.proofs.Folded.{count_folded}
 use Rattle.pr_agg.proofs.values.count.Goals as goal

@@ -1,10 +1,10 @@
 use Rattle.std.proofs.Common.{rules, Ok, ◌≡◌}
-use Rattle.pr_folds.specs.pr_vectors.Aggregation.{of_groups, always, greatest_of_values}
-use Rattle.pr_folds.specs.pr_vectors.Vectors.{IsVector}
-use Rattle.pr_folds.specs.Extremes.{greater}
-use Rattle.pr_agg.specs.Alone.{itself}
-use Rattle.pr_agg.specs.Finished.{value_finished}
-use Rattle.pr_agg.specs.Parts.{fold_and_finish}
+use Rattle.pr_window.specs.spec_vectors.Aggregation.{of_groups, always, greatest_of_values}
+use Rattle.pr_window.specs.spec_vectors.private.Laws.{IsVector}
+use Rattle.pr_window.specs.private.Extremes.{greater}
+use Rattle.pr_agg.specs.private.Alone.{itself}
+use Rattle.pr_agg.specs.private.Finished.{value_finished}
+use Rattle.pr_agg.specs.private.Parts.{fold_and_finish}
 use Rattle.pr_agg.proofs.Answered.{always_answered, carried}
 use Rattle.pr_agg.proofs.Folded.{greatest_folded}
 use Rattle.pr_agg.proofs.values.max.Goals as goal

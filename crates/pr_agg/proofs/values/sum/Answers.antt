@@ -3,12 +3,12 @@ use Rattle.pr_num.specs.declared.value.Num.{Num}
 use Rattle.pr_num.specs.declared.value.TooWide.{TooWide}
 use Rattle.pr_num.specs.Arithmetic.{too_wide}
 use Rattle.pr_num.specs.Total.{joined, one_value}
-use Rattle.pr_labels.specs.declared.item.Item.{Item}
-use Rattle.pr_folds.specs.pr_vectors.Aggregation.{sum_of_values}
-use Rattle.pr_folds.proofs.VectorsAggregation.{aggregated_alike}
+use Rattle.pr_window.specs.pr_labels.declared.item.Item.{Item}
+use Rattle.pr_window.specs.spec_vectors.Aggregation.{sum_of_values}
+use Rattle.pr_window.proofs.VectorsAggregation.{aggregated_alike}
 use Rattle.pr_agg.specs.declared.fault.AggFault.TheVariants as fault
-use Rattle.pr_agg.specs.Parts.{fold_and_finish}
-use Rattle.pr_agg.specs.Finished.{total_finished}
+use Rattle.pr_agg.specs.private.Parts.{fold_and_finish}
+use Rattle.pr_agg.specs.private.Finished.{total_finished}
 use Rattle.pr_agg.proofs.Folded.{sum_folded}
 use Rattle.pr_agg.proofs.values.sum.Goals as goal
 

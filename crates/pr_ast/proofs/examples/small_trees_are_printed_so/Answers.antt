@@ -1,7 +1,7 @@
 use Rattle.std.proofs.Common.{refl}
 use Rattle.std.specs.Fmt.{digits}
 use Rattle.pr_num.specs.Shown.{shown, fraction_text}
-use Rattle.pr_lex.specs.Words.{word_text}
+use Rattle.pr_ast.specs.Words.{word_text}
 use Rattle.pr_ast.specs.Names.{op_text, func_text}
 use Rattle.pr_ast.proofs.examples.small_trees_are_printed_so.Goals as goal
 

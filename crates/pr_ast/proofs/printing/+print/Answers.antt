@@ -1,6 +1,6 @@
 use Rattle.std.proofs.Common.{◌+◌, take, arith}
 use Rattle.pr_ast.specs.Tree.{tree_of, trees_of}
-use Rattle.pr_ast.specs.Print.{comma_unless}
+use Rattle.pr_ast.specs.private.Print.{comma_unless}
 use Rattle.pr_ast.proofs.printing.+print.Goals as goal
 use Rattle.pr_ast.proofs.Args.{trees_of-next, args_text, comma_after}
 

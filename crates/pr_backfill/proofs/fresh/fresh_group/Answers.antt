@@ -1,7 +1,7 @@
-use Rattle.pr_rules.specs.Settings.{of_a_run}
-use Rattle.pr_rules.specs.pr_rulefile.Groups.{group_of_def}
+use Rattle.spec_rules.specs.Settings.{of_a_run}
+use Rattle.spec_rules.specs.Definitions.{group_of_def}
 use Rattle.pr_backfill.specs.Filled.{recording_only}
-use Rattle.pr_manager.specs.Keeping.{settings_with}
+use Rattle.pr_manager.specs.private.Keeping.{settings_with}
 use Rattle.pr_backfill.proofs.Recording.{fresh_under, run_settings}
 use Rattle.pr_backfill.proofs.fresh.fresh_group.Goals as goal
 

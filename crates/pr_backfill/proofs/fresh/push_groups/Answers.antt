@@ -1,5 +1,5 @@
 use Rattle.std.proofs.Common.{◌≡◌, ◌++◌, List, [], map, arith, subst}
-use Rattle.pr_rules.specs.Settings.{of_a_run}
+use Rattle.spec_rules.specs.Settings.{of_a_run}
 use Rattle.pr_manager.proofs.Loaded.{AreKeptSoFar, empty, kept_all, kept_none, kept_one}
 use Rattle.pr_backfill.specs.Filled.{group_of_file}
 use Rattle.pr_backfill.specs.declared.stepped.FileGroup.{FileGroup}

@@ -1,7 +1,7 @@
 use Rattle.std.proofs.Common.{List, map}
-use Rattle.pr_history.specs.declared.entry.Entry.{Entry}
-use Rattle.pr_rules.specs.Groups.{Group}
-use Rattle.pr_rules.specs.Settings.{of_a_run}
+use Rattle.spec_rules.specs.spec_history.declared.entry.Entry.{Entry}
+use Rattle.spec_rules.specs.Groups.{Group}
+use Rattle.spec_rules.specs.Settings.{of_a_run}
 use Rattle.pr_manager.proofs.Loaded.{AreKeptSoFar}
 use Rattle.pr_backfill.specs.Filled.{group_of_file}
 use Rattle.pr_backfill.proofs.fresh.push_groups.Given as goal

@@ -1,8 +1,8 @@
 use Rattle.std.proofs.Common.{List, sym, subst}
 use Rattle.std.specs.List.{All}
-use Rattle.pr_manager.specs.pr_rule_result.Templates.{HasTemplates}
-use Rattle.pr_rules.specs.pr_rulefile.declared.rules.RuleDef.{RuleDef}
-use Rattle.pr_rules.specs.pr_rulefile.Rules.{rule_of_def}
+use Rattle.pr_manager.specs.pr_rule.private.Templates.{HasTemplates}
+use Rattle.spec_rules.specs.declared.definitions.RuleDef.{RuleDef}
+use Rattle.spec_rules.specs.Definitions.{rule_of_def}
 use Rattle.pr_backfill.proofs.Recording.{group_recorded, have_templates}
 use Rattle.pr_backfill.proofs.fresh.recording_group.Goals as goal
 

@@ -1,7 +1,7 @@
 use Rattle.std.proofs.Common.{ap, ◌∙◌}
-use Rattle.pr_rules.specs.pr_rulefile.declared.rules.GroupDef.{GroupDef}
-use Rattle.pr_rules.specs.Evaluations.{group_step}
-use Rattle.pr_rules.specs.Settings.{Settings}
+use Rattle.spec_rules.specs.declared.definitions.GroupDef.{GroupDef}
+use Rattle.spec_rules.specs.Evaluations.{group_step}
+use Rattle.spec_rules.specs.Settings.{Settings}
 use Rattle.pr_manager.proofs.Evaluated.{own_evaluated}
 use Rattle.pr_backfill.proofs.Filling.{stepped_of}
 use Rattle.pr_backfill.proofs.round.evaluate.Goals as goal

@@ -1,11 +1,11 @@
 use Rattle.std.proofs.Common.{◌≡◌, List, length}
-use Rattle.pr_history.specs.declared.entry.Entry.{Entry}
-use Rattle.pr_rules.specs.Groups.{Group}
-use Rattle.pr_rules.specs.Settings.{Settings}
-use Rattle.pr_rules.specs.Times.{IsAfterAll}
-use Rattle.pr_manager.specs.pr_group.Keeping.{MayEvaluateOver}
-use Rattle.pr_manager.specs.Keeping.{KeepEach}
-use Rattle.pr_backfill.specs.Rounds.{HasFilled}
+use Rattle.spec_rules.specs.spec_history.declared.entry.Entry.{Entry}
+use Rattle.spec_rules.specs.Groups.{Group}
+use Rattle.spec_rules.specs.Settings.{Settings}
+use Rattle.spec_rules.specs.private.Times.{IsAfterAll}
+use Rattle.pr_manager.specs.pr_group.private.Keeping.{MayEvaluateOver}
+use Rattle.pr_manager.specs.private.Keeping.{KeepEach}
+use Rattle.pr_backfill.specs.private.Rounds.{HasFilled}
 use Rattle.pr_backfill.proofs.round.evaluate_all.Given as goal
 
 -- the first groups were evaluated

@@ -1,5 +1,5 @@
 use Rattle.pr_ast.specs.Tree.{tree_of}
-use Rattle.pr_world.specs.pr_query.Meaning.{meaning}
+use Rattle.pr_manager.specs.spec_meaning.Meaning.{meaning}
 use Rattle.pr_engine.proofs.Queries.{may_begin}
 use Rattle.pr_engine.proofs.query.answer.Goals as goal
 

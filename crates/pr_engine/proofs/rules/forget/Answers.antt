@@ -1,10 +1,10 @@
 use Rattle.std.proofs.Common.{◌≡◌, ◌∙◌, ◌≤ℤ◌, ℤ, ap, sym, subst, w64}
 use Rattle.std.proofs.lemmas.Int.{to_z-of_z}
 use Rattle.std.specs.Int.Signed.{≤ℤ_refl}
-use Rattle.pr_head.specs.Stored.{trimmed}
-use Rattle.pr_scrape.specs.pr_intake.Intake.{Series}
-use Rattle.pr_engine.specs.Standing.{HoldsNoneUntil}
-use Rattle.pr_engine.specs.Times.{forgotten_at}
+use Rattle.pr_head.specs.private.Stored.{trimmed}
+use Rattle.pr_head.specs.private.Intake.{Series}
+use Rattle.pr_engine.specs.private.Standing.{HoldsNoneUntil}
+use Rattle.pr_engine.specs.private.Times.{forgotten_at}
 use Rattle.pr_engine.proofs.Values.{none_until, still_whole}
 use Rattle.pr_engine.proofs.rules.forget.Goals as goal
 

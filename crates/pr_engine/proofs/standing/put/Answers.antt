@@ -1,15 +1,16 @@
 use Rattle.std.proofs.Common.{◌≡◌, ◌++◌, ℕ, ℤ, List, Option, Result, OnOk, subst}
 use Rattle.std.specs.declared.result.Result.TheVariants.{Ok, Err}
 use Rattle.pr_labels.specs.declared.pair.Pair.{Pair}
-use Rattle.pr_history.specs.declared.entry.Entry.{Entry}
-use Rattle.pr_history.specs.Admission.{admit, put, IsLawful}
-use Rattle.pr_history.proofs.Lawful.{put_lawful}
-use Rattle.pr_head.specs.Stored.{Stored}
-use Rattle.pr_head.specs.Holds.{Holds, IsWhole}
-use Rattle.pr_engine.specs.Standing.{IsHeadOf}
-use Rattle.pr_engine.specs.Times.{IsKeptAbove}
-use Rattle.pr_world.specs.Step.{entry_of, rows_by}
-use Rattle.pr_world.proofs.Steps.{put_is}
+use Rattle.pr_head.specs.spec_history.declared.entry.Entry.{Entry}
+use Rattle.pr_head.specs.spec_history.Admission.{admit, put}
+use Rattle.pr_head.specs.spec_history.private.Laws.{IsLawful}
+use Rattle.pr_head.proofs.HistoryLawful.{put_lawful}
+use Rattle.pr_head.specs.private.Stored.{Stored}
+use Rattle.pr_head.specs.private.Holds.{Holds, IsWhole}
+use Rattle.pr_engine.specs.private.Standing.{IsHeadOf}
+use Rattle.pr_engine.specs.private.Times.{IsKeptAbove}
+use Rattle.pr_manager.specs.spec_world.Step.{entry_of, rows_by}
+use Rattle.pr_manager.proofs.WorldSteps.{put_is}
 use Rattle.pr_engine.proofs.standing.put.Goals as goal
 
 both : {T E : Type 0} (r : Result T E) (head : List (List Pair × Stored)) (last : Option ℕ) (history : List Entry)

@@ -1,7 +1,7 @@
 use Rattle.std.proofs.Common.{◌++◌, ◌∷◌, [], ◌∙◌, ap, subst}
-use Rattle.pr_range_calls.specs.pr_query.Aggregations.{summed_up}
-use Rattle.pr_range_calls.specs.pr_values.Answers.{AnswersTo}
-use Rattle.pr_range_calls.specs.pr_values.Plain.{all_plain}
+use Rattle.spec_meaning.specs.Aggregations.{summed_up}
+use Rattle.pr_eval.specs.private.Answers.{AnswersTo}
+use Rattle.pr_eval.specs.private.Plain.{all_plain}
 use Rattle.pr_eval.proofs.aggregate.aggregated_one.Goals as goal
 
 pub returns-clause-answer : goal.returns-clause-answer

@@ -1,11 +1,11 @@
 use Rattle.std.proofs.Common.{◌+◌, ◌≤◌, false, is_ok, subst, sym}
 use Rattle.pr_ast.specs.Tree.{tree_of}
-use Rattle.pr_range_calls.specs.pr_vectors.declared.range.RangeFn.TheVariants.{PresentOverTime}
-use Rattle.pr_range_calls.specs.pr_query.Cost.{cost}
-use Rattle.pr_range_calls.specs.pr_query.Meaning.{meaning}
-use Rattle.pr_range_calls.specs.pr_values.Answers.{AnswersTo}
-use Rattle.pr_eval.specs.Evaluated.{AreAllAsked, MayBegin, asks_of, kept_by, passed_outside}
-use Rattle.pr_eval.specs.Parts.{IsValued}
+use Rattle.pr_range.specs.spec_vectors.declared.range.RangeFn.TheVariants.{PresentOverTime}
+use Rattle.spec_meaning.specs.private.Cost.{cost}
+use Rattle.spec_meaning.specs.Meaning.{meaning}
+use Rattle.pr_eval.specs.private.Answers.{AnswersTo}
+use Rattle.pr_eval.specs.private.Evaluated.{AreAllAsked, MayBegin, asks_of, kept_by, passed_outside}
+use Rattle.pr_eval.specs.private.Parts.{IsValued}
 use Rattle.pr_eval.proofs.Trees.{whole_valued}
 use Rattle.pr_eval.proofs.evaluate.eval.Goals as goal
 

@@ -1,8 +1,8 @@
 use Rattle.std.proofs.Common.{◌≡◌, length, false, arith}
 use borrow.Author.Tests.{ltb-false, ltb-true}
 use Rattle.pr_ast.specs.Tree.{tree_of}
-use Rattle.pr_range_calls.specs.pr_range.Asks.{takes_argument}
-use Rattle.pr_eval.specs.Asking.{asked_for}
+use Rattle.pr_range.specs.private.Asks.{takes_argument}
+use Rattle.pr_eval.specs.private.Asking.{asked_for}
 use Rattle.pr_eval.proofs.RangeOperands.{alone_argument, one_argument, one_tree, only_ranged, prediction_range, prediction_scalar, prediction_two, quantile_range, quantile_scalar, quantile_two, two_trees}
 use Rattle.pr_eval.proofs.range_call.range_operands.Goals as goal
 use Rattle.pr_eval.proofs.range_call.range_operands.Goals.{in_default-args-via-then-args-lt2, in_default-args-via-else-args-lt2+else-args-lt3, in_default-args-2-via-then-args-lt2-2, in_default-args-2-via-else-args-lt2-2+else-args-lt3-2, in_default-args-3-via-then-args-lt1, in_default-args-3-via-else-args-lt1+else-args-lt2-3}

@@ -1,5 +1,5 @@
 use Rattle.std.proofs.Common.{◌≡◌, ◌++◌, ◌+◌, drop}
-use Rattle.pr_eval.specs.Reading.{items_read}
+use Rattle.pr_eval.specs.private.Reading.{items_read}
 use Rattle.pr_eval.proofs.select.read_all.Given as goal
 
 abbrev pub invariant-loop-series : goal.invariant-loop-series

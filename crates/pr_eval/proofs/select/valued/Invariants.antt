@@ -1,6 +1,6 @@
 use Rattle.std.proofs.Common.{◌≡◌, ◌++◌, length, map}
 use Rattle.std.specs.Vec.Iter.{into_iter_items, into_iter_len}
-use Rattle.pr_range_calls.specs.pr_query.Selection.{valued}
+use Rattle.spec_meaning.specs.Selection.{valued}
 use Rattle.pr_eval.proofs.select.valued.Given as goal
 
 -- the elements so far, and those to come

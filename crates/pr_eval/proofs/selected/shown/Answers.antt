@@ -1,5 +1,5 @@
 use Rattle.std.proofs.Common.{subst, sym}
-use Rattle.pr_range_calls.specs.pr_query.Answers.{IsAnswer}
+use Rattle.spec_meaning.specs.private.Laws.{IsAnswer}
 use Rattle.pr_eval.proofs.Reading.{valued_rise}
 use Rattle.pr_eval.proofs.selected.shown.Goals as goal
 

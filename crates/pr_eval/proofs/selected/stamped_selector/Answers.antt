@@ -4,8 +4,8 @@ use Rattle.pr_ast.specs.declared.tree.Expr.{Expr}
 use Rattle.pr_ast.specs.declared.names.Func.{Func}
 use Rattle.pr_ast.specs.declared.names.Func.TheVariants.{Timestamp}
 use Rattle.pr_ast.specs.Tree.{Tree, more, more_from, none, tree_of, trees_of}
-use Rattle.pr_range_calls.specs.pr_query.Calls.{selector_argument}
-use Rattle.pr_range_calls.specs.pr_values.Calls.{is_plain_call}
+use Rattle.spec_meaning.specs.Calls.{selector_argument}
+use Rattle.pr_eval.specs.private.Calls.{is_plain_call}
 use Rattle.pr_eval.proofs.selected.stamped_selector.Goals as goal
 use Rattle.pr_eval.proofs.selected.stamped_selector.Goals.{in_default-args-via-then-args-lt1, in_default-args-via-else-args-lt1+else-args-lt2}
 

@@ -1,7 +1,7 @@
 use Rattle.std.proofs.Common.{◌≡◌, ◌++◌, drop, length}
 use Rattle.std.specs.Prelude.{replicate}
 use Rattle.pr_expo.specs.Lint.{problems_from, lint}
-use Rattle.pr_expo.specs.Marking.{marks_after, no_marks}
+use Rattle.pr_expo.specs.private.Marking.{marks_after, no_marks}
 use Rattle.pr_expo.proofs.complaints.lint.Given as goal
 
 -- the families left are still to be looked at

@@ -1,6 +1,6 @@
 use Rattle.std.proofs.Common.{◌≡◌, drop}
 use Rattle.std.specs.Prelude.{replicate}
-use Rattle.pr_expo.specs.Marking.{marks_after, no_marks}
+use Rattle.pr_expo.specs.private.Marking.{marks_after, no_marks}
 use Rattle.pr_expo.proofs.marks.marks_by.Given as goal
 
 -- the samples left are still to be seen

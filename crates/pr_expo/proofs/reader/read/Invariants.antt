@@ -1,5 +1,5 @@
 use Rattle.std.proofs.Common.{length}
-use Rattle.pr_expo.specs.Keeping.{IsUnderWay}
+use Rattle.pr_expo.specs.private.Keeping.{IsUnderWay}
 use Rattle.pr_expo.proofs.reader.read.Given as goal
 
 -- the lines so far were read and kept

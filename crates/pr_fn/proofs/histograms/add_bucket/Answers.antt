@@ -1,9 +1,9 @@
 use Rattle.std.proofs.Common.{List, ap, sym, ◌∙◌}
 use Rattle.std.specs.Map.{keys_of}
-use Rattle.pr_labels.specs.declared.pair.Pair.{Pair}
-use Rattle.pr_labels.specs.Order.{labels_cmp}
-use Rattle.pr_ordered.specs.pr_vectors.declared.bucket.Bucket.{Bucket}
-use Rattle.pr_fn.specs.Gathered.{with_key}
+use Rattle.pr_match.specs.pr_labels.declared.pair.Pair.{Pair}
+use Rattle.pr_match.specs.pr_labels.Order.{labels_cmp}
+use Rattle.spec_vectors.specs.declared.bucket.Bucket.{Bucket}
+use Rattle.pr_fn.specs.private.Gathered.{with_key}
 use Rattle.pr_fn.proofs.Gathering.{keys_inserted}
 use Rattle.pr_fn.proofs.Known.{known_some}
 use Rattle.pr_fn.proofs.histograms.add_bucket.Goals as goal

@@ -2,9 +2,9 @@ use Rattle.std.proofs.Common.{◌≡◌, List, [], ◌∷◌, ◌++◌, Result, 
 use Rattle.pr_num.specs.declared.value.Num.{Num}
 use Rattle.pr_num.specs.declared.value.TooWide.{TooWide}
 use Rattle.pr_num.specs.Total.{Tally}
-use Rattle.pr_ordered.specs.pr_vectors.declared.bucket.Bucket.{Bucket}
-use Rattle.pr_ordered.specs.pr_vectors.Histogram.{next_bucket}
-use Rattle.pr_fn.specs.Buckets.{before_buckets, counted_entries}
+use Rattle.spec_vectors.specs.declared.bucket.Bucket.{Bucket}
+use Rattle.spec_vectors.specs.Histogram.{next_bucket}
+use Rattle.pr_fn.specs.private.Buckets.{before_buckets, counted_entries}
 use Rattle.pr_fn.proofs.BucketLemmas.{before_next_bucket}
 use Rattle.pr_fn.proofs.histograms.counted.Goals as goal
 

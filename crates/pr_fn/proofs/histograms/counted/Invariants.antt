@@ -1,5 +1,5 @@
 use Rattle.std.proofs.Common.{◌≡◌}
-use Rattle.pr_fn.specs.Buckets.{before_buckets, counted_entries}
+use Rattle.pr_fn.specs.private.Buckets.{before_buckets, counted_entries}
 use Rattle.pr_fn.proofs.histograms.counted.Given as goal
 
 -- the buckets so far, and those to come

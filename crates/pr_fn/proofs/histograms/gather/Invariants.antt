@@ -1,8 +1,8 @@
 use Rattle.std.proofs.Common.{filter, take}
-use Rattle.pr_labels.specs.Order.{labels_cmp}
-use Rattle.pr_ordered.specs.pr_vectors.Histogram.{histogram_labels, is_bucket}
-use Rattle.pr_fn.specs.Buckets.{buckets_of}
-use Rattle.pr_fn.specs.Gathered.{AreGathered}
+use Rattle.pr_match.specs.pr_labels.Order.{labels_cmp}
+use Rattle.spec_vectors.specs.Histogram.{histogram_labels, is_bucket}
+use Rattle.pr_fn.specs.private.Buckets.{buckets_of}
+use Rattle.pr_fn.specs.private.Gathered.{AreGathered}
 use Rattle.pr_fn.proofs.histograms.gather.Given as goal
 
 -- the buckets so far are gathered

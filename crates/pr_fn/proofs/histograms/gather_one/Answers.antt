@@ -1,6 +1,6 @@
 use Rattle.std.proofs.Common.{◌≡◌, Some, ap, sym, ◌∙◌}
-use Rattle.pr_labels.specs.Edits.{unlisted_labels}
-use Rattle.pr_ordered.specs.pr_vectors.Histogram.{bound_of, histogram_labels}
+use Rattle.pr_match.specs.pr_labels.Edits.{unlisted_labels}
+use Rattle.spec_vectors.specs.Histogram.{bound_of, histogram_labels}
 use Rattle.pr_fn.proofs.BucketLemmas.{added_bucket}
 use Rattle.pr_fn.proofs.histograms.gather_one.Goals as goal
 

@@ -1,9 +1,9 @@
 use Rattle.std.proofs.Common.{[], map, filter}
-use Rattle.pr_labels.proofs.LabelOrder.{rising_fold}
-use Rattle.pr_ordered.specs.pr_vectors.Histogram.{buckets_in, histogram_labels, histogram_quantiles, histogram_value, histograms, is_bucket}
-use Rattle.pr_ordered.proofs.VectorsFunctionAnswers.{rising_answer}
-use Rattle.pr_fn.specs.Buckets.{valued_entries}
-use Rattle.pr_fn.specs.Faults.{function_told}
+use Rattle.pr_match.proofs.LabelsLabelOrder.{rising_fold}
+use Rattle.spec_vectors.specs.Histogram.{buckets_in, histogram_labels, histogram_quantiles, histogram_value, histograms, is_bucket}
+use Rattle.spec_vectors.proofs.FunctionAnswers.{rising_answer}
+use Rattle.pr_fn.specs.private.Buckets.{valued_entries}
+use Rattle.pr_fn.specs.private.Faults.{function_told}
 use Rattle.pr_fn.proofs.BucketLemmas.{quantiles_are, told_vectors}
 use Rattle.pr_fn.proofs.Mapping.{told_same}
 use Rattle.pr_fn.proofs.histograms.histogram_quantile.Goals as goal

@@ -1,6 +1,6 @@
 use Rattle.std.proofs.Common.{◌≡◌, Ok, Err, refl, ap, sym, ◌∙◌}
 use Rattle.pr_num.specs.Arithmetic.{too_wide}
-use Rattle.pr_ordered.specs.pr_vectors.Histogram.{quantile_in}
+use Rattle.spec_vectors.specs.Histogram.{quantile_in}
 use Rattle.pr_fn.proofs.BucketLemmas.{histogram_fault, histogram_is}
 use Rattle.pr_fn.proofs.histograms.histogram_value.Goals as goal
 

@@ -1,12 +1,12 @@
 use Rattle.std.proofs.Common.{◌≡◌, List, ◌∷◌, Result, Ok, ap, sym, ◌∙◌}
 use Rattle.pr_num.specs.declared.value.Num.{Num}
 use Rattle.pr_num.specs.declared.value.TooWide.{TooWide}
-use Rattle.pr_labels.specs.declared.pair.Pair.{Pair}
-use Rattle.pr_labels.specs.declared.item.Item.{Item}
-use Rattle.pr_ordered.specs.pr_vectors.declared.bucket.Bucket.{Bucket}
-use Rattle.pr_ordered.specs.pr_vectors.Vectors.{element}
-use Rattle.pr_ordered.specs.pr_vectors.Histogram.{histogram_value, next_element}
-use Rattle.pr_fn.specs.Buckets.{before_elements, valued_entries}
+use Rattle.pr_match.specs.pr_labels.declared.pair.Pair.{Pair}
+use Rattle.pr_match.specs.pr_labels.declared.item.Item.{Item}
+use Rattle.spec_vectors.specs.declared.bucket.Bucket.{Bucket}
+use Rattle.spec_vectors.specs.Vectors.{element}
+use Rattle.spec_vectors.specs.Histogram.{histogram_value, next_element}
+use Rattle.pr_fn.specs.private.Buckets.{before_elements, valued_entries}
 use Rattle.pr_fn.proofs.BucketLemmas.{before_next_element}
 use Rattle.pr_fn.proofs.histograms.quantiles.Goals as goal
 

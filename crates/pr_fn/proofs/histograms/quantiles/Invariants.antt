@@ -1,5 +1,5 @@
 use Rattle.std.proofs.Common.{◌≡◌}
-use Rattle.pr_fn.specs.Buckets.{before_elements, valued_entries}
+use Rattle.pr_fn.specs.private.Buckets.{before_elements, valued_entries}
 use Rattle.pr_fn.proofs.histograms.quantiles.Given as goal
 
 -- the elements so far, and those to come

@@ -6,9 +6,9 @@ use Rattle.std.specs.BTreeMap.{Updates, get, keys}
 use Rattle.pr_num.specs.declared.value.Num.{Num}
 use Rattle.pr_num.specs.Order.{order_of}
 use Rattle.pr_num.specs.Total.{Tally}
-use Rattle.pr_ordered.specs.pr_vectors.declared.bucket.Bucket.{Bucket}
-use Rattle.pr_fn.specs.Buckets.{tally_with}
-use Rattle.pr_fn.specs.Gathered.{with_key}
+use Rattle.spec_vectors.specs.declared.bucket.Bucket.{Bucket}
+use Rattle.pr_fn.specs.private.Buckets.{tally_with}
+use Rattle.pr_fn.specs.private.Gathered.{with_key}
 use Rattle.pr_fn.proofs.BucketLemmas.{room_for_one, tallies_more, tally_small}
 use Rattle.pr_fn.proofs.Gathering.{keys_inserted}
 use Rattle.pr_fn.proofs.histograms.tallies_of.Goals as goal

@@ -1,7 +1,7 @@
 use Rattle.std.proofs.Common.{take}
 use Rattle.pr_num.specs.Order.{order_of}
-use Rattle.pr_fn.specs.Buckets.{bound_in, tally_of}
-use Rattle.pr_fn.specs.Gathered.{AreGathered}
+use Rattle.pr_fn.specs.private.Buckets.{bound_in, tally_of}
+use Rattle.pr_fn.specs.private.Gathered.{AreGathered}
 use Rattle.pr_fn.proofs.histograms.tallies_of.Given as goal
 
 -- the counts so far are added up

@@ -1,5 +1,5 @@
 use Rattle.std.proofs.Common.{◌≡◌, ◌+◌, ◌-◌, pos, ap, ◌∙◌, rules}
-use Rattle.pr_ordered.specs.pr_vectors.Calendar.{date_after, days_before}
+use Rattle.spec_vectors.specs.Calendar.{date_after, days_before}
 use Rattle.pr_fn.proofs.CivilDates.{ordinal_after}
 use Rattle.pr_fn.proofs.instants.day_of_year.Goals as goal
 

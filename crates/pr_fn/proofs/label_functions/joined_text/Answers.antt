@@ -1,7 +1,7 @@
 use Rattle.std.proofs.Common.{ℕ, List, ◌-◌, take, drop, length, ap, sym, ◌∙◌}
-use Rattle.pr_ordered.specs.pr_vectors.LabelFunctions.{joined_text}
-use Rattle.pr_labels.specs.LabelSet.{text_at}
-use Rattle.pr_fn.specs.Separated.{with_rest}
+use Rattle.spec_vectors.specs.LabelFunctions.{joined_text}
+use Rattle.pr_match.specs.pr_labels.LabelSet.{text_at}
+use Rattle.pr_fn.specs.private.Separated.{with_rest}
 use Rattle.pr_fn.proofs.Separating.{first_and_rest, rest_separated}
 use Rattle.pr_fn.proofs.label_functions.joined_text.Goals as goal
 

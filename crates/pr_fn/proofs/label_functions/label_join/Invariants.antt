@@ -1,6 +1,6 @@
 use Rattle.std.proofs.Common.{map, take}
-use Rattle.pr_ordered.specs.pr_vectors.LabelFunctions.{with_joined}
-use Rattle.pr_fn.specs.Rows.{AreRows}
+use Rattle.spec_vectors.specs.LabelFunctions.{with_joined}
+use Rattle.pr_fn.specs.private.Rows.{AreRows}
 use Rattle.pr_fn.proofs.label_functions.label_join.Given as goal
 
 -- the elements so far, with the label set

@@ -2,13 +2,13 @@ use Rattle.std.proofs.Common.{◌≡◌, ℕ, ◌+◌, ◌<◌, ◌≤◌, List,
 use Rattle.std.specs.Prelude.{IfSome, MatchResult, Ok, Err}
 use Rattle.std.proofs.lemmas.List.{map-append, take_all, take_more}
 use Rattle.pr_num.specs.declared.value.Num.{Num}
-use Rattle.pr_labels.specs.declared.item.Item.{Item}
-use Rattle.pr_labels.specs.LabelSet.{text_at}
+use Rattle.pr_match.specs.pr_labels.declared.item.Item.{Item}
+use Rattle.pr_match.specs.pr_labels.LabelSet.{text_at}
 use Rattle.pr_match.specs.Pattern.{Replacement, expanded}
-use Rattle.pr_ordered.specs.pr_vectors.LabelFunctions.{Expansion, label_replaced, set_if_any, with_expansion}
-use Rattle.pr_ordered.specs.pr_vectors.Vectors.{element}
-use Rattle.pr_fn.specs.Faults.{function_told}
-use Rattle.pr_fn.specs.Rows.{AreRows}
+use Rattle.spec_vectors.specs.LabelFunctions.{Expansion, label_replaced, set_if_any, with_expansion}
+use Rattle.spec_vectors.specs.Vectors.{element}
+use Rattle.pr_fn.specs.private.Faults.{function_told}
+use Rattle.pr_fn.specs.private.Rows.{AreRows}
 use Rattle.pr_fn.proofs.label_functions.label_replace.Goals as goal
 
 pub returns-clause-replaced : goal.returns-clause-replaced

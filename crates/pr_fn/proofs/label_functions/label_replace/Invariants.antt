@@ -1,7 +1,7 @@
 use Rattle.std.proofs.Common.{◌≡◌, map, take}
 use Rattle.pr_match.specs.Pattern.{expanded, replacement}
-use Rattle.pr_ordered.specs.pr_vectors.LabelFunctions.{with_expansion}
-use Rattle.pr_fn.specs.Rows.{AreRows}
+use Rattle.spec_vectors.specs.LabelFunctions.{with_expansion}
+use Rattle.pr_fn.specs.private.Rows.{AreRows}
 use Rattle.pr_fn.proofs.label_functions.label_replace.Given as goal
 
 -- the elements so far, with the label set; the expander is the pattern's and the template's

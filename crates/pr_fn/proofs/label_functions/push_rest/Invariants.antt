@@ -1,5 +1,5 @@
 use Rattle.std.proofs.Common.{◌≡◌, take, string_bytes}
-use Rattle.pr_fn.specs.Separated.{with_rest}
+use Rattle.pr_fn.specs.private.Separated.{with_rest}
 use Rattle.pr_fn.proofs.label_functions.push_rest.Given as goal
 
 -- the texts so far

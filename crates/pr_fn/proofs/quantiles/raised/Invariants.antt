@@ -1,5 +1,5 @@
 use Rattle.std.proofs.Common.{◌≡◌, ◌++◌, drop, vec_len}
-use Rattle.pr_ordered.specs.pr_vectors.Histogram.{raised, raised_from}
+use Rattle.spec_vectors.specs.Histogram.{raised, raised_from}
 use Rattle.pr_fn.proofs.quantiles.raised.Given as goal
 
 -- the buckets so far, and those to come

@@ -1,6 +1,6 @@
 use Rattle.std.proofs.Common.{List, Option, subst}
-use Rattle.pr_labels.specs.declared.pair.Pair.{Pair}
-use Rattle.pr_ordered.specs.Entries.{IsPut}
+use Rattle.pr_match.specs.pr_labels.declared.pair.Pair.{Pair}
+use Rattle.pr_match.specs.pr_labels.private.Entries.{IsPut}
 use Rattle.pr_fn.proofs.RowLemmas.{rows_again, rows_more}
 use Rattle.pr_fn.proofs.rows.put.Goals as goal
 

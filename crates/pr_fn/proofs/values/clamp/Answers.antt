@@ -1,6 +1,6 @@
 use Rattle.std.proofs.Common.{◌≡◌, Bool, Ok, [], if◌then◌else◌, rules, ap, sym}
-use Rattle.pr_ordered.specs.pr_vectors.Functions.{clamped, mapped, within}
-use Rattle.pr_fn.specs.Faults.{function_told}
+use Rattle.spec_vectors.specs.Functions.{clamped, mapped, within}
+use Rattle.pr_fn.specs.private.Faults.{function_told}
 use Rattle.pr_fn.proofs.Mapping.{told_same}
 use Rattle.pr_fn.proofs.values.clamp.Goals as goal
 

@@ -4,9 +4,9 @@ use Rattle.std.proofs.lemmas.Map.Keys.{any_passes_from_place}
 use Rattle.std.proofs.lemmas.Option.{slice_get_read}
 use Rattle.std.specs.List.{filter_map}
 use Rattle.pr_num.specs.declared.value.Num.{Num}
-use Rattle.pr_labels.specs.declared.item.Item.{Item}
-use Rattle.pr_ordered.specs.pr_vectors.Functions.{is_too_wide, with_value}
-use Rattle.pr_fn.specs.Rows.{AreRows}
+use Rattle.pr_match.specs.pr_labels.declared.item.Item.{Item}
+use Rattle.spec_vectors.specs.Functions.{is_too_wide, with_value}
+use Rattle.pr_fn.specs.private.Rows.{AreRows}
 use Rattle.pr_fn.proofs.Mapping.{kept_more, none_wide}
 use Rattle.pr_fn.proofs.values.map_all.Goals as goal
 

@@ -1,8 +1,8 @@
 use Rattle.std.proofs.Common.{◌≡◌, false, take}
 use Rattle.std.specs.List.{filter_map, list_any}
-use Rattle.pr_ordered.specs.pr_vectors.Functions.{ValueFunction, is_too_wide, with_value}
-use Rattle.pr_fn.specs.Rows.{AreRows}
-use Rattle.pr_fn.specs.ValueFunctions.{WorksBy}
+use Rattle.spec_vectors.specs.Functions.{ValueFunction, is_too_wide, with_value}
+use Rattle.pr_fn.specs.private.Rows.{AreRows}
+use Rattle.pr_fn.specs.private.ValueFunctions.{WorksBy}
 use Rattle.pr_fn.proofs.values.map_all.Given as goal
 
 -- none so far was too wide, and what they gave is among the rows

@@ -1,5 +1,5 @@
 use Rattle.std.proofs.Common.{map, take}
-use Rattle.pr_fn.specs.Rows.{AreRows, without_metric}
+use Rattle.pr_fn.specs.private.Rows.{AreRows, without_metric}
 use Rattle.pr_fn.proofs.values.without_metrics.Given as goal
 
 -- the elements so far, without the name

@@ -25,7 +25,7 @@ loop-index-preserved g c =
     let rules = c.args.rules.now in
     let own = c.loop-index.own.items in
     let choice = get_or c.args.from.now i None in
-    let code = c.index-rules-index.result in
+    let definition = c.index-rules-index.result in
     let before = c.index_mut.result.now in
     let low : i < length rules = within_all i (length c.args.from.now) (length rules) (length rules) c.loop-index-test.true (sym c.requires.each) refl in
     let there : i < length own = within_all i (length rules) (length c.args.own.now.items) (length own) low c.requires.own c.loop-index.invariant.size in
@@ -33,7 +33,7 @@ loop-index-preserved g c =
       size = length-set own i c.carry_named.new.own ∙ c.loop-index.invariant.size;
       sizes = ap length c.carry_named.ensures.left ∙ still_many choice c.loop-index.olds.items ∙ c.loop-index.invariant.sizes;
       gone = λ befores e.
-          gone_next R.fits R.last R.passed rules c.args.older.now c.args.own.now.items befores c.args.from.now i own _ c.loop-index.olds.items c.carry_named.new.olds.items code before c.carry_named.new.own choice (c.loop-index.invariant.gone befores e)
-          c.requires.once c.requires.below (sym (length-map befores Some) ∙ sym (ap length e) ∙ c.requires.olds) there (slice_get_read rules (length rules) i code refl low c.index-rules-index.is) (slice_get-get_or c.args.from.now i None c.loop-index-test.true)
+          gone_next R.fits R.last R.passed rules c.args.older.now c.args.own.now.items befores c.args.from.now i own _ c.loop-index.olds.items c.carry_named.new.olds.items definition before c.carry_named.new.own choice (c.loop-index.invariant.gone befores e)
+          c.requires.once c.requires.below (sym (length-map befores Some) ∙ sym (ap length e) ∙ c.requires.olds) there (slice_get_read rules (length rules) i definition refl low c.index-rules-index.is) (slice_get-get_or c.args.from.now i None c.loop-index-test.true)
           (slice_get_read own (length own) i before refl there c.index_mut.ensures.value) c.in_ok-carry_named.ensures.goes_on refl c.carry_named.ensures.left;
     }

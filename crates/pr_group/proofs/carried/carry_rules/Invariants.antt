@@ -1,6 +1,6 @@
 use Rattle.std.proofs.Common.{◌≡◌, List, length, map, Some}
-use Rattle.pr_rule_step.specs.declared.remembered.Remembered.{Remembered}
-use Rattle.pr_group.specs.Carrying.{GoneSoFar}
+use Rattle.pr_rule.specs.declared.remembered.Remembered.{Remembered}
+use Rattle.pr_group.specs.private.Carrying.{GoneSoFar}
 use Rattle.pr_group.proofs.carried.carry_rules.Given as goal
 
 -- those so far have gone on

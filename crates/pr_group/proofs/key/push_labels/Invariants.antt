@@ -1,5 +1,5 @@
 use Rattle.std.proofs.Common.{◌≡◌, ◌++◌, drop}
-use Rattle.pr_group.specs.Matching.{labels_key}
+use Rattle.pr_group.specs.private.Matching.{labels_key}
 use Rattle.pr_group.proofs.key.push_labels.Given as goal
 
 -- what is written, and what is to come

@@ -1,5 +1,5 @@
-use Rattle.pr_ready.proofs.ContinuedTaking.{one_taken, others_wait}
-use Rattle.pr_group.specs.Matching.{continues_def, key_of}
+use Rattle.pr_group.proofs.Taking.{one_taken, others_wait}
+use Rattle.pr_group.specs.private.Matching.{continues_def, key_of}
 use Rattle.pr_group.proofs.Keys.{same_keys}
 use Rattle.pr_group.proofs.matching.continued_numbers.Goals as goal
 

@@ -1,7 +1,8 @@
 use Rattle.std.proofs.Common.{◌≡◌, take}
-use Rattle.pr_rule_step.specs.pr_rules.Taking.{numbered, numbers_taken, untaken}
-use Rattle.pr_ready.specs.pr_continued.Waiting.{AreWaiting}
-use Rattle.pr_group.specs.Matching.{continues_def, key_of}
+use Rattle.pr_rule.specs.spec_rules.private.Laws.{numbered, numbers_taken}
+use Rattle.pr_rule.specs.spec_rules.Taking.{untaken}
+use Rattle.pr_group.specs.private.Waiting.{AreWaiting}
+use Rattle.pr_group.specs.private.Matching.{continues_def, key_of}
 use Rattle.pr_group.proofs.matching.continued_numbers.Given as goal
 
 -- what those so far take, and the others wait

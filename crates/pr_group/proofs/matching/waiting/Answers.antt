@@ -1,5 +1,5 @@
-use Rattle.pr_ready.proofs.ContinuedTaking.{one_waits}
-use Rattle.pr_group.specs.Matching.{key_of}
+use Rattle.pr_group.proofs.Taking.{one_waits}
+use Rattle.pr_group.specs.private.Matching.{key_of}
 use Rattle.pr_group.proofs.matching.waiting.Goals as goal
 
 pub loop-number-preserved : goal.loop-number-preserved

@@ -1,7 +1,7 @@
 use Rattle.std.proofs.Common.{take}
-use Rattle.pr_rule_step.specs.pr_rules.Taking.{numbered}
-use Rattle.pr_ready.specs.pr_continued.Waiting.{AreWaiting}
-use Rattle.pr_group.specs.Matching.{key_of}
+use Rattle.pr_rule.specs.spec_rules.private.Laws.{numbered}
+use Rattle.pr_group.specs.private.Waiting.{AreWaiting}
+use Rattle.pr_group.specs.private.Matching.{key_of}
 use Rattle.pr_group.proofs.matching.waiting.Given as goal
 
 -- those so far wait

@@ -1,6 +1,6 @@
 use Rattle.std.proofs.Common.{ℕ, ◌<◌, sym, subst}
-use Rattle.pr_rule_step.specs.pr_lineage.Restoring.{restored_time}
-use Rattle.pr_group.specs.Restoring.{OnlyChanges}
+use Rattle.pr_rule.specs.spec_alerts.Restoring.{restored_time}
+use Rattle.pr_group.specs.private.Restoring.{OnlyChanges}
 use Rattle.pr_group.proofs.Restored.{moved_not, moved_so, only_moved}
 use Rattle.pr_group.proofs.restoring.move_alert.Goals as goal
 

@@ -1,7 +1,7 @@
 use Rattle.std.proofs.Common.{ℤ, slice_get, option_and_then, sym, ap, ◌∙◌, w64}
 use Rattle.std.proofs.lemmas.Int.{to_z-of_z}
-use Rattle.pr_rule_step.specs.pr_head.Stored.{newest_at}
-use Rattle.pr_group.specs.Restoring.{kept_of_last_hour}
+use Rattle.pr_rule.specs.pr_head.private.Stored.{newest_at}
+use Rattle.pr_group.specs.private.Restoring.{kept_of_last_hour}
 use Rattle.pr_group.proofs.ForState.{told_nowhere, told_there}
 use Rattle.pr_group.proofs.restoring.newest_until.Goals as goal
 

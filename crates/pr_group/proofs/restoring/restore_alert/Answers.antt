@@ -1,6 +1,6 @@
 use Rattle.std.proofs.Common.{◌≡◌, ◌+◌, ◌≤◌, Bool, true, cond, sym, ap, ◌∙◌, subst}
-use Rattle.pr_rule_step.specs.pr_lineage.declared.record.Record.{Record}
-use Rattle.pr_rule_step.specs.pr_lineage.Records.{is_living}
+use Rattle.pr_rule.specs.spec_alerts.declared.record.Record.{Record}
+use Rattle.pr_rule.specs.spec_alerts.Records.{is_living}
 use Rattle.pr_group.proofs.Restored.{living_here, over_stays, record_here, unwritten_stays, written_moves}
 use Rattle.pr_group.proofs.restoring.restore_alert.Goals as goal
 

@@ -1,9 +1,9 @@
 use Rattle.std.proofs.Common.{◌≡◌, ◌+◌, ◌<◌, ◌++◌, ◌∷◌, [], List, length, slice_get, Some, ap, ◌∙◌, subst, arith}
-use Rattle.pr_rule_step.specs.pr_lineage.declared.restored.Restored.{Restored}
-use Rattle.pr_rule_step.specs.pr_lineage.Lineage.{moved}
-use Rattle.pr_rule_step.specs.pr_alert.Standing.{StandsFor}
-use Rattle.pr_rule_step.specs.declared.remembered.Remembered.{Remembered}
-use Rattle.pr_group.specs.Restoring.{restored_until}
+use Rattle.pr_rule.specs.spec_alerts.declared.restored.Restored.{Restored}
+use Rattle.pr_rule.specs.spec_alerts.Lineage.{moved}
+use Rattle.pr_rule.specs.private.AlertStanding.{StandsFor}
+use Rattle.pr_rule.specs.declared.remembered.Remembered.{Remembered}
+use Rattle.pr_group.specs.private.Restoring.{restored_until}
 use Rattle.pr_group.proofs.Places.{place_there}
 use Rattle.pr_group.proofs.Restored.{living_reads, living_within, stands_next, told_next, until_all}
 use Rattle.pr_group.proofs.restoring.restore_alerts.Goals as goal

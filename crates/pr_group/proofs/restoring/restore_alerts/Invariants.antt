@@ -1,10 +1,10 @@
 use Rattle.std.proofs.Common.{◌≡◌, ℕ, true, ◌+◌, ◌≤◌, ◌++◌, ◌∷◌, [], List, length, slice_get, take}
-use Rattle.pr_history.specs.declared.entry.Entry.{Entry}
-use Rattle.pr_rule_step.specs.pr_lineage.Lineage.{Step, moved}
-use Rattle.pr_rule_step.specs.pr_lineage.Records.{living_count}
-use Rattle.pr_rule_step.specs.pr_alert.Standing.{StandsFor}
-use Rattle.pr_group.specs.Keeping.{MayEvaluateOver}
-use Rattle.pr_group.specs.Restoring.{restored_until}
+use Rattle.pr_rule.specs.spec_history.declared.entry.Entry.{Entry}
+use Rattle.pr_rule.specs.spec_alerts.Lineage.{Occurrence, moved}
+use Rattle.pr_rule.specs.spec_alerts.Records.{living_count}
+use Rattle.pr_rule.specs.private.AlertStanding.{StandsFor}
+use Rattle.pr_group.specs.private.Keeping.{MayEvaluateOver}
+use Rattle.pr_group.specs.private.Restoring.{restored_until}
 use Rattle.pr_group.proofs.restoring.restore_alerts.Given as goal
 
 -- the first ones were gone over
@@ -14,8 +14,8 @@ invariant-loop-index g l = record {
   many : length l.kept.records ≡ length l.fn.kept.records;
   later : (j : ℕ) → l.index ≤ j → slice_get l.kept.records j ≡ slice_get l.fn.kept.records j;
   reads : l.reads ≤ l.fn.reads + living_count (take l.index l.fn.kept.records);
-  stands : (history : List Entry) (lineage : List Step) → MayEvaluateOver l.head history l.now → StandsFor l.fn.kept.records lineage
+  stands : (history : List Entry) (lineage : List Occurrence) → MayEvaluateOver l.head history l.now → StandsFor l.fn.kept.records lineage
       → StandsFor l.kept.records (lineage ++ moved (restored_until history l.hold l.now l.fn.kept.records l.index) ∷ []);
-  told : (history : List Entry) (lineage : List Step) → MayEvaluateOver l.head history l.now → StandsFor l.fn.kept.records lineage
+  told : (history : List Entry) (lineage : List Occurrence) → MayEvaluateOver l.head history l.now → StandsFor l.fn.kept.records lineage
       → l.tells ≡ true → l.list.items ≡ l.fn.list.items ++ restored_until history l.hold l.now l.fn.kept.records l.index;
 }

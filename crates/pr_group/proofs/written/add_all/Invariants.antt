@@ -1,5 +1,5 @@
 use Rattle.std.proofs.Common.{◌≡◌, drop, fold}
-use Rattle.pr_labels.specs.Rising.{with_labels}
+use Rattle.pr_ast.specs.pr_labels.Rising.{with_labels}
 use Rattle.pr_group.proofs.written.add_all.Given as goal
 
 -- what is there, and what is to come

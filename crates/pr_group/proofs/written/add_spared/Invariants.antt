@@ -1,6 +1,6 @@
 use Rattle.std.proofs.Common.{◌≡◌, drop, flat_map, fold}
-use Rattle.pr_labels.specs.Rising.{with_labels}
-use Rattle.pr_group.specs.Carrying.{previous_in}
+use Rattle.pr_ast.specs.pr_labels.Rising.{with_labels}
+use Rattle.pr_group.specs.private.Carrying.{previous_in}
 use Rattle.pr_group.proofs.written.add_spared.Given as goal
 
 -- what is there, and what is to come

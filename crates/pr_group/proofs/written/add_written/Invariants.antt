@@ -1,6 +1,6 @@
 use Rattle.std.proofs.Common.{◌≡◌, drop, flat_map, fold}
-use Rattle.pr_labels.specs.Rising.{with_labels}
-use Rattle.pr_rule_step.specs.declared.remembered.Remembered.{Remembered}
+use Rattle.pr_ast.specs.pr_labels.Rising.{with_labels}
+use Rattle.pr_rule.specs.declared.remembered.Remembered.{Remembered}
 use Rattle.pr_group.proofs.written.add_written.Given as goal
 
 -- what is there, and what is to come

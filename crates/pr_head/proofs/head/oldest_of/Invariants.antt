@@ -1,7 +1,7 @@
 use Rattle.std.proofs.Common.{◌≡◌, ℕ, ◌<◌, List, Some, slice_get}
 use Rattle.pr_labels.specs.declared.pair.Pair.{Pair}
-use Rattle.pr_head.specs.Stored.{Stored}
-use Rattle.pr_head.specs.Oldest.{IsSince}
+use Rattle.pr_head.specs.private.Stored.{Stored}
+use Rattle.pr_head.specs.private.Oldest.{IsSince}
 use Rattle.pr_head.proofs.head.oldest_of.Given as goal
 
 -- no held sample of the series so far is older

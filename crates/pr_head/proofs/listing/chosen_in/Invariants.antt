@@ -1,6 +1,6 @@
 use Rattle.std.proofs.Common.{◌≡◌, ◌++◌, filter}
 use Rattle.std.specs.Map.{values_of}
-use Rattle.pr_history.specs.Series.{has_values}
+use Rattle.spec_history.specs.private.Laws.{has_values}
 use Rattle.pr_head.proofs.listing.chosen_in.Given as goal
 
 -- those so far, and those of the series that are left

@@ -1,5 +1,5 @@
 use Rattle.std.proofs.Common.{◌≡◌, drop}
-use Rattle.pr_history.specs.Series.{has_values}
+use Rattle.spec_history.specs.private.Laws.{has_values}
 use Rattle.pr_head.proofs.listing.has_values.Given as goal
 
 -- the pairs so far are met

@@ -1,8 +1,8 @@
 use Rattle.std.proofs.Common.{◌≡◌, List, Ok, Err, Result, MatchResult, IfSome, subst}
-use Rattle.pr_num.specs.declared.value.Num.{Num}
-use Rattle.pr_labels.specs.declared.item.Item.{Item}
-use Rattle.pr_ordered.specs.pr_vectors.declared.match_fault.MatchFault.{MatchFault}
-use Rattle.pr_join.specs.Faults.{match_told}
+use Rattle.spec_vectors.specs.pr_num.declared.value.Num.{Num}
+use Rattle.spec_vectors.specs.pr_labels.declared.item.Item.{Item}
+use Rattle.spec_vectors.specs.declared.match_fault.MatchFault.{MatchFault}
+use Rattle.pr_join.specs.private.Faults.{match_told}
 use Rattle.pr_join.proofs.Pairing.{left_many, right_many}
 use Rattle.pr_join.proofs.joins.join.Goals as goal
 

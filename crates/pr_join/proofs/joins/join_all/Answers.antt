@@ -1,9 +1,9 @@
 use Rattle.std.proofs.Common.{◌≡◌, suc, ◌+◌, ◌<◌, ap, sym, ◌∙◌, List, [], ◌∷◌, ◌++◌, take, drop, length, arith, refl}
 use Rattle.std.proofs.lemmas.List.{take_more, take-append-drop}
 use Rattle.std.proofs.Math.Seq.{drop-cons}
-use Rattle.pr_num.specs.declared.value.Num.{Num}
-use Rattle.pr_labels.specs.declared.item.Item.{Item}
-use Rattle.pr_ordered.specs.pr_vectors.Matching.{fault_of_outcomes, kept_pairs, outcomes_of}
+use Rattle.spec_vectors.specs.pr_num.declared.value.Num.{Num}
+use Rattle.spec_vectors.specs.pr_labels.declared.item.Item.{Item}
+use Rattle.spec_vectors.specs.Matching.{fault_of_outcomes, kept_pairs, outcomes_of}
 use Rattle.pr_join.proofs.Pairing.{fault_at, taken_more}
 use Rattle.pr_join.proofs.joins.join_all.Goals as goal
 

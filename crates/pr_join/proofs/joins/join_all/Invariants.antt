@@ -1,7 +1,7 @@
 use Rattle.std.proofs.Common.{◌≡◌, [], length, take}
-use Rattle.pr_ordered.specs.pr_vectors.Matching.{Operator, outcomes_of}
-use Rattle.pr_join.specs.Operators.{AnswersBy}
-use Rattle.pr_join.specs.Rows.{AreRowsTaken}
+use Rattle.spec_vectors.specs.Matching.{Operator, outcomes_of}
+use Rattle.pr_join.specs.private.Operators.{AnswersBy}
+use Rattle.pr_join.specs.private.Rows.{AreRowsTaken}
 use Rattle.pr_join.proofs.joins.join_all.Given as goal
 
 -- the elements so far have no fault, and what they give is kept

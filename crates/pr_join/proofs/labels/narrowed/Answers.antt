@@ -1,6 +1,6 @@
 use Rattle.std.proofs.Common.{◌≡◌, ◌∙◌, ap, sym, subst, Bool, List, IfOk}
-use Rattle.pr_labels.specs.declared.pair.Pair.{Pair}
-use Rattle.pr_ordered.specs.pr_vectors.Matching.{name_kept, narrowed}
+use Rattle.spec_vectors.specs.pr_labels.declared.pair.Pair.{Pair}
+use Rattle.spec_vectors.specs.Matching.{name_kept, narrowed}
 use Rattle.pr_join.proofs.KeyLabels.{narrowed_off, narrowed_on}
 use Rattle.pr_join.proofs.labels.narrowed.Goals as goal
 

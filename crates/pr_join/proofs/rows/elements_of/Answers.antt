@@ -1,7 +1,7 @@
 use Rattle.std.proofs.Common.{rules, List, sym, subst}
-use Rattle.pr_num.specs.declared.value.Num.{Num}
-use Rattle.pr_labels.specs.declared.item.Item.{Item}
-use Rattle.pr_ordered.specs.pr_vectors.Vectors.{IsVector}
+use Rattle.spec_vectors.specs.pr_num.declared.value.Num.{Num}
+use Rattle.spec_vectors.specs.pr_labels.declared.item.Item.{Item}
+use Rattle.spec_vectors.specs.private.Laws.{IsVector}
 use Rattle.pr_join.proofs.Ordered.{sorted_vector}
 use Rattle.pr_join.proofs.rows.elements_of.Goals as goal
 

@@ -1,9 +1,9 @@
 use Rattle.std.proofs.Common.{◌≡◌, ◌∙◌, ap, sym, refl, subst, Bool, true, false, [], ◌∷◌, ◌++◌, length, set, slice_get, Some, None}
 use Rattle.std.proofs.lemmas.Option.{slice_get_read}
-use Rattle.pr_labels.specs.declared.matching.Card.{Card}
-use Rattle.pr_ordered.specs.pr_vectors.declared.match_fault.MatchFault.TheVariants as fault
-use Rattle.pr_ordered.specs.pr_vectors.Matching.{key_fault}
-use Rattle.pr_join.specs.Rows.{HasTakenKeys, is_one_to_one}
+use Rattle.spec_vectors.specs.pr_labels.declared.matching.Card.{Card}
+use Rattle.spec_vectors.specs.declared.match_fault.MatchFault.TheVariants as fault
+use Rattle.spec_vectors.specs.Matching.{key_fault}
+use Rattle.pr_join.specs.private.Rows.{HasTakenKeys, is_one_to_one}
 use Rattle.pr_join.proofs.Taken.{taken_more, taken_twice}
 use Rattle.pr_join.proofs.rows.take_key.Goals as goal
 

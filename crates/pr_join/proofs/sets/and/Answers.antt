@@ -1,6 +1,6 @@
 use Rattle.std.proofs.Common.{true}
-use Rattle.pr_ordered.proofs.VectorsVectors.{vector_filter}
-use Rattle.pr_join.specs.Sets.{matched, with_match}
+use Rattle.spec_vectors.proofs.Vectors.{vector_filter}
+use Rattle.pr_join.specs.private.Sets.{matched, with_match}
 use Rattle.pr_join.proofs.Ordered.{still_vector}
 use Rattle.pr_join.proofs.sets.and.Goals as goal
 

@@ -1,13 +1,13 @@
 use Rattle.std.proofs.Common.{◌≡◌, ap, sym, ◌∙◌, subst, List, [], ◌++◌, fold, IfOk}
 use Rattle.std.proofs.lemmas.List.Sums.{fold-append}
-use Rattle.pr_num.specs.declared.value.Num.{Num}
-use Rattle.pr_labels.specs.declared.pair.Pair.{Pair}
-use Rattle.pr_labels.specs.declared.item.Item.{Item}
-use Rattle.pr_ordered.specs.pr_vectors.Vectors.{with_element}
-use Rattle.pr_ordered.specs.pr_vectors.Matching.{either_side, left_alone}
-use Rattle.pr_ordered.proofs.VectorsVectors.{vector_in_order}
-use Rattle.pr_ordered.specs.Entries.{items_of}
-use Rattle.pr_join.specs.Rows.{elements}
+use Rattle.spec_vectors.specs.pr_num.declared.value.Num.{Num}
+use Rattle.spec_vectors.specs.pr_labels.declared.pair.Pair.{Pair}
+use Rattle.spec_vectors.specs.pr_labels.declared.item.Item.{Item}
+use Rattle.spec_vectors.specs.Vectors.{with_element}
+use Rattle.spec_vectors.specs.Matching.{either_side, left_alone}
+use Rattle.spec_vectors.proofs.Vectors.{vector_in_order}
+use Rattle.spec_vectors.specs.pr_labels.private.Entries.{items_of}
+use Rattle.pr_join.specs.private.Rows.{elements}
 use Rattle.pr_join.proofs.Ordered.{still_vector}
 use Rattle.pr_join.proofs.sets.or.Goals as goal
 

@@ -1,8 +1,8 @@
 use Rattle.std.proofs.Common.{arith}
 use Rattle.sqlite.specs.Held.{state}
 use Rattle.sqlite.specs.State.{HasCleanDisk}
-use Rattle.pr_keep_sql.specs.Statements.{MakesKept}
-use Rattle.pr_keep_sql.specs.Texts.{kept_text}
+use Rattle.pr_keep_sql.specs.private.Statements.{MakesKept}
+use Rattle.pr_keep_sql.specs.private.Texts.{kept_text}
 use Rattle.pr_keep_sql.proofs.MakingLemmas.{goes_on, makes_kept}
 use Rattle.pr_keep_sql.proofs.StateLemmas.{keeps_inside}
 use Rattle.pr_keep_sql.proofs.making.make_kept.Goals as goal

@@ -1,8 +1,8 @@
 use Rattle.std.proofs.Common.{arith}
 use Rattle.sqlite.specs.Held.{state}
 use Rattle.sqlite.specs.State.{HasCleanDisk}
-use Rattle.pr_keep_sql.specs.Statements.{MakesVersion}
-use Rattle.pr_keep_sql.specs.Texts.{version_text}
+use Rattle.pr_keep_sql.specs.private.Statements.{MakesVersion}
+use Rattle.pr_keep_sql.specs.private.Texts.{version_text}
 use Rattle.pr_keep_sql.proofs.MakingLemmas.{goes_on, makes_version}
 use Rattle.pr_keep_sql.proofs.StateLemmas.{keeps_inside}
 use Rattle.pr_keep_sql.proofs.making.make_version.Goals as goal

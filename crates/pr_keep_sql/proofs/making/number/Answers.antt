@@ -1,8 +1,8 @@
 use Rattle.std.proofs.Common.{arith}
 use Rattle.sqlite.specs.Held.{state}
 use Rattle.sqlite.specs.State.{HasCleanDisk}
-use Rattle.pr_keep_sql.specs.Statements.{Numbers}
-use Rattle.pr_keep_sql.specs.Texts.{number_text}
+use Rattle.pr_keep_sql.specs.private.Statements.{Numbers}
+use Rattle.pr_keep_sql.specs.private.Texts.{number_text}
 use Rattle.pr_keep_sql.proofs.MakingLemmas.{goes_on, numbers}
 use Rattle.pr_keep_sql.proofs.StateLemmas.{keeps_inside}
 use Rattle.pr_keep_sql.proofs.making.number.Goals as goal

@@ -1,5 +1,5 @@
 use Rattle.std.proofs.Common.{◌≡◌, ◌≤◌, ◌^◌, drop}
-use Rattle.pr_keep_sql.specs.Found.{AreFound}
+use Rattle.pr_keep_sql.specs.private.Found.{AreFound}
 use Rattle.pr_keep_sql.proofs.reading.are_found.Given as goal
 
 abbrev pub invariant-rows : goal.invariant-rows

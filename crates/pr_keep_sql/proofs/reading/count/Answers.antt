@@ -1,12 +1,12 @@
 use Rattle.std.proofs.Common.{not, ap, subst, sym, ◌∙◌}
 use Rattle.std.proofs.lemmas.Option.{IfSome_then}
 use Rattle.sqlite.specs.Held.{state}
-use Rattle.pr_keep_sql.specs.Found.{AreFound}
-use Rattle.pr_keep_sql.specs.Ran.{IsCount}
+use Rattle.pr_keep_sql.specs.private.Found.{AreFound}
+use Rattle.pr_keep_sql.specs.private.Ran.{IsCount}
 use Rattle.pr_keep_sql.proofs.FoundLemmas.{count_found}
 use Rattle.pr_keep_sql.proofs.RanLemmas.{count_is, some_count}
 use Rattle.pr_keep_sql.proofs.OrderLemmas.{rows_in_order}
-use Rattle.pr_keep_sql.specs.Texts.{rows_text}
+use Rattle.pr_keep_sql.specs.private.Texts.{rows_text}
 use Rattle.pr_keep_sql.proofs.QueryTexts.{rows_only_read}
 use Rattle.pr_keep_sql.proofs.StateLemmas.{fails_open, fails_same, shown_open, shown_same}
 use Rattle.pr_keep_sql.proofs.reading.count.Goals as goal

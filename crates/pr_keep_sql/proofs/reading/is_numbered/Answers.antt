@@ -1,6 +1,6 @@
 use Rattle.std.proofs.Common.{map, not, ap, sym, ◌∙◌}
 use Rattle.sqlite.specs.Held.{state}
-use Rattle.pr_keep_sql.specs.Texts.{numbers_text}
+use Rattle.pr_keep_sql.specs.private.Texts.{numbers_text}
 use Rattle.pr_keep_sql.proofs.QueryLemmas.{first_cell, numbers_found, numbers_shown}
 use Rattle.pr_keep_sql.proofs.QueryTexts.{numbers_only_read}
 use Rattle.pr_keep_sql.proofs.StateLemmas.{fails_open, fails_same, shown_open, shown_same}

@@ -1,12 +1,12 @@
 use Rattle.std.proofs.Common.{◌≡◌, arith, subst, sym, ◌∙◌}
 use Rattle.sqlite.specs.Held.{state}
 use Rattle.sqlite.specs.State.{HasCleanDisk}
-use Rattle.pr_keep_sql.specs.Refusals.{IsTransactionRefused}
-use Rattle.pr_keep_sql.specs.Texts.{inserts}
-use Rattle.pr_keep_sql.specs.Ran.{HasRun}
+use Rattle.pr_keep_sql.specs.private.Refusals.{IsTransactionRefused}
+use Rattle.pr_keep_sql.specs.private.Texts.{inserts}
+use Rattle.pr_keep_sql.specs.private.Ran.{HasRun}
 use Rattle.pr_keep_sql.proofs.RanLemmas.{has_run}
 use Rattle.pr_keep_sql.proofs.RefusalLemmas.{commit_stopped, stopped_back}
-use Rattle.pr_keep_sql.specs.Statements.{Lasts}
+use Rattle.pr_keep_sql.specs.private.Statements.{Lasts}
 use Rattle.pr_keep_sql.proofs.StateLemmas.{lasts_begun, lasts_by, lasts_then}
 use Rattle.pr_keep_sql.proofs.statements.add_all.Goals as goal
 

@@ -2,10 +2,10 @@ use Rattle.std.proofs.Common.{◌≡◌, ◌+◌, ◌≤◌, take, IsTrue}
 use Rattle.sqlite.specs.State.{HasCleanDisk, KeepsCommit}
 use Rattle.sqlite.specs.Held.{state}
 use Rattle.sqlite.specs.View.{doubt}
-use Rattle.pr_keep_sql.specs.Kept.{WhileOpen}
-use Rattle.pr_keep_sql.specs.Refusals.{RanInTurn}
-use Rattle.pr_keep_sql.specs.Statements.{Adds, Lasts}
-use Rattle.pr_keep_sql.specs.Texts.{inserts}
+use Rattle.pr_keep_sql.specs.private.Kept.{WhileOpen}
+use Rattle.pr_keep_sql.specs.private.Refusals.{RanInTurn}
+use Rattle.pr_keep_sql.specs.private.Statements.{Adds, Lasts}
+use Rattle.pr_keep_sql.specs.private.Texts.{inserts}
 use Rattle.pr_keep_sql.proofs.statements.add_rows.Given as goal
 
 abbrev pub invariant-rows : goal.invariant-rows

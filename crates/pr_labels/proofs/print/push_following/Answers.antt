@@ -1,7 +1,6 @@
 use Rattle.std.proofs.Common.{arith}
 use Rattle.std.proofs.lemmas.Grind.{common_steps}
-use Rattle.pr_strings.proofs.Fronts.{front_after}
-use Rattle.pr_labels.proofs.Fronts.{front_on}
+use Rattle.pr_words.proofs.Fronts.{front_after, front_on}
 use Rattle.pr_labels.proofs.GoesOn.{goes_on, goes_on_if, comma_text}
 use Rattle.pr_labels.proofs.print.push_following.Goals as goal
 

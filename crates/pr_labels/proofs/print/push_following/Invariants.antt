@@ -1,5 +1,5 @@
 use Rattle.std.proofs.Common.{◌≡◌, ◌++◌, length, take, drop, flat_map}
-use Rattle.pr_strings.specs.Reader.{KeepsText}
+use Rattle.pr_words.specs.private.Reader.{KeepsText}
 use Rattle.pr_labels.specs.SeriesText.{following_text}
 use Rattle.pr_labels.proofs.print.push_following.Given as goal
 

@@ -1,6 +1,6 @@
 use Rattle.std.proofs.Common.{arith, drop, ◌+◌}
 use Rattle.std.proofs.lemmas.Grind.{common_steps}
-use Rattle.pr_labels.proofs.Fronts.{front_on}
+use Rattle.pr_words.proofs.Fronts.{front_on}
 use Rattle.pr_labels.proofs.GoesOn.{goes_on_if, close_text}
 use Rattle.pr_labels.proofs.print.push_rest.Goals as goal
 

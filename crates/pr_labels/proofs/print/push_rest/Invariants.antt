@@ -1,5 +1,5 @@
 use Rattle.std.proofs.Common.{◌≡◌, ◌++◌, length, take, drop}
-use Rattle.pr_strings.specs.Reader.{KeepsText}
+use Rattle.pr_words.specs.private.Reader.{KeepsText}
 use Rattle.pr_labels.specs.SeriesText.{left_text, rest_text, unnamed}
 use Rattle.pr_labels.proofs.print.push_rest.Given as goal
 

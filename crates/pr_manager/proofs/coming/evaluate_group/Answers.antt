@@ -1,6 +1,6 @@
 use Rattle.std.proofs.Common.{ap, sym, ◌∙◌}
-use Rattle.pr_world.specs.declared.report.Report.TheVariants as report
-use Rattle.pr_manager.specs.Coming.{too_late}
+use Rattle.spec_world.specs.declared.report.Report.TheVariants as report
+use Rattle.pr_manager.specs.private.Coming.{too_late}
 use Rattle.pr_manager.proofs.Evaluated.{comes_evaluated, few_group, own_evaluated}
 use Rattle.pr_manager.proofs.coming.evaluate_group.Goals as goal
 

@@ -1,6 +1,6 @@
 use Rattle.std.proofs.Common.{Option, subst, sym}
-use Rattle.pr_group.specs.Keeping.{KeptGroup}
-use Rattle.pr_manager.specs.Continuing.{Continues}
+use Rattle.pr_group.specs.private.Keeping.{KeptGroup}
+use Rattle.pr_manager.specs.private.Continuing.{Continues}
 use Rattle.pr_manager.proofs.Continued.{goes_alone}
 use Rattle.pr_manager.proofs.continuing.carry_any.Goals as goal
 

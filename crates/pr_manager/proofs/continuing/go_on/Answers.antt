@@ -1,5 +1,5 @@
 use Rattle.std.proofs.Common.{◌≡◌, [], arith}
-use Rattle.pr_manager.specs.Naming.{value_of}
+use Rattle.pr_manager.specs.private.Naming.{value_of}
 use Rattle.pr_manager.proofs.Continued.{going_end, going_then}
 use Rattle.pr_manager.proofs.Loaded.{empty}
 use Rattle.pr_manager.proofs.continuing.go_on.Goals as goal

@@ -1,4 +1,4 @@
-use Rattle.pr_manager.specs.Naming.{value_of}
+use Rattle.pr_manager.specs.private.Naming.{value_of}
 use Rattle.pr_manager.proofs.Continued.{AreGoingOn}
 use Rattle.pr_manager.proofs.continuing.go_on.Given as goal
 

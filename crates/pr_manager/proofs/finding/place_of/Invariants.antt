@@ -1,7 +1,7 @@
 use Rattle.std.proofs.Common.{◌≡◌, ◌+◌, length}
 use Rattle.std.specs.Option.{option_map}
-use Rattle.pr_manager.specs.Finding.{place_of}
-use Rattle.pr_manager.specs.Naming.{is_kept_named}
+use Rattle.pr_manager.specs.private.Finding.{place_of}
+use Rattle.pr_manager.specs.private.Naming.{is_kept_named}
 use Rattle.pr_manager.proofs.finding.place_of.Given as goal
 
 abbrev pub invariant-finding : goal.invariant-finding

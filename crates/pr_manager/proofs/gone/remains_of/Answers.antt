@@ -1,7 +1,7 @@
 use Rattle.std.proofs.Common.{List, ◌++◌, ap, subst}
 use Rattle.std.specs.Prelude.{flat_map}
-use Rattle.pr_labels.specs.declared.pair.Pair.{Pair}
-use Rattle.pr_world.specs.pr_rules.Reloads.{remains}
+use Rattle.pr_ast.specs.pr_labels.declared.pair.Pair.{Pair}
+use Rattle.spec_world.specs.spec_rules.Reloads.{remains}
 use Rattle.pr_manager.proofs.Remaining.{AreLeft, left_one, left_end}
 use Rattle.pr_manager.proofs.gone.remains_of.Goals as goal
 

@@ -1,10 +1,10 @@
 use Rattle.std.proofs.Common.{List, length}
 use Rattle.std.specs.Prelude.{flat_map}
-use Rattle.pr_history.specs.declared.entry.Entry.{Entry}
-use Rattle.pr_world.specs.pr_rules.Groups.{Group}
-use Rattle.pr_world.specs.pr_rules.Reloads.{remains}
-use Rattle.pr_world.specs.pr_rules.Settings.{Settings}
-use Rattle.pr_manager.specs.Keeping.{KeepEach}
+use Rattle.spec_world.specs.spec_history.declared.entry.Entry.{Entry}
+use Rattle.spec_world.specs.spec_rules.Groups.{Group}
+use Rattle.spec_world.specs.spec_rules.Reloads.{remains}
+use Rattle.spec_world.specs.spec_rules.Settings.{Settings}
+use Rattle.pr_manager.specs.private.Keeping.{KeepEach}
 use Rattle.pr_manager.proofs.Remaining.{AreLeft}
 use Rattle.pr_manager.proofs.gone.remains_of.Given as goal
 

@@ -1,4 +1,4 @@
-use Rattle.pr_manager.specs.Keeping.{settings_in}
+use Rattle.pr_manager.specs.private.Keeping.{settings_in}
 use Rattle.pr_manager.proofs.Each.{all_stay}
 use Rattle.pr_manager.proofs.Passing.{each_stays_passed}
 use Rattle.pr_manager.proofs.laws.kept_groups_stay.Goals as goal

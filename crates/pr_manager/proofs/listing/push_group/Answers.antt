@@ -1,6 +1,6 @@
 use Rattle.std.proofs.Common.{◌++◌, ◌<◌, ◌≤◌, length, map, ap, ◌∙◌, arith}
-use Rattle.pr_world.specs.pr_rulefile.declared.rules.GroupDef.{GroupDef}
-use Rattle.pr_world.specs.Rounds.{alert_line, group_alerts}
+use Rattle.spec_world.specs.spec_rules.declared.definitions.GroupDef.{GroupDef}
+use Rattle.spec_world.specs.Rounds.{alert_line, group_alerts}
 use Rattle.pr_manager.proofs.Listed.{as_many_rules, rules_end, rules_then}
 use Rattle.pr_manager.proofs.listing.push_group.Goals as goal
 

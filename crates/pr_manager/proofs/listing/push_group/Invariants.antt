@@ -1,8 +1,8 @@
 use Rattle.std.proofs.Common.{◌-◌, ◌++◌, List, map}
-use Rattle.pr_history.specs.declared.entry.Entry.{Entry}
-use Rattle.pr_world.specs.pr_rules.Groups.{Group}
-use Rattle.pr_group.specs.Keeping.{KeepsGroup}
-use Rattle.pr_world.specs.Rounds.{alert_line, group_alerts}
+use Rattle.spec_world.specs.spec_history.declared.entry.Entry.{Entry}
+use Rattle.spec_world.specs.spec_rules.Groups.{Group}
+use Rattle.pr_group.specs.private.Keeping.{KeepsGroup}
+use Rattle.spec_world.specs.Rounds.{alert_line, group_alerts}
 use Rattle.pr_manager.proofs.Listed.{RulesLeft}
 use Rattle.pr_manager.proofs.listing.push_group.Given as goal
 

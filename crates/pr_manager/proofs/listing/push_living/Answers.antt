@@ -1,9 +1,9 @@
 use Rattle.std.proofs.Common.{◌≡◌, ◌++◌, ◌∷◌, [], List, map, ap, sym, subst, ◌∙◌}
 use Rattle.std.specs.Prelude.{filter}
-use Rattle.pr_group.specs.pr_lineage.declared.record.Record.{Record}
-use Rattle.pr_group.specs.pr_lineage.Records.{is_living}
-use Rattle.pr_world.specs.declared.report.AlertLine.{AlertLine}
-use Rattle.pr_world.specs.Rounds.{alert_line}
+use Rattle.spec_world.specs.spec_alerts.declared.record.Record.{Record}
+use Rattle.spec_world.specs.spec_alerts.Records.{is_living}
+use Rattle.spec_world.specs.declared.report.AlertLine.{AlertLine}
+use Rattle.spec_world.specs.Rounds.{alert_line}
 use Rattle.pr_manager.proofs.Listed.{living_then, passed_over}
 use Rattle.pr_manager.proofs.listing.push_living.Goals as goal
 

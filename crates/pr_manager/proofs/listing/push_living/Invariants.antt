@@ -1,7 +1,7 @@
 use Rattle.std.proofs.Common.{◌≡◌, ◌++◌, length, map}
 use Rattle.std.specs.Prelude.{filter}
-use Rattle.pr_group.specs.pr_lineage.Records.{is_living}
-use Rattle.pr_world.specs.Rounds.{alert_line}
+use Rattle.spec_world.specs.spec_alerts.Records.{is_living}
+use Rattle.spec_world.specs.Rounds.{alert_line}
 use Rattle.pr_manager.proofs.listing.push_living.Given as goal
 
 abbrev pub invariant-listing : goal.invariant-listing

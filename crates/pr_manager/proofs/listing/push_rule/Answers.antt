@@ -1,8 +1,8 @@
 use Rattle.std.proofs.Common.{◌≡◌, ◌++◌, true, false, List, map, ap, ◌∙◌}
 use Rattle.std.specs.Prelude.{filter}
-use Rattle.pr_group.specs.pr_lineage.declared.record.Record.{Record}
-use Rattle.pr_group.specs.pr_lineage.Records.{is_living}
-use Rattle.pr_world.specs.Rounds.{alert_line, rule_alerts}
+use Rattle.spec_world.specs.spec_alerts.declared.record.Record.{Record}
+use Rattle.spec_world.specs.spec_alerts.Records.{is_living}
+use Rattle.spec_world.specs.Rounds.{alert_line, rule_alerts}
 use Rattle.pr_manager.proofs.Listed.{alerting, listed_none, listed_some, on_on}
 use Rattle.pr_manager.proofs.listing.push_rule.Goals as goal
 

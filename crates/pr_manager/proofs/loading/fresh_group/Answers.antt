@@ -1,6 +1,6 @@
-use Rattle.pr_world.specs.pr_rulefile.Groups.{group_of_def}
-use Rattle.pr_group.specs.Keeping.{waits_of}
-use Rattle.pr_manager.specs.Keeping.{settings_with}
+use Rattle.spec_world.specs.spec_rules.Definitions.{group_of_def}
+use Rattle.pr_group.specs.private.Keeping.{waits_of}
+use Rattle.pr_manager.specs.private.Keeping.{settings_with}
 use Rattle.pr_manager.proofs.Loaded.{new_under, new_unpassed}
 use Rattle.pr_manager.proofs.loading.fresh_group.Goals as goal
 

@@ -1,11 +1,11 @@
 use Rattle.std.proofs.Common.{List, ◌≡◌, Ok, Err, map, subst, sym}
-use Rattle.pr_world.specs.pr_rulefile.File.{groups_given, rule_file_of}
-use Rattle.pr_world.specs.pr_rules.Groups.{fresh}
-use Rattle.pr_group.specs.Keeping.{waits_of}
-use Rattle.pr_world.specs.Rounds.{all_loaded}
-use Rattle.pr_world.specs.declared.event.NamedFile.{NamedFile}
-use Rattle.pr_manager.specs.Keeping.{settings_with}
-use Rattle.pr_manager.specs.Loading.{fresh_by, loaded_files}
+use Rattle.spec_world.specs.pr_rulefile.File.{groups_given, rule_file_of}
+use Rattle.spec_world.specs.spec_rules.Groups.{fresh}
+use Rattle.pr_group.specs.private.Keeping.{waits_of}
+use Rattle.spec_world.specs.Rounds.{all_loaded}
+use Rattle.spec_world.specs.declared.event.NamedFile.{NamedFile}
+use Rattle.pr_manager.specs.private.Keeping.{settings_with}
+use Rattle.pr_manager.specs.private.Loading.{fresh_by, loaded_files}
 use Rattle.pr_manager.proofs.Loaded.{AreKeptSoFar, kept_end, kept_file, loaded_then, refused_then}
 use Rattle.pr_manager.proofs.loading.load.Goals as goal
 

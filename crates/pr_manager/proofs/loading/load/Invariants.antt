@@ -1,11 +1,11 @@
 use Rattle.std.proofs.Common.{◌≡◌, List, Ok, Err, length}
 use Rattle.std.specs.List.{All}
-use Rattle.pr_history.specs.declared.entry.Entry.{Entry}
-use Rattle.pr_group.specs.Keeping.{waits_of}
-use Rattle.pr_world.specs.Rounds.{all_loaded}
-use Rattle.pr_world.specs.declared.report.Report.{Report}
-use Rattle.pr_manager.specs.Keeping.{settings_with}
-use Rattle.pr_manager.specs.Loading.{HasPassedNothing, fresh_by, loaded_files}
+use Rattle.spec_world.specs.spec_history.declared.entry.Entry.{Entry}
+use Rattle.pr_group.specs.private.Keeping.{waits_of}
+use Rattle.spec_world.specs.Rounds.{all_loaded}
+use Rattle.spec_world.specs.declared.report.Report.{Report}
+use Rattle.pr_manager.specs.private.Keeping.{settings_with}
+use Rattle.pr_manager.specs.private.Loading.{HasPassedNothing, fresh_by, loaded_files}
 use Rattle.pr_manager.proofs.Loaded.{AreKeptSoFar}
 use Rattle.pr_manager.proofs.loading.load.Given as goal
 

@@ -1,13 +1,13 @@
 use Rattle.std.proofs.Common.{List, ◌≡◌, ◌++◌, [], map, arith, subst, sym}
 use Rattle.std.specs.List.{All}
 use Rattle.std.proofs.lemmas.List.Elements.{All-push, All-tail}
-use Rattle.pr_group.specs.pr_rule_result.Templates.{HaveTemplates}
-use Rattle.pr_world.specs.pr_rulefile.Groups.{group_of_def}
-use Rattle.pr_world.specs.pr_rulefile.declared.rules.GroupDef.{GroupDef}
-use Rattle.pr_world.specs.pr_rules.Groups.{fresh}
-use Rattle.pr_group.specs.Keeping.{KeptGroup, waits_of}
-use Rattle.pr_manager.specs.Keeping.{settings_with}
-use Rattle.pr_manager.specs.Loading.{HasPassedNothing}
+use Rattle.pr_group.specs.pr_rule.private.Templates.{HaveTemplates}
+use Rattle.spec_world.specs.spec_rules.Definitions.{group_of_def}
+use Rattle.spec_world.specs.spec_rules.declared.definitions.GroupDef.{GroupDef}
+use Rattle.spec_world.specs.spec_rules.Groups.{fresh}
+use Rattle.pr_group.specs.private.Keeping.{KeptGroup, waits_of}
+use Rattle.pr_manager.specs.private.Keeping.{settings_with}
+use Rattle.pr_manager.specs.private.Loading.{HasPassedNothing}
 use Rattle.pr_manager.proofs.Loaded.{AreKeptSoFar, empty, kept_all, kept_none, kept_one}
 use Rattle.pr_manager.proofs.loading.push_groups.Goals as goal
 

@@ -1,12 +1,12 @@
 use Rattle.std.proofs.Common.{List, map}
 use Rattle.std.specs.List.{All}
-use Rattle.pr_history.specs.declared.entry.Entry.{Entry}
-use Rattle.pr_group.specs.pr_rule_result.Templates.{HaveTemplates}
-use Rattle.pr_world.specs.pr_rulefile.Groups.{group_of_def}
-use Rattle.pr_world.specs.pr_rules.Groups.{Group, fresh}
-use Rattle.pr_group.specs.Keeping.{waits_of}
-use Rattle.pr_manager.specs.Keeping.{settings_with}
-use Rattle.pr_manager.specs.Loading.{HasPassedNothing}
+use Rattle.spec_world.specs.spec_history.declared.entry.Entry.{Entry}
+use Rattle.pr_group.specs.pr_rule.private.Templates.{HaveTemplates}
+use Rattle.spec_world.specs.spec_rules.Definitions.{group_of_def}
+use Rattle.spec_world.specs.spec_rules.Groups.{Group, fresh}
+use Rattle.pr_group.specs.private.Keeping.{waits_of}
+use Rattle.pr_manager.specs.private.Keeping.{settings_with}
+use Rattle.pr_manager.specs.private.Loading.{HasPassedNothing}
 use Rattle.pr_manager.proofs.Loaded.{AreKeptSoFar}
 use Rattle.pr_manager.proofs.loading.push_groups.Given as goal
 

@@ -1,8 +1,8 @@
 use Rattle.std.proofs.Common.{◌||◌, List, ◌∷◌, ap, sym, ◌∙◌}
 use Rattle.std.specs.Prelude.{is_some}
-use Rattle.pr_group.specs.Keeping.{KeptGroup}
+use Rattle.pr_group.specs.private.Keeping.{KeptGroup}
 use Rattle.pr_manager.specs.declared.naming.GroupName.{GroupName}
-use Rattle.pr_manager.specs.Naming.{is_among, names_of, value_of}
+use Rattle.pr_manager.specs.private.Naming.{is_among, names_of, value_of}
 use Rattle.pr_manager.proofs.Parts.{names_end, names_then}
 use Rattle.pr_manager.proofs.parting.names_of.Goals as goal
 

@@ -1,7 +1,7 @@
 use Rattle.std.proofs.Common.{◌≡◌, ◌||◌, length}
 use Rattle.std.specs.Prelude.{is_some}
 use Rattle.pr_manager.specs.declared.naming.GroupName.{GroupName}
-use Rattle.pr_manager.specs.Naming.{is_among, names_of, value_of}
+use Rattle.pr_manager.specs.private.Naming.{is_among, names_of, value_of}
 use Rattle.pr_manager.proofs.parting.names_of.Given as goal
 
 abbrev pub invariant-naming : goal.invariant-naming

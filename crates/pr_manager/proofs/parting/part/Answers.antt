@@ -1,8 +1,8 @@
 use Rattle.std.proofs.Common.{◌≡◌, ◌++◌, [], not, arith, List, ap, subst, ◌∙◌}
 use Rattle.std.specs.Prelude.{filter, is_some}
-use Rattle.pr_group.specs.Keeping.{KeptGroup}
+use Rattle.pr_group.specs.private.Keeping.{KeptGroup}
 use Rattle.pr_manager.specs.declared.naming.GroupName.{GroupName}
-use Rattle.pr_manager.specs.Naming.{first_of, is_among, kept_under, name_of, names_of, value_of}
+use Rattle.pr_manager.specs.private.Naming.{first_of, is_among, kept_under, name_of, names_of, value_of}
 use Rattle.pr_manager.proofs.Loaded.{empty}
 use Rattle.pr_manager.proofs.Parts.{gone_end, gone_then, waits_end, waits_then}
 use Rattle.pr_manager.proofs.parting.part.Goals as goal

@@ -1,7 +1,7 @@
 use Rattle.std.proofs.Common.{◌≡◌, ◌++◌, true, not}
 use Rattle.std.specs.Prelude.{filter}
 use Rattle.pr_manager.specs.declared.naming.GroupName.{GroupName}
-use Rattle.pr_manager.specs.Naming.{first_of, is_among, kept_under, name_of, names_of, value_of}
+use Rattle.pr_manager.specs.private.Naming.{first_of, is_among, kept_under, name_of, names_of, value_of}
 use Rattle.pr_manager.proofs.parting.part.Given as goal
 
 abbrev pub invariant-loop-old : goal.invariant-loop-old

@@ -1,6 +1,6 @@
 use Rattle.std.proofs.Common.{sym, ◌∙◌}
 use Rattle.std.specs.Prelude.{is_some}
-use Rattle.pr_manager.specs.Naming.{value_of}
+use Rattle.pr_manager.specs.private.Naming.{value_of}
 use Rattle.pr_manager.proofs.Parts.{none_gone}
 use Rattle.pr_manager.proofs.parting.part_one.Goals as goal
 

@@ -1,8 +1,8 @@
 use Rattle.std.proofs.Common.{◌≡◌, ◌+◌, ◌∷◌, [], false, take, suc, ap, sym, ◌∙◌, refl, subst, arith}
-use Rattle.pr_grammar.specs.Seen.{kinds_of}
-use Rattle.pr_grammar.specs.declared.kind.Lexed.{Lexed}
+use Rattle.pr_parse.specs.Seen.{kinds_of}
+use Rattle.pr_parse.specs.declared.grammar.kind.Lexed.{Lexed}
 use Rattle.pr_parse.specs.Deep.{fresh, after_kind, depth_now, depth_from}
-use Rattle.pr_parse.specs.DeepReader.{parts_of}
+use Rattle.pr_parse.specs.private.DeepReader.{parts_of}
 use Rattle.pr_parse.proofs.Depths.{kinds_next, parts_step, low_height, is_over, is_low, becomes_deep, stays_low, kinds_length}
 use Rattle.pr_parse.proofs.depth.too_deep_at.Goals as goal
 

@@ -1,7 +1,7 @@
 use Rattle.std.proofs.Common.{◌≡◌, ◌≤◌, ◌-◌, [], ◌∷◌, false, take, length}
-use Rattle.pr_grammar.specs.Seen.{kinds_of}
+use Rattle.pr_parse.specs.Seen.{kinds_of}
 use Rattle.pr_parse.specs.Deep.{fresh, after_kinds, depth}
-use Rattle.pr_parse.specs.DeepReader.{parts_of}
+use Rattle.pr_parse.specs.private.DeepReader.{parts_of}
 use Rattle.pr_parse.proofs.depth.too_deep_at.Given as goal
 
 abbrev pub invariant-loop-at : goal.invariant-loop-at

@@ -1,10 +1,10 @@
 use Rattle.std.proofs.Common.{◌≡◌, ℕ, zero, suc, List, [], ◌∷◌, take, None, Option, refl, ap, ◌∙◌}
 use Rattle.std.specs.Prelude.{slice_get}
-use Rattle.pr_grammar.specs.declared.kind.Kind.{Kind}
-use Rattle.pr_grammar.specs.declared.kind.Lexed.{Lexed}
+use Rattle.pr_parse.specs.declared.grammar.kind.TokenClass.{TokenClass}
+use Rattle.pr_parse.specs.declared.grammar.kind.Lexed.{Lexed}
 use Rattle.pr_parse.specs.declared.fault.Names.{Names}
 use Rattle.pr_parse.specs.declared.fault.Names.TheVariants.{Elsewhere}
-use Rattle.pr_grammar.specs.Seen.{kinds_of}
+use Rattle.pr_parse.specs.Seen.{kinds_of}
 use Rattle.pr_parse.specs.Faults.{names_from, kind_by, kind_before, second_before, kind_at}
 use Rattle.pr_parse.proofs.kinds.kind_at.Goals as goal
 
@@ -13,7 +13,7 @@ kinds_of_front zero ts = refl
 kinds_of_front (suc n) [] = refl
 kinds_of_front (suc n) (t ∷ ts) = ap (λ ks. t.kind ∷ ks) (kinds_of_front n ts)
 
-kind_known : (ts : List Lexed) (n : ℕ) (names : Names) (before second here : Option Kind) → names ≡ names_from Elsewhere None (kinds_of (take n ts)) → before ≡ kind_before (kinds_of ts) n →
+kind_known : (ts : List Lexed) (n : ℕ) (names : Names) (before second here : Option TokenClass) → names ≡ names_from Elsewhere None (kinds_of (take n ts)) → before ≡ kind_before (kinds_of ts) n →
     second ≡ second_before (kinds_of ts) n → here ≡ slice_get (kinds_of ts) n → kind_by names before second here ≡ kind_at (kinds_of ts) n
 kind_known ts n names before second here e f g h = rw (e, f, g, h, kinds_of_front n ts) refl
 

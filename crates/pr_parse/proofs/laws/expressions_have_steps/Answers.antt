@@ -1,4 +1,4 @@
-use Rattle.pr_grammar.proofs.StepsLaw.{read_has_steps}
+use Rattle.pr_parse.proofs.StepsLaw.{read_has_steps}
 use Rattle.pr_parse.proofs.laws.expressions_have_steps.Goals as goal
 
 pub returns : goal.returns

@@ -5,12 +5,12 @@ use Rattle.pr_forms.specs.Run.{run_rule, run_pair, run_first, run_second, run_no
 use Rattle.pr_forms.proofs.Ways.{fails, exit, value_is, take_side, take_side_bad, other_side}
 use Rattle.pr_forms.proofs.Carrying.{carry_on, carry_rule, carry_left, carry_base, turns_value, turns_go_on, turn_fails}
 use Rattle.pr_ast.specs.Tree.{aggregate, more, none, tree_of, trees_of}
-use Rattle.pr_grammar.specs.declared.kind.Before.TheVariants.{Other as Others}
-use Rattle.pr_grammar.specs.Seen.{seen}
-use Rattle.pr_grammar.specs.Grammar.{production, expression, Binary, Modified, Postfix, Operand, Selection, Tail, Arguments, Aggregation, Parameters, After, tighter, enclosed, parameters, part, at, word, turned, operation, operand, joined, closed_by, opened_by, signed, signed_by, applied, suffixes, named, selection, function, function_called, called, arguments, argument, closed, parameter, bare, aggregation, aggregation_made, aggregator, grouping_by, through}
-use Rattle.pr_grammar.specs.GrammarTable.{table}
-use Rattle.pr_parse.specs.Reader.{value_of, parameters_of}
-use Rattle.pr_grammar.proofs.Ways.{take_nested, nested_first_bad, nested_bad, skip_nested}
+use Rattle.pr_parse.specs.declared.grammar.kind.Before.TheVariants.{Other as Others}
+use Rattle.pr_parse.specs.Seen.{seen}
+use Rattle.pr_parse.specs.Grammar.{production, expression, Binary, Modified, Postfix, Operand, Selection, Tail, Arguments, Aggregation, Parameters, After, tighter, enclosed, parameters, part, at, word, turned, operation, operand, joined, closed_by, opened_by, signed, signed_by, applied, suffixes, named, selection, function, function_called, called, arguments, argument, closed, parameter, bare, aggregation, aggregation_made, aggregator, grouping_by, through}
+use Rattle.pr_parse.specs.GrammarTable.{table}
+use Rattle.pr_parse.specs.private.Reader.{value_of, parameters_of}
+use Rattle.pr_parse.proofs.Ways.{take_nested, nested_first_bad, nested_bad, skip_nested}
 use Rattle.pr_parse.proofs.Reading.{group_good, group_first_bad, group_bad}
 use Rattle.pr_ast.proofs.Args.{trees_of-push}
 use Rattle.pr_parse.proofs.parser.+parser.Goals as goal

@@ -2,9 +2,9 @@ use Rattle.std.proofs.Common.{◌<◌, length, ◌+◌, ◌*◌}
 use Rattle.pr_forms.specs.Form.{rule, turns}
 use Rattle.pr_forms.specs.Language.{Leads}
 use Rattle.pr_ast.specs.Tree.{trees_of}
-use Rattle.pr_grammar.specs.Grammar.{Binary, Arguments, joined, argument, arguments, right_side, next_argument}
-use Rattle.pr_grammar.specs.GrammarTable.{queries}
-use Rattle.pr_parse.specs.Reader.{value_of, rank_of}
+use Rattle.pr_parse.specs.Grammar.{Binary, Arguments, joined, argument, arguments, right_side, next_argument}
+use Rattle.pr_parse.specs.GrammarTable.{queries}
+use Rattle.pr_parse.specs.private.Reader.{value_of, rank_of}
 use Rattle.pr_parse.proofs.parser.+parser.Given as goal
 
 abbrev pub decreases-aggregation_at : goal.decreases-aggregation_at

@@ -1,5 +1,5 @@
 use Rattle.std.proofs.lemmas.Result.{err_from_is_err_and}
-use Rattle.pr_grammar.specs.Seen.{seen}
+use Rattle.pr_parse.specs.Seen.{seen}
 use Rattle.pr_parse.proofs.Fronts.{token_refuses, token_misses, seen_first}
 use Rattle.pr_parse.proofs.parsing.front_of.Goals as goal
 

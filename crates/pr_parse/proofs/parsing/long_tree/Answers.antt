@@ -1,5 +1,5 @@
 use Rattle.std.proofs.Common.{subst}
-use Rattle.pr_grammar.specs.Seen.{seen}
+use Rattle.pr_parse.specs.Seen.{seen}
 use Rattle.pr_parse.specs.Deep.{IsTooDeep}
 use Rattle.pr_parse.proofs.Judged.{kinds_same}
 use Rattle.pr_parse.proofs.Fronts.{front_too_deep, front_refuses}

@@ -1,7 +1,7 @@
 use Rattle.std.proofs.Common.{◌≡◌, ◌<◌, ℕ, List, length, sym, subst, arith}
-use Rattle.pr_grammar.specs.declared.kind.Lexed.{Lexed}
-use Rattle.pr_grammar.specs.Seen.{seen}
-use Rattle.pr_parse.specs.Front.{HasFront}
+use Rattle.pr_parse.specs.declared.grammar.kind.Lexed.{Lexed}
+use Rattle.pr_parse.specs.Seen.{seen}
+use Rattle.pr_parse.specs.private.Front.{HasFront}
 use Rattle.pr_parse.proofs.Fronts.{HasSeen, short_front, seen_tree, seen_only, seen_fault}
 use Rattle.pr_parse.proofs.parsing.read_text.Goals as goal
 

@@ -1,7 +1,7 @@
 use Rattle.std.proofs.Common.{◌≤◌, [], subst}
-use Rattle.pr_grammar.specs.Seen.{seen}
+use Rattle.pr_parse.specs.Seen.{seen}
 use Rattle.pr_parse.specs.Deep.{depth, IsTooDeep}
-use Rattle.pr_grammar.specs.Seen.{kinds_seen}
+use Rattle.pr_parse.specs.Seen.{kinds_seen}
 use Rattle.pr_parse.specs.Derived.{RefusesSeen}
 use Rattle.pr_parse.proofs.Judged.{kinds_same, not_shallow, append_none}
 use Rattle.pr_parse.proofs.parsing.tree_at.Goals as goal

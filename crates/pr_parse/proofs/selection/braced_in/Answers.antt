@@ -3,12 +3,12 @@ use Rattle.std.proofs.lemmas.Result.{MatchResult-weaker}
 use Rattle.pr_forms.specs.Form.{rule}
 use Rattle.pr_forms.specs.Run.{run_rule, run_pair, run_first, run_second, run_nothing}
 use Rattle.pr_forms.proofs.Ways.{fails, exit, value_is, take_side, take_side_bad, other_side}
-use Rattle.pr_grammar.specs.declared.kind.Before.TheVariants.{Selector as Selectors}
-use Rattle.pr_grammar.specs.Seen.{seen}
+use Rattle.pr_parse.specs.declared.grammar.kind.Before.TheVariants.{Selector as Selectors}
+use Rattle.pr_parse.specs.Seen.{seen}
 use Rattle.pr_ast.specs.Tree.{select}
-use Rattle.pr_grammar.specs.Grammar.{production, After, Braced, Selection, matchers_end, unnamed_selector, braced, through, applied, applied_to, suffixes, selector_of}
-use Rattle.pr_grammar.specs.GrammarTable.{table}
-use Rattle.pr_parse.specs.Reader.{value_of, braced_value}
+use Rattle.pr_parse.specs.Grammar.{production, After, Braced, Selection, matchers_end, unnamed_selector, braced, through, applied, applied_to, suffixes, selector_of}
+use Rattle.pr_parse.specs.GrammarTable.{table}
+use Rattle.pr_parse.specs.private.Reader.{value_of, braced_value}
 use Rattle.pr_parse.proofs.selection.braced_in.Goals as goal
 
 pub returns-in_err-found-in-Some-clause-read : goal.returns-in_err-found-in-Some-clause-read

@@ -1,10 +1,10 @@
 use Rattle.std.proofs.Common.{◌≡◌, Some, None, ap, ◌∙◌, sym}
 use Rattle.std.specs.Option.{option_map}
 use Rattle.pr_forms.proofs.Steps.{seen_takes, seen_lacks, seen_end_lacks}
-use Rattle.pr_grammar.specs.Seen.{see}
-use Rattle.pr_grammar.specs.Grammar.{production, literal_at}
-use Rattle.pr_grammar.specs.GrammarTable.{table}
-use Rattle.pr_parse.specs.Reader.{value_of}
+use Rattle.pr_parse.specs.Seen.{see}
+use Rattle.pr_parse.specs.Grammar.{production, literal_at}
+use Rattle.pr_parse.specs.GrammarTable.{table}
+use Rattle.pr_parse.specs.private.Reader.{value_of}
 use Rattle.pr_parse.proofs.selection.literal_in.Goals as goal
 
 pub returns-in_default-clause-read : goal.returns-in_default-clause-read

@@ -3,10 +3,10 @@ use Rattle.std.proofs.lemmas.Result.{MatchResult-weaker}
 use Rattle.pr_forms.specs.Form.{rule}
 use Rattle.pr_forms.specs.Run.{run_rule, run_pair, run_first, run_second, run_nothing}
 use Rattle.pr_forms.proofs.Ways.{fails, take_side, take_side_bad, other_side}
-use Rattle.pr_grammar.specs.declared.kind.Before.TheVariants.{Selector as Selectors, Range as Ranges, Other as Others}
-use Rattle.pr_grammar.specs.Seen.{seen}
-use Rattle.pr_grammar.specs.Grammar.{production, After, InSelector, InOther, Step, Closing, Shift, applied, suffixes, in_range, in_subquery, by_offset}
-use Rattle.pr_grammar.specs.GrammarTable.{table}
+use Rattle.pr_parse.specs.declared.grammar.kind.Before.TheVariants.{Selector as Selectors, Range as Ranges, Other as Others}
+use Rattle.pr_parse.specs.Seen.{seen}
+use Rattle.pr_parse.specs.Grammar.{production, After, InSelector, InOther, Step, Closing, Shift, applied, suffixes, in_range, in_subquery, by_offset}
+use Rattle.pr_parse.specs.GrammarTable.{table}
 use Rattle.pr_parse.proofs.suffix.after_selector.Goals as goal
 
 pub returns-in-Some-clause-read : goal.returns-in-Some-clause-read

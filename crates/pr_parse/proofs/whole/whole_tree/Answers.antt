@@ -1,16 +1,16 @@
 use Rattle.std.proofs.Common.{◌≡◌, rules, refl, subst, true}
 use Rattle.pr_forms.proofs.Public.{read_whole, only_value, not_whole, no_reading, rest_place, bad_place, end_place, left_short}
 use Rattle.pr_ast.specs.Tree.{tree_of}
-use Rattle.pr_grammar.specs.Seen.{see}
-use Rattle.pr_grammar.specs.Grammar.{production, expression, Value}
-use Rattle.pr_grammar.specs.GrammarTable.{table}
-use Rattle.pr_parse.specs.Whole.{HasTree}
-use Rattle.pr_parse.specs.Reader.{value_of}
+use Rattle.pr_parse.specs.Seen.{see}
+use Rattle.pr_parse.specs.Grammar.{production, expression, QueryValue}
+use Rattle.pr_parse.specs.GrammarTable.{table}
+use Rattle.pr_parse.specs.private.Whole.{HasTree}
+use Rattle.pr_parse.specs.private.Reader.{value_of}
 use Rattle.pr_parse.specs.declared.made.Part.{Part}
-use Rattle.pr_grammar.proofs.Table.{known}
+use Rattle.pr_parse.proofs.Table.{known}
 use Rattle.pr_parse.proofs.whole.whole_tree.Goals as goal
 
-has_tree : (v : Value) (x : Part) → value_of x ≡ v → HasTree v (tree_of x.expr)
+has_tree : (v : QueryValue) (x : Part) → value_of x ≡ v → HasTree v (tree_of x.expr)
 has_tree v x e = subst (λ w. HasTree w (tree_of x.expr)) e refl
 
 pub returns-then-is_empty-clause-tree : goal.returns-then-is_empty-clause-tree

@@ -1,6 +1,6 @@
 use Rattle.std.proofs.Common.{◌∙◌, ap, take, drop}
 use Rattle.std.proofs.lemmas.List.{take-append-drop}
-use Rattle.pr_queue.specs.Queues.{waiting_in, with_coming}
+use Rattle.pr_queue.specs.private.Queues.{waiting_in, with_coming}
 use Rattle.pr_queue.proofs.Lists.{set_next, set_same}
 use Rattle.pr_queue.proofs.Rings.{unprepared}
 use Rattle.pr_queue.proofs.notifier.prepare_all.Goals as goal

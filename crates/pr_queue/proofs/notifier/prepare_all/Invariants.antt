@@ -1,5 +1,5 @@
 use Rattle.std.proofs.Common.{◌≡◌, ◌++◌, take, drop, map}
-use Rattle.pr_queue.specs.Queues.{with_coming}
+use Rattle.pr_queue.specs.private.Queues.{with_coming}
 use Rattle.pr_queue.proofs.notifier.prepare_all.Given as goal
 
 -- those that were gone over have theirs

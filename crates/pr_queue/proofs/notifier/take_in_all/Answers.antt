@@ -1,4 +1,4 @@
-use Rattle.pr_queue.specs.Queues.{taken_in}
+use Rattle.pr_queue.specs.private.Queues.{taken_in}
 use Rattle.pr_queue.proofs.Lists.{set_next}
 use Rattle.pr_queue.proofs.notifier.take_in_all.Goals as goal
 

@@ -1,5 +1,5 @@
 use Rattle.std.proofs.Common.{◌≡◌, ◌++◌, take, drop, map}
-use Rattle.pr_queue.specs.Queues.{taken_in}
+use Rattle.pr_queue.specs.private.Queues.{taken_in}
 use Rattle.pr_queue.proofs.notifier.take_in_all.Given as goal
 
 -- those that were gone over have taken theirs in

@@ -1,6 +1,6 @@
 use Rattle.std.proofs.Common.{◌≡◌, ◌≤◌, Some, None, arith}
-use Rattle.pr_vectors.specs.Ranges.{longest}
-use Rattle.pr_folds.specs.Extremes.{greater, lesser, value_alone}
+use Rattle.spec_vectors.specs.Ranges.{longest}
+use Rattle.pr_window.specs.private.Extremes.{greater, lesser, value_alone}
 use Rattle.pr_range.proofs.Finishing.{greatest_answer, least_answer, long_answer, none_answer}
 use Rattle.pr_range.proofs.finishes.answer_from_extreme.Goals as goal
 

@@ -1,6 +1,6 @@
 use Rattle.std.proofs.Common.{◌≡◌, ◌≤◌, ◌∙◌, Some, None, arith}
-use Rattle.pr_vectors.specs.Ranges.{longest}
-use Rattle.pr_folds.specs.Neighbours.{beside, spot_alone}
+use Rattle.spec_vectors.specs.Ranges.{longest}
+use Rattle.pr_window.specs.private.Neighbours.{beside, spot_alone}
 use Rattle.pr_range.proofs.Finishing.{long_answer, neighbours_answer, none_answer}
 use Rattle.pr_range.proofs.Rising.{spread_within}
 use Rattle.pr_range.proofs.finishes.answer_from_neighbours.Goals as goal

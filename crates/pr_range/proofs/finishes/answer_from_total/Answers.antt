@@ -1,7 +1,7 @@
 use Rattle.std.proofs.Common.{◌≡◌, ◌≤◌, Some, None, sym, arith}
-use Rattle.pr_num.specs.Total.{joined}
-use Rattle.pr_vectors.specs.Ranges.{longest}
-use Rattle.pr_folds.specs.Totals.{total_alone}
+use Rattle.spec_vectors.specs.pr_num.Total.{joined}
+use Rattle.spec_vectors.specs.Ranges.{longest}
+use Rattle.pr_window.specs.private.Totals.{total_alone}
 use Rattle.pr_range.proofs.Finishing.{long_answer, none_answer, total_answer}
 use Rattle.pr_range.proofs.finishes.answer_from_total.Goals as goal
 

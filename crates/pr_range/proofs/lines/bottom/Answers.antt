@@ -1,7 +1,7 @@
 use Rattle.std.proofs.Common.{◌≡◌, ◌-◌, ◌*◌, ◌≤◌, ℕ, pos, ap, ◌∙◌, arith}
 use Rattle.std.specs.Prelude.{◌-ℤ◌}
 use Rattle.std.proofs.lemmas.Int.{ints}
-use Rattle.pr_vectors.specs.Regression.{count, sum_x, sum_xx}
+use Rattle.spec_vectors.specs.Regression.{count, sum_x, sum_xx}
 use Rattle.pr_range.proofs.Spreads.{spread}
 use Rattle.pr_range.proofs.lines.bottom.Goals as goal
 

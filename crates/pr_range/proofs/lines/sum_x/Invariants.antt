@@ -1,5 +1,5 @@
 use Rattle.std.proofs.Common.{◌≡◌, ◌*◌, ◌^◌, ◌≤◌, take}
-use Rattle.pr_vectors.specs.Regression.{sum_x}
+use Rattle.spec_vectors.specs.Regression.{sum_x}
 use Rattle.pr_range.proofs.lines.sum_x.Given as goal
 
 -- the sum so far

@@ -1,5 +1,5 @@
 use Rattle.std.proofs.Common.{◌≡◌, ◌*◌, ◌^◌, ◌≤◌, take}
-use Rattle.pr_vectors.specs.Regression.{sum_xx}
+use Rattle.spec_vectors.specs.Regression.{sum_xx}
 use Rattle.pr_range.proofs.lines.sum_xx.Given as goal
 
 -- the sum so far

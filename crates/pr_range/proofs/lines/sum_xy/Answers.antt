@@ -1,8 +1,8 @@
 use Rattle.std.proofs.Common.{◌≡◌, ◌+◌, ◌*◌, ◌<◌, pos, ◌+ℤ◌, ◌*ℤ◌, length, take, get_or, ap, subst, ◌∙◌, arith, to_z, of_z, unsigned_abs}
 use Rattle.std.specs.Int.{w128}
 use Rattle.std.proofs.lemmas.Int.{to_z-of_z}
-use Rattle.pr_vectors.specs.Regression.{sum_abs_xy, sum_xy, time_from, units_from}
-use Rattle.pr_range.specs.Parted.{IsParted}
+use Rattle.spec_vectors.specs.Regression.{sum_abs_xy, sum_xy, time_from, units_from}
+use Rattle.pr_range.specs.private.Parted.{IsParted}
 use Rattle.pr_range.proofs.Sums.{sum_abs_xy_more, sum_xy_more}
 use Rattle.pr_range.proofs.lines.sum_xy.Goals as goal
 

@@ -1,6 +1,6 @@
 use Rattle.std.proofs.Common.{◌≡◌, ◌+◌, ◌^◌, ◌<◌, take}
-use Rattle.pr_vectors.specs.Regression.{sum_abs_xy, sum_xy}
-use Rattle.pr_range.specs.Parted.{IsParted}
+use Rattle.spec_vectors.specs.Regression.{sum_abs_xy, sum_xy}
+use Rattle.pr_range.specs.private.Parted.{IsParted}
 use Rattle.pr_range.proofs.lines.sum_xy.Given as goal
 
 -- the sum so far

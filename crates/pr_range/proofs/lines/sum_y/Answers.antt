@@ -1,8 +1,8 @@
 use Rattle.std.proofs.Common.{◌≡◌, ◌+◌, ◌*◌, ◌^◌, ◌<◌, ◌≤◌, ◌+ℤ◌, length, take, get_or, ap, subst, sym, ◌∙◌, arith, to_z, of_z, unsigned_abs}
 use Rattle.std.specs.Int.{w128}
 use Rattle.std.proofs.lemmas.Int.{to_z-of_z}
-use Rattle.pr_vectors.specs.Regression.{sum_abs_y, sum_y, units_from}
-use Rattle.pr_range.specs.Parted.{IsParted}
+use Rattle.spec_vectors.specs.Regression.{sum_abs_y, sum_y, units_from}
+use Rattle.pr_range.specs.private.Parted.{IsParted}
 use Rattle.pr_range.proofs.Sums.{sum_abs_y_more, sum_y_more}
 use Rattle.pr_range.proofs.lines.sum_y.Goals as goal
 

@@ -1,6 +1,6 @@
 use Rattle.std.proofs.Common.{◌≡◌, ◌+◌, ◌*◌, ◌^◌, ◌≤◌, take}
-use Rattle.pr_vectors.specs.Regression.{sum_abs_y, sum_y}
-use Rattle.pr_range.specs.Parted.{IsParted}
+use Rattle.spec_vectors.specs.Regression.{sum_abs_y, sum_y}
+use Rattle.pr_range.specs.private.Parted.{IsParted}
 use Rattle.pr_range.proofs.lines.sum_y.Given as goal
 
 -- the sum so far

@@ -2,7 +2,7 @@ use Rattle.std.proofs.Common.{◌≡◌, ◌*◌, ◌^◌, ◌≤◌, pos, ◌*�
 use Rattle.std.specs.Int.{w128}
 use Rattle.std.proofs.lemmas.Grind.{common_steps}
 use Rattle.std.proofs.lemmas.Int.{to_z-of_z}
-use Rattle.pr_num.proofs.Signs.{abs_product}
+use Rattle.spec_vectors.proofs.NumSigns.{abs_product}
 use Rattle.pr_range.proofs.lines.times.Goals as goal
 
 pub returns-clause-small : goal.returns-clause-small

@@ -1,7 +1,7 @@
 use Rattle.std.proofs.Common.{◌≡◌, ◌+◌, ◌*◌, ◌^◌, ◌≤◌, pos, ◌*ℤ◌, ap, subst, ◌∙◌, arith, to_z, of_z}
 use Rattle.std.specs.Int.{w128}
 use Rattle.std.proofs.lemmas.Int.{to_z-of_z}
-use Rattle.pr_vectors.specs.Regression.{count, slope_top, sum_x, sum_xy, sum_y}
+use Rattle.spec_vectors.specs.Regression.{count, slope_top, sum_x, sum_xy, sum_y}
 use Rattle.pr_range.proofs.Slopes.{parts_are, slope_narrow, slope_wide}
 use Rattle.pr_range.proofs.lines.top.Goals as goal
 

@@ -1,7 +1,7 @@
 use Rattle.std.proofs.Common.{◌≤◌, length, refl, sym, subst}
 use Rattle.std.specs.Option.{IfSome}
-use Rattle.pr_folds.specs.Neighbours.{weight_of}
-use Rattle.pr_folds.proofs.Over.{neighbours_light}
+use Rattle.pr_window.specs.private.Neighbours.{weight_of}
+use Rattle.pr_window.proofs.Over.{neighbours_light}
 use Rattle.pr_range.proofs.over.over_neighbours.Goals as goal
 
 pub answer_from_neighbours-requires-clause-light : goal.answer_from_neighbours-requires-clause-light

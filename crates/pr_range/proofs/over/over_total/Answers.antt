@@ -1,6 +1,6 @@
 use Rattle.std.proofs.Common.{◌≡◌, length, refl, sym, subst}
 use Rattle.std.specs.Option.{IfSome}
-use Rattle.pr_folds.proofs.Over.{total_counts}
+use Rattle.pr_window.proofs.Over.{total_counts}
 use Rattle.pr_range.proofs.over.over_total.Goals as goal
 
 pub answer_from_total-requires-clause-count : goal.answer_from_total-requires-clause-count

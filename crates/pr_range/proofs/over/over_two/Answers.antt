@@ -1,6 +1,6 @@
 use Rattle.std.proofs.Common.{◌≡◌, length, arith}
 use Rattle.std.proofs.lemmas.Grind.{common_steps}
-use Rattle.pr_range.specs.Formulas.{formula_of}
+use Rattle.pr_range.specs.private.Formulas.{formula_of}
 use Rattle.pr_range.proofs.Rising.{none_of_one, rising_all}
 use Rattle.pr_range.proofs.over.over_two.Goals as goal
 

@@ -1,9 +1,9 @@
 use Rattle.std.proofs.Common.{◌≡◌, ◌++◌, ap, sym, subst, ◌∙◌, arith, w64, to_z, of_z}
 use Rattle.std.proofs.lemmas.Int.{to_z-of_z}
-use Rattle.pr_head.specs.Stored.{position_of}
-use Rattle.pr_vectors.specs.Ranges.{over}
-use Rattle.pr_range.specs.Answers.{AnswersAsk}
-use Rattle.pr_range.specs.Spots.{AreWithin, spots_of, samples_between}
+use Rattle.pr_head.specs.private.Stored.{position_of}
+use Rattle.spec_vectors.specs.Ranges.{over}
+use Rattle.pr_range.specs.private.Answers.{AnswersAsk}
+use Rattle.pr_range.specs.private.Spots.{AreWithin, spots_of, samples_between}
 use Rattle.pr_range.proofs.Reading.{placed, spots_read, reads_plain}
 use Rattle.pr_range.proofs.plain.ask_plainly.Goals as goal
 

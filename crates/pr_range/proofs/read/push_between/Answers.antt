@@ -1,5 +1,5 @@
 use Rattle.std.proofs.Common.{◌≡◌, ◌-◌, ◌++◌, ap, ◌∙◌, arith, take, drop}
-use Rattle.pr_range.specs.Spots.{spots_of}
+use Rattle.pr_range.specs.private.Spots.{spots_of}
 use Rattle.pr_range.proofs.Between.{place_more}
 use Rattle.pr_range.proofs.read.push_between.Goals as goal
 

@@ -1,5 +1,5 @@
 use Rattle.std.proofs.Common.{◌≡◌, ◌∷◌, take}
-use Rattle.pr_vectors.specs.Spots.{numbers_of}
+use Rattle.spec_vectors.specs.Spots.{numbers_of}
 use Rattle.pr_range.proofs.values.numbers.Given as goal
 
 -- the values so far

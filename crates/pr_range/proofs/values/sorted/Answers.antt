@@ -2,11 +2,11 @@ use Rattle.std.proofs.Common.{rules, ap, subst, List, ◌∷◌}
 use Rattle.std.proofs.lemmas.List.Sorted.{answers_always, ranks_by}
 use Rattle.std.specs.List.Sorted.{IsPermutation}
 use Rattle.std.specs.Ordering.{is_lt}
-use Rattle.pr_num.specs.declared.value.Num.{Num}
-use Rattle.pr_num.specs.Order.{order_of}
-use Rattle.pr_num.proofs.Algebra.{order_is_total}
-use Rattle.pr_vectors.specs.Spots.{numbers_of}
-use Rattle.pr_vectors.proofs.ValueOrder.{sorted_in_order}
+use Rattle.spec_vectors.specs.pr_num.declared.value.Num.{Num}
+use Rattle.spec_vectors.specs.pr_num.Order.{order_of}
+use Rattle.spec_vectors.proofs.NumAlgebra.{order_is_total}
+use Rattle.spec_vectors.specs.Spots.{numbers_of}
+use Rattle.spec_vectors.proofs.ValueOrder.{sorted_in_order}
 use Rattle.pr_range.proofs.values.sorted.Goals as goal
 
 pub returns-clause-values : goal.returns-clause-values

@@ -1,7 +1,7 @@
 use Rattle.std.proofs.Common.{◌≡◌, ◌++◌, List, map, length}
 use Rattle.std.specs.List.{flat_map}
 use Rattle.pr_yaml.specs.Tree.{entry_tree_of}
-use Rattle.pr_rulefile.specs.Groups.{Group}
+use Rattle.spec_rules.specs.Definitions.{Group}
 use Rattle.pr_rulefile.specs.File.{file_field_problems, groups_under}
 use Rattle.pr_rulefile.proofs.file.each_file_field.Given as goal
 

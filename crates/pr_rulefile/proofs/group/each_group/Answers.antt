@@ -1,6 +1,6 @@
 use Rattle.std.proofs.Common.{map, ap, arith}
 use Rattle.std.proofs.lemmas.Grind.{common_steps}
-use Rattle.pr_labels.specs.pr_words.Names.{knows}
+use Rattle.pr_words.specs.Names.{knows}
 use Rattle.pr_yaml.specs.Tree.{tree_of}
 use Rattle.pr_rulefile.specs.Groups.{groups_problems}
 use Rattle.pr_rulefile.proofs.GroupSteps.{one_group}

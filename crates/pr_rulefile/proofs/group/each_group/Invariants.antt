@@ -1,8 +1,9 @@
 use Rattle.std.proofs.Common.{◌≡◌, ◌++◌, List, map, length}
 use Rattle.std.specs.List.{filter_map}
-use Rattle.pr_labels.specs.pr_words.Names.{knows}
+use Rattle.pr_words.specs.Names.{knows}
 use Rattle.pr_yaml.specs.Tree.{tree_of}
-use Rattle.pr_rulefile.specs.Groups.{Group, no_name, groups_problems, group_of}
+use Rattle.spec_rules.specs.Definitions.{Group}
+use Rattle.pr_rulefile.specs.Groups.{no_name, groups_problems, group_of}
 use Rattle.pr_rulefile.proofs.group.each_group.Given as goal
 
 -- what was found so far, and what is in the groups that are left, is all

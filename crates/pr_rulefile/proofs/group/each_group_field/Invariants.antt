@@ -1,7 +1,7 @@
 use Rattle.std.proofs.Common.{◌≡◌, ◌++◌, map, length}
 use Rattle.std.specs.List.{flat_map}
 use Rattle.pr_yaml.specs.Tree.{entry_tree_of}
-use Rattle.pr_rulefile.specs.Rules.{rule_of_def}
+use Rattle.spec_rules.specs.Definitions.{rule_of_def}
 use Rattle.pr_rulefile.specs.Groups.{group_field_problems, rules_under}
 use Rattle.pr_rulefile.proofs.group.each_group_field.Given as goal
 

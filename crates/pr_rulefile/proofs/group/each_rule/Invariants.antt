@@ -1,7 +1,8 @@
 use Rattle.std.proofs.Common.{◌≡◌, ◌++◌, map, length}
 use Rattle.std.specs.List.{flat_map, filter_map}
 use Rattle.pr_yaml.specs.Tree.{tree_of, entry_tree_of}
-use Rattle.pr_rulefile.specs.Rules.{rule_problems, rule_of, rule_of_def}
+use Rattle.pr_rulefile.specs.Rules.{rule_problems, rule_of}
+use Rattle.spec_rules.specs.Definitions.{rule_of_def}
 use Rattle.pr_rulefile.proofs.group.each_rule.Given as goal
 
 -- what was found so far, and what is in the rules that are left, is all

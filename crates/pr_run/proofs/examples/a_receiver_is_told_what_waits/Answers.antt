@@ -1,9 +1,9 @@
 use Rattle.std.proofs.Common.{◌≡◌, [], ◌∷◌, codes, true, refl, lit<, decimal}
 use Rattle.std.proofs.lemmas.Fmt.{decimal_digit}
 use Rattle.std.specs.Str.{is_utf8}
-use Rattle.pr_text.proofs.KindsPlainTexts.{plain_text}
-use Rattle.pr_reader.specs.pr_script.Orders.{orders_after}
-use Rattle.pr_reader.specs.pr_script.Script.{takes_body}
+use Rattle.pr_outside.proofs.WordsPlainTexts.{plain_text}
+use Rattle.pr_text.specs.Orders.{orders_after}
+use Rattle.pr_text.specs.Script.{takes_body}
 use Rattle.pr_text.specs.Printed.{shown_report}
 use Rattle.pr_run.specs.Told.{told_of, turn}
 use Rattle.pr_run.proofs.examples.a_receiver_is_told_what_waits.Goals as goal

@@ -1,5 +1,5 @@
 use Rattle.std.proofs.Common.{Ok, Err}
-use Rattle.pr_loading.proofs.Walks.{asked_on, done_on, stop_on}
+use Rattle.pr_outside.proofs.Walks.{asked_on, done_on, stop_on}
 use Rattle.pr_run.proofs.Loads.{names_begin, names_end, told_walk, walk_asked, walk_found}
 use Rattle.pr_run.proofs.files.load_files.Goals as goal
 

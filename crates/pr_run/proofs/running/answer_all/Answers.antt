@@ -1,21 +1,21 @@
 use Rattle.std.proofs.Common.{◌≡◌, ◌∙◌, ℕ, Bool, true, false, true≢false, List, [], ◌++◌, Option, None, Some, Result, Ok, Err, IsSome, length, refl, sym, ap, subst, arith}
 use Rattle.pr_outside.specs.Meant.{Store}
-use Rattle.pr_reader.specs.pr_script.declared.order.Numbered.{Numbered}
-use Rattle.pr_status.specs.Ends.{KnowsLength}
-use Rattle.pr_status.specs.Outside.{Held, Outside}
-use Rattle.pr_status.specs.Status.{IsLong}
-use Rattle.pr_status.specs.declared.status.Stop.{Stop}
-use Rattle.pr_status.proofs.Ended.{ends_on, in_time_same, known_stop, quiet, read_on}
-use Rattle.pr_status.proofs.Streams.{appends_none, appends_on}
-use Rattle.pr_status.proofs.Telling.{on_told}
-use Rattle.pr_reader.specs.LineReading.{ahead, Counts, IsBeyond}
-use Rattle.pr_reader.specs.Reading.{unread, HandsOrder, IsCutAt}
-use Rattle.pr_reader.proofs.Ahead.{beyond_on, counts_none, counts_on, read_same}
-use Rattle.pr_reader.proofs.Orders.{ahead_none}
-use Rattle.pr_run.specs.Keeping.{Progress}
-use Rattle.pr_run.specs.Rows.{IsBadIn}
+use Rattle.pr_text.specs.declared.script.order.Numbered.{Numbered}
+use Rattle.pr_outside.specs.Ends.{KnowsLength}
+use Rattle.pr_outside.specs.Outside.{Held, Outside}
+use Rattle.pr_outside.specs.Status.{IsLong}
+use Rattle.pr_outside.specs.declared.status.status.Stop.{Stop}
+use Rattle.pr_outside.proofs.Ended.{ends_on, in_time_same, known_stop, quiet, read_on}
+use Rattle.pr_outside.proofs.StatusStreams.{appends_none, appends_on}
+use Rattle.pr_outside.proofs.Telling.{on_told}
+use Rattle.pr_text.specs.private.LineReading.{ahead, CountsBytes, IsBeyond}
+use Rattle.pr_text.specs.private.Reading.{unread, HandsOrder, IsCutAt}
+use Rattle.pr_text.proofs.Ahead.{beyond_on, counts_none, counts_on, read_same}
+use Rattle.pr_text.proofs.Orders.{ahead_none}
+use Rattle.pr_run.specs.private.Keeping.{Progress}
+use Rattle.pr_queue.specs.spec_history.Stores.{IsBadIn}
 use Rattle.pr_run.specs.Runs.{EndsOver}
-use Rattle.pr_run.proofs.Endings.{bad_of, cut_of, ends_wider, known_answer}
+use Rattle.pr_outside.proofs.Endings.{bad_of, cut_of, ends_wider, known_answer}
 use Rattle.pr_run.proofs.Goings.{going_none, going_on, grown_more, has_grown, known_long, known_short, no_more}
 use Rattle.pr_run.proofs.Stops.{ended, left_over, no_bad, no_whole, not_row, read_stop, row_behind, row_of_stop, stopped}
 use Rattle.pr_run.proofs.running.answer_all.Goals as goal
@@ -98,7 +98,7 @@ answering-init g c =
         end = λ e. absurd (true≢false (sym e ∙ new.end));
         waits = λ some. absurd (some new.waiting);
       };
-      counts = subst (Counts left left 0) (sym new.counts.0) (counts_none left 0);
+      counts = subst (CountsBytes left left 0) (sym new.counts.0) (counts_none left 0);
       told = λ some. some;
       same = λ other. refl;
       paths = refl;

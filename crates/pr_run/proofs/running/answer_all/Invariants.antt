@@ -1,8 +1,8 @@
 use Rattle.std.proofs.Common.{◌≡◌, ◌+◌, ◌-◌, ◌^◌, ℕ, List, IsSome}
 use Rattle.std.specs.Io.KnownBytes.{Appends}
 use Rattle.pr_outside.specs.Courses.{GoesOn}
-use Rattle.pr_reader.specs.LineReading.{ahead, Counts, IsReadOn}
-use Rattle.pr_reader.specs.Reading.{unread, IsReady}
+use Rattle.pr_text.specs.private.LineReading.{ahead, CountsBytes, IsReadOn}
+use Rattle.pr_text.specs.private.Reading.{unread, IsReady}
 use Rattle.pr_run.proofs.Goings.{Going}
 use Rattle.pr_run.proofs.running.answer_all.Given as goal
 
@@ -14,7 +14,7 @@ invariant-answering g l = record {
       (ahead (unread l.reader) (g.I.Source.means l.input).left) l.reader.number;
   written : (text : List ℕ) × Appends (g.O.Sink.means l.fn.out).taken (g.O.Sink.means l.out).taken text;
   ready : IsReady 0 l.reader (g.I.Source.means l.input).left;
-  counts : Counts (g.I.Source.means l.fn.input).left (g.I.Source.means l.input).left 0 l.reader.lines.count;
+  counts : CountsBytes (g.I.Source.means l.fn.input).left (g.I.Source.means l.input).left 0 l.reader.lines.count;
   told : IsSome (g.K.Keeper.means l.keeper).rows → IsSome (g.K.Keeper.means l.fn.keeper).rows;
   same : (other : List ℕ) → (g.F.Files.means l.files).content other ≡ (g.F.Files.means l.fn.files).content other;
   paths : (g.K.Keeper.means l.keeper).paths ≡ (g.K.Keeper.means l.fn.keeper).paths;

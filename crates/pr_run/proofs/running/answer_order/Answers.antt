@@ -1,14 +1,14 @@
 use Rattle.std.proofs.Common.{◌≡◌, ◌∙◌, ℕ, List, ◌++◌, Result, Ok, Err, IfErr, inr, length, refl, sym, ap, subst, take}
 use Rattle.std.specs.Io.KnownBytes.{Appends}
-use Rattle.pr_status.specs.Ends.{no_row}
-use Rattle.pr_status.specs.Outside.{Outside}
-use Rattle.pr_status.specs.declared.status.Stop.{Stop}
-use Rattle.pr_status.proofs.Ended.{ends_on, in_time_on, in_time_same, written_by}
-use Rattle.pr_run.specs.Rows.{IsBadIn}
-use Rattle.pr_run.specs.Standing.{Leaves, Writes}
+use Rattle.pr_outside.specs.Ends.{no_row}
+use Rattle.pr_outside.specs.Outside.{Outside}
+use Rattle.pr_outside.specs.declared.status.status.Stop.{Stop}
+use Rattle.pr_outside.proofs.Ended.{ends_on, in_time_on, in_time_same, written_by}
+use Rattle.pr_queue.specs.spec_history.Stores.{IsBadIn}
+use Rattle.pr_run.specs.private.Standing.{LeavesFront, WritesTurn}
 use Rattle.pr_run.specs.Told.{turn}
-use Rattle.pr_run.proofs.Begins.{write_row}
-use Rattle.pr_run.proofs.Endings.{bad_of, calm_of, ends_late, ends_wider, row_ends}
+use Rattle.pr_text.proofs.Lines.{write_row}
+use Rattle.pr_outside.proofs.Endings.{bad_of, calm_of, ends_late, ends_wider, row_ends}
 use Rattle.pr_run.proofs.running.answer_order.Goals as goal
 
 pub returns-in-Ok-clause-sends : goal.returns-in-Ok-clause-sends
@@ -51,13 +51,13 @@ returns-in_err-send-in-Ok-clause-leaves g c = λ others held p keeps told some.
     let text = (turn held p.state c.args.order).answer.text in
     let is : c.deref.result.now ≡ text = c.deref.ensures.value ∙ ans.text ∙ ap (λ (l : List ℕ). l ++ text) c.new-text.ensures.items in
     let f = c.in_err-send-in-Ok.ensures.front in
-    let w : Writes (turn held p.state c.args.order) a d = record {
+    let w : WritesTurn (turn held p.state c.args.order) a d = record {
       count = f.0;
       told = subst (λ (l : List ℕ). Appends (out c.args.out.now).taken (out c.send.new.out).taken (take f.0 l)) is f.1;
       rows = g.met.E.Worlds.tells c.take_order.new.self.kept (keeper c.take_order.new.keeper) (turn held p.state c.args.order).state.world ans.keeps.world;
       asked = ans.asked;
     } in
-    written_by _ Unit (λ (r : Result Unit Stop). IfErr r (Leaves (turn held p.state c.args.order) p.state.world.history a d)) (out c.args.out.now) (out c.send.new.out)
+    written_by _ Unit (λ (r : Result Unit Stop). IfErr r (LeavesFront (turn held p.state c.args.order) p.state.world.history a d)) (out c.args.out.now) (out c.send.new.out)
     c.from_residual.result c.in_err-send-in-Ok.field-0.0 c.from_residual.ensures.1 c.in_err-send-in-Ok.ensures.ends w (inr w)
 
 pub returns-in_err-send-in-Ok-clause-ends : goal.returns-in_err-send-in-Ok-clause-ends
@@ -96,7 +96,7 @@ returns-in_err-tell_bad_row-in-Some-clause-leaves g c = λ others held p keeps t
     let out = g.O.Sink.means in
     let a : Outside = record others { files = files c.args.files.now; store = keeper c.args.keeper.now; out = out c.args.out.now } in
     let b : Outside = record others { files = files c.take_order.new.files; store = keeper c.take_order.new.keeper; out = out c.args.out.now } in
-    absurd (subst (Leaves (turn held p.state c.args.order) p.state.world.history a b) c.in-Some.ensures.some
+    absurd (subst (LeavesFront (turn held p.state c.args.order) p.state.world.history a b) c.in-Some.ensures.some
     (c.in-Err.ensures.leaves (record others { out = out c.args.out.now }) held p keeps told some))
 
 pub returns-in-Some-clause-leaves : goal.returns-in-Some-clause-leaves
@@ -106,7 +106,7 @@ returns-in-Some-clause-leaves g c = λ others held p keeps told some.
     let out = g.O.Sink.means in
     let a : Outside = record others { files = files c.args.files.now; store = keeper c.args.keeper.now; out = out c.args.out.now } in
     let b : Outside = record others { files = files c.take_order.new.files; store = keeper c.take_order.new.keeper; out = out c.args.out.now } in
-    absurd (subst (Leaves (turn held p.state c.args.order) p.state.world.history a b) c.in-Some.ensures.some
+    absurd (subst (LeavesFront (turn held p.state c.args.order) p.state.world.history a b) c.in-Some.ensures.some
     (c.in-Err.ensures.leaves (record others { out = out c.args.out.now }) held p keeps told some))
 
 pub returns-clause-leaves : goal.returns-clause-leaves

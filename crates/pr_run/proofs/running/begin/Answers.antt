@@ -1,19 +1,19 @@
 use Rattle.std.proofs.Common.{◌≡◌, ◌∙◌, ℕ, List, Result, Ok, Err, IfOk, length, refl, sym, ap, subst}
-use Rattle.pr_status.specs.Ends.{no_row}
-use Rattle.pr_status.specs.Opening.{OpensBy}
-use Rattle.pr_status.specs.Outside.{Outside}
-use Rattle.pr_status.specs.declared.status.Stop.{Stop}
-use Rattle.pr_status.specs.declared.status.Stop.TheVariants as stop
-use Rattle.pr_status.proofs.Ended.{ends_on, in_time_on, in_time_same, quiet}
-use Rattle.pr_status.proofs.Opening.{opened_on, row_opened, stopped_opening}
-use Rattle.pr_status.proofs.Streams.{appends_none}
-use Rattle.pr_text.specs.pr_world.World.{start}
-use Rattle.pr_run.specs.Events.{KeepEnds}
-use Rattle.pr_run.specs.Keeping.{Starts}
-use Rattle.pr_run.specs.Rows.{IsBadIn}
-use Rattle.pr_run.specs.Told.{bad_row_text}
-use Rattle.pr_run.proofs.Begins.{none_front, opened_front, opened_whole, row_front, whole_front, write_row}
-use Rattle.pr_run.proofs.Endings.{bad_of, calm_of, ends_as, ends_wider, row_ends}
+use Rattle.pr_outside.specs.Ends.{no_row}
+use Rattle.pr_outside.specs.Opening.{OpensBy}
+use Rattle.pr_outside.specs.Outside.{Outside}
+use Rattle.pr_outside.specs.declared.status.status.Stop.{Stop}
+use Rattle.pr_outside.specs.declared.status.status.Stop.TheVariants as stop
+use Rattle.pr_outside.proofs.Ended.{ends_on, in_time_on, in_time_same, quiet}
+use Rattle.pr_outside.proofs.Opening.{opened_on, row_opened, stopped_opening}
+use Rattle.pr_outside.proofs.StatusStreams.{appends_none}
+use Rattle.pr_text.specs.spec_world.World.{start}
+use Rattle.pr_queue.specs.spec_history.Stores.{KeepEnds, IsBadIn}
+use Rattle.pr_text.specs.spec_world.private.Keeping.{Starts}
+use Rattle.pr_text.specs.BadRows.{bad_row_text}
+use Rattle.pr_run.proofs.Begins.{none_front, opened_front, opened_whole, row_front}
+use Rattle.pr_text.proofs.Lines.{whole_front, write_row}
+use Rattle.pr_outside.proofs.Endings.{bad_of, calm_of, ends_as, ends_wider, row_ends}
 use Rattle.pr_run.proofs.running.begin.Goals as goal
 
 pub returns-in_err-tell_opened-in-Ok-clause-front : goal.returns-in_err-tell_opened-in-Ok-clause-front

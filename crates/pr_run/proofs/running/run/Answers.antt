@@ -1,20 +1,19 @@
 use Rattle.std.proofs.Common.{◌≡◌, ◌∙◌, ℕ, List, [], Option, Some, Result, Ok, Err, IfSome, IsSome, refl, sym, ap, subst}
 use Rattle.std.specs.Prelude.{is_some}
 use Rattle.pr_outside.specs.declared.keeping.Row.{Row}
-use Rattle.pr_outside.specs.Kept.{StartsRows}
-use Rattle.pr_text.specs.pr_row.Histories.{history_of}
-use Rattle.pr_status.specs.Outside.{Outside}
-use Rattle.pr_status.specs.Status.{IsLong}
-use Rattle.pr_status.specs.declared.status.Stop.{Stop}
-use Rattle.pr_status.proofs.Ended.{ends_on, in_time_same, quiet}
-use Rattle.pr_status.proofs.Opening.{opened_on, opening_error}
-use Rattle.pr_status.proofs.Telling.{at_told, on_told}
-use Rattle.pr_text.specs.pr_world.World.{start}
-use Rattle.pr_run.specs.Rows.{IsBadIn, OverRows}
+use Rattle.pr_outside.specs.private.Kept.{StartsRows}
+use Rattle.pr_queue.specs.spec_history.Histories.{history_of}
+use Rattle.pr_outside.specs.Outside.{Outside}
+use Rattle.pr_outside.specs.Status.{IsLong}
+use Rattle.pr_outside.specs.declared.status.status.Stop.{Stop}
+use Rattle.pr_outside.proofs.Ended.{ends_on, in_time_same, quiet}
+use Rattle.pr_outside.proofs.Opening.{opened_on, opening_error}
+use Rattle.pr_outside.proofs.Telling.{at_told, on_told}
+use Rattle.pr_text.specs.spec_world.World.{start}
+use Rattle.pr_queue.specs.spec_history.Stores.{IsBadIn, OverRows}
 use Rattle.pr_run.specs.Runs.{EndsBy, EndsOver}
-use Rattle.pr_run.proofs.Answering.{ends_behind}
-use Rattle.pr_run.proofs.Endings.{bad_of, ends_wider, known_answer}
-use Rattle.pr_run.proofs.Rows.{over_history}
+use Rattle.pr_outside.proofs.Endings.{ends_behind, bad_of, ends_wider, known_answer}
+use Rattle.pr_queue.proofs.HistoryStoredRows.{over_history}
 use Rattle.pr_run.proofs.Starts.{at_rows, begin_stop, on_rows, over_begun}
 use Rattle.pr_run.proofs.Stops.{row_after, row_alone, row_of_stop}
 use Rattle.pr_run.specs.Told.{told_of}

@@ -1,5 +1,5 @@
 use Rattle.std.proofs.Common.{not, rules, ◌∙◌}
-use Rattle.pr_history.specs.Lookback.{is_after}
+use Rattle.pr_head.specs.spec_history.Lookback.{is_after}
 use Rattle.pr_slide.proofs.Folded.{dropped_is}
 use Rattle.pr_slide.proofs.kept.drop_counted.Goals as goal
 

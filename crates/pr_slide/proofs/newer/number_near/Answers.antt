@@ -1,6 +1,6 @@
 use Rattle.std.proofs.Common.{◌≡◌, ◌++◌, Some, None, ap, sym, subst, ◌∙◌}
-use Rattle.pr_range.specs.Carried.{IsOnce}
-use Rattle.pr_slide.specs.Carried.{number_from}
+use Rattle.pr_range.specs.private.Carried.{IsOnce}
+use Rattle.pr_slide.specs.private.Carried.{number_from}
 use Rattle.pr_slide.proofs.Numbers.{number_before, number_behind}
 use Rattle.pr_slide.proofs.newer.number_near.Goals as goal
 

@@ -1,5 +1,5 @@
 use Rattle.std.proofs.Common.{◌≡◌, sym}
-use Rattle.pr_vectors.specs.declared.range.RangeFn.TheVariants.{MaxOverTime}
+use Rattle.pr_range.specs.spec_vectors.declared.range.RangeFn.TheVariants.{MaxOverTime}
 use Rattle.pr_slide.proofs.spots.answer_greatest.Goals as goal
 
 pub returns-in-MaxOverTime : goal.returns-in-MaxOverTime

@@ -1,7 +1,7 @@
 use Rattle.std.proofs.Common.{◌≤◌, length, Some, sym, subst}
 use Rattle.std.specs.Option.{IfSome}
-use Rattle.pr_folds.specs.Neighbours.{weight_of}
-use Rattle.pr_folds.proofs.Over.{neighbours_light}
+use Rattle.pr_range.specs.pr_window.private.Neighbours.{weight_of}
+use Rattle.pr_range.proofs.WindowOver.{neighbours_light}
 use Rattle.pr_slide.proofs.spots.answer_neighbours.Goals as goal
 
 pub answer_from_neighbours-requires-clause-light : goal.answer_from_neighbours-requires-clause-light

@@ -1,8 +1,8 @@
 use Rattle.std.proofs.Common.{◌+◌, ◌∷◌, ◌++◌, ap, ◌∙◌, arith}
-use Rattle.pr_history.specs.declared.spot.Spot.{Spot}
-use Rattle.pr_vectors.specs.Ranges.{differ}
-use Rattle.pr_folds.specs.Neighbours.{one_if}
-use Rattle.pr_slide.specs.Successions.{before_fall}
+use Rattle.pr_head.specs.spec_history.declared.spot.Spot.{Spot}
+use Rattle.pr_range.specs.spec_vectors.Ranges.{differ}
+use Rattle.pr_range.specs.pr_window.private.Neighbours.{one_if}
+use Rattle.pr_slide.specs.private.Successions.{before_fall}
 use Rattle.pr_slide.proofs.Successions.{changes_few, counted_more, specials_few}
 use Rattle.pr_slide.proofs.successive.count_behind.Goals as goal
 

@@ -1,5 +1,5 @@
 use Rattle.std.proofs.Common.{ap, arith}
-use Rattle.pr_folds.specs.Neighbours.{one_if}
+use Rattle.pr_range.specs.pr_window.private.Neighbours.{one_if}
 use Rattle.pr_slide.proofs.Successions.{changes_first, specials_first}
 use Rattle.pr_slide.proofs.successive.uncount_first.Goals as goal
 

@@ -1,6 +1,6 @@
 use Rattle.std.proofs.Common.{◌≡◌, drop}
-use Rattle.pr_slide.specs.Later.{later}
-use Rattle.pr_slide.specs.Successions.{changes_in, specials_in}
+use Rattle.pr_slide.specs.private.Later.{later}
+use Rattle.pr_slide.specs.private.Successions.{changes_in, specials_in}
 use Rattle.pr_slide.proofs.successive.uncount_leading.Given as goal
 
 -- none so far is after the moment, and the others are counted

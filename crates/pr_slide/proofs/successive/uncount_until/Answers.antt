@@ -1,7 +1,7 @@
 use Rattle.std.proofs.Common.{◌≡◌, ap, ◌∙◌, arith, w64, to_z, of_z}
 use Rattle.std.proofs.lemmas.Int.{to_z-of_z}
-use Rattle.pr_slide.specs.Later.{later}
-use Rattle.pr_slide.specs.Successions.{changes_in, specials_in}
+use Rattle.pr_slide.specs.private.Later.{later}
+use Rattle.pr_slide.specs.private.Successions.{changes_in, specials_in}
 use Rattle.pr_slide.proofs.Successions.{counted_later}
 use Rattle.pr_slide.proofs.successive.uncount_until.Goals as goal
 

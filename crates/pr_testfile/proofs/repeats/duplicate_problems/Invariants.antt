@@ -1,7 +1,7 @@
 use Rattle.std.proofs.Common.{◌≡◌, ◌++◌, map, length}
 use Rattle.pr_yaml.specs.Tree.{tree_of}
 use Rattle.pr_testfile.specs.Series.{no_series, duplicate_problems}
-use Rattle.pr_testfile.specs.Known.{knows_labels}
+use Rattle.pr_testfile.specs.private.Known.{knows_labels}
 use Rattle.pr_testfile.proofs.repeats.duplicate_problems.Given as goal
 
 -- the problems so far, and those of the series that are left, are all

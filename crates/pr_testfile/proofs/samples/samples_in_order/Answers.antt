@@ -1,7 +1,7 @@
 use Rattle.std.proofs.Common.{rules, ◌∙◌, ap}
 use Rattle.std.specs.Ordering.{is_lt}
 use Rattle.std.proofs.lemmas.List.Sorted.{answers_always}
-use Rattle.pr_fields.proofs.Placed.{only_ordered}
+use Rattle.pr_rulefile.proofs.Placed.{only_ordered}
 use Rattle.pr_testfile.specs.Samples.{is_item_before}
 use Rattle.pr_testfile.proofs.Weak.{items_weak}
 use Rattle.pr_testfile.proofs.samples.samples_in_order.Goals as goal

@@ -4,7 +4,7 @@ use Rattle.pr_forms.specs.Form.{fold}
 use Rattle.pr_forms.specs.Run.{bad}
 use Rattle.pr_time.specs.SpanText.{shifted, digit, amount, seen, From}
 use Rattle.pr_forms.specs.Language.{Gives}
-use Rattle.pr_time.specs.SpanReader.{spans}
+use Rattle.pr_time.specs.private.SpanReader.{spans}
 use Rattle.pr_time.proofs.SpanReading.{amount_reads, amount_no_unit, amount_bad_part, exit, past_part, no_part, one_part, bad_part, first_digit, kept_small}
 use Rattle.pr_time.proofs.text.+parts.Goals as goal
 

@@ -1,6 +1,6 @@
 use Rattle.std.proofs.Common.{length}
 use Rattle.std.specs.Str.{IsUtf8}
-use Rattle.pr_tmpl.specs.Parsed.{HasPartsUpTo}
+use Rattle.pr_tmpl.specs.private.Parsed.{HasPartsUpTo}
 use Rattle.pr_tmpl.proofs.parse.parts_in.Given as goal
 
 abbrev pub invariant-loop-parts : goal.invariant-loop-parts

@@ -1,5 +1,5 @@
 use Rattle.std.proofs.Common.{length}
-use Rattle.pr_tmpl.specs.Parsed.{IsWords}
+use Rattle.pr_tmpl.specs.private.Parsed.{IsWords}
 use Rattle.pr_tmpl.proofs.parse.words_in.Given as goal
 
 abbrev pub invariant-loop-pipe : goal.invariant-loop-pipe

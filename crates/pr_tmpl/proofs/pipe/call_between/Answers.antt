@@ -1,6 +1,6 @@
-use Rattle.pr_forms.specs.Form.{rule}
+use Rattle.pr_labels.specs.pr_forms.Form.{rule}
 use Rattle.pr_tmpl.specs.TemplateText.{ACall}
-use Rattle.pr_tmpl.specs.Pipes.{after_bar}
+use Rattle.pr_tmpl.specs.private.Pipes.{after_bar}
 use Rattle.pr_tmpl.proofs.FormatWays.{fail_exit}
 use Rattle.pr_tmpl.proofs.CallWays.{call_between, between_fails}
 use Rattle.pr_tmpl.proofs.pipe.call_between.Goals as goal

@@ -1,12 +1,12 @@
 use Rattle.std.proofs.Common.{refl}
 use Rattle.std.specs.Prelude.{codes}
-use Rattle.pr_forms.specs.Form.{rule}
-use Rattle.pr_forms.specs.Run.{run_rule}
-use Rattle.pr_forms.proofs.Carrying.{carry_on, carry_rule}
-use Rattle.pr_tmpl.specs.declared.kind.Kind.TheVariants.{SmallP, SmallH}
+use Rattle.pr_labels.specs.pr_forms.Form.{rule}
+use Rattle.pr_labels.specs.pr_forms.Run.{run_rule}
+use Rattle.pr_labels.proofs.FormsCarrying.{carry_on, carry_rule}
+use Rattle.pr_tmpl.specs.declared.kind.TemplateByte.TheVariants.{SmallP, SmallH}
 use Rattle.pr_tmpl.specs.Pieces.{plain}
 use Rattle.pr_tmpl.specs.TemplateText.{call, mark, any_at, second_of, spelled, call_rule, scale_goes_on, ACall, Scale, Formatted, PrintfWord, HumanizeWord}
-use Rattle.pr_tmpl.specs.Pipes.{after_gap}
+use Rattle.pr_tmpl.specs.private.Pipes.{after_gap}
 use Rattle.pr_tmpl.proofs.WordWays.{handed, chosen_word, unchosen, unchosen_piece, kind_piece}
 use Rattle.pr_tmpl.proofs.CallWays.{no_call}
 use Rattle.pr_tmpl.proofs.pipe.call_in.Goals as goal

@@ -1,8 +1,8 @@
-use Rattle.pr_forms.specs.Form.{rule}
+use Rattle.pr_labels.specs.pr_forms.Form.{rule}
 use Rattle.std.proofs.Common.{arith}
 use Rattle.pr_tmpl.specs.Pieces.{pieces}
 use Rattle.pr_tmpl.specs.TemplateText.{After}
-use Rattle.pr_tmpl.specs.Pipes.{after_bar}
+use Rattle.pr_tmpl.specs.private.Pipes.{after_bar}
 use Rattle.pr_tmpl.proofs.FormatWays.{fail_exit}
 use Rattle.pr_tmpl.proofs.CallWays.{calls_start, call_taken, call_fails, calls_end, end_fails}
 use Rattle.pr_tmpl.proofs.pipe.calls_in.Goals as goal

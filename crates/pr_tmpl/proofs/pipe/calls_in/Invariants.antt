@@ -1,6 +1,6 @@
 use Rattle.std.proofs.Common.{◌≤◌, length}
 use Rattle.std.specs.Str.{IsUtf8}
-use Rattle.pr_tmpl.specs.Pipes.{CallsSoFar}
+use Rattle.pr_tmpl.specs.private.Pipes.{CallsSoFar}
 use Rattle.pr_tmpl.proofs.pipe.calls_in.Given as goal
 
 abbrev pub invariant-loop-at : goal.invariant-loop-at

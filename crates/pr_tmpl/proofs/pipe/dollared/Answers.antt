@@ -1,8 +1,8 @@
 use Rattle.std.proofs.Common.{refl}
 use Rattle.std.specs.Prelude.{codes}
-use Rattle.pr_forms.specs.Form.{rule, chosen, nothing}
-use Rattle.pr_forms.proofs.Carrying.{carry_exit}
-use Rattle.pr_tmpl.specs.declared.kind.Kind.TheVariants.{SmallV, SmallL, SmallE}
+use Rattle.pr_labels.specs.pr_forms.Form.{rule, chosen, nothing}
+use Rattle.pr_labels.proofs.FormsCarrying.{carry_exit}
+use Rattle.pr_tmpl.specs.declared.kind.TemplateByte.TheVariants.{SmallV, SmallL, SmallE}
 use Rattle.pr_tmpl.specs.declared.template.Operand.TheVariants.{Value as TheValue}
 use Rattle.pr_tmpl.specs.Pieces.{plain, pieces}
 use Rattle.pr_tmpl.specs.TemplateText.{production, operand, bytes, mark, any_at, second_of, label, spelled, name_goes_on, dollar_rule, external_rule, Name, ValueWord, LabelsWord, ExternalWord}

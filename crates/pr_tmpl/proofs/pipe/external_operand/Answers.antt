@@ -1,5 +1,5 @@
 use Rattle.std.specs.Prelude.{codes}
-use Rattle.pr_forms.specs.Form.{chosen}
+use Rattle.pr_labels.specs.pr_forms.Form.{chosen}
 use Rattle.pr_tmpl.specs.TemplateText.{operand, spelled, external_rule, name_goes_on}
 use Rattle.pr_tmpl.proofs.TextKept.{handed_text}
 use Rattle.pr_tmpl.proofs.WordWays.{handed}

@@ -1,8 +1,8 @@
-use Rattle.pr_forms.specs.Form.{rule}
+use Rattle.pr_labels.specs.pr_forms.Form.{rule}
 use Rattle.pr_tmpl.specs.Pieces.{pieces}
 use Rattle.pr_tmpl.specs.TemplateText.{Formatted, call}
 use Rattle.pr_tmpl.specs.declared.template.Call.TheVariants.{Printf}
-use Rattle.pr_tmpl.specs.Pipes.{after_gap}
+use Rattle.pr_tmpl.specs.private.Pipes.{after_gap}
 use Rattle.pr_tmpl.proofs.FormatWays.{fail_exit}
 use Rattle.pr_tmpl.proofs.pipe.format_after_gap.Goals as goal
 

@@ -1,4 +1,4 @@
-use Rattle.pr_forms.specs.Form.{rule}
+use Rattle.pr_labels.specs.pr_forms.Form.{rule}
 use Rattle.std.proofs.Common.{◌∙◌, ap, ◌++◌, ◌∷◌, [], List}
 use Rattle.pr_tmpl.specs.declared.template.Call.{Call}
 use Rattle.pr_tmpl.specs.TemplateText.{production, FromOperand, FromCall, ACall}

@@ -1,4 +1,4 @@
-use Rattle.pr_forms.specs.Form.{rule}
+use Rattle.pr_labels.specs.pr_forms.Form.{rule}
 use Rattle.pr_tmpl.specs.TemplateText.{production, FromOperand, AnOperand, After}
 use Rattle.pr_tmpl.proofs.FormatWays.{fail_exit}
 use Rattle.pr_tmpl.proofs.CallWays.{operand_then, operand_fails, after_operand_fails}

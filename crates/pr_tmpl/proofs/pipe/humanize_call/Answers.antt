@@ -1,5 +1,5 @@
 use Rattle.std.specs.Prelude.{codes}
-use Rattle.pr_forms.specs.Form.{rule}
+use Rattle.pr_labels.specs.pr_forms.Form.{rule}
 use Rattle.pr_tmpl.specs.TemplateText.{call, spelled, Scale}
 use Rattle.pr_tmpl.proofs.TextKept.{handed_text}
 use Rattle.pr_tmpl.proofs.WordWays.{handed}

@@ -1,8 +1,8 @@
 use Rattle.std.proofs.Common.{refl}
-use Rattle.pr_forms.specs.Form.{rule, chosen}
-use Rattle.pr_forms.specs.Run.{run_rule}
-use Rattle.pr_forms.proofs.Carrying.{carry_on, carry_rule, carry_exit}
-use Rattle.pr_tmpl.specs.declared.kind.Kind.TheVariants.{Quote, Dollar, Point}
+use Rattle.pr_labels.specs.pr_forms.Form.{rule, chosen}
+use Rattle.pr_labels.specs.pr_forms.Run.{run_rule}
+use Rattle.pr_labels.proofs.FormsCarrying.{carry_on, carry_rule, carry_exit}
+use Rattle.pr_tmpl.specs.declared.kind.TemplateByte.TheVariants.{Quote, Dollar, Point}
 use Rattle.pr_tmpl.specs.Pieces.{plain, pieces}
 use Rattle.pr_tmpl.specs.TemplateText.{production, operand, bytes, mark, any_at, second_of, literal, name_goes_on, dollar_rule, dot_rule, operand_rule, Content, AnOperand, Literal, Dollared, Dotted}
 use Rattle.pr_tmpl.specs.TemplateTable.{table}

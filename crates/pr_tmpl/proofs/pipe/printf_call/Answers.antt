@@ -1,7 +1,7 @@
-use Rattle.pr_forms.specs.Form.{rule}
+use Rattle.pr_labels.specs.pr_forms.Form.{rule}
 use Rattle.std.specs.Prelude.{codes}
 use Rattle.pr_tmpl.specs.TemplateText.{call, spelled, Formatted}
-use Rattle.pr_tmpl.specs.Pipes.{after_gap}
+use Rattle.pr_tmpl.specs.private.Pipes.{after_gap}
 use Rattle.pr_tmpl.proofs.WordWays.{handed}
 use Rattle.pr_tmpl.proofs.pipe.printf_call.Goals as goal
 

@@ -1,9 +1,9 @@
 use Rattle.std.proofs.Common.{refl, Some, None, arith}
 use Rattle.std.specs.Prelude.{codes}
-use Rattle.pr_forms.specs.Form.{rule, nothing}
-use Rattle.pr_forms.specs.Run.{run_rule, run_right, run_nothing}
-use Rattle.pr_forms.proofs.Carrying.{carry_on, carry_rule, carry_left}
-use Rattle.pr_tmpl.specs.declared.kind.Kind.TheVariants.{CapitalP, CapitalD}
+use Rattle.pr_labels.specs.pr_forms.Form.{rule, nothing}
+use Rattle.pr_labels.specs.pr_forms.Run.{run_rule, run_right, run_nothing}
+use Rattle.pr_labels.proofs.FormsCarrying.{carry_on, carry_rule, carry_left}
+use Rattle.pr_tmpl.specs.declared.kind.TemplateByte.TheVariants.{CapitalP, CapitalD}
 use Rattle.pr_tmpl.specs.declared.template.Call.TheVariants.{HumanizePercentage, HumanizeDuration}
 use Rattle.pr_tmpl.specs.Pieces.{plain}
 use Rattle.pr_tmpl.specs.TemplateText.{call, mark, any_at, second_of, spelled, scale_rule, nothing_follows, Scale, PercentageWord, DurationWord}

@@ -2,7 +2,7 @@ use Rattle.std.proofs.Common.{◌≤◌, length}
 use Rattle.std.specs.Prelude.{string_bytes}
 use Rattle.std.specs.Str.{IsUtf8}
 use Rattle.pr_tmpl.specs.declared.quoted.Within.TheVariants.{Before}
-use Rattle.pr_tmpl.specs.Quotes.{ReachesAsOwn}
+use Rattle.pr_tmpl.specs.private.Quotes.{ReachesAsOwn}
 use Rattle.pr_tmpl.proofs.quoted.before_in.Given as goal
 
 abbrev pub invariant-loop-before : goal.invariant-loop-before

@@ -1,5 +1,5 @@
 use Rattle.std.proofs.Common.{◌∙◌, ap}
-use Rattle.pr_tmpl.specs.Quotes.{first_byte}
+use Rattle.pr_tmpl.specs.private.Quotes.{first_byte}
 use Rattle.pr_tmpl.proofs.TextKept.{kind_text, any_kind, escape_control}
 use Rattle.pr_tmpl.proofs.quoted.control_in.Goals as goal
 

@@ -1,4 +1,4 @@
-use Rattle.pr_forms.specs.Form.{rule}
+use Rattle.pr_labels.specs.pr_forms.Form.{rule}
 use Rattle.pr_tmpl.specs.TemplateText.{Places}
 use Rattle.pr_tmpl.proofs.FormatWays.{break_exit, digit_breaks, digit_read, no_digit}
 use Rattle.pr_tmpl.proofs.quoted.digit_in.Goals as goal

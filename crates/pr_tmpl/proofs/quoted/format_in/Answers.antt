@@ -1,6 +1,6 @@
-use Rattle.pr_forms.specs.Form.{rule}
+use Rattle.pr_labels.specs.pr_forms.Form.{rule}
 use Rattle.pr_tmpl.specs.TemplateText.{Formatted, Before, AfterVerb}
-use Rattle.pr_tmpl.specs.Quotes.{verb_wanted}
+use Rattle.pr_tmpl.specs.private.Quotes.{verb_wanted}
 use Rattle.pr_tmpl.proofs.FormatWays.{fail_exit, format_read, before_fails, no_format}
 use Rattle.pr_tmpl.proofs.quoted.format_in.Goals as goal
 

@@ -1,4 +1,4 @@
-use Rattle.pr_forms.specs.Form.{rule}
+use Rattle.pr_labels.specs.pr_forms.Form.{rule}
 use Rattle.pr_tmpl.specs.TemplateText.{LetterF}
 use Rattle.pr_tmpl.proofs.FormatWays.{break_exit, f_breaks, f_read, no_f}
 use Rattle.pr_tmpl.proofs.quoted.letter_f_in.Goals as goal

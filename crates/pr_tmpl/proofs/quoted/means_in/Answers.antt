@@ -1,5 +1,5 @@
 use Rattle.std.proofs.Common.{arith}
-use Rattle.pr_tmpl.specs.Quotes.{means_of}
+use Rattle.pr_tmpl.specs.private.Quotes.{means_of}
 use Rattle.pr_tmpl.proofs.QuoteWays.{reached_more}
 use Rattle.pr_tmpl.proofs.TextKept.{one_letter}
 use Rattle.pr_tmpl.proofs.quoted.means_in.Goals as goal

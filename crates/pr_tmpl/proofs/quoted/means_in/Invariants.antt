@@ -1,6 +1,6 @@
 use Rattle.std.proofs.Common.{◌≤◌, ◌++◌, length}
 use Rattle.std.specs.Str.{IsUtf8}
-use Rattle.pr_tmpl.specs.Quotes.{ReachesAsOwn}
+use Rattle.pr_tmpl.specs.private.Quotes.{ReachesAsOwn}
 use Rattle.pr_tmpl.proofs.quoted.means_in.Given as goal
 
 abbrev pub invariant-loop-bytes : goal.invariant-loop-bytes

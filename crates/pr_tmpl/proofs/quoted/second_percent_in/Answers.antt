@@ -1,4 +1,4 @@
-use Rattle.pr_forms.specs.Form.{rule}
+use Rattle.pr_labels.specs.pr_forms.Form.{rule}
 use Rattle.pr_tmpl.specs.TemplateText.{SecondPercent}
 use Rattle.pr_tmpl.proofs.FormatWays.{break_exit, second_breaks, second_read, no_second}
 use Rattle.pr_tmpl.proofs.quoted.second_percent_in.Goals as goal

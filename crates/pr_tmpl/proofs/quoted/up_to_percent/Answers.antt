@@ -1,4 +1,4 @@
-use Rattle.pr_forms.specs.Form.{rule}
+use Rattle.pr_labels.specs.pr_forms.Form.{rule}
 use Rattle.pr_tmpl.specs.TemplateText.{AfterVerb, SecondPercent}
 use Rattle.pr_tmpl.proofs.FormatWays.{fail_exit, goes_on, second_fails, text_ends, text_fails}
 use Rattle.pr_tmpl.proofs.quoted.up_to_percent.Goals as goal

@@ -1,4 +1,4 @@
-use Rattle.pr_forms.specs.Form.{rule}
+use Rattle.pr_labels.specs.pr_forms.Form.{rule}
 use Rattle.pr_tmpl.specs.TemplateText.{Before, Wanted}
 use Rattle.pr_tmpl.proofs.FormatWays.{fail_exit, no_verb_comes, wanted_fails, led_up_to}
 use Rattle.pr_tmpl.proofs.quoted.up_to_wanted.Goals as goal

@@ -1,5 +1,5 @@
-use Rattle.pr_forms.specs.Form.{rule}
-use Rattle.pr_tmpl.specs.declared.kind.Kind.TheVariants.{Percent, SmallF, Point}
+use Rattle.pr_labels.specs.pr_forms.Form.{rule}
+use Rattle.pr_tmpl.specs.declared.kind.TemplateByte.TheVariants.{Percent, SmallF, Point}
 use Rattle.pr_tmpl.specs.TemplateText.{Wanted, Places}
 use Rattle.pr_tmpl.proofs.TextKept.{same_kind, word_kind}
 use Rattle.pr_tmpl.proofs.FormatWays.{break_exit, fail_exit, wanted_breaks, unwanted_end, unwanted, wanted_percent, wanted_f, wanted_word, wanted_point, wanted_places}

@@ -1,5 +1,5 @@
 use Rattle.std.proofs.Common.{arith}
-use Rattle.pr_forms.proofs.Carrying.{carry_start, turn_taken, tokens_over}
+use Rattle.pr_labels.proofs.FormsCarrying.{carry_start, turn_taken, tokens_over}
 use Rattle.pr_tmpl.proofs.WordWays.{takes_blank, lacks_blank}
 use Rattle.pr_tmpl.proofs.words.blanks_in.Goals as goal
 

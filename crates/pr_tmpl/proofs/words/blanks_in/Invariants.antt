@@ -1,7 +1,7 @@
 use Rattle.std.proofs.Common.{◌≤◌, length}
-use Rattle.pr_labels.specs.pr_strings.Reader.{KeepsText}
+use Rattle.pr_labels.specs.pr_words.private.Reader.{KeepsText}
 use Rattle.pr_tmpl.specs.TemplateText.{blanks}
-use Rattle.pr_tmpl.specs.Reader.{Leads}
+use Rattle.pr_tmpl.specs.private.Reader.{Leads}
 use Rattle.pr_tmpl.proofs.words.blanks_in.Given as goal
 
 abbrev pub invariant-loop-after : goal.invariant-loop-after

@@ -1,4 +1,4 @@
-use Rattle.pr_forms.specs.Form.{rule}
+use Rattle.pr_labels.specs.pr_forms.Form.{rule}
 use Rattle.pr_tmpl.specs.TemplateText.{Name, bytes, spelled}
 use Rattle.std.specs.Prelude.{codes}
 use Rattle.pr_tmpl.proofs.WordWays.{handed}

@@ -1,9 +1,9 @@
 use Rattle.std.proofs.Common.{◌≤◌, length}
 use Rattle.std.specs.Prelude.{string_bytes}
-use Rattle.pr_forms.specs.Form.{rule}
-use Rattle.pr_labels.specs.pr_strings.Reader.{KeepsText}
+use Rattle.pr_labels.specs.pr_forms.Form.{rule}
+use Rattle.pr_labels.specs.pr_words.private.Reader.{KeepsText}
 use Rattle.pr_tmpl.specs.TemplateText.{Name, NameRest}
-use Rattle.pr_tmpl.specs.Reader.{Leads}
+use Rattle.pr_tmpl.specs.private.Reader.{Leads}
 use Rattle.pr_tmpl.proofs.words.name_in.Given as goal
 
 abbrev pub invariant-loop-byte : goal.invariant-loop-byte

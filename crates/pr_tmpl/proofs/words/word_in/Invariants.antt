@@ -1,7 +1,7 @@
 use Rattle.std.proofs.Common.{◌≤◌, length}
 use Rattle.std.specs.Prelude.{IsTrue}
-use Rattle.pr_labels.specs.pr_strings.Reader.{KeepsText}
-use Rattle.pr_tmpl.specs.Letters.{are_ascii}
+use Rattle.pr_labels.specs.pr_words.private.Reader.{KeepsText}
+use Rattle.pr_tmpl.specs.private.Letters.{are_ascii}
 use Rattle.pr_tmpl.proofs.WordWays.{Spells}
 use Rattle.pr_tmpl.proofs.words.word_in.Given as goal
 

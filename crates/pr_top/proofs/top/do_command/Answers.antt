@@ -1,5 +1,5 @@
 use Rattle.std.proofs.Common.{Some, sym, subst}
-use Rattle.pr_status.specs.Outside.{Outside}
+use Rattle.pr_outside.specs.Outside.{Outside}
 use Rattle.pr_top.specs.Means.{MeansCommand}
 use Rattle.pr_top.specs.Words.{asked_by}
 use Rattle.pr_top.specs.declared.command.Command as made

@@ -1,7 +1,7 @@
 use Rattle.std.proofs.Common.{Option, None, Some, sym, ap, ◌∙◌, subst}
-use Rattle.pr_status.specs.Outside.{Outside}
+use Rattle.pr_outside.specs.Outside.{Outside}
 use Rattle.pr_top.specs.Command.{Command, uses}
-use Rattle.pr_status.specs.Status.{HasCause}
+use Rattle.pr_outside.specs.Status.{HasCause}
 use Rattle.pr_top.specs.Means.{HasBadRow, MeansCommand}
 use Rattle.pr_top.specs.Words.{asked_by, asks_for}
 use Rattle.pr_top.proofs.Commands.{command_cause}

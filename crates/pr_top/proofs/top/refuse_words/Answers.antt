@@ -1,6 +1,6 @@
 use Rattle.std.proofs.Common.{◌∙◌, ℕ, List, OnOk, take, sym, ap, subst}
 use Rattle.std.specs.Io.KnownBytes.{Appends}
-use Rattle.pr_status.specs.declared.status.Status.TheVariants as status
+use Rattle.pr_outside.specs.declared.status.status.Status.TheVariants as status
 use Rattle.pr_top.specs.Means.{usage_status}
 use Rattle.pr_top.specs.Usage.{usage_text}
 use Rattle.pr_top.proofs.Commands.{means_usage}

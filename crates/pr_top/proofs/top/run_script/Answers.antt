@@ -1,4 +1,4 @@
-use Rattle.pr_status.specs.Outside.{Outside}
+use Rattle.pr_outside.specs.Outside.{Outside}
 use Rattle.pr_top.proofs.Commands.{means_run}
 use Rattle.pr_top.proofs.top.run_script.Goals as goal
 

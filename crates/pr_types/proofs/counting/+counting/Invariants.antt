@@ -1,6 +1,6 @@
 use Rattle.std.proofs.Common.{◌≡◌, take}
 use Rattle.pr_ast.specs.Tree.{trees_of}
-use Rattle.pr_types.specs.Numbers.{counts_in}
+use Rattle.pr_types.specs.private.Numbers.{counts_in}
 use Rattle.pr_types.proofs.counting.+counting.Given as goal
 
 abbrev pub invariant-counts_of-loop-arg : goal.invariant-counts_of-loop-arg

@@ -1,7 +1,7 @@
 use Rattle.std.proofs.Common.{◌≡◌, ℕ, ◌+◌, List, ap, subst, sym, ◌∙◌}
-use Rattle.pr_group.specs.pr_lineage.declared.found.Found.{Found}
-use Rattle.pr_expected.specs.pr_verdict.Verdict.{alert_failure, firing}
-use Rattle.pr_unit.specs.Kept.{KeepsGroups}
+use Rattle.pr_group.specs.spec_alerts.declared.found.RuleElement.{RuleElement}
+use Rattle.spec_tests.specs.Verdict.{alert_failure, firing}
+use Rattle.pr_unit.specs.private.Kept.{KeepsGroups}
 use Rattle.pr_unit.proofs.Answers.{if_ok}
 use Rattle.pr_unit.proofs.checks.check_alert.Goals as goal
 
@@ -15,6 +15,6 @@ returns g c = λ s w h.
     if_ok c.alert_failure.result _ _
     (λ list e.
     e ∙ ap (λ (n : ℕ). alert_failure test n c.as_slice.result.now found) c.in_ok-number_of.ensures
-    ∙ ap (λ (l : List Found). alert_failure test (c.args.index + 1) l found) c.as_slice.ensures
-    ∙ ap (λ (l : List Found). alert_failure test (c.args.index + 1) expected l) is)
+    ∙ ap (λ (l : List RuleElement). alert_failure test (c.args.index + 1) l found) c.as_slice.ensures
+    ∙ ap (λ (l : List RuleElement). alert_failure test (c.args.index + 1) expected l) is)
     c.alert_failure.ensures

@@ -1,13 +1,13 @@
 use Rattle.std.proofs.Common.{◌≡◌, ℕ, ◌+◌, List, ap, ◌∙◌, pos, ◌-ℤ◌, arith}
 use Rattle.std.proofs.lemmas.Int.{ints}
-use Rattle.pr_history.specs.pr_labels.declared.item.Item.{Item}
+use Rattle.pr_ast.specs.pr_labels.declared.item.Item.{Item}
 use Rattle.pr_num.specs.declared.value.Num.{Num}
 use Rattle.pr_ast.specs.Tree.{tree_of}
 use Rattle.pr_ast.specs.Reach.{reads_back}
-use Rattle.pr_expected.specs.pr_eval.Looks.{KeepsFor}
-use Rattle.pr_group.specs.pr_query.Meaning.{meaning}
-use Rattle.pr_expected.specs.pr_verdict.declared.failure.Shown.{Shown}
-use Rattle.pr_expected.specs.pr_verdict.Verdict.{expr_failure, given_by}
+use Rattle.pr_group.specs.pr_eval.private.Looks.{KeepsFor}
+use Rattle.pr_group.specs.spec_meaning.Meaning.{meaning}
+use Rattle.spec_tests.specs.declared.failure.Shown.{Shown}
+use Rattle.spec_tests.specs.Verdict.{expr_failure, given_by}
 use Rattle.pr_unit.proofs.Answers.{if_ok}
 use Rattle.pr_unit.proofs.checks.check_expr.Goals as goal
 

@@ -1,8 +1,8 @@
 use Rattle.std.proofs.Common.{◌≡◌, ℕ, ◌+◌, length, slice_get, Some, refl, sym, ap, ◌∙◌}
 use Rattle.std.proofs.lemmas.Option.{slice_get_read}
-use Rattle.pr_feeding.specs.pr_testfile.declared.tests.AlertCheck.{AlertCheck}
-use Rattle.pr_expected.specs.pr_verdict.Events.{world_at}
-use Rattle.pr_expected.specs.pr_verdict.Verdict.{alert_check, alert_failure, firing}
+use Rattle.spec_tests.specs.pr_testfile.declared.tests.AlertCheck.{AlertCheck}
+use Rattle.spec_tests.specs.Events.{world_at}
+use Rattle.spec_tests.specs.Verdict.{alert_check, alert_failure, firing}
 use Rattle.pr_unit.proofs.Filling.{one_filled, same_time}
 use Rattle.pr_unit.proofs.Lists.{same_there}
 use Rattle.pr_unit.proofs.checks.fill_alert.Goals as goal

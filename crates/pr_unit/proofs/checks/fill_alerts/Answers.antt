@@ -1,5 +1,5 @@
 use Rattle.std.proofs.Common.{arith}
-use Rattle.pr_expected.specs.pr_verdict.Verdict.{alert_check}
+use Rattle.spec_tests.specs.Verdict.{alert_check}
 use Rattle.pr_unit.proofs.Filling.{ends_filling}
 use Rattle.pr_unit.proofs.checks.fill_alerts.Goals as goal
 

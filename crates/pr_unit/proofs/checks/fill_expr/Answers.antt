@@ -2,11 +2,11 @@ use Rattle.std.proofs.Common.{◌≡◌, ℕ, ◌+◌, length, map, slice_get, S
 use Rattle.std.specs.Option.{option_map}
 use Rattle.std.proofs.lemmas.Option.{slice_get_read, slice_get-map}
 use Rattle.pr_ast.specs.Tree.{tree_of}
-use Rattle.pr_group.specs.pr_query.Meaning.{meaning}
-use Rattle.pr_feeding.specs.pr_testfile.declared.tests.ExprCheck.{ExprCheck}
-use Rattle.pr_feeding.specs.pr_testfile.Checks.{plain_check}
-use Rattle.pr_expected.specs.pr_verdict.Events.{world_at}
-use Rattle.pr_expected.specs.pr_verdict.Verdict.{expr_check, expr_failure, given_by}
+use Rattle.pr_group.specs.spec_meaning.Meaning.{meaning}
+use Rattle.spec_tests.specs.pr_testfile.declared.tests.ExprCheck.{ExprCheck}
+use Rattle.spec_tests.specs.pr_testfile.Checks.{plain_check}
+use Rattle.spec_tests.specs.Events.{world_at}
+use Rattle.spec_tests.specs.Verdict.{expr_check, expr_failure, given_by}
 use Rattle.pr_unit.proofs.Filling.{one_filled, same_time}
 use Rattle.pr_unit.proofs.Lists.{same_there}
 use Rattle.pr_unit.proofs.checks.fill_expr.Goals as goal

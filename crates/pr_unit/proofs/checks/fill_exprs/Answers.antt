@@ -1,7 +1,7 @@
 use Rattle.std.proofs.Common.{map, arith}
-use Rattle.pr_feeding.specs.pr_testfile.Checks.{plain_check}
+use Rattle.spec_tests.specs.pr_testfile.Checks.{plain_check}
 use Rattle.std.proofs.lemmas.List.{length-map}
-use Rattle.pr_expected.specs.pr_verdict.Verdict.{expr_check}
+use Rattle.spec_tests.specs.Verdict.{expr_check}
 use Rattle.pr_unit.proofs.Filling.{ends_filling}
 use Rattle.pr_unit.proofs.checks.fill_exprs.Goals as goal
 

@@ -1,12 +1,12 @@
 use Rattle.std.proofs.Common.{List, map}
-use Rattle.pr_group.specs.pr_rules.Groups.{Group}
-use Rattle.pr_group.specs.pr_rules.Settings.{Settings}
-use Rattle.pr_feeding.specs.pr_testfile.Checks.{plain_check}
-use Rattle.pr_feeding.specs.pr_testfile.Tests.{PlainTest}
-use Rattle.pr_expected.specs.pr_verdict.Events.{world_at}
-use Rattle.pr_expected.specs.pr_verdict.Verdict.{expr_check}
-use Rattle.pr_unit.specs.Kept.{StandsForWorld}
-use Rattle.pr_unit.specs.Slots.{AreFilled, AreFilling}
+use Rattle.pr_group.specs.spec_rules.Groups.{Group}
+use Rattle.pr_group.specs.spec_rules.Settings.{Settings}
+use Rattle.spec_tests.specs.pr_testfile.Checks.{plain_check}
+use Rattle.spec_tests.specs.pr_testfile.Tests.{PlainTest}
+use Rattle.spec_tests.specs.Events.{world_at}
+use Rattle.spec_tests.specs.Verdict.{expr_check}
+use Rattle.pr_unit.specs.private.Kept.{StandsForWorld}
+use Rattle.pr_unit.specs.private.Slots.{AreFilled, AreFilling}
 use Rattle.pr_unit.proofs.checks.fill_exprs.Given as goal
 
 -- the slots of the first ones are filled

@@ -1,10 +1,10 @@
 use Rattle.std.proofs.Common.{◌≡◌, [], ◌≤◌, Some, length, slice_get, refl, ap, ◌∙◌, arith}
 use Rattle.std.specs.List.{flat_map}
 use Rattle.std.proofs.lemmas.Option.{slice_get_read}
-use Rattle.pr_feeding.specs.pr_fields.Order.{ordered}
-use Rattle.pr_group.specs.pr_rules.Groups.{Group}
-use Rattle.pr_feeding.specs.pr_testfile.Alerts.{is_found_before}
-use Rattle.pr_expected.specs.pr_verdict.Verdict.{firing_of}
+use Rattle.spec_tests.specs.pr_rulefile.Order.{ordered}
+use Rattle.pr_group.specs.spec_rules.Groups.{Group}
+use Rattle.spec_tests.specs.pr_testfile.Alerts.{is_found_before}
+use Rattle.spec_tests.specs.Verdict.{firing_of}
 use Rattle.pr_unit.proofs.Alerts.{one_more_found}
 use Rattle.pr_unit.proofs.Answers.{if_ok}
 use Rattle.pr_unit.proofs.Lists.{take_whole}

@@ -1,10 +1,10 @@
 use Rattle.std.proofs.Common.{◌≡◌, List, take}
 use Rattle.std.specs.List.{flat_map}
-use Rattle.pr_history.specs.declared.entry.Entry.{Entry}
-use Rattle.pr_group.specs.pr_rules.Groups.{Group}
-use Rattle.pr_group.specs.pr_rules.Settings.{Settings}
-use Rattle.pr_expected.specs.pr_verdict.Verdict.{firing_of}
-use Rattle.pr_unit.specs.Kept.{KeepsGroups}
+use Rattle.pr_slide.specs.spec_history.declared.entry.Entry.{Entry}
+use Rattle.pr_group.specs.spec_rules.Groups.{Group}
+use Rattle.pr_group.specs.spec_rules.Settings.{Settings}
+use Rattle.spec_tests.specs.Verdict.{firing_of}
+use Rattle.pr_unit.specs.private.Kept.{KeepsGroups}
 use Rattle.pr_unit.proofs.firing.firing.Given as goal
 
 -- those of the first groups

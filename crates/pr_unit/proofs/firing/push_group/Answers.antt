@@ -1,8 +1,8 @@
 use Rattle.std.proofs.Common.{◌≡◌, List, ◌++◌, ◌<◌, ◌≤◌, length, subst, ap, ◌∙◌, arith}
 use Rattle.std.specs.List.{flat_map}
-use Rattle.pr_group.specs.pr_rulefile.declared.rules.RuleDef.{RuleDef}
-use Rattle.pr_group.specs.pr_rules.Groups.{RuleState}
-use Rattle.pr_expected.specs.pr_verdict.Verdict.{firing_of}
+use Rattle.pr_group.specs.spec_rules.declared.definitions.RuleDef.{RuleDef}
+use Rattle.pr_group.specs.spec_rules.Groups.{RuleState}
+use Rattle.spec_tests.specs.Verdict.{firing_of}
 use Rattle.pr_unit.proofs.Alerts.{as_many_rules, one_more_found, rule_exists}
 use Rattle.pr_unit.proofs.Lists.{take_whole}
 use Rattle.pr_unit.proofs.firing.push_group.Goals as goal

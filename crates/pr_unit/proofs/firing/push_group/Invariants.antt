@@ -1,9 +1,9 @@
 use Rattle.std.proofs.Common.{◌≡◌, ◌++◌, List, take}
 use Rattle.std.specs.List.{flat_map}
-use Rattle.pr_history.specs.declared.entry.Entry.{Entry}
-use Rattle.pr_group.specs.pr_rules.Groups.{Group}
-use Rattle.pr_expected.specs.pr_verdict.Verdict.{firing_of}
-use Rattle.pr_group.specs.Keeping.{KeepsGroup}
+use Rattle.pr_slide.specs.spec_history.declared.entry.Entry.{Entry}
+use Rattle.pr_group.specs.spec_rules.Groups.{Group}
+use Rattle.spec_tests.specs.Verdict.{firing_of}
+use Rattle.pr_group.specs.private.Keeping.{KeepsGroup}
 use Rattle.pr_unit.proofs.firing.push_group.Given as goal
 
 -- those of the first rules

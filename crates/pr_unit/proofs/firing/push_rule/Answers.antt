@@ -1,9 +1,9 @@
 use Rattle.std.proofs.Common.{◌≡◌, List, true, false, ◌&&◌, ◌<◌, OnOk, ◌++◌, filter, map, length, slice_get, Some, refl, sym, ap, subst, ◌∙◌}
 use Rattle.std.specs.Str.{bytes_eq}
 use Rattle.std.proofs.lemmas.Option.{slice_get_read}
-use Rattle.pr_group.specs.pr_rulefile.declared.rules.RuleDef.{RuleDef}
-use Rattle.pr_group.specs.pr_lineage.Records.{is_firing}
-use Rattle.pr_expected.specs.pr_verdict.Verdict.{found_of}
+use Rattle.pr_group.specs.spec_rules.declared.definitions.RuleDef.{RuleDef}
+use Rattle.pr_group.specs.spec_alerts.Records.{is_firing}
+use Rattle.spec_tests.specs.Verdict.{found_of}
 use Rattle.pr_unit.proofs.Alerts.{both_true, has_alerts, none_fire, rule_is, these_fire}
 use Rattle.pr_unit.proofs.Answers.{on_ok}
 use Rattle.pr_unit.proofs.firing.push_rule.Goals as goal

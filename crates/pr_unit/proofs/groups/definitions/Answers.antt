@@ -1,8 +1,8 @@
 use Rattle.std.proofs.Common.{◌≡◌, map, subst, sym}
 use Rattle.std.specs.Prelude.{All}
-use Rattle.pr_group.specs.pr_rulefile.File.{gives_file, rule_file_of}
-use Rattle.pr_group.specs.pr_rulefile.Groups.{group_of_def}
-use Rattle.pr_group.specs.pr_rule_result.Templates.{HaveTemplates}
+use Rattle.spec_tests.specs.pr_rulefile.File.{gives_file, rule_file_of}
+use Rattle.pr_group.specs.spec_rules.Definitions.{group_of_def}
+use Rattle.pr_group.specs.pr_rule.private.Templates.{HaveTemplates}
 use Rattle.pr_unit.proofs.Loading.{have_templates}
 use Rattle.pr_unit.proofs.groups.definitions.Goals as goal
 

@@ -1,7 +1,7 @@
 use Rattle.std.proofs.Common.{◌≡◌, ◌∷◌, subst, sym}
-use Rattle.pr_unit.specs.Loaded.{AreShort}
-use Rattle.pr_group.specs.pr_rules.Settings.{Settings}
-use Rattle.pr_group.specs.pr_rules.Replays.{unwaiting_groups}
+use Rattle.pr_unit.specs.private.Loaded.{AreShort}
+use Rattle.pr_group.specs.spec_rules.Settings.{Settings}
+use Rattle.pr_group.specs.spec_rules.Replays.{unwaiting_groups}
 use Rattle.pr_unit.proofs.Building.{KeepsFiles, begins_files, ends_files, next_files}
 use Rattle.pr_unit.proofs.Lists.{none_of}
 use Rattle.pr_unit.proofs.groups.groups_of.Goals as goal

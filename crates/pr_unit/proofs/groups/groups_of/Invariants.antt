@@ -1,8 +1,8 @@
 use Rattle.std.proofs.Common.{List, length}
-use Rattle.pr_history.specs.declared.entry.Entry.{Entry}
-use Rattle.pr_group.specs.pr_rules.Reloads.{LoadedFile}
-use Rattle.pr_group.specs.pr_rules.Replays.{unwaiting_groups}
-use Rattle.pr_unit.specs.Loaded.{AreShort, LoadAs}
+use Rattle.pr_slide.specs.spec_history.declared.entry.Entry.{Entry}
+use Rattle.pr_group.specs.spec_rules.Reloads.{LoadedFile}
+use Rattle.pr_group.specs.spec_rules.Replays.{unwaiting_groups}
+use Rattle.pr_unit.specs.private.Loaded.{AreShort, LoadAs}
 use Rattle.pr_unit.proofs.Building.{KeepsFiles}
 use Rattle.pr_unit.proofs.groups.groups_of.Given as goal
 

@@ -1,7 +1,7 @@
 use Rattle.std.proofs.Common.{◌≡◌, ◌∷◌, ◌++◌, length, map, subst, sym, arith}
-use Rattle.pr_group.specs.pr_rulefile.Groups.{group_of_def}
-use Rattle.pr_group.specs.pr_rules.Groups.{fresh}
-use Rattle.pr_group.specs.pr_rules.Settings.{Settings}
+use Rattle.pr_group.specs.spec_rules.Definitions.{group_of_def}
+use Rattle.pr_group.specs.spec_rules.Groups.{fresh}
+use Rattle.pr_group.specs.spec_rules.Settings.{Settings}
 use Rattle.pr_unit.proofs.Building.{KeepsPart, ends_part, next_part}
 use Rattle.pr_unit.proofs.Lists.{none_of}
 use Rattle.pr_unit.proofs.Loading.{rest_have}

@@ -1,10 +1,10 @@
 use Rattle.std.proofs.Common.{◌++◌, List, map}
 use Rattle.std.specs.Prelude.{All}
-use Rattle.pr_history.specs.declared.entry.Entry.{Entry}
-use Rattle.pr_group.specs.pr_rulefile.Groups.{group_of_def}
-use Rattle.pr_group.specs.pr_rule_result.Templates.{HaveTemplates}
-use Rattle.pr_group.specs.pr_rules.Groups.{Group, fresh}
-use Rattle.pr_unit.specs.Kept.{KeepsGroups}
+use Rattle.pr_slide.specs.spec_history.declared.entry.Entry.{Entry}
+use Rattle.pr_group.specs.spec_rules.Definitions.{group_of_def}
+use Rattle.pr_group.specs.pr_rule.private.Templates.{HaveTemplates}
+use Rattle.pr_group.specs.spec_rules.Groups.{Group, fresh}
+use Rattle.pr_unit.specs.private.Kept.{KeepsGroups}
 use Rattle.pr_unit.proofs.Building.{KeepsPart}
 use Rattle.pr_unit.proofs.groups.put_groups.Given as goal
 

@@ -1,6 +1,6 @@
 use Rattle.std.proofs.Common.{ℕ, List, ◌∷◌, ap, sym, ◌∙◌}
-use Rattle.pr_unit.specs.Kept.{name_of}
-use Rattle.pr_unit.specs.Ordered.{named_first}
+use Rattle.pr_unit.specs.private.Kept.{name_of}
+use Rattle.pr_unit.specs.private.Ordered.{named_first}
 use Rattle.pr_unit.proofs.Named.{names_next}
 use Rattle.pr_unit.proofs.order.in_order.Goals as goal
 

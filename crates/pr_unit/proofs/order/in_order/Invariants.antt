@@ -1,6 +1,6 @@
 use Rattle.std.proofs.Common.{◌≡◌, ◌++◌, length}
-use Rattle.pr_unit.specs.Kept.{name_of}
-use Rattle.pr_unit.specs.Ordered.{named_first}
+use Rattle.pr_unit.specs.private.Kept.{name_of}
+use Rattle.pr_unit.specs.private.Ordered.{named_first}
 use Rattle.pr_unit.proofs.order.in_order.Given as goal
 
 -- the groups of the names so far, and those to come

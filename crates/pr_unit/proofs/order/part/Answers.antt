@@ -1,6 +1,6 @@
 use Rattle.std.proofs.Common.{◌≡◌, ◌++◌, length, filter, not, refl, arith}
-use Rattle.pr_unit.specs.Kept.{name_of}
-use Rattle.pr_unit.specs.Ordered.{is_so_named}
+use Rattle.pr_unit.specs.private.Kept.{name_of}
+use Rattle.pr_unit.specs.private.Ordered.{is_so_named}
 use Rattle.pr_unit.proofs.Lists.{all_joined, none_of}
 use Rattle.pr_unit.proofs.order.part.Goals as goal
 

@@ -1,6 +1,6 @@
 use Rattle.std.proofs.Common.{◌≡◌, ◌++◌, filter, not}
-use Rattle.pr_unit.specs.Kept.{name_of}
-use Rattle.pr_unit.specs.Ordered.{is_so_named}
+use Rattle.pr_unit.specs.private.Kept.{name_of}
+use Rattle.pr_unit.specs.private.Ordered.{is_so_named}
 use Rattle.pr_unit.proofs.order.part.Given as goal
 
 -- the groups so far, and those to come

@@ -1,11 +1,11 @@
 use Rattle.std.proofs.Common.{◌≡◌, List, length, map, take}
-use Rattle.pr_group.specs.pr_rules.Groups.{Group}
-use Rattle.pr_group.specs.pr_rules.Settings.{Settings}
-use Rattle.pr_expected.specs.pr_world.Step.{world_after}
-use Rattle.pr_expected.specs.pr_world.World.{World}
-use Rattle.pr_expected.specs.pr_verdict.Events.{eval_at}
-use Rattle.pr_test_rounds.specs.Rounds.{AreApart, IsInRound}
-use Rattle.pr_unit.specs.Kept.{StandsForWorld}
+use Rattle.pr_group.specs.spec_rules.Groups.{Group}
+use Rattle.pr_group.specs.spec_rules.Settings.{Settings}
+use Rattle.spec_tests.specs.spec_world.Step.{world_after}
+use Rattle.spec_tests.specs.spec_world.World.{World}
+use Rattle.spec_tests.specs.Events.{eval_at}
+use Rattle.spec_tests.specs.private.Rounds.{AreApart, IsInRound}
+use Rattle.pr_unit.specs.private.Kept.{StandsForWorld}
 use Rattle.pr_unit.proofs.round.evaluate_all.Given as goal
 
 -- the first groups were evaluated

@@ -1,6 +1,6 @@
 use Rattle.std.proofs.Common.{◌≡◌, length, slice_get, Some, refl, arith}
 use Rattle.std.proofs.lemmas.Option.{slice_get_read}
-use Rattle.pr_group.specs.pr_rules.Times.{IsAfter}
+use Rattle.pr_group.specs.spec_rules.private.Times.{IsAfter}
 use Rattle.pr_unit.proofs.Answers.{on_ok3}
 use Rattle.pr_unit.proofs.Rounds.{group_there, may_evaluate, stands_next}
 use Rattle.pr_unit.proofs.round.evaluate_at.Goals as goal

@@ -1,5 +1,5 @@
 use Rattle.std.proofs.Common.{◌≡◌}
-use Rattle.pr_unit.specs.Slots.{empty_slots}
+use Rattle.pr_unit.specs.private.Slots.{empty_slots}
 use Rattle.pr_unit.proofs.slots.empty_slots.Given as goal
 
 -- so many

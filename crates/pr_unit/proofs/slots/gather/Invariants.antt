@@ -1,6 +1,6 @@
 use Rattle.std.proofs.Common.{◌≡◌, ◌++◌, List}
 use Rattle.std.specs.List.{flat_map}
-use Rattle.pr_expected.specs.pr_verdict.declared.failure.Failure.{Failure}
+use Rattle.spec_tests.specs.declared.failure.Failure.{Failure}
 use Rattle.pr_unit.proofs.slots.gather.Given as goal
 
 -- those of the slots so far, and those to come

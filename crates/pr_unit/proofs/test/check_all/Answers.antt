@@ -1,9 +1,9 @@
 use Rattle.std.proofs.Common.{◌≡◌, ℕ, ◌+◌, ◌≤◌, ◌<◌, Some, None, sym, ap, subst, ◌∙◌, arith}
-use Rattle.pr_feeding.specs.pr_testfile.Tests.{plain_test}
-use Rattle.pr_expected.specs.pr_verdict.Verdict.{alert_check, expr_check}
-use Rattle.pr_unit.specs.Run.{HasRunTest}
-use Rattle.pr_unit.specs.Slots.{HasFilled}
-use Rattle.pr_unit.specs.Times.{next_time}
+use Rattle.spec_tests.specs.pr_testfile.Tests.{plain_test}
+use Rattle.spec_tests.specs.Verdict.{alert_check, expr_check}
+use Rattle.pr_unit.specs.private.Run.{HasRunTest}
+use Rattle.pr_unit.specs.private.Slots.{HasFilled}
+use Rattle.pr_unit.specs.private.Times.{next_time}
 use Rattle.pr_unit.proofs.Filling.{all_filled}
 use Rattle.pr_unit.proofs.NextTimes.{next_check, no_time_left, of_alerts, of_exprs, test_times}
 use Rattle.pr_unit.proofs.test.check_all.Goals as goal

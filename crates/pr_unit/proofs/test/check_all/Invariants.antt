@@ -1,9 +1,9 @@
 use Rattle.std.proofs.Common.{◌-◌, ◌^◌, ◌≤◌, List}
-use Rattle.pr_group.specs.pr_rules.Groups.{Group}
-use Rattle.pr_feeding.specs.pr_testfile.Tests.{plain_test}
-use Rattle.pr_test_rounds.specs.Rounds.{AreApart}
-use Rattle.pr_unit.specs.Run.{HasRunTest}
-use Rattle.pr_unit.specs.Slots.{HasFilled}
+use Rattle.pr_group.specs.spec_rules.Groups.{Group}
+use Rattle.spec_tests.specs.pr_testfile.Tests.{plain_test}
+use Rattle.spec_tests.specs.private.Rounds.{AreApart}
+use Rattle.pr_unit.specs.private.Run.{HasRunTest}
+use Rattle.pr_unit.specs.private.Slots.{HasFilled}
 use Rattle.pr_unit.proofs.test.check_all.Given as goal
 
 -- the checks before a time were made

@@ -1,12 +1,12 @@
 use Rattle.std.proofs.Common.{ℕ, List, ◌+◌, ◌*◌, ◌<◌, Option, map, subst, sym, arith}
-use Rattle.pr_feeding.specs.pr_testfile.declared.tests.AlertCheck.{AlertCheck}
-use Rattle.pr_feeding.specs.pr_testfile.declared.tests.ExprCheck.{ExprCheck}
-use Rattle.pr_feeding.specs.pr_testfile.Checks.{plain_check}
-use Rattle.pr_feeding.specs.pr_testfile.Tests.{plain_test}
-use Rattle.pr_expected.specs.pr_verdict.Events.{last_check, settings_of}
-use Rattle.pr_expected.specs.pr_verdict.Verdict.{alert_check, expr_check}
-use Rattle.pr_unit.specs.Run.{rounds_until}
-use Rattle.pr_unit.specs.Slots.{AreFilled}
+use Rattle.spec_tests.specs.pr_testfile.declared.tests.AlertCheck.{AlertCheck}
+use Rattle.spec_tests.specs.pr_testfile.declared.tests.ExprCheck.{ExprCheck}
+use Rattle.spec_tests.specs.pr_testfile.Checks.{plain_check}
+use Rattle.spec_tests.specs.pr_testfile.Tests.{plain_test}
+use Rattle.spec_tests.specs.Events.{last_check, settings_of}
+use Rattle.spec_tests.specs.Verdict.{alert_check, expr_check}
+use Rattle.pr_unit.specs.private.Run.{rounds_until}
+use Rattle.pr_unit.specs.private.Slots.{AreFilled}
 use Rattle.pr_unit.proofs.Answers.{on_ok}
 use Rattle.pr_unit.proofs.Filling.{filled_until}
 use Rattle.pr_unit.proofs.Runs.{before_end, time_goes, world_seen}

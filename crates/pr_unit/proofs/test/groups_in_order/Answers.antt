@@ -1,9 +1,9 @@
 use Rattle.std.proofs.Common.{subst, sym, ap, ◌∙◌}
-use Rattle.pr_group.specs.pr_rules.Replays.{unwaiting_groups}
-use Rattle.pr_feeding.specs.pr_testfile.Tests.{plain_test}
-use Rattle.pr_expected.specs.pr_verdict.Events.{by_names, settings_of}
-use Rattle.pr_unit.specs.Kept.{KeepsGroups, name_of}
-use Rattle.pr_unit.specs.Ordered.{named_first}
+use Rattle.pr_group.specs.spec_rules.Replays.{unwaiting_groups}
+use Rattle.spec_tests.specs.pr_testfile.Tests.{plain_test}
+use Rattle.spec_tests.specs.Events.{by_names, settings_of}
+use Rattle.pr_unit.specs.private.Kept.{KeepsGroups, name_of}
+use Rattle.pr_unit.specs.private.Ordered.{named_first}
 use Rattle.pr_unit.proofs.Answers.{if_ok}
 use Rattle.pr_unit.proofs.Keeping.{kept_by_names}
 use Rattle.pr_unit.proofs.test.groups_in_order.Goals as goal

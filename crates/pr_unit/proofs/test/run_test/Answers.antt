@@ -1,10 +1,10 @@
 use Rattle.std.proofs.Common.{ℕ, ◌+◌, subst}
-use Rattle.pr_group.specs.pr_rules.Replays.{unwaiting_groups}
-use Rattle.pr_feeding.specs.pr_testfile.Tests.{plain_test}
-use Rattle.pr_test_rounds.proofs.Beginning.{apart_at_first, new_at_first}
-use Rattle.pr_expected.specs.pr_verdict.Events.{by_names, last_check, settings_of}
-use Rattle.pr_unit.specs.Run.{rounds_until}
-use Rattle.pr_unit.specs.Slots.{AreAllFilled}
+use Rattle.pr_group.specs.spec_rules.Replays.{unwaiting_groups}
+use Rattle.spec_tests.specs.pr_testfile.Tests.{plain_test}
+use Rattle.spec_tests.proofs.Beginning.{apart_at_first, new_at_first}
+use Rattle.spec_tests.specs.Events.{by_names, last_check, settings_of}
+use Rattle.pr_unit.specs.private.Run.{rounds_until}
+use Rattle.pr_unit.specs.private.Slots.{AreAllFilled}
 use Rattle.pr_unit.proofs.Answers.{on_ok}
 use Rattle.pr_unit.proofs.Filling.{verdict_is}
 use Rattle.pr_unit.proofs.test.run_test.Goals as goal

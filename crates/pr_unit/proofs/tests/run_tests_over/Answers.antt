@@ -1,11 +1,11 @@
 use Rattle.std.proofs.Common.{◌≡◌, List, length, map, slice_get, Some, refl, ap, ◌∙◌}
 use Rattle.std.specs.List.{enumerate_from, flat_map}
 use Rattle.std.proofs.lemmas.Option.{slice_get_read}
-use Rattle.pr_group.specs.pr_rules.Replays.{unwaiting_groups}
-use Rattle.pr_feeding.specs.pr_testfile.declared.tests.Test.{Test}
-use Rattle.pr_feeding.specs.pr_testfile.Tests.{plain_test}
-use Rattle.pr_expected.specs.pr_verdict.Events.{by_names}
-use Rattle.pr_expected.specs.pr_verdict.Verdict.{test_verdict, verdict}
+use Rattle.pr_group.specs.spec_rules.Replays.{unwaiting_groups}
+use Rattle.spec_tests.specs.pr_testfile.declared.tests.Test.{Test}
+use Rattle.spec_tests.specs.pr_testfile.Tests.{plain_test}
+use Rattle.spec_tests.specs.Events.{by_names}
+use Rattle.spec_tests.specs.Verdict.{test_verdict, verdict}
 use Rattle.pr_unit.proofs.Filling.{next_test}
 use Rattle.pr_unit.proofs.Lists.{take_whole}
 use Rattle.pr_unit.proofs.Loading.{loaded_each, told_apart}

@@ -1,12 +1,12 @@
 use Rattle.std.proofs.Common.{◌≡◌, List, map, take}
 use Rattle.std.specs.List.{enumerate_from, flat_map}
-use Rattle.pr_group.specs.pr_rules.Reloads.{LoadedFile}
-use Rattle.pr_group.specs.pr_rules.Replays.{unwaiting_groups}
-use Rattle.pr_feeding.specs.pr_testfile.Tests.{plain_test}
-use Rattle.pr_test_rounds.specs.Rounds.{AreToldApart}
-use Rattle.pr_expected.specs.pr_verdict.Events.{by_names}
-use Rattle.pr_expected.specs.pr_verdict.Verdict.{test_verdict}
-use Rattle.pr_unit.specs.Loaded.{LoadAs}
+use Rattle.pr_group.specs.spec_rules.Reloads.{LoadedFile}
+use Rattle.pr_group.specs.spec_rules.Replays.{unwaiting_groups}
+use Rattle.spec_tests.specs.pr_testfile.Tests.{plain_test}
+use Rattle.spec_tests.specs.private.Rounds.{AreToldApart}
+use Rattle.spec_tests.specs.Events.{by_names}
+use Rattle.spec_tests.specs.Verdict.{test_verdict}
+use Rattle.pr_unit.specs.private.Loaded.{LoadAs}
 use Rattle.pr_unit.proofs.tests.run_tests_over.Given as goal
 
 -- the failures of the first tests

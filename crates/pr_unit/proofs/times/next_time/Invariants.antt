@@ -1,5 +1,5 @@
 use Rattle.std.proofs.Common.{◌≡◌, fold, take, None}
-use Rattle.pr_unit.specs.Times.{earlier_of}
+use Rattle.pr_unit.specs.private.Times.{earlier_of}
 use Rattle.pr_unit.proofs.times.next_time.Given as goal
 
 -- the first of those so far

@@ -1,6 +1,6 @@
 use Rattle.std.proofs.Common.{◌≡◌, ◌≢◌, ℕ, ◌-◌, ◌∙◌, List, [], sym, arith, refl, length, ◌∷◌, true, false}
 use Rattle.std.proofs.lemmas.Bool.Decides.{nat_tests}
-use Rattle.pr_yaml_scan.specs.pr_words.Lines.{is_feed}
+use Rattle.pr_words.specs.Lines.{is_feed}
 use Rattle.pr_yaml.specs.Faults.{from_line}
 use Rattle.pr_yaml.proofs.FaultLines.{at_the_end, past_feed, past_byte, no_lines}
 use Rattle.pr_yaml.proofs.kinds.from_line.Goals as goal

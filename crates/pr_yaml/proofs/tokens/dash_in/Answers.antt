@@ -1,4 +1,4 @@
-use Rattle.pr_yaml_scan.proofs.FormsTaking.{taking}
+use Rattle.pr_words.proofs.FormsTaking.{taking}
 use Rattle.pr_yaml.specs.Grammar.{production, letter_of, at, dash_in}
 use Rattle.pr_yaml.specs.GrammarTable.{table}
 use Rattle.pr_yaml.proofs.tokens.dash_in.Goals as goal

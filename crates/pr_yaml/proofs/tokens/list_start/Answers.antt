@@ -1,7 +1,7 @@
 use Rattle.std.proofs.Common.{◌-◌}
-use Rattle.pr_yaml_scan.proofs.FormsChoosing.{choosing}
+use Rattle.pr_words.proofs.FormsChoosing.{choosing}
 use Rattle.pr_yaml.specs.Grammar.{letter_of, list_from}
-use Rattle.pr_yaml.specs.Reader.{rule_of}
+use Rattle.pr_yaml.specs.private.Reader.{rule_of}
 use Rattle.pr_yaml.proofs.tokens.list_start.Goals as goal
 
 pub returns-clause-read : goal.returns-clause-read

@@ -1,6 +1,6 @@
 use Rattle.std.proofs.Common.{sym, ◌∙◌}
 use Rattle.pr_yaml.specs.Grammar.{pair_from}
-use Rattle.pr_yaml.specs.Reader.{keys_in}
+use Rattle.pr_yaml.specs.private.Reader.{keys_in}
 use Rattle.pr_yaml.proofs.KeyTokens.{none_at_end, no_pair_key, no_pair_taken, first_letter}
 use Rattle.pr_yaml.proofs.tokens.pair_in.Goals as goal
 

@@ -1,5 +1,5 @@
 use Rattle.std.proofs.Common.{sym}
-use Rattle.pr_yaml_scan.proofs.FormsSteps.{seen_takes, seen_lacks, seen_end_lacks}
+use Rattle.pr_words.proofs.FormsSteps.{seen_takes, seen_lacks, seen_end_lacks}
 use Rattle.pr_yaml.specs.Grammar.{production, letter_of, leaf_in}
 use Rattle.pr_yaml.specs.GrammarTable.{table}
 use Rattle.pr_yaml.proofs.tokens.text_in.Goals as goal

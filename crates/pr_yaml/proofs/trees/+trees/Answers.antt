@@ -1,10 +1,10 @@
 use Rattle.std.proofs.Common.{sym, ap, refl, ◌+◌, ◌-◌, []}
-use Rattle.pr_yaml_scan.specs.pr_forms.Form.{rule}
-use Rattle.pr_yaml_scan.specs.pr_forms.Run.{run_pair, run_first, run_second}
-use Rattle.pr_yaml_scan.proofs.FormsWays.{exit}
+use Rattle.pr_words.specs.pr_forms.Form.{rule}
+use Rattle.pr_words.specs.pr_forms.Run.{run_pair, run_first, run_second}
+use Rattle.pr_words.proofs.FormsWays.{exit}
 use Rattle.pr_yaml.specs.Grammar.{letters, production, absent, Map, Items, Under, Values, Pairs, PairValue, FlowList, FlowMap}
 use Rattle.pr_yaml.specs.GrammarTable.{table}
-use Rattle.pr_yaml.specs.Reader.{keys_in, maybe_node, rule_of}
+use Rattle.pr_yaml.specs.private.Reader.{keys_in, maybe_node, rule_of}
 use Rattle.pr_yaml.proofs.Ways.{fewer_left, no_map, map_bad, map_good, entry_fails, no_block_list, block_list_good, block_list_bad, dash_fails, value_fails, pair_fails, node_good, node_bad, node_none, under_good, under_bad, list_good, list_bad, under_none, pair_value_good, pair_value_bad, pair_value_none}
 use Rattle.pr_yaml.proofs.Loops.{started_value, equal_tree, map_more, map_over, list_more, list_over, values_more, values_last, values_end, pairs_more, pairs_last, pairs_end}
 use Rattle.pr_yaml.proofs.trees.+trees.Goals as goal

@@ -1,8 +1,8 @@
 use Rattle.std.proofs.Common.{[], length, map, ◌+◌, ◌*◌}
-use Rattle.pr_yaml_scan.specs.pr_forms.Form.{rule}
+use Rattle.pr_words.specs.pr_forms.Form.{rule}
 use Rattle.pr_yaml.specs.Tree.{tree_of, entry_tree_of}
 use Rattle.pr_yaml.specs.Grammar.{items, entries, MoreEntries, MoreDashes, Values, Pairs}
-use Rattle.pr_yaml.specs.Reader.{HasRead, keys_in}
+use Rattle.pr_yaml.specs.private.Reader.{HasRead, keys_in}
 use Rattle.pr_yaml.proofs.trees.+trees.Given as goal
 
 abbrev pub decreases-flow_list_at : goal.decreases-flow_list_at

@@ -1,7 +1,7 @@
 use Rattle.std.proofs.Common.{sym, subst}
-use Rattle.pr_yaml_scan.specs.pr_forms.Language.{Gives}
-use Rattle.pr_yaml_scan.specs.pr_forms.Form.{token}
-use Rattle.pr_yaml_scan.specs.pr_forms.Run.{good}
+use Rattle.pr_words.specs.pr_forms.Language.{Gives}
+use Rattle.pr_words.specs.pr_forms.Form.{token}
+use Rattle.pr_words.specs.pr_forms.Run.{good}
 use Rattle.pr_yaml.specs.Grammar.{letters, leaf_in, tree}
 use Rattle.pr_yaml.specs.GrammarTable.{yaml}
 use Rattle.pr_yaml.proofs.trees.leaf_at.Goals as goal

@@ -1,8 +1,8 @@
 use Rattle.std.proofs.Common.{◌≡◌, ◌∙◌, List, Some, sym, true}
-use Rattle.pr_history.specs.declared.entry.Entry.{Entry}
-use Rattle.pr_manager.specs.Naming.{passed_by_named}
-use Rattle.pr_world.specs.Step.{time_of}
-use Rattle.pr_engine.specs.Events.{is_restart, step_in_time}
+use Rattle.pr_head.specs.spec_history.declared.entry.Entry.{Entry}
+use Rattle.pr_manager.specs.private.Naming.{passed_by_named}
+use Rattle.pr_manager.specs.spec_world.Step.{time_of}
+use Rattle.pr_engine.specs.private.Events.{is_restart, step_in_time}
 use Rattle.pr_engine.proofs.Answering.{anew_keeps, known_rows}
 use Rattle.pr_engine.proofs.Passing.{anew_passes, begun_passes}
 use Rattle.pr_engine.proofs.standing.Standing.answer.Goals as goal

@@ -1,12 +1,12 @@
 use Rattle.std.proofs.Common.{◌≡◌, ◌∙◌, ◌+◌, ◌≤◌, ℕ, true, List, IfOk, OnOk, ap, sym, subst, true≢false}
-use Rattle.pr_manager.specs.Naming.{passed_by_named}
-use Rattle.pr_world.specs.Step.{time_of}
-use Rattle.pr_world.specs.declared.event.Event.{Event}
-use Rattle.pr_world.specs.declared.event.Event.TheVariants.{Scrape}
-use Rattle.pr_engine.specs.Events.{event_cost, step_in_time}
-use Rattle.pr_engine.specs.Passing.{EventPasses}
-use Rattle.pr_engine.specs.Standing.{KeepsBefore}
-use Rattle.pr_engine.specs.Taken.{added_in, report_in}
+use Rattle.pr_manager.specs.private.Naming.{passed_by_named}
+use Rattle.pr_manager.specs.spec_world.Step.{time_of}
+use Rattle.pr_manager.specs.spec_world.declared.event.Event.{Event}
+use Rattle.pr_manager.specs.spec_world.declared.event.Event.TheVariants.{Scrape}
+use Rattle.pr_engine.specs.private.Events.{event_cost, step_in_time}
+use Rattle.pr_engine.specs.private.Passing.{EventPasses}
+use Rattle.pr_engine.specs.private.Standing.{KeepsBefore}
+use Rattle.pr_engine.specs.private.Taken.{added_in, report_in}
 use Rattle.pr_engine.proofs.standing.Standing.change.Goals as goal
 
 pub returns-in-Add-clause-report : goal.returns-in-Add-clause-report

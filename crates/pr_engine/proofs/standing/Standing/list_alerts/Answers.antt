@@ -1,6 +1,6 @@
 use Rattle.std.proofs.Common.{ap, sym, subst}
-use Rattle.pr_world.specs.declared.report.Report.TheVariants.{Alerts}
-use Rattle.pr_engine.specs.Standing.{KeepsWorld, KeptParts}
+use Rattle.pr_manager.specs.spec_world.declared.report.Report.TheVariants.{Alerts}
+use Rattle.pr_engine.specs.private.Standing.{KeepsWorld, KeptParts}
 use Rattle.pr_engine.proofs.standing.Standing.list_alerts.Goals as goal
 
 pub returns-clause-report : goal.returns-clause-report

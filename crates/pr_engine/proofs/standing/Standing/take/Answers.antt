@@ -1,6 +1,6 @@
 use Rattle.std.proofs.Common.{◌∙◌}
-use Rattle.pr_world.specs.Step.{outcome_in_time, time_of}
-use Rattle.pr_engine.specs.Events.{settings_of}
+use Rattle.pr_manager.specs.spec_world.Step.{outcome_in_time, time_of}
+use Rattle.pr_engine.specs.private.Events.{settings_of}
 use Rattle.pr_engine.proofs.Answering.{kept_tells}
 use Rattle.pr_engine.proofs.standing.Standing.take.Goals as goal
 

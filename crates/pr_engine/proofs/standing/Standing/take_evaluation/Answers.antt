@@ -1,15 +1,14 @@
 use Rattle.std.proofs.Common.{◌≡◌, ◌∙◌, ◌+◌, ◌≤◌, true, refl, sym, subst}
-use Rattle.pr_manager.specs.Naming.{passed_by_named}
-use Rattle.pr_manager.specs.Passing.{EvaluationPasses}
-use Rattle.pr_manager.specs.Rounds.{eval_cost, eval_step}
-use Rattle.pr_manager.specs.pr_group.Keeping.{MayEvaluateOver}
-use Rattle.pr_world.specs.Settings.{Settings}
-use Rattle.pr_world.specs.declared.event.Event.{Event}
-use Rattle.pr_world.specs.declared.event.Event.TheVariants.{Eval}
-use Rattle.pr_manager.specs.Rounds.{admitted_in}
-use Rattle.pr_manager.specs.Keeping.{HasGoneOn, ManagesGroupsOf}
-use Rattle.pr_engine.specs.Events.{settings_of}
-use Rattle.pr_engine.specs.Standing.{KeepsBefore, KeptParts}
+use Rattle.pr_manager.specs.private.Naming.{passed_by_named}
+use Rattle.pr_manager.specs.private.Passing.{EvaluationPasses}
+use Rattle.pr_manager.specs.private.Rounds.{eval_cost, eval_step, admitted_in}
+use Rattle.pr_manager.specs.pr_group.private.Keeping.{MayEvaluateOver}
+use Rattle.pr_manager.specs.spec_world.Settings.{Settings}
+use Rattle.pr_manager.specs.spec_world.declared.event.Event.{Event}
+use Rattle.pr_manager.specs.spec_world.declared.event.Event.TheVariants.{Eval}
+use Rattle.pr_manager.specs.private.Keeping.{HasGoneOn, ManagesGroupsOf}
+use Rattle.pr_engine.specs.private.Events.{settings_of}
+use Rattle.pr_engine.specs.private.Standing.{KeepsBefore, KeptParts}
 use Rattle.pr_engine.proofs.Values.{evaluated_keeps, may_evaluate, same_parts, told_in_time}
 use Rattle.pr_engine.proofs.standing.Standing.take_evaluation.Goals as goal
 

@@ -1,9 +1,9 @@
 use Rattle.std.proofs.Common.{◌∙◌, refl, sym, subst}
-use Rattle.pr_manager.specs.Naming.{passed_by_named}
-use Rattle.pr_manager.specs.Passing.{ReloadPasses}
-use Rattle.pr_manager.specs.Rounds.{files_step}
-use Rattle.pr_world.specs.declared.event.Event.TheVariants.{Reload}
-use Rattle.pr_engine.specs.Standing.{KeepsBefore, KeptParts}
+use Rattle.pr_manager.specs.private.Naming.{passed_by_named}
+use Rattle.pr_manager.specs.private.Passing.{ReloadPasses}
+use Rattle.pr_manager.specs.private.Rounds.{files_step}
+use Rattle.pr_manager.specs.spec_world.declared.event.Event.TheVariants.{Reload}
+use Rattle.pr_engine.specs.private.Standing.{KeepsBefore, KeptParts}
 use Rattle.pr_engine.proofs.Values.{ruled_keeps, same_parts}
 use Rattle.pr_engine.proofs.standing.Standing.take_reload.Goals as goal
 

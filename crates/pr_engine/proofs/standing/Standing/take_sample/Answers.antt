@@ -1,9 +1,9 @@
 use Rattle.std.proofs.Common.{◌≡◌, ◌++◌, List, ◌∙◌, ap, sym, subst}
-use Rattle.pr_history.specs.Admission.{admit}
-use Rattle.pr_world.specs.Step.{entry_of, report_of, rows_by}
-use Rattle.pr_history.specs.declared.entry.Entry.{Entry}
-use Rattle.pr_manager.specs.Naming.{passed_by_named}
-use Rattle.pr_engine.specs.Standing.{KeepsBefore, KeptParts}
+use Rattle.pr_head.specs.spec_history.Admission.{admit}
+use Rattle.pr_manager.specs.spec_world.Step.{entry_of, report_of, rows_by}
+use Rattle.pr_head.specs.spec_history.declared.entry.Entry.{Entry}
+use Rattle.pr_manager.specs.private.Naming.{passed_by_named}
+use Rattle.pr_engine.specs.private.Standing.{KeepsBefore, KeptParts}
 use Rattle.pr_engine.proofs.Values.{grown_keeps}
 use Rattle.pr_engine.proofs.standing.Standing.take_sample.Goals as goal
 

@@ -1,10 +1,10 @@
 use Rattle.std.proofs.Common.{◌≡◌, ◌++◌, List, sym, subst}
-use Rattle.pr_history.specs.declared.entry.Entry.{Entry}
-use Rattle.pr_manager.specs.Naming.{passed_by_named}
-use Rattle.pr_engine.specs.Standing.{KeepsBefore, KeptParts}
+use Rattle.pr_head.specs.spec_history.declared.entry.Entry.{Entry}
+use Rattle.pr_manager.specs.private.Naming.{passed_by_named}
+use Rattle.pr_engine.specs.private.Standing.{KeepsBefore, KeptParts}
 use Rattle.pr_engine.proofs.Values.{taken_keeps}
-use Rattle.pr_world.specs.Targets.{scrape_step}
-use Rattle.pr_world.proofs.Targeting.{scrape_puts}
+use Rattle.pr_manager.specs.spec_world.Targets.{scrape_step}
+use Rattle.pr_manager.proofs.WorldTargeting.{scrape_puts}
 use Rattle.pr_engine.proofs.standing.Standing.take_scrape.Goals as goal
 
 pub returns-clause-world : goal.returns-clause-world

@@ -1,5 +1,5 @@
 use Rattle.std.proofs.Common.{◌≡◌, ◌++◌, map}
-use Rattle.pr_expo.specs.Keeping.{family_from}
+use Rattle.pr_expo.specs.private.Keeping.{family_from}
 use Rattle.pr_expo.proofs.families.Families.into_families.Given as goal
 
 -- the entries that are left are still to be taken over

@@ -1,7 +1,7 @@
 use Rattle.std.proofs.Common.{◌≡◌, true, Result, Ok, Err, refl}
 use Rattle.std.specs.Prelude.{IfOk}
-use Rattle.pr_rule_step.specs.pr_rules.Evaluations.{group_step}
-use Rattle.pr_group.specs.Keeping.{settings_of}
+use Rattle.pr_rule.specs.spec_rules.Evaluations.{group_step}
+use Rattle.pr_group.specs.private.Keeping.{settings_of}
 use Rattle.pr_group.proofs.group.GroupOver.evaluate.Goals as goal
 
 -- what holds of an answer where something is told

@@ -1,13 +1,13 @@
 use Rattle.std.proofs.Common.{◌+◌, ◌≤◌, List, length, refl, sym, subst}
 use Rattle.std.specs.Prelude.{IfOk, nat_lt}
-use Rattle.pr_history.specs.declared.entry.Entry.{Entry}
-use Rattle.pr_rule_step.specs.pr_rulefile.declared.rules.RuleDef.{RuleDef}
-use Rattle.pr_rule_step.specs.pr_rules.Costs.{rules_cost}
-use Rattle.pr_rule_step.specs.pr_rules.Evaluations.{all_rules, begun}
-use Rattle.pr_rule_step.specs.pr_rules.Groups.{Group}
-use Rattle.pr_rule_step.specs.pr_rules.Times.{IsAfter}
-use Rattle.pr_group.specs.Evaluating.{HasCome, MayEvaluateRules}
-use Rattle.pr_group.specs.Keeping.{KeepsGroup, KeptGroup, MayEvaluateOver, passed_by, settings_of}
+use Rattle.pr_rule.specs.spec_history.declared.entry.Entry.{Entry}
+use Rattle.pr_rule.specs.spec_rules.declared.definitions.RuleDef.{RuleDef}
+use Rattle.pr_rule.specs.spec_rules.private.Costs.{rules_cost}
+use Rattle.pr_rule.specs.spec_rules.Evaluations.{all_rules, begun}
+use Rattle.pr_rule.specs.spec_rules.Groups.{Group}
+use Rattle.pr_rule.specs.spec_rules.private.Times.{IsAfter}
+use Rattle.pr_group.specs.private.Evaluating.{HasCome, MayEvaluateRules}
+use Rattle.pr_group.specs.private.Keeping.{KeepsGroup, KeptGroup, MayEvaluateOver, passed_by, settings_of}
 use Rattle.pr_group.proofs.Ending.{may_of}
 use Rattle.pr_group.proofs.group.GroupOver.evaluate_all.Goals as goal
 

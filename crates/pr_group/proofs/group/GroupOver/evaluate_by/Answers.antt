@@ -1,7 +1,7 @@
 use Rattle.std.proofs.Common.{[], Some, refl, ◌∙◌}
-use Rattle.pr_history.specs.Admission.{put_all}
-use Rattle.pr_rule_step.specs.pr_rules.Evaluations.{all_rules}
-use Rattle.pr_group.specs.Keeping.{settings_of}
+use Rattle.pr_rule.specs.spec_history.Admission.{put_all}
+use Rattle.pr_rule.specs.spec_rules.Evaluations.{all_rules}
+use Rattle.pr_group.specs.private.Keeping.{settings_of}
 use Rattle.pr_group.proofs.Ending.{gone_of, head_end, keeps_end, kept_end, many_rules, over_end, over_rules, passed_end, reads_end, report_end, waits_same}
 use Rattle.pr_group.proofs.group.GroupOver.evaluate_by.Goals as goal
 

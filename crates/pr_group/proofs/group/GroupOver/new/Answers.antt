@@ -1,7 +1,7 @@
 use Rattle.std.proofs.Common.{List, None, length, refl, subst}
-use Rattle.pr_rule_step.specs.pr_rulefile.declared.rules.RuleDef.{RuleDef}
-use Rattle.pr_group.specs.Evaluating.{AreNew}
-use Rattle.pr_group.specs.Keeping.{waits_of}
+use Rattle.pr_rule.specs.spec_rules.declared.definitions.RuleDef.{RuleDef}
+use Rattle.pr_group.specs.private.Evaluating.{AreNew}
+use Rattle.pr_group.specs.private.Keeping.{waits_of}
 use Rattle.pr_group.proofs.Beginning.{new_kept, new_unpassed}
 use Rattle.pr_group.proofs.group.GroupOver.new.Goals as goal
 

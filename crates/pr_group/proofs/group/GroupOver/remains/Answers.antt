@@ -1,7 +1,7 @@
 use Rattle.std.proofs.Common.{flat_map, fold, ap, ◌∙◌}
-use Rattle.pr_labels.specs.Rising.{with_labels}
-use Rattle.pr_rule_step.specs.declared.remembered.Remembered.{Remembered}
-use Rattle.pr_group.specs.Keeping.{KeptGroup}
+use Rattle.pr_ast.specs.pr_labels.Rising.{with_labels}
+use Rattle.pr_rule.specs.declared.remembered.Remembered.{Remembered}
+use Rattle.pr_group.specs.private.Keeping.{KeptGroup}
 use Rattle.pr_group.proofs.Going.{remain_so}
 use Rattle.pr_group.proofs.group.GroupOver.remains.Goals as goal
 

@@ -1,12 +1,12 @@
 use Rattle.std.proofs.Common.{◌≡◌, true, ℕ, ◌+◌, ◌≤◌, List, Option, OnOk, length, map, ap, ◌∙◌}
 use Rattle.std.specs.Prelude.{IfOk, flat_map, sum_by}
-use Rattle.pr_history.specs.declared.entry.Entry.{Entry}
-use Rattle.pr_rule_step.specs.pr_rulefile.declared.rules.RuleDef.{RuleDef}
-use Rattle.pr_rule_step.specs.pr_rules.Costs.{restored_reads}
-use Rattle.pr_rule_step.specs.pr_rules.Evaluations.{restores, with_restored}
-use Rattle.pr_rule_step.specs.pr_rules.Groups.{RuleState}
-use Rattle.pr_rule_step.specs.declared.remembered.Remembered.{Remembered}
-use Rattle.pr_group.specs.Keeping.{AreKept, KeptGroup, MayEvaluateOver}
+use Rattle.pr_rule.specs.spec_history.declared.entry.Entry.{Entry}
+use Rattle.pr_rule.specs.spec_rules.declared.definitions.RuleDef.{RuleDef}
+use Rattle.pr_rule.specs.spec_rules.private.Costs.{restored_reads}
+use Rattle.pr_rule.specs.spec_rules.Evaluations.{restores, with_restored}
+use Rattle.pr_rule.specs.spec_rules.Groups.{RuleState}
+use Rattle.pr_rule.specs.declared.remembered.Remembered.{Remembered}
+use Rattle.pr_group.specs.private.Keeping.{AreKept, KeptGroup, MayEvaluateOver}
 use Rattle.pr_group.proofs.Ending.{through}
 use Rattle.pr_group.proofs.group.GroupOver.restore_all.Goals as goal
 

@@ -1,8 +1,8 @@
 use Rattle.std.proofs.Common.{◌≡◌, ◌+◌, ◌≤◌, Bool, true, OnOk, sym, ap, ◌∙◌, subst}
 use Rattle.std.specs.Prelude.{IfOk}
-use Rattle.pr_rule_step.specs.pr_rules.Costs.{restoring_cost}
-use Rattle.pr_group.specs.Keeping.{AreKept}
-use Rattle.pr_group.specs.Restoring.{restored_alerts, restored_rules}
+use Rattle.pr_rule.specs.spec_rules.private.Costs.{restoring_cost}
+use Rattle.pr_group.specs.private.Keeping.{AreKept}
+use Rattle.pr_group.specs.private.Restoring.{restored_alerts, restored_rules}
 use Rattle.pr_group.proofs.group.GroupOver.restore_if_due.Goals as goal
 
 pub returns-then-not-is_due-clause-kept : goal.returns-then-not-is_due-clause-kept

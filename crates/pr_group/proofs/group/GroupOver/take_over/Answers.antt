@@ -1,8 +1,8 @@
 use Rattle.std.proofs.Common.{◌++◌, flat_map, refl, ap, ◌∙◌}
-use Rattle.pr_ready.specs.pr_vectors.Vectors.{in_label_order}
-use Rattle.pr_rule_step.specs.pr_rules.Taking.{numbers_taken}
-use Rattle.pr_group.specs.Carrying.{previous_in}
-use Rattle.pr_group.specs.Matching.{continues_def, spared}
+use Rattle.pr_rule.specs.spec_vectors.Vectors.{in_label_order}
+use Rattle.pr_rule.specs.spec_rules.private.Laws.{numbers_taken}
+use Rattle.pr_group.specs.private.Carrying.{previous_in}
+use Rattle.pr_group.specs.private.Matching.{continues_def, spared}
 use Rattle.pr_group.proofs.Going.{are_below, are_many, are_once, gone_as, moved}
 use Rattle.pr_group.proofs.group.GroupOver.take_over.Goals as goal
 

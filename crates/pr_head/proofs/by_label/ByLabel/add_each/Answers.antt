@@ -3,7 +3,7 @@ use Rattle.std.proofs.lemmas.List.{take_all}
 use Rattle.std.proofs.lemmas.Option.{slice_get_read}
 use Rattle.std.specs.BTreeMap.{insert_entry}
 use Rattle.pr_labels.specs.Order.{labels_cmp}
-use Rattle.pr_head.specs.Index.{has_label, listing_of}
+use Rattle.pr_head.specs.private.Index.{has_label, listing_of}
 use Rattle.pr_head.proofs.Indexing.{added_more, none_removed, others_stay, some_removed}
 use Rattle.pr_head.proofs.by_label.ByLabel.add_each.Goals as goal
 

@@ -1,7 +1,7 @@
 use Rattle.std.proofs.Common.{◌≡◌, ◌<◌, length, slice_get, Some, ap, refl, arith}
 use Rattle.std.proofs.lemmas.List.{drop_all}
 use Rattle.std.proofs.lemmas.Option.{slice_get_read}
-use Rattle.pr_head.specs.Index.{has_label, listing_of}
+use Rattle.pr_head.specs.private.Index.{has_label, listing_of}
 use Rattle.pr_head.proofs.Indexing.{removed_more}
 use Rattle.pr_head.proofs.by_label.ByLabel.remove_each.Goals as goal
 

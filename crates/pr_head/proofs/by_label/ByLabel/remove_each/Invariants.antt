@@ -3,7 +3,7 @@ use Rattle.std.specs.BTreeMap.{is_at}
 use Rattle.std.specs.Map.{remove_entry}
 use Rattle.pr_labels.specs.declared.pair.Pair.{Pair}
 use Rattle.pr_labels.specs.Order.{labels_cmp}
-use Rattle.pr_head.specs.Index.{Numbered, has_label, listing_of}
+use Rattle.pr_head.specs.private.Index.{Numbered, has_label, listing_of}
 use Rattle.pr_head.proofs.by_label.ByLabel.remove_each.Given as goal
 
 -- where no label is left the series is gone

@@ -1,7 +1,7 @@
 use Rattle.std.proofs.Common.{ap, sym, subst, ◌∙◌, [], ◌∷◌, ◌++◌}
-use Rattle.pr_history.specs.declared.append.Append.TheVariants.{Added}
-use Rattle.pr_head.specs.Holds.{entry_of, timed, Holds, IsWhole}
-use Rattle.pr_head.specs.Stored.{begun}
+use Rattle.spec_history.specs.declared.append.Append.TheVariants.{Added}
+use Rattle.pr_head.specs.private.Holds.{entry_of, timed, Holds, IsWhole}
+use Rattle.pr_head.specs.private.Stored.{begun}
 use Rattle.pr_head.proofs.Simulation.{new_is_added, put_added, holds_new, whole_new}
 use Rattle.pr_head.proofs.head.Head.append.Goals as goal
 

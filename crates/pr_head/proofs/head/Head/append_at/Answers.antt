@@ -1,8 +1,8 @@
 use Rattle.std.proofs.Common.{◌≡◌, sym, subst, ◌∙◌, [], ◌∷◌, ◌++◌}
-use Rattle.pr_history.specs.declared.append.Append.TheVariants.{Added}
-use Rattle.pr_history.specs.Admission.{admit}
-use Rattle.pr_head.specs.Stored.{timed_at}
-use Rattle.pr_head.specs.Holds.{entry_of, Holds, IsWhole}
+use Rattle.spec_history.specs.declared.append.Append.TheVariants.{Added}
+use Rattle.spec_history.specs.Admission.{admit}
+use Rattle.pr_head.specs.private.Stored.{timed_at}
+use Rattle.pr_head.specs.private.Holds.{entry_of, Holds, IsWhole}
 use Rattle.pr_head.proofs.Simulation.{entry_at, added_later, admitted_as, put_added, put_refused, holds_more, whole_more}
 use Rattle.pr_head.proofs.head.Head.append_at.Goals as goal
 

@@ -2,7 +2,7 @@ use Rattle.std.proofs.Common.{◌≡◌, List, Some, ap, ◌∙◌, w64}
 use Rattle.std.specs.Option.{option_map}
 use Rattle.std.proofs.lemmas.Int.{to_z-of_z}
 use Rattle.pr_labels.specs.declared.pair.Pair.{Pair}
-use Rattle.pr_head.specs.Stored.{Stored, position_of}
+use Rattle.pr_head.specs.private.Stored.{Stored, position_of}
 use Rattle.pr_head.proofs.head.Head.position_near.Goals as goal
 
 pub returns-in-Some-clause-known : goal.returns-in-Some-clause-known

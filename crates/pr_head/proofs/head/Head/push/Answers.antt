@@ -2,9 +2,9 @@ use Rattle.std.proofs.Common.{◌≡◌, ◌≤◌, Some, ap, sym, subst, ◌∙
 use Rattle.std.specs.List.{slice_get}
 use Rattle.indexmap.specs.IndexMap.{set_value_at}
 use Rattle.std.specs.declared.result.Result.TheVariants.{Ok, Err}
-use Rattle.pr_head.specs.Stored.{after_push}
-use Rattle.pr_head.specs.Index.{IsIndexed}
-use Rattle.pr_head.specs.Oldest.{AreSince, IsSince}
+use Rattle.pr_head.specs.private.Stored.{after_push}
+use Rattle.pr_head.specs.private.Index.{IsIndexed}
+use Rattle.pr_head.specs.private.Oldest.{AreSince, IsSince}
 use Rattle.pr_head.proofs.Oldest.{since_pushed, since_written}
 use Rattle.pr_head.proofs.Simulation.{sets_written, value_at, value_same, written_same}
 use Rattle.pr_head.proofs.head.Head.push.Goals as goal

@@ -5,10 +5,10 @@ use Rattle.std.proofs.lemmas.List.{length-map}
 use Rattle.pr_labels.specs.declared.pair.Pair.{Pair}
 use Rattle.pr_labels.specs.Rising.{IsRising}
 use Rattle.pr_labels.proofs.LabelOrder.{rising_fold}
-use Rattle.pr_history.specs.Series.{has_values}
-use Rattle.pr_head.specs.Stored.{Stored}
-use Rattle.pr_head.specs.Holds.{chosen_of, labels_at, sets_of}
-use Rattle.pr_head.specs.Index.{IsIndexed}
+use Rattle.spec_history.specs.private.Laws.{has_values}
+use Rattle.pr_head.specs.private.Stored.{Stored}
+use Rattle.pr_head.specs.private.Holds.{chosen_of, labels_at, sets_of}
+use Rattle.pr_head.specs.private.Index.{IsIndexed}
 use Rattle.pr_head.proofs.Selecting.{chosen_arrivals}
 use Rattle.pr_head.proofs.head.Head.select.Goals as goal
 

@@ -1,9 +1,9 @@
 use Rattle.std.proofs.Common.{ℤ, ◌≤ℤ◌, ap, sym, subst, ◌∙◌, w64}
 use Rattle.std.proofs.lemmas.Int.{to_z-of_z}
-use Rattle.pr_history.specs.Lookback.{is_after}
-use Rattle.pr_head.specs.Stored.{trimmed}
-use Rattle.pr_head.specs.Holds.{IsWhole}
-use Rattle.pr_head.specs.Oldest.{AreSince}
+use Rattle.spec_history.specs.Lookback.{is_after}
+use Rattle.pr_head.specs.private.Stored.{trimmed}
+use Rattle.pr_head.specs.private.Holds.{IsWhole}
+use Rattle.pr_head.specs.private.Oldest.{AreSince}
 use Rattle.pr_head.proofs.Oldest.{untouched}
 use Rattle.pr_head.proofs.Trimming.{whole_trimmed}
 use Rattle.pr_head.proofs.head.Head.trim.Goals as goal

@@ -4,9 +4,9 @@ use Rattle.std.proofs.lemmas.Int.{to_z-of_z}
 use Rattle.std.proofs.lemmas.List.{take_all, drop_all}
 use Rattle.indexmap.specs.IndexMap.{set_value_at}
 use Rattle.pr_labels.specs.declared.pair.Pair.{Pair}
-use Rattle.pr_head.specs.Holds.{sets_of, Holds, IsWhole}
-use Rattle.pr_head.specs.Index.{IsIndexed}
-use Rattle.pr_head.specs.Stored.{Stored, trimmed}
+use Rattle.pr_head.specs.private.Holds.{sets_of, Holds, IsWhole}
+use Rattle.pr_head.specs.private.Index.{IsIndexed}
+use Rattle.pr_head.specs.private.Stored.{Stored, trimmed}
 use Rattle.pr_head.proofs.Trimming.{below_length, holds_trimmed, next_trimmed, rising_next, sets_partly, value_next, whole_trimmed}
 use Rattle.pr_head.proofs.head.Head.trim_each.Goals as goal
 

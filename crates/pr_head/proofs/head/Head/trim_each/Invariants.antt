@@ -1,9 +1,9 @@
 use Rattle.std.proofs.Common.{◌≡◌, ℕ, ◌++◌, ◌<◌, List, Some, drop, take, slice_get}
 use Rattle.std.specs.List.Sorted.{IsNonDecreasingBy}
 use Rattle.pr_labels.specs.declared.pair.Pair.{Pair}
-use Rattle.pr_head.specs.Stored.{Stored, trimmed}
-use Rattle.pr_head.specs.Holds.{sets_of}
-use Rattle.pr_head.specs.Index.{IsIndexed}
+use Rattle.pr_head.specs.private.Stored.{Stored, trimmed}
+use Rattle.pr_head.specs.private.Holds.{sets_of}
+use Rattle.pr_head.specs.private.Index.{IsIndexed}
 use Rattle.pr_head.proofs.head.Head.trim_each.Given as goal
 
 -- the first series are trimmed

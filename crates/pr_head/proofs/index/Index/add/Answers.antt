@@ -4,7 +4,7 @@ use Rattle.std.specs.Map.{remove_entry}
 use Rattle.std.specs.BTreeMap.{insert_entry, is_at}
 use Rattle.pr_labels.specs.LabelSet.{IsLabelSet}
 use Rattle.pr_labels.specs.Order.{labels_cmp}
-use Rattle.pr_head.specs.Index.{has_label, listing_of}
+use Rattle.pr_head.specs.private.Index.{has_label, listing_of}
 use Rattle.pr_head.proofs.Indexing.{absent, indexed_more, indexed_same, removed_again}
 use Rattle.pr_head.proofs.index.Index.add.Goals as goal
 

@@ -1,5 +1,5 @@
 use Rattle.std.proofs.Common.{◌∙◌, ◌==◌, length, ap, sym, subst, unwrap_or, []}
-use Rattle.pr_head.specs.Index.{IsEnough}
+use Rattle.pr_head.specs.private.Index.{IsEnough}
 use Rattle.pr_head.proofs.Indexing.{enough_labelled, enough_of_two, some_text}
 use Rattle.pr_head.proofs.index.Index.fewer.Goals as goal
 

@@ -1,6 +1,6 @@
 use Rattle.std.proofs.Common.{List}
 use Rattle.pr_labels.specs.declared.pair.Pair.{Pair}
-use Rattle.pr_head.specs.Index.{IsEnough, IsIndexed}
+use Rattle.pr_head.specs.private.Index.{IsEnough, IsIndexed}
 use Rattle.pr_head.proofs.index.Index.fewest.Given as goal
 
 -- the fewest so far are enough

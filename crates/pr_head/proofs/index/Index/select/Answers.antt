@@ -3,8 +3,8 @@ use Rattle.std.specs.List.{All}
 use Rattle.std.specs.Map.{values_of}
 use Rattle.std.specs.Option.{option_copied}
 use Rattle.std.specs.declared.result.Result.TheVariants.{Ok, Err}
-use Rattle.pr_head.specs.Holds.{labels_at}
-use Rattle.pr_head.specs.Index.{IsEnough, Numbered}
+use Rattle.pr_head.specs.private.Holds.{labels_at}
+use Rattle.pr_head.specs.private.Index.{IsEnough, Numbered}
 use Rattle.pr_head.proofs.Indexing.{alone}
 use Rattle.pr_head.proofs.Selecting.{picked_known, select_chosen}
 use Rattle.pr_head.proofs.index.Index.select.Goals as goal

@@ -1,8 +1,8 @@
 use Rattle.std.proofs.Common.{◌≡◌, ℕ, List, IfOk, filter, ap, subst, sym, ◌∙◌}
 use Rattle.std.specs.Map.{values_of}
 use Rattle.pr_labels.specs.declared.pair.Pair.{Pair}
-use Rattle.pr_history.specs.Series.{has_values}
-use Rattle.pr_head.specs.Listings.{numbers_in}
+use Rattle.spec_history.specs.private.Laws.{has_values}
+use Rattle.pr_head.specs.private.Listings.{numbers_in}
 use Rattle.pr_head.proofs.listing.Listing.chosen.Goals as goal
 
 pub returns-in-Many : goal.returns-in-Many

@@ -1,6 +1,6 @@
 use Rattle.std.proofs.Common.{◌≡◌, ◌-◌, suc, true, length, slice_get, ap, sym, ◌∙◌, arith, w64}
 use Rattle.std.proofs.lemmas.Int.{to_z-of_z}
-use Rattle.pr_head.specs.Stored.{Stored, newest_at, held_before, is_there_until}
+use Rattle.pr_head.specs.private.Stored.{Stored, newest_at, held_before, is_there_until}
 use Rattle.pr_head.proofs.Places.{before_at, last_newest}
 use Rattle.pr_head.proofs.series.Series.newest_at.Goals as goal
 

@@ -1,7 +1,7 @@
 use Rattle.std.proofs.Common.{◌≤◌, subst, sym}
 use Rattle.std.specs.List.{All}
 use Rattle.std.specs.List.Sorted.{IsNonDecreasingBy}
-use Rattle.pr_head.specs.Stored.{Stored}
+use Rattle.pr_head.specs.private.Stored.{Stored}
 use Rattle.pr_head.proofs.Oldest.{first_oldest, none_oldest}
 use Rattle.pr_head.proofs.series.Series.oldest.Goals as goal
 

@@ -1,6 +1,6 @@
 use Rattle.std.proofs.Common.{◌+◌, ap, ◌∙◌, w64}
 use Rattle.std.proofs.lemmas.Int.{to_z-of_z}
-use Rattle.pr_head.specs.Stored.{Stored, position_of}
+use Rattle.pr_head.specs.private.Stored.{Stored, position_of}
 use Rattle.pr_head.proofs.series.Series.position.Goals as goal
 
 pub returns : goal.returns

@@ -1,7 +1,7 @@
 use Rattle.std.proofs.Common.{◌≡◌, ◌-◌, ◌≤◌, ◌<◌, true, false, max, slice_get, ap, subst, sym, ◌∙◌, arith, w64, to_z, of_z}
 use Rattle.std.specs.List.Sorted.{IsNonDecreasingBy}
 use Rattle.std.proofs.lemmas.Int.{to_z-of_z}
-use Rattle.pr_head.specs.Stored.{Stored, is_there_until, position_of}
+use Rattle.pr_head.specs.private.Stored.{Stored, is_there_until, position_of}
 use Rattle.pr_head.proofs.Places.{place_above, place_at_most}
 use Rattle.pr_head.proofs.series.Series.position_not_before.Goals as goal
 

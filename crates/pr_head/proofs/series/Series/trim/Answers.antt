@@ -1,7 +1,7 @@
 use Rattle.std.proofs.Common.{◌+◌, drop, ap, subst, ◌∙◌, w64}
 use Rattle.std.proofs.lemmas.Int.{to_z-of_z}
 use Rattle.std.specs.List.Sorted.{IsNonDecreasingBy}
-use Rattle.pr_head.specs.Stored.{Stored, position_of, stored}
+use Rattle.pr_head.specs.private.Stored.{Stored, position_of, stored}
 use Rattle.pr_head.proofs.Trimming.{is_trimmed}
 use Rattle.pr_head.proofs.series.Series.trim.Goals as goal
 

@@ -1,8 +1,8 @@
 use Rattle.std.proofs.Common.{◌≡◌, ◌+◌, ◌≤◌, length, ap, sym, subst, ◌∙◌, rules, arith, find, reverse}
 use Rattle.std.specs.List.{position_or_len}
 use Rattle.std.proofs.lemmas.List.Sorted.{IsPartitionPoint-from_clause}
-use Rattle.pr_history.specs.Lookback.{is_after, is_until}
-use Rattle.pr_head.specs.Stored.{Stored, held_before}
+use Rattle.spec_history.specs.Lookback.{is_after, is_until}
+use Rattle.pr_head.specs.private.Stored.{Stored, held_before}
 use Rattle.pr_head.proofs.Places.{until_parted, parted_place, last_passing}
 use Rattle.pr_head.proofs.series.Series.until.Goals as goal
 

@@ -1,7 +1,7 @@
 use Rattle.std.proofs.Common.{◌≡◌, ◌≢◌, ◌+◌, ◌-◌, ◌≤◌, true, false, length, slice_get, ap, sym, subst, ◌∙◌, arith, w64}
 use Rattle.std.specs.List.Sorted.{IsNonDecreasingBy}
 use Rattle.std.proofs.lemmas.Int.{to_z-of_z}
-use Rattle.pr_head.specs.Stored.{Stored, is_there_until}
+use Rattle.pr_head.specs.private.Stored.{Stored, is_there_until}
 use Rattle.pr_head.proofs.Places.{place_is}
 use Rattle.pr_head.proofs.series.Series.until_near.Goals as goal
 use Rattle.pr_head.proofs.series.Series.until_near.Goals.{then-near-eq0, else-near-eq0}

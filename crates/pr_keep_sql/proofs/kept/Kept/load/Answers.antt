@@ -1,5 +1,5 @@
 use Rattle.sqlite.specs.Held.{state}
-use Rattle.pr_keep_sql.specs.Refusals.{IsLoadRefused}
+use Rattle.pr_keep_sql.specs.private.Refusals.{IsLoadRefused}
 use Rattle.pr_keep_sql.proofs.RefusalLemmas.{counted_refusal}
 use Rattle.pr_keep_sql.proofs.KeptLemmas.{keeps, some_told, stays_told, told_row}
 use Rattle.pr_keep_sql.proofs.kept.Kept.load.Goals as goal

@@ -1,7 +1,7 @@
 use Rattle.std.proofs.Common.{ℕ, ◌^◌, ◌≤◌, IfSome, Option, subst, true≢false}
 use Rattle.sqlite.specs.Held.{state}
-use Rattle.pr_keep_sql.specs.Ran.{HasRead}
-use Rattle.pr_keep_sql.specs.Refusals.{IsReadingRefused}
+use Rattle.pr_keep_sql.specs.private.Ran.{HasRead}
+use Rattle.pr_keep_sql.specs.private.Refusals.{IsReadingRefused}
 use Rattle.pr_keep_sql.proofs.RefusalLemmas.{counted_refusal}
 use Rattle.pr_keep_sql.proofs.KeptLemmas.{read_found, read_kept, read_still}
 use Rattle.pr_keep_sql.proofs.kept.Kept.read.Goals as goal

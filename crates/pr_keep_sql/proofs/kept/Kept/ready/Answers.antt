@@ -1,8 +1,8 @@
 use Rattle.std.proofs.Common.{◌≡◌, refl, rules, subst, sym}
 use Rattle.sqlite.specs.Held.{state}
-use Rattle.pr_keep_sql.specs.Tables.{IsFree, IsOther}
-use Rattle.pr_keep_sql.specs.Refusals.{IsReadingRefused, IsTransactionRefused}
-use Rattle.pr_keep_sql.specs.Texts.{makings}
+use Rattle.pr_keep_sql.specs.private.Tables.{IsFree, IsOther}
+use Rattle.pr_keep_sql.specs.private.Refusals.{IsReadingRefused, IsTransactionRefused}
+use Rattle.pr_keep_sql.specs.private.Texts.{makings}
 use Rattle.pr_keep_sql.specs.declared.tables.Standing.TheVariants.{Free, Ours, Others}
 use Rattle.pr_keep_sql.proofs.RanLemmas.{neither, on_ok, on_ok_more}
 use Rattle.pr_keep_sql.proofs.RefusalLemmas.{refusal_left, refusal_right}

@@ -1,4 +1,4 @@
-use Rattle.pr_labels.specs.Chosen.{is_chosen}
+use Rattle.pr_labels.specs.private.Chosen.{is_chosen}
 use Rattle.pr_labels.proofs.LabelSets.{chosen_are_set}
 use Rattle.pr_labels.proofs.labels.choose.chosen.Goals as goal
 

@@ -1,5 +1,5 @@
 use Rattle.std.proofs.Common.{◌≡◌, take, filter}
-use Rattle.pr_labels.specs.Chosen.{is_chosen}
+use Rattle.pr_labels.specs.private.Chosen.{is_chosen}
 use Rattle.pr_labels.proofs.labels.choose.copies_of.Given as goal
 
 -- the pairs so far are the chosen ones of those that were gone over

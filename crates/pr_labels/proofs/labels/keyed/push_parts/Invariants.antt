@@ -1,5 +1,5 @@
 use Rattle.std.proofs.Common.{◌≡◌, ◌++◌, drop, flat_map, string_bytes}
-use Rattle.pr_labels.specs.OrderKey.{key_part}
+use Rattle.pr_labels.specs.private.OrderKey.{key_part}
 use Rattle.pr_labels.proofs.labels.keyed.push_parts.Given as goal
 
 -- the parts so far, and those to come

@@ -1,5 +1,5 @@
 use Rattle.std.proofs.Common.{◌≡◌, ℕ, List, take}
-use Rattle.pr_strings.specs.pr_words.Names.{is_among, knows}
+use Rattle.pr_words.specs.Names.{is_among, knows}
 use Rattle.pr_labels.proofs.labels.known.known_names.Given as goal
 
 -- the names so far are known

@@ -1,6 +1,6 @@
 use Rattle.std.proofs.Common.{◌≡◌, ℕ, List, drop, take}
 use Rattle.std.specs.List.{list_any}
-use Rattle.pr_strings.specs.pr_words.Names.{knows}
+use Rattle.pr_words.specs.Names.{knows}
 use Rattle.pr_labels.specs.Edits.{fault_after, first_fault}
 use Rattle.pr_labels.specs.LabelSet.{has_name}
 use Rattle.pr_labels.proofs.labels.made.check_pairs.Given as goal

@@ -1,9 +1,9 @@
 use Rattle.std.proofs.Common.{◌++◌, List, map, ap, sym, subst, ◌∙◌}
 use Rattle.std.specs.Prelude.{flat_map}
-use Rattle.pr_world.specs.declared.report.AlertLine.{AlertLine}
-use Rattle.pr_world.specs.Rounds.{alert_line, group_alerts}
-use Rattle.pr_group.specs.Keeping.{KeptGroup}
-use Rattle.pr_manager.specs.Keeping.{KeepEach, KeptManager, settings_in}
+use Rattle.spec_world.specs.declared.report.AlertLine.{AlertLine}
+use Rattle.spec_world.specs.Rounds.{alert_line, group_alerts}
+use Rattle.pr_group.specs.private.Keeping.{KeptGroup}
+use Rattle.pr_manager.specs.private.Keeping.{KeepEach, KeptManager, settings_in}
 use Rattle.pr_manager.proofs.Listed.{GroupsLeft, groups_end, groups_then}
 use Rattle.pr_manager.proofs.manager.Manager.alerts.Goals as goal
 

@@ -1,10 +1,10 @@
 use Rattle.std.proofs.Common.{List, length, map}
 use Rattle.std.specs.Prelude.{flat_map}
-use Rattle.pr_history.specs.declared.entry.Entry.{Entry}
-use Rattle.pr_world.specs.pr_rules.Groups.{Group}
-use Rattle.pr_world.specs.pr_rules.Settings.{Settings}
-use Rattle.pr_world.specs.Rounds.{alert_line, group_alerts}
-use Rattle.pr_manager.specs.Keeping.{KeepEach}
+use Rattle.spec_world.specs.spec_history.declared.entry.Entry.{Entry}
+use Rattle.spec_world.specs.spec_rules.Groups.{Group}
+use Rattle.spec_world.specs.spec_rules.Settings.{Settings}
+use Rattle.spec_world.specs.Rounds.{alert_line, group_alerts}
+use Rattle.pr_manager.specs.private.Keeping.{KeepEach}
 use Rattle.pr_manager.proofs.Listed.{GroupsLeft}
 use Rattle.pr_manager.proofs.manager.Manager.alerts.Given as goal
 

@@ -1,9 +1,9 @@
 use Rattle.std.proofs.Common.{◌≡◌, Some, None, ap, subst, sym, ◌∙◌}
-use Rattle.pr_world.specs.Step.{Step}
-use Rattle.pr_world.specs.declared.report.Report.{Report}
-use Rattle.pr_manager.specs.Keeping.{HasGoneOn, ManagesGroupsOf, KeptManager, settings_in}
-use Rattle.pr_manager.specs.Naming.{passed_by_named}
-use Rattle.pr_manager.specs.Rounds.{admitted_in, eval_step}
+use Rattle.spec_world.specs.Step.{Step}
+use Rattle.spec_world.specs.declared.report.Report.{Report}
+use Rattle.pr_manager.specs.private.Keeping.{HasGoneOn, ManagesGroupsOf, KeptManager, settings_in}
+use Rattle.pr_manager.specs.private.Naming.{passed_by_named}
+use Rattle.pr_manager.specs.private.Rounds.{admitted_in, eval_step}
 use Rattle.pr_manager.proofs.Evaluated.{HasStepped, answered, few_named, found_place, gone_nowhere, if_ok, is_nowhere, on_ok, place_within, step_missing}
 use Rattle.pr_manager.proofs.Passing.{answered_passing, refused_passes}
 use Rattle.pr_manager.proofs.manager.Manager.evaluate.Goals as goal

@@ -1,7 +1,7 @@
 use Rattle.std.proofs.Common.{◌≡◌, ◌+◌, ◌≤◌, get_or, ap, subst, sym, ◌∙◌}
-use Rattle.pr_group.specs.Keeping.{passed_by}
-use Rattle.pr_manager.specs.Keeping.{KeepsUnder, KeptManager, settings_in}
-use Rattle.pr_manager.specs.Rounds.{cost_after}
+use Rattle.pr_group.specs.private.Keeping.{passed_by}
+use Rattle.pr_manager.specs.private.Keeping.{KeepsUnder, KeptManager, settings_in}
+use Rattle.pr_manager.specs.private.Rounds.{cost_after}
 use Rattle.pr_manager.proofs.Evaluated.{comes_at}
 use Rattle.pr_manager.proofs.Places.{got}
 use Rattle.pr_manager.proofs.manager.Manager.evaluate_at.Goals as goal

@@ -1,13 +1,13 @@
 use Rattle.std.proofs.Common.{◌≡◌, [], Ok, not, List, subst}
-use Rattle.pr_history.specs.declared.entry.Entry.{Entry}
-use Rattle.pr_group.specs.Keeping.{waits_of}
-use Rattle.pr_world.specs.Rounds.{all_loaded}
-use Rattle.pr_world.specs.Step.{Step}
-use Rattle.pr_world.specs.declared.event.NamedFile.{NamedFile}
+use Rattle.spec_world.specs.spec_history.declared.entry.Entry.{Entry}
+use Rattle.pr_group.specs.private.Keeping.{waits_of}
+use Rattle.spec_world.specs.Rounds.{all_loaded}
+use Rattle.spec_world.specs.Step.{Step}
+use Rattle.spec_world.specs.declared.event.NamedFile.{NamedFile}
 use Rattle.pr_manager.specs.declared.answered.Answered.{Answered}
-use Rattle.pr_manager.specs.Keeping.{HasGoneOn, KeepEach, ManagesGroupsOf, KeptManager, settings_in}
-use Rattle.pr_manager.specs.Loading.{IsRefusalOf, fresh_by, loaded_files}
-use Rattle.pr_manager.specs.Rounds.{files_step}
+use Rattle.pr_manager.specs.private.Keeping.{HasGoneOn, KeepEach, ManagesGroupsOf, KeptManager, settings_in}
+use Rattle.pr_manager.specs.private.Loading.{IsRefusalOf, fresh_by, loaded_files}
+use Rattle.pr_manager.specs.private.Rounds.{files_step}
 use Rattle.pr_manager.proofs.Apart.{news_apart}
 use Rattle.pr_manager.proofs.Evaluated.{if_ok, on_ok}
 use Rattle.pr_manager.proofs.Reloaded.{HasRefused, HasReloaded, never_refused, refused_all, refused_reload_passes, reloaded, reloaded_passes}

@@ -1,13 +1,13 @@
 use Rattle.std.proofs.Common.{◌≡◌, true, not, List, length, Vec, Global, ap, subst, sym, ◌∙◌}
 use Rattle.std.specs.Prelude.{filter, sum_by}
-use Rattle.pr_history.specs.declared.entry.Entry.{Entry}
-use Rattle.pr_world.specs.pr_rules.Reloads.{reload_by}
-use Rattle.pr_group.specs.Keeping.{KeptGroup}
-use Rattle.pr_world.specs.declared.report.Report.TheVariants as report
-use Rattle.pr_manager.specs.Keeping.{KeepEach, KeptManager, settings_in}
-use Rattle.pr_manager.specs.Loading.{fresh_by}
-use Rattle.pr_manager.specs.Naming.{is_among, name_of, names_of}
-use Rattle.pr_manager.specs.Replacing.{HasReplaced}
+use Rattle.spec_world.specs.spec_history.declared.entry.Entry.{Entry}
+use Rattle.spec_world.specs.spec_rules.Reloads.{reload_by}
+use Rattle.pr_group.specs.private.Keeping.{KeptGroup}
+use Rattle.spec_world.specs.declared.report.Report.TheVariants as report
+use Rattle.pr_manager.specs.private.Keeping.{KeepEach, KeptManager, settings_in}
+use Rattle.pr_manager.specs.private.Loading.{fresh_by}
+use Rattle.pr_manager.specs.private.Naming.{is_among, name_of, names_of}
+use Rattle.pr_manager.specs.private.Replacing.{HasReplaced}
 use Rattle.pr_manager.proofs.Replaced.{replaced}
 use Rattle.pr_manager.proofs.manager.Manager.replace.Goals as goal
 

@@ -1,7 +1,7 @@
 use Rattle.std.proofs.Common.{rules, FitsSigned, ◌∙◌, ap, ℤ, ◌+◌, ◌%◌, ◌^◌, ◌+ℤ◌}
 use Rattle.std.specs.Int.{w128}
 use Rattle.std.proofs.lemmas.Int.{to_z-of_z}
-use Rattle.pr_num.specs.Parts.{number_of_parts}
+use Rattle.pr_num.specs.private.Parts.{number_of_parts}
 use Rattle.pr_num.proofs.Parts.{parts_added}
 use Rattle.pr_num.proofs.wide.Wide.add.Goals as goal
 

@@ -1,8 +1,8 @@
 use Rattle.std.proofs.Common.{sym, refl, subst, arith}
-use Rattle.pr_notices.specs.declared.joined.Joined.TheVariants.{Known, Full}
-use Rattle.pr_notices.specs.Receivers.{after_add}
-use Rattle.pr_queue.specs.Queues.{waiting_in}
-use Rattle.pr_queue.specs.Standing.{StandsFor}
+use Rattle.spec_alerts.specs.declared.notices.joined.Joined.TheVariants.{Known, Full}
+use Rattle.spec_alerts.specs.Receivers.{after_add}
+use Rattle.pr_queue.specs.private.Queues.{waiting_in}
+use Rattle.pr_queue.specs.private.Standing.{StandsFor}
 use Rattle.pr_queue.proofs.Stands.{is_full_joined, is_known_joined, is_new_joined, is_some-place, stands_added, stays}
 use Rattle.pr_queue.proofs.notifier.Notifier.add.Goals as goal
 

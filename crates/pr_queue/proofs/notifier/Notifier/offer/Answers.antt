@@ -1,8 +1,8 @@
 use Rattle.std.proofs.Common.{◌≡◌, length, map, Result, Ok, Err, OnOk, sym, ap, ◌∙◌, subst}
 use Rattle.std.proofs.lemmas.List.{length-map, with_items_is}
-use Rattle.pr_notices.specs.Receivers.{after_offer}
-use Rattle.pr_queue.specs.Queues.{taken_in, waiting_in, with_coming}
-use Rattle.pr_queue.specs.Standing.{StandsFor}
+use Rattle.spec_alerts.specs.Receivers.{after_offer}
+use Rattle.pr_queue.specs.private.Queues.{taken_in, waiting_in, with_coming}
+use Rattle.pr_queue.specs.private.Standing.{StandsFor}
 use Rattle.pr_queue.proofs.Stands.{stands_offered}
 use Rattle.pr_queue.proofs.notifier.Notifier.offer.Goals as goal
 

@@ -1,7 +1,7 @@
 use Rattle.std.proofs.Common.{◌≡◌, sym, ap, subst}
-use Rattle.pr_text.specs.pr_world.Settings.{of_a_run}
-use Rattle.pr_text.specs.pr_world.Step.{next}
-use Rattle.pr_run.specs.Keeping.{Run}
+use Rattle.pr_text.specs.spec_world.Settings.{of_a_run}
+use Rattle.pr_text.specs.spec_world.Step.{next}
+use Rattle.pr_run.specs.private.Keeping.{Run}
 use Rattle.pr_run.proofs.Answering.{event_gives, event_grown}
 use Rattle.pr_run.proofs.session.Session.take_event.Goals as goal
 

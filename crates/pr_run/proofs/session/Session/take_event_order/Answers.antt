@@ -1,14 +1,14 @@
 use Rattle.std.proofs.Common.{◌≡◌, ◌∙◌, [], Ok, Err, refl, sym, subst}
-use Rattle.pr_reader.specs.pr_script.declared.order.Order.TheVariants as order
-use Rattle.pr_queue.specs.Standing as waiting
-use Rattle.pr_status.specs.Outside.{Outside}
-use Rattle.pr_status.proofs.Ended.{ends_on, in_time_same}
-use Rattle.pr_status.proofs.Streams.{appends_none}
+use Rattle.pr_text.specs.declared.script.order.Order.TheVariants as order
+use Rattle.pr_queue.specs.private.Standing as waiting
+use Rattle.pr_outside.specs.Outside.{Outside}
+use Rattle.pr_outside.proofs.Ended.{ends_on, in_time_same}
+use Rattle.pr_outside.proofs.StatusStreams.{appends_none}
 use Rattle.pr_text.proofs.WorldRefusals.{refusal_is_told}
-use Rattle.pr_text.specs.pr_world.Settings.{of_a_run}
-use Rattle.pr_text.specs.pr_world.Step.{next}
-use Rattle.pr_run.specs.Rows.{IsBadIn}
-use Rattle.pr_run.specs.Standing.{Gives}
+use Rattle.pr_text.specs.spec_world.Settings.{of_a_run}
+use Rattle.pr_text.specs.spec_world.Step.{next}
+use Rattle.pr_queue.specs.spec_history.Stores.{IsBadIn}
+use Rattle.pr_run.specs.private.Standing.{WorldGives}
 use Rattle.pr_run.proofs.Answering.{answers_so, event_turn, leaves_by, leaves_memory, made, memory_on}
 use Rattle.pr_run.proofs.session.Session.take_event_order.Goals as goal
 
@@ -37,7 +37,7 @@ returns-clause-answers g c = λ others held p number keeps some.
     let gives = c.in_ok-report.ensures.gives others p.state.world keeps.world some in
     let tell = c.in_ok-tell.ensures in
     answers_so g.E.Worlds.stands_for held p (made number (order.Event c.args.event)) (next of_a_run p.state.world c.args.event) [] a d (event_turn held p.state number c.args.event) c.tell.new.self c.args.text.now.items c.tell.new.text.items c.in_ok-report.report c.take_event.new.self.refused
-    (subst (λ (k : _). Gives g.E.Worlds.stands_for p.state.world (next of_a_run p.state.world c.args.event) 0 a d k (Ok c.in_ok-report.report)) (sym tell.kept) gives)
+    (subst (λ (k : _). WorldGives g.E.Worlds.stands_for p.state.world (next of_a_run p.state.world c.args.event) 0 a d k (Ok c.in_ok-report.report)) (sym tell.kept) gives)
     (refusal_is_told of_a_run p.state.world c.args.event) tell.text tell.refused (c.in_ok-report.ensures.refused ∙ keeps.refused)
     (tell.receivers p.state.receivers (subst (λ (q : _). waiting.StandsFor q p.state.receivers) (sym c.in_ok-report.ensures.queues) keeps.receivers))
 

@@ -1,19 +1,19 @@
 use Rattle.std.proofs.Common.{◌≡◌, ◌∙◌, ℕ, List, Result, Ok, Err, IfOk, length, refl, sym, ap, subst}
-use Rattle.pr_status.specs.Asks.{AsksBy}
-use Rattle.pr_status.specs.Outside.{AreTold, Outside}
-use Rattle.pr_status.proofs.Ended.{ends_on, in_time_same}
-use Rattle.pr_text.specs.pr_world.Loading.{FileToLoad, all_found, reload_asked}
-use Rattle.pr_text.specs.pr_world.Settings.{of_a_run}
-use Rattle.pr_text.specs.pr_world.Step.{Step, next}
-use Rattle.pr_text.specs.pr_world.declared.event.Event.TheVariants as event
-use Rattle.pr_text.specs.pr_world.declared.event.NamedFile.{NamedFile}
-use Rattle.pr_text.specs.pr_world.declared.report.Report.{Report}
-use Rattle.pr_run.specs.Files.{HasNames}
-use Rattle.pr_run.specs.Rows.{IsBadIn}
-use Rattle.pr_run.specs.Standing.{Gives}
+use Rattle.pr_outside.specs.Asks.{AsksBy}
+use Rattle.pr_outside.specs.Outside.{AreTold, Outside}
+use Rattle.pr_outside.proofs.Ended.{ends_on, in_time_same}
+use Rattle.pr_text.specs.spec_world.Loading.{FileToLoad, all_found, reload_asked}
+use Rattle.pr_text.specs.spec_world.Settings.{of_a_run}
+use Rattle.pr_text.specs.spec_world.Step.{Step, next}
+use Rattle.pr_text.specs.spec_world.declared.event.Event.TheVariants as event
+use Rattle.pr_text.specs.spec_world.declared.event.NamedFile.{NamedFile}
+use Rattle.pr_text.specs.spec_world.declared.report.Report.{Report}
+use Rattle.pr_run.specs.private.Files.{HasNames}
+use Rattle.pr_queue.specs.spec_history.Stores.{IsBadIn}
+use Rattle.pr_run.specs.private.Standing.{WorldGives}
 use Rattle.pr_run.specs.Told.{asks_for, content_by}
-use Rattle.pr_run.proofs.Answering.{distinct_loaded, ends_behind, found_files, gives_behind, load_gives, refused_files}
-use Rattle.pr_run.proofs.Endings.{ends_wider}
+use Rattle.pr_run.proofs.Answering.{distinct_loaded, found_files, gives_behind, load_gives, refused_files}
+use Rattle.pr_outside.proofs.Endings.{ends_behind, ends_wider}
 use Rattle.pr_run.proofs.session.Session.take_files.Goals as goal
 
 pub returns-in_err-files-clause-gives : goal.returns-in_err-files-clause-gives
@@ -55,7 +55,7 @@ returns-in-Ok-clause-gives g c = λ others held w s in_time told some.
     let a : Outside = record others { files = files c.args.files.now; store = keeper c.args.keeper.now } in
     let b : Outside = record others { files = files c.load_files.new.from; store = keeper c.args.keeper.now } in
     let d : Outside = record others { files = files c.load_files.new.from; store = keeper c.take_event.new.keeper } in
-    subst (λ (x : Step). Gives g.E.Worlds.stands_for w x all a d c.take_event.new.self.kept c.take_event.result)
+    subst (λ (x : Step). WorldGives g.E.Worlds.stands_for w x all a d c.take_event.new.self.kept c.take_event.result)
     (found_files held w c.args.time c.args.names.now c.in-Ok.files (sym found ∙ c.in-Ok.is))
     (gives_behind g.E.Worlds.stands_for w (next of_a_run w (event.Reload c.args.time c.in-Ok.files)) c.take_event.new.self.kept a b d all c.take_event.result asks
     (c.take_event.ensures.gives b w s some))

@@ -1,9 +1,9 @@
 use Rattle.std.proofs.Common.{◌≡◌, ◌∙◌, ℕ, List, Ok, Err, IfErr, OnOk, length, refl, sym, ap, subst}
-use Rattle.pr_reader.specs.pr_script.declared.order.Numbered.{Numbered}
-use Rattle.pr_reader.specs.pr_script.declared.order.Order.{Order}
-use Rattle.pr_reader.specs.pr_script.declared.order.Order.TheVariants as order
-use Rattle.pr_status.specs.Outside.{AreTold, Outside}
-use Rattle.pr_run.specs.Standing.{Answers, Leaves}
+use Rattle.pr_text.specs.declared.script.order.Numbered.{Numbered}
+use Rattle.pr_text.specs.declared.script.order.Order.{Order}
+use Rattle.pr_text.specs.declared.script.order.Order.TheVariants as order
+use Rattle.pr_outside.specs.Outside.{AreTold, Outside}
+use Rattle.pr_run.specs.private.Standing.{AnswersOrder, LeavesFront}
 use Rattle.pr_run.specs.Replies.{bad_line_reply, flush_reply, receiver_reply}
 use Rattle.pr_run.specs.Told.{Turn, reply_turn, turn}
 use Rattle.pr_run.proofs.Answering.{made, on_one, order_turn, reply_answers, reply_leaves}
@@ -16,7 +16,7 @@ returns-in-Event-clause-answers g c = λ others held p keeps told some.
     let a : Outside = record others { files = files c.args.files.now; store = keeper c.args.keeper.now } in
     let d : Outside = record others { files = files c.args.files.now; store = keeper c.take_event_order.new.keeper } in
     let same : made c.args.order.number (order.Event c.in-Event.event) ≡ c.args.order = ap (λ (q : Order). made c.args.order.number q) (sym c.in-Event.is) in
-    subst (λ (o : Numbered). OnOk c.take_event_order.result (Answers g.E.Worlds.stands_for held p o a d c.take_event_order.new.self c.args.text.now.items c.take_event_order.new.text.items)) same
+    subst (λ (o : Numbered). OnOk c.take_event_order.result (AnswersOrder g.E.Worlds.stands_for held p o a d c.take_event_order.new.self c.args.text.now.items c.take_event_order.new.text.items)) same
     (c.take_event_order.ensures.answers (record others { files = files c.args.files.now }) held p c.args.order.number keeps some)
 
 pub returns-in-Event-clause-leaves : goal.returns-in-Event-clause-leaves
@@ -26,7 +26,7 @@ returns-in-Event-clause-leaves g c = λ others held p keeps told some.
     let a : Outside = record others { files = files c.args.files.now; store = keeper c.args.keeper.now } in
     let d : Outside = record others { files = files c.args.files.now; store = keeper c.take_event_order.new.keeper } in
     let same : made c.args.order.number (order.Event c.in-Event.event) ≡ c.args.order = ap (λ (q : Order). made c.args.order.number q) (sym c.in-Event.is) in
-    subst (λ (o : Numbered). IfErr c.take_event_order.result (Leaves (turn held p.state o) p.state.world.history a d)) same
+    subst (λ (o : Numbered). IfErr c.take_event_order.result (LeavesFront (turn held p.state o) p.state.world.history a d)) same
     (c.take_event_order.ensures.leaves (record others { files = files c.args.files.now }) held p c.args.order.number keeps some)
 
 pub returns-in-Event-clause-ends : goal.returns-in-Event-clause-ends
@@ -39,7 +39,7 @@ returns-in-Reload-clause-answers g c = λ others held p keeps told some.
     let a : Outside = record others { files = files c.args.files.now; store = keeper c.args.keeper.now } in
     let d : Outside = record others { files = files c.take_files_order.new.files; store = keeper c.take_files_order.new.keeper } in
     let same : made c.args.order.number (order.Reload c.in-Reload.time c.in-Reload.names) ≡ c.args.order = ap (λ (q : Order). made c.args.order.number q) (sym c.in-Reload.is) in
-    subst (λ (o : Numbered). OnOk c.take_files_order.result (Answers g.E.Worlds.stands_for held p o a d c.take_files_order.new.self c.args.text.now.items c.take_files_order.new.text.items)) same
+    subst (λ (o : Numbered). OnOk c.take_files_order.result (AnswersOrder g.E.Worlds.stands_for held p o a d c.take_files_order.new.self c.args.text.now.items c.take_files_order.new.text.items)) same
     (c.take_files_order.ensures.answers others held p c.args.order.number keeps (subst (λ (o : Numbered). AreTold (files c.args.files.now).content held (turn held p.state o).answer.asks) (sym same) told) some)
 
 pub returns-in-Reload-clause-leaves : goal.returns-in-Reload-clause-leaves
@@ -49,7 +49,7 @@ returns-in-Reload-clause-leaves g c = λ others held p keeps told some.
     let a : Outside = record others { files = files c.args.files.now; store = keeper c.args.keeper.now } in
     let d : Outside = record others { files = files c.take_files_order.new.files; store = keeper c.take_files_order.new.keeper } in
     let same : made c.args.order.number (order.Reload c.in-Reload.time c.in-Reload.names) ≡ c.args.order = ap (λ (q : Order). made c.args.order.number q) (sym c.in-Reload.is) in
-    subst (λ (o : Numbered). IfErr c.take_files_order.result (Leaves (turn held p.state o) p.state.world.history a d)) same
+    subst (λ (o : Numbered). IfErr c.take_files_order.result (LeavesFront (turn held p.state o) p.state.world.history a d)) same
     (c.take_files_order.ensures.leaves others held p c.args.order.number keeps (subst (λ (o : Numbered). AreTold (files c.args.files.now).content held (turn held p.state o).answer.asks) (sym same) told) some)
 
 pub returns-in-Receiver-clause-answers : goal.returns-in-Receiver-clause-answers
@@ -57,7 +57,7 @@ returns-in-Receiver-clause-answers g c = λ others held p keeps told some.
     let a : Outside = record others { files = g.F.Files.means c.args.files.now; store = g.K.Keeper.means c.args.keeper.now } in
     let is : turn held p.state c.args.order ≡ reply_turn p.state (receiver_reply c.as_str.result.now p.state.receivers) =
     order_turn held p.state c.args.order (order.Receiver c.in-Receiver.name) c.in-Receiver.is ∙ ap (λ (n : List ℕ). reply_turn p.state (receiver_reply n p.state.receivers)) (sym c.as_str.ensures) in
-    on_one c.add_receiver.result _ (Answers g.E.Worlds.stands_for held p c.args.order a a c.add_receiver.new.self c.args.text.now.items c.add_receiver.new.text.items) c.add_receiver.ensures.replies
+    on_one c.add_receiver.result _ (AnswersOrder g.E.Worlds.stands_for held p c.args.order a a c.add_receiver.new.self c.args.text.now.items c.add_receiver.new.text.items) c.add_receiver.ensures.replies
     (λ given. reply_answers g.E.Worlds.stands_for held p c.args.order a a c.args.self.now c.add_receiver.new.self c.args.text.now.items c.add_receiver.new.text.items
     (receiver_reply c.as_str.result.now p.state.receivers) is (given p.state.receivers keeps.receivers) keeps refl refl)
 
@@ -73,7 +73,7 @@ returns-in-Flush-clause-answers g c = λ others held p keeps told some.
     let a : Outside = record others { files = g.F.Files.means c.args.files.now; store = g.K.Keeper.means c.args.keeper.now } in
     let is : turn held p.state c.args.order ≡ reply_turn p.state (flush_reply c.as_str-in-Flush.result.now p.state.receivers) =
     order_turn held p.state c.args.order (order.Flush c.in-Flush.name) c.in-Flush.is ∙ ap (λ (n : List ℕ). reply_turn p.state (flush_reply n p.state.receivers)) (sym c.as_str-in-Flush.ensures) in
-    on_one c.flush_receiver.result _ (Answers g.E.Worlds.stands_for held p c.args.order a a c.flush_receiver.new.self c.args.text.now.items c.flush_receiver.new.text.items) c.flush_receiver.ensures.replies
+    on_one c.flush_receiver.result _ (AnswersOrder g.E.Worlds.stands_for held p c.args.order a a c.flush_receiver.new.self c.args.text.now.items c.flush_receiver.new.text.items) c.flush_receiver.ensures.replies
     (λ given. reply_answers g.E.Worlds.stands_for held p c.args.order a a c.args.self.now c.flush_receiver.new.self c.args.text.now.items c.flush_receiver.new.text.items
     (flush_reply c.as_str-in-Flush.result.now p.state.receivers) is (given p.state.receivers keeps.receivers) keeps refl refl)
 
@@ -89,7 +89,7 @@ returns-in-Bad-clause-answers g c = λ others held p keeps told some.
     let a : Outside = record others { files = g.F.Files.means c.args.files.now; store = g.K.Keeper.means c.args.keeper.now } in
     let is : turn held p.state c.args.order ≡ reply_turn p.state (bad_line_reply c.args.order.number p.state.receivers) =
     order_turn held p.state c.args.order order.Bad c.in-Bad.is in
-    on_one c.refuse_line.result _ (Answers g.E.Worlds.stands_for held p c.args.order a a c.refuse_line.new.self c.args.text.now.items c.refuse_line.new.text.items) c.refuse_line.ensures.replies
+    on_one c.refuse_line.result _ (AnswersOrder g.E.Worlds.stands_for held p c.args.order a a c.refuse_line.new.self c.args.text.now.items c.refuse_line.new.text.items) c.refuse_line.ensures.replies
     (λ given. reply_answers g.E.Worlds.stands_for held p c.args.order a a c.args.self.now c.refuse_line.new.self c.args.text.now.items c.refuse_line.new.text.items
     (bad_line_reply c.args.order.number p.state.receivers) is (given p.state.receivers keeps.receivers) keeps refl refl)
 

@@ -1,12 +1,12 @@
 use Rattle.std.proofs.Common.{◌≡◌, ◌∙◌, ℕ, List, Option, Some, length, sym, ap, subst}
-use Rattle.pr_status.specs.Asks.{Asks}
-use Rattle.pr_status.specs.Outside.{AreTold, Outside}
-use Rattle.pr_text.specs.pr_world.Loading.{reload_asked}
-use Rattle.pr_text.specs.pr_world.Outcome.{IsNotBefore}
-use Rattle.pr_text.specs.pr_world.Settings.{of_a_run}
-use Rattle.pr_text.specs.pr_world.Step.{Step}
-use Rattle.pr_run.specs.Keeping.{Run}
-use Rattle.pr_run.specs.Standing.{Gives}
+use Rattle.pr_outside.specs.Asks.{Asks}
+use Rattle.pr_outside.specs.Outside.{AreTold, Outside}
+use Rattle.pr_text.specs.spec_world.Loading.{reload_asked}
+use Rattle.pr_text.specs.spec_world.private.Laws.{IsNotBefore}
+use Rattle.pr_text.specs.spec_world.Settings.{of_a_run}
+use Rattle.pr_text.specs.spec_world.Step.{Step}
+use Rattle.pr_run.specs.private.Keeping.{Run}
+use Rattle.pr_run.specs.private.Standing.{WorldGives}
 use Rattle.pr_run.specs.Told.{asks_for, content_by}
 use Rattle.pr_run.proofs.Answering.{backwards_files, in_time_asks}
 use Rattle.pr_run.proofs.Loads.{asks_none}
@@ -34,6 +34,6 @@ returns-in-None-clause-gives g c = λ others held w s told some.
     let same = in_time_asks w.last c.args.time (asks_for (content_by held) c.args.names.now) in_time in
     let a : Outside = record others { files = files c.args.files.now; store = store } in
     let d : Outside = record others { files = files c.take_files.new.files; store = keeper c.take_files.new.keeper } in
-    subst (λ (l : List (List ℕ)). Gives g.E.Worlds.stands_for w (reload_asked of_a_run w c.args.time (content_by held) c.args.names.now) (length l) a d c.take_files.new.self.kept c.take_files.result)
+    subst (λ (l : List (List ℕ)). WorldGives g.E.Worlds.stands_for w (reload_asked of_a_run w c.args.time (content_by held) c.args.names.now) (length l) a d c.take_files.new.self.kept c.take_files.result)
     (sym same)
     (c.take_files.ensures.gives others held w s in_time (subst (AreTold (files c.args.files.now).content held) same told) some)

@@ -1,9 +1,9 @@
 use Rattle.std.proofs.Common.{◌+◌, ◌-◌, ◌≤◌, max, refl, sym, ap, subst, ◌∙◌}
-use Rattle.pr_head.specs.Stored.{position_of}
-use Rattle.pr_vectors.specs.Ranges.{over}
-use Rattle.pr_range.specs.Answers.{AnswersAsk}
-use Rattle.pr_range.specs.Spots.{AreWithin}
-use Rattle.pr_slide.specs.Windows.{IsSlid, passed_in, slid_spots, spots_in}
+use Rattle.pr_head.specs.private.Stored.{position_of}
+use Rattle.pr_range.specs.spec_vectors.Ranges.{over}
+use Rattle.pr_range.specs.private.Answers.{AnswersAsk}
+use Rattle.pr_range.specs.private.Spots.{AreWithin}
+use Rattle.pr_slide.specs.private.Windows.{IsSlid, passed_in, slid_spots, spots_in}
 use Rattle.pr_slide.proofs.Nodes.{Row}
 use Rattle.pr_slide.proofs.Windows.{there}
 use Rattle.pr_slide.proofs.node.Node.ask.Goals as goal

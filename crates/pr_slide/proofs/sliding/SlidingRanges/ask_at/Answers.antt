@@ -1,11 +1,11 @@
 use Rattle.std.proofs.Common.{◌≡◌, ◌+◌, ◌-◌, ◌<◌, ◌≤◌, max, length, get_or, set, nat_eq, ap, sym, subst, ◌∙◌}
 use Rattle.std.specs.Map.{lookup}
-use Rattle.pr_head.specs.Stored.{position_of}
-use Rattle.pr_vectors.specs.Ranges.{over}
-use Rattle.pr_range.specs.Answers.{AnswersAsk}
-use Rattle.pr_range.specs.Spots.{AreWithin}
-use Rattle.pr_slide.specs.Places.{AreStandingAt, IsNodePlace, numbers_of}
-use Rattle.pr_slide.specs.Windows.{IsPut, IsPutIn, found, passed_in, slid_spots, spots_in}
+use Rattle.pr_head.specs.private.Stored.{position_of}
+use Rattle.pr_range.specs.spec_vectors.Ranges.{over}
+use Rattle.pr_range.specs.private.Answers.{AnswersAsk}
+use Rattle.pr_range.specs.private.Spots.{AreWithin}
+use Rattle.pr_slide.specs.private.Places.{AreStandingAt, IsNodePlace, numbers_of}
+use Rattle.pr_slide.specs.private.Windows.{IsPut, IsPutIn, found, passed_in, slid_spots, spots_in}
 use Rattle.pr_slide.proofs.Nodes.{Row, found_there, place_within, put_at}
 use Rattle.pr_slide.proofs.Placing.{numbers_kept}
 use Rattle.pr_slide.proofs.sliding.SlidingRanges.ask_at.Goals as goal

@@ -1,9 +1,9 @@
 use Rattle.std.proofs.Common.{◌+◌, ◌-◌, ◌≤◌, max, subst}
-use Rattle.pr_head.specs.Stored.{position_of}
-use Rattle.pr_vectors.specs.Ranges.{over}
-use Rattle.pr_range.specs.Answers.{AnswersAsk}
-use Rattle.pr_range.specs.Spots.{AreWithin}
-use Rattle.pr_slide.specs.Windows.{passed_in, slid_spots, spots_in}
+use Rattle.pr_head.specs.private.Stored.{position_of}
+use Rattle.pr_range.specs.spec_vectors.Ranges.{over}
+use Rattle.pr_range.specs.private.Answers.{AnswersAsk}
+use Rattle.pr_range.specs.private.Spots.{AreWithin}
+use Rattle.pr_slide.specs.private.Windows.{passed_in, slid_spots, spots_in}
 use Rattle.pr_slide.proofs.Nodes.{put_after}
 use Rattle.pr_slide.proofs.sliding.SlidingRanges.ask_outside.Goals as goal
 

@@ -1,7 +1,7 @@
 use Rattle.std.proofs.Common.{◌≡◌, ◌-◌, ◌++◌, ◌∷◌, [], length, length-append, nat_eq, None, ap, sym, subst, ◌∙◌, arith}
 use Rattle.std.specs.Map.{lookup}
-use Rattle.pr_slide.specs.Places.{AreApart, ArePlacesOf, AreStandingAt, IsAbsent, IsFoundIn, IsNodePlace, numbers_of}
-use Rattle.pr_slide.specs.Windows.{found}
+use Rattle.pr_slide.specs.private.Places.{AreApart, ArePlacesOf, AreStandingAt, IsAbsent, IsFoundIn, IsNodePlace, numbers_of}
+use Rattle.pr_slide.specs.private.Windows.{found}
 use Rattle.pr_slide.proofs.Nodes.{Row, found_pushed}
 use Rattle.pr_slide.proofs.Placing.{all_found, apart_pushed, node_last, places_pushed}
 use Rattle.pr_slide.proofs.sliding.SlidingRanges.place_by_number.Goals as goal

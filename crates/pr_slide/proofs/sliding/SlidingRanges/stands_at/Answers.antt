@@ -1,7 +1,7 @@
 use Rattle.std.proofs.Common.{◌≡◌, slice_get, Some, sym, ap, subst, ◌∙◌}
 use Rattle.std.proofs.lemmas.Option.{slice_get-get_or}
 use borrow.Author.Tests.{eqb-true}
-use Rattle.pr_slide.specs.Places.{IsNodePlace}
+use Rattle.pr_slide.specs.private.Places.{IsNodePlace}
 use Rattle.pr_slide.proofs.Placing.{node_first}
 use Rattle.pr_slide.proofs.sliding.SlidingRanges.stands_at.Goals as goal
 

@@ -1,11 +1,11 @@
 use Rattle.std.proofs.Common.{◌≡◌, ◌≤◌, slice_get, Some, sym, subst, arith}
-use Rattle.pr_head.specs.Stored.{count_of, position_of}
-use Rattle.pr_history.specs.Lookback.{entries_until}
-use Rattle.pr_vectors.specs.Ranges.{over}
-use Rattle.pr_range.specs.Answers.{AnswersAsk}
-use Rattle.pr_range.specs.Spots.{AreWithin}
+use Rattle.pr_head.specs.private.Stored.{count_of, position_of}
+use Rattle.pr_head.specs.spec_history.private.Laws.{entries_until}
+use Rattle.pr_range.specs.spec_vectors.Ranges.{over}
+use Rattle.pr_range.specs.private.Answers.{AnswersAsk}
+use Rattle.pr_range.specs.private.Spots.{AreWithin}
 use Rattle.pr_range.proofs.Reading.{placed}
-use Rattle.pr_slide.specs.Windows.{passed_of}
+use Rattle.pr_slide.specs.private.Windows.{passed_of}
 use Rattle.pr_slide.proofs.Keeping.{answer_inside, fits_put, going, moved_put, reads_later, ready_plain}
 use Rattle.pr_slide.proofs.sliding.SlidingRangesRanges.ask.Goals as goal
 

@@ -1,8 +1,8 @@
 use Rattle.std.proofs.Common.{◌≡◌, ap, sym, subst, ◌∙◌}
-use Rattle.pr_range.specs.Carried.{IsCarried}
-use Rattle.pr_slide.specs.Carried.{carried}
-use Rattle.pr_slide.specs.Places.{AreApart, numbers_of}
-use Rattle.pr_slide.specs.Windows.{AreWindowsOf, last_asks, passed_of}
+use Rattle.pr_range.specs.private.Carried.{IsCarried}
+use Rattle.pr_slide.specs.private.Carried.{carried}
+use Rattle.pr_slide.specs.private.Places.{AreApart, numbers_of}
+use Rattle.pr_slide.specs.private.Windows.{AreWindowsOf, last_asks, passed_of}
 use Rattle.pr_slide.proofs.Carrying.{apart_carried, fits_carried, is_carried}
 use Rattle.pr_slide.proofs.sliding.SlidingRangesRanges.carry.Goals as goal
 

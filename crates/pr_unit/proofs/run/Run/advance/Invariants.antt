@@ -1,8 +1,8 @@
 use Rattle.std.proofs.Common.{◌+◌, ◌-◌, ◌*◌, ◌<◌, ◌≤◌, ℕ, List}
-use Rattle.pr_group.specs.pr_rules.Groups.{Group}
-use Rattle.pr_group.specs.pr_rules.Settings.{Settings}
-use Rattle.pr_test_rounds.specs.Rounds.{AreApart}
-use Rattle.pr_unit.specs.Run.{HasRun}
+use Rattle.pr_group.specs.spec_rules.Groups.{Group}
+use Rattle.pr_group.specs.spec_rules.Settings.{Settings}
+use Rattle.spec_tests.specs.private.Rounds.{AreApart}
+use Rattle.pr_unit.specs.private.Run.{HasRun}
 use Rattle.pr_unit.proofs.run.Run.advance.Given as goal
 
 -- it has come further

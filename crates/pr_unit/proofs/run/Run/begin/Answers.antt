@@ -1,7 +1,7 @@
 use Rattle.std.proofs.Common.{◌≡◌, List, ap, subst, ◌∙◌, refl}
-use Rattle.pr_feeding.specs.pr_inputs.declared.input.InputSeries.{InputSeries}
-use Rattle.pr_feeding.specs.pr_testfile.Series.{places}
-use Rattle.pr_feeding.specs.Feeding.{HasFed}
+use Rattle.spec_tests.specs.pr_testfile.declared.inputs.input.InputSeries.{InputSeries}
+use Rattle.spec_tests.specs.pr_testfile.Series.{places}
+use Rattle.pr_unit.specs.private.Feeding.{HasFed}
 use Rattle.pr_unit.proofs.Runs.{run_begins}
 use Rattle.pr_unit.proofs.run.Run.begin.Goals as goal
 

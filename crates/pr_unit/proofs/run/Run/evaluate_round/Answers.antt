@@ -1,8 +1,8 @@
 use Rattle.std.proofs.Common.{ℕ, ◌+◌, ◌<◌, ap, subst, refl, sym, map, length, arith}
-use Rattle.pr_expected.specs.pr_world.Step.{world_after}
-use Rattle.pr_expected.specs.pr_verdict.Events.{eval_at}
-use Rattle.pr_test_rounds.specs.Rounds.{IsInRound}
-use Rattle.pr_unit.specs.Kept.{StandsForWorld}
+use Rattle.spec_tests.specs.spec_world.Step.{world_after}
+use Rattle.spec_tests.specs.Events.{eval_at}
+use Rattle.spec_tests.specs.private.Rounds.{IsInRound}
+use Rattle.pr_unit.specs.private.Kept.{StandsForWorld}
 use Rattle.pr_unit.proofs.Runs.{round_run}
 use Rattle.pr_unit.proofs.run.Run.evaluate_round.Goals as goal
 

@@ -1,8 +1,8 @@
 use Rattle.std.proofs.Common.{◌≡◌, ◌+◌, List, ap, subst, ◌∙◌, refl, sym, arith}
-use Rattle.pr_feeding.specs.pr_inputs.declared.input.InputSeries.{InputSeries}
-use Rattle.pr_feeding.specs.pr_intake.Intake.{HasTaken}
-use Rattle.pr_feeding.specs.pr_testfile.Series.{entries_at}
-use Rattle.pr_feeding.specs.Feeding.{HasFed}
+use Rattle.spec_tests.specs.pr_testfile.declared.inputs.input.InputSeries.{InputSeries}
+use Rattle.pr_slide.specs.pr_head.private.Intake.{HasTaken}
+use Rattle.spec_tests.specs.pr_testfile.Series.{entries_at}
+use Rattle.pr_unit.specs.private.Feeding.{HasFed}
 use Rattle.pr_unit.proofs.Runs.{place_run}
 use Rattle.pr_unit.proofs.run.Run.put_place.Goals as goal
 

@@ -1,0 +1,7 @@
+pub mod Alone
+pub mod Counts
+pub mod Finished
+pub mod Firsts
+pub mod Lists
+pub mod Parts
+pub mod Presence

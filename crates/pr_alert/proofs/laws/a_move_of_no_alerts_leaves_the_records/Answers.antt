@@ -1,5 +1,0 @@
-use Rattle.pr_alert.proofs.Moves.{none_moved_stands}
-use Rattle.pr_alert.proofs.laws.a_move_of_no_alerts_leaves_the_records.Goals as goal
-
-pub returns : goal.returns
-returns c = none_moved_stands

@@ -1,0 +1,7 @@
+use Rattle.pr_time.proofs.FormsTaking.{taking}
+use Rattle.pr_ast.specs.Number.{production, letter_of, digit_at, mark}
+use Rattle.pr_ast.proofs.lex.number.digit_in.Goals as goal
+use Rattle.pr_ast.specs.NumberTable.{table}
+
+pub returns-clause-read : goal.returns-clause-read
+returns-clause-read c = taking letter_of production table digit_at (λ _. mark) (λ x. x.0) (λ x. x.1.now) c.take.result _ c.take.ensures (λ x r h. h)

@@ -1,0 +1,7 @@
+use Rattle.pr_time.proofs.FormsTaking.{taking}
+use Rattle.pr_ast.specs.Number.{production, letter_of, e_at, mark}
+use Rattle.pr_ast.proofs.lex.number.e_in.Goals as goal
+use Rattle.pr_ast.specs.NumberTable.{table}
+
+pub returns : goal.returns
+returns c = taking letter_of production table e_at (λ _. mark) (λ x. x.0) (λ x. x.1.now) c.take.result _ c.take.ensures (λ x r h. h)

@@ -1,0 +1,9 @@
+pub mod Examples
+pub mod Order
+pub mod Places
+pub mod Print
+pub mod Reader
+pub mod Spaced
+pub mod Spelled
+pub mod Steps
+pub mod Worked

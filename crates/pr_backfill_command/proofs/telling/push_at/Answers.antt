@@ -1,8 +1,0 @@
-use Rattle.std.proofs.Common.{rules, append_assoc}
-use Rattle.std.proofs.lemmas.Result.{IfOk-equal}
-use Rattle.pr_backfill_texts.specs.Text.{at_line}
-use Rattle.pr_backfill_command.proofs.telling.push_at.Goals as goal
-
-pub returns : goal.returns
-unfolding at_line
-returns c = search (rules, IfOk-equal, append_assoc)

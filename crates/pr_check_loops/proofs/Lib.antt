@@ -1,2 +1,0 @@
-pub mod EachFile
-pub mod Commands

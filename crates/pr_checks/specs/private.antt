@@ -1,0 +1,2 @@
+pub mod RulesFound
+pub mod RulesTaken

@@ -1,8 +1,0 @@
-use Rattle.std.proofs.Common.{take}
-use Rattle.pr_rules.specs.Taking.{numbered}
-use Rattle.pr_continued.specs.Waiting.{AreWaiting, key_of}
-use Rattle.pr_continued.proofs.choosing.waiting.Given as goal
-
--- those so far wait
-abbrev pub invariant-loop-number : goal.invariant-loop-number
-invariant-loop-number l = AreWaiting key_of l.waiting (numbered (take l.number l.old))

@@ -1,0 +1,12 @@
+pub mod ByName
+pub mod Causes
+pub mod EngineStops
+pub mod Events
+pub mod Knowing
+pub mod Making
+pub mod Passing
+pub mod Running
+pub mod Standing
+pub mod Taken
+pub mod Tallying
+pub mod Times

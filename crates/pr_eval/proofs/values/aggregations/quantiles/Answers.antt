@@ -1,0 +1,20 @@
+use Rattle.std.proofs.Common.{List, subst}
+use Rattle.pr_labels.specs.declared.item.Item.{Item}
+use Rattle.pr_num.specs.declared.value.Num.{Num}
+use Rattle.pr_range.specs.spec_vectors.Aggregation.{of_groups, always, quantile_of_values}
+use Rattle.spec_meaning.specs.Aggregations.{aggregated_at}
+use Rattle.spec_meaning.specs.Given.{elements_given}
+use Rattle.pr_eval.specs.private.Answers.{AnswersTo}
+use Rattle.pr_eval.specs.private.Plain.{all_plain}
+use Rattle.pr_eval.proofs.values.aggregations.quantiles.Goals as goal
+
+pub returns-clause-answer : goal.returns-clause-answer
+returns-clause-answer c =
+    let p = c.args.place in
+    let by = c.args.by.now in
+    let r = c.grouped.result in
+    let gs = all_plain c.args.given.now in
+    let phi = c.number_given-phi.result in
+    subst (λ (x : Num). AnswersTo (aggregated_at p (of_groups (always (quantile_of_values x)) by (elements_given gs 1))) r) c.number_given-phi.ensures
+    (subst (λ (l : List (Item Num)). AnswersTo (aggregated_at p (of_groups (always (quantile_of_values phi)) by l)) r) c.elements_given-items.ensures.elements
+    (c.grouped.ensures.answer (of_groups (always (quantile_of_values phi)) by c.elements_given-items.result.now) c.quantile-made.ensures.aggregated))

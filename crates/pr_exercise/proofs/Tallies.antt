@@ -1,0 +1,72 @@
+-- What is counted of lines.
+use Rattle.std.proofs.Common.{◌≡◌, ◌≢◌, ◌==◌, ℕ, ◌+◌, Bool, false, true≢false, take, drop, cond, List, [], ◌∷◌, ◌++◌, length, refl, sym, ap, ◌∙◌, arith}
+use Rattle.std.proofs.lemmas.List.Sums.{sum_by-cons}
+use Rattle.std.specs.Prelude.{codes, count_by}
+use Rattle.std.specs.List.{position_or_len}
+use Rattle.pr_outside.specs.pr_words.Lines.{is_feed, lines_of}
+use Rattle.pr_exercise.specs.Summary.{begins_with, number_line, summary_of, tells_fault}
+use Rattle.pr_exercise.specs.private.Tallies.{counted, counted_all, no_lines, summary_by, tally_of}
+use Rattle.pr_exercise.specs.declared.tally.Tally.{Tally}
+use Rattle.pr_exercise.proofs.Lines.{first_line}
+
+pub counted_append : (t : Tally) (xs ys : List (List ℕ)) → counted_all t (xs ++ ys) ≡ counted_all (counted_all t xs) ys
+counted_append t [] ys = refl
+counted_append t (line ∷ lines) ys = counted_append (counted t line) lines ys
+
+count_more : (p : List ℕ → Bool) (line : List ℕ) (lines : List (List ℕ)) → count_by p (line ∷ lines) ≡ cond (p line) 1 0 + count_by p lines
+count_more p line lines = sum_by-cons (λ y. cond (p y) 1 0) line lines
+
+record Counted (t now : Tally) (lines : List (List ℕ)) : Type 0 where
+  lines_more : now.lines ≡ t.lines + length lines
+  samples_more : now.samples ≡ t.samples + count_by (begins_with (codes "sample")) lines
+  stales_more : now.stales ≡ t.stales + count_by (begins_with (codes "stale")) lines
+  sends_more : now.sends ≡ t.sends + count_by (begins_with (codes "send")) lines
+  faults_more : now.faults ≡ t.faults + count_by tells_fault lines
+
+counts : (t : Tally) (lines : List (List ℕ)) → Counted t (counted_all t lines) lines
+counts t [] = record { lines_more = omega arith; samples_more = omega arith; stales_more = omega arith; sends_more = omega arith; faults_more = omega arith }
+counts t (line ∷ lines) =
+    let c = counts (counted t line) lines in
+    record {
+      lines_more = omega (arith, c.lines_more);
+      samples_more = omega (arith, c.samples_more, count_more (begins_with (codes "sample")) line lines);
+      stales_more = omega (arith, c.stales_more, count_more (begins_with (codes "stale")) line lines);
+      sends_more = omega (arith, c.sends_more, count_more (begins_with (codes "send")) line lines);
+      faults_more = omega (arith, c.faults_more, count_more tells_fault line lines);
+    }
+
+-- the text of a tally is the summary of its lines
+pub summary_is : (n : ℕ) (t : Tally) (lines : List (List ℕ)) → t ≡ tally_of lines → summary_by n t ≡ summary_of n lines
+summary_is n t lines is =
+    let c = counts no_lines lines in
+    ap (summary_by n) is
+    ∙ by (tally_of lines).lines (length lines) (tally_of lines).samples (count_by (begins_with (codes "sample")) lines)
+    (tally_of lines).stales (count_by (begins_with (codes "stale")) lines) (tally_of lines).sends (count_by (begins_with (codes "send")) lines)
+    (tally_of lines).faults (count_by tells_fault lines)
+    c.lines_more c.samples_more c.stales_more c.sends_more c.faults_more
+  where
+    text : ℕ → ℕ → ℕ → ℕ → ℕ → List ℕ
+    text a b c d e = number_line (codes "exercise") n
+        ++ (number_line (codes "lines") a ++ (number_line (codes "samples") b ++ (number_line (codes "stales") c ++ (number_line (codes "sends") d ++ number_line (codes "faults") e))))
+
+    by : (a x b y c z d u e v : ℕ) → a ≡ 0 + x → b ≡ 0 + y → c ≡ 0 + z → d ≡ 0 + u → e ≡ 0 + v → text a b c d e ≡ text x y z u v
+    by a x b y c z d u e v p q r s o =
+        let p1 : a ≡ x = omega (arith, p) in
+        let q1 : b ≡ y = omega (arith, q) in
+        let r1 : c ≡ z = omega (arith, r) in
+        let s1 : d ≡ u = omega (arith, s) in
+        let o1 : e ≡ v = omega (arith, o) in
+        cc
+
+-- the first line of a text that is left was counted
+pub count_on : (t u : Tally) (rest line behind : List ℕ) → rest ≢ [] → u ≡ counted t line → line ≡ take (position_or_len is_feed rest) rest
+    → behind ≡ drop 1 (drop (position_or_len is_feed rest) rest) → counted_all u (lines_of behind) ≡ counted_all t (lines_of rest)
+count_on t u rest line behind some is front back =
+    ap (λ (x : Tally). counted_all x (lines_of behind)) is
+    ∙ ap (λ (l : List ℕ). counted_all (counted t l) (lines_of behind)) front
+    ∙ ap (λ (b : List ℕ). counted_all (counted t (take (position_or_len is_feed rest) rest)) (lines_of b)) back
+    ∙ sym (ap (counted_all t) (first_line rest some))
+
+pub is_some : (rest : List ℕ) (b : Bool) → b ≡ (length rest == 0) → b ≡ false → rest ≢ []
+is_some [] b is test none = absurd (true≢false (sym is ∙ test))
+is_some (x ∷ rest) b is test none = absurd (cc)

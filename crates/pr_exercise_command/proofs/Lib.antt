@@ -1,9 +1,0 @@
-pub mod Lines
-pub mod Tallies
-pub mod Turns
-pub mod Progress
-pub mod Meaning
-pub mod Ended
-pub mod Opening
-pub mod Over
-pub use Rattle.pr_run.proofs.ExpressionExamples as RunExpressionExamples

@@ -1,2 +1,0 @@
-mod Meant
-mod FiringAlerts

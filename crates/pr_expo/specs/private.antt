@@ -1,0 +1,9 @@
+pub mod Faults
+pub mod Grammar
+pub mod GrammarTable
+pub mod Keeping
+pub mod KnownNames
+pub mod Marking
+pub mod PlainLine
+pub mod Runs
+pub mod Sound

@@ -1,9 +1,0 @@
-use Rattle.pr_expo_line.specs.Runs.{lengthens_number}
-use Rattle.pr_expo_line.proofs.RunSteps.{no_boundary, no_run}
-use Rattle.pr_expo_line.proofs.runs.number_len.Goals as goal
-
-pub returns-in_default : goal.returns-in_default
-returns-in_default c = record {
-  boundary = no_boundary c.args.text.now c.utf8.text;
-  run = no_run (lengthens_number c.args.place) c.args.text.now;
-}

@@ -1,4 +1,0 @@
-pub mod Points
-pub mod Going
-pub mod Feeding
-pub use Rattle.pr_intake.proofs.PutsPutting

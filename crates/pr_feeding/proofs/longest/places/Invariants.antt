@@ -1,7 +1,0 @@
-use Rattle.std.proofs.Common.{◌≡◌, fold, take}
-use Rattle.pr_testfile.specs.Series.{longer}
-use Rattle.pr_feeding.proofs.longest.places.Given as goal
-
--- the longest of the first ones
-abbrev pub invariant-loop-one : goal.invariant-loop-one
-invariant-loop-one l = l.most ≡ fold longer 0 (take l.one-index l.series)

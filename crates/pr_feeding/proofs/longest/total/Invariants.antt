@@ -1,7 +1,0 @@
-use Rattle.std.proofs.Common.{◌≡◌, ◌*◌, ◌^◌, ◌≤◌, take}
-use Rattle.pr_inputs.specs.Points.{total}
-use Rattle.pr_feeding.proofs.longest.total.Given as goal
-
--- the places of the first ones
-abbrev pub invariant-loop-number : goal.invariant-loop-number
-invariant-loop-number l = (l.total ≡ total (take l.number l.stretches)) × (l.total ≤ l.number * 2 ^ 32)

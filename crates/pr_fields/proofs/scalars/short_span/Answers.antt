@@ -1,7 +1,0 @@
-use Rattle.std.proofs.Common.{sym, ap, ◌∙◌}
-use Rattle.pr_fields.specs.Scalars.{short_span}
-use Rattle.pr_fields.proofs.Spans.{no_short_span}
-use Rattle.pr_fields.proofs.scalars.short_span.Goals as goal
-
-pub returns-in-Err : goal.returns-in-Err
-returns-in-Err c = sym (no_short_span c.as_bytes.result.now c.in-Err.field-0 c.in-Err.ensures.only) ∙ ap short_span c.as_bytes.ensures.value

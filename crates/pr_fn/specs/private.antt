@@ -1,0 +1,8 @@
+pub mod Bounds
+pub mod Buckets
+pub mod Dates
+pub mod Faults
+pub mod Gathered
+pub mod Rows
+pub mod Separated
+pub mod ValueFunctions

@@ -1,7 +1,0 @@
-use Rattle.pr_forms.proofs.Taking.{taking}
-use Rattle.pr_forms_sample.specs.Tree.{seen_token}
-use Rattle.pr_forms_sample.specs.Grammar.{production, table, sign_at, at}
-use Rattle.pr_forms_sample.proofs.parser.after.Goals as goal
-
-pub returns-clause-read : goal.returns-clause-read
-returns-clause-read c = taking seen_token production table (sign_at c.args.wanted) at (λ x. x.0) (λ x. x.1.now) c.take.result _ c.take.ensures (λ x r h. h)

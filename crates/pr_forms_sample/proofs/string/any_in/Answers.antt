@@ -1,7 +1,0 @@
-use Rattle.pr_forms.proofs.Taking.{taking}
-use Rattle.pr_forms_sample.specs.Glyphs.{part_of}
-use Rattle.pr_forms_sample.specs.Quoted.{production, table, any_at, byte_value}
-use Rattle.pr_forms_sample.proofs.string.any_in.Goals as goal
-
-pub returns-clause-read : goal.returns-clause-read
-returns-clause-read c = taking part_of production table any_at byte_value (λ x. x.0) (λ x. x.1.now) c.take.result _ c.take.ensures (λ x r h. h)

@@ -1,9 +1,0 @@
-pub mod Tree
-pub mod Grammar
-pub mod Reader
-pub mod Depth
-pub mod Faults
-pub mod Glyphs
-pub mod Quoted
-pub mod Words
-pub mod TextReader

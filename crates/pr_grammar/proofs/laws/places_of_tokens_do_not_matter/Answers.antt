@@ -1,5 +1,0 @@
-use Rattle.pr_grammar.proofs.PlacesLaw.{derived_elsewhere}
-use Rattle.pr_grammar.proofs.laws.places_of_tokens_do_not_matter.Goals as goal
-
-pub returns : goal.returns
-returns c = derived_elsewhere

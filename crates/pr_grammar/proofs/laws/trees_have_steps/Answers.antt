@@ -1,5 +1,0 @@
-use Rattle.pr_grammar.proofs.StepsLaw.{read_has_steps}
-use Rattle.pr_grammar.proofs.laws.trees_have_steps.Goals as goal
-
-pub returns : goal.returns
-returns c = λ ts t d. read_has_steps ts d.0 t d.1

@@ -1,8 +1,0 @@
-use Rattle.pr_forms.proofs.Taking.{taking}
-use Rattle.pr_grammar.specs.Seen.{see}
-use Rattle.pr_grammar.specs.Grammar.{production, grouping_at, grouper}
-use Rattle.pr_grammar.specs.GrammarTable.{table}
-use Rattle.pr_grammar.proofs.tokens.grouping_in.Goals as goal
-
-pub returns-clause-read : goal.returns-clause-read
-returns-clause-read c = taking see production table grouping_at grouper (λ x. x.0) (λ x. x.1.now) c.take.result _ c.take.ensures (λ x r h. h)

@@ -1,8 +1,0 @@
-use Rattle.pr_forms.proofs.Taking.{taking}
-use Rattle.pr_grammar.specs.Seen.{see}
-use Rattle.pr_grammar.specs.Grammar.{production, operator_at, operation}
-use Rattle.pr_grammar.specs.GrammarTable.{table}
-use Rattle.pr_grammar.proofs.tokens.operator_in.Goals as goal
-
-pub returns-clause-read : goal.returns-clause-read
-returns-clause-read c = taking see production table (operator_at c.args.level) operation (λ x. x.0) (λ x. x.1.now) c.take.result _ c.take.ensures (λ x r h. h)

@@ -1,0 +1,9 @@
+pub mod Asked
+pub mod Carrying
+pub mod Evaluating
+pub mod Keeping
+pub mod Matching
+pub mod Named
+pub mod Restoring
+pub mod Waiting
+pub mod Within

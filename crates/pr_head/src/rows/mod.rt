@@ -1,0 +1,10 @@
+//! The rows of a store: read into a head, and kept.
+mod fault;
+mod keeping;
+mod loading;
+mod opening;
+
+pub use fault::StartError;
+pub use keeping::keep;
+pub use loading::load;
+pub use opening::history;

@@ -1,5 +1,0 @@
-use Rattle.pr_history.proofs.Lawful.{put_lawful}
-use Rattle.pr_history.proofs.laws.put_keeps_lawful.Goals as goal
-
-pub returns : goal.returns
-returns c = put_lawful

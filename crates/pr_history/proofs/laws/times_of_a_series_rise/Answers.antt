@@ -1,5 +1,0 @@
-use Rattle.pr_history.proofs.Lawful.{times_rise}
-use Rattle.pr_history.proofs.laws.times_of_a_series_rise.Goals as goal
-
-pub returns : goal.returns
-returns c = times_rise

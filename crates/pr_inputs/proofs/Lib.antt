@@ -1,4 +1,0 @@
-pub mod Parts
-pub mod Even
-pub mod Keeping
-mod Computing

@@ -1,6 +1,0 @@
-use Rattle.std.proofs.Common.{◌∙◌}
-use Rattle.pr_intake.proofs.Sets.{set_among}
-use Rattle.pr_intake.proofs.marking.is_among.Goals as goal
-
-pub returns : goal.returns
-returns c = c.contains.ensures ∙ set_among c.args.labels.now c.args.sets.now.keys

@@ -1,6 +1,0 @@
-use Rattle.std.proofs.Common.{sym, ◌∙◌}
-use Rattle.pr_intake.proofs.Unchanged.{no_markers}
-use Rattle.pr_intake.proofs.same.are_same.Goals as goal
-
-pub returns : goal.returns
-returns c = λ now same. no_markers now c.args.old.now c.args.new.now (sym c.eq.ensures ∙ same)

@@ -1,0 +1,11 @@
+pub mod Calls
+pub mod Counts
+pub mod Found
+pub mod Kept
+pub mod Opened
+pub mod Ran
+pub mod Refusals
+pub mod Statements
+pub mod Store
+pub mod Tables
+pub mod Texts

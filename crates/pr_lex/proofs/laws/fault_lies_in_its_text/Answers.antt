@@ -1,6 +1,0 @@
-use Rattle.std.proofs.Common.{arith}
-use Rattle.pr_lex.proofs.FaultPlaces.{fault_lies_in}
-use Rattle.pr_lex.proofs.laws.fault_lies_in_its_text.Goals as goal
-
-pub returns : goal.returns
-returns c = λ text place kind x. let h = fault_lies_in x in omega (arith, h)

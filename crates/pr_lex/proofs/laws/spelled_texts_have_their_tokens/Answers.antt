@@ -1,5 +1,0 @@
-use Rattle.pr_lex.proofs.Spelling.{found}
-use Rattle.pr_lex.proofs.laws.spelled_texts_have_their_tokens.Goals as goal
-
-pub returns : goal.returns
-returns c = λ text ks s. let r = found 0 s in (r.tokens, r.are, r.kinds)

@@ -1,7 +1,0 @@
-use Rattle.pr_strings.proofs.FormsTaking.{taking}
-use Rattle.pr_lex.specs.Number.{production, letter_of, digit_at, mark}
-use Rattle.pr_lex.proofs.number.digit_in.Goals as goal
-use Rattle.pr_lex.specs.NumberTable.{table}
-
-pub returns-clause-read : goal.returns-clause-read
-returns-clause-read c = taking letter_of production table digit_at (λ _. mark) (λ x. x.0) (λ x. x.1.now) c.take.result _ c.take.ensures (λ x r h. h)

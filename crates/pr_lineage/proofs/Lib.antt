@@ -1,3 +1,0 @@
-pub mod RecordOrder
-pub mod DueAlerts
-pub use Rattle.pr_history.proofs.LabelsLabelLaws

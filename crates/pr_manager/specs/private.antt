@@ -1,0 +1,9 @@
+pub mod Coming
+pub mod Continuing
+pub mod Finding
+pub mod Keeping
+pub mod Loading
+pub mod Naming
+pub mod Passing
+pub mod Replacing
+pub mod Rounds

@@ -1,0 +1,4 @@
+//! Files that are named, loaded one after another.
+mod loading;
+
+pub use loading::{Taker, load_each};

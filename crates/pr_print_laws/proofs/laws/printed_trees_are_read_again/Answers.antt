@@ -1,8 +1,0 @@
-use Rattle.pr_print_laws.proofs.Printed.{has_kinds, has_tree}
-use Rattle.pr_print_laws.proofs.laws.printed_trees_are_read_again.Goals as goal
-
-pub returns-clause-tokens : goal.returns-clause-tokens
-returns-clause-tokens c = has_kinds
-
-pub returns-clause-again : goal.returns-clause-again
-returns-clause-again c = has_tree

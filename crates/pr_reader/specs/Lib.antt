@@ -1,4 +1,0 @@
-pub mod Taken
-pub mod LineReading
-pub mod Reading
-pub use Rattle.pr_script.specs as pr_script

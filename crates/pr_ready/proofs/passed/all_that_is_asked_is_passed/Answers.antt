@@ -1,5 +1,0 @@
-use Rattle.pr_ready.proofs.Passing.{all_passed}
-use Rattle.pr_ready.proofs.passed.all_that_is_asked_is_passed.Goals as goal
-
-pub returns : goal.returns
-returns c = all_passed

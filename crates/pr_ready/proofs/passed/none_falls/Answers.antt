@@ -1,5 +1,0 @@
-use Rattle.pr_ready.proofs.Falling.{asked_falls_not}
-use Rattle.pr_ready.proofs.passed.none_falls.Goals as goal
-
-pub returns : goal.returns
-returns c = asked_falls_not

@@ -1,0 +1,15 @@
+pub mod AlertStanding
+pub mod Coming
+pub mod Going
+pub mod Making
+pub mod Merging
+pub mod Outcomes
+pub mod Restoring
+pub mod Rows
+pub mod Sampling
+pub mod Setting
+pub mod Standing
+pub mod Templates
+pub mod Turns
+pub mod Written
+pub mod WrittenTimes

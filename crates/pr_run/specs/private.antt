@@ -1,0 +1,5 @@
+pub mod Beginning
+pub mod Events
+pub mod Files
+pub mod Keeping
+pub mod Standing

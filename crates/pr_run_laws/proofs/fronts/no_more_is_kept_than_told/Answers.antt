@@ -1,5 +1,0 @@
-use Rattle.pr_run_laws.proofs.Lines.{kept_in_part}
-use Rattle.pr_run_laws.proofs.fronts.no_more_is_kept_than_told.Goals as goal
-
-pub returns : goal.returns
-returns c = λ e f front. kept_in_part e f front.answered front.count front.within front.text front.whole front.kept

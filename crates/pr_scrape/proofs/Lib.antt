@@ -1,8 +1,0 @@
-pub mod Names
-pub mod ByName
-pub mod Making
-pub mod Tracking
-pub mod Tallying
-pub mod Answering
-pub mod Bodies
-pub mod KnownTargets

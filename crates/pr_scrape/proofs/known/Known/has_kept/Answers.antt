@@ -1,5 +1,0 @@
-use Rattle.std.proofs.Common.{sym, ◌∙◌}
-use Rattle.pr_scrape.proofs.known.Known.has_kept.Goals as goal
-
-pub returns : goal.returns
-returns c = λ same. sym c.self.view_is ∙ c.are_same.ensures c.self.inside.tracked c.self.invariant same

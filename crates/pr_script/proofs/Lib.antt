@@ -1,9 +1,0 @@
-pub mod Utf8
-pub mod Samples
-pub mod Blocks
-pub mod Targets
-pub mod FieldTexts
-pub mod NumberTexts
-pub mod NamedFiles
-pub mod EventTexts
-pub mod BadLines

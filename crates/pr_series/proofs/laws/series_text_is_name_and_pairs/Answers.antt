@@ -1,9 +1,0 @@
-use Rattle.pr_series.proofs.PartsRead.{series_read}
-use Rattle.pr_series.proofs.PartsKnown.{series_known}
-use Rattle.pr_series.proofs.laws.series_text_is_name_and_pairs.Goals as goal
-
-pub returns-clause-read : goal.returns-clause-read
-returns-clause-read c = series_read
-
-pub returns-clause-only : goal.returns-clause-only
-returns-clause-only c = series_known

@@ -1,0 +1,7 @@
+pub mod Carried
+pub mod Growing
+pub mod Kinds
+pub mod Later
+pub mod Places
+pub mod Successions
+pub mod Windows

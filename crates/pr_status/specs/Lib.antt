@@ -1,6 +1,0 @@
-pub mod Status
-pub mod Outside
-pub mod Ends
-pub mod Asks
-pub mod Words
-pub mod Opening

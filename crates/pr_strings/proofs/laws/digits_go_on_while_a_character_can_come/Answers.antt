@@ -1,5 +1,0 @@
-use Rattle.pr_strings.proofs.Characters.{fits_is}
-use Rattle.pr_strings.proofs.laws.digits_go_on_while_a_character_can_come.Goals as goal
-
-pub returns : goal.returns
-returns c = λ limit left number l. fits_is limit left number l

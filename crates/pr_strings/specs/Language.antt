@@ -1,9 +1,0 @@
--- Strings as a language.
-use Rattle.std.specs.Prelude.{ℕ}
-use Rattle.pr_forms.specs.Language.{Language}
-use Rattle.pr_strings.specs.Strings.{production, letter_of, Letter, Rule, Value}
-use Rattle.pr_strings.specs.StringTable.{table}
-
--- the language of strings, over bytes
-abbrev pub text_strings : Language ℕ Letter Rule Value
-text_strings = record { production = production; table = table; see = letter_of }

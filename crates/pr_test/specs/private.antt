@@ -1,0 +1,4 @@
+pub mod Names
+pub mod Running
+pub mod Taking
+pub mod Worked

@@ -1,8 +1,0 @@
-use Rattle.pr_test_rounds.proofs.Coming.{place_comes, world_is}
-use Rattle.pr_test_rounds.proofs.laws.what_has_come_is_what_happens.Goals as goal
-
-pub returns-clause-place : goal.returns-clause-place
-returns-clause-place c = λ input every groups s rounds place n round now w low early h. (place_comes input every groups s rounds place n round now w low early h).1
-
-pub returns-clause-seen : goal.returns-clause-seen
-returns-clause-seen c = world_is

@@ -1,2 +1,0 @@
-pub mod Sooner
-pub mod Rounds

@@ -1,2 +1,0 @@
-mod Computing
-mod Successes

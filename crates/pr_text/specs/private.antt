@@ -1,0 +1,3 @@
+pub mod LineReading
+pub mod Reading
+pub mod Started

@@ -1,0 +1,2 @@
+pub mod SpanParts
+pub mod SpanReader

@@ -1,0 +1,6 @@
+pub mod Answered
+pub mod Built
+pub mod Checking
+pub mod Examples
+pub mod Numbers
+pub mod Parts

@@ -1,0 +1,7 @@
+pub mod Feeding
+pub mod Kept
+pub mod Loaded
+pub mod Ordered
+pub mod Run
+pub mod Slots
+pub mod Times

@@ -1,7 +1,0 @@
-use Rattle.std.proofs.Common.{◌≡◌, ◌++◌, [], take, drop}
-use Rattle.pr_query.specs.Absence.{told_pairs}
-use Rattle.pr_values.proofs.absence.told_pairs.Given as goal
-
--- the pairs so far, and those to come
-abbrev pub invariant-loop-i : goal.invariant-loop-i
-invariant-loop-i l = l.pairs.items ++ told_pairs (take l.i l.matchers) (drop l.i l.matchers) ≡ told_pairs [] l.matchers

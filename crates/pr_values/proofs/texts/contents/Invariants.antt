@@ -1,8 +1,0 @@
-use Rattle.std.proofs.Common.{◌≡◌, map, take}
-use Rattle.pr_ast.specs.Tree.{tree_of}
-use Rattle.pr_query.specs.pr_types.Typed.{content}
-use Rattle.pr_values.proofs.texts.contents.Given as goal
-
--- the texts so far
-abbrev pub invariant-loop-arg : goal.invariant-loop-arg
-invariant-loop-arg l = l.texts.items ≡ map (λ e. content (tree_of e)) (take l.arg-index l.args)

@@ -1,9 +1,0 @@
-use Rattle.std.proofs.Common.{rules}
-use Rattle.pr_query.specs.pr_vectors.Functions.{mapped}
-use Rattle.pr_values.specs.Besides.{result_beside}
-use Rattle.pr_values.proofs.vectors.each_beside.Goals as goal
-
-pub returns-clause-answer : goal.returns-clause-answer
-returns-clause-answer c =
-    let f = result_beside c.args.beside.now in
-    c.made_at.ensures.answer (mapped f c.args.items.now) (c.map_values-made.ensures.mapped f (record { gives = λ v r k. search rules }))

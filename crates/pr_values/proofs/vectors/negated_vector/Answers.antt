@@ -1,9 +1,0 @@
-use Rattle.std.proofs.Common.{rules, Ok}
-use Rattle.pr_num.specs.Arithmetic.{negated}
-use Rattle.pr_query.specs.pr_vectors.Functions.{ValueFunction, mapped}
-use Rattle.pr_values.proofs.vectors.negated_vector.Goals as goal
-
-pub returns-clause-answer : goal.returns-clause-answer
-returns-clause-answer c =
-    let f : ValueFunction = λ v. Ok (negated v) in
-    c.made_at.ensures.answer (mapped f c.args.items.now) (c.map_values-made.ensures.mapped f (record { gives = λ v r k. search rules }))

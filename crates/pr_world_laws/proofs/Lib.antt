@@ -1,5 +1,0 @@
-pub mod Outcomes
-pub mod Selectors
-pub mod Reloaded
-pub mod AllGroups
-pub mod KeptRows

@@ -1,0 +1,10 @@
+pub mod Depth
+pub mod Derived
+pub mod Distinct
+pub mod Inner
+pub mod Legible
+pub mod Reader
+pub mod Rising
+pub mod Spots
+pub mod Worked
+pub mod YamlScanWorked

@@ -1,7 +1,0 @@
-use Rattle.std.proofs.Common.{◌∙◌, ap}
-use Rattle.pr_yaml_scan.specs.Tokens.{form_of}
-use Rattle.pr_yaml_scan.proofs.LegibleParts.{quote_inside}
-use Rattle.pr_yaml_scan.proofs.reader.token_at.Goals as goal
-
-pub quoted_at-requires-clause-legible : goal.quoted_at-requires-clause-legible
-quoted_at-requires-clause-legible c = quote_inside c.in-QuoteMark.quote c.form_of.result c.args.p.now (c.form_of.ensures ∙ ap (λ q. form_of q.here) c.p.view_is) c.in-QuoteMark.is c.requires.legible

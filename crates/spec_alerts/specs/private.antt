@@ -1,0 +1,5 @@
+pub mod Accounts
+pub mod Calls
+pub mod Examples
+pub mod NoticesExamples
+pub mod Laws

@@ -1,0 +1,4 @@
+pub mod Cost
+pub mod Examples
+pub mod RowExamples
+pub mod Laws

@@ -1,0 +1,12 @@
+pub mod Putting
+pub mod Ordering
+pub mod Faults
+pub mod Takes
+pub mod Carrying
+pub mod Keeping
+pub mod Timing
+pub mod Rounds
+pub use Rattle.spec_alerts.proofs.HistoryChoosing
+pub use Rattle.spec_alerts.proofs.HistoryLawful
+pub use Rattle.spec_alerts.proofs.HistoryPutting
+pub use Rattle.spec_alerts.proofs.HistoryStoredRows

@@ -1,0 +1,5 @@
+pub mod AggregationExamples
+pub mod Examples
+pub mod FunctionExamples
+pub mod RangeExamples
+pub mod Laws

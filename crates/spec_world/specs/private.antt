@@ -1,0 +1,5 @@
+pub mod GroupExamples
+pub mod Keeping
+pub mod Renaming
+pub mod ScrapeExamples
+pub mod Laws

@@ -1,0 +1,9 @@
+pub mod Depth
+pub mod Faults
+pub mod Glyphs
+pub mod Grammar
+pub mod Quoted
+pub mod Reader
+pub mod TextReader
+pub mod Tree
+pub mod Words
