@@ -33,12 +33,15 @@ impl Model for Series {
     ghost invariant = { λ s. IsStored (stored s.first s.samples.items (timed_at s.last_time s.last_point)) };
 }
 
-// Takes the first samples away.
+// Takes the first samples away. Where none is left, their room is given back.
 fn drop_first(samples: &mut VecDeque<Timed>, count: usize)
     ensures { samples.new.items ≡ drop count samples.old.items }
 {
     for _ in 0..count {
         let _sample = samples.pop_front();
+    }
+    if samples.is_empty() {
+        *samples = VecDeque::new(*samples.allocator());
     }
 }
 

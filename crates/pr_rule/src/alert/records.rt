@@ -70,16 +70,17 @@ fn exceeds(limit: u32, have: u64) -> bool
 }
 
 // An empty list with room for two lists.
-fn room_for(alloc: Global, records: usize, found: usize) -> Result<Vec<Record>, AllocError>
+fn room_for(
+    alloc: Global,
+    records: &[Record],
+    found: &[RuleElement],
+) -> Result<Vec<Record>, AllocError>
     ensures empty { IfOk result (λ v. v.items ≡ []) }
     ensures len { IfOk result (λ v. vec_len v ≡ 0) }
-    ensures room { IfOk result (λ v. records + found ≤ vec_capacity v) }
+    ensures room { IfOk result (λ v. length records.now + length found.now ≤ vec_capacity v) }
 {
-    let Some(total) = records.checked_add(found) else {
-        return Err(AllocError);
-    };
     let mut list = Vec::new(alloc);
-    list.reserve(total)?;
+    list.reserve(records.len() + found.len())?;
     Ok(list)
 }
 
@@ -136,7 +137,7 @@ impl Records {
         ensures exceeds { (lineage : List Occurrence) → StandsFor self.old lineage → IsRising (sets_in found.items)
             → IfErr result (λ e. Exceeds e limit (exceeding limit lineage time hold keep found.items) self.new) }
     {
-        let mut next = match room_for(self.alloc, self.list.len(), found.len()) {
+        let mut next = match room_for(self.alloc, &self.list, &found) {
             Ok(next) => next,
             Err(_) => return Err(AlertFault::Memory),
         };
