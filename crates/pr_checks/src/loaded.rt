@@ -25,8 +25,6 @@ use std::mem::replace;
 pub struct LoadedRules {
     /// The name that asked for it.
     pub name: Text,
-    /// What it holds.
-    pub bytes: Items<u8>,
     /// Its groups, in the order of the text.
     pub groups: Items<GroupDef>,
 }
@@ -80,7 +78,6 @@ fn take_bytes(
     match read(alloc, bytes.as_slice()) {
         Ok(file) => rules.files.push(LoadedRules {
             name,
-            bytes,
             groups: file.groups,
         }),
         Err(RuleError::Problems { list }) => {

@@ -153,5 +153,5 @@ below new old = λ i n at. let taking = takes continues_def new old i n at in sl
 pub are_below : (from from' : List (Option ℕ)) (new old old' all : List RuleDef) → from' ≡ from → from ≡ numbers_taken continues_def new old → old ≡ all → old' ≡ all → AreBelow (length old') from'
 are_below from from' new old old' all same e f h = subst (λ l. AreBelow (length l) from') (f ∙ sym h) (subst (AreBelow (length old)) (sym (same ∙ e)) (below new old))
 
-pub are_many : (from from' : List (Option ℕ)) (new new' all old : List RuleDef) → from' ≡ from → from ≡ numbers_taken continues_def new old → new ≡ all → new' ≡ all → length from' ≡ length new'
-are_many from from' new new' all old same e f h = ap length (same ∙ e) ∙ numbers_count continues_def new old ∙ ap length (f ∙ sym h)
+pub are_many : (from from' : List (Option ℕ)) (new old : List RuleDef) → from' ≡ from → from ≡ numbers_taken continues_def new old → length from' ≡ length new
+are_many from from' new old same e = ap length (same ∙ e) ∙ numbers_count continues_def new old

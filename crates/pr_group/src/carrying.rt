@@ -41,16 +41,11 @@ impl<R: Ranges + Drop> GroupOver<R> {
     fn take_over(&mut self, alloc: Global, old: GroupOver<R>) -> Result<(), AllocError>
         ensures { OnOk result (HasGoneOn R.fits R.last R.passed self.old old self.new) }
     {
-        let from = continued_numbers(alloc, self.def.rules.as_slice(), old.def.rules.as_slice())?;
+        let rules = self.def.rules.as_slice();
+        let from = continued_numbers(alloc, rules, old.def.rules.as_slice())?;
         let mut olds = to_take(alloc, old.rules)?;
-        carry_rules(
-            alloc,
-            self.def.rules.as_slice(),
-            &mut self.rules,
-            old.def.rules.as_slice(),
-            &mut olds,
-            &from,
-        )?;
+        let older = old.def.rules.as_slice();
+        carry_rules(alloc, rules, &mut self.rules, older, &mut olds, &from)?;
         self.leftovers = left_over(alloc, old.leftovers.as_slice(), &olds)?;
         self.last = old.last;
         self.waits = old.waits;

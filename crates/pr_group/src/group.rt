@@ -30,6 +30,7 @@ use pr_rule::tmpl::External;
 use pr_rule::{Evaluation, Remembered};
 use std::alloc::{AllocError, Global};
 use std::marker::Model;
+use std::rc::Rc;
 use std::sync::ledger::Ledger;
 
 /// A group of rules that are evaluated together, with what is kept of it from one evaluation to the
@@ -37,7 +38,8 @@ use std::sync::ledger::Ledger;
 /// rules, Alerting rules.)
 #[derive(Drop)]
 pub struct GroupOver<R> {
-    pub(crate) def: GroupDef,
+    // Other groups may be over it too.
+    pub(crate) def: Rc<GroupDef>,
     pub(crate) file: Text,
     pub(crate) step: Span,
     pub(crate) external: External,
@@ -59,9 +61,9 @@ impl<R> Model for GroupOver<R> {
 
     ghost coded = { Prim.hlevel (codes, kinds.the_row.coded) };
 
-    ghost view = { λ g. record { def = g.def; file = g.file; step = g.step; external = g.external; rules = g.rules.items; last = g.last; waits = g.waits; leftovers = g.leftovers } };
+    ghost view = { λ g. record { def = g.def.value; file = g.file; step = g.step; external = g.external; rules = g.rules.items; last = g.last; waits = g.waits; leftovers = g.leftovers } };
 
-    ghost invariant = { λ g. (0 < g.step) × ((length g.rules.items ≡ length g.def.rules) × HaveTemplates g.def) };
+    ghost invariant = { λ g. (0 < g.step) × ((length g.rules.items ≡ length g.def.value.rules) × HaveTemplates g.def.value) };
 }
 
 fn waits_of(waits: bool) -> u8
@@ -86,22 +88,22 @@ fn remembered<R: Ranges + Drop>(
 }
 
 impl<R: Ranges + Drop> GroupOver<R> {
-    /// A group to which nothing has happened. Its alerts wait for two evaluations to be restored, or
-    /// for none. The step is that of subqueries that give none, and is not 0; the external texts are
-    /// what templates see.
+    /// A group to which nothing has happened, over a definition that others may be over too. Its
+    /// alerts wait for two evaluations to be restored, or for none. The step is that of subqueries
+    /// that give none, and is not 0; the external texts are what templates see.
     pub fn new(
         alloc: Global,
-        def: GroupDef,
+        def: Rc<GroupDef>,
         file: Text,
         waits: bool,
         step: Span,
         external: External,
     ) -> Result<GroupOver<R>, AllocError>
         requires some { 0 < step }
-        requires templates { HaveTemplates def }
-        ensures keeps { (history : List Entry) → IfOk result (λ k. KeepsGroup R.fits R.last R.passed k history (fresh (waits_of waits) file (group_of_def def))) }
+        requires templates { HaveTemplates def.value }
+        ensures keeps { (history : List Entry) → IfOk result (λ k. KeepsGroup R.fits R.last R.passed k history (fresh (waits_of waits) file (group_of_def def.value))) }
         ensures settings { IfOk result (λ k. settings_of k ≡ record { subquery_step = step; external = external }) }
-        ensures def { IfOk result (λ k. k.def ≡ def) }
+        ensures def { IfOk result (λ k. k.def ≡ def.value) }
         ensures file { IfOk result (λ k. k.file ≡ file) }
         ensures passed { (history : List Entry) (i n : ℕ) (labels : List Pair) → IfOk result (λ k. passed_by R.passed k history i n labels ≡ 0) }
     {
@@ -156,19 +158,20 @@ impl<R: Ranges + Drop> GroupOver<R> {
             → reads.new ≤ reads.old + rules_cost (settings_of self.old) g time (passed_by R.passed self.old history) 0 g.rules (begun history) }
         ensures rest { self.new ≡ record self.old { rules = self.new.rules } }
     {
+        let def = self.def.as_ref();
         let at = Evaluation {
             alloc,
             time,
             step: self.step,
             external: &self.external,
-            limit: self.def.limit,
-            interval: self.def.interval,
+            limit: def.limit,
+            interval: def.interval,
             waits: self.waits > 0,
             tells,
         };
         evaluate_rules(
             &at,
-            self.def.rules.as_slice(),
+            def.rules.as_slice(),
             &mut self.rules,
             head,
             rows,

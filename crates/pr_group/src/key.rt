@@ -1,10 +1,10 @@
-// What tells a rule's kind, its name and its labels, as one text.
+// What tells a rule's kind, its name and its labels.
 ghost use Rattle.std.specs.Prelude.{◌≡◌, ◌++◌, IfOk, OnOk};
 ghost use Rattle.pr_rule.specs.spec_rules.Definitions.{name_key};
 ghost use Rattle.pr_group.specs.private.Matching.{key_of, labels_key, pair_key};
 
+use crate::continued::KeyBytes;
 use pr_ast::labels::Pair;
-use pr_ast::words_crate::Text;
 use pr_ast::words_crate::strings::write_string;
 use pr_rule::rules_crate::RuleDef;
 use std::alloc::{AllocError, Global};
@@ -33,15 +33,12 @@ fn kind_word(alert: bool) -> &'static str
 
 /// What tells which rules may go on from one another: those of one key have one kind, one name and
 /// the same labels.
-pub(crate) fn key(alloc: Global, rule: &RuleDef) -> Result<Text, AllocError>
-    ensures { IfOk result (λ t. t ≡ key_of rule.now) }
+pub(crate) fn key(alloc: Global, rule: &RuleDef) -> Result<KeyBytes, AllocError>
+    ensures { IfOk result (λ k. k ≡ key_of rule.now) }
 {
     let mut key = Vec::new(alloc);
     key.extend_from_slice(kind_word(rule.alert).as_bytes())?;
     write_string(rule.name.as_str().as_bytes(), &mut key)?;
     push_labels(&mut key, rule.labels.as_slice())?;
-    match String::from_utf8(key) {
-        Ok(key) => Ok(Text::new(key)),
-        Err(_) => Err(AllocError),
-    }
+    Ok(KeyBytes::new(key))
 }

@@ -25,6 +25,7 @@ use spec_world::rulefile::{RuleError, RuleFile, read};
 use spec_world::rules_crate::GroupDef;
 use spec_world::tmpl::External;
 use std::alloc::{AllocError, Global};
+use std::rc::Rc;
 
 // A file has fewer bytes, so that its lines can be counted.
 const FILE_LIMIT: usize = 0x1_0000_0000;
@@ -96,6 +97,7 @@ fn fresh_group<R: Ranges + Drop>(
     ensures unpassed { IfOk result (HasPassedNothing R.passed) }
     ensures fresh { (history : List Entry) → IfOk result (λ k. KeepsUnder R.fits R.last R.passed (settings_with making.now.step making.now.external.now) history k (fresh (waits_of making.now.waits) name.now (group_of_def def))) }
 {
+    let def = Rc::new(alloc, def)?;
     let file = Text::from_str(alloc, name)?;
     let external = copied(alloc, making.external)?;
     GroupOver::new(alloc, def, file, making.waits, making.step, external)

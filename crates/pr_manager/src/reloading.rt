@@ -28,24 +28,25 @@ use pr_ast::time::Ms;
 use pr_ast::words_crate::Items;
 use pr_group::head::Head;
 use pr_group::range::Ranges;
+use pr_group::rules_crate::RuleDef;
 use pr_group::{GroupOver, a_kept_group_stays};
 use spec_world::history::Entry;
 use spec_world::rulefile::laws::groups_are_sound;
 use spec_world::{NamedFile, Report};
 use std::alloc::{AllocError, Global};
 
-// How many rules groups have.
-fn count_rules<R: Ranges + Drop>(groups: &[GroupOver<R>]) -> Result<u64, AllocError>
-    ensures { IfOk result (λ n. n ≡ sum_by (λ k. length k.def.rules) groups.now) }
+// The rules of groups. That they stand in a list tells that so many can be counted.
+fn rules_of_groups<'a, R: Ranges + Drop>(
+    alloc: Global,
+    groups: &'a [GroupOver<R>],
+) -> Result<Vec<&'a RuleDef>, AllocError>
+    ensures { IfOk result (λ rules. length rules.items ≡ sum_by (λ k. length k.def.rules) groups.now) }
 {
-    let mut rules: u64 = 0;
+    let mut rules = Vec::new(alloc);
     for group in groups {
-        let more = group.def().rules.as_slice().len() as u64;
-        // no memory holds so many
-        let Some(sum) = rules.checked_add(more) else {
-            return Err(AllocError);
-        };
-        rules = sum;
+        for rule in group.def().rules.as_slice() {
+            rules.push(rule)?;
+        }
     }
     Ok(rules)
 }
@@ -66,6 +67,7 @@ fn refuse(alloc: Global, error: LoadError) -> Result<Answered, AllocError>
 
 // What is told of a reload that is accepted.
 fn report_of<R: Ranges + Drop>(
+    alloc: Global,
     groups: &[GroupOver<R>],
     added: &[Entry],
 ) -> Result<Report, AllocError>
@@ -73,7 +75,7 @@ fn report_of<R: Ranges + Drop>(
 {
     Ok(Report::Reloaded {
         groups: groups.len() as u64,
-        rules: count_rules(groups)?,
+        rules: rules_of_groups(alloc, groups)?.len() as u64,
         stale: added.len() as u64,
     })
 }
@@ -101,7 +103,7 @@ impl<R: Ranges + Drop> Manager<R> {
         self.reloaded = true;
         let added = mark_gone(alloc, head, time, &parted.gone)?;
         Ok(Answered {
-            report: report_of(&self.groups, &added)?,
+            report: report_of(alloc, &self.groups, &added)?,
             added: Items::new(added),
         })
     }

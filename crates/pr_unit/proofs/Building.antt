@@ -5,13 +5,12 @@ use Rattle.pr_slide.specs.pr_range.private.Asks.{LastAsks, Passed}
 use Rattle.pr_group.specs.spec_rules.declared.definitions.GroupDef.{GroupDef}
 use Rattle.pr_group.specs.spec_rules.Definitions.{group_of_def}
 use Rattle.pr_group.specs.spec_rules.Groups.{Group, fresh}
-use Rattle.pr_group.specs.spec_rules.Reloads.{LoadedFile}
 use Rattle.pr_group.specs.spec_rules.Settings.{Settings}
 use Rattle.pr_group.specs.spec_rules.Replays.{unwaiting_groups}
-use Rattle.spec_tests.specs.spec_world.declared.event.NamedFile.{NamedFile}
 use Rattle.pr_group.specs.private.Keeping.{KeepsGroup, KeptGroup, settings_of}
 use Rattle.pr_unit.specs.private.Kept.{KeepsGroups}
-use Rattle.pr_unit.specs.private.Loaded.{LoadAs, LoadsAs}
+use Rattle.pr_unit.specs.declared.rules.RuleGroups.{RuleGroups}
+use Rattle.pr_unit.specs.private.Loaded.{file_of}
 use Rattle.pr_unit.proofs.Keeping.{one_more_kept, none_kept}
 
 -- So many groups are kept: with those of the definitions that are left they are all.
@@ -40,36 +39,28 @@ ends_part fits last passed kept history s file rest all none h =
     (sym (append-nil h.part) ∙ ap (λ (ds : List GroupDef). h.part ++ map (fresh 0 file) (map group_of_def ds)) (sym none) ∙ h.whole) h.keeps
 
 -- Of so many files the groups are kept: with those of the files that are left they are all.
-pub record KeepsFiles {R : Type 0} (fits : R → List Entry → Type 0) (last : R → LastAsks) (passed : R → Passed) (kept : List (KeptGroup R)) (history : List Entry) (s : Settings) (rest : List NamedFile) (all : List Group) : Type 0 where
+pub record KeepsFiles {R : Type 0} (fits : R → List Entry → Type 0) (last : R → LastAsks) (passed : R → Passed) (kept : List (KeptGroup R)) (history : List Entry) (s : Settings) (rest : List RuleGroups) (all : List Group) : Type 0 where
   pub part : List Group
-  pub left : List LoadedFile
-  pub load : LoadAs rest left
   pub keeps : KeepsGroups fits last passed kept history s part
-  pub whole : part ++ unwaiting_groups left ≡ all
+  pub whole : part ++ unwaiting_groups (map file_of rest) ≡ all
 
-pub begins_files : {R : Type 0} (fits : R → List Entry → Type 0) (last : R → LastAsks) (passed : R → Passed) (history : List Entry) (s : Settings) (files : List NamedFile) (loaded : List LoadedFile)
-    → LoadAs files loaded → KeepsFiles fits last passed [] history s files (unwaiting_groups loaded)
-begins_files fits last passed history s files loaded h = record { part = []; left = loaded; load = h; keeps = none_kept fits last passed history s; whole = refl }
+pub begins_files : {R : Type 0} (fits : R → List Entry → Type 0) (last : R → LastAsks) (passed : R → Passed) (history : List Entry) (s : Settings) (files : List RuleGroups)
+    → KeepsFiles fits last passed [] history s files (unwaiting_groups (map file_of files))
+begins_files fits last passed history s files = record { part = []; keeps = none_kept fits last passed history s; whole = refl }
 
--- the groups of one more file are kept, whatever it loads as
-pub next_files : {R : Type 0} (fits : R → List Entry → Type 0) (last : R → LastAsks) (passed : R → Passed) (kept new : List (KeptGroup R)) (history : List Entry) (s : Settings) (f : NamedFile) (rest : List NamedFile) (all : List Group)
+-- the groups of one more file are kept
+pub next_files : {R : Type 0} (fits : R → List Entry → Type 0) (last : R → LastAsks) (passed : R → Passed) (kept new : List (KeptGroup R)) (history : List Entry) (s : Settings) (f : RuleGroups) (rest : List RuleGroups) (all : List Group)
     → KeepsFiles fits last passed kept history s (f ∷ rest) all
-    → ((gs : List Group) (l : LoadedFile) → LoadsAs f l → KeepsGroups fits last passed kept history s gs → KeepsGroups fits last passed new history s (gs ++ map (fresh 0 l.name) l.groups))
+    → ((gs : List Group) → KeepsGroups fits last passed kept history s gs → KeepsGroups fits last passed new history s (gs ++ map (fresh 0 f.name) (file_of f).groups))
     → KeepsFiles fits last passed new history s rest all
-next_files {R} fits last passed kept new history s f rest all h puts = by h.left h.load h.whole where
-  by : (left : List LoadedFile) → LoadAs (f ∷ rest) left → h.part ++ unwaiting_groups left ≡ all → KeepsFiles fits last passed new history s rest all
-  by [] load whole = absurd load
-  by (l ∷ ls) load whole = record {
-    part = h.part ++ map (fresh 0 l.name) l.groups;
-    left = ls;
-    load = load.1;
-    keeps = puts h.part l load.0 h.keeps;
-    whole = append_assoc h.part (map (fresh 0 l.name) l.groups) (unwaiting_groups ls) ∙ whole;
-  }
+next_files fits last passed kept new history s f rest all h puts = record {
+  part = h.part ++ map (fresh 0 f.name) (file_of f).groups;
+  keeps = puts h.part h.keeps;
+  whole = append_assoc h.part (map (fresh 0 f.name) (file_of f).groups) (unwaiting_groups (map file_of rest)) ∙ h.whole;
+}
 
-pub ends_files : {R : Type 0} (fits : R → List Entry → Type 0) (last : R → LastAsks) (passed : R → Passed) (kept : List (KeptGroup R)) (history : List Entry) (s : Settings) (rest : List NamedFile) (all : List Group)
+pub ends_files : {R : Type 0} (fits : R → List Entry → Type 0) (last : R → LastAsks) (passed : R → Passed) (kept : List (KeptGroup R)) (history : List Entry) (s : Settings) (rest : List RuleGroups) (all : List Group)
     → rest ≡ [] → KeepsFiles fits last passed kept history s rest all → KeepsGroups fits last passed kept history s all
-ends_files {R} fits last passed kept history s rest all none h = by h.left (subst (λ (fs : List NamedFile). LoadAs fs h.left) none h.load) h.whole where
-  by : (left : List LoadedFile) → LoadAs [] left → h.part ++ unwaiting_groups left ≡ all → KeepsGroups fits last passed kept history s all
-  by [] load whole = subst (KeepsGroups fits last passed kept history s) (sym (append-nil h.part) ∙ whole) h.keeps
-  by (l ∷ ls) load whole = absurd load
+ends_files fits last passed kept history s rest all none h =
+    subst (KeepsGroups fits last passed kept history s)
+    (sym (append-nil h.part) ∙ ap (λ (fs : List RuleGroups). h.part ++ unwaiting_groups (map file_of fs)) (sym none) ∙ h.whole) h.keeps

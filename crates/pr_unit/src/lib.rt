@@ -8,6 +8,7 @@ mod firing;
 mod groups;
 mod order;
 mod round;
+mod rules;
 mod run;
 mod slots;
 mod test;
@@ -27,4 +28,5 @@ pub mod slide {
     pub use pr_slide::SlidingRanges;
 }
 
+pub use rules::RuleGroups;
 pub use tests::{run_tests, run_tests_over};

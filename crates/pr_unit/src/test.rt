@@ -1,21 +1,21 @@
 // One test.
-ghost use Rattle.std.specs.Prelude.{◌≡◌, ◌+◌, ◌<◌, ◌++◌, ℕ, List, IfOk, OnOk};
+ghost use Rattle.std.specs.Prelude.{◌≡◌, ◌+◌, ◌<◌, ◌++◌, ℕ, List, IfOk, OnOk, map};
 ghost use Rattle.pr_slide.specs.spec_history.declared.entry.Entry.{Entry};
 ghost use Rattle.pr_group.specs.spec_rules.Groups.{Group};
-ghost use Rattle.pr_group.specs.spec_rules.Reloads.{LoadedFile};
 ghost use Rattle.pr_group.specs.spec_rules.Replays.{unwaiting_groups};
 ghost use Rattle.spec_tests.specs.pr_testfile.Tests.{plain_test};
 ghost use Rattle.spec_tests.specs.private.Rounds.{AreApart, AreToldApart};
 ghost use Rattle.spec_tests.specs.Events.{by_names, settings_of};
 ghost use Rattle.spec_tests.specs.Verdict.{test_verdict};
 ghost use Rattle.pr_unit.specs.private.Kept.{KeepsGroups};
-ghost use Rattle.pr_unit.specs.private.Loaded.{AreShort, LoadAs};
+ghost use Rattle.pr_unit.specs.private.Loaded.{AreAllSound, file_of};
 ghost use Rattle.pr_unit.specs.private.Run.{HasRunTest, IsNextCheck};
 ghost use Rattle.pr_unit.specs.private.Slots.{AreAllFilled, HasFilled};
 
 use crate::checks::{fill_alerts, fill_exprs, number_of};
 use crate::groups::groups_of;
 use crate::order::in_order;
+use crate::rules::RuleGroups;
 use crate::run::Run;
 use crate::slots::{empty_slots, gather};
 use crate::times::{next_time, times_of};
@@ -25,7 +25,6 @@ use pr_group::GroupOver;
 use pr_slide::range::Ranges;
 use spec_tests::Failure;
 use spec_tests::testfile::{Test, TestFile};
-use spec_tests::world::NamedFile;
 use std::alloc::{AllocError, Global};
 
 /// What is found at the checks of a test, each in its slot.
@@ -101,12 +100,12 @@ fn groups_in_order<R: Ranges + Drop>(
     alloc: Global,
     file: &TestFile,
     test: &Test,
-    rules: &[NamedFile],
+    rules: &[RuleGroups],
 ) -> Result<Vec<GroupOver<R>>, AllocError>
     requires some { 0 < file.now.interval }
-    requires short { AreShort rules.now }
-    ensures { (history : List Entry) (loaded : List LoadedFile) → LoadAs rules.now loaded
-        → IfOk result (λ v. KeepsGroups R.fits R.last R.passed v.items history (settings_of file.now.interval (plain_test test.now)) (by_names file.now.order (unwaiting_groups loaded))) }
+    requires sound { AreAllSound rules.now }
+    ensures { (history : List Entry)
+        → IfOk result (λ v. KeepsGroups R.fits R.last R.passed v.items history (settings_of file.now.interval (plain_test test.now)) (by_names file.now.order (unwaiting_groups (map file_of rules.now)))) }
 {
     let groups = groups_of(alloc, rules, file.interval, &test.external)?;
     in_order(alloc, file.order.as_slice(), groups)
@@ -121,13 +120,13 @@ pub(crate) fn run_test<R: Ranges + Drop>(
     file: &TestFile,
     index: usize,
     test: &Test,
-    rules: &[NamedFile],
+    rules: &[RuleGroups],
     failures: &mut Vec<Failure>,
 ) -> Result<(), AllocError>
     requires some { 0 < file.now.interval }
-    requires short { AreShort rules.now }
-    ensures { (loaded : List LoadedFile) → LoadAs rules.now loaded → AreToldApart loaded
-        → OnOk result (failures.new.items ≡ failures.old.items ++ test_verdict file.now.interval (by_names file.now.order (unwaiting_groups loaded)) (index + 1, plain_test test.now)) }
+    requires sound { AreAllSound rules.now }
+    ensures { AreToldApart (map file_of rules.now)
+        → OnOk result (failures.new.items ≡ failures.old.items ++ test_verdict file.now.interval (by_names file.now.order (unwaiting_groups (map file_of rules.now))) (index + 1, plain_test test.now)) }
 {
     let groups: Vec<GroupOver<R>> = groups_in_order(alloc, file, test, rules)?;
     let run = Run::begin(alloc, groups, &test.input)?;

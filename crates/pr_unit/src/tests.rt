@@ -6,8 +6,9 @@ ghost use Rattle.pr_group.specs.spec_rules.Reloads.{LoadedFile};
 ghost use Rattle.spec_tests.specs.spec_world.Rounds.{all_loaded};
 ghost use Rattle.spec_tests.specs.pr_testfile.File.{plain_file};
 ghost use Rattle.spec_tests.specs.Verdict.{verdict};
-ghost use Rattle.pr_unit.specs.private.Loaded.{AreShort};
+ghost use Rattle.pr_unit.specs.private.Loaded.{AreAllSound, AreShort, file_of};
 
+use crate::rules::{RuleGroups, read_files};
 use crate::test::run_test;
 use pr_slide::SlidingRanges;
 use pr_slide::range::Ranges;
@@ -26,13 +27,14 @@ use std::alloc::{AllocError, Global};
 pub fn run_tests_over<R: Ranges + Drop>(
     alloc: Global,
     file: &TestFile,
-    rules: &[NamedFile],
+    rules: &[RuleGroups],
 ) -> Result<Vec<Failure>, AllocError>
     // A test file that is read has an interval above 0 (`intervals_are_above_0` of pr_testfile).
     requires some { 0 < file.now.interval }
-    requires short { AreShort rules.now }
-    requires names { IsDistinct bytes_eq (map (λ f. f.name) rules.now) }
-    ensures { (loaded : List LoadedFile) → all_loaded rules.now ≡ Ok loaded → IfOk result (λ v. v.items ≡ verdict (plain_file file.now) loaded) }
+    // So is what is read of a text (`read_is_sound` of `proofs/Loading.antt`).
+    requires sound { AreAllSound rules.now }
+    requires names { IsDistinct bytes_eq (map (λ r. r.name) rules.now) }
+    ensures { IfOk result (λ v. v.items ≡ verdict (plain_file file.now) (map file_of rules.now)) }
 {
     let mut failures = Vec::new(alloc);
     let tests = file.tests.as_slice();
@@ -42,7 +44,8 @@ pub fn run_tests_over<R: Ranges + Drop>(
     Ok(failures)
 }
 
-/// The same, with ranges that slide from one evaluation to the next.
+/// The same over the texts of rule files, each of which is read once, with ranges that slide from one
+/// evaluation to the next.
 ///
 /// # Errors
 /// Want of memory.
@@ -56,5 +59,6 @@ pub fn run_tests(
     requires names { IsDistinct bytes_eq (map (λ f. f.name) rules.now) }
     ensures { (loaded : List LoadedFile) → all_loaded rules.now ≡ Ok loaded → IfOk result (λ v. v.items ≡ verdict (plain_file file.now) loaded) }
 {
-    run_tests_over::<SlidingRanges>(alloc, file, rules)
+    let read = read_files(alloc, rules)?;
+    run_tests_over::<SlidingRanges>(alloc, file, &read)
 }

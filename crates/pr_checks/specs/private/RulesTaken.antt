@@ -1,5 +1,5 @@
 -- What is made of the rule files that are found.
-use Rattle.std.specs.Prelude.{◌≡◌, ◌^◌, ◌<◌, ℕ, List, ◌++◌, length, map}
+use Rattle.std.specs.Prelude.{◌≡◌, ℕ, List, ◌++◌, map}
 use Rattle.std.specs.List.{AllByRecursion, IsDistinct}
 use Rattle.std.specs.Str.{bytes_eq}
 use Rattle.spec_world.specs.pr_rulefile.File.{gives_file, rule_file_of}
@@ -20,10 +20,10 @@ rules_of r = record { wrong = r.wrong; files = map loaded_of r.files }
 abbrev pub with_wrong : Rules → List ℕ → Rules
 with_wrong r lines = record { wrong = r.wrong ++ lines; files = r.files }
 
--- It is short enough to be read, and nothing is wrong with it: its groups are those of its text.
+-- Nothing is wrong with it: its groups are those of a text.
 pub record IsRuleFile (f : LoadedRules) : Type 0 where
-  pub short : length f.bytes < 2 ^ 32
-  pub good : rule_file_of f.bytes ≡ gives_file (map group_of_def f.groups)
+  pub text : List ℕ
+  pub good : rule_file_of text ≡ gives_file (map group_of_def f.groups)
 
 -- Nothing is wrong with the rule files that are kept of these names. Where all names differ, theirs
 -- differ from each other and from those that are still to be read.

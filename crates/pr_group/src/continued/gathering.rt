@@ -5,20 +5,17 @@ ghost use Rattle.pr_ast.specs.private.Print.{tree_text};
 ghost use Rattle.pr_rule.specs.spec_rules.private.Carried.{range_uses, uses_under};
 
 use crate::continued::source::Source;
-use pr_ast::words_crate::Text;
+use pr_ast::words_crate::Items;
 use pr_ast::{Expr, ExprKind, Func, print};
 use std::alloc::{AllocError, Global};
 
 // The printed text of an expression.
-fn printed(alloc: Global, e: &Expr) -> Result<Text, AllocError>
-    ensures { IfOk result (λ t. t ≡ tree_text (tree_of e.now)) }
+fn printed(alloc: Global, e: &Expr) -> Result<Items<u8>, AllocError>
+    ensures { IfOk result (λ text. text ≡ tree_text (tree_of e.now)) }
 {
     let mut text = Vec::new(alloc);
     print(e, &mut text)?;
-    match String::from_utf8(text) {
-        Ok(text) => Ok(Text::new(text)),
-        Err(_) => Err(AllocError),
-    }
+    Ok(Items::new(text))
 }
 
 // Those of an expression, which may be an argument of a function.

@@ -2,8 +2,9 @@ ghost use Rattle.std.specs.Prelude.{◌≡◌, ◌++◌, codes, IfOk};
 ghost use Rattle.pr_rule.specs.spec_rules.private.Carried.{func_name};
 ghost use Rattle.pr_group.specs.private.Waiting.{key_of};
 
+use crate::continued::key_bytes::KeyBytes;
 use pr_ast::Func;
-use pr_ast::words_crate::Text;
+use pr_ast::words_crate::Items;
 use std::alloc::{AllocError, Global};
 use std::marker::Model;
 
@@ -11,7 +12,7 @@ use std::marker::Model;
 /// it stands under one. Contracts see both as a use of a range.
 #[derive(Drop)]
 pub(crate) struct Source {
-    printed: Text,
+    printed: Items<u8>,
     func: Option<Func>,
 }
 
@@ -34,19 +35,20 @@ fn func_name(func: Option<Func>) -> &'static str
 }
 
 impl Source {
-    pub(crate) fn new(printed: Text, func: Option<Func>) -> Source
+    pub(crate) fn new(printed: Items<u8>, func: Option<Func>) -> Source
         ensures { result ≡ record { printed = printed; func = func } }
     {
         Source { printed, func }
     }
 
     /// What tells its kind: those of one key have one printed text and stand under one function.
-    pub(crate) fn key(&self, alloc: Global) -> Result<Text, AllocError>
-        ensures { IfOk result (λ t. t ≡ key_of self.now) }
+    pub(crate) fn key(&self, alloc: Global) -> Result<KeyBytes, AllocError>
+        ensures { IfOk result (λ k. k ≡ key_of self.now) }
     {
-        let mut key = String::from_str(alloc, func_name(self.func))?;
-        key.push_str("(")?;
-        key.push_str(self.printed.as_str())?;
-        Ok(Text::new(key))
+        let mut key = Vec::new(alloc);
+        key.extend_from_slice(func_name(self.func).as_bytes())?;
+        key.extend_from_slice(b"(")?;
+        key.extend_from_slice(self.printed.as_slice())?;
+        Ok(KeyBytes::new(key))
     }
 }

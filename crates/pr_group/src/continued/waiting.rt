@@ -3,8 +3,8 @@ ghost use Rattle.std.specs.Prelude.{◌≡◌, ◌++◌, ◌∷◌, [], List, �
 ghost use Rattle.std.specs.Str.{bytes_eq};
 ghost use Rattle.pr_group.specs.private.Waiting.{first_of_queue, waiting_for};
 
+use crate::continued::key_bytes::KeyBytes;
 use indexmap::IndexMap;
-use pr_ast::words_crate::Text;
 use std::alloc::{AllocError, Global};
 use std::collections::VecDeque;
 use std::marker::Model;
@@ -50,7 +50,7 @@ impl Queue {
 /// Numbers by keys. Contracts see each key with its numbers, in order.
 #[derive(Drop)]
 pub struct NumbersByKey {
-    queues: IndexMap<Text, Queue>,
+    queues: IndexMap<KeyBytes, Queue>,
 }
 
 impl Model for NumbersByKey {
@@ -75,7 +75,7 @@ impl NumbersByKey {
     ///
     /// # Errors
     /// Where memory runs out.
-    pub fn push(&mut self, alloc: Global, key: Text, number: usize) -> Result<(), AllocError>
+    pub fn push(&mut self, alloc: Global, key: KeyBytes, number: usize) -> Result<(), AllocError>
         ensures { OnOk result ((q : List ℕ) → waiting_for self.new q ≡ cond (bytes_eq key q) (waiting_for self.old q ++ number ∷ []) (waiting_for self.old q)) }
     {
         match self.queues.get_mut(&key) {
@@ -88,7 +88,7 @@ impl NumbersByKey {
     }
 
     /// The first number that waits under a key, which waits no more.
-    pub fn take(&mut self, key: &Text) -> Option<usize>
+    pub fn take(&mut self, key: &KeyBytes) -> Option<usize>
         ensures first { result ≡ first_of_queue (waiting_for self.old key.now) }
         ensures rest { (q : List ℕ) → waiting_for self.new q ≡ cond (bytes_eq key.now q) (drop 1 (waiting_for self.old q)) (waiting_for self.old q) }
     {

@@ -9,15 +9,15 @@ use Rattle.pr_checks.proofs.loaded.take_bytes.Goals as goal
 pub returns-in-Ok-clause-taken : goal.returns-in-Ok-clause-taken
 returns-in-Ok-clause-taken c =
     on_ok _ _ _ _ c.push.result
-    (λ e. file_taken c.args.rules.now (record { wrong = c.args.rules.now.wrong; files = c.push.new.self }) (record { name = c.args.name; bytes = c.args.bytes; groups = c.in-Ok.file.groups }) (rule_file_of c.args.bytes) refl e
+    (λ e. file_taken c.args.rules.now (record { wrong = c.args.rules.now.wrong; files = c.push.new.self }) (record { name = c.args.name; groups = c.in-Ok.file.groups }) (rule_file_of c.args.bytes) refl e
     (ap rule_file_of (sym c.as_slice.ensures) ∙ c.in-Ok.ensures.file))
     c.push.ensures.ok
 
 pub returns-in-Ok-clause-kept : goal.returns-in-Ok-clause-kept
 returns-in-Ok-clause-kept c =
     on_ok _ _ _ _ c.push.result
-    (λ e. keeps_one c.args.rules.now.files c.push.new.self (record { name = c.args.name; bytes = c.args.bytes; groups = c.in-Ok.file.groups }) c.args.name e refl
-    (record { short = c.requires; good = ap rule_file_of (sym c.as_slice.ensures) ∙ c.in-Ok.ensures.file }))
+    (λ e. keeps_one c.args.rules.now.files c.push.new.self (record { name = c.args.name; groups = c.in-Ok.file.groups }) c.args.name e refl
+    (record { text = c.as_slice.result.now; good = c.in-Ok.ensures.file }))
     c.push.ensures.ok
 
 pub returns-in-Err-Problems-clause-taken : goal.returns-in-Err-Problems-clause-taken

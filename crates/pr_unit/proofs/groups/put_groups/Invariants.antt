@@ -1,5 +1,6 @@
-use Rattle.std.proofs.Common.{◌++◌, List, map}
+use Rattle.std.proofs.Common.{◌++◌, List, length, map}
 use Rattle.std.specs.Prelude.{All}
+use Rattle.std.specs.Rc.{rc_value}
 use Rattle.pr_slide.specs.spec_history.declared.entry.Entry.{Entry}
 use Rattle.pr_group.specs.spec_rules.Definitions.{group_of_def}
 use Rattle.pr_group.specs.pr_rule.private.Templates.{HaveTemplates}
@@ -9,11 +10,14 @@ use Rattle.pr_unit.proofs.Building.{KeepsPart}
 use Rattle.pr_unit.proofs.groups.put_groups.Given as goal
 
 -- the groups of the definitions so far are kept
-abbrev pub invariant-loop-def : goal.invariant-loop-def
-invariant-loop-def g l = record {
-  templates : All HaveTemplates l.def-iterator.rest.items;
+abbrev pub invariant-groups : goal.invariant-groups
+invariant-groups g l = record {
+  templates : All HaveTemplates (map rc_value l.rest);
   kept : (history : List Entry) (gs : List Group)
       → KeepsGroups g.R.Ranges.fits g.R.Ranges.last g.R.Ranges.passed l.initial.groups.items history (record { subquery_step = l.step; external = l.external }) gs
-      → KeepsPart g.R.Ranges.fits g.R.Ranges.last g.R.Ranges.passed l.groups.items history (record { subquery_step = l.step; external = l.external }) l.file l.def-iterator.rest.items
-      (gs ++ map (fresh 0 l.file) (map group_of_def l.fn.defs.items));
+      → KeepsPart g.R.Ranges.fits g.R.Ranges.last g.R.Ranges.passed l.groups.items history (record { subquery_step = l.step; external = l.external }) l.file (map rc_value l.rest)
+      (gs ++ map (fresh 0 l.file) (map group_of_def (map rc_value l.defs)));
 }
+
+abbrev pub decreases-groups : goal.decreases-groups
+decreases-groups g l = length l.rest
