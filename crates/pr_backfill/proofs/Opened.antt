@@ -1,12 +1,11 @@
 -- Which paths a backfill opened, by its parts.
-use Rattle.std.proofs.Common.{◌≡◌, ◌≢◌, ℕ, Bool, List, Result, Ok, Err, inl, inr, refl, sym, ap, subst}
+use Rattle.std.proofs.Common.{◌≡◌, ◌≢◌, ◌∙◌, ℕ, ◌+◌, Bool, List, [], ◌∷◌, ◌++◌, Result, Ok, Err, inl, inr, refl, sym, ap, subst, length, length-append, arith}
 use Rattle.pr_outside.specs.Meant.{Output, Store}
 use Rattle.pr_outside.specs.Paths.{Opens}
-use Rattle.pr_manager.specs.pr_head.private.Opening.{StartOpens}
-use Rattle.pr_manager.specs.pr_head.declared.rows.fault.StartError.{StartError}
-use Rattle.pr_manager.specs.pr_head.declared.rows.fault.StartError.TheVariants as start
+use Rattle.pr_outside.specs.declared.keeping.KeepError.{KeepError}
+use Rattle.pr_outside.specs.declared.keeping.KeepError.TheVariants as keeping
 use Rattle.pr_outside.specs.Asks.{AsksBy}
-use Rattle.pr_outside.specs.Ends.{Ends, no_row}
+use Rattle.pr_outside.specs.Ends.{Ends, no_row, stop_of_keeper}
 use Rattle.pr_outside.specs.Opening.{OpensBy}
 use Rattle.pr_outside.specs.Outside.{Outside}
 use Rattle.pr_outside.specs.declared.status.status.Stop.{Stop}
@@ -16,9 +15,19 @@ use Rattle.pr_outside.proofs.Ended.{quiet}
 use Rattle.pr_backfill.specs.Means.{EndsRefused, FillOpens}
 use Rattle.pr_backfill.proofs.Loaded.{none_rose}
 
--- a store with a bad row was opened
-pub bad_opened : (T : Type 0) (path : List ℕ) (before now : List (List ℕ)) (e : StartError) (index : ℕ) → e ≡ start.BadRow index → StartOpens {T = T} path before now (Err e) → Opens path before now
-bad_opened T path before now e index is h = subst (λ (z : StartError). StartOpens {T = T} path before now (Err z)) is h
+-- a start that was refused
+pub refused_opens : (T : Type 0) (path : List ℕ) (before now : List (List ℕ)) (e : KeepError) (s : Stop) → s ≡ stop_of_keeper e → now ≡ before → OpensBy {T = T} path before now (Err s)
+refused_opens T path before now e s is same = subst (λ (z : Stop). OpensBy {T = T} path before now (Err z)) (sym is) (by e)
+  where
+    by : (e : KeepError) → OpensBy {T = T} path before now (Err (stop_of_keeper e))
+    by keeping.Failed = inl same
+    by keeping.Memory = inl same
+
+-- one that was not is one path more
+pub opens_more : (path : List ℕ) (before opened now : List (List ℕ)) → Opens path before opened → now ≡ opened → now ≢ before
+opens_more path before opened now is same back =
+    let more : length before ≡ length before + 1 = ap length (sym back ∙ same ∙ is) ∙ length-append before (path ∷ []) in
+    omega (arith, more)
 
 -- where the input and the files are as they were, no read and no load stopped it
 
@@ -33,6 +42,12 @@ quiet_long : (T : Type 0) (bad : ℕ → Type 0) (x y : Store) (p q : Output) (s
 quiet_long T bad x y p q s e is =
     let long = subst (λ (z : Stop). Ends {T = T} bad ⊥ (record quiet { store = x; out = p }) (record quiet { store = y; out = q }) (Err z)) is e in
     long.cause.1
+
+pub quiet_load : (bad : ℕ → Type 0) (x y : Store) (p q : Output) (r : Result Bool Stop) → Ends bad ⊥ (record quiet { store = x; out = p }) (record quiet { store = y; out = q }) r
+    → r ≢ Err Load
+quiet_load bad x y p q r e is =
+    let load = subst (λ (z : Result Bool Stop). Ends bad ⊥ (record quiet { store = x; out = p }) (record quiet { store = y; out = q }) z) is e in
+    none_rose load.cause.1
 
 -- a filling that was stopped
 pub stopped_fill : (T U : Type 0) (bad : ℕ → Type 0) (x y : Store) (p q : Output) (path : List ℕ) (before now : List (List ℕ)) (s : Stop)

@@ -2,12 +2,14 @@
 use Rattle.std.proofs.Common.{◌≡◌, ◌≢◌, ℕ, ◌≤◌, List, Option, Some, None, Result, Ok, Err, IfSome, IsErrAnd, OnErr, refl, sym, ap, ◌∙◌, subst, length, take}
 use Rattle.std.specs.Io.KnownBytes.{Appends}
 use Rattle.spec_rules.specs.spec_history.declared.entry.Entry.{Entry}
-use Rattle.pr_outside.specs.Causes.{Rose}
-use Rattle.pr_outside.specs.private.Kept.{StartsRows}
+use Rattle.pr_outside.specs.Causes.{HasKeepCause, Rose}
+use Rattle.pr_outside.specs.private.Kept.{KeepsRows, StartsRows}
 use Rattle.pr_outside.specs.Meant.{Output, Store}
+use Rattle.pr_outside.specs.declared.keeping.KeepError.{KeepError}
+use Rattle.pr_outside.specs.declared.keeping.KeepError.TheVariants as keeping
 use Rattle.pr_outside.specs.declared.keeping.Row.{Row}
 use Rattle.spec_rules.specs.spec_history.Histories.{history_of}
-use Rattle.pr_outside.specs.Ends.{Ends, WriteEnds, no_row}
+use Rattle.pr_outside.specs.Ends.{Ends, WriteEnds, no_row, stop_of_keeper}
 use Rattle.pr_outside.specs.Outside.{Outside}
 use Rattle.pr_outside.specs.declared.status.status.Stop.{Stop}
 use Rattle.pr_outside.specs.declared.status.status.Stop.TheVariants as stop
@@ -47,6 +49,33 @@ pub starts_same : (rows : Option (List Row)) → StartsRows rows rows
 starts_same None = tt
 starts_same (Some rs) = refl
 
+-- told rows, where what follows keeps them
+pub starts_on : (old opened now : Option (List Row)) → StartsRows old opened → KeepsRows opened now → StartsRows old now
+starts_on old opened None s k = tt
+starts_on old None (Some rows) s k = absurd k
+starts_on None (Some given) (Some rows) s k = tt
+starts_on (Some first) (Some given) (Some rows) s k = k ∙ s
+
+pub keeps_starts : (old now : Option (List Row)) → KeepsRows old now → StartsRows old now
+keeps_starts old None k = tt
+keeps_starts None (Some rows) k = tt
+keeps_starts (Some first) (Some rows) k = k
+
+-- they are those before
+pub same_told : (old now : Option (List Row)) → KeepsRows old now → IfSome now (λ rows. old ≡ Some rows)
+same_told old None k = tt
+same_told None (Some rows) k = absurd k
+same_told (Some first) (Some rows) k = ap (λ (rs : List Row). Some rs) (sym k)
+
+pub told_still : (rows : Option (List Row)) → IfSome rows (λ all. rows ≡ Some all)
+told_still None = tt
+told_still (Some all) = refl
+
+-- a refused start finds no row
+pub refused_row : (e : KeepError) (at : ℕ) → stop_of_keeper e ≢ stop.BadRow at
+refused_row keeping.Failed at is = absurd cc
+refused_row keeping.Memory at is = absurd cc
+
 -- How it ends
 
 module _ (a b : Store) (x : Output) (others : Outside) where
@@ -68,6 +97,17 @@ module _ (a b : Store) (x : Output) (others : Outside) where
     files = in_time_same others.files.course;
     out = in_time_same x.course;
   }
+
+  -- the start was refused
+  pub refused_start : (T U : Type 0) (e : KeepError) (s : Stop) → s ≡ stop_of_keeper e → HasKeepCause {T = U} a.faults b.faults (Err e)
+      → Ends {T = T} (IsBadIn b) ⊥ (record others { store = a; out = x }) (record others { store = b; out = x }) (Err s)
+  refused_start T U e s is cause =
+      subst (λ (z : Stop). Ends {T = T} (IsBadIn b) ⊥ (record others { store = a; out = x }) (record others { store = b; out = x }) (Err z)) (sym is) (by e cause)
+    where
+      by : (e : KeepError) → HasKeepCause {T = U} a.faults b.faults (Err e)
+          → Ends {T = T} (IsBadIn b) ⊥ (record others { store = a; out = x }) (record others { store = b; out = x }) (Err (stop_of_keeper e))
+      by keeping.Failed cause = start_failed T cause.0
+      by keeping.Memory cause = start_memory T cause
 
   -- the line of a bad row was written
   pub start_row : (T U : Type 0) (y : Output) (v : U) (index : ℕ) → b.faults ≡ a.faults → IsBadIn b index → WriteEnds x y (Ok v)

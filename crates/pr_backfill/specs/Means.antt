@@ -1,5 +1,5 @@
 -- What `backfill` promises, by what the four objects mean before and after it.
-use Rattle.std.specs.Prelude.{◌≡◌, ◌≢◌, ℕ, ◌+◌, ◌<◌, ◌≤◌, Bool, true, false, List, [], ◌∷◌, ◌++◌, length, take, Result, Ok, Err, IfOk, IfSome, IsErr}
+use Rattle.std.specs.Prelude.{◌≡◌, ◌≢◌, ℕ, ◌+◌, ◌<◌, ◌≤◌, Bool, true, false, List, [], ◌∷◌, ◌++◌, length, take, Some, Result, Ok, Err, IfOk, IfSome, IsErr}
 use Rattle.std.specs.Io.KnownBytes.{Appends}
 use Rattle.spec_rules.specs.spec_history.declared.entry.Entry.{Entry}
 use Rattle.pr_outside.specs.Paths.{Opens, MayOpen}
@@ -124,7 +124,11 @@ pub record MeansBackfill (path : List ℕ) (times : List ℕ) (names : List (Lis
   pub answer : result ≡ status_of ending
   pub ends : Ends (IsBadIn now.store) ⊥ before now ending
   pub opens : FillOpens path before.store.paths now.store.paths ending
+  -- before that nothing becomes of the rows, where the store tells them
+  pub unopened : now.store.paths ≡ before.store.paths → IfSome now.store.rows (λ rows. before.store.rows ≡ Some rows)
   pub asked : AsksFirst before.files.calls now.files.calls (length names) ending
+  -- nothing is written where a file could not be loaded
+  pub unwritten : ending ≡ Err Load → now.out ≡ before.out
   -- a bad row is told, and nothing else, over any store
   pub row : (index : ℕ) → ending ≡ Err (BadRow index) → Appends before.out.taken now.out.taken (bad_row_text index)
   -- for all that the files may hold, where the outside tells it

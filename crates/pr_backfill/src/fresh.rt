@@ -17,6 +17,7 @@ use pr_manager::range::Ranges;
 use pr_outside::words_crate::Items;
 use spec_rules::{GroupDef, RuleDef};
 use std::alloc::{AllocError, Global};
+use std::rc::Rc;
 
 // The step of subqueries that name none: a minute.
 fn minute() -> Span
@@ -58,7 +59,8 @@ fn fresh_group<R: Ranges + Drop>(
 ) -> Result<GroupOver<R>, AllocError>
     ensures { (history : List Entry) → IfOk result (λ k. KeepsUnder R.fits R.last R.passed of_a_run history k (group_of_file group)) }
 {
-    let def = recording_group(alloc, group.def)?;
+    let recording = recording_group(alloc, group.def)?;
+    let def = Rc::new(alloc, recording)?;
     GroupOver::new(alloc, def, group.file, false, minute(), no_external(alloc))
 }
 

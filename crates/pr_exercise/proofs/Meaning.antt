@@ -54,13 +54,14 @@ if_rows None P Q f p = tt
 if_rows (Some rows) P Q f p = f rows p
 
 pub means_exercise : (rounds : ℕ) (before now : Outside) (r : Result Unit Stop) (result : Status) → result ≡ exercise_status r → Ends (IsBadIn now.store) ⊥ before now r
-    → OpensBy [] before.store.paths now.store.paths r
+    → OpensBy [] before.store.paths now.store.paths r → ((index : ℕ) → r ≡ Err (stop.BadRow index) → Appends before.out.taken now.out.taken (bad_row_text index))
     → IfSome now.store.rows (λ all. OverRows before.store.rows all (λ rows. EndsBy (history_of rows) rounds rows before now r)) → MeansExercise rounds before now result
-means_exercise rounds before now r result is e opens over = record {
+means_exercise rounds before now r result is e opens row over = record {
   ending = r;
   answer = is;
   ends = e;
   opens = opens;
+  row = row;
   over = if_rows now.store.rows (λ all. OverRows before.store.rows all (λ rows. EndsBy (history_of rows) rounds rows before now r))
       (λ all. OverRows before.store.rows all (λ rows. ExercisesBy (history_of rows) rounds rows before now r result))
       (λ all o. record {

@@ -19,7 +19,7 @@ use Rattle.pr_outside.specs.declared.status.status.Stop.{Stop}
 use Rattle.pr_outside.specs.declared.status.status.Stop.TheVariants as stop
 use Rattle.pr_outside.proofs.Ended.{quiet}
 use Rattle.pr_text.specs.BadRows.{IsBadStart, bad_row_text, bad_text}
-use Rattle.pr_text.specs.spec_history.Stores.{TellsHistory, AreKept, OverRows}
+use Rattle.pr_text.specs.spec_history.Stores.{TellsHistory, AreKept, IsBadIn, OverRows}
 use Rattle.pr_text.proofs.HistoryStoredRows.{IsDecoding, kept_by}
 use Rattle.pr_exercise.specs.Means.{EndsBy, EndsOver, IsFront, IsWhole}
 use Rattle.pr_exercise.specs.private.Standing.{ExerciseHalts}
@@ -30,6 +30,11 @@ on_rows (Some rows) P f = f rows refl
 
 pub at_rows : (a : Option (List Row)) (P : List Row → Type 0) (rows : List Row) → a ≡ Some rows → IfSome a P → P rows
 at_rows a P rows is p = subst (λ (o : Option (List Row)). IfSome o P) is p
+
+-- by `?`
+pub row_error : {T : Type 0} (r : Result T Stop) (e : Stop) (at : ℕ) → IsErrAnd r (λ s. s ≡ e) → r ≡ Err (stop.BadRow at) → e ≡ stop.BadRow at
+row_error (Ok x) e at h is = absurd h
+row_error (Err s) e at h is = let same : s ≡ stop.BadRow at = cc in sym h ∙ same
 
 module _ (before now : Outside) (all : List Row) (rows_are : now.store.rows ≡ Some all) where
   same_rows : IfSome now.store.rows (λ rows. rows ≡ all)
@@ -61,6 +66,13 @@ module _ (before now : Outside) (all : List Row) (rows_are : now.store.rows ≡ 
   bad_start index stop.Write worse p bad told = no_line stop.Write (λ at e. absurd (cc)) index p
   bad_start index stop.Memory worse p bad told = no_line stop.Memory (λ at e. absurd (cc)) index p
   bad_start index stop.TooLong worse p bad told = no_line stop.TooLong (λ at e. absurd (cc)) index p
+
+  -- no row is bad where they tell a history
+  pub no_bad_row : (history : List Entry) (s : Stop) → TellsHistory now.store history → ((at : ℕ) → s ≡ stop.BadRow at → IsBadIn now.store at) → (at : ℕ) → s ≢ stop.BadRow at
+  no_bad_row history s tells bad at row =
+      let worse = at_rows now.store.rows _ all rows_are (bad at row) in
+      let good = at_rows now.store.rows _ all rows_are tells in
+      absurd (cc)
 
   -- so many events are answered, and nothing is written
   pub unwritten : (only : IsDecoding) (rounds : ℕ) (history : List Entry) → ExerciseHalts history (exercise_events rounds) now.store → Appends before.out.taken now.out.taken []
@@ -111,17 +123,12 @@ module _ (before now : Outside) (all : List Row) (rows_are : now.store.rows ≡ 
         by (Some given) starts e = record { rows = given; first = refl; holds = subst (λ (rows : List Row). EndsBy (history_of rows) rounds rows before now r) starts e }
 
     -- an event could not be answered
-    pub stopped : (history : List Entry) (r : Result Unit Stop) (s : Stop) → IsErrAnd r (λ y. y ≡ s) → ExerciseHalts history (exercise_events rounds) now.store
-        → Appends before.out.taken now.out.taken [] → ((at : ℕ) → s ≡ stop.BadRow at → history_of all ≡ Err at) → EndsOver rounds history before now r
-    stopped history (Ok x) s h halts p bad = absurd h
-    stopped history (Err y) s h halts p bad = record {
+    pub stopped : (history : List Entry) (s : Stop) → ((at : ℕ) → s ≢ stop.BadRow at) → ExerciseHalts history (exercise_events rounds) now.store
+        → Appends before.out.taken now.out.taken [] → EndsOver rounds history before now (Err s)
+    stopped history s fine halts p = record {
       whole = tt;
       front = unwritten only rounds history halts p;
-      fine = λ index e.
-          let row : y ≡ stop.BadRow index = cc in
-          let worse = bad index (sym h ∙ row) in
-          let good = at_rows now.store.rows _ all rows_are halts.tells in
-          absurd (cc);
+      fine = λ index e. fine index cc;
     }
 
     -- all events are answered, and the summary is written, or a front of it

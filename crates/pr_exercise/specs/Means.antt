@@ -75,5 +75,7 @@ pub record MeansExercise (rounds : ℕ) (before now : Outside) (result : Status)
   pub ends : Ends (IsBadIn now.store) ⊥ before now ending
   -- it opens a store in memory
   pub opens : OpensBy [] before.store.paths now.store.paths ending
+  -- a bad row is told, and nothing else, over any store
+  pub row : (index : ℕ) → ending ≡ Err (BadRow index) → Appends before.out.taken now.out.taken (bad_row_text index)
   -- What is written and kept, over the rows at the start, where the store tells its rows at the end.
   pub over : IfSome now.store.rows (λ all. OverRows before.store.rows all (λ rows. ExercisesBy (history_of rows) rounds rows before now ending result))

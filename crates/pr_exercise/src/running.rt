@@ -1,5 +1,5 @@
 // The command `exercise`.
-ghost use Rattle.std.specs.Prelude.{◌≡◌, ℕ, List, [], length, take, Err, IfOk, IfSome, IsSome, OnOk, OnErr};
+ghost use Rattle.std.specs.Prelude.{◌≡◌, ◌≢◌, ℕ, List, [], length, take, Result, Err, IfOk, IfSome, IsSome, OnOk, OnErr};
 ghost use Rattle.std.specs.Io.KnownBytes.{Appends};
 ghost use Rattle.pr_text.specs.spec_history.declared.entry.Entry.{Entry};
 ghost use Rattle.pr_outside.specs.private.Kept.{StartsRows};
@@ -28,6 +28,25 @@ use pr_text::world::Worlds;
 use pr_text::{bad_row_of, tell_bad_row};
 use std::alloc::Global;
 
+// What stops an exercise, after what stopped a part of it: where that is a bad row, its line is
+// written.
+fn told_stop<O: Sink>(alloc: Global, stop: Stop, out: &mut O) -> Stop
+    ensures row { (at : ℕ) → result ≡ Stop.BadRow at → Appends (O.means out.old).taken (O.means out.new).taken (bad_row_text at) }
+    ensures front { (told : Result (List Entry) ℕ) → ((at : ℕ) → stop ≡ Stop.BadRow at → told ≡ Err at)
+        → (n : ℕ) × Appends (O.means out.old).taken (O.means out.new).taken (take n (bad_text told)) }
+    ensures other { ((at : ℕ) → stop ≢ Stop.BadRow at) → (result ≡ stop) × (O.means out.new ≡ O.means out.old) }
+    ensures ends { (before others : Outside) → Ends {T = Unit} (IsBadIn others.store) ⊥ (record before { out = O.means out.old }) (record others { out = O.means out.old }) (Err stop)
+        → Ends {T = Unit} (IsBadIn others.store) ⊥ (record before { out = O.means out.old }) (record others { out = O.means out.new }) (Err result) }
+{
+    match bad_row_of(stop) {
+        Some(index) => match tell_bad_row(alloc, index, out) {
+            Ok(()) => stop,
+            Err(error) => error,
+        },
+        None => stop,
+    }
+}
+
 // Opens a store in memory; the line of a bad row is written.
 fn open<E: Worlds + Drop, K: Keeper, O: Sink>(
     alloc: Global,
@@ -45,13 +64,7 @@ fn open<E: Worlds + Drop, K: Keeper, O: Sink>(
 {
     match E::start(alloc, keeper, "") {
         Ok(kept) => Ok(kept),
-        Err(stop) => match bad_row_of(stop) {
-            Some(index) => {
-                tell_bad_row(alloc, index, out)?;
-                Err(stop)
-            }
-            None => Err(stop),
-        },
+        Err(stop) => Err(told_stop(alloc, stop, out)),
     }
 }
 
@@ -94,7 +107,7 @@ fn tell_summary<O: Sink>(
     send(out, &text)
 }
 
-// Answers the events, and then writes the summary.
+// Answers the events, and then writes the summary; or the line of a bad row that a restart finds.
 fn run<E: Worlds + Drop, K: Keeper, O: Sink>(
     alloc: Global,
     rounds: Rounds,
@@ -103,13 +116,17 @@ fn run<E: Worlds + Drop, K: Keeper, O: Sink>(
 ) -> Result<(), Stop>
     ensures over { (others : Outside) → IfSome (K.means keeper.new).rows (λ all. OverRows (K.means keeper.old).rows all (λ rows. EndsBy (history_of rows) rounds rows
         (record others { store = K.means keeper.old; out = O.means out.old }) (record others { store = K.means keeper.new; out = O.means out.new }) result)) }
+    ensures row { (at : ℕ) → result ≡ Err (stop.BadRow at) → Appends (O.means out.old).taken (O.means out.new).taken (bad_row_text at) }
     ensures opens { OpensBy [] (K.means keeper.old).paths (K.means keeper.new).paths result }
     ensures ends { (others : Outside) → Ends (IsBadIn (K.means keeper.new)) ⊥ (record others { store = K.means keeper.old; out = O.means out.old })
         (record others { store = K.means keeper.new; out = O.means out.new }) result }
 {
     rows_decode_as_their_entries();
     let kept = open::<E, K, O>(alloc, keeper, out)?;
-    let tally = answer_all(alloc, rounds, kept, keeper)?;
+    let tally = match answer_all(alloc, rounds, kept, keeper) {
+        Ok(tally) => tally,
+        Err(stop) => return Err(told_stop(alloc, stop, out)),
+    };
     tell_summary(alloc, rounds, &tally, out)
 }
 

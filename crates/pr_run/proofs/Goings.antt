@@ -1,35 +1,27 @@
 -- Where a run stands between two orders, and how it ends.
-use Rattle.std.proofs.Common.{◌≡◌, ◌≢◌, ℕ, ◌+◌, ◌≤◌, ◌<◌, ◌^◌, Bool, true, false, List, [], ◌∷◌, ◌++◌, None, Some, IfSome, IsSome, Result, Ok, Err, IfOk, refl, sym, ap, ◌∙◌, subst, append_assoc, append-nil, length, length-append, take, arith, ◌⊎◌, inl, inr}
+use Rattle.std.proofs.Common.{◌≡◌, ℕ, ◌<◌, ◌^◌, List, [], ◌∷◌, ◌++◌, None, Some, IsSome, refl, sym, ap, ◌∙◌, subst, append_assoc, append-nil, length, length-append, arith}
 use Rattle.std.specs.declared.option.Option.{Option}
-use Rattle.std.specs.Io.KnownBytes.{Appends, IsAtEnd}
+use Rattle.std.specs.Io.KnownBytes.{Appends}
 use Rattle.pr_outside.specs.pr_words.Lines.{lines_of}
 use Rattle.pr_queue.specs.spec_history.declared.entry.Entry.{Entry}
 use Rattle.pr_outside.specs.Meant.{Store}
 use Rattle.pr_text.specs.declared.script.order.Numbered.{Numbered}
 use Rattle.pr_text.specs.Orders.{orders_of, orders_after}
 use Rattle.pr_text.proofs.Blocks.{orders_none}
-use Rattle.pr_outside.specs.Asks.{Asks, AsksAt}
-use Rattle.pr_outside.specs.Ends.{StopPlace, at_input, at_file, at_store, at_output, anywhere, place_of}
+use Rattle.pr_outside.specs.Asks.{Asks}
 use Rattle.pr_outside.specs.Outside.{AreTold, Held, Outside}
 use Rattle.pr_outside.specs.Status.{IsLong, IsShort}
-use Rattle.pr_outside.specs.declared.status.status.Stop.{Stop}
-use Rattle.pr_outside.specs.declared.status.status.Stop.TheVariants as stop
 use Rattle.pr_outside.proofs.StatusStreams.{appends_on}
 use Rattle.pr_text.specs.private.LineReading.{ahead, CountsBytes, IsBeyond}
-use Rattle.pr_text.specs.private.Reading.{HandsOrder, Takes, TakesOrders, IsCutAt}
-use Rattle.pr_text.specs.Taken.{IsPrompt}
-use Rattle.pr_text.proofs.Whole.{prompt_all, prompt_on}
+use Rattle.pr_text.specs.private.Reading.{HandsOrder, Takes}
 use Rattle.pr_text.proofs.Orders.{takes_none, takes_on, follow}
-use Rattle.pr_text.specs.spec_world.World.{World, start}
-use Rattle.pr_run.specs.Front.{IsFront, IsPromptAt}
-use Rattle.pr_run.specs.private.Keeping.{KeepsProgress, Progress, Run, progress_after, unanswered}
-use Rattle.pr_queue.specs.spec_history.Stores.{TellsHistory, AreKept}
-use Rattle.pr_run.specs.Runs.{EndsOver, IsWholeRun}
-use Rattle.pr_run.specs.private.Standing.{StoreGrows, HasGrown, IsGrown, LeavesFront, SendsAnswer, RunStands, StoreStays, WaitsBehind, WritesTurn, progress_of}
-use Rattle.pr_run.specs.Told.{OrderAnswer, State, answers, answers_to, any_refused, asks_of, begun, kept_after, refuses, told, told_of, turn}
-use Rattle.pr_run.proofs.Fronts.{asks_anywhere, asks_between, asks_file, asks_output, asks_store, asks_written, front_at, front_in}
+use Rattle.pr_text.specs.spec_world.World.{World}
+use Rattle.pr_run.specs.private.Keeping.{KeepsProgress, Progress, Run, unanswered}
+use Rattle.pr_queue.specs.spec_history.Stores.{TellsHistory}
+use Rattle.pr_run.specs.private.Standing.{HasGrown, IsGrown, SendsAnswer, RunStands, progress_of}
+use Rattle.pr_run.specs.Told.{OrderAnswer, answers, asks_of, begun, told_of, turn}
 use Rattle.pr_run.proofs.Loads.{asks_none, asks_on}
-use Rattle.pr_run.proofs.Turns.{answer_count, answers_append, asks_append, orders_grow, progress_on, refused_of, told_left, told_more, told_right, told_same, turn_grows}
+use Rattle.pr_run.proofs.Turns.{answers_append, asks_append, progress_on, told_left, told_more, told_right, told_same}
 
 -- the answers to orders over a history, and how far the run has come then
 abbrev pub answered : Held → List Entry → List Numbered → List OrderAnswer

@@ -1,14 +1,14 @@
 -- A run that is stopped at its beginning.
-use Rattle.std.proofs.Common.{◌≡◌, ◌≢◌, ℕ, ◌≤◌, Bool, true, List, [], Option, Some, None, Result, Ok, Err, IfSome, IsErrAnd, refl, sym, ap, ◌∙◌, subst, length, take, take_all, arith}
+use Rattle.std.proofs.Common.{◌≡◌, ℕ, Bool, List, Option, Some, None, Result, Ok, Err, IfSome, IsErrAnd, refl, sym, ◌∙◌, subst, length, take, take_all, arith}
 use Rattle.std.specs.Io.KnownBytes.{Appends}
 use Rattle.pr_queue.specs.spec_history.declared.entry.Entry.{Entry}
 use Rattle.pr_outside.specs.Causes.{Rose}
 use Rattle.pr_outside.specs.private.Kept.{StartsRows}
-use Rattle.pr_outside.specs.Meant.{Folder, Store}
+use Rattle.pr_outside.specs.Meant.{Folder}
 use Rattle.pr_outside.specs.declared.keeping.Row.{Row}
 use Rattle.pr_queue.specs.spec_history.Histories.{history_of}
 use Rattle.pr_outside.specs.Asks.{Asks}
-use Rattle.pr_outside.specs.Ends.{Ends, StopPlace, at_row, place_of}
+use Rattle.pr_outside.specs.Ends.{Ends, at_row, place_of}
 use Rattle.pr_outside.specs.Outside.{Outside}
 use Rattle.pr_outside.specs.declared.status.status.Stop.{Stop}
 use Rattle.pr_outside.specs.declared.status.status.Stop.TheVariants as stop
@@ -16,9 +16,9 @@ use Rattle.pr_outside.proofs.Ended.{quiet}
 use Rattle.pr_run.specs.private.Beginning.{first_text}
 use Rattle.pr_text.specs.BadRows.{IsBadStart, bad_row_text}
 use Rattle.pr_run.specs.Front.{IsFront}
-use Rattle.pr_queue.specs.spec_history.Stores.{AreKept, IsBadIn, OverRows}
+use Rattle.pr_queue.specs.spec_history.Stores.{AreKept, OverRows}
 use Rattle.pr_run.specs.Runs.{EndsBy, EndsOver, IsStopped}
-use Rattle.pr_run.specs.Told.{answers_to, told_of}
+use Rattle.pr_run.specs.Told.{answers_to}
 use Rattle.pr_run.proofs.Fronts.{front_opening}
 use Rattle.pr_run.proofs.Loads.{asks_none}
 use Rattle.pr_queue.proofs.HistoryStoredRows.{IsDecoding, kept_by}

@@ -1,6 +1,5 @@
 -- How a run ends: at its input, within an order, or when all is answered.
-use Rattle.std.proofs.Common.{◌≡◌, ◌≢◌, ℕ, ◌+◌, ◌≤◌, Bool, true, false, List, [], ◌∷◌, ◌++◌, None, Some, IfSome, IsSome, Result, Ok, Err, IsErrAnd, IfOk, refl, sym, ap, ◌∙◌, subst, append_assoc, append-nil, length, take, arith, ◌⊎◌, inl, inr}
-use Rattle.std.specs.Prelude.{flat_map}
+use Rattle.std.proofs.Common.{◌≡◌, ◌≢◌, ℕ, ◌+◌, ◌≤◌, Bool, true, List, [], ◌∷◌, ◌++◌, None, Some, IfSome, IsSome, Result, Ok, Err, IsErrAnd, IfOk, refl, sym, ap, ◌∙◌, subst, append_assoc, append-nil, length, arith, inl, inr}
 use Rattle.std.specs.declared.option.Option.{Option}
 use Rattle.std.specs.Io.KnownBytes.{Appends}
 use Rattle.pr_outside.specs.pr_words.Lines.{lines_of}
@@ -19,7 +18,7 @@ use Rattle.pr_queue.specs.spec_history.Histories.{history_of}
 use Rattle.pr_outside.proofs.Ended.{quiet}
 use Rattle.pr_outside.proofs.StatusStreams.{appends_on}
 use Rattle.pr_text.specs.private.LineReading.{ahead}
-use Rattle.pr_text.specs.private.Reading.{HandsOrder, Takes, TakesOrders, IsCutAt}
+use Rattle.pr_text.specs.private.Reading.{HandsOrder, Takes, IsCutAt}
 use Rattle.pr_text.specs.Taken.{IsPrompt}
 use Rattle.pr_text.proofs.Whole.{prompt_all, prompt_on}
 use Rattle.pr_text.specs.spec_world.World.{World}
@@ -27,9 +26,9 @@ use Rattle.pr_run.specs.Front.{IsFront, IsPromptAt, is_between}
 use Rattle.pr_text.specs.BadRows.{TellsRow, bad_row_text}
 use Rattle.pr_run.specs.private.Keeping.{KeepsProgress, Progress, Run, unanswered}
 use Rattle.pr_queue.specs.spec_history.Stores.{TellsHistory, AreKept, IsBadIn}
-use Rattle.pr_run.specs.Runs.{EndsOver, IsWholeRun}
+use Rattle.pr_run.specs.Runs.{EndsOver}
 use Rattle.pr_run.specs.private.Standing.{LeavesFront, RunStands, WaitsBehind, WritesTurn}
-use Rattle.pr_run.specs.Told.{OrderAnswer, Turn, answers, answers_to, any_refused, asks_of, begun, kept, kept_after, refuses, told, told_of, turn}
+use Rattle.pr_run.specs.Told.{OrderAnswer, Turn, answers, answers_to, any_refused, asks_of, begun, kept_after, told, told_of, turn}
 use Rattle.pr_run.proofs.Fronts.{asks_anywhere, asks_between, asks_file, asks_output, asks_store, asks_written, front_at, front_in}
 use Rattle.pr_run.proofs.Goings.{Going, answered, come, last_orders, next_orders, split_orders}
 use Rattle.pr_run.proofs.Loads.{asks_on}

@@ -1,15 +1,14 @@
 -- Orders, one after another: their answers, the histories after them, and the files that they ask for.
-use Rattle.std.proofs.Common.{◌≡◌, ℕ, zero, suc, ◌+◌, ◌≤◌, Bool, true, false, ◌||◌, List, [], ◌∷◌, ◌++◌, Option, Some, None, refl, sym, ap, ◌∙◌, append_assoc, append-nil, length, length-append, map, take, subst, arith}
+use Rattle.std.proofs.Common.{◌≡◌, ℕ, suc, ◌+◌, ◌≤◌, Bool, true, false, ◌||◌, List, [], ◌∷◌, ◌++◌, refl, sym, ap, ◌∙◌, append_assoc, append-nil, length, length-append, map, take, subst, arith}
 use Rattle.std.specs.Prelude.{flat_map}
 use Rattle.pr_queue.specs.spec_history.declared.entry.Entry.{Entry}
 use Rattle.pr_outside.specs.Meant.{Content}
-use Rattle.pr_text.specs.spec_world.Outcome.{EventOutcome, refuse, accept, Change, nothing_else, targets_become, groups_become, reloads, begins_anew, unless_backwards}
+use Rattle.pr_text.specs.spec_world.Outcome.{EventOutcome, refuse, accept, nothing_else, targets_become, groups_become, reloads, begins_anew, unless_backwards}
 use Rattle.pr_text.specs.spec_world.Settings.{of_a_run}
-use Rattle.pr_text.specs.spec_world.Step.{Step, next, outcome, step_by, time_of}
+use Rattle.pr_text.specs.spec_world.Step.{next, outcome, step_by, time_of}
 use Rattle.pr_text.specs.spec_world.Loading.{FileToLoad, all_found, found_outcome, reload_asked}
 use Rattle.pr_text.specs.spec_world.World.{World}
 use Rattle.pr_text.specs.spec_world.declared.event.Event.{Event}
-use Rattle.pr_text.specs.spec_world.declared.report.Report.{Report}
 use Rattle.pr_text.specs.spec_world.declared.report.Report.TheVariants.{Opened}
 use Rattle.pr_text.specs.declared.script.order.Numbered.{Numbered}
 use Rattle.pr_text.specs.declared.script.order.Order.{Order}

@@ -1,11 +1,10 @@
 -- What orders come to for the receivers of notices, and what is answered to those that leave the world
 -- as it is.
-use Rattle.std.specs.Prelude.{ℕ, Bool, true, false, not, List, [], ◌∷◌, flat_map, is_some}
+use Rattle.std.specs.Prelude.{ℕ, Bool, true, false, not, List, [], flat_map, is_some}
 use Rattle.pr_queue.specs.spec_alerts.declared.sending.Sending.{Sending}
 use Rattle.pr_queue.specs.spec_alerts.Receivers.{Receiver, after_add, after_flush, after_offer, batch_of, joins}
 use Rattle.pr_queue.specs.spec_alerts.declared.notices.joined.Joined.{Joined}
 use Rattle.pr_queue.specs.spec_alerts.declared.notices.joined.Joined.TheVariants as joined
-use Rattle.pr_text.specs.spec_rules.declared.report.GroupReport.{GroupReport}
 use Rattle.pr_text.specs.spec_rules.declared.report.RuleReport.{RuleReport}
 use Rattle.pr_text.specs.Notices.{flush_text, joined_text}
 use Rattle.pr_text.specs.Printed.{bad_line_text}

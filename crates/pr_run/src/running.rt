@@ -11,6 +11,7 @@ ghost use Rattle.pr_outside.specs.Status.{IsLong};
 ghost use Rattle.pr_outside.specs.declared.status.status.Stop.TheVariants as stop;
 ghost use Rattle.pr_text.specs.spec_world.World.{World};
 ghost use Rattle.pr_run.specs.private.Beginning.{Begins, first_text};
+ghost use Rattle.pr_text.specs.private.Plain.{IsPlain};
 ghost use Rattle.pr_text.specs.BadRows.{TellsRow, bad_row_text};
 ghost use Rattle.pr_run.specs.private.Keeping.{KeepsProgress, Progress, unanswered};
 ghost use Rattle.pr_queue.specs.spec_history.Stores.{IsBadIn, OverRows};
@@ -68,6 +69,7 @@ fn answer_order<E: Worlds + Drop, F: Files, K: Keeper, O: Sink>(
     keeper: &mut K,
     out: &mut O,
 ) -> Result<(), Stop>
+    requires { IsPlain order.order }
     ensures sends { (others : Outside) (held : Held) (p : Progress) → KeepsProgress E.stands_for session.old (K.means keeper.old) p
         → AreTold (F.means files.old).content held (turn held p.state order).answer.asks → IsSome (K.means keeper.new).rows
         → OnOk result (SendsAnswer E.stands_for held p order (record others { files = F.means files.old; store = K.means keeper.old; out = O.means out.old })

@@ -11,7 +11,7 @@ ghost use Rattle.pr_text.specs.spec_world.Step.{next};
 ghost use Rattle.pr_text.specs.spec_world.World.{World};
 ghost use Rattle.pr_text.specs.Printed.{shown_report};
 ghost use Rattle.pr_text.specs.declared.script.order.Order.TheVariants as order;
-ghost use Rattle.pr_run.specs.private.Events.{has_files};
+ghost use Rattle.pr_text.specs.private.Plain.{HasNoFiles, IsPlain};
 ghost use Rattle.pr_run.specs.private.Keeping.{KeepsProgress, Progress};
 ghost use Rattle.pr_run.specs.Replies.{bad_line_reply, flush_reply, receiver_reply, receivers_after};
 ghost use Rattle.pr_queue.specs.spec_history.Stores.{IsBadIn};
@@ -29,17 +29,6 @@ use pr_text::world::{Event, Report, Worlds};
 use pr_text::{push_bad_line, push_batch, push_joined, push_no_receiver, push_report};
 use std::alloc::{AllocError, Global};
 use std::marker::Model;
-
-// Whether an event has files. Those of an order are only named.
-fn has_files(event: &Event) -> bool
-    ensures value { result ≡ has_files event.now }
-    ensures distinct { result ≡ false → HasDistinctFiles event.now }
-{
-    match event {
-        Event::Reload { .. } => true,
-        _ => false,
-    }
-}
 
 // The time of the last event, where another time is before it.
 fn last_behind(last: Option<Ms>, time: Ms) -> Option<Ms>
@@ -185,6 +174,7 @@ impl<E: Worlds + Drop> Session<E> {
         event: Event,
         keeper: &mut K,
     ) -> Result<(), Stop>
+        requires { HasNoFiles event }
         ensures answers { (others : Outside) (held : Held) (p : Progress) (number : ℕ) → KeepsProgress E.stands_for self.old (K.means keeper.old) p
             → IsSome (K.means keeper.new).rows
             → OnOk result (AnswersOrder E.stands_for held p (record { number = number; order = order.Event event }) (record others { store = K.means keeper.old }) (record others { store = K.means keeper.new }) self.new text.old.items text.new.items) }
@@ -196,10 +186,6 @@ impl<E: Worlds + Drop> Session<E> {
         ensures paths { (K.means keeper.new).paths ≡ (K.means keeper.old).paths }
         ensures ends { (others : Outside) → Ends (IsBadIn (K.means keeper.new)) ⊥ (record others { store = K.means keeper.old }) (record others { store = K.means keeper.new }) result }
     {
-        // The reader makes no such order.
-        if has_files(&event) {
-            return Err(Stop::Memory);
-        }
         let report = self.take_event(alloc, event, keeper)?;
         self.tell(text, &report)?;
         Ok(())
@@ -284,6 +270,7 @@ impl<E: Worlds + Drop> Session<E> {
         files: &mut F,
         keeper: &mut K,
     ) -> Result<(), Stop>
+        requires { IsPlain order.order }
         ensures answers { (others : Outside) (held : Held) (p : Progress) → KeepsProgress E.stands_for self.old (K.means keeper.old) p
             → AreTold (F.means files.old).content held (turn held p.state order).answer.asks → IsSome (K.means keeper.new).rows
             → OnOk result (AnswersOrder E.stands_for held p order (record others { files = F.means files.old; store = K.means keeper.old }) (record others { files = F.means files.new; store = K.means keeper.new }) self.new text.old.items text.new.items) }

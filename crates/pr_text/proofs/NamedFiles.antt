@@ -5,7 +5,7 @@ use Rattle.std.specs.List.{position_or_len}
 use Rattle.std.proofs.lemmas.Bool.Decides.{nat_tests}
 use Rattle.std.proofs.lemmas.List.{length-drop, append_assoc, append-nil}
 use Rattle.pr_words.specs.Bytes.{is_blank}
-use Rattle.pr_words.specs.Fields.{is_field_byte, first_field, after_field, without_leading}
+use Rattle.pr_words.specs.Fields.{is_field_byte, first_field, after_field}
 use Rattle.spec_world.specs.Loading.{FileToLoad}
 use Rattle.pr_text.specs.Reloads.{file_of, files_in, files_within, with_file}
 

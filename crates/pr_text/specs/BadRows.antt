@@ -1,5 +1,5 @@
 -- The line of a bad row, and what a command wrote that stopped at one.
-use Rattle.std.specs.Prelude.{ℕ, List, [], ◌++◌, codes, decimal, Result, Ok, Err, ◌≡◌, ◌+◌, ◌≤◌, length, take, IfSome}
+use Rattle.std.specs.Prelude.{ℕ, List, [], ◌++◌, codes, decimal, Result, Ok, Err, ◌≡◌, ◌≤◌, length, take, IfSome}
 use Rattle.spec_world.specs.spec_history.declared.entry.Entry.{Entry}
 use Rattle.std.specs.declared.option.Option.{Option}
 use Rattle.std.specs.Io.KnownBytes.{Appends}

@@ -1,5 +1,5 @@
 // A backfill over the rows of a store, time by time.
-ghost use Rattle.std.specs.Prelude.{◌≡◌, ◌++◌, ◌<◌, [], ℕ, List, Option, map, take, Err, IfOk, IfSome, OnOk};
+ghost use Rattle.std.specs.Prelude.{◌≡◌, ◌++◌, ◌<◌, [], ℕ, List, Option, Some, map, take, Err, IfOk, IfSome, OnOk};
 ghost use Rattle.std.specs.Io.KnownBytes.{Appends};
 ghost use Rattle.spec_rules.specs.spec_history.declared.entry.Entry.{Entry};
 ghost use Rattle.spec_rules.specs.spec_history.Histories.{history_of};
@@ -151,6 +151,7 @@ pub(crate) fn fill<R: Ranges + Drop, K: Keeper, O: Sink>(
         (record others { store = K.means keeper.old; out = O.means out.old }) (record others { store = K.means keeper.new; out = O.means out.new }) (ending_of result))) }
     ensures bad { (at : ℕ) → result ≡ Err (stop.BadRow at) → Appends (O.means out.old).taken (O.means out.new).taken (bad_row_text at) }
     ensures opens { OpensBy path.now (K.means keeper.old).paths (K.means keeper.new).paths result }
+    ensures unopened { (K.means keeper.new).paths ≡ (K.means keeper.old).paths → IfSome (K.means keeper.new).rows (λ rows. (K.means keeper.old).rows ≡ Some rows) }
     ensures ends { (others : Outside) → Ends (IsBadIn (K.means keeper.new)) ⊥ (record others { store = K.means keeper.old; out = O.means out.old })
         (record others { store = K.means keeper.new; out = O.means out.new }) (ending_of result) }
 {

@@ -1,5 +1,5 @@
 // The command `backfill`.
-ghost use Rattle.std.specs.Prelude.{◌≡◌, ℕ, List, Err, IfSome, length, map, string_bytes};
+ghost use Rattle.std.specs.Prelude.{◌≡◌, ℕ, List, Some, Err, IfSome, length, map, string_bytes};
 ghost use Rattle.std.specs.Io.KnownBytes.{Appends};
 ghost use Rattle.spec_rules.specs.spec_history.Histories.{history_of};
 ghost use Rattle.pr_outside.specs.Ends.{Ends, WriteEnds};
@@ -44,6 +44,7 @@ fn fill_all<R: Ranges + Drop, K: Keeper, O: Sink>(
         (record others { store = K.means keeper.old; out = O.means out.old }) (record others { store = K.means keeper.new; out = O.means out.new }) result)) }
     ensures bad { (at : ℕ) → result ≡ Err (stop.BadRow at) → Appends (O.means out.old).taken (O.means out.new).taken (bad_row_text at) }
     ensures opens { FillOpens path.now (K.means keeper.old).paths (K.means keeper.new).paths result }
+    ensures unopened { (K.means keeper.new).paths ≡ (K.means keeper.old).paths → IfSome (K.means keeper.new).rows (λ rows. (K.means keeper.old).rows ≡ Some rows) }
     ensures ends { (others : Outside) → Ends (IsBadIn (K.means keeper.new)) ⊥ (record others { store = K.means keeper.old; out = O.means out.old })
         (record others { store = K.means keeper.new; out = O.means out.new }) result }
 {
@@ -66,6 +67,7 @@ fn go_on<R: Ranges + Drop, K: Keeper, O: Sink>(
         (record others { store = K.means keeper.new; out = O.means out.new }) result }
     ensures bad { (at : ℕ) → result ≡ Err (stop.BadRow at) → Appends (O.means out.old).taken (O.means out.new).taken (bad_row_text at) }
     ensures opens { FillOpens path.now (K.means keeper.old).paths (K.means keeper.new).paths result }
+    ensures unopened { (K.means keeper.new).paths ≡ (K.means keeper.old).paths → IfSome (K.means keeper.new).rows (λ rows. (K.means keeper.old).rows ≡ Some rows) }
     ensures ends { (others : Outside) → Ends (IsBadIn (K.means keeper.new)) ⊥ (record others { store = K.means keeper.old; out = O.means out.old })
         (record others { store = K.means keeper.new; out = O.means out.new }) result }
 {
@@ -92,9 +94,11 @@ fn run<R: Ranges + Drop, F: Files, K: Keeper, O: Sink>(
         (record others { files = F.means files.old; store = K.means keeper.old; out = O.means out.old })
         (record others { files = F.means files.new; store = K.means keeper.new; out = O.means out.new }) result }
     ensures bad { (at : ℕ) → result ≡ Err (stop.BadRow at) → Appends (O.means out.old).taken (O.means out.new).taken (bad_row_text at) }
+    ensures unwritten { result ≡ Err stop.Load → O.means out.new ≡ O.means out.old }
     ensures asked { AsksFirst (F.means files.old).calls (F.means files.new).calls (length names.now) result }
     ensures same { (other : List ℕ) → (F.means files.new).content other ≡ (F.means files.old).content other }
     ensures opens { FillOpens path.now (K.means keeper.old).paths (K.means keeper.new).paths result }
+    ensures unopened { (K.means keeper.new).paths ≡ (K.means keeper.old).paths → IfSome (K.means keeper.new).rows (λ rows. (K.means keeper.old).rows ≡ Some rows) }
     ensures ends { (others : Outside) → Ends (IsBadIn (K.means keeper.new)) ⊥ (record others { files = F.means files.old; store = K.means keeper.old; out = O.means out.old })
         (record others { files = F.means files.new; store = K.means keeper.new; out = O.means out.new }) result }
 {

@@ -1,10 +1,11 @@
 // The input, asked for one order after another.
-ghost use Rattle.std.specs.Prelude.{◌≡◌, ◌^◌, ◌<◌, ◌≤◌, ◌==◌, not, [], length, None, IfOk, OnOk, string_bytes, true, false};
+ghost use Rattle.std.specs.Prelude.{◌≡◌, ◌^◌, ◌<◌, ◌≤◌, ◌==◌, not, [], length, None, IfOk, IfSome, OnOk, string_bytes, true, false};
 ghost use Rattle.spec_world.specs.pr_outside.Courses.{IsInTime};
 ghost use Rattle.spec_world.specs.pr_outside.declared.course.Course.{Course};
 ghost use Rattle.pr_text.specs.Script.{is_passed_over, takes_body};
 ghost use Rattle.spec_world.specs.pr_outside.Ends.{AtInput, ReadEnds};
 ghost use Rattle.pr_text.specs.private.LineReading.{ahead, HandsLine, CountsBytes, IsCutLine, IsBeyond, IsReadOn};
+ghost use Rattle.pr_text.specs.private.Plain.{IsPlain};
 ghost use Rattle.pr_text.specs.private.Reading.{unread, IsReady, HandsOrder, FinishesOrder, TakesBody, EndsBody, Advances, IsCutBody, IsCutAt};
 
 use crate::reader::lines::{LineReader, without_feed};
@@ -106,6 +107,7 @@ impl Reader {
         requires { IsReady 0 self.old (I.means input.old).left }
         ensures ready { OnOk result (IsReady 0 self.new (I.means input.new).left) }
         ensures order { is_passed_over line.now ≡ false → IfOk result (FinishesOrder line.now (ahead (unread self.old) (I.means input.old).left) (ahead (unread self.new) (I.means input.new).left) self.old.number self.new.number) }
+        ensures plain { IfOk result (λ o. IsPlain o.order) }
         ensures number { OnOk result (self.old.number ≤ self.new.number) }
         ensures counts { OnOk result (CountsBytes (I.means input.old).left (I.means input.new).left self.old.lines.count self.new.lines.count) }
         ensures cut { AtInput result ((takes_body line.now ≡ true) × IsCutBody (ahead (unread self.old) (I.means input.old).left) (I.means input.new).left) }
@@ -136,6 +138,7 @@ impl Reader {
         requires { IsReady 0 self.old (I.means input.old).left }
         ensures ready { OnOk result (IsReady 0 self.new (I.means input.new).left) }
         ensures order { IfOk result (HandsOrder (ahead (unread self.old) (I.means input.old).left) (ahead (unread self.new) (I.means input.new).left) self.old.number self.new.number) }
+        ensures plain { IfOk result (λ o. IfSome o (λ n. IsPlain n.order)) }
         ensures advances { IfOk result (λ o. Advances o self.old.number self.new.number) }
         ensures counts { OnOk result (CountsBytes (I.means input.old).left (I.means input.new).left self.old.lines.count self.new.lines.count) }
         ensures short { IfOk result (λ o. o ≡ None → self.new.lines.count < 2 ^ 32) }

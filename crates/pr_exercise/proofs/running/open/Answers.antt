@@ -1,15 +1,11 @@
-use Rattle.std.proofs.Common.{◌∙◌, [], Result, Err, refl, subst, length}
-use Rattle.pr_outside.specs.Ends.{no_row}
+use Rattle.std.proofs.Common.{[], Result, subst}
 use Rattle.pr_outside.specs.Opening.{OpensBy}
 use Rattle.pr_outside.specs.Outside.{Outside}
 use Rattle.pr_outside.specs.declared.status.status.Stop.{Stop}
-use Rattle.pr_outside.proofs.Ended.{ends_on, in_time_on, in_time_same, quiet}
-use Rattle.pr_outside.proofs.Opening.{opened_on, row_opened, stopped_opening}
+use Rattle.pr_outside.proofs.Ended.{quiet}
+use Rattle.pr_outside.proofs.Endings.{bad_of, ends_as}
 use Rattle.pr_text.specs.spec_history.Stores.{KeepEnds, IsBadIn}
-use Rattle.pr_text.specs.BadRows.{bad_row_text}
-use Rattle.pr_text.proofs.Lines.{whole_front, write_row}
-use Rattle.pr_outside.proofs.Endings.{bad_of, calm_of, ends_as, ends_wider, row_ends}
-use Rattle.pr_exercise.proofs.Opening.{row_front, none_front}
+use Rattle.pr_exercise.proofs.Opening.{stop_front, stop_opened}
 use Rattle.pr_exercise.proofs.running.open.Goals as goal
 
 pub returns-in-Ok-clause-ends : goal.returns-in-Ok-clause-ends
@@ -19,70 +15,28 @@ returns-in-Ok-clause-ends g c = λ others.
     let l = subst (λ (r : Result _ Stop). KeepEnds (keeper c.args.keeper.now) (keeper c.start.new.keeper) r) c.in-Ok.is c.start.ensures.ends (record others { out = out }) in
     record { cause = l.cause; input = l.input; files = l.files; out = l.out }
 
-pub returns-in_err-tell_bad_row-in-Some-clause-front : goal.returns-in_err-tell_bad_row-in-Some-clause-front
-returns-in_err-tell_bad_row-in-Some-clause-front g c =
-    let store = g.K.Keeper.means c.start.new.keeper in
+pub returns-in-Err-clause-front : goal.returns-in-Err-clause-front
+returns-in-Err-clause-front g c =
+    let keeper = g.K.Keeper.means in
     let out = g.O.Sink.means in
-    let a : Outside = record quiet { store = g.K.Keeper.means c.args.keeper.now } in
-    let b : Outside = record quiet { store = store } in
+    let a : Outside = record quiet { store = keeper c.args.keeper.now } in
+    let b : Outside = record quiet { store = keeper c.start.new.keeper } in
     let l = subst (λ (r : Result _ Stop). KeepEnds a.store b.store r) c.in-Err.is c.start.ensures.ends quiet in
-    let f = c.in_err-tell_bad_row-in-Some.ensures.front in
-    row_front _ (out c.args.out.now).taken (out c.tell_bad_row.new.out).taken f.0 store.rows c.from_residual.result c.in-Some.index
-    (bad_of _ (IsBadIn store) ⊥ a b c.in-Err.stop c.in-Some.index c.in-Some.ensures.some l) f.1
+    stop_front g.row.E.Denot (out c.args.out.now).taken (out c.told_stop.new.out).taken b.store.rows c.in-Err.stop c.told_stop.result
+    (λ at row. bad_of _ (IsBadIn b.store) ⊥ a b c.in-Err.stop at row l) c.told_stop.ensures.front
 
-pub returns-in_err-tell_bad_row-in-Some-clause-bad : goal.returns-in_err-tell_bad_row-in-Some-clause-bad
-returns-in_err-tell_bad_row-in-Some-clause-bad g c = λ at is.
-    absurd (write_row _ _ (g.O.Sink.means c.args.out.now) (g.O.Sink.means c.tell_bad_row.new.out) c.from_residual.result c.in_err-tell_bad_row-in-Some.field-0.0 at
-    c.from_residual.ensures.1 c.in_err-tell_bad_row-in-Some.ensures.ends is)
+pub returns-in-Err-clause-bad : goal.returns-in-Err-clause-bad
+returns-in-Err-clause-bad g c = λ at is. c.told_stop.ensures.row at cc
 
-pub returns-in_err-tell_bad_row-in-Some-clause-ends : goal.returns-in_err-tell_bad_row-in-Some-clause-ends
-returns-in_err-tell_bad_row-in-Some-clause-ends g c = λ others.
+pub returns-in-Err-clause-ends : goal.returns-in-Err-clause-ends
+returns-in-Err-clause-ends g c = λ others.
     let keeper = g.K.Keeper.means in
     let out = g.O.Sink.means in
     let a : Outside = record others { store = keeper c.args.keeper.now; out = out c.args.out.now } in
     let b : Outside = record others { store = keeper c.start.new.keeper; out = out c.args.out.now } in
-    let d : Outside = record others { store = keeper c.start.new.keeper; out = out c.tell_bad_row.new.out } in
-    let l = subst (λ (r : Result _ Stop). KeepEnds a.store b.store r) c.in-Err.is c.start.ensures.ends (record others { out = out c.args.out.now }) in
-    ends_on _ _ (IsBadIn d.store) ⊥ a b d c.from_residual.result c.in_err-tell_bad_row-in-Some.field-0.0 c.from_residual.ensures.1
-    (calm_of _ (IsBadIn b.store) ⊥ a b c.in-Err.stop c.in-Some.index c.in-Some.ensures.some l) (in_time_same a.input.course) (λ e. e) (λ e. e)
-    (ends_wider _ no_row (IsBadIn d.store) ⊥ ⊥ b d (Err c.in_err-tell_bad_row-in-Some.field-0.0) (λ i no. absurd no) (λ never. never)
-    (c.in_err-tell_bad_row-in-Some.ensures.ends (record others { store = keeper c.start.new.keeper })))
-
-pub returns-in_ok-tell_bad_row-in-Some-clause-front : goal.returns-in_ok-tell_bad_row-in-Some-clause-front
-returns-in_ok-tell_bad_row-in-Some-clause-front g c =
-    let store = g.K.Keeper.means c.start.new.keeper in
-    let out = g.O.Sink.means in
-    let a : Outside = record quiet { store = g.K.Keeper.means c.args.keeper.now } in
-    let b : Outside = record quiet { store = store } in
-    let l = subst (λ (r : Result _ Stop). KeepEnds a.store b.store r) c.in-Err.is c.start.ensures.ends quiet in
-    row_front Unit (out c.args.out.now).taken (out c.tell_bad_row.new.out).taken (length (bad_row_text c.in-Some.index)) store.rows (Err c.in-Err.stop) c.in-Some.index
-    (bad_of _ (IsBadIn store) ⊥ a b c.in-Err.stop c.in-Some.index c.in-Some.ensures.some l)
-    (whole_front (out c.args.out.now).taken (out c.tell_bad_row.new.out).taken (bad_row_text c.in-Some.index) c.in_ok-tell_bad_row-in-Some.ensures.text)
-
-pub returns-in_ok-tell_bad_row-in-Some-clause-ends : goal.returns-in_ok-tell_bad_row-in-Some-clause-ends
-returns-in_ok-tell_bad_row-in-Some-clause-ends g c = λ others.
-    let keeper = g.K.Keeper.means in
-    let out = g.O.Sink.means in
-    let a : Outside = record others { store = keeper c.args.keeper.now; out = out c.args.out.now } in
-    let b : Outside = record others { store = keeper c.start.new.keeper; out = out c.args.out.now } in
-    let d : Outside = record others { store = keeper c.start.new.keeper; out = out c.tell_bad_row.new.out } in
-    let l = subst (λ (r : Result _ Stop). KeepEnds a.store b.store r) c.in-Err.is c.start.ensures.ends (record others { out = out c.args.out.now }) in
-    let calm = calm_of _ (IsBadIn b.store) ⊥ a b c.in-Err.stop c.in-Some.index c.in-Some.ensures.some l in
-    let t = c.in_ok-tell_bad_row-in-Some.ensures.ends (record others { store = keeper c.start.new.keeper }) in
-    row_ends _ (IsBadIn d.store) ⊥ a d c.in-Err.stop c.in-Some.index c.in-Some.ensures.some (t.cause.0 ∙ calm.0, t.cause.1 ∙ calm.1, t.cause.2 ∙ calm.2, t.cause.3 ∙ calm.3)
-    (bad_of _ (IsBadIn b.store) ⊥ a b c.in-Err.stop c.in-Some.index c.in-Some.ensures.some l)
-    (in_time_same a.input.course) (in_time_same a.files.course) (in_time_on a.out.course d.out.course d.out.course t.out (in_time_same d.out.course))
-
-pub returns-in-None-clause-front : goal.returns-in-None-clause-front
-returns-in-None-clause-front g c = none_front g.row.E.Denot (g.O.Sink.means c.args.out.now).taken (g.K.Keeper.means c.start.new.keeper).rows c.in-Err.stop
-
-pub returns-in-None-clause-ends : goal.returns-in-None-clause-ends
-returns-in-None-clause-ends g c = λ others.
-    let keeper = g.K.Keeper.means in
-    let out = g.O.Sink.means in
-    let a : Outside = record others { store = keeper c.args.keeper.now; out = out c.args.out.now } in
-    let b : Outside = record others { store = keeper c.start.new.keeper; out = out c.args.out.now } in
-    ends_as _ _ (IsBadIn b.store) ⊥ a b c.in-Err.stop (subst (λ (r : Result _ Stop). KeepEnds a.store b.store r) c.in-Err.is c.start.ensures.ends (record others { out = out c.args.out.now }))
+    let d : Outside = record b { out = out c.told_stop.new.out } in
+    let l = subst (λ (r : Result _ Stop). KeepEnds a.store b.store r) c.in-Err.is c.start.ensures.ends a in
+    ends_as Unit _ (IsBadIn d.store) ⊥ a d c.told_stop.result (c.told_stop.ensures.ends a b (ends_as _ Unit (IsBadIn b.store) ⊥ a b c.in-Err.stop l))
 
 -- the store in memory is opened, unless the start was refused
 
@@ -91,24 +45,9 @@ returns-in-Ok-clause-opens g c =
     let keeper = g.K.Keeper.means in
     subst (λ (r : Result _ Stop). OpensBy [] (keeper c.args.keeper.now).paths (keeper c.start.new.keeper).paths r) c.in-Ok.is c.start.ensures.opens
 
-pub returns-in_err-tell_bad_row-in-Some-clause-opens : goal.returns-in_err-tell_bad_row-in-Some-clause-opens
-returns-in_err-tell_bad_row-in-Some-clause-opens g c =
+pub returns-in-Err-clause-opens : goal.returns-in-Err-clause-opens
+returns-in-Err-clause-opens g c =
     let keeper = g.K.Keeper.means in
     let a = (keeper c.args.keeper.now).paths in
     let b = (keeper c.start.new.keeper).paths in
-    opened_on _ [] a b b c.from_residual.result
-    (row_opened Unit [] a b c.in-Err.stop c.in-Some.index c.in-Some.ensures.some (subst (λ (r : Result _ Stop). OpensBy [] a b r) c.in-Err.is c.start.ensures.opens)) refl
-
-pub returns-in_ok-tell_bad_row-in-Some-clause-opens : goal.returns-in_ok-tell_bad_row-in-Some-clause-opens
-returns-in_ok-tell_bad_row-in-Some-clause-opens g c =
-    let keeper = g.K.Keeper.means in
-    let a = (keeper c.args.keeper.now).paths in
-    let b = (keeper c.start.new.keeper).paths in
-    stopped_opening Unit Unit [] a b c.in-Err.stop (subst (λ (r : Result _ Stop). OpensBy [] a b r) c.in-Err.is c.start.ensures.opens)
-
-pub returns-in-None-clause-opens : goal.returns-in-None-clause-opens
-returns-in-None-clause-opens g c =
-    let keeper = g.K.Keeper.means in
-    let a = (keeper c.args.keeper.now).paths in
-    let b = (keeper c.start.new.keeper).paths in
-    stopped_opening Unit Unit [] a b c.in-Err.stop (subst (λ (r : Result _ Stop). OpensBy [] a b r) c.in-Err.is c.start.ensures.opens)
+    stop_opened g.row.E.Denot g.row.E.Denot [] a b c.in-Err.stop c.told_stop.result (subst (λ (r : Result _ Stop). OpensBy [] a b r) c.in-Err.is c.start.ensures.opens) (λ other. (c.told_stop.ensures.other other).0)

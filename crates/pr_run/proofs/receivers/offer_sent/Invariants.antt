@@ -1,6 +1,4 @@
-use Rattle.std.proofs.Common.{◌≡◌, List, ◌++◌, drop}
-use Rattle.pr_queue.specs.spec_alerts.Receivers.{Receiver}
-use Rattle.pr_queue.specs.private.Standing.{StandsFor}
+use Rattle.std.proofs.Common.{drop}
 use Rattle.pr_run.specs.Replies.{all_sent}
 use Rattle.pr_run.proofs.Offering.{HasOffered}
 use Rattle.pr_run.proofs.receivers.offer_sent.Given as goal

@@ -1,18 +1,15 @@
-use Rattle.std.proofs.Common.{◌≡◌, ◌∙◌, ℕ, Bool, true, false, true≢false, List, [], ◌++◌, Option, None, Some, Result, Ok, Err, IsSome, length, refl, sym, ap, subst, arith}
-use Rattle.pr_outside.specs.Meant.{Store}
+use Rattle.std.proofs.Common.{◌≡◌, ◌∙◌, Bool, true≢false, [], ◌++◌, Option, None, Some, Ok, Err, length, refl, sym, ap, subst, arith}
 use Rattle.pr_text.specs.declared.script.order.Numbered.{Numbered}
-use Rattle.pr_outside.specs.Ends.{KnowsLength}
-use Rattle.pr_outside.specs.Outside.{Held, Outside}
+use Rattle.pr_outside.specs.Outside.{Outside}
 use Rattle.pr_outside.specs.Status.{IsLong}
 use Rattle.pr_outside.specs.declared.status.status.Stop.{Stop}
-use Rattle.pr_outside.proofs.Ended.{ends_on, in_time_same, known_stop, quiet, read_on}
+use Rattle.pr_outside.proofs.Ended.{ends_on, known_stop, quiet, read_on}
 use Rattle.pr_outside.proofs.StatusStreams.{appends_none, appends_on}
 use Rattle.pr_outside.proofs.Telling.{on_told}
 use Rattle.pr_text.specs.private.LineReading.{ahead, CountsBytes, IsBeyond}
 use Rattle.pr_text.specs.private.Reading.{unread, HandsOrder, IsCutAt}
 use Rattle.pr_text.proofs.Ahead.{beyond_on, counts_none, counts_on, read_same}
 use Rattle.pr_text.proofs.Orders.{ahead_none}
-use Rattle.pr_run.specs.private.Keeping.{Progress}
 use Rattle.pr_queue.specs.spec_history.Stores.{IsBadIn}
 use Rattle.pr_run.specs.Runs.{EndsOver}
 use Rattle.pr_outside.proofs.Endings.{bad_of, cut_of, ends_wider, known_answer}

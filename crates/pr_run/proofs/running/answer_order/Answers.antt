@@ -1,4 +1,4 @@
-use Rattle.std.proofs.Common.{◌≡◌, ◌∙◌, ℕ, List, ◌++◌, Result, Ok, Err, IfErr, inr, length, refl, sym, ap, subst, take}
+use Rattle.std.proofs.Common.{◌≡◌, ◌∙◌, ℕ, List, ◌++◌, Result, Err, IfErr, inr, ap, subst, take}
 use Rattle.std.specs.Io.KnownBytes.{Appends}
 use Rattle.pr_outside.specs.Ends.{no_row}
 use Rattle.pr_outside.specs.Outside.{Outside}

@@ -1,17 +1,15 @@
-use Rattle.std.proofs.Common.{◌≡◌, ◌∙◌, ℕ, List, Result, Ok, Err, IfOk, length, refl, sym, ap, subst}
+use Rattle.std.proofs.Common.{◌∙◌, Result, Err, IfOk, length, refl, sym, subst}
 use Rattle.pr_outside.specs.Ends.{no_row}
 use Rattle.pr_outside.specs.Opening.{OpensBy}
 use Rattle.pr_outside.specs.Outside.{Outside}
 use Rattle.pr_outside.specs.declared.status.status.Stop.{Stop}
-use Rattle.pr_outside.specs.declared.status.status.Stop.TheVariants as stop
 use Rattle.pr_outside.proofs.Ended.{ends_on, in_time_on, in_time_same, quiet}
 use Rattle.pr_outside.proofs.Opening.{opened_on, row_opened, stopped_opening}
-use Rattle.pr_outside.proofs.StatusStreams.{appends_none}
 use Rattle.pr_text.specs.spec_world.World.{start}
 use Rattle.pr_queue.specs.spec_history.Stores.{KeepEnds, IsBadIn}
 use Rattle.pr_text.specs.spec_world.private.Keeping.{Starts}
 use Rattle.pr_text.specs.BadRows.{bad_row_text}
-use Rattle.pr_run.proofs.Begins.{none_front, opened_front, opened_whole, row_front}
+use Rattle.pr_run.proofs.Begins.{opened_front, opened_whole, row_front}
 use Rattle.pr_text.proofs.Lines.{whole_front, write_row}
 use Rattle.pr_outside.proofs.Endings.{bad_of, calm_of, ends_as, ends_wider, row_ends}
 use Rattle.pr_run.proofs.running.begin.Goals as goal

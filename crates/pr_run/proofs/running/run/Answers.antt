@@ -1,4 +1,4 @@
-use Rattle.std.proofs.Common.{◌≡◌, ◌∙◌, ℕ, List, [], Option, Some, Result, Ok, Err, IfSome, IsSome, refl, sym, ap, subst}
+use Rattle.std.proofs.Common.{List, [], Option, Result, Err, IsSome, refl, sym, ap, subst}
 use Rattle.std.specs.Prelude.{is_some}
 use Rattle.pr_outside.specs.declared.keeping.Row.{Row}
 use Rattle.pr_outside.specs.private.Kept.{StartsRows}
@@ -10,7 +10,7 @@ use Rattle.pr_outside.proofs.Ended.{ends_on, in_time_same, quiet}
 use Rattle.pr_outside.proofs.Opening.{opened_on, opening_error}
 use Rattle.pr_outside.proofs.Telling.{at_told, on_told}
 use Rattle.pr_text.specs.spec_world.World.{start}
-use Rattle.pr_queue.specs.spec_history.Stores.{IsBadIn, OverRows}
+use Rattle.pr_queue.specs.spec_history.Stores.{IsBadIn}
 use Rattle.pr_run.specs.Runs.{EndsBy, EndsOver}
 use Rattle.pr_outside.proofs.Endings.{ends_behind, bad_of, ends_wider, known_answer}
 use Rattle.pr_queue.proofs.HistoryStoredRows.{over_history}

@@ -1,4 +1,4 @@
-use Rattle.std.proofs.Common.{◌≡◌, ◌++◌, ◌+◌, ◌≤◌, drop, length, take}
+use Rattle.std.proofs.Common.{◌≡◌, ◌++◌, ◌+◌, drop, length, take}
 use Rattle.pr_text.specs.Evaluated.{rules_text}
 use Rattle.pr_text.proofs.evaluated.push_rules.Given as goal
 

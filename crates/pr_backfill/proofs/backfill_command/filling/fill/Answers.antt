@@ -14,9 +14,10 @@ use Rattle.spec_rules.specs.spec_history.Stores.{IsBadIn}
 use Rattle.pr_outside.proofs.Endings.{ends_behind, bad_of, ends_wider}
 use Rattle.pr_checks.specs.private.RulesTaken.{loaded_of}
 use Rattle.pr_backfill.specs.private.Standing.{FillingFinishes}
+use Rattle.pr_backfill.proofs.Opened.{opens_more}
 use Rattle.pr_backfill.proofs.Over.{at_rows, ends_ending, ends_error, filled_over, on_rows, row_error, unopened}
 use Rattle.pr_backfill.proofs.Parts.{part_fine}
-use Rattle.pr_backfill.proofs.Unopened.{front_none, starts_same}
+use Rattle.pr_backfill.proofs.Unopened.{front_none, starts_same, told_still}
 use Rattle.pr_backfill.proofs.backfill_command.filling.fill.Goals as goal
 
 -- the groups could not be made
@@ -109,3 +110,13 @@ returns-clause-opens g c =
     let a = (g.K.Keeper.means c.args.keeper.now).paths in
     let b = (g.K.Keeper.means c.open.new.keeper).paths in
     opened_on _ c.args.path.now a b (g.K.Keeper.means c.fill_over.new.keeper).paths c.fill_over.result c.in_ok-head.ensures.opens c.fill_over.ensures.part.paths
+
+-- the rows until it was
+
+pub returns-in_err-groups-clause-unopened : goal.returns-in_err-groups-clause-unopened
+returns-in_err-groups-clause-unopened g c = λ same. told_still (g.K.Keeper.means c.args.keeper.now).rows
+
+pub returns-clause-unopened : goal.returns-clause-unopened
+returns-clause-unopened g c = λ same.
+    let keeper = g.K.Keeper.means in
+    absurd (opens_more c.args.path.now (keeper c.args.keeper.now).paths (keeper c.open.new.keeper).paths (keeper c.fill_over.new.keeper).paths c.in_ok-head.ensures.opens c.fill_over.ensures.part.paths same)

@@ -1,62 +1,66 @@
-use Rattle.std.proofs.Common.{Err, refl, ap, subst, length, arith}
-use Rattle.pr_manager.specs.pr_head.private.Causes.{HasStartCause}
-use Rattle.pr_manager.specs.pr_head.declared.rows.fault.StartError.{StartError}
-use Rattle.pr_text.specs.BadRows.{bad_row_text}
-use Rattle.pr_text.proofs.Lines.{whole_front, write_row}
-use Rattle.pr_outside.specs.declared.status.status.Stop.TheVariants.{BadRow}
+use Rattle.std.proofs.Common.{Err, refl}
+use Rattle.pr_outside.specs.Outside.{Outside}
+use Rattle.pr_outside.proofs.Ended.{in_time_same}
+use Rattle.pr_outside.proofs.Endings.{ends_behind}
 use Rattle.pr_outside.proofs.Opening.{opened_on}
-use Rattle.pr_backfill.proofs.Opened.{bad_opened}
-use Rattle.pr_backfill.proofs.Unopened.{front_row, start_row, start_untold}
+use Rattle.spec_rules.specs.spec_history.Stores.{IsBadIn}
+use Rattle.pr_backfill.proofs.Opened.{opens_more, refused_opens}
+use Rattle.pr_backfill.proofs.Unopened.{front_none, keeps_starts, refused_row, refused_start, same_told, starts_on}
 use Rattle.pr_backfill.proofs.backfill_command.opening.open.Goals as goal
 
--- the line could not be written
+-- the store is opened
 
-pub returns-in_err-tell_bad_row-in-Err-BadRow-clause-front : goal.returns-in_err-tell_bad_row-in-Err-BadRow-clause-front
-returns-in_err-tell_bad_row-in-Err-BadRow-clause-front g c =
-    let x = g.O.Sink.means c.args.out.now in
-    let y = g.O.Sink.means c.tell_bad_row.new.out in
-    let b = c.in-Err-BadRow in
-    let e = c.in_err-tell_bad_row-in-Err-BadRow in
-    front_row _ (g.K.Keeper.means c.history.new.keeper).rows x.taken y.taken c.from_residual.result b.index e.ensures.front.0 (b.ensures.bad b.index (ap (λ (e : StartError). Err e) b.field-0-is)) e.ensures.front.1
-    (λ at is. absurd (write_row _ _ x y c.from_residual.result e.field-0.0 at c.from_residual.ensures.1 e.ensures.ends is))
+pub returns-in-Ok-clause-rows : goal.returns-in-Ok-clause-rows
+returns-in-Ok-clause-rows g c =
+    let keeper = g.K.Keeper.means in
+    starts_on (keeper c.args.keeper.now).rows (keeper c.start.new.self).rows (keeper c.read_rows.new.keeper).rows c.in-Ok.ensures.ok c.read_rows.ensures.rows
 
-pub returns-in_err-tell_bad_row-in-Err-BadRow-clause-bad : goal.returns-in_err-tell_bad_row-in-Err-BadRow-clause-bad
-returns-in_err-tell_bad_row-in-Err-BadRow-clause-bad g c = λ at is.
-    let e = c.in_err-tell_bad_row-in-Err-BadRow in
-    absurd (write_row _ _ (g.O.Sink.means c.args.out.now) (g.O.Sink.means c.tell_bad_row.new.out) c.from_residual.result e.field-0.0 at c.from_residual.ensures.1 e.ensures.ends is)
+pub returns-in-Ok-clause-opens : goal.returns-in-Ok-clause-opens
+returns-in-Ok-clause-opens g c =
+    let keeper = g.K.Keeper.means in
+    opened_on _ c.args.path.now (keeper c.args.keeper.now).paths (keeper c.start.new.self).paths (keeper c.read_rows.new.keeper).paths c.read_rows.result c.in-Ok.ensures.paths c.read_rows.ensures.paths
 
-pub returns-in_err-tell_bad_row-in-Err-BadRow-clause-ends : goal.returns-in_err-tell_bad_row-in-Err-BadRow-clause-ends
-returns-in_err-tell_bad_row-in-Err-BadRow-clause-ends g c = λ others.
-    let e = c.in_err-tell_bad_row-in-Err-BadRow in
-    start_untold (g.K.Keeper.means c.args.keeper.now) (g.K.Keeper.means c.history.new.keeper) (g.O.Sink.means c.args.out.now) others _ _ (g.O.Sink.means c.tell_bad_row.new.out) c.from_residual.result e.field-0.0
-    c.from_residual.ensures.1 (subst (λ (e : StartError). HasStartCause {T = Unit} (g.K.Keeper.means c.args.keeper.now).faults (g.K.Keeper.means c.history.new.keeper).faults (Err e)) c.in-Err-BadRow.field-0-is c.in-Err-BadRow.ensures.cause) e.ensures.ends
+pub returns-in-Ok-clause-unopened : goal.returns-in-Ok-clause-unopened
+returns-in-Ok-clause-unopened g c = λ same.
+    let keeper = g.K.Keeper.means in
+    absurd (opens_more c.args.path.now (keeper c.args.keeper.now).paths (keeper c.start.new.self).paths (keeper c.read_rows.new.keeper).paths c.in-Ok.ensures.paths c.read_rows.ensures.paths same)
 
--- it was written
+pub returns-in-Ok-clause-ends : goal.returns-in-Ok-clause-ends
+returns-in-Ok-clause-ends g c = λ others.
+    let keeper = g.K.Keeper.means in
+    let out = g.O.Sink.means in
+    let before : Outside = record others { store = keeper c.args.keeper.now; out = out c.args.out.now } in
+    let opened : Outside = record others { store = keeper c.start.new.self; out = out c.args.out.now } in
+    let now : Outside = record others { store = keeper c.read_rows.new.keeper; out = out c.read_rows.new.out } in
+    ends_behind (IsBadIn now.store) ⊥ before opened now c.read_rows.result (refl, refl, c.in-Ok.ensures.cause, refl) (in_time_same before.input.course) (λ e. e) (λ e. e)
+    (c.read_rows.ensures.ends others)
 
-pub returns-in_ok-tell_bad_row-in-Err-BadRow-clause-front : goal.returns-in_ok-tell_bad_row-in-Err-BadRow-clause-front
-returns-in_ok-tell_bad_row-in-Err-BadRow-clause-front g c =
-    let x = g.O.Sink.means c.args.out.now in
-    let y = g.O.Sink.means c.tell_bad_row.new.out in
-    let b = c.in-Err-BadRow in
-    front_row _ (g.K.Keeper.means c.history.new.keeper).rows x.taken y.taken (Err (BadRow b.index)) b.index (length (bad_row_text b.index)) (b.ensures.bad b.index (ap (λ (e : StartError). Err e) b.field-0-is))
-    (whole_front x.taken y.taken (bad_row_text b.index) c.in_ok-tell_bad_row-in-Err-BadRow.ensures.text) (λ at is. omega arith)
+-- it is not
 
-pub returns-in_ok-tell_bad_row-in-Err-BadRow-clause-ends : goal.returns-in_ok-tell_bad_row-in-Err-BadRow-clause-ends
-returns-in_ok-tell_bad_row-in-Err-BadRow-clause-ends g c = λ others.
-    let b = c.in-Err-BadRow in
-    start_row (g.K.Keeper.means c.args.keeper.now) (g.K.Keeper.means c.history.new.keeper) (g.O.Sink.means c.args.out.now) others _ _ (g.O.Sink.means c.tell_bad_row.new.out) tt b.index (subst (λ (e : StartError). HasStartCause {T = Unit} (g.K.Keeper.means c.args.keeper.now).faults (g.K.Keeper.means c.history.new.keeper).faults (Err e)) b.field-0-is b.ensures.cause)
-    (b.ensures.bad b.index (ap (λ (e : StartError). Err e) b.field-0-is)) c.in_ok-tell_bad_row-in-Err-BadRow.ensures.ends
+pub returns-in-Err-clause-front : goal.returns-in-Err-clause-front
+returns-in-Err-clause-front g c =
+    front_none _ (g.K.Keeper.means c.start.new.self).rows (g.O.Sink.means c.args.out.now).taken (Err c.from.result)
+    (λ at is. refused_row c.in-Err.error at cc)
 
--- the store is opened, unless the start was refused
+pub returns-in-Err-clause-bad : goal.returns-in-Err-clause-bad
+returns-in-Err-clause-bad g c = λ at is. absurd (refused_row c.in-Err.error at cc)
 
-pub returns-in_err-tell_bad_row-in-Err-BadRow-clause-opens : goal.returns-in_err-tell_bad_row-in-Err-BadRow-clause-opens
-returns-in_err-tell_bad_row-in-Err-BadRow-clause-opens g c =
-    let a = (g.K.Keeper.means c.args.keeper.now).paths in
-    let b = (g.K.Keeper.means c.history.new.keeper).paths in
-    opened_on _ c.args.path.now a b b c.from_residual.result (bad_opened Unit c.args.path.now a b _ c.in-Err-BadRow.index c.in-Err-BadRow.field-0-is c.in-Err-BadRow.ensures.opens) refl
+pub returns-in-Err-clause-rows : goal.returns-in-Err-clause-rows
+returns-in-Err-clause-rows g c =
+    let keeper = g.K.Keeper.means in
+    keeps_starts (keeper c.args.keeper.now).rows (keeper c.start.new.self).rows c.in-Err.ensures.err
 
-pub returns-in_ok-tell_bad_row-in-Err-BadRow-clause-opens : goal.returns-in_ok-tell_bad_row-in-Err-BadRow-clause-opens
-returns-in_ok-tell_bad_row-in-Err-BadRow-clause-opens g c =
-    let a = (g.K.Keeper.means c.args.keeper.now).paths in
-    let b = (g.K.Keeper.means c.history.new.keeper).paths in
-    bad_opened Unit c.args.path.now a b _ c.in-Err-BadRow.index c.in-Err-BadRow.field-0-is c.in-Err-BadRow.ensures.opens
+pub returns-in-Err-clause-opens : goal.returns-in-Err-clause-opens
+returns-in-Err-clause-opens g c =
+    let keeper = g.K.Keeper.means in
+    refused_opens Unit c.args.path.now (keeper c.args.keeper.now).paths (keeper c.start.new.self).paths c.in-Err.error c.from.result c.from.ensures c.in-Err.ensures.paths
+
+pub returns-in-Err-clause-unopened : goal.returns-in-Err-clause-unopened
+returns-in-Err-clause-unopened g c = λ same.
+    let keeper = g.K.Keeper.means in
+    same_told (keeper c.args.keeper.now).rows (keeper c.start.new.self).rows c.in-Err.ensures.err
+
+pub returns-in-Err-clause-ends : goal.returns-in-Err-clause-ends
+returns-in-Err-clause-ends g c = λ others.
+    let keeper = g.K.Keeper.means in
+    refused_start (keeper c.args.keeper.now) (keeper c.start.new.self) (g.O.Sink.means c.args.out.now) others _ Unit c.in-Err.error c.from.result c.from.ensures c.in-Err.ensures.cause

@@ -11,6 +11,7 @@ use Rattle.pr_checks.specs.private.RulesTaken.{loaded_of}
 use Rattle.pr_backfill.specs.Means.{EndsBy, EndsRefused}
 use Rattle.pr_backfill.proofs.Loaded.{none_wrong, some_wrong, write_fine}
 use Rattle.pr_backfill.proofs.Opened.{refused_fill}
+use Rattle.pr_backfill.proofs.Unopened.{told_still}
 use Rattle.pr_backfill.proofs.backfill_command.running.go_on.Goals as goal
 
 pub returns-then-is_empty-clause-with : goal.returns-then-is_empty-clause-with
@@ -57,3 +58,6 @@ returns-else-is_empty-clause-opens g c =
     let out = g.O.Sink.means in
     refused_fill c.args.path.now _ (record quiet { out = out c.args.out.now }) (record quiet { out = out c.refuse.new.out }) quiet.store quiet.store (out c.args.out.now) (out c.refuse.new.out)
     (g.K.Keeper.means c.args.keeper.now).paths c.refuse.result (c.refuse.ensures.refused quiet) (c.refuse.ensures.ends quiet)
+
+pub returns-else-is_empty-clause-unopened : goal.returns-else-is_empty-clause-unopened
+returns-else-is_empty-clause-unopened g c = λ same. told_still (g.K.Keeper.means c.args.keeper.now).rows

@@ -9,7 +9,8 @@ use Rattle.pr_checks.specs.private.RulesTaken.{rules_of}
 use Rattle.pr_checks.specs.declared.loaded.Rules.{Rules}
 use Rattle.pr_backfill.specs.Means.{EndsWith}
 use Rattle.pr_backfill.proofs.Loaded.{asked_all, no_row_asked, nothing_done, with_behind}
-use Rattle.pr_backfill.proofs.Opened.{asked_long, asked_read, unopened_fill}
+use Rattle.pr_backfill.proofs.Opened.{asked_long, asked_read, quiet_load, unopened_fill}
+use Rattle.pr_backfill.proofs.Unopened.{told_still}
 use Rattle.pr_backfill.proofs.backfill_command.running.run.Goals as goal
 
 pub returns-in-Ok-clause-over : goal.returns-in-Ok-clause-over
@@ -62,3 +63,13 @@ returns-in-Err-clause-opens g c =
     let paths = (g.K.Keeper.means c.args.keeper.now).paths in
     let asked = c.in-Err.ensures.asked in
     unopened_fill c.args.path.now paths paths c.in-Err.stop (asked_read Rules _ _ _ c.in-Err.stop asked) (asked_long Rules _ _ _ c.in-Err.stop asked) (no_row_asked Rules _ _ _ c.in-Err.stop asked) refl
+
+pub returns-in-Err-clause-unopened : goal.returns-in-Err-clause-unopened
+returns-in-Err-clause-unopened g c = λ same. told_still (g.K.Keeper.means c.args.keeper.now).rows
+
+pub returns-in-Ok-clause-unwritten : goal.returns-in-Ok-clause-unwritten
+returns-in-Ok-clause-unwritten g c = λ is.
+    let keeper = g.K.Keeper.means in
+    let out = g.O.Sink.means in
+    absurd (quiet_load (IsBadIn (keeper c.go_on.new.keeper)) (keeper c.args.keeper.now) (keeper c.go_on.new.keeper) (out c.args.out.now) (out c.go_on.new.out) c.go_on.result
+    (c.go_on.ensures.ends quiet) is)

@@ -1,4 +1,4 @@
-use Rattle.std.proofs.Common.{◌≡◌, sym, ap, subst}
+use Rattle.std.proofs.Common.{sym, subst}
 use Rattle.pr_text.specs.spec_world.Settings.{of_a_run}
 use Rattle.pr_text.specs.spec_world.Step.{next}
 use Rattle.pr_run.specs.private.Keeping.{Run}

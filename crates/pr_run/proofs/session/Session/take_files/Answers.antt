@@ -1,4 +1,4 @@
-use Rattle.std.proofs.Common.{◌≡◌, ◌∙◌, ℕ, List, Result, Ok, Err, IfOk, length, refl, sym, ap, subst}
+use Rattle.std.proofs.Common.{◌≡◌, ◌∙◌, List, Result, Ok, Err, IfOk, length, refl, sym, ap, subst}
 use Rattle.pr_outside.specs.Asks.{AsksBy}
 use Rattle.pr_outside.specs.Outside.{AreTold, Outside}
 use Rattle.pr_outside.proofs.Ended.{ends_on, in_time_same}

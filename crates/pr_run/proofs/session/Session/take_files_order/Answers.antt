@@ -1,8 +1,8 @@
-use Rattle.std.proofs.Common.{◌≡◌, ◌∙◌, Ok, Err, length, refl, sym, subst}
+use Rattle.std.proofs.Common.{◌∙◌, Ok, length, refl, sym, subst}
 use Rattle.pr_text.specs.declared.script.order.Order.TheVariants as order
 use Rattle.pr_queue.specs.private.Standing as waiting
 use Rattle.pr_outside.specs.Outside.{Outside}
-use Rattle.pr_outside.proofs.Ended.{ends_on, in_time_same}
+use Rattle.pr_outside.proofs.Ended.{ends_on}
 use Rattle.pr_outside.proofs.StatusStreams.{appends_none}
 use Rattle.pr_text.proofs.WorldRefusals.{refused_files_are_told}
 use Rattle.pr_text.specs.spec_world.Loading.{reload_asked}

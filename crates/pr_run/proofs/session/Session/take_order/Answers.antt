@@ -1,11 +1,11 @@
-use Rattle.std.proofs.Common.{◌≡◌, ◌∙◌, ℕ, List, Ok, Err, IfErr, OnOk, length, refl, sym, ap, subst}
+use Rattle.std.proofs.Common.{◌≡◌, ◌∙◌, ℕ, List, IfErr, OnOk, refl, sym, ap, subst}
 use Rattle.pr_text.specs.declared.script.order.Numbered.{Numbered}
 use Rattle.pr_text.specs.declared.script.order.Order.{Order}
 use Rattle.pr_text.specs.declared.script.order.Order.TheVariants as order
 use Rattle.pr_outside.specs.Outside.{AreTold, Outside}
 use Rattle.pr_run.specs.private.Standing.{AnswersOrder, LeavesFront}
 use Rattle.pr_run.specs.Replies.{bad_line_reply, flush_reply, receiver_reply}
-use Rattle.pr_run.specs.Told.{Turn, reply_turn, turn}
+use Rattle.pr_run.specs.Told.{reply_turn, turn}
 use Rattle.pr_run.proofs.Answering.{made, on_one, order_turn, reply_answers, reply_leaves}
 use Rattle.pr_run.proofs.session.Session.take_order.Goals as goal
 

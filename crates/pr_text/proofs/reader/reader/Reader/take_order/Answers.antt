@@ -1,14 +1,16 @@
-use Rattle.std.proofs.Common.{◌≡◌, ◌∙◌, List, ℕ, string_bytes, refl, sym, ap, subst}
+use Rattle.std.proofs.Common.{◌≡◌, ◌∙◌, List, [], ℕ, string_bytes, refl, sym, ap, subst}
 use Rattle.spec_world.specs.declared.event.Event.TheVariants as event
 use Rattle.pr_text.specs.declared.script.order.Order.TheVariants as order
 use Rattle.pr_text.specs.declared.script.order.Started.TheVariants as started
 use Rattle.pr_text.specs.Orders.{order_of}
+use Rattle.pr_text.specs.private.Plain.{IsPlain}
 use Rattle.pr_text.specs.private.Started.{Starts}
 use Rattle.spec_world.proofs.OutsideEnded.{quiet, read_done, read_on}
 use Rattle.pr_text.specs.private.LineReading.{ahead, IsBeyond}
 use Rattle.pr_text.specs.private.Reading.{unread}
 use Rattle.pr_text.proofs.Ahead.{at_exit, read_same}
 use Rattle.pr_text.proofs.Orders.{finishes_whole, finishes_body}
+use Rattle.pr_text.proofs.Plain.{plain_order}
 use Rattle.pr_text.proofs.reader.reader.Reader.take_order.Goals as goal
 
 pub returns-in_err-read_body-in-Scrape-clause-cut : goal.returns-in_err-read_body-in-Scrape-clause-cut
@@ -21,6 +23,11 @@ pub returns-in-Whole-clause-order : goal.returns-in-Whole-clause-order
 returns-in-Whole-clause-order g c =
     let starts : Starts c.args.line.now (started.Whole c.in-Whole.order) = subst (Starts c.args.line.now) c.in-Whole.is c.in_ok-order.ensures in
     λ over. finishes_whole (ahead (unread c.args.self.now) (g.I.Source.means c.args.input.now).left) c.args.self.now.number c.args.line.now c.in-Whole.order over starts.0 starts.1
+
+pub returns-in-Whole-clause-plain : goal.returns-in-Whole-clause-plain
+returns-in-Whole-clause-plain g c =
+    let starts : Starts c.args.line.now (started.Whole c.in-Whole.order) = subst (Starts c.args.line.now) c.in-Whole.is c.in_ok-order.ensures in
+    subst IsPlain (sym starts.1) (plain_order c.args.line.now [])
 
 pub returns-in_ok-read_body-in-Scrape-clause-order : goal.returns-in_ok-read_body-in-Scrape-clause-order
 returns-in_ok-read_body-in-Scrape-clause-order g c =
