@@ -4,3 +4,6 @@ pub mod Selectors
 pub mod Reloaded
 pub mod AllGroups
 pub mod KeptRows
+pub mod Premises
+pub mod CutShort
+pub mod Restarts

@@ -1,6 +1,6 @@
 pub mod Folders
 pub mod Apart
 pub mod Asked
-mod Named
+mod Sound
 mod Computing
 mod Successes

@@ -1,4 +1,5 @@
 pub mod Names
 pub mod Running
+pub mod Successes
 pub mod Taking
 pub mod Worked

@@ -8,10 +8,11 @@ ghost use Rattle.pr_outside.specs.Loading.{holding_by};
 ghost use Rattle.pr_testfile.specs.File.{plain_file};
 ghost use Rattle.pr_unit.specs.spec_tests.RuleFiles.{rule_file_names};
 ghost use Rattle.pr_unit.specs.spec_tests.Verdict.{verdict};
+ghost use Rattle.pr_unit.specs.private.Loaded.{file_of};
 ghost use Rattle.pr_test.specs.FailureText.{failure_text};
 ghost use Rattle.pr_checks.specs.RulesLoaded.{all_rules};
 ghost use Rattle.pr_test.specs.TestsTold.{are_failures, lines_of, lines_text, lines_with, rule_names, success_line, testing_text, tests_in, tests_told};
-ghost use Rattle.pr_test.specs.private.Running.{CanRun, named_of};
+ghost use Rattle.pr_test.specs.private.Running.{CanRun};
 ghost use Rattle.pr_test.specs.private.Taking.{found_of, HasInterval};
 ghost use Rattle.pr_checks.specs.private.RulesTaken.{loaded_of, rules_of};
 
@@ -23,9 +24,9 @@ use pr_outside::check_loops::{FileCheck, check_files};
 use pr_outside::status::{Status, Stop};
 use pr_outside::{Files, Sink};
 use pr_testfile::TestFile;
-use pr_text::world::NamedFile;
-use pr_unit::run_tests;
+use pr_unit::slide::SlidingRanges;
 use pr_unit::tests_crate::Failure;
+use pr_unit::{RuleGroups, run_tests_over};
 use pr_words::Items;
 use std::alloc::{AllocError, Global};
 
@@ -86,31 +87,28 @@ fn failure_lines(
     Ok(lines)
 }
 
-// The texts of rule files.
-fn named_files(alloc: Global, files: Items<LoadedRules>) -> Result<Vec<NamedFile>, AllocError>
-    ensures { IfOk result (λ named. named.items ≡ map named_of files) }
+// The groups of rule files, for all tests.
+fn rule_groups(alloc: Global, files: Items<LoadedRules>) -> Result<Vec<RuleGroups>, AllocError>
+    ensures { IfOk result (λ rules. map file_of rules.items ≡ map loaded_of files) }
 {
-    let mut named = Vec::new(alloc);
+    let mut rules = Vec::new(alloc);
     for file in files.into_vec() {
-        named.push(NamedFile {
-            name: file.name,
-            bytes: file.bytes,
-        })?;
+        rules.push(RuleGroups::new(alloc, file.name, file.groups)?)?;
     }
-    Ok(named)
+    Ok(rules)
 }
 
 // The checks that differ, over rule files whose names differ.
 fn failures_over(
     alloc: Global,
     test: &TestFile,
-    rules: Items<LoadedRules>,
+    files: Items<LoadedRules>,
 ) -> Result<Vec<Failure>, AllocError>
-    requires { CanRun test.now rules }
-    ensures { IfOk result (λ failures. failures.items ≡ verdict (plain_file test.now) (map loaded_of rules)) }
+    requires { CanRun test.now files }
+    ensures { IfOk result (λ failures. failures.items ≡ verdict (plain_file test.now) (map loaded_of files)) }
 {
-    let named = named_files(alloc, rules)?;
-    run_tests(alloc, test, &named)
+    let rules = rule_groups(alloc, files)?;
+    run_tests_over::<SlidingRanges>(alloc, test, &rules)
 }
 
 // What is told of a test file over its rule files: no test is run where something is wrong with

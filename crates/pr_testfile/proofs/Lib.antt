@@ -3,6 +3,7 @@ pub mod Weak
 pub mod Files
 pub mod Exprs
 pub mod Intervals
+pub mod SomeProblems
 pub mod LabelSets
 pub mod Parts
 pub mod Even

@@ -31,7 +31,7 @@ pub mod rulefile {
 pub use alerts::founds_in_order;
 pub use examples::{checks_have_these_fields, empty_labels_are_none, files_have_these_problems};
 pub use fault::TestError;
-pub use laws::intervals_are_above_0;
+pub use laws::{a_refused_file_has_a_problem, intervals_are_above_0};
 pub use pr_rulefile::alerts_crate::RuleElement;
 pub use pr_rulefile::fields::{Problem, ProblemKind};
 pub use reader::read;

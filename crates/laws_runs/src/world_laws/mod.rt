@@ -14,5 +14,7 @@ pub use laws::{
     a_reload_is_remembered, alerts_have_one_outcome, an_evaluation_keeps_all_groups,
     range_selectors_are_passed,
 };
-pub use row_laws::{a_sample_adds_an_entry, kept_rows_tell_the_history};
+pub use row_laws::{
+    a_sample_adds_an_entry, kept_rows_tell_the_history, rows_that_tell_a_history_are_its_encodings,
+};
 pub use world_rows::groups_stand_in_their_order;

@@ -15,8 +15,15 @@ ghost use Rattle.spec_world.specs.declared.event.Event.TheVariants.{Add};
 ghost use Rattle.spec_world.specs.Step.{next, rows_of, world_after};
 ghost use Rattle.spec_world.specs.World.{World, start};
 
-use spec_history::row::laws::rows_tell_a_history;
+use spec_history::row::laws::{rows_decode_as_their_entries, rows_tell_a_history};
 use spec_world::a_history_is_its_rows;
+
+/// Rows that tell a history are the rows of its entries, one after another, and no others.
+pub fn rows_that_tell_a_history_are_its_encodings()
+    ensures { (rows : List Row) (history : List Entry) → history_of rows ≡ Ok history → rows ≡ map encoded history }
+{
+    rows_decode_as_their_entries();
+}
 
 /// Rows at a start that tell a history, and behind them the rows of what events add, tell the history of
 /// the world after the events, where all that is added are entries.

@@ -3,13 +3,8 @@ use Rattle.std.specs.Prelude.{◌<◌, List, map}
 use Rattle.std.specs.List.{AllByRecursion, IsDistinct}
 use Rattle.std.specs.Str.{bytes_eq}
 use Rattle.pr_testfile.specs.declared.tests.TestFile.{TestFile}
-use Rattle.pr_text.specs.spec_world.declared.event.NamedFile.{NamedFile}
 use Rattle.pr_checks.specs.declared.loaded.LoadedRules.{LoadedRules}
 use Rattle.pr_checks.specs.private.RulesTaken.{IsRuleFile}
-
--- a rule file as its text
-abbrev pub named_of : LoadedRules → NamedFile
-named_of f = record { name = f.name; bytes = f.bytes }
 
 -- Tests can be run over rule files whose names differ, where the groups are evaluated at an interval
 -- above 0.

@@ -3,12 +3,10 @@ ghost use Rattle.std.specs.Prelude.{◌≡◌, true, false, [], ◌∷◌, codes
 ghost use Rattle.pr_outside.specs.Loading.{is_too_large};
 ghost use Rattle.pr_num.specs.declared.value.Num.TheVariants.{NaN};
 ghost use Rattle.pr_checks.specs.spec_history.private.Examples.{number};
-ghost use Rattle.pr_testfile.specs.File.{PlainFile};
-ghost use Rattle.pr_unit.specs.spec_tests.Verdict.{verdict};
 ghost use Rattle.pr_unit.specs.spec_tests.private.Worked.{down_failure, down_file, down_tests, x_failure, x_file};
 ghost use Rattle.pr_test.specs.FailureText.{failure_text};
-ghost use Rattle.pr_checks.specs.RulesLoaded.{RulesLoaded, all_rules, rules_held};
-ghost use Rattle.pr_test.specs.TestsTold.{are_failures, lines_with, tests_told, these_tests, told_of};
+ghost use Rattle.pr_checks.specs.RulesLoaded.{all_rules, rules_held};
+ghost use Rattle.pr_test.specs.TestsTold.{lines_with, tests_told, these_tests, told_of};
 ghost use Rattle.pr_test.specs.private.Worked.{nothing_held};
 
 /// A check is told with its time, what is expected and what comes.
@@ -39,12 +37,4 @@ pub fn a_file_that_is_missing_is_told()
 pub fn each_bad_rule_file_is_told()
     ensures missing { (all_rules nothing_held (codes "a.yml" ∷ codes "b.yml" ∷ [])).wrong ≡ codes "a.yml: Missing\nb.yml: Missing\n" }
     ensures too_large { (rules_held (codes "a.yml") is_too_large).wrong ≡ codes "a.yml: TooLarge\n" }
-{}
-
-/// Of a test file that reads SUCCESS is told exactly where nothing is wrong with its rule files and
-/// each check is as expected.
-#[tactic(auto, using(crate::proofs::Successes::all_met, crate::proofs::Successes::none_told))]
-pub fn success_is_told_where_all_is_met()
-    ensures met { (f : PlainFile) (r : RulesLoaded) → are_failures (lines_with f r) ≡ false → (r.wrong ≡ []) × (verdict f r.files ≡ []) }
-    ensures told { (f : PlainFile) (r : RulesLoaded) → r.wrong ≡ [] → verdict f r.files ≡ [] → are_failures (lines_with f r) ≡ false }
 {}
