@@ -19,5 +19,5 @@ pub mod window_crate {
 }
 
 pub use files::{bytes_of, text_of};
-pub use lines::{counted, halves};
+pub use lines::{counted, halves, joined};
 pub use table::{Answers, tell_table};

@@ -1,6 +1,7 @@
 // Commands of the program, which leave to one another what a store at a path has.
+use crate::program::number_of;
 use pr_outside::DiskFiles;
-use pr_top::program::run;
+use pr_top::program::{ended, run};
 use sqlite::Unknown;
 use std::alloc::{AllocError, Global};
 use std::io;
@@ -23,8 +24,16 @@ pub(crate) fn tell_commands(rt: &HostRuntime) -> io::Result<()> {
     for command in commands.lines() {
         println!(rt; "$ {command}")?;
         let words = words_in(alloc, command)?;
-        let status = run(rt, &words, Unknown).number();
+        let status = number_of(run(rt, &words, Unknown));
         println!(rt; "ends with {status}")?;
     }
     Ok(())
+}
+
+/// Ends as the program does by the words of this process, of which there are none; and tells the
+/// status.
+pub(crate) fn tell_usage(rt: &HostRuntime) -> io::Result<()> {
+    println!(rt; "$")?;
+    let status = number_of(ended(rt, Unknown));
+    println!(rt; "ends with {status}")
 }

@@ -5,6 +5,7 @@
 #![tactic(auto)]
 
 mod commands;
+mod engine_rows;
 mod examples;
 mod folds;
 mod program;
@@ -16,7 +17,8 @@ mod tables;
 mod words;
 mod yaml;
 
-use crate::commands::tell_commands;
+use crate::commands::{tell_commands, tell_usage};
+use crate::engine_rows::tell_engines;
 use crate::examples::tell_examples;
 use crate::folds::ends_of;
 use crate::readings::tell_readings;
@@ -60,6 +62,7 @@ fn unknowns(alloc: Global, count: usize) -> io::Result<Vec<Unknown>> {
 // Goes over the tables of what calls answer that no run shows.
 fn tell_calls(rt: &HostRuntime) -> io::Result<()> {
     tell_alerts(rt, "calls/alerts")?;
+    tell_engines(rt, "calls/engines")?;
     tell_queues(rt, "calls/queues")?;
     tell_ranges(rt, "calls/ranges")?;
     tell_stores(rt, unknowns(rt.alloc(), 64)?)
@@ -79,7 +82,8 @@ fn tell(rt: &HostRuntime) -> io::Result<()> {
     tell_runs(rt)?;
     tell_others(rt)?;
     tell_calls(rt)?;
-    tell_commands(rt)
+    tell_commands(rt)?;
+    tell_usage(rt)
 }
 
 fn main(rt: HostRuntime) -> io::Result<()> {

@@ -11,22 +11,10 @@
 //
 // Behind ` => ` stand the lines that are answered, apart by ` / `. Times are in milliseconds.
 use crate::alert_rows::rule::Rule;
-use crate::{Answers, tell_table};
+use crate::{Answers, joined, tell_table};
 use std::alloc::{AllocError, Global};
 use std::io;
 use std::rt::HostRuntime;
-
-// The lines of an answer, apart by ` / `.
-fn joined(alloc: Global, lines: &str) -> Result<String, AllocError> {
-    let mut text = String::new(alloc);
-    for line in lines.lines() {
-        if !text.is_empty() {
-            text.push_str(" / ")?;
-        }
-        text.push_str(line)?;
-    }
-    Ok(text)
-}
 
 impl Answers for Rule {
     fn new(alloc: Global) -> Rule {

@@ -11,4 +11,5 @@ mod tables;
 mod told;
 
 pub use measure::tell_work;
+pub use orders::{row_text, rows_of};
 pub use told::tell_stores;

@@ -16,7 +16,10 @@ fn row_of(alloc: Global, text: &str) -> Result<Row, AllocError> {
 }
 
 /// The rows of texts SERIES|TIME|POINT, with a blank between two.
-pub(crate) fn rows_of(alloc: Global, text: &str) -> Result<Vec<Row>, AllocError> {
+///
+/// # Errors
+/// Where memory runs out.
+pub fn rows_of(alloc: Global, text: &str) -> Result<Vec<Row>, AllocError> {
     let mut rows = Vec::new(alloc);
     for word in text.split(' ') {
         rows.push(row_of(alloc, word)?)?;
@@ -24,7 +27,11 @@ pub(crate) fn rows_of(alloc: Global, text: &str) -> Result<Vec<Row>, AllocError>
     Ok(rows)
 }
 
-fn row_text(alloc: Global, row: &Row) -> Result<String, AllocError> {
+/// The text SERIES|TIME|POINT of a row.
+///
+/// # Errors
+/// Where memory runs out.
+pub fn row_text(alloc: Global, row: &Row) -> Result<String, AllocError> {
     format!(in alloc;
         "{}|{}|{}",
         row.series.as_str(),

@@ -14,7 +14,8 @@
 //   that is refused; `spoil` and the number of a row handed out that no program writes.
 // - `each` and `cut`: further runs, that end early (`differences.rt`).
 // - `--` and a comment.
-// - `*`, a number, and one of these lines, which stands there so often, with `№` for the time.
+// - `*`, a number, and one of these lines, which stands there so often, with `№` and `‹A№+B›` for the
+//   time, but in what is repeated within it.
 //
 // The signs of its texts stand in `signs.rt`.
 
