@@ -1,5 +1,5 @@
 -- One more element in its part.
-use Rattle.std.proofs.Common.{◌≡◌, ℕ, suc, ◌+◌, ◌≤◌, Bool, true, false, cond, List, [], ◌∷◌, ◌++◌, length, map, fold, Option, Some, None, refl, sym, ap, ◌∙◌, subst, arith, append-nil}
+use Rattle.std.proofs.Common.{◌≡◌, ℕ, suc, ◌+◌, ◌<◌, ◌≤◌, ◌^◌, Bool, true, false, cond, List, [], ◌∷◌, ◌++◌, length, map, fold, Option, Some, None, refl, sym, ap, ◌∙◌, subst, arith, append-nil}
 use Rattle.std.proofs.lemmas.List.{map-append}
 use Rattle.std.proofs.lemmas.List.Elements.{filter-append}
 use Rattle.std.proofs.lemmas.List.Sums.{fold-append, length-filter, count_by-le-length}
@@ -29,6 +29,11 @@ values_more : (key : Item Num → List Pair) (front : List (Item Num)) (x : Item
 values_more key front x q =
     ap values_of (filter-append (λ (e : Item Num). labels_eq (key e) q) front (x ∷ []))
     ∙ map-append (λ (e : Item Num). e.value) (part_by key front q) (part_by key (x ∷ []) q)
+
+-- there is room for one more value
+pub light : {A : Type 0} (weight : A → ℕ) (o : Option A) (n m : ℕ) → n ≤ m → m + 1 < 2 ^ 64 → IfSome o (λ a. weight a ≤ n) → IfSome o (λ a. weight a + 1 < 2 ^ 64)
+light weight None n m le small h = tt
+light weight (Some a) n m le small h = omega arith
 
 module _ {A : Type 0} (lift : Num → A) (combine : A → A → A) where
   pub parts_known : (key : Item Num → List Pair) (front : List (Item Num)) (x : Item Num) (m n : BTreeMap (List Pair) A) (w : A)

@@ -1,17 +1,17 @@
 // The aggregation `count_values`.
-ghost use Rattle.std.specs.Prelude.{◌≡◌, ◌+◌, ◌<◌, ◌^◌, true, IfOk, IfSome};
+ghost use Rattle.std.specs.Prelude.{◌≡◌, true, IfOk};
 ghost use Rattle.pr_num.specs.declared.value.Num.{Num};
 ghost use Rattle.pr_num.specs.Shown.{shown};
 ghost use Rattle.pr_window.specs.pr_labels.Edits.{set_label};
 ghost use Rattle.pr_window.specs.pr_labels.Names.{is_label_name};
 ghost use Rattle.pr_window.specs.spec_vectors.private.Laws.{IsVector};
 ghost use Rattle.pr_window.specs.spec_vectors.Aggregation.{counted, value_group};
-ghost use Rattle.pr_window.specs.private.Folding.{with_next};
 ghost use Rattle.pr_agg.specs.private.Counts.{both_parts, numbered_all, one_each};
 ghost use Rattle.pr_agg.specs.private.Parts.{AreParts};
 
 use crate::numbers::whole;
-use crate::parts::group_of;
+use crate::parts::{add_value, group_of};
+use crate::values::CountFold;
 use pr_num::{Num, write};
 use pr_window::labels::{Grouping, Item, Labels};
 use std::alloc::{AllocError, Global};
@@ -58,17 +58,6 @@ fn value_group(
     set_to_value(alloc, group, label, item.value)
 }
 
-// One element more.
-fn one_more(before: Option<u64>) -> u64
-    requires { IfSome before (λ n. n + 1 < 2 ^ 64) }
-    ensures { (v : Num) → result ≡ with_next one_each both_parts before v }
-{
-    match before {
-        Some(n) => n + 1,
-        None => 1,
-    }
-}
-
 // How many elements go by the same labels.
 fn count_parts(
     alloc: Global,
@@ -82,9 +71,13 @@ fn count_parts(
     let mut counts: BTreeMap<Labels, u64> = BTreeMap::new(alloc);
     for item in vector {
         let group = value_group(alloc, label, by, item)?;
-        let before = counts.get(&group).copied();
-        let count = one_more(before);
-        counts.insert(group, count)?;
+        add_value::<u64, CountFold, _, _>(
+            &mut counts,
+            group,
+            &item.value,
+            &|_: &Num| 1u64,
+            &|a: &u64, b: &u64| *a + *b,
+        )?;
     }
     Ok(counts)
 }

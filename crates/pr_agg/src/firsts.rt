@@ -1,5 +1,5 @@
 // The aggregations `topk` and `bottomk`.
-ghost use Rattle.std.specs.Prelude.{◌≡◌, ◌+◌, ◌<◌, ◌^◌, ℕ, Some, Bool, filter, IfOk, OnOk, List, length, vec_len, slice_get};
+ghost use Rattle.std.specs.Prelude.{◌≡◌, ◌+◌, ◌<◌, ◌^◌, ℕ, Some, Bool, filter, IfNone, IfOk, IfSome, OnOk, List, length, vec_len, slice_get};
 ghost use Rattle.std.specs.Option.{unwrap_or};
 ghost use Rattle.std.specs.BTreeMap.{Updates, get};
 ghost use Rattle.pr_num.specs.declared.value.Num.{Num};
@@ -87,15 +87,36 @@ fn ranks_of(
     Ok(ranks)
 }
 
+// Counts one more element of a group, where some were counted, and answers how many they were.
+fn count_known(seen: &mut BTreeMap<Labels, u64>, group: &Labels) -> Option<u64>
+    requires { unwrap_or (get labels_cmp seen.old group.now) 0 + 1 < 2 ^ 64 }
+    ensures before { result ≡ get labels_cmp seen.old group.now }
+    ensures counted { IfSome result (λ n. Updates labels_cmp seen.old seen.new group.now (Some (n + 1))) }
+    ensures same { IfNone result (seen.new.entries ≡ seen.old.entries) }
+{
+    match seen.get_mut(group) {
+        Some(count) => {
+            let before = *count;
+            *count = before + 1;
+            Some(before)
+        }
+        None => None,
+    }
+}
+
 // Counts one more element of a group, and answers how many were counted before.
 fn count_one(seen: &mut BTreeMap<Labels, u64>, group: Labels) -> Result<u64, AllocError>
     requires { unwrap_or (get labels_cmp seen.old group) 0 + 1 < 2 ^ 64 }
     ensures before { IfOk result (λ n. n ≡ unwrap_or (get labels_cmp seen.old group) 0) }
     ensures counted { IfOk result (λ n. Updates labels_cmp seen.old seen.new group (Some (n + 1))) }
 {
-    let before = seen.get(&group).copied().unwrap_or(0);
-    seen.insert(group, before + 1)?;
-    Ok(before)
+    match count_known(seen, &group) {
+        Some(before) => Ok(before),
+        None => {
+            seen.insert(group, 1)?;
+            Ok(0)
+        }
+    }
 }
 
 // Marks the element at a place, in order of rank.

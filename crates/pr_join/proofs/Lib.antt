@@ -4,3 +4,6 @@ pub mod Taken
 pub mod Pairing
 pub mod Ordered
 pub mod KeyLabels
+pub mod EmptySides
+pub mod Walking
+pub mod RisingPlaces

@@ -3,8 +3,7 @@ use Rattle.std.proofs.Common.{◌≡◌, ◌==◌, Bool, false, length, List, []
 use Rattle.std.proofs.lemmas.List.{map-append}
 use Rattle.std.proofs.lemmas.List.Elements.{filter_map-append}
 use Rattle.std.proofs.lemmas.Grind.{flat_map-append}
-use Rattle.std.specs.BTreeMap.{BTreeMap}
-use Rattle.std.specs.List.{find, cons_option}
+use Rattle.std.specs.List.{cons_option}
 use Rattle.std.specs.Option.{IfSome, option_or, option_map, option_to_list}
 use Rattle.spec_vectors.specs.pr_num.declared.value.Num.{Num}
 use Rattle.spec_vectors.specs.pr_num.declared.value.TooWide.{TooWide}
@@ -23,10 +22,7 @@ use Rattle.spec_vectors.specs.Vectors.{in_order}
 use Rattle.spec_vectors.specs.Matching.{KeptPair, Operator, Paired, has_key, items_kept, joined, joined_sides, many_side, one_side, kept_pairs, kept_of, kept_if, key_of, least_shared, pair_outcome, outcomes_of, paired, pairs, pairs_with, outcome_fault, fault_of_outcomes, joined_result, side_fault, unless_fault}
 use Rattle.spec_vectors.specs.pr_labels.private.Entries.{items_of}
 use Rattle.pr_join.specs.declared.rows.JoinedElements.{JoinedElements}
-use Rattle.pr_join.specs.declared.places.KeyPlace.{KeyPlace}
-use Rattle.pr_join.specs.private.Places.{IsIndexOf, is_flagged}
 use Rattle.pr_join.specs.private.Rows.{HasKept, AreRowsTaken, outcomes_with}
-use Rattle.pr_join.proofs.Placing.{first_flag}
 
 pub or_none : (x : Option MatchFault) → option_or x None ≡ x
 or_none None = refl
@@ -142,24 +138,24 @@ pub side_fault_some : (how : Matching) (manys ones : List (Item Num)) → false 
 side_fault_some how [] ones h = cc
 side_fault_some how (m ∷ manys) ones h = refl
 
-module _ (how : Matching) (keep_name : Bool) (f : Operator) (manys ones : List (Item Num)) (places : BTreeMap (List Pair) KeyPlace) (index : IsIndexOf how ones ones places) where
-  pub sides_shared : (key : List Pair) → false ≡ (length manys == 0) → Some key ≡ option_map (λ e. e.0) (find is_flagged places.entries)
+module _ (how : Matching) (keep_name : Bool) (f : Operator) (manys ones : List (Item Num)) where
+  pub sides_shared : (key : List Pair) → false ≡ (length manys == 0) → Some key ≡ least_shared how ones
       → joined_sides how keep_name f manys ones ≡ Err (fault.ManyToMany key)
   sides_shared key some h =
       ap (λ (x : Option MatchFault). joined_result how.card (outcomes_of how keep_name f manys ones) x)
-      (side_fault_some how manys ones some ∙ ap (λ (x : Option (List Pair)). option_map fault.ManyToMany x) (sym (h ∙ first_flag how ones places index)))
+      (side_fault_some how manys ones some ∙ ap (λ (x : Option (List Pair)). option_map fault.ManyToMany x) (sym h))
 
-  no_side_fault : false ≡ (length manys == 0) → None ≡ option_map (λ e. e.0) (find is_flagged places.entries) → side_fault how manys ones ≡ None
+  no_side_fault : false ≡ (length manys == 0) → None ≡ least_shared how ones → side_fault how manys ones ≡ None
   no_side_fault some h =
-      side_fault_some how manys ones some ∙ ap (λ (x : Option (List Pair)). option_map fault.ManyToMany x) (sym (h ∙ first_flag how ones places index))
+      side_fault_some how manys ones some ∙ ap (λ (x : Option (List Pair)). option_map fault.ManyToMany x) (sym h)
 
-  fault_case : (e : MatchFault) → false ≡ (length manys == 0) → None ≡ option_map (λ e. e.0) (find is_flagged places.entries)
+  fault_case : (e : MatchFault) → false ≡ (length manys == 0) → None ≡ least_shared how ones
       → fault_of_outcomes how.card [] (outcomes_of how keep_name f manys ones) ≡ Some e → joined_sides how keep_name f manys ones ≡ Err e
   fault_case e some h at =
       ap (λ (x : Option MatchFault). joined_result how.card (outcomes_of how keep_name f manys ones) x) (no_side_fault some h)
       ∙ ap (λ (x : Option MatchFault). unless_fault x (in_order (items_kept (kept_pairs (outcomes_of how keep_name f manys ones))))) at
 
-  pub sides_fault : (e : JoinFault) → false ≡ (length manys == 0) → None ≡ option_map (λ e. e.0) (find is_flagged places.entries)
+  pub sides_fault : (e : JoinFault) → false ≡ (length manys == 0) → None ≡ least_shared how ones
       → (e ≢ Memory → fault_of_outcomes how.card [] (outcomes_of how keep_name f manys ones) ≡ match_told e)
       → IfSome (match_told e) (λ fault. joined_sides how keep_name f manys ones ≡ Err fault)
   sides_fault (cause.ManyToMany key) some h at = fault_case (fault.ManyToMany key) some h (at (λ m. cc))
@@ -167,7 +163,7 @@ module _ (how : Matching) (keep_name : Bool) (f : Operator) (manys ones : List (
   sides_fault cause.TooWide some h at = fault_case fault.TooWide some h (at (λ m. cc))
   sides_fault Memory some h at = tt
 
-  pub sides_kept : (rows : JoinedElements) (items : List (Item Num)) → false ≡ (length manys == 0) → None ≡ option_map (λ e. e.0) (find is_flagged places.entries)
+  pub sides_kept : (rows : JoinedElements) (items : List (Item Num)) → false ≡ (length manys == 0) → None ≡ least_shared how ones
       → AreRowsTaken how ones [] (outcomes_of how keep_name f manys ones) rows → items ≡ items_of rows.items → joined_sides how keep_name f manys ones ≡ Ok items
   sides_kept rows items some h t is =
       ap (λ (x : Option MatchFault). joined_result how.card (outcomes_of how keep_name f manys ones) x) (no_side_fault some h)

@@ -32,7 +32,7 @@ key_set_more how front x =
 count_more : (p : Item Num → Bool) (front : List (Item Num)) (x : Item Num) → count_by p (front ++ x ∷ []) ≡ count_by p front + cond (p x) 1 0
 count_more p front x = omega (arith, sum_by-append (λ (y : Item Num). cond (p y) 1 0) front (x ∷ []))
 
-count_cons : (p : Item Num → Bool) (x : Item Num) (xs : List (Item Num)) → count_by p (x ∷ xs) ≡ cond (p x) 1 0 + count_by p xs
+pub count_cons : (p : Item Num → Bool) (x : Item Num) (xs : List (Item Num)) → count_by p (x ∷ xs) ≡ cond (p x) 1 0 + count_by p xs
 count_cons p x xs = omega (arith, sum_by-append (λ (y : Item Num). cond (p y) 1 0) (x ∷ []) xs)
 
 none_counted : (p : Item Num → Bool) (xs : List (Item Num)) → find p xs ≡ None → count_by p xs ≡ 0

@@ -2,5 +2,6 @@ pub mod Faults
 pub mod Keys
 pub mod Operators
 pub mod Places
+pub mod Rising
 pub mod Rows
 pub mod Sets

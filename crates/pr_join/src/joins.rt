@@ -1,23 +1,22 @@
 // Arithmetic and comparisons between two vectors.
-ghost use Rattle.std.specs.Prelude.{◌≡◌, ◌≢◌, ◌<◌, length, List, [], ◌∷◌, find, Ok, Err, Some, None, IfOk, IfSome, MatchResult, OnOk};
+ghost use Rattle.std.specs.Prelude.{◌≡◌, ◌≢◌, ◌<◌, length, List, [], ◌∷◌, Ok, Err, Some, None, IfOk, IfSome, MatchResult, OnOk};
 ghost use Rattle.pr_join.specs.declared.join_fault.JoinFault.TheVariants.{Memory};
 ghost use Rattle.spec_vectors.specs.pr_labels.declared.item.Item.{Item};
 ghost use Rattle.spec_vectors.specs.pr_num.declared.value.Num.{Num};
 ghost use Rattle.spec_vectors.specs.private.Laws.{IsVector};
-ghost use Rattle.spec_vectors.specs.Matching.{Operator, KeptPair, worked, paired, pair_outcome, fault_of_outcomes, key_of, outcomes_of, joined, joined_sides};
+ghost use Rattle.spec_vectors.specs.Matching.{Operator, KeptPair, worked, paired, pair_outcome, fault_of_outcomes, key_of, least_shared, outcomes_of, joined, joined_sides};
 ghost use Rattle.pr_join.specs.private.Faults.{match_told};
 ghost use Rattle.pr_join.specs.private.Operators.{AnswersBy};
-ghost use Rattle.pr_join.specs.private.Places.{IsIndexOf, IsOnlyAt, is_flagged};
+ghost use Rattle.pr_join.specs.private.Places.{ArePlacesOf, IsOnlyAt};
 ghost use Rattle.pr_join.specs.private.Rows.{HasKept, AreRowsTaken, outcomes_with};
 
 use crate::join_fault::JoinFault;
 use crate::labels::result_labels;
-use crate::places::{KeyPlace, first_shared, key_of, place_of, places_of};
+use crate::places::{Places, first_shared, key_of, place_of, places_of};
 use crate::rows::{JoinedElements, no_rows, take};
 use spec_vectors::labels::{Card, Item, Labels, Matching};
 use spec_vectors::num::{Num, TooWide};
 use std::alloc::Global;
-use std::collections::BTreeMap;
 
 // What the operator answers to a pair; it takes the left value first.
 fn worked<O: Fn(Num, Num) -> Result<Option<Num>, TooWide>>(
@@ -72,18 +71,19 @@ fn join_one<O: Fn(Num, Num) -> Result<Option<Num>, TooWide>>(
     keep_name: bool,
     op: &O,
     ones: &[Item<Num>],
-    places: &BTreeMap<Labels, KeyPlace>,
+    places: &mut Places,
     many: &Item<Num>,
     rows: &mut JoinedElements,
 ) -> Result<(), JoinFault>
     requires callable { O.IsAlwaysCallable op.now }
-    requires index { IsIndexOf how.now ones.now ones.now places.now }
-    requires unshared { find is_flagged places.now.entries ≡ None }
+    requires places { ArePlacesOf how.now ones.now places.old }
+    requires unshared { least_shared how.now ones.now ≡ None }
     requires room { length rows.old.taken.items ≡ length ones.now }
     ensures taken { (f : Operator) (before : List KeptPair) → AnswersBy O.Fn op.now f → HasKept how.now ones.now before rows.old → MatchResult result
         (λ _. AreRowsTaken how.now ones.now before (outcomes_with how.now keep_name f ones.now many.now) rows.new)
         (λ e. e ≢ Memory → fault_of_outcomes how.now.card before (outcomes_with how.now keep_name f ones.now many.now) ≡ match_told e) }
     ensures room { OnOk result (length rows.new.taken.items ≡ length ones.now) }
+    ensures places { ArePlacesOf how.now ones.now places.new }
 {
     let key = key_of(alloc, how, many)?;
     match place_of(how, ones, places, &key) {
@@ -103,11 +103,11 @@ fn join_all<O: Fn(Num, Num) -> Result<Option<Num>, TooWide>>(
     op: &O,
     manys: &[Item<Num>],
     ones: &[Item<Num>],
-    places: &BTreeMap<Labels, KeyPlace>,
+    places: &mut Places,
 ) -> Result<JoinedElements, JoinFault>
     requires callable { O.IsAlwaysCallable op.now }
-    requires index { IsIndexOf how.now ones.now ones.now places.now }
-    requires unshared { find is_flagged places.now.entries ≡ None }
+    requires places { ArePlacesOf how.now ones.now places.old }
+    requires unshared { least_shared how.now ones.now ≡ None }
     ensures { (f : Operator) → AnswersBy O.Fn op.now f → MatchResult result
         (AreRowsTaken how.now ones.now [] (outcomes_of how.now keep_name f manys.now ones.now))
         (λ e. e ≢ Memory → fault_of_outcomes how.now.card [] (outcomes_of how.now keep_name f manys.now ones.now) ≡ match_told e) }
@@ -139,11 +139,11 @@ fn join_sides<O: Fn(Num, Num) -> Result<Option<Num>, TooWide>>(
     if manys.is_empty() {
         return Ok(Vec::new(alloc));
     }
-    let places = places_of(alloc, how, ones)?;
+    let mut places = places_of(alloc, how, ones)?;
     if let Some(key) = first_shared(alloc, &places)? {
         return Err(JoinFault::ManyToMany { key });
     }
-    match join_all(alloc, how, keep_name, op, manys, ones, &places) {
+    match join_all(alloc, how, keep_name, op, manys, ones, &mut places) {
         Ok(rows) => Ok(rows.items.into_items()?),
         Err(fault) => Err(fault),
     }

@@ -1,12 +1,13 @@
 //! Operators between two vectors: arithmetic, comparisons and set operators by matching keys. A
-//! call equals its definition in `spec_vectors`; keys are looked up in ordered maps, so that the work
-//! grows with the elements and not with their pairs.
+//! call equals its definition in `spec_vectors`; keys are looked up in lists that rise or in ordered
+//! maps, so that the work grows with the elements and not with their pairs.
 #![tactic(auto)]
 
 mod join_fault;
 mod joins;
 mod labels;
 mod places;
+mod rising;
 mod rows;
 mod sets;
 

@@ -1,22 +1,31 @@
 // Set operators between two vectors.
-ghost use Rattle.std.specs.Prelude.{◌≡◌, IfOk, OnOk, fold, List};
+ghost use Rattle.std.specs.Prelude.{◌≡◌, IfOk, OnOk, fold, List, []};
 ghost use Rattle.spec_vectors.specs.pr_labels.declared.item.Item.{Item};
+ghost use Rattle.spec_vectors.specs.pr_labels.declared.matching.Matching.{Matching};
 ghost use Rattle.spec_vectors.specs.pr_num.declared.value.Num.{Num};
 ghost use Rattle.spec_vectors.specs.private.Laws.{IsVector};
 ghost use Rattle.spec_vectors.specs.Vectors.{with_element};
 ghost use Rattle.spec_vectors.specs.Matching.{both_sides, left_alone, either_side, is_matched};
-ghost use Rattle.pr_join.specs.private.Sets.{IsKeySetOf, with_match};
+ghost use Rattle.pr_join.specs.private.Sets.{AreKeysOf, IsKeySetOf, with_match};
 ghost use Rattle.pr_join.specs.private.Rows.{elements};
 
 use crate::places::key_of;
+use crate::rising::{RisingKeys, rising_keys};
 use crate::rows::{elements_of, put};
 use spec_vectors::labels::{Item, Labels, Matching};
 use spec_vectors::num::Num;
 use std::alloc::{AllocError, Global};
 use std::collections::BTreeMap;
 
-// The keys of a side's elements.
-fn keys_of(
+// The keys of a side's elements: in a list where they rise, and else in an ordered set.
+#[derive(Drop)]
+enum SideKeys {
+    Rising(RisingKeys),
+    Sorted(BTreeMap<Labels, ()>),
+}
+
+// The keys of a side's elements as an ordered set.
+fn sorted_keys(
     alloc: Global,
     how: &Matching,
     side: &[Item<Num>],
@@ -30,20 +39,81 @@ fn keys_of(
     Ok(keys)
 }
 
-// Whether one of the keys is that of the element.
+fn keys_of(alloc: Global, how: &Matching, side: &[Item<Num>]) -> Result<SideKeys, AllocError>
+    ensures { IfOk result (λ keys. AreKeysOf how.now side.now keys) }
+{
+    match rising_keys(alloc, how, side)? {
+        Some(rising) => Ok(SideKeys::Rising(rising)),
+        None => Ok(SideKeys::Sorted(sorted_keys(alloc, how, side)?)),
+    }
+}
+
+// Whether one of the keys of the other side is that of the element.
 fn has_match(
     alloc: Global,
     how: &Matching,
-    keys: &BTreeMap<Labels, ()>,
+    other: &[Item<Num>],
+    keys: &mut SideKeys,
     item: &Item<Num>,
 ) -> Result<bool, AllocError>
-    ensures { (other : List (Item Num)) → IsKeySetOf how.now other keys.now → IfOk result (λ b. b ≡ is_matched how.now other item.now) }
+    requires { AreKeysOf how.now other.now keys.old }
+    ensures matched { IfOk result (λ b. b ≡ is_matched how.now other.now item.now) }
+    ensures keys { AreKeysOf how.now other.now keys.new }
 {
     let key = key_of(alloc, how, item)?;
-    Ok(keys.contains_key(&key))
+    match keys {
+        SideKeys::Rising(rising) => Ok(rising.find(&key).is_some()),
+        SideKeys::Sorted(sorted) => Ok(sorted.contains_key(&key)),
+    }
+}
+
+// Elements of their own with the same labels and values.
+fn copies_of(alloc: Global, side: &[Item<Num>]) -> Result<Vec<Item<Num>>, AllocError>
+    ensures { IfOk result (λ v. v.items ≡ side.now) }
+{
+    let mut copies = Vec::with_capacity(alloc, side.len())?;
+    for item in side {
+        copies.push(item.copy(alloc)?)?;
+    }
+    Ok(copies)
+}
+
+// The elements whose key is there, or is not there, where no key is: none of them, or all.
+fn without_keys(
+    alloc: Global,
+    side: &[Item<Num>],
+    wanted: bool,
+) -> Result<Vec<Item<Num>>, AllocError>
+    ensures { (how : Matching) → IfOk result (λ v. v.items ≡ with_match how [] wanted side.now) }
+{
+    if wanted {
+        Ok(Vec::new(alloc))
+    } else {
+        copies_of(alloc, side)
+    }
 }
 
 // The elements whose key is there, or is not there.
+fn by_keys(
+    alloc: Global,
+    how: &Matching,
+    side: &[Item<Num>],
+    other: &[Item<Num>],
+    wanted: bool,
+) -> Result<Vec<Item<Num>>, AllocError>
+    ensures { IfOk result (λ v. v.items ≡ with_match how.now other.now wanted side.now) }
+{
+    let mut keys = keys_of(alloc, how, other)?;
+    let mut chosen = Vec::new(alloc);
+    for item in side {
+        if has_match(alloc, how, other, &mut keys, item)? == wanted {
+            chosen.push(item.copy(alloc)?)?;
+        }
+    }
+    Ok(chosen)
+}
+
+// The same, without a key where a side is empty.
 fn with_match(
     alloc: Global,
     how: &Matching,
@@ -53,14 +123,13 @@ fn with_match(
 ) -> Result<Vec<Item<Num>>, AllocError>
     ensures { IfOk result (λ v. v.items ≡ with_match how.now other.now wanted side.now) }
 {
-    let keys = keys_of(alloc, how, other)?;
-    let mut chosen = Vec::new(alloc);
-    for item in side {
-        if has_match(alloc, how, &keys, item)? == wanted {
-            chosen.push(item.copy(alloc)?)?;
-        }
+    if side.is_empty() {
+        Ok(Vec::new(alloc))
+    } else if other.is_empty() {
+        without_keys(alloc, side, wanted)
+    } else {
+        by_keys(alloc, how, side, other, wanted)
     }
-    Ok(chosen)
 }
 
 /// The left elements whose key the right side has.

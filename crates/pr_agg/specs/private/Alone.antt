@@ -1,5 +1,5 @@
 -- A value as its own summary.
-use Rattle.std.specs.Prelude.{ℕ, ◌≤◌}
+use Rattle.std.specs.Prelude.{◌≤◌}
 use Rattle.std.proofs.Common.{arith}
 use Rattle.pr_num.specs.declared.value.Num.{Num}
 use Rattle.pr_window.specs.private.Extremes.{no_weight}

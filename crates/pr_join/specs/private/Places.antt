@@ -10,6 +10,9 @@ use Rattle.spec_vectors.specs.pr_labels.Order.{labels_cmp}
 use Rattle.spec_vectors.specs.pr_labels.Rising.{with_labels}
 use Rattle.spec_vectors.specs.Matching.{has_key, is_shared, key_of, key_set}
 use Rattle.pr_join.specs.declared.places.KeyPlace.{KeyPlace}
+use Rattle.pr_join.specs.declared.places.Places.{Places}
+use Rattle.pr_join.specs.declared.places.Places.TheVariants.{Rising, Sorted}
+use Rattle.pr_join.specs.private.Rising.{AreRisingKeys}
 
 -- the element at a place
 abbrev pub item_at : List (Item Num) → KeyPlace → Option (Item Num)
@@ -26,6 +29,11 @@ pub record IsIndexOf (how : Matching) (side front : List (Item Num)) (places : B
   pub known : keys places ≡ key_set how front
   pub ordered : IsOrdered labels_cmp places
   pub at : (key : List Pair) → IsPlaceOf how side front key (get labels_cmp places key)
+
+-- the same where they may stand in a list
+abbrev pub ArePlacesOf : Matching → List (Item Num) → Places → Type 0
+ArePlacesOf how side (Rising rising) = AreRisingKeys how side rising.keys.items
+ArePlacesOf how side (Sorted sorted) = IsIndexOf how side side sorted
 
 -- the element at the index, and no other one, has the key
 pub record IsOnlyAt (how : Matching) (side : List (Item Num)) (key : List Pair) (index : ℕ) : Type 0 where
