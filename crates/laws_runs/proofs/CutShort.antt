@@ -1,7 +1,7 @@
 -- What the contract of the program gives where something cuts it short.
-use Rattle.std.proofs.Common.{◌≡◌, ◌≢◌, ℕ, ◌+◌, ◌<◌, ◌≤◌, Bool, true, false, List, [], ◌∷◌, ◌++◌, length, map, take, Result, Ok, Err, ◌⊎◌, inl, inr, refl, subst, arith}
+use Rattle.std.proofs.Common.{◌≡◌, ◌≢◌, ℕ, ◌+◌, ◌<◌, ◌≤◌, Bool, true, false, List, [], ◌∷◌, ◌++◌, length, map, take, IsSome, IsTrue, Result, Ok, Err, ◌⊎◌, inl, inr, refl, ap, ◌∙◌, subst, arith}
 use Rattle.std.proofs.lemmas.List.{length-map}
-use Rattle.pr_outside.specs.Causes.{IsCalm, Rose}
+use Rattle.pr_outside.specs.Causes.{IsCalm}
 use Rattle.pr_outside.specs.Checks.{Checked, ends_by}
 use Rattle.pr_outside.specs.Ends.{AtInput, StopsBy, no_row, status_of}
 use Rattle.pr_outside.specs.FileChecks.{MeansFileCheck, Telling, all_asks, all_told, texts}
@@ -9,14 +9,14 @@ use Rattle.pr_outside.specs.InputChecks.{MeansInputCheck}
 use Rattle.pr_outside.specs.Outside.{AreCalm, AreTold, Held, Outside, StoreRose}
 use Rattle.pr_outside.specs.declared.check_loops.verdict.Verdict.{Verdict}
 use Rattle.pr_outside.specs.declared.check_loops.verdict.Verdict.TheVariants.{Complaints, Good, Refused}
-use Rattle.pr_outside.specs.declared.keeping.Row.{Row}
+use Rattle.pr_outside.specs.spec_history.declared.row.Row.{Row}
 use Rattle.pr_outside.specs.declared.status.status.Status.{Status}
 use Rattle.pr_outside.specs.declared.status.status.Status.TheVariants.{Memory, ReadFault, StoreFault, TooLong}
 use Rattle.pr_outside.specs.declared.status.status.Stop.{Stop}
 use Rattle.pr_outside.specs.declared.status.status.Stop.TheVariants as stop
 use Rattle.spec_history.specs.Histories.{history_of}
 use Rattle.spec_history.specs.Rows.{encoded}
-use Rattle.spec_history.specs.Stores.{IsBadIn}
+use Rattle.pr_outside.specs.Stores.{IsBadIn}
 use Rattle.spec_history.specs.declared.entry.Entry.{Entry}
 use Rattle.spec_rules.specs.Settings.{of_a_run}
 use Rattle.spec_world.specs.Step.{rows_of as entries_of}
@@ -31,49 +31,54 @@ use Rattle.pr_top.specs.pr_exercise.Summary.{summary}
 use Rattle.pr_top.specs.pr_run.Runs.{MeansRun}
 use Rattle.pr_top.specs.pr_text.BadRows.{TellsRow, bad_row_text}
 use Rattle.pr_top.specs.pr_text.spec_rules.Reloads.{LoadedFile}
-use Rattle.laws_runs.specs.private.Headline.{TellsRows, Writes, rows_of}
-use Rattle.laws_runs.proofs.Premises.{at, behind, exercise_told, fill_told}
-
-no_rise : (before now : ℕ) → IsCalm before now → Rose before now → ⊥
-no_rise before now calm rose = omega (arith, calm.same, calm.below, rose)
+use Rattle.laws_runs.specs.private.Headline.{FromRows, TellsBadRow, Writes, rows_of}
+use Rattle.laws_runs.proofs.Premises.{at, behind, from_rows, no_rise, over_fill, told_after}
 
 -- Over rows that tell a history
 
 module _ (encodings : (rows : List Row) (history : List Entry) → history_of rows ≡ Ok history → rows ≡ map encoded history) where
-  pub exercise : (rounds : ℕ) (rows all : List Row) (history : List Entry) (before now : Outside) (result : Status) → MeansExercise rounds before now result → TellsRows before now rows all
-      → history_of rows ≡ Ok history
+  pub exercise : (rounds : ℕ) (before now : Outside) (result : Status) → MeansExercise rounds before now result
+      → FromRows before now (λ rows all. (history : List Entry) → history_of rows ≡ Ok history
       → (k : ℕ) × (n : ℕ) × (k ≤ length (exercise_events rounds)) × Writes before now (take n (summary history rounds))
-      × (all ≡ rows ++ rows_of (entries_of of_a_run (start history) (take k (exercise_events rounds)))) × (k < length (exercise_events rounds) → n ≡ 0)
-  exercise rounds rows all history before now result m tells are =
-      let by : ExercisesOver rounds history before now m.ending result =
-      subst (λ t. ExercisesBy t rounds rows before now m.ending result) are (exercise_told rounds rows all before now result m tells) in
+      × (all ≡ rows ++ rows_of (entries_of of_a_run (start history) (take k (exercise_events rounds)))) × (k < length (exercise_events rounds) → n ≡ 0))
+  exercise rounds before now result m =
+      from_rows before now (λ rows. ExercisesBy (history_of rows) rounds rows before now m.ending result) _ m.over (λ rows all end over history are.
+      let by : ExercisesOver rounds history before now m.ending result = subst (λ t. ExercisesBy t rounds rows before now m.ending result) are over in
       let front = by.done.front in
-      (front.answered, front.count, front.within, front.text, behind encodings rows all history _ are (at now.store.rows _ all tells.1 front.kept), front.waits)
+      (front.answered, front.count, front.within, front.text, behind encodings rows all history _ are (at now.store.rows _ all end front.kept), front.waits))
 
-  pub backfill : (path times : List ℕ) (names : List (List ℕ)) (rows all : List Row) (history : List Entry) (held : Held) (before now : Outside) (result : Status)
-      → MeansBackfill path times names before now result → AreTold before.files.content held names → TellsRows before now rows all → history_of rows ≡ Ok history → (all_rules held names).wrong ≡ []
+  pub backfill : (path times : List ℕ) (names : List (List ℕ)) (held : Held) (before now : Outside) (result : Status)
+      → MeansBackfill path times names before now result → AreTold before.files.content held names → (all_rules held names).wrong ≡ []
+      → FromRows before now (λ rows all. (history : List Entry) → history_of rows ≡ Ok history
       → (k : ℕ) × (n : ℕ) × (k ≤ length (filled history (all_rules held names).files times))
       × Writes before now (take n (fill_text (length history) (filled history (all_rules held names).files times)))
       × (all ≡ rows ++ rows_of (rows_filled (take k (filled history (all_rules held names).files times))))
       × ((j : ℕ) → j + 1 ≡ k → length (begun_text (length history) (take j (filled history (all_rules held names).files times))) ≤ n)
-      × (k < length (filled history (all_rules held names).files times) → n ≤ length (begun_text (length history) (take k (filled history (all_rules held names).files times))))
-  backfill path times names rows all history held before now result m known tells are fine =
+      × (k < length (filled history (all_rules held names).files times) → n ≤ length (begun_text (length history) (take k (filled history (all_rules held names).files times)))))
+  backfill path times names held before now result m known fine =
       let files = (all_rules held names).files in
-      let over = fill_told times rows all files (all_rules held names).wrong before now result m.ending tells fine (m.over held known) in
+      from_rows before now (λ rows. FillsBy (history_of rows) files times rows before now m.ending result) _
+      (over_fill times files (all_rules held names).wrong before now result m.ending fine (m.over held known)) (λ rows all end over history are.
       let by : FillsOver (filled history files times) history before now m.ending result = subst (λ t. FillsBy t files times rows before now m.ending result) are over in
       let front = by.done.front in
-      (front.done, front.count, front.within, front.text, behind encodings rows all history _ are (at now.store.rows _ all tells.1 front.kept), front.begins, front.beyond)
+      (front.done, front.count, front.within, front.text, behind encodings rows all history _ are (at now.store.rows _ all end front.kept), front.begins, front.beyond))
 
 -- Over rows of which one is bad
 
-pub bad_backfill : (path times : List ℕ) (names : List (List ℕ)) (rows all : List Row) (index : ℕ) (held : Held) (before now : Outside) (result : Status)
-    → MeansBackfill path times names before now result → AreTold before.files.content held names → TellsRows before now rows all → history_of rows ≡ Err index → (all_rules held names).wrong ≡ []
-    → (all ≡ rows) × ((n : ℕ) × Writes before now (take n (bad_row_text index))) × (AreCalm before now → result ≢ Memory → (result ≡ StoreFault) × Writes before now (bad_row_text index))
-bad_backfill path times names rows all index held before now result m known tells bad fine =
+pub bad_backfill : (path times : List ℕ) (names : List (List ℕ)) (held : Held) (before now : Outside) (result : Status)
+    → MeansBackfill path times names before now result → AreTold before.files.content held names → (all_rules held names).wrong ≡ []
+    → FromRows before now (λ rows all. (index : ℕ) → history_of rows ≡ Err index → TellsBadRow rows all index before now result)
+bad_backfill path times names held before now result m known fine =
     let files = (all_rules held names).files in
-    let over = fill_told times rows all files (all_rules held names).wrong before now result m.ending tells fine (m.over held known) in
+    from_rows before now (λ rows. FillsBy (history_of rows) files times rows before now m.ending result) _
+    (over_fill times files (all_rules held names).wrong before now result m.ending fine (m.over held known)) (λ rows all end over index bad.
     let into : FillsInto index rows before now m.ending result = subst (λ t. FillsBy t files times rows before now m.ending result) bad over in
-    (at now.store.rows (λ rs. rs ≡ rows) all tells.1 into.done.front.kept, (into.done.front.count, into.done.front.text), λ calm some. into.told calm some)
+    (at now.store.rows (λ rs. rs ≡ rows) all end into.done.front.kept, (into.done.front.count, into.done.front.text), λ calm some. into.told calm some))
+
+pub told_rows : (path times : List ℕ) (names : List (List ℕ)) (before now : Outside) (result : Status) → MeansBackfill path times names before now result
+    → now.store.paths ≢ before.store.paths → AreCalm before now → result ≢ Memory → IsTrue now.store.sound → IsSome now.store.rows
+told_rows path times names before now result m opened calm some sound =
+    told_after (IsBadIn now.store) ⊥ before now m.ending m.ends.cause calm (λ is. some (m.answer ∙ ap status_of is)) (m.tells opened) sound
 
 -- Files
 

@@ -9,7 +9,7 @@ use Rattle.spec_history.specs.declared.append.Append.{Append}
 use Rattle.spec_history.specs.declared.append.Append.TheVariants as append
 use Rattle.spec_history.specs.declared.entry.Entry.{Entry}
 use Rattle.spec_history.proofs.Lawful.{after_parts}
-use Rattle.pr_outside.specs.declared.keeping.Row.{Row}
+use Rattle.pr_outside.specs.spec_history.declared.row.Row.{Row}
 use Rattle.spec_history.specs.Histories.{history_of}
 use Rattle.spec_history.specs.Points.{IsFitPoint}
 use Rattle.spec_history.specs.Rows.{IsEntry, encoded}

@@ -3,7 +3,7 @@ use Rattle.std.proofs.Common.{◌≡◌, ℕ, ◌+◌, ◌≤◌, zero, suc, Lis
 use Rattle.std.proofs.lemmas.Fmt.{decimal_digit}
 use Rattle.std.proofs.lemmas.List.{length-take}
 use Rattle.spec_history.specs.declared.entry.Entry.{Entry}
-use Rattle.pr_outside.specs.declared.keeping.Row.{Row}
+use Rattle.pr_outside.specs.spec_history.declared.row.Row.{Row}
 use Rattle.spec_history.specs.Rows.{encoded}
 use Rattle.pr_top.specs.pr_text.Printed.{shown_report}
 use Rattle.pr_outside.specs.Asks.{Asks, AsksAt, asked_by}

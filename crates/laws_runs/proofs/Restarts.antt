@@ -1,6 +1,6 @@
 -- A restart behind an event that ended in an error.
 use Rattle.std.proofs.Common.{◌≡◌, ℕ, Bool, true, false, List, map, Option, Some, None, IfSome, IsSome, Ok, refl, sym, ap, ◌∙◌}
-use Rattle.pr_outside.specs.declared.keeping.Row.{Row}
+use Rattle.pr_outside.specs.spec_history.declared.row.Row.{Row}
 use Rattle.pr_outside.specs.private.Kept.{KeepsRows}
 use Rattle.spec_history.specs.Histories.{history_of}
 use Rattle.spec_history.specs.Rows.{encoded}

@@ -2,7 +2,7 @@
 //! such runs.
 ghost use Rattle.std.specs.Prelude.{◌≡◌, codes, [], ◌∷◌, ℕ, List, Some, true};
 ghost use Rattle.spec_history.specs.declared.entry.Entry.{Entry};
-ghost use Rattle.pr_outside.specs.declared.keeping.Row.{Row};
+ghost use Rattle.pr_outside.specs.spec_history.declared.row.Row.{Row};
 ghost use Rattle.spec_history.specs.Rows.{encoded};
 ghost use Rattle.pr_outside.specs.Ends.{at_file, at_output, at_row, at_store, anywhere};
 ghost use Rattle.pr_top.specs.pr_text.BadRows.{IsBadStart, TellsRow};

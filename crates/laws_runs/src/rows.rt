@@ -1,7 +1,7 @@
 //! What a run begins with.
 ghost use Rattle.std.specs.Prelude.{◌≡◌, List, codes, [], ◌∷◌, None, Some};
-ghost use Rattle.pr_outside.specs.declared.keeping.Row.{Row};
-ghost use Rattle.spec_history.specs.Stores.{AreFirst};
+ghost use Rattle.pr_outside.specs.spec_history.declared.row.Row.{Row};
+ghost use Rattle.pr_outside.specs.Stores.{AreFirst};
 ghost use Rattle.pr_top.specs.pr_text.BadRows.{bad_row_text};
 
 /// A bad row is told by its index.

@@ -1,12 +1,12 @@
 -- Over a head of which nothing is forgotten any time may be evaluated, and nothing is forgotten then.
 use Rattle.std.proofs.Common.{ℕ, List, pos, ◌-ℤ◌, Result, Ok, Err, OnOk}
 use Rattle.spec_rules.specs.spec_history.declared.entry.Entry.{Entry}
-use Rattle.pr_manager.specs.pr_head.private.Intake.{Series}
-use Rattle.pr_manager.specs.pr_range.private.Asks.{LastAsks, Passed}
+use Rattle.pr_engine.specs.pr_head.private.Intake.{Series}
+use Rattle.pr_engine.specs.pr_range.private.Asks.{LastAsks, Passed}
 use Rattle.spec_rules.specs.Groups.{Group}
-use Rattle.pr_manager.specs.pr_group.private.Keeping.{MayEvaluateOver}
-use Rattle.pr_manager.specs.private.Keeping.{HasGoneOn}
-use Rattle.pr_manager.specs.pr_head.private.Rows.{HoldsAll}
+use Rattle.pr_engine.specs.pr_group.private.Keeping.{MayEvaluateOver}
+use Rattle.pr_engine.specs.pr_manager.private.Keeping.{HasGoneOn}
+use Rattle.pr_engine.specs.private.Rows.{HoldsAll}
 use Rattle.pr_backfill.specs.private.Keeping.{KeepsToFill}
 use Rattle.pr_backfill.specs.declared.backfill_command.filling.Filling.{Filling}
 use Rattle.pr_backfill.specs.private.Standing.{KeepsFilling}

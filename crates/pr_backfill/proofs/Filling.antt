@@ -4,20 +4,20 @@ use Rattle.std.specs.Prelude.{Bool, slice_set, fold}
 use Rattle.std.specs.declared.alloc.AllocError.{AllocError}
 use Rattle.std.proofs.lemmas.List.{length-append}
 use Rattle.spec_rules.specs.spec_history.declared.entry.Entry.{Entry}
-use Rattle.pr_manager.specs.pr_head.private.Intake.{Series}
-use Rattle.pr_manager.specs.pr_range.private.Asks.{LastAsks, Passed}
+use Rattle.pr_engine.specs.pr_head.private.Intake.{Series}
+use Rattle.pr_engine.specs.pr_range.private.Asks.{LastAsks, Passed}
 use Rattle.spec_rules.specs.declared.report.GroupReport.{GroupReport}
 use Rattle.spec_rules.specs.Evaluations.{group_step}
 use Rattle.spec_rules.specs.Groups.{Group}
 use Rattle.spec_rules.specs.Settings.{Settings}
 use Rattle.spec_rules.specs.private.Times.{IsAfter, IsAfterAll}
-use Rattle.pr_manager.specs.pr_group.private.Keeping.{KeptGroup, MayEvaluateOver}
+use Rattle.pr_engine.specs.pr_group.private.Keeping.{KeptGroup, MayEvaluateOver}
 use Rattle.pr_text.specs.spec_world.declared.report.Report.TheVariants as report
-use Rattle.pr_manager.specs.private.Coming.{IsEvaluated, history_with}
-use Rattle.pr_manager.specs.private.Keeping.{HasGoneOn, KeepEach, KeepsUnder}
-use Rattle.pr_manager.proofs.Each.{StaysKept, each_stays}
-use Rattle.pr_manager.proofs.Names.{kept_name}
-use Rattle.pr_manager.proofs.Places.{zip_at, zip_set}
+use Rattle.pr_engine.specs.pr_manager.private.Coming.{IsEvaluated, history_with}
+use Rattle.pr_engine.specs.pr_manager.private.Keeping.{HasGoneOn, KeepEach, KeepsUnder}
+use Rattle.pr_engine.proofs.ManagerEach.{StaysKept, each_stays}
+use Rattle.pr_engine.proofs.ManagerNames.{kept_name}
+use Rattle.pr_engine.proofs.ManagerPlaces.{zip_at, zip_set}
 use Rattle.pr_backfill.specs.declared.stepped.Stepped.{Stepped}
 use Rattle.pr_backfill.specs.Filled.{Round, one_group, round_at, round_begun}
 use Rattle.pr_backfill.specs.private.Rounds.{HasFilled, IsStepped, IsSteppedAt}

@@ -1,5 +1,5 @@
 -- The times that are left.
-use Rattle.std.proofs.Common.{◌≡◌, ◌==◌, ◌||◌, ℕ, zero, suc, ◌+◌, ◌-◌, ◌*◌, ◌^◌, ◌<◌, ◌≤◌, ◌↔◌, nat_lt, Bool, true, false, Option, Some, None, arith, if◌then◌else◌}
+use Rattle.std.proofs.Common.{◌≡◌, ◌==◌, ◌||◌, ℕ, zero, suc, ◌+◌, ◌*◌, ◌^◌, ◌<◌, ◌≤◌, ◌↔◌, nat_lt, Bool, true, false, Some, None, arith, if◌then◌else◌}
 use Rattle.pr_backfill.specs.Times.{backfill_times, count_of_times, times_from}
 use Rattle.pr_backfill.specs.private.BackfillCommandTimes.{AreAfter, AreTimes}
 

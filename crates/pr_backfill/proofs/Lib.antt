@@ -5,6 +5,7 @@ pub mod Filling
 pub mod Lasting
 pub mod Texts
 pub mod Progress
+pub mod Telling
 pub mod Parts
 pub mod Rounds
 pub mod Evaluating

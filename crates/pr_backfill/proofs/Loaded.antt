@@ -1,26 +1,26 @@
 -- What a backfill does before its store is opened, and behind the loading of its files.
-use Rattle.std.proofs.Common.{◌≡◌, ◌≢◌, ℕ, ◌<◌, ◌≤◌, Bool, true, false, List, [], ◌∷◌, ◌++◌, Option, Some, None, Result, Ok, Err, IfOk, IfSome, refl, sym, ap, ◌∙◌, subst, append-nil, length, map, take, arith}
+use Rattle.std.proofs.Common.{◌≡◌, ◌≢◌, ℕ, Bool, true, false, List, [], ◌∷◌, ◌++◌, Option, Some, None, Result, Ok, Err, IfOk, IfSome, refl, sym, ap, ◌∙◌, subst, append-nil, length, map, take, arith}
 use Rattle.std.proofs.lemmas.Bool.{eqb-true, false≢true}
 use Rattle.std.specs.Prelude.{◌==◌}
 use Rattle.std.specs.Io.KnownBytes.{Appends}
 use Rattle.spec_rules.specs.spec_history.declared.entry.Entry.{Entry}
 use Rattle.pr_outside.specs.Causes.{Rose}
 use Rattle.pr_outside.specs.Meant.{Folder, Output, Store}
-use Rattle.pr_outside.specs.declared.keeping.Row.{Row}
+use Rattle.pr_outside.specs.spec_history.declared.row.Row.{Row}
 use Rattle.spec_rules.specs.spec_history.Histories.{history_of}
 use Rattle.spec_rules.specs.spec_history.Rows.{encoded}
 use Rattle.spec_rules.specs.Reloads.{LoadedFile}
 use Rattle.pr_outside.specs.Asks.{Asks, AsksBy}
-use Rattle.pr_outside.specs.Ends.{Ends, LoadEnds, WriteEnds, at_row, no_row, place_of}
+use Rattle.pr_outside.specs.Ends.{Ends, WriteEnds, at_row, place_of}
 use Rattle.pr_outside.specs.Outside.{Outside}
 use Rattle.pr_outside.specs.declared.status.status.Stop.{Stop}
 use Rattle.pr_outside.specs.declared.status.status.Stop.TheVariants as stop
 use Rattle.pr_outside.proofs.Ended.{quiet}
 use Rattle.pr_outside.proofs.StatusStreams.{appends_none}
-use Rattle.pr_backfill.specs.Filled.{FillStep, filled, rows_filled}
-use Rattle.pr_backfill.specs.Means.{AsksFirst, EndsBy, EndsInto, EndsOver, EndsRefused, EndsWith, IsFront, IsWhole}
-use Rattle.spec_rules.specs.spec_history.Stores.{AreFirst, AreKept, OverRows}
-use Rattle.spec_rules.proofs.HistoryStoredRows.{IsDecoding, rows_of}
+use Rattle.pr_backfill.specs.Filled.{FillStep, filled}
+use Rattle.pr_backfill.specs.Means.{AsksFirst, EndsBy, EndsInto, EndsOver, EndsRefused, EndsWith, IsWhole}
+use Rattle.pr_outside.specs.Stores.{AreFirst, AreKept, OverRows}
+use Rattle.pr_outside.proofs.StoredRows.{IsDecoding, rows_of}
 
 on_rows : (a : Option (List Row)) (P : List Row → Type 0) → ((rows : List Row) → a ≡ Some rows → P rows) → IfSome a P
 on_rows None P f = tt

@@ -1,9 +1,9 @@
 -- What a backfill promises, by how it ended.
-use Rattle.std.proofs.Common.{◌≡◌, ◌≢◌, ℕ, Bool, true, false, List, [], ◌∷◌, Option, None, Some, IfOk, IfSome, Result, Ok, Err, refl, ap, ◌∙◌, subst, take_all, arith}
+use Rattle.std.proofs.Common.{◌≡◌, ◌≢◌, ℕ, Bool, List, [], ◌∷◌, Option, None, Some, IfSome, Result, Ok, Err, refl, ap, ◌∙◌, subst, take_all, arith}
 use Rattle.std.specs.Io.KnownBytes.{Appends}
 use Rattle.spec_rules.specs.spec_history.declared.entry.Entry.{Entry}
 use Rattle.pr_outside.specs.Causes.{IsCalm, Rose}
-use Rattle.pr_outside.specs.declared.keeping.Row.{Row}
+use Rattle.pr_outside.specs.spec_history.declared.row.Row.{Row}
 use Rattle.spec_rules.specs.spec_history.Histories.{history_of}
 use Rattle.spec_rules.specs.Reloads.{LoadedFile}
 use Rattle.pr_outside.specs.Ends.{Ends, StopsBy, place_of, status_of, stop_status}
@@ -12,7 +12,7 @@ use Rattle.pr_outside.specs.declared.status.status.Status.{Status}
 use Rattle.pr_outside.specs.declared.status.status.Status.TheVariants as status
 use Rattle.pr_outside.specs.declared.status.status.Stop.{Stop}
 use Rattle.pr_outside.specs.declared.status.status.Stop.TheVariants as stop
-use Rattle.spec_rules.specs.spec_history.Stores.{OverRows}
+use Rattle.pr_outside.specs.Stores.{OverRows}
 use Rattle.pr_text.specs.BadRows.{bad_row_text}
 use Rattle.pr_backfill.specs.Filled.{FillStep, filled}
 use Rattle.pr_backfill.specs.Means.{EndsBy, EndsInto, EndsOver, EndsRefused, EndsWith, FillsBy, FillsWith, IsWhole}

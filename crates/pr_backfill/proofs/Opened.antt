@@ -1,5 +1,5 @@
 -- Which paths a backfill opened, by its parts.
-use Rattle.std.proofs.Common.{◌≡◌, ◌≢◌, ◌∙◌, ℕ, ◌+◌, Bool, List, [], ◌∷◌, ◌++◌, Result, Ok, Err, inl, inr, refl, sym, ap, subst, length, length-append, arith}
+use Rattle.std.proofs.Common.{◌≡◌, ◌≢◌, ◌∙◌, ℕ, ◌+◌, Bool, List, [], ◌∷◌, Result, Ok, Err, inl, inr, refl, sym, ap, subst, length, length-append, arith}
 use Rattle.pr_outside.specs.Meant.{Output, Store}
 use Rattle.pr_outside.specs.Paths.{Opens}
 use Rattle.pr_outside.specs.declared.keeping.KeepError.{KeepError}

@@ -1,13 +1,12 @@
 -- What a filling does over the rows at its start, by how it ended.
-use Rattle.std.proofs.Common.{◌≡◌, ◌≢◌, ℕ, ◌+◌, ◌≤◌, Bool, List, [], ◌++◌, Option, Some, None, Result, Ok, Err, IfSome, IsErrAnd, IsSome, refl, sym, ap, ◌∙◌, subst, append-nil, length, length-append, take, take_all, arith}
+use Rattle.std.proofs.Common.{◌≡◌, ◌≢◌, ℕ, ◌+◌, Bool, List, [], ◌++◌, Option, Some, None, Result, Ok, Err, IfSome, IsErrAnd, IsSome, refl, sym, ap, ◌∙◌, subst, append-nil, length, length-append, take, take_all, arith}
 use Rattle.std.proofs.Math.Seq.{take-nil}
 use Rattle.std.specs.Io.KnownBytes.{Appends}
 use Rattle.spec_rules.specs.spec_history.declared.entry.Entry.{Entry}
 use Rattle.pr_outside.specs.private.Kept.{StartsRows}
-use Rattle.pr_outside.specs.declared.keeping.Row.{Row}
+use Rattle.pr_outside.specs.spec_history.declared.row.Row.{Row}
 use Rattle.spec_rules.specs.spec_history.Histories.{history_of}
 use Rattle.spec_rules.specs.Reloads.{LoadedFile}
-use Rattle.pr_manager.specs.pr_head.private.Rows.{TellsOf}
 use Rattle.pr_backfill.specs.Filled.{FillStep, filled, rows_filled}
 use Rattle.pr_backfill.specs.Means.{EndsBy, EndsOver, IsFront}
 use Rattle.pr_backfill.specs.Text.{backfilled_line, begun_text, fill_text}
@@ -15,12 +14,12 @@ use Rattle.pr_outside.specs.Ends.{Ends, at_row, place_of}
 use Rattle.pr_outside.specs.Outside.{Outside}
 use Rattle.pr_outside.specs.declared.status.status.Stop.{Stop}
 use Rattle.pr_outside.specs.declared.status.status.Stop.TheVariants as stop
-use Rattle.spec_rules.specs.spec_history.Stores.{AreKept, OverRows}
+use Rattle.pr_outside.specs.Stores.{AreKept, OverRows}
 use Rattle.pr_outside.proofs.Endings.{ends_as}
-use Rattle.spec_rules.proofs.HistoryStoredRows.{IsDecoding, kept_by, over_history}
+use Rattle.pr_outside.proofs.StoredRows.{IsDecoding, kept_by, over_history}
 use Rattle.pr_backfill.specs.private.Endings.{ending_of}
 use Rattle.pr_backfill.specs.private.Opening.{IsUnopened}
-use Rattle.pr_backfill.specs.private.Standing.{FillingFinishes, FillingHalts, IsTold}
+use Rattle.pr_backfill.specs.private.Standing.{FillingFinishes, IsTold}
 use Rattle.pr_backfill.proofs.Texts.{begun_fewer}
 
 pub on_rows : (a : Option (List Row)) (P : List Row → Type 0) → ((rows : List Row) → a ≡ Some rows → P rows) → IfSome a P

@@ -4,15 +4,15 @@ use Rattle.std.specs.Io.KnownBytes.{Appends}
 use Rattle.spec_rules.specs.spec_history.private.Laws.{IsLawful}
 use Rattle.spec_rules.specs.spec_history.declared.entry.Entry.{Entry}
 use Rattle.pr_outside.specs.private.Kept.{AppendsRows, KeepsRows}
-use Rattle.pr_manager.specs.pr_head.private.Intake.{Series}
+use Rattle.pr_engine.specs.pr_head.private.Intake.{Series}
 use Rattle.pr_outside.specs.Meant.{Store}
-use Rattle.pr_manager.specs.pr_range.private.Asks.{LastAsks, Passed}
+use Rattle.pr_engine.specs.pr_range.private.Asks.{LastAsks, Passed}
 use Rattle.spec_rules.specs.spec_history.Rows.{encoded}
 use Rattle.spec_rules.specs.Groups.{Group}
 use Rattle.spec_rules.specs.Reloads.{LoadedFile}
 use Rattle.spec_rules.specs.Settings.{of_a_run}
-use Rattle.pr_manager.specs.pr_head.private.Rows.{AreRead, TellsOf, HoldsAll}
-use Rattle.pr_manager.proofs.HeadTelling.{tells_still, tells_more}
+use Rattle.pr_engine.specs.private.Rows.{AreRead, TellsOf, HoldsAll}
+use Rattle.pr_engine.proofs.StoreTelling.{tells_still, tells_more}
 use Rattle.pr_backfill.specs.declared.stepped.Stepped.{Stepped}
 use Rattle.pr_backfill.specs.Filled.{FillStep, at_time, filled, filled_from, groups_to_fill, round_at, rows_filled}
 use Rattle.pr_backfill.specs.Text.{step_text}

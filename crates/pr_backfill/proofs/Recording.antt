@@ -5,16 +5,16 @@ use Rattle.std.specs.List.{All}
 use Rattle.std.specs.declared.alloc.AllocError.{AllocError}
 use Rattle.std.proofs.lemmas.List.Elements.{All-weaker, filter_passes}
 use Rattle.spec_rules.specs.spec_history.declared.entry.Entry.{Entry}
-use Rattle.pr_manager.specs.pr_range.private.Asks.{LastAsks, Passed}
+use Rattle.pr_engine.specs.pr_range.private.Asks.{LastAsks, Passed}
 use Rattle.spec_rules.specs.pr_tmpl.declared.template.External.{External}
-use Rattle.pr_manager.specs.pr_rule.private.Templates.{HasTemplates}
+use Rattle.pr_engine.specs.pr_rule.private.Templates.{HasTemplates}
 use Rattle.spec_rules.specs.declared.definitions.GroupDef.{GroupDef}
 use Rattle.spec_rules.specs.declared.definitions.RuleDef.{RuleDef}
 use Rattle.spec_rules.specs.Definitions.{Group as Definition, group_of_def, rule_of_def}
 use Rattle.spec_rules.specs.Groups.{fresh}
 use Rattle.spec_rules.specs.Settings.{Settings, of_a_run}
-use Rattle.pr_manager.specs.pr_group.private.Keeping.{KeepsGroup, KeptGroup, settings_of}
-use Rattle.pr_manager.specs.private.Keeping.{KeepsUnder, settings_with}
+use Rattle.pr_engine.specs.pr_group.private.Keeping.{KeepsGroup, KeptGroup, settings_of}
+use Rattle.pr_engine.specs.pr_manager.private.Keeping.{KeepsUnder, settings_with}
 use Rattle.pr_backfill.specs.Filled.{is_recording, recording_only}
 use Rattle.pr_backfill.proofs.Lists.{filter_map_as}
 

@@ -1,5 +1,5 @@
 -- The texts of evaluations, one after another, and the rows that they keep.
-use Rattle.std.proofs.Common.{◌≡◌, ℕ, ◌+◌, ◌<◌, ◌≤◌, ◌-◌, List, [], ◌∷◌, ◌++◌, Option, Result, Ok, Err, IsErrAnd, OnOk, refl, sym, ap, ◌∙◌, subst, append_assoc, append-nil, length, length-append, take, drop, map, arith}
+use Rattle.std.proofs.Common.{◌≡◌, ℕ, ◌+◌, ◌<◌, ◌≤◌, ◌-◌, List, [], ◌∷◌, ◌++◌, Option, Result, Ok, Err, IsErrAnd, OnOk, sym, ap, ◌∙◌, subst, append_assoc, append-nil, length, length-append, take, drop, map, arith}
 use Rattle.std.proofs.Math.Seq.{take-append_seam}
 use Rattle.std.proofs.lemmas.List.{map-append, take-append-drop, take-append-le, take_at}
 use Rattle.std.proofs.lemmas.List.Concat.{flat_map-append}
@@ -9,7 +9,7 @@ use Rattle.spec_rules.specs.spec_history.declared.entry.Entry.{Entry}
 use Rattle.spec_rules.proofs.HistoryLawful.{after_parts}
 use Rattle.pr_outside.specs.Meant.{Store}
 use Rattle.pr_text.specs.spec_world.declared.report.Report.TheVariants.{Opened}
-use Rattle.pr_manager.specs.pr_head.private.Rows.{TellsOf}
+use Rattle.pr_engine.specs.private.Rows.{TellsOf}
 use Rattle.pr_backfill.specs.declared.stepped.Stepped.{Stepped}
 use Rattle.pr_backfill.specs.Filled.{FillStep, at_time, rows_filled}
 use Rattle.pr_text.specs.Printed.{shown_report}

@@ -7,7 +7,7 @@ use Rattle.pr_outside.specs.private.Kept.{KeepsRows, StartsRows}
 use Rattle.pr_outside.specs.Meant.{Output, Store}
 use Rattle.pr_outside.specs.declared.keeping.KeepError.{KeepError}
 use Rattle.pr_outside.specs.declared.keeping.KeepError.TheVariants as keeping
-use Rattle.pr_outside.specs.declared.keeping.Row.{Row}
+use Rattle.pr_outside.specs.spec_history.declared.row.Row.{Row}
 use Rattle.spec_rules.specs.spec_history.Histories.{history_of}
 use Rattle.pr_outside.specs.Ends.{Ends, WriteEnds, no_row, stop_of_keeper}
 use Rattle.pr_outside.specs.Outside.{Outside}
@@ -15,7 +15,7 @@ use Rattle.pr_outside.specs.declared.status.status.Stop.{Stop}
 use Rattle.pr_outside.specs.declared.status.status.Stop.TheVariants as stop
 use Rattle.pr_outside.proofs.Ended.{ends_on, in_time_on, in_time_same}
 use Rattle.pr_outside.proofs.StatusStreams.{appends_none}
-use Rattle.spec_rules.specs.spec_history.Stores.{IsBadIn}
+use Rattle.pr_outside.specs.Stores.{IsBadIn}
 use Rattle.pr_text.specs.BadRows.{bad_row_text, bad_text}
 use Rattle.pr_outside.proofs.Endings.{ends_wider}
 use Rattle.pr_backfill.specs.private.Opening.{IsUnopened}
@@ -50,11 +50,11 @@ starts_same None = tt
 starts_same (Some rs) = refl
 
 -- told rows, where what follows keeps them
-pub starts_on : (old opened now : Option (List Row)) → StartsRows old opened → KeepsRows opened now → StartsRows old now
-starts_on old opened None s k = tt
-starts_on old None (Some rows) s k = absurd k
-starts_on None (Some given) (Some rows) s k = tt
-starts_on (Some first) (Some given) (Some rows) s k = k ∙ s
+pub starts_behind : (old opened now : Option (List Row)) → StartsRows old opened → KeepsRows opened now → StartsRows old now
+starts_behind old opened None s k = tt
+starts_behind old None (Some rows) s k = absurd k
+starts_behind None (Some given) (Some rows) s k = tt
+starts_behind (Some first) (Some given) (Some rows) s k = k ∙ s
 
 pub keeps_starts : (old now : Option (List Row)) → KeepsRows old now → StartsRows old now
 keeps_starts old None k = tt

@@ -3,7 +3,7 @@ use Rattle.std.specs.Prelude.{◌≡◌, ◌≢◌, ℕ, ◌+◌, ◌<◌, ◌�
 use Rattle.std.specs.Io.KnownBytes.{Appends}
 use Rattle.spec_rules.specs.spec_history.declared.entry.Entry.{Entry}
 use Rattle.pr_outside.specs.Paths.{Opens, MayOpen}
-use Rattle.pr_outside.specs.declared.keeping.Row.{Row}
+use Rattle.pr_outside.specs.spec_history.declared.row.Row.{Row}
 use Rattle.spec_rules.specs.spec_history.Histories.{history_of}
 use Rattle.spec_rules.specs.Reloads.{LoadedFile}
 use Rattle.pr_backfill.specs.Filled.{FillStep, filled, rows_filled}
@@ -15,7 +15,7 @@ use Rattle.pr_outside.specs.declared.status.status.Status.TheVariants as status
 use Rattle.pr_outside.specs.declared.status.status.Stop.{Stop}
 use Rattle.pr_outside.specs.declared.status.status.Stop.TheVariants.{Read, Load, Store, BadRow, Write, Memory, TooLong}
 use Rattle.pr_text.specs.BadRows.{IsBadStart, bad_row_text}
-use Rattle.spec_rules.specs.spec_history.Stores.{AreKept, IsBadIn, OverRows}
+use Rattle.pr_outside.specs.Stores.{AreKept, IsBadIn, KeepsTelling, OverRows, StartsTelling}
 use Rattle.pr_checks.specs.RulesLoaded.{all_rules}
 use Rattle.pr_backfill.specs.Text.{begun_text, fill_text}
 
@@ -126,6 +126,10 @@ pub record MeansBackfill (path : List ℕ) (times : List ℕ) (names : List (Lis
   pub opens : FillOpens path before.store.paths now.store.paths ending
   -- before that nothing becomes of the rows, where the store tells them
   pub unopened : now.store.paths ≡ before.store.paths → IfSome now.store.rows (λ rows. before.store.rows ≡ Some rows)
+  -- As long as what the store stands on has kept its word, a backfill that opened it, and that neither the
+  -- store nor want of memory stopped, leaves the rows told; rows that were told stay so, opened or not.
+  pub tells : now.store.paths ≢ before.store.paths → StartsTelling before.store now.store ending
+  pub keeps : KeepsTelling before.store now.store ending
   pub asked : AsksFirst before.files.calls now.files.calls (length names) ending
   -- nothing is written where a file could not be loaded
   pub unwritten : ending ≡ Err Load → now.out ≡ before.out

@@ -4,8 +4,8 @@ ghost use Rattle.spec_rules.specs.spec_history.declared.entry.Entry.{Entry};
 ghost use Rattle.spec_rules.specs.Groups.{Group};
 ghost use Rattle.spec_rules.specs.Settings.{of_a_run};
 ghost use Rattle.spec_rules.specs.private.Times.{IsAfterAll};
-ghost use Rattle.pr_manager.specs.pr_group.private.Keeping.{MayEvaluateOver};
-ghost use Rattle.pr_manager.specs.private.Keeping.{HasGoneOn};
+ghost use Rattle.pr_engine.specs.pr_group.private.Keeping.{MayEvaluateOver};
+ghost use Rattle.pr_engine.specs.pr_manager.private.Keeping.{HasGoneOn};
 ghost use Rattle.pr_backfill.specs.Filled.{group_of_file, round_at};
 ghost use Rattle.pr_backfill.specs.private.Keeping.{KeepsToFill};
 
@@ -13,9 +13,9 @@ use crate::fresh::fresh_groups;
 use crate::round::evaluate_all;
 use crate::stepped::{FileGroup, Stepped};
 use pr_ast::time::Ms;
-use pr_manager::group::GroupOver;
-use pr_manager::head::Head;
-use pr_manager::range::Ranges;
+use pr_engine::group::GroupOver;
+use pr_engine::head::Head;
+use pr_engine::range::Ranges;
 use pr_outside::words_crate::Steps;
 use std::alloc::{AllocError, Global};
 use std::marker::Model;
@@ -33,7 +33,7 @@ impl<R> Model for Backfill<R> {
     ghost use Rattle.std.specs.Prelude.{List};
     ghost use Rattle.std.specs.Coded.{codes};
     ghost use Rattle.pr_ast.specs.contracts.tree.ExprKind as expressions;
-    ghost use Rattle.pr_manager.specs.pr_group.private.Keeping.{KeptGroup};
+    ghost use Rattle.pr_engine.specs.pr_group.private.Keeping.{KeptGroup};
 
     ghost Value = { List (KeptGroup R) };
 

@@ -1,19 +1,19 @@
 // The groups of a backfill, to which nothing has happened.
 ghost use Rattle.std.specs.Prelude.{◌≡◌, ◌++◌, not, List, filter, map, IfOk, OnOk};
 ghost use Rattle.spec_rules.specs.spec_history.declared.entry.Entry.{Entry};
-ghost use Rattle.pr_manager.specs.pr_rule.private.Templates.{HaveTemplates};
+ghost use Rattle.pr_engine.specs.pr_rule.private.Templates.{HaveTemplates};
 ghost use Rattle.spec_rules.specs.Groups.{Group};
 ghost use Rattle.spec_rules.specs.Settings.{of_a_run};
 ghost use Rattle.spec_rules.specs.Definitions.{group_of_def};
-ghost use Rattle.pr_manager.specs.private.Keeping.{KeepsUnder};
+ghost use Rattle.pr_engine.specs.pr_manager.private.Keeping.{KeepsUnder};
 ghost use Rattle.pr_backfill.specs.Filled.{group_of_file, recording_only};
 ghost use Rattle.pr_backfill.specs.private.Keeping.{KeepsToFill};
 
 use crate::stepped::FileGroup;
 use pr_ast::time::Span;
-use pr_manager::group::GroupOver;
-use pr_manager::no_external;
-use pr_manager::range::Ranges;
+use pr_engine::group::GroupOver;
+use pr_engine::manager::no_external;
+use pr_engine::range::Ranges;
 use pr_outside::words_crate::Items;
 use spec_rules::{GroupDef, RuleDef};
 use std::alloc::{AllocError, Global};

@@ -21,7 +21,7 @@ pub mod rules_crate {
 }
 
 pub mod world {
-    pub use pr_text::world::Worlds;
+    pub use pr_text::Worlds;
 }
 
 pub mod checks {

@@ -1,12 +1,12 @@
 -- Memory that runs out behind all loads.
 use Rattle.std.proofs.Common.{◌≡◌, ℕ, Result, Ok, Err, IsErrAnd, subst, sym, arith}
-use Rattle.spec_world.specs.pr_outside.Asks.{Asks, AsksBy}
-use Rattle.spec_world.specs.pr_outside.Ends.{LoadEnds, no_row}
-use Rattle.spec_world.specs.pr_outside.Meant.{Folder}
-use Rattle.spec_world.specs.pr_outside.Outside.{Outside}
-use Rattle.spec_world.specs.pr_outside.declared.status.status.Stop.{Stop}
-use Rattle.spec_world.specs.pr_outside.declared.status.status.Stop.TheVariants.{Memory}
-use Rattle.spec_world.proofs.OutsideEnded.{ends_memory, ends_on, in_time_same}
+use Rattle.pr_outside.specs.Asks.{Asks, AsksBy}
+use Rattle.pr_outside.specs.Ends.{LoadEnds, no_row}
+use Rattle.pr_outside.specs.Meant.{Folder}
+use Rattle.pr_outside.specs.Outside.{Outside}
+use Rattle.pr_outside.specs.declared.status.status.Stop.{Stop}
+use Rattle.pr_outside.specs.declared.status.status.Stop.TheVariants.{Memory}
+use Rattle.pr_outside.proofs.Ended.{ends_memory, ends_on, in_time_same}
 
 pub memory_asked : (T : Type 0) (a b all : ℕ) (r : Result T Stop) → IsErrAnd r (λ s. s ≡ Memory) → Asks a b all → AsksBy a b all r
 memory_asked T a b all (Ok x) h p = absurd h

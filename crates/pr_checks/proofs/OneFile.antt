@@ -1,10 +1,10 @@
 -- A walk over the name of one rule file.
 use Rattle.std.proofs.Common.{◌≡◌, ℕ, List, [], ◌∷◌, ◌++◌, Bool, true, Option, Result, refl, sym, ap, ◌∙◌, subst, length}
-use Rattle.spec_world.specs.pr_outside.Meant.{Content}
-use Rattle.spec_world.specs.pr_outside.Asks.{AsksBy}
-use Rattle.spec_world.specs.pr_outside.Outside.{AreTold, Held}
-use Rattle.spec_world.specs.pr_outside.declared.status.status.Stop.{Stop}
-use Rattle.spec_world.specs.pr_outside.Loading.{Holding, Made, goes_on, holding_by, made_by, walk}
+use Rattle.pr_outside.specs.Meant.{Content}
+use Rattle.pr_outside.specs.Asks.{AsksBy}
+use Rattle.pr_outside.specs.Outside.{AreTold, Held}
+use Rattle.pr_outside.specs.declared.status.status.Stop.{Stop}
+use Rattle.pr_outside.specs.Loading.{Holding, Made, goes_on, holding_by, made_by, walk}
 use Rattle.pr_checks.specs.RuleFiles.{file_told, rules_told, with_file}
 use Rattle.pr_checks.specs.declared.rules.RuleText.{RuleText}
 

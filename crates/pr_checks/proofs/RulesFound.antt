@@ -2,9 +2,9 @@
 use Rattle.std.proofs.Common.{◌≡◌, ℕ, List, [], ◌∷◌, ◌++◌, map, refl, sym, ap, ◌∙◌, subst, append_assoc, append-nil}
 use Rattle.std.specs.List.{AllByRecursion}
 use Rattle.std.proofs.lemmas.List.{map-append}
-use Rattle.spec_world.specs.pr_outside.Meant.{Content}
-use Rattle.spec_world.specs.pr_outside.Outside.{AreTold, Held}
-use Rattle.spec_world.specs.pr_outside.Loading.{Holding, holds, is_missing, is_too_large, Walk, holding_by, walk}
+use Rattle.pr_outside.specs.Meant.{Content}
+use Rattle.pr_outside.specs.Outside.{AreTold, Held}
+use Rattle.pr_outside.specs.Loading.{Holding, holds, is_missing, is_too_large, Walk, holding_by, walk}
 use Rattle.pr_checks.specs.RulesLoaded.{RulesLoaded, all_rules, and_rules, rules_held}
 use Rattle.pr_checks.specs.declared.found.FoundFiles.{FoundFiles}
 use Rattle.pr_checks.specs.declared.found.FoundFile.{FoundFile}

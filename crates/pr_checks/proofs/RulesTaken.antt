@@ -1,8 +1,8 @@
 -- What is read of a rule file comes behind what was read of those before it.
 use Rattle.std.proofs.Common.{◌≡◌, ℕ, List, [], ◌∷◌, ◌++◌, map, flat_map, refl, sym, ap, ◌∙◌, append_assoc, append-nil}
 use Rattle.std.proofs.lemmas.List.{map-append}
-use Rattle.spec_world.specs.pr_outside.Meant.{Content}
-use Rattle.spec_world.specs.pr_outside.Outside.{AreTold, Held}
+use Rattle.pr_outside.specs.Meant.{Content}
+use Rattle.pr_outside.specs.Outside.{AreTold, Held}
 use Rattle.spec_world.specs.pr_rulefile.declared.fields.problem.Problem.{Problem}
 use Rattle.spec_world.specs.pr_rulefile.File.{RuleReading, gives_file, gives_problems}
 use Rattle.spec_world.specs.spec_rules.Definitions.{group_of_def}

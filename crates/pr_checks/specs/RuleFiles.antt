@@ -1,8 +1,8 @@
 -- What `check rules` tells of a file.
 use Rattle.std.specs.Prelude.{ℕ, true, false, List, [], ◌∷◌, ◌++◌, codes, decimal, flat_map, Option}
-use Rattle.spec_world.specs.pr_outside.FileChecks.{Told}
-use Rattle.spec_world.specs.pr_outside.Outside.{Held}
-use Rattle.spec_world.specs.pr_outside.Loading.{Holding, holds, is_missing, is_too_large, Made, goes_on, holding_by}
+use Rattle.pr_outside.specs.FileChecks.{Told}
+use Rattle.pr_outside.specs.Outside.{Held}
+use Rattle.pr_outside.specs.Loading.{Holding, holds, is_missing, is_too_large, Made, goes_on, holding_by}
 use Rattle.spec_world.specs.pr_rulefile.File.{RuleReading, gives_file, gives_problems, rule_file_of}
 use Rattle.spec_world.specs.spec_rules.Definitions.{rule_count}
 use Rattle.pr_checks.specs.Problems.{problem_line}

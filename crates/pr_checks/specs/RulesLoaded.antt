@@ -2,8 +2,8 @@
 use Rattle.std.specs.Prelude.{ℕ, List, [], ◌∷◌, ◌++◌, flat_map}
 use Rattle.spec_world.specs.pr_rulefile.File.{RuleReading, gives_file, gives_problems, rule_file_of}
 use Rattle.spec_world.specs.spec_rules.Reloads.{LoadedFile}
-use Rattle.spec_world.specs.pr_outside.Outside.{Held}
-use Rattle.spec_world.specs.pr_outside.Loading.{Holding, holds, is_missing, is_too_large, holding_by}
+use Rattle.pr_outside.specs.Outside.{Held}
+use Rattle.pr_outside.specs.Loading.{Holding, holds, is_missing, is_too_large, holding_by}
 use Rattle.pr_checks.specs.Problems.{problem_line}
 use Rattle.pr_checks.specs.RuleFiles.{missing, too_large}
 

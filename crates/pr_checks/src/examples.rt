@@ -7,7 +7,7 @@ ghost use Rattle.spec_world.specs.pr_types.declared.kind.TypeKind.TheVariants as
 ghost use Rattle.spec_world.specs.pr_parse.declared.query_kind.QueryKind.TheVariants.{Lex, Parse, Typing};
 ghost use Rattle.spec_world.specs.pr_rulefile.declared.fields.problem.ProblemKind.TheVariants.{Yaml, WantMap, DuplicateGroup, BadTemplate, Expression};
 ghost use Rattle.spec_world.specs.pr_rulefile.Problems.{problem};
-ghost use Rattle.spec_world.specs.pr_outside.declared.check_loops.verdict.Verdict.TheVariants.{Good, Complaints, Refused};
+ghost use Rattle.pr_outside.specs.declared.check_loops.verdict.Verdict.TheVariants.{Good, Complaints, Refused};
 ghost use Rattle.pr_checks.specs.Problems.{problem_line};
 ghost use Rattle.pr_checks.specs.RuleFiles.{file_told};
 ghost use Rattle.pr_checks.specs.Metrics.{metrics_told};

@@ -1,17 +1,17 @@
 // The rule files of names, as they are found.
 ghost use Rattle.std.specs.Prelude.{◌≡◌, ℕ, List, Option, Some, IfOk, length, map, string_bytes};
 ghost use Rattle.std.specs.List.{AllByRecursion};
-ghost use Rattle.spec_world.specs.pr_outside.Contents.{IsFound, IsWithinLimit};
-ghost use Rattle.spec_world.specs.pr_outside.Loading.{holding_by};
-ghost use Rattle.spec_world.specs.pr_outside.Asks.{AsksBy};
-ghost use Rattle.spec_world.specs.pr_outside.Ends.{LoadEnds};
-ghost use Rattle.spec_world.specs.pr_outside.Outside.{AreTold, Held};
+ghost use Rattle.pr_outside.specs.Contents.{IsFound, IsWithinLimit};
+ghost use Rattle.pr_outside.specs.Loading.{holding_by};
+ghost use Rattle.pr_outside.specs.Asks.{AsksBy};
+ghost use Rattle.pr_outside.specs.Ends.{LoadEnds};
+ghost use Rattle.pr_outside.specs.Outside.{AreTold, Held};
 ghost use Rattle.pr_checks.specs.private.RulesFound.{IsShort, IsShortFile, content_of, found_by};
 
+use pr_outside::loading::{Taker, load_each};
+use pr_outside::status::Stop;
+use pr_outside::{FileContent, Files};
 use pr_yaml::words_crate::{Items, Text};
-use spec_world::outside::loading::{Taker, load_each};
-use spec_world::outside::status::Stop;
-use spec_world::outside::{FileContent, Files};
 use std::alloc::{AllocError, Global};
 
 /// What is found under a name.

@@ -3,18 +3,18 @@ ghost use Rattle.std.specs.Prelude.{◌≡◌, ◌++◌, ◌∷◌, ◌<◌, ◌
 ghost use Rattle.std.specs.List.{AllByRecursion};
 ghost use Rattle.pr_checks.specs.Problems.{problem_line};
 ghost use Rattle.spec_world.specs.pr_rulefile.File.{rule_file_of};
-ghost use Rattle.spec_world.specs.pr_outside.Asks.{AsksBy};
-ghost use Rattle.spec_world.specs.pr_outside.Ends.{LoadEnds};
-ghost use Rattle.spec_world.specs.pr_outside.Outside.{AreTold, Held};
+ghost use Rattle.pr_outside.specs.Asks.{AsksBy};
+ghost use Rattle.pr_outside.specs.Ends.{LoadEnds};
+ghost use Rattle.pr_outside.specs.Outside.{AreTold, Held};
 ghost use Rattle.pr_checks.specs.RulesLoaded.{all_rules, and_rules, rules_by, rules_held};
 ghost use Rattle.pr_checks.specs.private.RulesFound.{IsShort, IsShortFile, holding_of, rules_found};
 ghost use Rattle.pr_checks.specs.private.RulesTaken.{AreKept, rules_of, with_wrong};
 
 use crate::found::{FoundContent, FoundFile, find_files};
 use crate::rules::{missing, push_lines, too_large};
+use pr_outside::Files;
+use pr_outside::status::Stop;
 use pr_yaml::words_crate::{Items, Text};
-use spec_world::outside::Files;
-use spec_world::outside::status::Stop;
 use spec_world::rulefile::{Problem, RuleError, read};
 use spec_world::rules_crate::GroupDef;
 use std::alloc::{AllocError, Global};

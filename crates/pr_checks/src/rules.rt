@@ -1,16 +1,16 @@
 // What `check rules` tells of a file.
 ghost use Rattle.std.specs.Prelude.{◌≡◌, ◌<◌, ◌≤◌, ◌^◌, ◌++◌, ℕ, List, Option, Some, OnOk, IfOk, length, flat_map};
-ghost use Rattle.spec_world.specs.pr_outside.Contents.{IsFound, IsWithinLimit, file_limit};
+ghost use Rattle.pr_outside.specs.Contents.{IsFound, IsWithinLimit, file_limit};
 ghost use Rattle.spec_world.specs.pr_rulefile.File.{rule_file_of};
 ghost use Rattle.pr_checks.specs.Problems.{problem_line};
 ghost use Rattle.pr_checks.specs.RuleFiles.{checking_text, failed_line, problems_text, found_told, missing, file_told, reading_told, rules_found, success, success_text, too_large};
 
 use crate::problems::push_problem;
+use pr_outside::check_loops::FileCheck;
+use pr_outside::loading::{Taker, load_each};
+use pr_outside::status::Stop;
+use pr_outside::{FileContent, Files};
 use pr_yaml::words_crate::{Items, push_number};
-use spec_world::outside::check_loops::FileCheck;
-use spec_world::outside::loading::{Taker, load_each};
-use spec_world::outside::status::Stop;
-use spec_world::outside::{FileContent, Files};
 use spec_world::rulefile::{Problem, RuleError, check};
 use std::alloc::{AllocError, Global};
 use std::mem::replace;

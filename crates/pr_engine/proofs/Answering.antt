@@ -10,7 +10,7 @@ use Rattle.pr_outside.specs.private.Kept.{AppendsRows, KeepsRows}
 use Rattle.pr_outside.specs.Meant.{Store}
 use Rattle.pr_outside.specs.declared.keeping.KeepError.{KeepError}
 use Rattle.pr_outside.specs.declared.keeping.KeepError.TheVariants as keeping
-use Rattle.pr_outside.specs.declared.keeping.Row.{Row}
+use Rattle.pr_outside.specs.spec_history.declared.row.Row.{Row}
 use Rattle.pr_manager.specs.pr_range.private.Asks.{LastAsks, Passed}
 use Rattle.pr_head.specs.spec_history.Histories.{history_of}
 use Rattle.pr_head.specs.spec_history.Rows.{encoded}
@@ -25,19 +25,19 @@ use Rattle.pr_manager.specs.spec_world.declared.event.Event.TheVariants as event
 use Rattle.pr_manager.specs.spec_world.declared.report.Report.{Report}
 use Rattle.pr_manager.specs.spec_world.declared.report.Report.TheVariants as report
 use Rattle.pr_manager.proofs.WorldRefusals.{refusal_is_told}
-use Rattle.pr_engine.specs.private.Causes.{HasApplyCause, apply_error, broken_after, last_after, restart_error}
-use Rattle.pr_head.specs.private.Causes.{HasStartCause}
+use Rattle.pr_engine.specs.private.Causes.{HasApplyCause, IfAnswered, apply_error, broken_after, last_after, restart_error}
+use Rattle.pr_engine.specs.private.StartCauses.{HasStartCause, IfLoaded}
 use Rattle.pr_engine.specs.private.Events.{IsKnownAfter, is_restart, settings_of, step_in_time}
-use Rattle.pr_head.specs.private.Loading.{IsLoaded}
-use Rattle.pr_head.specs.private.Rows.{AreRead, TellsOf}
+use Rattle.pr_engine.specs.private.Loading.{IsLoaded}
+use Rattle.pr_engine.specs.private.Rows.{AreRead, TellsOf}
 use Rattle.pr_engine.specs.private.Standing.{Begins, Forgets, KeptEngine, KeptParts, KeepsBefore, KeepsUnless, KeepsWorld, StandsFor, StandsForSome, Starts}
 use Rattle.pr_engine.specs.declared.fault.ApplyError.{ApplyError}
 use Rattle.pr_engine.specs.declared.fault.ApplyError.TheVariants as apply
 use Rattle.pr_engine.specs.declared.fault.Cause.{Cause}
-use Rattle.pr_head.specs.declared.rows.fault.StartError.{StartError}
-use Rattle.pr_head.specs.declared.rows.fault.StartError.TheVariants as start
+use Rattle.pr_engine.specs.declared.rows.fault.StartError.{StartError}
+use Rattle.pr_engine.specs.declared.rows.fault.StartError.TheVariants as start
 use Rattle.pr_engine.proofs.Steps.{in_time, stepped_history, stepped_last}
-use Rattle.pr_head.proofs.Telling.{tells_more}
+use Rattle.pr_engine.proofs.StoreTelling.{tells_more}
 use Rattle.pr_engine.proofs.Times.{head_of_all}
 use Rattle.pr_engine.proofs.Values.{told_in_time}
 
@@ -69,6 +69,17 @@ pub started_row : (e : StartError) (at : ℕ) → restart_error e ≡ apply.BadR
 started_row start.Memory at h = absurd cc
 started_row start.StoreFailed at h = absurd cc
 started_row (start.BadRow n) at h = let same : n ≡ at = cc in ap start.BadRow same
+
+-- rows that are told after an error
+
+pub kept_still : (T : Type 0) (e : KeepError) (now : Option (List Row)) → IfAnswered {T = T} (Err (apply_error e)) (IsSome now)
+kept_still T keeping.Failed now = tt
+kept_still T keeping.Memory now = tt
+
+pub started_tells : (T U : Type 0) (e : StartError) (now : Option (List Row)) → IfLoaded {T = T} (Err e) (IsSome now) → IfAnswered {T = U} (Err (restart_error e)) (IsSome now)
+started_tells T U start.Memory now told = tt
+started_tells T U start.StoreFailed now told = tt
+started_tells T U (start.BadRow at) now told = told
 
 -- Rows
 

@@ -14,5 +14,13 @@ pub mod ScrapeAnswering
 pub mod Bodies
 pub mod KnownTargets
 mod Stepping
-pub mod EngineEnds
+pub mod Told
+pub mod Loaded
+pub mod Paths
+pub mod StoreTelling
 pub use Rattle.pr_time.proofs.SpanTotal as TimeSpanTotal
+pub use Rattle.pr_manager.proofs.Each as ManagerEach
+pub use Rattle.pr_manager.proofs.Evaluated as ManagerEvaluated
+pub use Rattle.pr_manager.proofs.Loaded as ManagerLoaded
+pub use Rattle.pr_manager.proofs.Names as ManagerNames
+pub use Rattle.pr_manager.proofs.Places as ManagerPlaces

@@ -6,7 +6,7 @@ use Rattle.std.proofs.lemmas.Int.{ints}
 use Rattle.pr_head.specs.spec_history.declared.entry.Entry.{Entry}
 use Rattle.pr_head.specs.private.Intake.{Series}
 use Rattle.pr_manager.specs.spec_world.private.Laws.{IsNotBefore}
-use Rattle.pr_head.specs.private.Rows.{HoldsAll}
+use Rattle.pr_engine.specs.private.Rows.{HoldsAll}
 use Rattle.pr_engine.specs.private.Standing.{IsHeadOf}
 use Rattle.pr_engine.specs.private.Times.{IsKeptAbove}
 

@@ -1,12 +1,14 @@
 pub mod ByName
 pub mod Causes
-pub mod EngineStops
 pub mod Events
 pub mod Knowing
+pub mod Loading
 pub mod Making
+pub mod Opening
 pub mod Passing
-pub mod Running
+pub mod Rows
 pub mod Standing
+pub mod StartCauses
 pub mod Taken
 pub mod Tallying
 pub mod Times

@@ -1,5 +1,5 @@
 // The engine.
-ghost use Rattle.std.specs.Prelude.{◌≡◌, ◌≢◌, ℕ, ◌+◌, ◌<◌, ◌≤◌, [], false, true, Some, None, Ok, Err, IfOk, IfSome, IsSome, OnOk, OnErr, Option, Result};
+ghost use Rattle.std.specs.Prelude.{◌≡◌, ◌≢◌, ℕ, ◌+◌, ◌<◌, ◌≤◌, [], false, true, Some, None, Ok, Err, IfOk, IfSome, IsSome, IsTrue, OnOk, OnErr, Option, Result};
 ghost use Rattle.pr_outside.specs.private.Kept.{KeepsRows, StartsRows};
 ghost use Rattle.pr_manager.specs.private.Naming.{passed_by_named};
 ghost use Rattle.pr_head.specs.spec_history.Histories.{history_of};
@@ -7,17 +7,17 @@ ghost use Rattle.pr_manager.specs.spec_world.private.Laws.{IsNotBefore, HasDisti
 ghost use Rattle.pr_manager.specs.spec_world.Step.{next, time_of};
 ghost use Rattle.pr_manager.specs.spec_world.World.{World};
 ghost use Rattle.pr_engine.specs.declared.fault.Cause.{Cause};
-ghost use Rattle.pr_engine.specs.private.Causes.{HasApplyCause, broken_after, cause_of, last_after};
-ghost use Rattle.pr_head.specs.private.Causes.{HasStartCause};
+ghost use Rattle.pr_engine.specs.private.Causes.{HasApplyCause, IfAnswered, broken_after, cause_of, last_after};
+ghost use Rattle.pr_engine.specs.private.StartCauses.{HasStartCause, IfLoaded};
 ghost use Rattle.pr_engine.specs.private.Events.{IsKnownAfter, event_cost, is_restart, settings_of};
-ghost use Rattle.pr_head.specs.private.Opening.{StartOpens};
+ghost use Rattle.pr_engine.specs.private.Opening.{StartOpens};
 ghost use Rattle.pr_engine.specs.private.Passing.{EventPasses};
 ghost use Rattle.pr_engine.specs.private.Standing.{Forgets, StandsFor, StandsForSome, Starts};
 
 use crate::fault::{ApplyError, Cause};
+use crate::rows::StartError;
 use crate::standing::Standing;
 use crate::telling::{is_restart, time_of};
-use pr_head::rows::StartError;
 use pr_manager::range::Ranges;
 use pr_manager::world::{Event, Report};
 use pr_outside::Keeper;
@@ -92,7 +92,7 @@ impl<R: Ranges + Drop> Engine<R> {
     /// # Errors
     /// `StoreFailed` where the store refused a call; `BadRow` with the index of the first row that is
     /// the row of no entry, or is not added to those before it; `Memory`.
-    #[tactic(auto, using(pr_head::proofs::Telling::keep_started, pr_head::proofs::Paths::start_refused, pr_head::proofs::Paths::started_on))]
+    #[tactic(auto, using(crate::proofs::StoreTelling::keep_started, crate::proofs::Paths::start_refused, crate::proofs::Paths::started_on, crate::proofs::Loaded::none_told, crate::proofs::Loaded::told_alike))]
     pub fn start<K: Keeper>(
         alloc: Global,
         keeper: &mut K,
@@ -104,6 +104,8 @@ impl<R: Ranges + Drop> Engine<R> {
         ensures whole { IfOk result (λ e. (e.broken ≡ None) × (e.step ≡ step)) }
         ensures bad { (at : ℕ) → result ≡ Err (StartError.BadRow at) → IfSome (K.means keeper.new).rows (λ rows. history_of rows ≡ Err at) }
         ensures rows { StartsRows (K.means keeper.old).rows (K.means keeper.new).rows }
+        ensures tells { IsTrue (K.means keeper.new).sound → IfLoaded result (IsSome (K.means keeper.new).rows) }
+        ensures sound { IsTrue (K.means keeper.new).sound → IsTrue (K.means keeper.old).sound }
         ensures opens { StartOpens path.now (K.means keeper.old).paths (K.means keeper.new).paths result }
         ensures cause { HasStartCause (K.means keeper.old).faults (K.means keeper.new).faults result }
     {
@@ -165,6 +167,8 @@ impl<R: Ranges + Drop> Engine<R> {
         ensures none { (w : World) → StandsFor R.fits R.last R.passed self.old (K.means keeper.old) w → is_restart event ≡ false → (next (settings_of self.old.step) w event).rows ≡ []
             → keeper.new ≡ keeper.old }
         ensures told { IsSome (K.means keeper.new).rows → IsSome (K.means keeper.old).rows }
+        ensures tells { IsTrue (K.means keeper.new).sound → IsSome (K.means keeper.old).rows → IfAnswered result (IsSome (K.means keeper.new).rows) }
+        ensures sound { IsTrue (K.means keeper.new).sound → IsTrue (K.means keeper.old).sound }
         ensures bad { (at : ℕ) → result ≡ Err (ApplyError.BadRow at) → (is_restart event ≡ true) × IfSome (K.means keeper.new).rows (λ rows. history_of rows ≡ Err at) }
         ensures unbroken { (first : Cause) → result ≢ Err (ApplyError.Broken first) }
         ensures paths { (K.means keeper.new).paths ≡ (K.means keeper.old).paths }
@@ -188,7 +192,7 @@ impl<R: Ranges + Drop> Engine<R> {
     /// of the first row that is the row of no entry, or is not added to those before it. Then the
     /// store has as many rows as before the event, and the same where it tells them, and all but
     /// restarts are answered by `Broken`, with the first cause, until one succeeds.
-    #[tactic(auto, unfolding(crate::proofs::Stepping::stepping), using(pr_head::proofs::Told::keeps_same))]
+    #[tactic(auto, unfolding(crate::proofs::Stepping::stepping), using(crate::proofs::Told::keeps_same))]
     pub fn apply<K: Keeper, G: Ledger>(
         &mut self,
         alloc: Global,
@@ -226,6 +230,9 @@ impl<R: Ranges + Drop> Engine<R> {
         ensures none { (w : World) → StandsFor R.fits R.last R.passed self.old (K.means keeper.old) w → is_restart event ≡ false → (next (settings_of self.old.step) w event).rows ≡ []
             → keeper.new ≡ keeper.old }
         ensures told { IsSome (K.means keeper.new).rows → IsSome (K.means keeper.old).rows }
+        // As long as what the store stands on keeps its word, told rows are told still.
+        ensures tells { IsTrue (K.means keeper.new).sound → IsSome (K.means keeper.old).rows → IfAnswered result (IsSome (K.means keeper.new).rows) }
+        ensures sound { IsTrue (K.means keeper.new).sound → IsTrue (K.means keeper.old).sound }
         ensures bad { (at : ℕ) → result ≡ Err (ApplyError.BadRow at) → (is_restart event ≡ true) × IfSome (K.means keeper.new).rows (λ rows. history_of rows ≡ Err at) }
         ensures cause { HasApplyCause (K.means keeper.old).faults (K.means keeper.new).faults result }
         // A query and an evaluation alone read samples.

@@ -1,7 +1,7 @@
 // Why an engine does not answer.
 ghost use Rattle.std.specs.Prelude.{◌≡◌};
 
-use pr_head::rows::StartError;
+use crate::rows::StartError;
 use pr_outside::KeepError;
 use thiserror::Error;
 

@@ -1,5 +1,5 @@
 // What is kept of a world, and what becomes of it.
-ghost use Rattle.std.specs.Prelude.{◌≡◌, ◌≢◌, ℕ, ◌+◌, ◌<◌, ◌≤◌, List, [], ◌++◌, length, false, true, Some, Err, IfOk, IfSome, IsSome, OnOk, OnErr, Option};
+ghost use Rattle.std.specs.Prelude.{◌≡◌, ◌≢◌, ℕ, ◌+◌, ◌<◌, ◌≤◌, List, [], ◌++◌, length, false, true, Some, Err, IfOk, IfSome, IsSome, IsTrue, OnOk, OnErr, Option};
 ghost use Rattle.pr_head.specs.spec_history.declared.entry.Entry.{Entry};
 ghost use Rattle.pr_head.specs.spec_history.Admission.{admit};
 ghost use Rattle.pr_outside.specs.Causes.{HasKeepCause};
@@ -11,24 +11,24 @@ ghost use Rattle.pr_manager.specs.spec_world.private.Laws.{HasDistinctFiles};
 ghost use Rattle.pr_manager.specs.spec_world.Step.{entry_of, fail_outcome, gone_outcome, outcome_by, report_of, rows_by, scrape_outcome, scrape_report, step_by, time_of};
 ghost use Rattle.pr_manager.specs.spec_world.Targets.{fail_step, gone_step, scrape_step};
 ghost use Rattle.pr_manager.specs.spec_world.declared.report.Report.TheVariants.{Restarted};
-ghost use Rattle.pr_engine.specs.private.Causes.{HasApplyCause};
-ghost use Rattle.pr_head.specs.private.Causes.{HasStartCause};
+ghost use Rattle.pr_engine.specs.private.Causes.{HasApplyCause, IfAnswered};
+ghost use Rattle.pr_engine.specs.private.StartCauses.{HasStartCause, IfLoaded};
 ghost use Rattle.pr_engine.specs.declared.fault.Cause.{Cause};
 ghost use Rattle.pr_engine.specs.private.Events.{IsKnownAfter, event_cost, is_restart, step_in_time};
 ghost use Rattle.pr_engine.specs.private.Passing.{EventPasses};
-ghost use Rattle.pr_head.specs.private.Rows.{TellsOf};
+ghost use Rattle.pr_engine.specs.private.Rows.{TellsOf};
 ghost use Rattle.pr_engine.specs.private.Standing.{Begins, Forgets, IsHeadOf, KeepsBefore, KeepsWorld};
 ghost use Rattle.pr_engine.specs.private.Taken.{added_in, report_in};
 
 use crate::fault::ApplyError;
 use crate::query::ask;
+use crate::rows::{StartError, keep, load};
 use crate::scrape::Targets;
 use crate::taken::Taken;
 use crate::telling::{is_restart, report_of, scrape_report};
 use pr_ast::num::Point;
 use pr_head::Head;
 use pr_head::history::{Append, Entry};
-use pr_head::rows::{StartError, keep, load};
 use pr_labels::Labels;
 use pr_manager::range::Ranges;
 use pr_manager::world::{Event, Report};
@@ -227,7 +227,7 @@ impl<R: Ranges + Drop> Standing<R> {
     // Takes an event that is not before the last one, and is no restart: changes what is kept, and
     // then keeps the rows of what was added. After an error nothing is known of what is kept, and the
     // store has the rows of before.
-    #[tactic(auto, using(crate::proofs::Answering::kept_tells, pr_head::proofs::Telling::tells_still, pr_head::proofs::Telling::some_before, pr_head::proofs::Telling::told_before, pr_head::proofs::Told::keeps_same))]
+    #[tactic(auto, using(crate::proofs::Answering::kept_tells, crate::proofs::StoreTelling::tells_still, crate::proofs::StoreTelling::some_before, crate::proofs::StoreTelling::told_before, crate::proofs::Told::keeps_same))]
     fn take<K: Keeper, G: Ledger>(
         &mut self,
         alloc: Global,
@@ -253,6 +253,8 @@ impl<R: Ranges + Drop> Standing<R> {
         ensures rows { OnErr result (KeepsRows (K.means keeper.old).rows (K.means keeper.new).rows) }
         ensures count { OnErr result ((K.means keeper.new).count ≡ (K.means keeper.old).count) }
         ensures told { IsSome (K.means keeper.new).rows → IsSome (K.means keeper.old).rows }
+        ensures still { IsTrue (K.means keeper.new).sound → IsSome (K.means keeper.old).rows → OnOk result (IsSome (K.means keeper.new).rows) }
+        ensures sound { IsTrue (K.means keeper.new).sound → IsTrue (K.means keeper.old).sound }
         ensures paths { (K.means keeper.new).paths ≡ (K.means keeper.old).paths }
         ensures cause { HasKeepCause (K.means keeper.old).faults (K.means keeper.new).faults result }
         ensures reads { (w : World) → KeepsBefore R.fits R.last R.passed step self.old w (time_of event)
@@ -267,7 +269,7 @@ impl<R: Ranges + Drop> Standing<R> {
     ///
     /// # Errors
     /// As `load` has them.
-    #[tactic(auto, using(crate::proofs::Answering::begins))]
+    #[tactic(auto, using(crate::proofs::Answering::begins, crate::proofs::Loaded::told_alike))]
     pub(crate) fn begin<K: Keeper>(
         alloc: Global,
         keeper: &mut K,
@@ -278,6 +280,8 @@ impl<R: Ranges + Drop> Standing<R> {
         ensures bad { (at : ℕ) → result ≡ Err (StartError.BadRow at) → IfSome (K.means keeper.new).rows (λ rows. history_of rows ≡ Err at) }
         ensures same { KeepsRows (K.means keeper.old).rows (K.means keeper.new).rows }
         ensures count { (K.means keeper.new).count ≡ (K.means keeper.old).count }
+        ensures tells { IsTrue (K.means keeper.new).sound → IsSome (K.means keeper.old).rows → IfLoaded result (IsSome (K.means keeper.new).rows) }
+        ensures sound { IsTrue (K.means keeper.new).sound → IsTrue (K.means keeper.old).sound }
         ensures paths { (K.means keeper.new).paths ≡ (K.means keeper.old).paths }
         ensures cause { HasStartCause (K.means keeper.old).faults (K.means keeper.new).faults result }
     {
@@ -292,7 +296,7 @@ impl<R: Ranges + Drop> Standing<R> {
     }
 
     // Begins anew over the rows of a store.
-    #[tactic(auto, using(crate::proofs::Answering::begun_keeps, pr_head::proofs::Telling::tells_still))]
+    #[tactic(auto, using(crate::proofs::Answering::begun_keeps, crate::proofs::StoreTelling::tells_still, crate::proofs::Loaded::told_alike))]
     fn begin_anew<K: Keeper>(
         &mut self,
         alloc: Global,
@@ -308,6 +312,8 @@ impl<R: Ranges + Drop> Standing<R> {
         ensures bad { (at : ℕ) → result ≡ Err (StartError.BadRow at) → IfSome (K.means keeper.new).rows (λ rows. history_of rows ≡ Err at) }
         ensures same { KeepsRows (K.means keeper.old).rows (K.means keeper.new).rows }
         ensures count { (K.means keeper.new).count ≡ (K.means keeper.old).count }
+        ensures still { IsTrue (K.means keeper.new).sound → IsSome (K.means keeper.old).rows → IfLoaded result (IsSome (K.means keeper.new).rows) }
+        ensures sound { IsTrue (K.means keeper.new).sound → IsTrue (K.means keeper.old).sound }
         ensures paths { (K.means keeper.new).paths ≡ (K.means keeper.old).paths }
         ensures cause { HasStartCause (K.means keeper.old).faults (K.means keeper.new).faults result }
     {
@@ -324,7 +330,7 @@ impl<R: Ranges + Drop> Standing<R> {
 
     /// Answers an event that is not before the last one. Where it is no restart, this is what is kept
     /// of the world.
-    #[tactic(auto, using(crate::proofs::Answering::anew_report, crate::proofs::Answering::anew_keeps, crate::proofs::Answering::anew_tells, crate::proofs::Answering::anew_forgets, crate::proofs::Answering::known_rows, crate::proofs::Answering::keep_applied, crate::proofs::Answering::start_applied, crate::proofs::Answering::kept_no_row, crate::proofs::Answering::kept_unbroken, crate::proofs::Answering::started_unbroken, crate::proofs::Answering::started_row, pr_head::proofs::Telling::some_before, crate::proofs::Queries::no_reads))]
+    #[tactic(auto, using(crate::proofs::Answering::anew_report, crate::proofs::Answering::anew_keeps, crate::proofs::Answering::anew_tells, crate::proofs::Answering::anew_forgets, crate::proofs::Answering::known_rows, crate::proofs::Answering::keep_applied, crate::proofs::Answering::start_applied, crate::proofs::Answering::kept_no_row, crate::proofs::Answering::kept_unbroken, crate::proofs::Answering::started_unbroken, crate::proofs::Answering::started_row, crate::proofs::Answering::started_tells, crate::proofs::Answering::kept_still, crate::proofs::StoreTelling::some_before, crate::proofs::Queries::no_reads))]
     pub(crate) fn answer<K: Keeper, G: Ledger>(
         &mut self,
         alloc: Global,
@@ -353,6 +359,8 @@ impl<R: Ranges + Drop> Standing<R> {
         ensures told { IsSome (K.means keeper.new).rows → IsSome (K.means keeper.old).rows }
         ensures bad { (at : ℕ) → result ≡ Err (ApplyError.BadRow at) → (is_restart event ≡ true) × IfSome (K.means keeper.new).rows (λ rows. history_of rows ≡ Err at) }
         ensures unbroken { (first : Cause) → result ≢ Err (ApplyError.Broken first) }
+        ensures still { IsTrue (K.means keeper.new).sound → IsSome (K.means keeper.old).rows → IfAnswered result (IsSome (K.means keeper.new).rows) }
+        ensures sound { IsTrue (K.means keeper.new).sound → IsTrue (K.means keeper.old).sound }
         ensures paths { (K.means keeper.new).paths ≡ (K.means keeper.old).paths }
         ensures cause { HasApplyCause (K.means keeper.old).faults (K.means keeper.new).faults result }
         ensures reads { (w : World) → (is_restart event ≡ false → KeepsBefore R.fits R.last R.passed step self.old w (time_of event))

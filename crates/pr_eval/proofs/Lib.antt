@@ -36,5 +36,4 @@ pub use Rattle.pr_range.proofs.HeadArrivals
 pub use Rattle.pr_range.proofs.HeadIntakeIntake
 pub use Rattle.pr_range.proofs.HeadNewest
 pub use Rattle.pr_range.proofs.HeadSimulation
-pub use Rattle.pr_range.proofs.HeadTelling
 pub use Rattle.pr_fn.proofs.Twice as FnTwice

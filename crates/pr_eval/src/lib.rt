@@ -16,7 +16,7 @@ pub mod values;
 
 // What crates above name of those below.
 pub mod head {
-    pub use pr_range::head::{Head, Timed, intake, rows};
+    pub use pr_range::head::{Head, Timed, intake};
 }
 
 pub mod functions {

@@ -5,7 +5,7 @@ use Rattle.pr_outside.specs.Outside.{Outside}
 use Rattle.pr_outside.specs.declared.status.status.Stop.{Stop}
 use Rattle.pr_outside.specs.declared.status.status.Stop.TheVariants.{Memory}
 use Rattle.pr_outside.proofs.Ended.{ends_memory, ends_on, in_time_same}
-use Rattle.pr_text.specs.spec_history.Stores.{KeepEnds, IsBadIn}
+use Rattle.pr_outside.specs.Stores.{KeepEnds, IsBadIn}
 
 -- the error of the last part, where the parts before it were refused nothing
 pub keep_on : (T U : Type 0) (a b c : Store) (r : Result T Stop) (e : Stop) → IsErrAnd r (λ y. y ≡ e) → b.faults ≡ a.faults → KeepEnds {T = U} b c (Err e) → KeepEnds {T = T} a c r

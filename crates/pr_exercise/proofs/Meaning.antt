@@ -3,7 +3,7 @@ use Rattle.std.proofs.Common.{◌≡◌, ◌≢◌, ℕ, List, [], Option, None,
 use Rattle.std.specs.Io.KnownBytes.{Appends}
 use Rattle.pr_text.specs.spec_history.declared.entry.Entry.{Entry}
 use Rattle.pr_outside.specs.Causes.{IsCalm, Rose}
-use Rattle.pr_outside.specs.declared.keeping.Row.{Row}
+use Rattle.pr_outside.specs.spec_history.declared.row.Row.{Row}
 use Rattle.pr_text.specs.spec_history.Histories.{history_of}
 use Rattle.pr_outside.specs.Ends.{Ends, StopsBy, place_of, stop_status}
 use Rattle.pr_outside.specs.Opening.{OpensBy}
@@ -12,7 +12,7 @@ use Rattle.pr_outside.specs.declared.status.status.Status.{Status}
 use Rattle.pr_outside.specs.declared.status.status.Status.TheVariants as status
 use Rattle.pr_outside.specs.declared.status.status.Stop.{Stop}
 use Rattle.pr_outside.specs.declared.status.status.Stop.TheVariants as stop
-use Rattle.pr_text.specs.spec_history.Stores.{IsBadIn, OverRows}
+use Rattle.pr_outside.specs.Stores.{IsBadIn, OverRows, StartsTelling}
 use Rattle.pr_text.specs.BadRows.{bad_row_text}
 use Rattle.pr_exercise.specs.Means.{EndsBy, EndsInto, EndsOver, ExercisesBy, IsWhole, MeansExercise, exercise_status}
 
@@ -54,13 +54,14 @@ if_rows None P Q f p = tt
 if_rows (Some rows) P Q f p = f rows p
 
 pub means_exercise : (rounds : ℕ) (before now : Outside) (r : Result Unit Stop) (result : Status) → result ≡ exercise_status r → Ends (IsBadIn now.store) ⊥ before now r
-    → OpensBy [] before.store.paths now.store.paths r → ((index : ℕ) → r ≡ Err (stop.BadRow index) → Appends before.out.taken now.out.taken (bad_row_text index))
+    → OpensBy [] before.store.paths now.store.paths r → StartsTelling before.store now.store r → ((index : ℕ) → r ≡ Err (stop.BadRow index) → Appends before.out.taken now.out.taken (bad_row_text index))
     → IfSome now.store.rows (λ all. OverRows before.store.rows all (λ rows. EndsBy (history_of rows) rounds rows before now r)) → MeansExercise rounds before now result
-means_exercise rounds before now r result is e opens row over = record {
+means_exercise rounds before now r result is e opens tells row over = record {
   ending = r;
   answer = is;
   ends = e;
   opens = opens;
+  tells = tells;
   row = row;
   over = if_rows now.store.rows (λ all. OverRows before.store.rows all (λ rows. EndsBy (history_of rows) rounds rows before now r))
       (λ all. OverRows before.store.rows all (λ rows. ExercisesBy (history_of rows) rounds rows before now r result))

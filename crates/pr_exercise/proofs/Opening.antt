@@ -2,7 +2,7 @@
 use Rattle.std.proofs.Common.{◌≡◌, ◌≢◌, ℕ, List, Option, Some, None, Result, Err, IfSome, OnErr, refl, sym, subst, take}
 use Rattle.std.specs.Io.KnownBytes.{Appends}
 use Rattle.pr_text.specs.spec_history.declared.entry.Entry.{Entry}
-use Rattle.pr_outside.specs.declared.keeping.Row.{Row}
+use Rattle.pr_outside.specs.spec_history.declared.row.Row.{Row}
 use Rattle.pr_text.specs.spec_history.Histories.{history_of}
 use Rattle.pr_outside.specs.declared.status.status.Stop.{Stop}
 use Rattle.pr_outside.specs.declared.status.status.Stop.TheVariants.{Read, Load, Store, BadRow, Write, Memory, TooLong}

@@ -5,7 +5,7 @@ use Rattle.std.specs.Io.KnownBytes.{Appends}
 use Rattle.pr_text.specs.spec_history.declared.entry.Entry.{Entry}
 use Rattle.pr_outside.specs.private.Kept.{StartsRows}
 use Rattle.pr_outside.specs.Meant.{Output}
-use Rattle.pr_outside.specs.declared.keeping.Row.{Row}
+use Rattle.pr_outside.specs.spec_history.declared.row.Row.{Row}
 use Rattle.pr_text.specs.spec_history.Histories.{history_of}
 use Rattle.pr_text.specs.spec_rules.Settings.{of_a_run}
 use Rattle.pr_text.specs.spec_world.Step.{rows_of}
@@ -19,8 +19,8 @@ use Rattle.pr_outside.specs.declared.status.status.Stop.{Stop}
 use Rattle.pr_outside.specs.declared.status.status.Stop.TheVariants as stop
 use Rattle.pr_outside.proofs.Ended.{quiet}
 use Rattle.pr_text.specs.BadRows.{IsBadStart, bad_row_text, bad_text}
-use Rattle.pr_text.specs.spec_history.Stores.{TellsHistory, AreKept, IsBadIn, OverRows}
-use Rattle.pr_text.proofs.HistoryStoredRows.{IsDecoding, kept_by}
+use Rattle.pr_outside.specs.Stores.{TellsHistory, AreKept, IsBadIn, OverRows}
+use Rattle.pr_outside.proofs.StoredRows.{IsDecoding, kept_by}
 use Rattle.pr_exercise.specs.Means.{EndsBy, EndsOver, IsFront, IsWhole}
 use Rattle.pr_exercise.specs.private.Standing.{ExerciseHalts}
 

@@ -13,7 +13,7 @@ use Rattle.pr_text.specs.spec_world.declared.report.Report.{Report}
 use Rattle.pr_text.specs.spec_world.declared.report.Report.TheVariants.{Opened}
 use Rattle.pr_exercise.specs.Summary.{lines_after, lines_told, report_lines}
 use Rattle.pr_outside.specs.declared.status.status.Stop.{Stop}
-use Rattle.pr_text.specs.spec_history.Stores.{TellsHistory}
+use Rattle.pr_outside.specs.Stores.{TellsHistory}
 use Rattle.pr_exercise.specs.private.Standing.{ExerciseComes, EndsCounted, ExerciseHalts, IsCounted, ExerciseStands}
 use Rattle.pr_exercise.specs.private.Tallies.{counted_all, no_lines, tally_of}
 use Rattle.pr_exercise.specs.declared.session.Session.{Session}

@@ -1,11 +1,11 @@
 -- What is counted of lines.
-use Rattle.std.proofs.Common.{◌≡◌, ◌≢◌, ◌==◌, ℕ, ◌+◌, Bool, false, true≢false, take, drop, cond, List, [], ◌∷◌, ◌++◌, length, refl, sym, ap, ◌∙◌, arith}
+use Rattle.std.proofs.Common.{◌≡◌, ◌≢◌, ◌==◌, ℕ, ◌+◌, ◌*◌, ◌^◌, ◌<◌, ◌≤◌, Bool, true, false, true≢false, take, drop, cond, List, [], ◌∷◌, ◌++◌, length, refl, sym, subst, ap, ◌∙◌, arith}
 use Rattle.std.proofs.lemmas.List.Sums.{sum_by-cons}
 use Rattle.std.specs.Prelude.{codes, count_by}
 use Rattle.std.specs.List.{position_or_len}
 use Rattle.pr_outside.specs.pr_words.Lines.{is_feed, lines_of}
 use Rattle.pr_exercise.specs.Summary.{begins_with, number_line, summary_of, tells_fault}
-use Rattle.pr_exercise.specs.private.Tallies.{counted, counted_all, no_lines, summary_by, tally_of}
+use Rattle.pr_exercise.specs.private.Tallies.{HasRoom, HasRoomForTexts, counted, counted_all, no_lines, summary_by, tally_of}
 use Rattle.pr_exercise.specs.declared.tally.Tally.{Tally}
 use Rattle.pr_exercise.proofs.Lines.{first_line}
 
@@ -70,3 +70,50 @@ count_on t u rest line behind some is front back =
 pub is_some : (rest : List ℕ) (b : Bool) → b ≡ (length rest == 0) → b ≡ false → rest ≢ []
 is_some [] b is test none = absurd (true≢false (sym is ∙ test))
 is_some (x ∷ rest) b is test none = absurd (cc)
+
+-- how many lines can be counted
+
+pub some_rest : (rest : List ℕ) → rest ≢ [] → 1 ≤ length rest
+some_rest [] some = absurd (some refl)
+some_rest (b ∷ rest) some = omega arith
+
+pub room_less : (t : Tally) (fewer more : ℕ) → fewer ≤ more → HasRoom more t → HasRoom fewer t
+room_less t fewer more less r = record {
+  all = omega (arith, less, r.all);
+  some_samples = r.some_samples;
+  some_stales = r.some_stales;
+  some_sends = r.some_sends;
+  some_faults = r.some_faults;
+}
+
+one_at_most : (b : Bool) (n most : ℕ) → n ≤ most → n + cond b 1 0 ≤ most + 1
+one_at_most true n most h = omega (arith, h)
+one_at_most false n most h = omega (arith, h)
+
+pub room_counted : (t : Tally) (line : List ℕ) (more : ℕ) → HasRoom (more + 1) t → HasRoom more (counted t line)
+room_counted t line more r = record {
+  all = omega (arith, r.all);
+  some_samples = one_at_most (begins_with (codes "sample") line) t.samples t.lines r.some_samples;
+  some_stales = one_at_most (begins_with (codes "stale") line) t.stales t.lines r.some_stales;
+  some_sends = one_at_most (begins_with (codes "send") line) t.sends t.lines r.some_sends;
+  some_faults = one_at_most (tells_fault line) t.faults t.lines r.some_faults;
+}
+
+-- its first line, of a text of which some is left
+pub room_on : (t u : Tally) (rest line behind : List ℕ) (more : ℕ) → u ≡ counted t line → length behind < length rest → HasRoom (more + length rest) t → HasRoom (more + length behind) u
+room_on t u rest line behind more is less r =
+    subst (HasRoom (more + length behind)) (sym is)
+    (room_counted t line (more + length behind) (room_less t (more + length behind + 1) (more + length rest) (omega (arith, less)) r))
+
+pub room_at_first : HasRoomForTexts (2 ^ 64 + 1) no_lines
+room_at_first = record { all = omega arith; some_samples = omega arith; some_stales = omega arith; some_sends = omega arith; some_faults = omega arith }
+
+-- and a text
+pub room_for_text : (t : Tally) (text : List ℕ) (more : ℕ) → length text < 2 ^ 63 → HasRoomForTexts (more + 1) t → HasRoom (more * 2 ^ 63 + length text) t
+room_for_text t text more short r = room_less t (more * 2 ^ 63 + length text) ((more + 1) * 2 ^ 63) (omega (arith, short)) r
+
+pub room_for_one : (t : Tally) (text : List ℕ) → length text < 2 ^ 63 → HasRoomForTexts 1 t → HasRoom (length text) t
+room_for_one t text short r = room_less t (length text) (1 * 2 ^ 63) (omega (arith, short)) r
+
+pub texts_less : (t : Tally) (fewer more : ℕ) → fewer ≤ more → HasRoomForTexts more t → HasRoomForTexts fewer t
+texts_less t fewer more less r = room_less t (fewer * 2 ^ 63) (more * 2 ^ 63) (omega (arith, less)) r

@@ -1,7 +1,7 @@
 -- What rounds keep small, what their events have, and one round after another.
-use Rattle.std.proofs.Common.{◌≡◌, ℕ, suc, ◌+◌, ◌-◌, ◌*◌, ◌<◌, ◌≤◌, ◌%◌, Bool, true, false, List, [], ◌∷◌, ◌++◌, refl, sym, ap, ◌∙◌, arith, rules, length}
+use Rattle.std.proofs.Common.{◌≡◌, ℕ, suc, ◌+◌, ◌-◌, ◌*◌, ◌<◌, ◌≤◌, ◌%◌, Bool, true, false, List, [], ◌∷◌, ◌++◌, refl, sym, ap, ◌∙◌, arith, rules, length, length-append}
 use Rattle.std.proofs.lemmas.Fmt.{decimal_nonempty}
-use Rattle.std.specs.Prelude.{if◌then◌else◌, codes, decimal, ◌^◌}
+use Rattle.std.specs.Prelude.{if◌then◌else◌, codes, decimal, nat_lt, ◌&&◌, ◌^◌}
 use Rattle.std.specs.List.{IsDistinct}
 use Rattle.pr_text.specs.pr_labels.declared.pair.Pair.{Pair}
 use Rattle.pr_text.specs.pr_labels.Edits.{labels_of}
@@ -53,6 +53,28 @@ pub round_files : (i x : ℕ) (counts : List ℕ) → HaveDistinctFiles (turn_ev
 round_files i x counts =
     both (opening i (30000 * i)) ((turn_at i x counts).events ++ eval_at (30000 * i) ∷ []) (opening_by _ _ (30000 * i))
     (both (turn_at i x counts).events (eval_at (30000 * i) ∷ []) (of_targets (30000 * i) 0 x counts) (tt, tt))
+
+-- how many events there are
+
+targets_many : (time j x : ℕ) (counts : List ℕ) → length (targets_from time j x counts).events ≡ length counts
+targets_many time j x [] = refl
+targets_many time j x (count ∷ counts) = omega (arith, targets_many time (j + 1) (next_number x) counts)
+
+pub counts_many : (time j x : ℕ) (counts : List ℕ) → length (targets_from time j x counts).counts ≡ length counts
+counts_many time j x [] = refl
+counts_many time j x (count ∷ counts) = omega (arith, counts_many time (j + 1) (next_number x) counts)
+
+few_first : (a b : Bool) (time : ℕ) → length (if a then Restart time ∷ reload_at time ∷ [] else (if b then reload_at time ∷ [] else [])) ≤ 2
+few_first true b time = omega arith
+few_first false true time = omega arith
+few_first false false time = omega arith
+
+pub few_events : (i x : ℕ) (counts : List ℕ) → length counts ≡ 4 → length (turn_events i (turn_at i x counts)) ≤ 7
+few_events i x counts four =
+    let time = 30000 * i in
+    let es = (turn_at i x counts).events in
+    let first : length (opening i time) ≤ 2 = few_first (nat_lt 0 i && divides 1000 i) (nat_lt 0 i && divides 100 i) time in
+    omega (arith, four, first, targets_many time 0 x counts, length-append es (eval_at time ∷ []), length-append (opening i time) (es ++ eval_at time ∷ []))
 
 -- rounds, one after another
 

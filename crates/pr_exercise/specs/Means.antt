@@ -2,7 +2,7 @@
 use Rattle.std.specs.Prelude.{◌≡◌, ◌≢◌, ℕ, ◌<◌, ◌≤◌, List, [], ◌++◌, length, take, Result, Ok, Err, IfSome, IsErr, OnOk}
 use Rattle.std.specs.Io.KnownBytes.{Appends}
 use Rattle.pr_text.specs.spec_history.declared.entry.Entry.{Entry}
-use Rattle.pr_outside.specs.declared.keeping.Row.{Row}
+use Rattle.pr_outside.specs.spec_history.declared.row.Row.{Row}
 use Rattle.pr_text.specs.spec_history.Histories.{history_of}
 use Rattle.pr_text.specs.spec_rules.Settings.{of_a_run}
 use Rattle.pr_text.specs.spec_world.Step.{rows_of}
@@ -17,7 +17,7 @@ use Rattle.pr_outside.specs.declared.status.status.Status.TheVariants as status
 use Rattle.pr_outside.specs.declared.status.status.Stop.{Stop}
 use Rattle.pr_outside.specs.declared.status.status.Stop.TheVariants.{BadRow}
 use Rattle.pr_text.specs.BadRows.{IsBadStart, bad_row_text}
-use Rattle.pr_text.specs.spec_history.Stores.{AreKept, IsBadIn, OverRows}
+use Rattle.pr_outside.specs.Stores.{AreKept, IsBadIn, OverRows, StartsTelling}
 
 -- how the program ends after it
 abbrev pub exercise_status : Result Unit Stop → Status
@@ -75,6 +75,9 @@ pub record MeansExercise (rounds : ℕ) (before now : Outside) (result : Status)
   pub ends : Ends (IsBadIn now.store) ⊥ before now ending
   -- it opens a store in memory
   pub opens : OpensBy [] before.store.paths now.store.paths ending
+  -- As long as what the store stands on has kept its word, an exercise that neither the store nor want of
+  -- memory stopped leaves the rows told.
+  pub tells : StartsTelling before.store now.store ending
   -- a bad row is told, and nothing else, over any store
   pub row : (index : ℕ) → ending ≡ Err (BadRow index) → Appends before.out.taken now.out.taken (bad_row_text index)
   -- What is written and kept, over the rows at the start, where the store tells its rows at the end.

@@ -10,8 +10,8 @@ ghost use Rattle.pr_outside.specs.Outside.{Outside};
 ghost use Rattle.pr_exercise.specs.Exercise.{exercise_events};
 ghost use Rattle.pr_text.specs.spec_world.World.{start};
 ghost use Rattle.pr_outside.specs.declared.status.status.Stop.TheVariants as stop;
-ghost use Rattle.pr_text.specs.spec_history.Stores.{KeepEnds, IsBadIn, OverRows};
-ghost use Rattle.pr_text.specs.spec_world.private.Keeping.{Starts};
+ghost use Rattle.pr_outside.specs.Stores.{IsBadIn, KeepEnds, KeepsTelling, OverRows, StartsTelling};
+ghost use Rattle.pr_text.specs.private.Keeping.{Starts};
 ghost use Rattle.pr_text.specs.BadRows.{bad_row_text, bad_text};
 ghost use Rattle.pr_exercise.specs.Means.{EndsBy, MeansExercise};
 ghost use Rattle.pr_exercise.specs.private.Standing.{EndsCounted};
@@ -24,8 +24,7 @@ use crate::targets::{Targets, first_reload};
 use pr_outside::status::{Status, Stop, send};
 use pr_outside::{Keeper, Sink};
 use pr_text::history::row::laws::rows_decode_as_their_entries;
-use pr_text::world::Worlds;
-use pr_text::{bad_row_of, tell_bad_row};
+use pr_text::{Worlds, bad_row_of, tell_bad_row};
 use std::alloc::Global;
 
 // What stops an exercise, after what stopped a part of it: where that is a bad row, its line is
@@ -54,6 +53,8 @@ fn open<E: Worlds + Drop, K: Keeper, O: Sink>(
     out: &mut O,
 ) -> Result<E, Stop>
     ensures starts { IfOk result (λ e. Starts E.stands_for e (K.means keeper.new)) }
+    ensures going { IfOk result E.is_going }
+    ensures tells { StartsTelling (K.means keeper.old) (K.means keeper.new) result }
     ensures unwritten { OnOk result (O.means out.new ≡ O.means out.old) }
     ensures front { IfSome (K.means keeper.new).rows (λ rows. OnErr result ((n : ℕ) × Appends (O.means out.old).taken (O.means out.new).taken (take n (bad_text (history_of rows))))) }
     ensures bad { (at : ℕ) → result ≡ Err (stop.BadRow at) → Appends (O.means out.old).taken (O.means out.new).taken (bad_row_text at) }
@@ -75,6 +76,8 @@ fn answer_all<E: Worlds + Drop, K: Keeper>(
     kept: E,
     keeper: &mut K,
 ) -> Result<Tally, Stop>
+    requires { E.is_going kept }
+    ensures tells { KeepsTelling (K.means keeper.old) (K.means keeper.new) result }
     ensures counts { (history : List Entry) → E.stands_for kept (K.means keeper.old) (start history) → (K.means keeper.old).count ≡ length history → IsSome (K.means keeper.new).rows
         → EndsCounted history (exercise_events rounds) (K.means keeper.new) result }
     ensures told { IsSome (K.means keeper.new).rows → IsSome (K.means keeper.old).rows }
@@ -117,6 +120,7 @@ fn run<E: Worlds + Drop, K: Keeper, O: Sink>(
     ensures over { (others : Outside) → IfSome (K.means keeper.new).rows (λ all. OverRows (K.means keeper.old).rows all (λ rows. EndsBy (history_of rows) rounds rows
         (record others { store = K.means keeper.old; out = O.means out.old }) (record others { store = K.means keeper.new; out = O.means out.new }) result)) }
     ensures row { (at : ℕ) → result ≡ Err (stop.BadRow at) → Appends (O.means out.old).taken (O.means out.new).taken (bad_row_text at) }
+    ensures tells { StartsTelling (K.means keeper.old) (K.means keeper.new) result }
     ensures opens { OpensBy [] (K.means keeper.old).paths (K.means keeper.new).paths result }
     ensures ends { (others : Outside) → Ends (IsBadIn (K.means keeper.new)) ⊥ (record others { store = K.means keeper.old; out = O.means out.old })
         (record others { store = K.means keeper.new; out = O.means out.new }) result }

@@ -1,12 +1,13 @@
 // How many lines are told, by their first words.
-ghost use Rattle.std.specs.Prelude.{◌≡◌, ◌≢◌, ◌++◌, ◌+◌, ◌<◌, [], cond, take, drop, length, IfOk, OnOk};
+ghost use Rattle.std.specs.Prelude.{◌≡◌, ◌≢◌, ℕ, ◌++◌, ◌+◌, ◌<◌, ◌^◌, [], cond, take, drop, length, OnOk};
 ghost use Rattle.std.specs.List.{position_or_len};
 ghost use Rattle.pr_outside.specs.pr_words.Lines.{is_feed, lines_of};
 ghost use Rattle.pr_exercise.specs.Summary.{begins_with, number_line, tells_fault};
-ghost use Rattle.pr_exercise.specs.private.Tallies.{counted, counted_all, no_lines, summary_by};
+ghost use Rattle.pr_exercise.specs.private.Tallies.{HasRoom, counted, counted_all, no_lines, summary_by};
 
-use pr_outside::words_crate::{line_len, push_number, split_first};
-use std::alloc::{AllocError, Global};
+use itoa::Buffer;
+use pr_outside::words_crate::{line_len, split_first};
+use std::alloc::AllocError;
 
 fn begins_with(word: &[u8], line: &[u8]) -> bool
     ensures { result ≡ begins_with word.now line.now }
@@ -25,16 +26,12 @@ fn tells_fault(line: &[u8]) -> bool
     word == b"rule".as_slice() && outcome == b"fault".as_slice()
 }
 
-// One more, where it is one of those that are counted. A count that no number of the program holds is
-// want of memory.
-fn more_if(is_one: bool, count: u64) -> Result<u64, AllocError>
-    ensures { IfOk result (λ n. n ≡ count + cond is_one 1 0) }
+// One more, where it is one of those that are counted.
+fn more_if(is_one: bool, count: u128) -> u128
+    requires { count + 1 < 2 ^ 128 }
+    ensures { result ≡ count + cond is_one 1 0 }
 {
-    if is_one {
-        count.checked_add(1).ok_or(AllocError)
-    } else {
-        Ok(count)
-    }
+    if is_one { count + 1 } else { count }
 }
 
 // The first line of a text that has one, and what stands behind it.
@@ -51,14 +48,15 @@ fn split_line(text: &[u8]) -> (&[u8], &[u8])
 }
 
 /// How many lines there are, and how many of them tell of samples, of markers, of what is sent, and of
-/// rules that have a fault.
+/// rules that have a fault. An exercise has fewer than 2^128 lines, since it has fewer than 2^20 events,
+/// and the text of each is shorter than 2^63 bytes.
 #[derive(Clone, Copy)]
 pub(crate) struct Tally {
-    lines: u64,
-    samples: u64,
-    stales: u64,
-    sends: u64,
-    faults: u64,
+    lines: u128,
+    samples: u128,
+    stales: u128,
+    sends: u128,
+    faults: u128,
 }
 
 impl Tally {
@@ -76,37 +74,40 @@ impl Tally {
     }
 
     // One more line.
-    fn count_line(self, line: &[u8]) -> Result<Tally, AllocError>
-        ensures { IfOk result (λ t. t ≡ counted self line.now) }
+    fn count_line(self, line: &[u8]) -> Tally
+        requires { HasRoom 1 self }
+        ensures { result ≡ counted self line.now }
     {
-        Ok(Tally {
-            lines: more_if(true, self.lines)?,
-            samples: more_if(begins_with(b"sample", line), self.samples)?,
-            stales: more_if(begins_with(b"stale", line), self.stales)?,
-            sends: more_if(begins_with(b"send", line), self.sends)?,
-            faults: more_if(tells_fault(line), self.faults)?,
-        })
+        Tally {
+            lines: more_if(true, self.lines),
+            samples: more_if(begins_with(b"sample", line), self.samples),
+            stales: more_if(begins_with(b"stale", line), self.stales),
+            sends: more_if(begins_with(b"send", line), self.sends),
+            faults: more_if(tells_fault(line), self.faults),
+        }
     }
 
     /// The lines of one more text.
-    pub(crate) fn count_lines(self, text: &[u8]) -> Result<Tally, AllocError>
-        ensures { IfOk result (λ t. t ≡ counted_all self (lines_of text.now)) }
+    pub(crate) fn count_lines(self, text: &[u8]) -> Tally
+        requires { HasRoom (length text.now) self }
+        ensures counted { result ≡ counted_all self (lines_of text.now) }
+        ensures room { (more : ℕ) → HasRoom (more + length text.now) self → HasRoom more result }
     {
         let mut tally = self;
         let mut rest = text;
         'counting: while !rest.is_empty() {
             let (line, after) = split_line(rest);
-            tally = tally.count_line(line)?;
+            tally = tally.count_line(line);
             rest = after;
         }
-        Ok(tally)
+        tally
     }
 
     /// Appends what is written of so many rounds.
     pub(crate) fn push_summary(&self, text: &mut Vec<u8>, rounds: u32) -> Result<(), AllocError>
         ensures { OnOk result (text.new.items ≡ text.old.items ++ summary_by rounds self.now) }
     {
-        push_number_line(text, b"exercise", u64::from(rounds))?;
+        push_number_line(text, b"exercise", u128::from(rounds))?;
         push_number_line(text, b"lines", self.lines)?;
         push_number_line(text, b"samples", self.samples)?;
         push_number_line(text, b"stales", self.stales)?;
@@ -115,11 +116,12 @@ impl Tally {
     }
 }
 
-fn push_number_line(text: &mut Vec<u8>, word: &[u8], number: u64) -> Result<(), AllocError>
+fn push_number_line(text: &mut Vec<u8>, word: &[u8], number: u128) -> Result<(), AllocError>
     ensures { OnOk result (text.new.items ≡ text.old.items ++ number_line word.now number) }
 {
+    let mut buffer = Buffer::new();
     text.extend_from_slice(word)?;
     text.extend_from_slice(b" ")?;
-    push_number(text, number)?;
+    text.extend_from_slice(buffer.format(number).as_bytes())?;
     text.extend_from_slice(b"\n")
 }

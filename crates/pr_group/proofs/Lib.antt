@@ -31,4 +31,3 @@ pub mod Uses
 pub mod ReadyCarrying
 pub mod Falling
 pub mod Passing
-pub use Rattle.pr_rule.proofs.HeadTelling

@@ -29,7 +29,7 @@ pub mod rules_crate {
 }
 
 pub mod head {
-    pub use pr_rule::head::{Head, intake, rows};
+    pub use pr_rule::head::{Head, intake};
 }
 
 pub mod range {

@@ -11,10 +11,6 @@ pub mod IntakeIntake
 pub mod Markers
 pub mod Sets
 mod Unchanged
-pub mod Told
-pub mod Loaded
-pub mod Paths
-pub mod Telling
 pub use Rattle.spec_history.proofs.Choosing as HistoryChoosing
 pub use Rattle.spec_history.proofs.Lawful as HistoryLawful
 pub use Rattle.spec_history.proofs.Putting as HistoryPutting

@@ -1,11 +1,8 @@
-pub mod Causes
 pub mod Holds
 pub mod Index
 pub mod Intake
 pub mod Listings
-pub mod Loading
 pub mod Oldest
-pub mod Opening
+pub mod Packed
 pub mod Reads
-pub mod Rows
 pub mod Stored

@@ -1,5 +1,5 @@
 //! The samples that are held: series in order of arrival, each with its newest samples in order of
-//! time; entries that are put among them; and the rows of a store, read into them and kept.
+//! time; and entries that are put among them.
 #![tactic(auto)]
 
 mod by_label;
@@ -8,7 +8,7 @@ mod index;
 pub mod intake;
 mod laws;
 mod listing;
-pub mod rows;
+mod packed;
 mod series;
 mod timed;
 

@@ -5,6 +5,7 @@ ghost use Rattle.spec_history.specs.Lookback.{is_until};
 ghost use Rattle.pr_head.specs.private.Stored.{admission, after_push, after_trim, begun, count_of, held_before, is_there_until, newest_at, position_of, sample_at};
 ghost use Rattle.pr_head.specs.private.Oldest.{IsSince};
 
+use crate::packed::Packed;
 use crate::timed::Timed;
 use spec_history::Append;
 use spec_history::num::{Num, Point};
@@ -18,7 +19,7 @@ use std::marker::Model;
 #[derive(Drop)]
 pub(crate) struct Series {
     first: u64,
-    samples: VecDeque<Timed>,
+    samples: VecDeque<Packed>,
     last_time: Ms,
     last_point: Point,
 }
@@ -34,7 +35,7 @@ impl Model for Series {
 }
 
 // Takes the first samples away. Where none is left, their room is given back.
-fn drop_first(samples: &mut VecDeque<Timed>, count: usize)
+fn drop_first(samples: &mut VecDeque<Packed>, count: usize)
     ensures { samples.new.items ≡ drop count samples.old.items }
 {
     for _ in 0..count {
@@ -57,7 +58,7 @@ impl Series {
         ensures { IfOk result (λ s. s ≡ begun sample.now) }
     {
         let mut samples = VecDeque::with_capacity(alloc, 1)?;
-        samples.push_back(sample.copy())?;
+        samples.push_back(Packed::new(sample))?;
         Ok(Series {
             first: 0,
             samples,
@@ -96,7 +97,7 @@ impl Series {
         ensures { result ≡ slice_get self.now.held index }
     {
         match self.samples.get(index) {
-            Some(sample) => Some(sample.copy()),
+            Some(sample) => Some(sample.sample()),
             None => None,
         }
     }
@@ -131,7 +132,7 @@ impl Series {
         ensures err { OnErr result (self.new ≡ self.old) }
     {
         let _value: Option<Num> = sample.number();
-        self.samples.push_back(sample.copy())?;
+        self.samples.push_back(Packed::new(sample))?;
         self.last_time = sample.time;
         self.last_point = sample.point;
         Ok(())
@@ -143,7 +144,7 @@ impl Series {
         ensures held { result ≤ length self.now.held }
         ensures newest { newest_at self.now time ≡ held_before self.now.held result }
     {
-        self.samples.partition_point(|s| is_until(time, s.time))
+        self.samples.partition_point(|s| is_until(time, s.time()))
     }
 
     /// The place of the first held sample above a time, or the count.
@@ -160,7 +161,7 @@ impl Series {
         ensures within { result ≡ true → index < length self.now.held }
     {
         match self.samples.get(index) {
-            Some(sample) => is_until(time, sample.time),
+            Some(sample) => is_until(time, sample.time()),
             None => false,
         }
     }

@@ -17,7 +17,7 @@ use Rattle.sqlite_sql.specs.Ops.{is_null}
 use Rattle.sqlite_schema.specs.Names.{same_name}
 use Rattle.sqlite_schema.specs.Rules.{are_typed, suits, Keeps as Holds}
 use Rattle.sqlite_schema.specs.declared.schema.Constraint.TheVariants.{Datatype}
-use Rattle.pr_outside.specs.declared.keeping.Row.{Row as Line}
+use Rattle.pr_outside.specs.spec_history.declared.row.Row.{Row as Line}
 use Rattle.pr_keep_sql.specs.private.Tables.{Has, HasOurs, HasOursFirst, IsFree, column_of, is_named, kept, schema_of, stored, stored_from, version}
 use Rattle.pr_keep_sql.proofs.FirstTables.{is_ours}
 use Rattle.pr_keep_sql.specs.private.Kept.{KeepsSo, number_in, text_in, versions}

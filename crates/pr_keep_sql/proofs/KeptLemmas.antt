@@ -3,7 +3,7 @@ use Rattle.std.proofs.Common.{◌≡◌, inl, inr, ℕ, ◌+◌, ◌≤◌, ◌&
 use Rattle.sqlite.specs.Effect.{Database, IsDatabase}
 use Rattle.sqlite.specs.State.{HasCleanDisk, IsLive, State}
 use Rattle.sqlite.specs.View.{doubt}
-use Rattle.pr_outside.specs.declared.keeping.Row.{Row as Line}
+use Rattle.pr_outside.specs.spec_history.declared.row.Row.{Row as Line}
 use Rattle.pr_outside.specs.private.Kept.{KeepsRows, AppendsRows}
 use Rattle.pr_keep_sql.specs.private.Kept.{Keeps, KeepsSo, StaysTold, WhileOpen, listed, told}
 use Rattle.pr_keep_sql.specs.private.Statements.{Adds, Commits, Lasts, Makes}

@@ -21,7 +21,7 @@ use Rattle.sqlite.specs.Effect.{Database}
 use Rattle.sqlite.specs.State.{State, mode_of, Executes, ExecutesInside, Writes}
 use Rattle.std.specs.List.Sorted.{IsPermutation}
 use Rattle.std.proofs.lemmas.List.Sorted.{IsPermutation-refl}
-use Rattle.pr_outside.specs.declared.keeping.Row.{Row as Line}
+use Rattle.pr_outside.specs.spec_history.declared.row.Row.{Row as Line}
 use Rattle.pr_keep_sql.specs.private.Tables.{HasOursFirst, kept, version, kept_schema, schema_of, stored_from}
 use Rattle.pr_keep_sql.specs.private.Kept.{listed}
 use Rattle.pr_keep_sql.specs.private.Statements.{Commits, GoesOn, Makes, MakesKept, MakesVersion, Numbers}

@@ -1,5 +1,5 @@
 -- What a store of a path tells and counts.
-use Rattle.std.proofs.Common.{◌≡◌, inl, inr, Bool, true, false, MatchBool, ℕ, ◌^◌, ◌<◌, ◌≤◌, Result, Ok, Err, Option, Some, None, List, [], IfOk, OnOk, OnErr, refl, sym, ap, subst, ◌∙◌, arith}
+use Rattle.std.proofs.Common.{◌≡◌, inl, inr, Bool, true, false, MatchBool, ℕ, ◌^◌, ◌<◌, ◌≤◌, ◌&&◌, IsSome, IsTrue, Result, Ok, Err, Option, Some, None, List, [], IfOk, OnOk, OnErr, refl, sym, ap, subst, ◌∙◌, arith}
 use Rattle.sqlite.specs.Effect.{Database, IsDatabase}
 use Rattle.sqlite.specs.Files.{AreFoundIn}
 use Rattle.sqlite.specs.Held.{Held, state}
@@ -12,15 +12,16 @@ use Rattle.pr_outside.specs.Causes.{HasKeepCause}
 use Rattle.pr_outside.specs.private.Kept.{KeepsRows, StartsRows}
 use Rattle.pr_outside.specs.declared.keeping.KeepError.{KeepError}
 use Rattle.pr_outside.specs.declared.keeping.KeepError.TheVariants.{Failed, Memory}
-use Rattle.pr_outside.specs.declared.keeping.Row.{Row as Line}
+use Rattle.pr_outside.specs.spec_history.declared.row.Row.{Row as Line}
 use Rattle.pr_outside.specs.private.Schedule.{one_more}
 use Rattle.pr_keep_sql.specs.private.Counts.{CountsOnce, CountsOne, faults_of}
 use Rattle.pr_keep_sql.specs.private.Kept.{Keeps, listed}
 use Rattle.pr_keep_sql.specs.private.Opened.{IsFoundIn, TellsOf, rows_in}
-use Rattle.pr_keep_sql.specs.private.Store.{KeptStore, rows_of}
+use Rattle.pr_keep_sql.specs.private.Store.{KeptStore, rows_of, sound_of}
 use Rattle.pr_keep_sql.specs.private.Tables.{HasOursFirst, schema_of}
 use Rattle.pr_keep_sql.specs.declared.opened.Opened.{Opened}
 use Rattle.pr_keep_sql.specs.declared.opened.Opened.TheVariants.{Nothing}
+use Rattle.pr_keep_sql.proofs.KeptLemmas.{clean_before, clean_disk}
 
 same_rows : (rows : Option (List Line)) → KeepsRows rows rows
 same_rows None = tt
@@ -39,6 +40,31 @@ module _ {S X E : Type 0} (g : Ghosts S) (old new : Opened S) where
   pub stays_on : (r : Result X E) → OnErr r (new ≡ old) → OnErr r (KeepsRows (rows_in g old) (rows_in g new))
   stays_on (Ok x) same = tt
   stays_on (Err e) same = rw same (same_rows (rows_in g old))
+
+both : (a b : Bool) → IsTrue a → IsTrue b → IsTrue (a && b)
+both true true first second = refl
+both true false first second = absurd cc
+both false b first second = absurd cc
+
+sound_parts : (a b : Bool) → IsTrue (a && b) → IsTrue a × IsTrue b
+sound_parts true true sound = (refl, refl)
+sound_parts true false sound = absurd cc
+sound_parts false b sound = absurd cc
+
+-- what keeps its word has its tables first, and a disk that returned what was written
+pub is_sound : (first : Bool) (s : State) → IsTrue (first && s.is_clean) → IsTrue first × HasCleanDisk s
+is_sound first s sound = let parts = sound_parts first s.is_clean sound in (parts.0, clean_disk s.is_clean parts.1)
+
+-- a call that leaves which tables stand first
+module _ {S : Type 0} (g : Ghosts S) (old new : KeptStore S) (same : new.is_first ≡ old.is_first) where
+  pub was_sound : doubt (state g old.conn).is_clean ≤ doubt (state g new.conn).is_clean → IsTrue (sound_of g new) → IsTrue (sound_of g old)
+  was_sound clean sound =
+      let parts = sound_parts new.is_first (state g new.conn).is_clean sound in
+      both old.is_first (state g old.conn).is_clean (sym same ∙ parts.0) (clean_before (state g old.conn).is_clean (state g new.conn).is_clean clean parts.1)
+
+  pub told_on : {X E : Type 0} (r : Result X E) → (HasCleanDisk (state g new.conn) → OnOk r (IsTrue old.is_first → IsSome (rows_of g new))) → IsTrue (sound_of g new) → OnOk r (IsSome (rows_of g new))
+  told_on (Ok x) told sound = let is = is_sound new.is_first (state g new.conn) sound in told is.1 (sym same ∙ is.0)
+  told_on (Err e) told sound = tt
 
 -- what is told of a connection that was found, once its tables are ready
 pub tells_of : {S E : Type 0} (g : Ghosts S) (Finds : Database → Type 0) (c : Held S) (r : Result (KeptStore S) E) → (HasCleanDisk (state g c) → IsDatabase (state g c).now) → (HasCleanDisk (state g c) → Finds (state g c).now)

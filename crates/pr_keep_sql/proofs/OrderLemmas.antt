@@ -11,7 +11,7 @@ use Rattle.sqlite.specs.declared.types.Value.TheVariants.{Int}
 use Rattle.sqlite.specs.Order.{Row, column, value_cmp}
 use Rattle.sqlite.specs.Query.{Output, output, output_cmp}
 use Rattle.sqlite.specs.State.{Shown, State}
-use Rattle.pr_outside.specs.declared.keeping.Row.{Row as Line}
+use Rattle.pr_outside.specs.spec_history.declared.row.Row.{Row as Line}
 use Rattle.pr_keep_sql.specs.private.Tables.{HasOursFirst, stored, stored_from}
 use Rattle.pr_keep_sql.specs.private.Kept.{number_in}
 use Rattle.pr_keep_sql.specs.private.Found.{AreFound, IsFoundAt}

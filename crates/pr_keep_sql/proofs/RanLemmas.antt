@@ -8,7 +8,7 @@ use Rattle.sqlite.specs.State.{Commits, QueriesRow, Shown}
 use Rattle.sqlite.specs.Store.{Ghosts}
 use Rattle.pr_outside.specs.declared.keeping.KeepError.{KeepError}
 use Rattle.pr_outside.specs.declared.keeping.KeepError.TheVariants.{Failed, Memory}
-use Rattle.pr_outside.specs.declared.keeping.Row.{Row as Line}
+use Rattle.pr_outside.specs.spec_history.declared.row.Row.{Row as Line}
 use Rattle.pr_outside.specs.private.Schedule.{one_more}
 use Rattle.pr_keep_sql.specs.private.Counts.{CountsOnce}
 use Rattle.pr_keep_sql.specs.private.Found.{AreFound}

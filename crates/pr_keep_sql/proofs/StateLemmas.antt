@@ -10,7 +10,7 @@ use Rattle.sqlite.specs.View.{doubt}
 use Rattle.sqlite.specs.Order.{Row}
 use Rattle.sqlite.specs.declared.types.Value.TheVariants.{Int}
 use Rattle.sqlite.specs.declared.error.Error.{Error}
-use Rattle.pr_outside.specs.declared.keeping.Row.{Row as Line}
+use Rattle.pr_outside.specs.spec_history.declared.row.Row.{Row as Line}
 use Rattle.pr_keep_sql.specs.private.Kept.{listed, Keeps}
 use Rattle.pr_keep_sql.specs.private.Statements.{Adds, GoesOn, Lasts, Leaves, ShowsAt, shown}
 use Rattle.sqlite_resolve.specs.declared.compiled.Compiled.{Compiled}

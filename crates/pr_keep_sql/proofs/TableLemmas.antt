@@ -36,7 +36,7 @@ use Rattle.std.specs.List.Sorted.{IsPermutation}
 use Rattle.pr_keep_sql.proofs.Listing.{IsElement, elements, one_more}
 use Rattle.std.proofs.lemmas.List.Sorted.{All-permutation}
 use Rattle.sqlite.specs.Program.{overlay}
-use Rattle.pr_outside.specs.declared.keeping.Row.{Row as Entry}
+use Rattle.pr_outside.specs.spec_history.declared.row.Row.{Row as Entry}
 use Rattle.sqlite.specs.Table.{Table}
 use Rattle.sqlite_schema.specs.declared.schema.Index.{Index}
 use Rattle.sqlite_schema.specs.declared.schema.View.{View}

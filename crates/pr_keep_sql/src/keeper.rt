@@ -1,4 +1,4 @@
-ghost use Rattle.std.specs.Prelude.{◌≡◌, ◌≢◌, ◌+◌, ◌++◌, ◌<◌, [], length, Some, Err, IfOk, IfSome, IsSome, OnOk, OnErr, slice_get};
+ghost use Rattle.std.specs.Prelude.{◌≡◌, ◌≢◌, ◌+◌, ◌++◌, ◌<◌, [], length, Some, Err, IfOk, IfSome, IsSome, IsTrue, OnOk, OnErr, slice_get};
 ghost use Rattle.pr_outside.specs.Causes.{HasKeepCause};
 ghost use Rattle.pr_outside.specs.private.Kept.{AppendsRows, KeepsRows};
 ghost use Rattle.pr_outside.specs.Paths.{Opens, StartsPath};
@@ -6,7 +6,7 @@ ghost use Rattle.pr_outside.specs.declared.keeping.KeepError.TheVariants.{Failed
 ghost use Rattle.pr_outside.specs.private.Schedule.{one_more};
 ghost use Rattle.pr_keep_sql.specs.private.Counts.{CountsOne};
 ghost use Rattle.pr_keep_sql.specs.private.Kept.{StaysTold};
-ghost use Rattle.pr_keep_sql.specs.private.Opened.{CommitsIn, IsTrusted, LoadsIn, TellsOf, disk_faults, faults_with, rows_in, size_in};
+ghost use Rattle.pr_keep_sql.specs.private.Opened.{CommitsIn, IsTrusted, LoadsIn, TellsOf, disk_faults, faults_with, rows_in, size_in, sound_in};
 ghost use Rattle.pr_keep_sql.specs.declared.opened.Opened.TheVariants.{Nothing};
 
 use crate::counts::{failed, faults_of};
@@ -91,6 +91,7 @@ impl<S: Alter + Drop, O: Open<S>> SqlKeeper<S, O> {
     fn start_at(&mut self, path: &str, paths: Vec<Text>) -> Result<(), KeepError>
         requires { self.old.opened ≡ Nothing }
         ensures told { IsTrusted S.Store self.new.opened → OnOk result (TellsOf (O.finds path.now) (rows_in S.Store self.new.opened)) }
+        ensures tells { IsTrue (sound_in S.Store self.new.opened) → OnOk result (IsSome (rows_in S.Store self.new.opened)) }
         ensures paths { OnOk result (self.new.paths.items ≡ paths.items) }
         ensures err { OnErr result ((self.new.opened ≡ self.old.opened) × (self.new.paths.items ≡ self.old.paths.items)) }
         ensures cause { HasKeepCause self.old.own (faults_with self.new.own self.new.opened) result }
@@ -118,6 +119,9 @@ impl<S: Alter + Drop, O: Open<S>> SqlKeeper<S, O> {
         ensures empty { OnOk result (path.now ≡ [] → rows_in S.Store self.new.opened ≡ Some []) }
         ensures told { IsTrusted S.Store self.new.opened → OnOk result (path.now ≢ [] → TellsOf (O.finds path.now) (rows_in S.Store self.new.opened)) }
         ensures err { OnErr result (self.new.opened ≡ self.old.opened) }
+        // While what is open stands on what keeps its word, a call that succeeds leaves the rows told.
+        ensures tells { IsTrue (sound_in S.Store self.new.opened) → OnOk result (IsSome (rows_in S.Store self.new.opened)) }
+        ensures sound { IsTrue (sound_in S.Store self.new.opened) → IsTrue (sound_in S.Store self.old.opened) }
         // The path is noted where it is opened.
         ensures paths { StartsPath path.now self.old.paths.items self.new.paths.items result }
         ensures cause { HasKeepCause (faults_with self.old.own self.old.opened) (faults_with self.new.own self.new.opened) result }
@@ -161,6 +165,8 @@ impl<S: Alter + Drop, O: Open<S>> SqlKeeper<S, O> {
         ensures told { IsTrusted S.Store self.new.opened → OnOk result (IsSome (rows_in S.Store self.old.opened) → IsSome (rows_in S.Store self.new.opened)) }
         ensures err { OnErr result (KeepsRows (rows_in S.Store self.old.opened) (rows_in S.Store self.new.opened)) }
         ensures err_count { OnErr result (size_in self.new.opened ≡ size_in self.old.opened) }
+        ensures tells { IsTrue (sound_in S.Store self.new.opened) → OnOk result (IsSome (rows_in S.Store self.new.opened)) }
+        ensures sound { IsTrue (sound_in S.Store self.new.opened) → IsTrue (sound_in S.Store self.old.opened) }
         ensures paths { self.new.paths.items ≡ self.old.paths.items }
         ensures cause { HasKeepCause (faults_with self.old.own self.old.opened) (faults_with self.new.own self.new.opened) result }
         // Told rows stay told, also after a refused call, unless the disk has failed.
@@ -187,6 +193,8 @@ impl<S: Alter + Drop, O: Open<S>> SqlKeeper<S, O> {
         ensures told { IsTrusted S.Store self.new.opened → OnOk result (IsSome (rows_in S.Store self.old.opened) → IsSome (rows_in S.Store self.new.opened)) }
         ensures same { KeepsRows (rows_in S.Store self.old.opened) (rows_in S.Store self.new.opened) }
         ensures count { size_in self.new.opened ≡ size_in self.old.opened }
+        ensures tells { IsTrue (sound_in S.Store self.new.opened) → OnOk result (IsSome (rows_in S.Store self.new.opened)) }
+        ensures sound { IsTrue (sound_in S.Store self.new.opened) → IsTrue (sound_in S.Store self.old.opened) }
         ensures paths { self.new.paths.items ≡ self.old.paths.items }
         ensures cause { HasKeepCause (faults_with self.old.own self.old.opened) (faults_with self.new.own self.new.opened) result }
         // Told rows stay told, also after a refused call, unless the disk has failed.
@@ -214,7 +222,7 @@ impl<S: Alter + Drop, O: Open<S>> SqlKeeper<S, O> {
 }
 
 impl<S: Alter + Drop, O: Open<S>> Keeper for SqlKeeper<S, O> {
-    ghost means = { λ k. record { rows = rows_in S.Store k.opened; count = size_in k.opened; paths = k.paths.items; faults = faults_with k.own k.opened } };
+    ghost means = { λ k. record { rows = rows_in S.Store k.opened; count = size_in k.opened; sound = sound_in S.Store k.opened; paths = k.paths.items; faults = faults_with k.own k.opened } };
 
     fn start(&mut self, path: &str) -> Result<(), KeepError> {
         SqlKeeper::start(self, path)

@@ -5,7 +5,7 @@ ghost use Rattle.sqlite.specs.State.{HasCleanDisk, IsLive};
 ghost use Rattle.sqlite.specs.View.{doubt};
 ghost use Rattle.pr_outside.specs.Causes.{HasKeepCause};
 ghost use Rattle.pr_outside.specs.private.Kept.{KeepsRows, AppendsRows};
-ghost use Rattle.pr_outside.specs.declared.keeping.Row.{Row as Line};
+ghost use Rattle.pr_outside.specs.spec_history.declared.row.Row.{Row as Line};
 ghost use Rattle.pr_outside.specs.declared.keeping.KeepError.TheVariants.{Failed};
 ghost use Rattle.pr_outside.specs.private.Schedule.{one_more};
 ghost use Rattle.pr_keep_sql.specs.private.Counts.{AreWithin, CountsOnce};
@@ -235,6 +235,7 @@ impl<S: Alter> Kept<S> {
         ensures stays { HasCleanDisk (state S.Store self.new.conn) → StaysTold (rows_of S.Store self.old) (rows_of S.Store self.new) (state S.Store self.old.conn).faults (state S.Store self.new.conn).faults }
         ensures once { CountsOnce self.old.refused self.old.odd self.new.refused self.new.odd result }
         ensures refused { HasCleanDisk (state S.Store self.new.conn) → self.new.refused ≢ self.old.refused → IsRefusal (λ e. IsTransactionRefused S.Store (inserts self.old.size added.now) e self.old.conn self.new.conn) }
+        ensures clean { doubt (state S.Store self.old.conn).is_clean ≤ doubt (state S.Store self.new.conn).is_clean }
         ensures ready { (self.new.is_ready ≡ self.old.is_ready) × (self.new.is_first ≡ self.old.is_first) }
     {
         if !self.is_ready || !are_within(self.size, added) {
@@ -267,6 +268,7 @@ impl<S: Alter> Kept<S> {
         ensures stays { HasCleanDisk (state S.Store self.new.conn) → StaysTold (rows_of S.Store self.old) (rows_of S.Store self.new) (state S.Store self.old.conn).faults (state S.Store self.new.conn).faults }
         ensures once { CountsOnce self.old.refused self.old.odd self.new.refused self.new.odd result }
         ensures refused { HasCleanDisk (state S.Store self.new.conn) → self.new.refused ≢ self.old.refused → IsRefusal (λ e. IsLoadRefused S.Store index e self.old.conn self.new.conn) }
+        ensures clean { doubt (state S.Store self.old.conn).is_clean ≤ doubt (state S.Store self.new.conn).is_clean }
         ensures ready { (self.new.is_ready ≡ self.old.is_ready) × (self.new.is_first ≡ self.old.is_first) }
     {
         match load(&mut self.conn, index) {

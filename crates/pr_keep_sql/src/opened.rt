@@ -1,5 +1,5 @@
 // What a store of a path has opened.
-ghost use Rattle.std.specs.Prelude.{◌≡◌, ◌↔◌, ◌≤◌, [], IfOk, IsTrue, Some, false};
+ghost use Rattle.std.specs.Prelude.{◌≡◌, ◌↔◌, ◌≤◌, [], IfOk, IsSome, IsTrue, Some, false};
 ghost use Rattle.sqlite.specs.Held.{state};
 ghost use Rattle.sqlite.specs.State.{HasCleanDisk};
 ghost use Rattle.sqlite.specs.View.{doubt};
@@ -7,7 +7,7 @@ ghost use Rattle.pr_outside.specs.Causes.{HasKeepCause};
 ghost use Rattle.pr_keep_sql.specs.private.Counts.{CountsOne, faults_of};
 ghost use Rattle.pr_keep_sql.specs.private.Kept.{Keeps, listed};
 ghost use Rattle.pr_keep_sql.specs.private.Opened.{TellsOf};
-ghost use Rattle.pr_keep_sql.specs.private.Store.{faults_in, rows_of};
+ghost use Rattle.pr_keep_sql.specs.private.Store.{faults_in, rows_of, sound_of};
 ghost use Rattle.pr_keep_sql.specs.private.Tables.{HasOursFirst, schema_of};
 ghost use Rattle.pr_keep_sql.specs.declared.opened.Opened.TheVariants.{Nothing};
 
@@ -44,6 +44,7 @@ fn readied<S: Alter + Drop>(conn: Connection<S>, own: &mut u64) -> Result<Kept<S
     ensures counts { IfOk result (λ k. faults_of own.new (faults_in k) ≡ own.old) }
     ensures made { IfOk result (λ k. HasCleanDisk (state S.Store k.conn) → (state S.Store conn).now.schema ≡ schema_of [] → rows_of S.Store k ≡ Some []) }
     ensures kept { IfOk result (λ k. HasCleanDisk (state S.Store k.conn) → HasOursFirst (state S.Store conn).now.schema → Keeps (state S.Store conn).now (listed (state S.Store conn).now) × (rows_of S.Store k ≡ Some (listed (state S.Store conn).now))) }
+    ensures tells { IfOk result (λ k. IsTrue (sound_of S.Store k) → IsSome (rows_of S.Store k)) }
     ensures clean { IfOk result (λ k. doubt (state S.Store conn).is_clean ≤ doubt (state S.Store k.conn).is_clean) }
     ensures cause { HasKeepCause own.old own.new result }
     ensures once { CountsOne own.old own.new result }
@@ -68,6 +69,7 @@ pub(crate) fn in_file<S: Alter + Drop, O: Open<S>>(
 ) -> Result<Kept<S>, KeepError>
     ensures counts { IfOk result (λ k. faults_of own.new (faults_in k) ≡ own.old) }
     ensures told { IfOk result (λ k. HasCleanDisk (state S.Store k.conn) → TellsOf (O.finds path.now) (rows_of S.Store k)) }
+    ensures tells { IfOk result (λ k. IsTrue (sound_of S.Store k) → IsSome (rows_of S.Store k)) }
     ensures cause { HasKeepCause own.old own.new result }
     ensures once { CountsOne own.old own.new result }
 {

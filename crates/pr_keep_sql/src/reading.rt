@@ -8,7 +8,7 @@ ghost use Rattle.sqlite.specs.Order.{Row as Cells, column};
 ghost use Rattle.sqlite.specs.State.{FailsToQuery, HasCleanDisk, Shown};
 ghost use Rattle.sqlite.specs.View.{doubt};
 ghost use Rattle.sqlite_value.specs.Value.{owned};
-ghost use Rattle.pr_outside.specs.declared.keeping.Row.{Row as Line};
+ghost use Rattle.pr_outside.specs.spec_history.declared.row.Row.{Row as Line};
 ghost use Rattle.pr_keep_sql.specs.private.Found.{AreFound, IsFoundAt, IsText, IsTime};
 ghost use Rattle.pr_keep_sql.specs.private.Kept.{Keeps, KeepsSo, versions};
 ghost use Rattle.pr_keep_sql.specs.private.Ran.{HasRead, IsCount, numbers_in};

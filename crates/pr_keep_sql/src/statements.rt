@@ -3,7 +3,7 @@ ghost use Rattle.std.specs.Prelude.{◌≡◌, ℕ, ◌+◌, ◌<◌, ◌^◌, �
 ghost use Rattle.sqlite.specs.State.{ExecutesInside, HasCleanDisk, KeepsCommit, QueriesRow};
 ghost use Rattle.sqlite.specs.Held.{state};
 ghost use Rattle.sqlite.specs.View.{doubt};
-ghost use Rattle.pr_outside.specs.declared.keeping.Row.{Row as Line};
+ghost use Rattle.pr_outside.specs.spec_history.declared.row.Row.{Row as Line};
 ghost use Rattle.sqlite.specs.declared.types.Value.TheVariants.{Int, Text as Words};
 ghost use Rattle.sqlite.specs.Order.{column};
 ghost use Rattle.pr_keep_sql.specs.private.Counts.{AreWithin, is_want};

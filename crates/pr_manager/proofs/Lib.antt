@@ -16,4 +16,3 @@ pub use Rattle.spec_world.proofs.Refusals as WorldRefusals
 pub use Rattle.spec_world.proofs.Scraping as WorldScraping
 pub use Rattle.spec_world.proofs.Steps as WorldSteps
 pub use Rattle.spec_world.proofs.Targeting as WorldTargeting
-pub use Rattle.pr_group.proofs.HeadTelling

@@ -31,11 +31,11 @@ pub mod expo {
 }
 
 pub mod world {
-    pub use spec_world::{BodyFault, Event, NamedFile, Offer, QueryKind, Report, Scraped, Worlds};
+    pub use spec_world::{BodyFault, Event, NamedFile, Offer, QueryKind, Report, Scraped};
 }
 
 pub mod head {
-    pub use pr_group::head::{Head, rows};
+    pub use pr_group::head::Head;
 }
 
 pub mod range {

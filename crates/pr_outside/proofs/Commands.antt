@@ -3,7 +3,7 @@ use Rattle.std.proofs.Common.{◌≡◌, ◌≢◌, ℕ, ◌<◌, ◌≤◌, ◌
 use Rattle.std.specs.Io.KnownBytes.{Appends}
 use Rattle.pr_outside.specs.Ends.{Ends, AtInput, KnowsLength, no_row, place_of, status_of, stop_status}
 use Rattle.pr_outside.specs.Outside.{Outside, AreCalm, Held, AreTold}
-use Rattle.pr_outside.specs.Status.{IsLong, verdict}
+use Rattle.pr_outside.specs.Status.{IsTooLong, verdict}
 use Rattle.pr_outside.specs.declared.status.status.Status.{Status}
 use Rattle.pr_outside.specs.declared.status.status.Status.TheVariants as status
 use Rattle.pr_outside.specs.declared.status.status.Stop.{Stop}
@@ -27,9 +27,9 @@ whole_told telling before now (Ok v) w =
     record { written = at.0; verdict = at.1; read = at.2 })
 
 pub means_input : (telling : List ℕ → Checked) (before now : Outside) (r : Result Verdict Stop) (result : Status) → result ≡ ends_by r
-    → Ends no_row (IsLong before.input.left) before now r → IfOk r (Whole telling before now)
+    → Ends no_row (IsTooLong before.input now.input) before now r → IfOk r (Whole telling before now)
     → IfSome before.input.left (λ bytes. (n : ℕ) × Appends before.out.taken now.out.taken (take n (telling bytes).text))
-    → AtInput r (Appends before.out.taken now.out.taken []) → KnowsLength before.input.left r → MeansInputCheck telling before now result
+    → AtInput r (Appends before.out.taken now.out.taken []) → KnowsLength before.input now.input r → MeansInputCheck telling before now result
 means_input telling before now r result is e w f s k = record {
   ending = r;
   answer = is;
@@ -45,21 +45,21 @@ means_input telling before now r result is e w f s k = record {
       (λ bytes at many calm some. long_by r is e k bytes at many calm some);
 }
   where
-    told_by : (r : Result Verdict Stop) → result ≡ ends_by r → Ends no_row (IsLong before.input.left) before now r → IfOk r (Whole telling before now)
+    told_by : (r : Result Verdict Stop) → result ≡ ends_by r → Ends no_row (IsTooLong before.input now.input) before now r → IfOk r (Whole telling before now)
         → (bytes : List ℕ) → before.input.left ≡ Some bytes → length bytes < 2 ^ 32 → AreCalm before now → result ≢ status.Memory
         → Appends before.out.taken now.out.taken (telling bytes).text × (result ≡ ends (telling bytes).verdict) × (now.input.left ≡ Some [])
     told_by (Ok v) is e w bytes at few calm some =
         let whole = at_told before.input.left (λ b. Appends before.out.taken now.out.taken (telling b).text × (v ≡ (telling b).verdict) × (now.input.left ≡ Some [])) bytes at w in
         (whole.0, is ∙ ap ends whole.1, whole.2)
-    told_by (Err s) is e w bytes at few calm some = elim (calm_stop Verdict (IsLong before.input.left) before now s calm e.cause) [
+    told_by (Err s) is e w bytes at few calm some = elim (calm_stop Verdict (IsTooLong before.input now.input) before now s calm e.cause) [
       | inl m ↦ absurd (some (is ∙ ap stop_status m))
-      | inr l ↦ absurd (long_not_short bytes before.input.left at few l.1)
+      | inr l ↦ absurd (long_not_short bytes before.input.left at few l.1.0)
     ]
 
-    long_by : (r : Result Verdict Stop) → result ≡ ends_by r → Ends no_row (IsLong before.input.left) before now r → KnowsLength before.input.left r
+    long_by : (r : Result Verdict Stop) → result ≡ ends_by r → Ends no_row (IsTooLong before.input now.input) before now r → KnowsLength before.input now.input r
         → (bytes : List ℕ) → before.input.left ≡ Some bytes → 2 ^ 32 ≤ length bytes → AreCalm before now → result ≢ status.Memory → result ≡ status.TooLong
-    long_by (Ok v) is e k bytes at many calm some = absurd (omega (arith, many, at_told before.input.left (λ b. length b < 2 ^ 32) bytes at k))
-    long_by (Err s) is e k bytes at many calm some = elim (calm_stop Verdict (IsLong before.input.left) before now s calm e.cause) [
+    long_by (Ok v) is e k bytes at many calm some = absurd (omega (arith, many, at_told before.input.left (λ b. length b < 2 ^ 32) bytes at k.0))
+    long_by (Err s) is e k bytes at many calm some = elim (calm_stop Verdict (IsTooLong before.input now.input) before now s calm e.cause) [
       | inl m ↦ absurd (some (is ∙ ap stop_status m))
       | inr l ↦ is ∙ ap stop_status l.0
     ]

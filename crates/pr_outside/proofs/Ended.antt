@@ -1,5 +1,5 @@
 -- How a call ends whose last part ends so, where no earlier part was refused anything.
-use Rattle.std.proofs.Common.{◌≡◌, ◌≢◌, ℕ, List, [], Option, None, Result, Ok, Err, IsErrAnd, ◌⊎◌, inl, inr, arith, refl, sym, ◌∙◌, subst}
+use Rattle.std.proofs.Common.{◌≡◌, ◌≢◌, ℕ, false, [], None, Result, Ok, Err, IsErrAnd, ◌⊎◌, inl, inr, arith, refl, sym, ◌∙◌, subst}
 use Rattle.pr_outside.specs.Causes.{Rose, IsCalm}
 use Rattle.pr_outside.specs.Courses.{IsInTime, GoesOn}
 use Rattle.pr_outside.specs.declared.course.Course.{Course}
@@ -7,16 +7,16 @@ use Rattle.pr_outside.specs.declared.course.Course.TheVariants.{Going, Late}
 use Rattle.pr_outside.specs.Meant.{Input, Output}
 use Rattle.pr_outside.specs.Ends.{AtInput, Ends, KnowsLength, ReadEnds, StopsBy, WriteEnds, no_row}
 use Rattle.pr_outside.specs.Outside.{Outside, AreCalm, NoneRose}
-use Rattle.pr_outside.specs.Status.{IsLong}
+use Rattle.pr_outside.specs.Status.{IsTooLong}
 use Rattle.pr_outside.specs.declared.status.status.Stop.{Stop}
 use Rattle.pr_outside.specs.declared.status.status.Stop.TheVariants.{Read, Load, Store, BadRow, Write, Memory, TooLong}
 
 -- some objects of which nothing is told
 abbrev pub quiet : Outside
 quiet = record {
-  input = record { left = None; faults = 0; course = Going };
+  input = record { left = None; taken = 0; faults = 0; course = Going };
   files = record { content = λ name. None; calls = 0; faults = 0; course = Going };
-  store = record { rows = None; count = 0; paths = []; faults = 0 };
+  store = record { rows = None; count = 0; sound = false; paths = []; faults = 0 };
   out = record { taken = None; faults = 0; course = Going };
 }
 
@@ -117,12 +117,12 @@ pub ends_more : (T : Type 0) (long : Type 0) (a b : Outside) (e : Stop) → Ends
 ends_more T long a b e p = ends_longer T ⊥ long a b e (λ never. absurd never) p
 
 -- a read that was stopped since the input is too long says so
-pub known_stop : (T U : Type 0) (left : Option (List ℕ)) (x y : Input) (r : Result U Stop) (e : Stop) → IsErrAnd r (λ s. s ≡ e)
-    → ReadEnds {T = T} (IsLong left) x y (Err e) → KnowsLength left r
-known_stop T U left x y (Ok v) e h w = absurd h
-known_stop T U left x y (Err s) e h w = subst (λ (z : Stop). KnowsLength {T = U} left (Err z)) (sym h) (by e w)
+pub known_stop : (T U : Type 0) (first x y : Input) (r : Result U Stop) (e : Stop) → IsErrAnd r (λ s. s ≡ e)
+    → ReadEnds {T = T} (IsTooLong first y) x y (Err e) → KnowsLength first y r
+known_stop T U first x y (Ok v) e h w = absurd h
+known_stop T U first x y (Err s) e h w = subst (λ (z : Stop). KnowsLength {T = U} first y (Err z)) (sym h) (by e w)
   where
-    by : (e : Stop) → ReadEnds {T = T} (IsLong left) x y (Err e) → KnowsLength {T = U} left (Err e)
+    by : (e : Stop) → ReadEnds {T = T} (IsTooLong first y) x y (Err e) → KnowsLength {T = U} first y (Err e)
     by Read w = tt
     by Load w = tt
     by Store w = tt

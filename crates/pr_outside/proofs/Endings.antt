@@ -1,12 +1,12 @@
 -- How calls end of which a later one is the last.
-use Rattle.std.proofs.Common.{◌≡◌, ℕ, Bool, List, Option, Result, Ok, Err, IsErrAnd, sym, ◌∙◌, subst}
+use Rattle.std.proofs.Common.{◌≡◌, ℕ, Bool, Result, Ok, Err, IsErrAnd, sym, ◌∙◌, subst}
 use Rattle.pr_outside.specs.Ends.{AtInput, Ends, KnowsLength, at_input, place_of, StopsBy}
 use Rattle.pr_outside.specs.Courses.{GoesOn, IsInTime}
 use Rattle.pr_outside.specs.Outside.{NoneRose, Outside}
 use Rattle.pr_outside.proofs.Ended.{in_time_on, stops_on}
 use Rattle.pr_outside.specs.declared.status.status.Stop.{Stop}
 use Rattle.pr_outside.specs.declared.status.status.Stop.TheVariants as stop
-use Rattle.pr_outside.specs.Meant.{Store}
+use Rattle.pr_outside.specs.Meant.{Input}
 use Rattle.pr_outside.specs.declared.status.status.Stop.TheVariants as stop
 
 -- what is bad or too long by one measure is so by another
@@ -37,12 +37,12 @@ pub bad_of : (T : Type 0) (bad : ℕ → Type 0) (long : Type 0) (a b : Outside)
 bad_of T bad long a b s index is e = (subst (λ (z : Stop). StopsBy {T = T} bad long a b (Err z)) is e.cause).1
 
 -- what reads no input is not stopped by its length
-pub known_answer : (T U : Type 0) (bad : ℕ → Type 0) (left : Option (List ℕ)) (a b : Outside) (r : Result U Stop) (s : Stop) → IsErrAnd r (λ y. y ≡ s)
-    → Ends {T = T} bad ⊥ a b (Err s) → KnowsLength left r
-known_answer T U bad left a b (Ok x) s h e = absurd h
-known_answer T U bad left a b (Err y) s h e = subst (λ (z : Stop). KnowsLength {T = U} left (Err z)) (sym h) (by s e)
+pub known_answer : (T U : Type 0) (bad : ℕ → Type 0) (first last : Input) (a b : Outside) (r : Result U Stop) (s : Stop) → IsErrAnd r (λ y. y ≡ s)
+    → Ends {T = T} bad ⊥ a b (Err s) → KnowsLength first last r
+known_answer T U bad first last a b (Ok x) s h e = absurd h
+known_answer T U bad first last a b (Err y) s h e = subst (λ (z : Stop). KnowsLength {T = U} first last (Err z)) (sym h) (by s e)
   where
-    by : (s : Stop) → Ends {T = T} bad ⊥ a b (Err s) → KnowsLength {T = U} left (Err s)
+    by : (s : Stop) → Ends {T = T} bad ⊥ a b (Err s) → KnowsLength {T = U} first last (Err s)
     by stop.Read e = tt
     by stop.Load e = tt
     by stop.Store e = tt

@@ -8,4 +8,5 @@ pub mod Endings
 pub mod Walks
 pub mod EachFile
 pub mod Commands
+pub mod StoredRows
 pub use Rattle.pr_words.proofs.PlainTexts as WordsPlainTexts

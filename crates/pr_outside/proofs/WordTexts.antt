@@ -8,7 +8,8 @@ use Rattle.std.specs.declared.env.FillError.{FillError}
 use Rattle.std.specs.declared.env.FillError.TheVariants as fill
 use Rattle.std.specs.Str.{IsUtf8, is_utf8}
 use Rattle.std.proofs.lemmas.Str.{IsUtf8-from_is_utf8, is_utf8-from_IsUtf8}
-use Rattle.pr_outside.specs.private.Words.{text_of, word_bytes, held_bytes, word_of, word_limit, IsCopied, IsCopiedFrom, IsTaken, IsWord}
+use Rattle.pr_outside.specs.Words.{text_of, word_of, word_limit}
+use Rattle.pr_outside.specs.private.Words.{word_bytes, held_bytes, IsCopied, IsCopiedFrom, IsTaken, IsWord}
 use Rattle.pr_outside.specs.declared.status.words.HeldWord.{HeldWord}
 use Rattle.pr_outside.specs.declared.status.words.Copied.TheVariants as copied
 

@@ -1,12 +1,13 @@
 -- How many files were asked for.
-use Rattle.std.specs.Prelude.{◌≡◌, ℕ, ◌+◌, ◌-◌, ◌^◌, ◌<◌, ◌≤◌, min, List, length, take, flat_map, Result, Ok, Err}
+use Rattle.std.specs.Prelude.{◌≡◌, ℕ, ◌+◌, ◌<◌, ◌≤◌, List, length, take, flat_map, Result, Ok, Err}
+use Rattle.pr_outside.specs.Causes.{WentUp}
 use Rattle.pr_outside.specs.Ends.{StopPlace, at_input, at_file, at_store, at_row, at_output, anywhere}
 use Rattle.pr_outside.specs.declared.status.status.Stop.{Stop}
 use Rattle.pr_outside.specs.declared.status.status.Stop.TheVariants.{Read, Load, Store, BadRow, Write, Memory, TooLong}
 
--- so many files were asked for; the count ends at 2^64 - 1
+-- so many files were asked for
 abbrev pub Asks : ℕ → ℕ → ℕ → Type 0
-Asks before now n = (now ≤ before + n) × (min (before + n) (2 ^ 64 - 1) ≤ now)
+Asks before now n = WentUp before now n
 
 -- how many files the first of some steps ask for
 abbrev pub asked_by : ℕ → List (List (List ℕ)) → ℕ

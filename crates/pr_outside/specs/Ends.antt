@@ -1,5 +1,5 @@
 -- How a call ends, what stopped it, and where.
-use Rattle.std.specs.Prelude.{ℕ, Bool, true, false, List, Option, Result, Ok, Err}
+use Rattle.std.specs.Prelude.{ℕ, Bool, true, false, Result, Ok, Err}
 use Rattle.pr_outside.specs.Courses.{IsInTime, GoesOn}
 use Rattle.pr_outside.specs.Meant.{Input, Folder, Output}
 use Rattle.pr_outside.specs.declared.course.Course.{Course}
@@ -10,7 +10,7 @@ use Rattle.pr_outside.specs.declared.keeping.KeepError.TheVariants as keeping
 use Rattle.pr_outside.specs.declared.streams.SinkError.{SinkError}
 use Rattle.pr_outside.specs.declared.streams.SinkError.TheVariants as sink
 use Rattle.pr_outside.specs.Outside.{Outside, NoneRose, InputRose, FilesRose, StoreRose, OutRose}
-use Rattle.pr_outside.specs.Status.{IsShort, IsLong}
+use Rattle.pr_outside.specs.Status.{IsReadOut, IsShort, IsTooLong}
 use Rattle.pr_outside.specs.declared.status.status.Status.{Status}
 use Rattle.pr_outside.specs.declared.status.status.Status.TheVariants as status
 use Rattle.pr_outside.specs.declared.status.status.Stop.{Stop}
@@ -90,17 +90,17 @@ LoadEnds before now result = (others : Outside) → Ends no_row ⊥ (record othe
 abbrev pub ReadEnds : {T : Type 0} → Type 0 → Input → Input → Result T Stop → Type 0
 ReadEnds long before now result = (others : Outside) → Ends no_row long (record others { input = before }) (record others { input = now }) result
 
--- A run that met the end of its input took few enough bytes, and one whose input is too long did
--- not.
-abbrev pub KnowsLength : {T : Type 0} → Option (List ℕ) → Result T Stop → Type 0
-KnowsLength left (Ok done) = IsShort left
-KnowsLength left (Err Read) = Unit {0}
-KnowsLength left (Err Load) = Unit {0}
-KnowsLength left (Err Store) = Unit {0}
-KnowsLength left (Err (BadRow index)) = Unit {0}
-KnowsLength left (Err Write) = Unit {0}
-KnowsLength left (Err Memory) = Unit {0}
-KnowsLength left (Err TooLong) = IsLong left
+-- A run that is not stopped has read its input out, and took few enough bytes; one whose input is too
+-- long did not.
+abbrev pub KnowsLength : {T : Type 0} → Input → Input → Result T Stop → Type 0
+KnowsLength before now (Ok done) = IsShort before.left × IsReadOut before now
+KnowsLength before now (Err Read) = Unit {0}
+KnowsLength before now (Err Load) = Unit {0}
+KnowsLength before now (Err Store) = Unit {0}
+KnowsLength before now (Err (BadRow index)) = Unit {0}
+KnowsLength before now (Err Write) = Unit {0}
+KnowsLength before now (Err Memory) = Unit {0}
+KnowsLength before now (Err TooLong) = IsTooLong before now
 
 -- what holds where the input stopped a call
 abbrev pub AtInput : {T : Type 0} → Result T Stop → Type 0 → Type 0

@@ -3,7 +3,7 @@ use Rattle.std.specs.Prelude.{◌≡◌, ◌≢◌, ℕ, ◌<◌, ◌≤◌, ◌
 use Rattle.std.specs.Io.KnownBytes.{Appends}
 use Rattle.pr_outside.specs.Ends.{Ends, AtInput, KnowsLength, no_row}
 use Rattle.pr_outside.specs.Outside.{Outside, AreCalm}
-use Rattle.pr_outside.specs.Status.{IsLong}
+use Rattle.pr_outside.specs.Status.{IsTooLong}
 use Rattle.pr_outside.specs.declared.status.status.Status.{Status}
 use Rattle.pr_outside.specs.declared.status.status.Status.TheVariants as status
 use Rattle.pr_outside.specs.declared.status.status.Stop.{Stop}
@@ -22,7 +22,7 @@ pub record MeansInputCheck (telling : List ℕ → Checked) (before now : Outsid
   -- how it ended, whose status is the program's, and what stopped it
   pub ending : Result Verdict Stop
   pub answer : result ≡ ends_by ending
-  pub ends : Ends no_row (IsLong before.input.left) before now ending
+  pub ends : Ends no_row (IsTooLong before.input now.input) before now ending
   -- not stopped, it was whole
   pub whole : IfOk ending (λ verdict. IfSome before.input.left (λ bytes. IsWholeCheck (telling bytes) now.input.left before.out.taken now.out.taken verdict))
   -- however it ends, a front of the text was written, and nothing where the input was not read
@@ -30,7 +30,7 @@ pub record MeansInputCheck (telling : List ℕ → Checked) (before now : Outsid
   pub front : IfSome before.input.left (λ bytes. (n : ℕ) × Appends before.out.taken now.out.taken (take n (telling bytes).text))
   pub silent : AtInput ending (Appends before.out.taken now.out.taken [])
   -- an input that was read to its end is short, and one that is too long is long
-  pub known : KnowsLength before.input.left ending
+  pub known : KnowsLength before.input now.input ending
   -- no call was refused, and memory sufficed: the status is that of what is told, or 8 where 2^32
   -- bytes come
   pub told : IfSome before.input.left (λ bytes. length bytes < 2 ^ 32 → AreCalm before now → result ≢ status.Memory

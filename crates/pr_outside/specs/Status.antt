@@ -1,5 +1,8 @@
 -- What the program ends with.
-use Rattle.std.specs.Prelude.{◌⊎◌, ℕ, ◌<◌, ◌≤◌, ◌^◌, Bool, true, false, List, length, Option, IfSome}
+use Rattle.std.specs.Prelude.{◌≡◌, ◌⊎◌, ℕ, ◌+◌, ◌-◌, ◌<◌, ◌≤◌, ◌^◌, min, Bool, true, false, List, length, Option, IfSome}
+use Rattle.pr_outside.specs.Causes.{WentUp}
+use Rattle.pr_outside.specs.declared.course.Course.TheVariants.{Going, Over}
+use Rattle.pr_outside.specs.Meant.{Input}
 use Rattle.pr_outside.specs.Outside.{Outside, NoneRose, InputRose, FilesRose, StoreRose, OutRose}
 use Rattle.pr_outside.specs.declared.status.status.Status.{Status}
 use Rattle.pr_outside.specs.declared.status.status.Status.TheVariants.{Done, Problem, Usage, Lint, ReadFault, WriteFault, StoreFault, Memory, TooLong}
@@ -21,9 +24,17 @@ abbrev pub verdict : Bool → Status
 verdict true = Problem
 verdict false = Done
 
+-- so many bytes were taken in between
+abbrev pub Took : Input → Input → ℕ → Type 0
+Took before now n = WentUp before.taken now.taken n
+
+-- 2^32 bytes or more were taken in between
+abbrev pub TookMany : Input → Input → Type 0
+TookMany before now = min (before.taken + 2 ^ 32) (2 ^ 64 - 1) ≤ now.taken
+
 -- The table of statuses, where `bad` says that a row which is kept is a bad one: the first call of
 -- the outside that is refused ends the program with its object's status; so does a bad row, and
--- want of memory, neither of which is a refused call.
+-- want of memory, neither of which is a refused call. An input is too long by the bytes that were taken.
 abbrev pub HasCause : Type 0 → Outside → Outside → Status → Type 0
 HasCause bad before now Done = NoneRose before now
 HasCause bad before now Problem = NoneRose before now
@@ -33,7 +44,7 @@ HasCause bad before now ReadFault = InputRose before now ⊎ FilesRose before no
 HasCause bad before now WriteFault = OutRose before now
 HasCause bad before now StoreFault = StoreRose before now ⊎ (NoneRose before now × bad)
 HasCause bad before now Memory = NoneRose before now
-HasCause bad before now TooLong = NoneRose before now
+HasCause bad before now TooLong = NoneRose before now × TookMany before.input now.input
 
 -- An input has fewer than 2^32 bytes left, and as many or more.
 abbrev pub IsShort : Option (List ℕ) → Type 0
@@ -41,3 +52,12 @@ IsShort left = IfSome left (λ bytes. length bytes < 2 ^ 32)
 
 abbrev pub IsLong : Option (List ℕ) → Type 0
 IsLong left = IfSome left (λ bytes. 2 ^ 32 ≤ length bytes)
+
+-- An input is too long: as many came, and were taken.
+abbrev pub IsTooLong : Input → Input → Type 0
+IsTooLong before now = IsLong before.left × TookMany before now
+
+-- An input was read to its end: the last read met it, and fewer than 2^32 bytes were taken.
+pub record IsReadOut (before now : Input) : Type 0 where
+  pub over : before.course ≡ Going → now.course ≡ Over
+  pub few : now.taken < before.taken + 2 ^ 32

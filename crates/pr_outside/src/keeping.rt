@@ -1,10 +1,10 @@
 // Rows that are kept.
-ghost use Rattle.std.specs.Prelude.{◌≡◌, ◌<◌, ◌+◌, length, OnOk, OnErr, IfOk, IfSome, Some, slice_get};
+ghost use Rattle.std.specs.Prelude.{◌≡◌, ◌<◌, ◌+◌, length, OnOk, OnErr, IfOk, IfSome, IsSome, IsTrue, Some, slice_get};
 ghost use Rattle.pr_outside.specs.Causes.{HasKeepCause};
 ghost use Rattle.pr_outside.specs.private.Kept.{KeepsRows, StartsRows, AppendsRows};
 ghost use Rattle.pr_outside.specs.Paths.{StartsPath};
 
-use pr_words::Text;
+use spec_history::row::Row;
 use std::alloc::AllocError;
 
 /// Why the keeper did not do what was asked.
@@ -26,21 +26,15 @@ impl From<AllocError> for KeepError {
     }
 }
 
-/// A kept row: the text of a series, a time in milliseconds, and the text of a point.
-#[derive(Debug, Drop, PartialEq, Eq)]
-pub struct Row {
-    pub series: Text,
-    pub time: u64,
-    pub point: Text,
-}
-
 /// Where rows are kept. What is said of rows holds where they are told after the call: a keeper may
-/// stop telling its rows at any call, and starts to tell them only at a start.
+/// stop telling its rows at any call, and starts to tell them only at a start. As long as what it
+/// stands on keeps its word, a call that succeeds leaves them told.
 pub trait Keeper {
     ghost use Rattle.pr_outside.specs.Meant.{Store};
 
-    /// The rows in order, where they are told; how many there are; the paths that were opened, in
-    /// order; and how often a call was refused, at most 2^64 - 1.
+    /// The rows in order, where they are told; how many there are; whether what the keeper stands on
+    /// has kept its word so far; the paths that were opened, in order; and how often a call was
+    /// refused, at most 2^64 - 1.
     ghost means: { Self → Store };
 
     /// Opens the store of this path; the empty path is a store in memory. Rows that were told stay
@@ -49,6 +43,8 @@ pub trait Keeper {
         ensures ok { OnOk result (StartsRows (means self.old).rows (means self.new).rows) }
         ensures err { OnErr result (KeepsRows (means self.old).rows (means self.new).rows) }
         ensures err_count { OnErr result ((means self.new).count ≡ (means self.old).count) }
+        ensures tells { IsTrue (means self.new).sound → OnOk result (IsSome (means self.new).rows) }
+        ensures sound { IsTrue (means self.new).sound → IsTrue (means self.old).sound }
         ensures paths { StartsPath path.now (means self.old).paths (means self.new).paths result }
         ensures cause { HasKeepCause (means self.old).faults (means self.new).faults result };
 
@@ -65,6 +61,8 @@ pub trait Keeper {
         ensures ok_count { OnOk result ((means self.new).count ≡ (means self.old).count + length added.now) }
         ensures err { OnErr result (KeepsRows (means self.old).rows (means self.new).rows) }
         ensures err_count { OnErr result ((means self.new).count ≡ (means self.old).count) }
+        ensures tells { IsTrue (means self.new).sound → IsSome (means self.old).rows → OnOk result (IsSome (means self.new).rows) }
+        ensures sound { IsTrue (means self.new).sound → IsTrue (means self.old).sound }
         ensures paths { (means self.new).paths ≡ (means self.old).paths }
         ensures cause { HasKeepCause (means self.old).faults (means self.new).faults result };
 
@@ -74,6 +72,8 @@ pub trait Keeper {
         ensures row { IfOk result (λ row. IfSome (means self.new).rows (λ rows. slice_get rows index ≡ Some row)) }
         ensures same { KeepsRows (means self.old).rows (means self.new).rows }
         ensures count { (means self.new).count ≡ (means self.old).count }
+        ensures tells { IsTrue (means self.new).sound → IsSome (means self.old).rows → OnOk result (IsSome (means self.new).rows) }
+        ensures sound { IsTrue (means self.new).sound → IsTrue (means self.old).sound }
         ensures paths { (means self.new).paths ≡ (means self.old).paths }
         ensures cause { HasKeepCause (means self.old).faults (means self.new).faults result };
 }

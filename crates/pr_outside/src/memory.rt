@@ -4,7 +4,7 @@ ghost use Rattle.std.specs.Io.{ReadsAtMost, WritesAtMost};
 ghost use Rattle.std.specs.Io.KnownBytes.{ReadConsumes, WriteAppends};
 ghost use Rattle.pr_outside.specs.Causes.{HasReadCause, HasWriteCause, HasFilesCause, HasKeepCause};
 ghost use Rattle.pr_outside.specs.Contents.{IsFound, IsWithinLimit};
-ghost use Rattle.pr_outside.specs.Courses.{course_after, is_last_read, is_refused};
+ghost use Rattle.pr_outside.specs.Courses.{course_after, is_last_read, is_refused, taken_after};
 ghost use Rattle.pr_outside.specs.private.HeldFiles.{content_of, files_of};
 ghost use Rattle.pr_outside.specs.private.Kept.{KeepsRows, StartsRows, AppendsRows};
 ghost use Rattle.pr_outside.specs.Paths.{StartsPath};
@@ -19,9 +19,9 @@ use super::{
 use std::alloc::Global;
 use std::marker::Model;
 
-/// A source of bytes in memory, some of whose reads fail. Contracts see the bytes that are left,
-/// and the schedule: the numbers of the calls that are to fail, and the counts of calls and of
-/// faults.
+/// A source of bytes in memory, some of whose reads fail. Contracts see the bytes that are left, how
+/// many were taken, and the schedule: the numbers of the calls that are to fail, and the counts of
+/// calls and of faults.
 #[derive(Debug, Drop)]
 pub struct MemSource {
     inner: SureSource,
@@ -34,13 +34,13 @@ impl Model for MemSource {
 
     ghost Value = { FailingSource };
 
-    ghost view = { λ m. record { left = m.inner.left; schedule = m.schedule; course = m.course } };
+    ghost view = { λ m. record { left = m.inner.left; taken = m.inner.taken; schedule = m.schedule; course = m.course } };
 }
 
 impl MemSource {
     /// A source of these bytes, whose calls of `read` with these numbers, counted from 1, fail.
     pub fn new(content: Vec<u8>, fails: Vec<u64>) -> MemSource
-        ensures { result ≡ record { left = content.items; schedule = schedule_of fails.items; course = Course.Going } }
+        ensures { result ≡ record { left = content.items; taken = 0; schedule = schedule_of fails.items; course = Course.Going } }
     {
         MemSource {
             inner: SureSource::new(content),
@@ -51,12 +51,13 @@ impl MemSource {
 }
 
 impl Source for MemSource {
-    ghost means = { λ m. record { left = Some m.left; faults = m.schedule.faults; course = m.course } };
+    ghost means = { λ m. record { left = Some m.left; taken = m.taken; faults = m.schedule.faults; course = m.course } };
 
     /// Gives as many bytes as are left and fit, unless this call is to fail.
     fn read(&mut self, buf: &mut [u8]) -> Result<usize, Failed>
         ensures bound { ReadsAtMost result buf.new }
         ensures bytes { ReadConsumes (Some self.old.left) (Some self.new.left) result buf.new }
+        ensures taken { self.new.taken ≡ taken_after self.old.taken result }
         ensures cause { HasReadCause self.old.schedule.faults self.new.schedule.faults result }
         ensures course { self.new.course ≡ course_after self.old.course (is_last_read result buf.new) }
         ensures failed { IsErr result ↔ IsTrue (fails_next self.old.schedule) }
@@ -241,7 +242,9 @@ impl MemKeeper {
 }
 
 impl Keeper for MemKeeper {
-    ghost means = { λ m. record { rows = Some m.rows; count = length m.rows; paths = m.paths; faults = m.schedule.faults } };
+    ghost use Rattle.std.specs.Prelude.{true};
+
+    ghost means = { λ m. record { rows = Some m.rows; count = length m.rows; sound = true; paths = m.paths; faults = m.schedule.faults } };
 
     /// Notes the path, and keeps its rows, unless memory runs out.
     fn start(&mut self, path: &str) -> Result<(), KeepError>

@@ -4,7 +4,7 @@ ghost use Rattle.std.specs.Io.{ReadsAtMost, WritesAtMost};
 ghost use Rattle.std.specs.Io.KnownBytes.{ReadConsumes, WriteAppends};
 ghost use Rattle.pr_outside.specs.Causes.{HasReadCause, HasWriteCause, HasFilesCause, HasKeepCause};
 ghost use Rattle.pr_outside.specs.Contents.{IsFound, IsWithinLimit};
-ghost use Rattle.pr_outside.specs.Courses.{course_after, is_last_read, is_refused};
+ghost use Rattle.pr_outside.specs.Courses.{course_after, is_last_read, is_refused, taken_after};
 ghost use Rattle.pr_outside.specs.private.HeldFiles.{content_of, files_of};
 ghost use Rattle.pr_outside.specs.private.Kept.{KeepsRows, StartsRows, AppendsRows};
 ghost use Rattle.pr_outside.specs.Paths.{StartsPath};
@@ -18,8 +18,8 @@ use pr_words::Text;
 use std::alloc::{AllocError, Global};
 use std::marker::Model;
 
-/// A source of bytes in memory that never fails. Contracts see the bytes that are left, and how far
-/// its calls have come.
+/// A source of bytes in memory that never fails. Contracts see the bytes that are left, how many were
+/// taken, and how far its calls have come.
 #[derive(Debug, Drop)]
 pub struct SureSource {
     content: Vec<u8>,
@@ -33,7 +33,7 @@ impl Model for SureSource {
 
     ghost Value = { SureBytes };
 
-    ghost view = { λ s. record { left = drop s.at s.content.items; course = s.course } };
+    ghost view = { λ s. record { left = drop s.at s.content.items; taken = s.at; course = s.course } };
 
     ghost invariant = { λ s. s.at ≤ vec_len s.content };
 }
@@ -41,7 +41,7 @@ impl Model for SureSource {
 impl SureSource {
     /// A source of these bytes.
     pub fn new(content: Vec<u8>) -> SureSource
-        ensures { result ≡ record { left = content.items; course = Course.Going } }
+        ensures { result ≡ record { left = content.items; taken = 0; course = Course.Going } }
     {
         SureSource {
             content,
@@ -71,12 +71,13 @@ pub fn is_end(count: usize, buf: &[u8]) -> bool
 }
 
 impl Source for SureSource {
-    ghost means = { λ s. record { left = Some s.left; faults = 0; course = s.course } };
+    ghost means = { λ s. record { left = Some s.left; taken = s.taken; faults = 0; course = s.course } };
 
     /// Gives as many bytes as are left and fit.
     fn read(&mut self, buf: &mut [u8]) -> Result<usize, Failed>
         ensures bound { ReadsAtMost result buf.new }
         ensures bytes { ReadConsumes (Some self.old.left) (Some self.new.left) result buf.new }
+        ensures taken { self.new.taken ≡ taken_after self.old.taken result }
         ensures cause { HasReadCause 0 0 result }
         ensures course { self.new.course ≡ course_after self.old.course (is_last_read result buf.new) }
         ensures count { result ≡ Ok (min (length self.old.left) (length buf.old)) }
@@ -300,7 +301,9 @@ fn note(paths: &mut Vec<Text>, path: &str) -> Result<(), AllocError>
 }
 
 impl Keeper for SureKeeper {
-    ghost means = { λ s. record { rows = Some s.rows; count = length s.rows; paths = s.paths; faults = 0 } };
+    ghost use Rattle.std.specs.Prelude.{true};
+
+    ghost means = { λ s. record { rows = Some s.rows; count = length s.rows; sound = true; paths = s.paths; faults = 0 } };
 
     /// Notes the path, and keeps its rows, unless memory runs out.
     fn start(&mut self, path: &str) -> Result<(), KeepError>

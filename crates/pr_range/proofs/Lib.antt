@@ -17,4 +17,3 @@ pub use Rattle.pr_head.proofs.Arrivals as HeadArrivals
 pub use Rattle.pr_head.proofs.IntakeIntake as HeadIntakeIntake
 pub use Rattle.pr_head.proofs.Newest as HeadNewest
 pub use Rattle.pr_head.proofs.Simulation as HeadSimulation
-pub use Rattle.pr_head.proofs.Telling as HeadTelling

@@ -26,7 +26,7 @@ pub mod window_crate {
 }
 
 pub mod head {
-    pub use pr_head::{Head, Timed, intake, rows};
+    pub use pr_head::{Head, Timed, intake};
 }
 
 pub use fault::RangeFault;

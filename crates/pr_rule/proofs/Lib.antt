@@ -33,4 +33,3 @@ pub use Rattle.pr_eval.proofs.HeadArrivals
 pub use Rattle.pr_eval.proofs.HeadIntakeIntake
 pub use Rattle.pr_eval.proofs.HeadNewest
 pub use Rattle.pr_eval.proofs.HeadSimulation
-pub use Rattle.pr_eval.proofs.HeadTelling

@@ -29,7 +29,7 @@ pub mod rules_crate {
 }
 
 pub mod head {
-    pub use pr_eval::head::{Head, Timed, intake, rows};
+    pub use pr_eval::head::{Head, Timed, intake};
 }
 
 pub mod range {

@@ -32,7 +32,7 @@ use Rattle.pr_text.specs.spec_world.declared.event.Event.TheVariants as event
 use Rattle.pr_text.specs.spec_world.declared.event.NamedFile.{NamedFile}
 use Rattle.pr_text.specs.spec_world.declared.report.Report.{Report}
 use Rattle.pr_text.specs.spec_world.declared.report.Report.TheVariants.{Backwards}
-use Rattle.pr_queue.specs.spec_history.Stores.{KeepEnds, TellsHistory}
+use Rattle.pr_outside.specs.Stores.{KeepEnds, TellsHistory}
 use Rattle.pr_run.specs.private.Files.{HasNames}
 use Rattle.pr_run.specs.private.Keeping.{KeepsProgress, Progress, Run}
 use Rattle.pr_run.specs.Replies.{Reply, receivers_after}

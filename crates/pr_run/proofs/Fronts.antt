@@ -11,7 +11,7 @@ use Rattle.pr_outside.specs.Ends.{StopPlace, at_input, at_file, at_store, at_row
 use Rattle.pr_outside.specs.Outside.{Outside}
 use Rattle.pr_outside.proofs.StatusStreams.{appends_on}
 use Rattle.pr_run.specs.Front.{IsFront, IsPromptAt, is_between}
-use Rattle.pr_queue.specs.spec_history.Stores.{AreKept}
+use Rattle.pr_outside.specs.Stores.{AreKept}
 use Rattle.pr_run.specs.Told.{OrderAnswer, asks_of, kept_after, told_of}
 use Rattle.pr_run.proofs.Turns.{asked_front, asked_more, asked_next, steps_of, told_more}
 

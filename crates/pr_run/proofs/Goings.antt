@@ -1,23 +1,23 @@
 -- Where a run stands between two orders, and how it ends.
-use Rattle.std.proofs.Common.{◌≡◌, ℕ, ◌<◌, ◌^◌, List, [], ◌∷◌, ◌++◌, None, Some, IsSome, refl, sym, ap, ◌∙◌, subst, append_assoc, append-nil, length, length-append, arith}
+use Rattle.std.proofs.Common.{◌≡◌, ℕ, ◌+◌, ◌<◌, ◌≤◌, ◌^◌, Bool, true, List, [], ◌∷◌, ◌++◌, None, Some, IfSome, IsSome, refl, sym, ap, ◌∙◌, subst, append_assoc, append-nil, length, length-append, arith}
 use Rattle.std.specs.declared.option.Option.{Option}
 use Rattle.std.specs.Io.KnownBytes.{Appends}
 use Rattle.pr_outside.specs.pr_words.Lines.{lines_of}
 use Rattle.pr_queue.specs.spec_history.declared.entry.Entry.{Entry}
-use Rattle.pr_outside.specs.Meant.{Store}
+use Rattle.pr_outside.specs.Meant.{Input, Store}
 use Rattle.pr_text.specs.declared.script.order.Numbered.{Numbered}
 use Rattle.pr_text.specs.Orders.{orders_of, orders_after}
 use Rattle.pr_text.proofs.Blocks.{orders_none}
 use Rattle.pr_outside.specs.Asks.{Asks}
 use Rattle.pr_outside.specs.Outside.{AreTold, Held, Outside}
-use Rattle.pr_outside.specs.Status.{IsLong, IsShort}
+use Rattle.pr_outside.specs.Status.{IsLong, IsReadOut, IsShort, IsTooLong}
 use Rattle.pr_outside.proofs.StatusStreams.{appends_on}
-use Rattle.pr_text.specs.private.LineReading.{ahead, CountsBytes, IsBeyond}
+use Rattle.pr_text.specs.private.LineReading.{ahead, course_of, CountsBytes, CountsLeft, IsBeyond, KnowsCourse}
 use Rattle.pr_text.specs.private.Reading.{HandsOrder, Takes}
 use Rattle.pr_text.proofs.Orders.{takes_none, takes_on, follow}
 use Rattle.pr_text.specs.spec_world.World.{World}
 use Rattle.pr_run.specs.private.Keeping.{KeepsProgress, Progress, Run, unanswered}
-use Rattle.pr_queue.specs.spec_history.Stores.{TellsHistory}
+use Rattle.pr_outside.specs.Stores.{TellsHistory}
 use Rattle.pr_run.specs.private.Standing.{HasGrown, IsGrown, SendsAnswer, RunStands, progress_of}
 use Rattle.pr_run.specs.Told.{OrderAnswer, answers, asks_of, begun, told_of, turn}
 use Rattle.pr_run.proofs.Loads.{asks_none, asks_on}
@@ -131,18 +131,27 @@ last_orders bytes unread (Some y) (Some z) m n orders t h = (
     no_rest [] ys e = e
     no_rest (x ∷ xs) ys e = absurd (cc)
 
--- an input that was read to its end is short, and one that is too long is long
+-- an input that was read to its end is short and was read out, and one that is too long is long
 pub known_short : (a b left : Option (List ℕ)) (unread : List ℕ) (m n count : ℕ) (orders : List Numbered) → Takes a b 0 m orders → HandsOrder b (ahead unread left) m n None
-    → CountsBytes a left 0 count → count < 2 ^ 32 → IsShort a
+    → CountsLeft a left 0 count → count < 2 ^ 32 → IsShort a
 known_short None b left unread m n count orders t h c lt = tt
 known_short (Some bytes) b left unread m n count orders t h c lt =
-    let ended : CountsBytes (Some bytes) (Some []) 0 count =
-    subst (λ (l : Option (List ℕ)). CountsBytes (Some bytes) l 0 count) (last_orders bytes unread b left m n orders t h).1 c in
+    let ended : CountsLeft (Some bytes) (Some []) 0 count =
+    subst (λ (l : Option (List ℕ)). CountsLeft (Some bytes) l 0 count) (last_orders bytes unread b left m n orders t h).1 c in
     omega (arith, ended, lt)
 
-pub known_long : (a : Option (List ℕ)) → IsBeyond a 0 → IsLong a
-known_long None long = tt
-known_long (Some bytes) long = omega (arith, long)
+pub known_out : (a c : Input) (count : ℕ) (ended : Bool) → CountsBytes a c 0 count → count < 2 ^ 32 → KnowsCourse a.course ended c.course → ended ≡ true → IsReadOut a c
+known_out a c count ended counts lt over met = record {
+  over = λ going. over going ∙ ap course_of met;
+  few = omega (arith, counts.took.0, lt);
+}
+
+long_left : (a : Option (List ℕ)) → IfSome a (λ rest. 2 ^ 32 ≤ 0 + length rest) → IsLong a
+long_left None long = tt
+long_left (Some bytes) long = omega (arith, long)
+
+pub known_long : (a c : Input) → IsBeyond a c 0 → IsTooLong a c
+known_long a c p = (long_left a.left p.long, omega (arith, p.many))
 
 pub no_more : (o : Option Numbered) → ((x : Numbered) → o ≡ Some x → ⊥) → o ≡ None
 no_more None f = refl

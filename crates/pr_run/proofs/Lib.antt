@@ -1,5 +1,6 @@
 pub mod ExpressionExamples
 pub mod Loads
+pub mod Tellings
 pub mod Turns
 pub mod Fronts
 pub mod Goings

@@ -5,7 +5,7 @@ use Rattle.pr_queue.specs.spec_history.declared.entry.Entry.{Entry}
 use Rattle.pr_outside.specs.Causes.{Rose}
 use Rattle.pr_outside.specs.private.Kept.{StartsRows}
 use Rattle.pr_outside.specs.Meant.{Folder}
-use Rattle.pr_outside.specs.declared.keeping.Row.{Row}
+use Rattle.pr_outside.specs.spec_history.declared.row.Row.{Row}
 use Rattle.pr_queue.specs.spec_history.Histories.{history_of}
 use Rattle.pr_outside.specs.Asks.{Asks}
 use Rattle.pr_outside.specs.Ends.{Ends, at_row, place_of}
@@ -16,12 +16,12 @@ use Rattle.pr_outside.proofs.Ended.{quiet}
 use Rattle.pr_run.specs.private.Beginning.{first_text}
 use Rattle.pr_text.specs.BadRows.{IsBadStart, bad_row_text}
 use Rattle.pr_run.specs.Front.{IsFront}
-use Rattle.pr_queue.specs.spec_history.Stores.{AreKept, OverRows}
+use Rattle.pr_outside.specs.Stores.{AreKept, OverRows}
 use Rattle.pr_run.specs.Runs.{EndsBy, EndsOver, IsStopped}
 use Rattle.pr_run.specs.Told.{answers_to}
 use Rattle.pr_run.proofs.Fronts.{front_opening}
 use Rattle.pr_run.proofs.Loads.{asks_none}
-use Rattle.pr_queue.proofs.HistoryStoredRows.{IsDecoding, kept_by}
+use Rattle.pr_outside.proofs.StoredRows.{IsDecoding, kept_by}
 
 pub on_rows : (a : Option (List Row)) (P : List Row → Type 0) → ((rows : List Row) → a ≡ Some rows → P rows) → IfSome a P
 on_rows None P f = tt

@@ -13,7 +13,7 @@ use Rattle.pr_outside.specs.Outside.{AreTold, Held, Outside}
 use Rattle.pr_outside.specs.declared.status.status.Stop.{Stop}
 use Rattle.pr_outside.specs.declared.status.status.Stop.TheVariants as stop
 use Rattle.pr_outside.specs.Causes.{Rose}
-use Rattle.pr_outside.specs.declared.keeping.Row.{Row}
+use Rattle.pr_outside.specs.spec_history.declared.row.Row.{Row}
 use Rattle.pr_queue.specs.spec_history.Histories.{history_of}
 use Rattle.pr_outside.proofs.Ended.{quiet}
 use Rattle.pr_outside.proofs.StatusStreams.{appends_on}
@@ -25,14 +25,14 @@ use Rattle.pr_text.specs.spec_world.World.{World}
 use Rattle.pr_run.specs.Front.{IsFront, IsPromptAt, is_between}
 use Rattle.pr_text.specs.BadRows.{TellsRow, bad_row_text}
 use Rattle.pr_run.specs.private.Keeping.{KeepsProgress, Progress, Run, unanswered}
-use Rattle.pr_queue.specs.spec_history.Stores.{TellsHistory, AreKept, IsBadIn}
+use Rattle.pr_outside.specs.Stores.{TellsHistory, AreKept, IsBadIn}
 use Rattle.pr_run.specs.Runs.{EndsOver}
 use Rattle.pr_run.specs.private.Standing.{LeavesFront, RunStands, WaitsBehind, WritesTurn}
 use Rattle.pr_run.specs.Told.{OrderAnswer, Turn, answers, answers_to, any_refused, asks_of, begun, kept_after, told, told_of, turn}
 use Rattle.pr_run.proofs.Fronts.{asks_anywhere, asks_between, asks_file, asks_output, asks_store, asks_written, front_at, front_in}
 use Rattle.pr_run.proofs.Goings.{Going, answered, come, last_orders, next_orders, split_orders}
 use Rattle.pr_run.proofs.Loads.{asks_on}
-use Rattle.pr_queue.proofs.HistoryStoredRows.{IsDecoding, kept_by}
+use Rattle.pr_outside.proofs.StoredRows.{IsDecoding, kept_by}
 use Rattle.pr_run.proofs.Turns.{answer_count, answers_append, asks_append, orders_grow, progress_on, refused_of, steps_of, told_left, told_right, told_same}
 
 -- so many orders are answered, and no order that was complete has come since

@@ -6,7 +6,7 @@ use Rattle.pr_queue.specs.spec_history.declared.entry.Entry.{Entry}
 use Rattle.pr_outside.specs.Asks.{Asks, AsksAt}
 use Rattle.pr_outside.specs.Ends.{StopPlace, at_input, at_file, at_store, at_row, at_output, anywhere}
 use Rattle.pr_outside.specs.Outside.{Outside}
-use Rattle.pr_queue.specs.spec_history.Stores.{AreKept}
+use Rattle.pr_outside.specs.Stores.{AreKept}
 use Rattle.pr_text.specs.Taken.{IsPrompt}
 use Rattle.pr_run.specs.Told.{OrderAnswer, told_of, kept_after}
 

@@ -2,19 +2,19 @@
 use Rattle.std.specs.Prelude.{◌≡◌, ◌≢◌, ℕ, ◌<◌, ◌≤◌, ◌^◌, Bool, List, [], length, Some, Result, Ok, Err, IfOk, IfSome}
 use Rattle.std.specs.Io.KnownBytes.{Appends}
 use Rattle.pr_queue.specs.spec_history.declared.entry.Entry.{Entry}
-use Rattle.pr_outside.specs.declared.keeping.Row.{Row}
+use Rattle.pr_outside.specs.spec_history.declared.row.Row.{Row}
 use Rattle.pr_queue.specs.spec_history.Histories.{history_of}
 use Rattle.pr_outside.specs.Ends.{Ends, KnowsLength, place_of, status_of}
 use Rattle.pr_outside.specs.Opening.{OpensBy}
 use Rattle.pr_outside.specs.Outside.{Outside, AreCalm, Held, AreTold}
-use Rattle.pr_outside.specs.Status.{IsLong, verdict}
+use Rattle.pr_outside.specs.Status.{IsTooLong, verdict}
 use Rattle.pr_outside.specs.declared.status.status.Status.{Status}
 use Rattle.pr_outside.specs.declared.status.status.Status.TheVariants as status
 use Rattle.pr_outside.specs.declared.status.status.Stop.{Stop}
 use Rattle.pr_outside.specs.declared.status.status.Stop.TheVariants.{Read, Load, Store, BadRow, Write, Memory, TooLong}
 use Rattle.pr_text.specs.BadRows.{IsBadStart, TellsRow, bad_row_text}
 use Rattle.pr_run.specs.Front.{IsFront}
-use Rattle.pr_queue.specs.spec_history.Stores.{AreKept, IsBadIn, OverRows}
+use Rattle.pr_outside.specs.Stores.{AreKept, IsBadIn, OverRows, StartsTelling}
 use Rattle.pr_run.specs.Told.{answers_to, asks_of, told, kept, refuses}
 
 -- A run was whole: it wrote what is told, it refused what is refused, it kept the rows of the entries,
@@ -78,13 +78,17 @@ RunsBy (Err index) rows bytes before now ending result = RunsInto index rows bef
 pub record MeansRun (path : List ℕ) (before now : Outside) (result : Status) : Type 0 where
   pub ending : Result Bool Stop
   pub answer : result ≡ status_of ending
-  pub ends : Ends (IsBadIn now.store) (IsLong before.input.left) before now ending
+  pub ends : Ends (IsBadIn now.store) (IsTooLong before.input now.input) before now ending
   -- it opens this path, and no other
   pub opens : OpensBy path before.store.paths now.store.paths ending
-  -- an input that was read to its end is short, and one that is too long is long
-  pub known : KnowsLength before.input.left ending
+  -- a run that was not stopped has read its input out, which was short; and one that is too long is long,
+  -- and so much of it was taken
+  pub known : KnowsLength before.input now.input ending
   -- over any store
   pub row : (index : ℕ) → ending ≡ Err (BadRow index) → TellsRow index before.out.taken now.out.taken
+  -- as long as what the store stands on has kept its word, the rows are told, unless the store or want of
+  -- memory stopped it
+  pub tells : StartsTelling before.store now.store ending
   -- What is written and kept, over the rows at the start, where the store tells its rows at the end.
   pub over : IfSome now.store.rows (λ all. IfSome before.input.left (λ bytes.
       OverRows before.store.rows all (λ rows. RunsBy (history_of rows) rows bytes before now ending result)))

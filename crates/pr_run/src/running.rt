@@ -7,14 +7,14 @@ ghost use Rattle.pr_queue.specs.spec_history.Histories.{history_of};
 ghost use Rattle.pr_outside.specs.Ends.{Ends, KnowsLength};
 ghost use Rattle.pr_outside.specs.Opening.{OpensBy};
 ghost use Rattle.pr_outside.specs.Outside.{AreTold, Held, Outside};
-ghost use Rattle.pr_outside.specs.Status.{IsLong};
+ghost use Rattle.pr_outside.specs.Status.{IsTooLong};
 ghost use Rattle.pr_outside.specs.declared.status.status.Stop.TheVariants as stop;
 ghost use Rattle.pr_text.specs.spec_world.World.{World};
 ghost use Rattle.pr_run.specs.private.Beginning.{Begins, first_text};
 ghost use Rattle.pr_text.specs.private.Plain.{IsPlain};
 ghost use Rattle.pr_text.specs.BadRows.{TellsRow, bad_row_text};
 ghost use Rattle.pr_run.specs.private.Keeping.{KeepsProgress, Progress, unanswered};
-ghost use Rattle.pr_queue.specs.spec_history.Stores.{IsBadIn, OverRows};
+ghost use Rattle.pr_outside.specs.Stores.{IsBadIn, KeepsTelling, OverRows, StartsTelling};
 ghost use Rattle.pr_run.specs.Runs.{EndsBy, EndsOver};
 ghost use Rattle.pr_run.specs.private.Standing.{StoreGrows, HasGrown, LeavesFront, SendsAnswer};
 ghost use Rattle.pr_run.specs.Told.{told_of, turn};
@@ -25,8 +25,7 @@ use pr_outside::{Files, Keeper, Sink, Source};
 use pr_queue::history::row::laws::rows_decode_as_their_entries;
 use pr_text::reader::Reader;
 use pr_text::script::Numbered;
-use pr_text::world::Worlds;
-use pr_text::{bad_row_of, tell_bad_row, tell_opened};
+use pr_text::{Worlds, bad_row_of, tell_bad_row, tell_opened};
 use std::alloc::Global;
 
 // Begins over the rows of the store of a path, and writes the first line; or the only one, where a
@@ -40,6 +39,8 @@ fn begin<E: Worlds + Drop, K: Keeper, O: Sink>(
     ensures begins { IfOk result (λ s. Begins E.stands_for s (K.means keeper.new) (O.means out.old).taken (O.means out.new).taken) }
     ensures front { IfSome (K.means keeper.new).rows (λ rows. OnErr result ((n : ℕ) × Appends (O.means out.old).taken (O.means out.new).taken (take n (first_text (history_of rows))))) }
     ensures bad { (at : ℕ) → result ≡ Err (stop.BadRow at) → Appends (O.means out.old).taken (O.means out.new).taken (bad_row_text at) }
+    ensures going { IfOk result (λ s. E.is_going s.kept) }
+    ensures tells { StartsTelling (K.means keeper.old) (K.means keeper.new) result }
     ensures rows { StartsRows (K.means keeper.old).rows (K.means keeper.new).rows }
     ensures opens { OpensBy path.now (K.means keeper.old).paths (K.means keeper.new).paths result }
     ensures ends { (others : Outside) → Ends (IsBadIn (K.means keeper.new)) ⊥ (record others { store = K.means keeper.old; out = O.means out.old })
@@ -69,7 +70,8 @@ fn answer_order<E: Worlds + Drop, F: Files, K: Keeper, O: Sink>(
     keeper: &mut K,
     out: &mut O,
 ) -> Result<(), Stop>
-    requires { IsPlain order.order }
+    requires plain { IsPlain order.order }
+    requires going { E.is_going session.old.kept }
     ensures sends { (others : Outside) (held : Held) (p : Progress) → KeepsProgress E.stands_for session.old (K.means keeper.old) p
         → AreTold (F.means files.old).content held (turn held p.state order).answer.asks → IsSome (K.means keeper.new).rows
         → OnOk result (SendsAnswer E.stands_for held p order (record others { files = F.means files.old; store = K.means keeper.old; out = O.means out.old })
@@ -81,6 +83,8 @@ fn answer_order<E: Worlds + Drop, F: Files, K: Keeper, O: Sink>(
     ensures written { OnOk result ((text : List ℕ) × Appends (O.means out.old).taken (O.means out.new).taken text) }
     ensures row { (at : ℕ) → result ≡ Err (stop.BadRow at) → Appends (O.means out.old).taken (O.means out.new).taken (bad_row_text at) }
     ensures grows { (w : World) → E.stands_for session.old.kept (K.means keeper.old) w → IsSome (K.means keeper.new).rows → StoreGrows E.stands_for w.history (K.means keeper.new) session.new.kept result }
+    ensures going { OnOk result (E.is_going session.new.kept) }
+    ensures tells { KeepsTelling (K.means keeper.old) (K.means keeper.new) result }
     ensures told { IsSome (K.means keeper.new).rows → IsSome (K.means keeper.old).rows }
     ensures same { (other : List ℕ) → (F.means files.new).content other ≡ (F.means files.old).content other }
     ensures paths { (K.means keeper.new).paths ≡ (K.means keeper.old).paths }
@@ -112,6 +116,7 @@ fn answer_all<E: Worlds + Drop, I: Source, F: Files, K: Keeper, O: Sink>(
     keeper: &mut K,
     out: &mut O,
 ) -> Result<bool, Stop>
+    requires { E.is_going session.old.kept }
     // However it ends, one number of orders is answered.
     ensures over { (others : Outside) (history : List Entry) → KeepsProgress E.stands_for session.old (K.means keeper.old) (unanswered history)
         → Appends others.out.taken (O.means out.old).taken (told_of history []) → IsSome (K.means keeper.new).rows
@@ -119,11 +124,12 @@ fn answer_all<E: Worlds + Drop, I: Source, F: Files, K: Keeper, O: Sink>(
         (record { input = I.means input.new; files = F.means files.new; store = K.means keeper.new; out = O.means out.new }) result) }
     ensures row { (at : ℕ) → result ≡ Err (stop.BadRow at) → TellsRow at (O.means out.old).taken (O.means out.new).taken }
     ensures grows { (w : World) → E.stands_for session.old.kept (K.means keeper.old) w → IsSome (K.means keeper.new).rows → HasGrown w.history (K.means keeper.new) }
+    ensures tells { KeepsTelling (K.means keeper.old) (K.means keeper.new) result }
     ensures told { IsSome (K.means keeper.new).rows → IsSome (K.means keeper.old).rows }
     ensures same { (other : List ℕ) → (F.means files.new).content other ≡ (F.means files.old).content other }
-    ensures long { KnowsLength (I.means input.old).left result }
+    ensures long { KnowsLength (I.means input.old) (I.means input.new) result }
     ensures paths { (K.means keeper.new).paths ≡ (K.means keeper.old).paths }
-    ensures ends { Ends (IsBadIn (K.means keeper.new)) (IsLong (I.means input.old).left)
+    ensures ends { Ends (IsBadIn (K.means keeper.new)) (IsTooLong (I.means input.old) (I.means input.new))
         (record { input = I.means input.old; files = F.means files.old; store = K.means keeper.old; out = O.means out.old })
         (record { input = I.means input.new; files = F.means files.new; store = K.means keeper.new; out = O.means out.new }) result }
 {
@@ -150,10 +156,13 @@ pub fn run<E: Worlds + Drop, I: Source, F: Files, K: Keeper, O: Sink>(
         (record { input = I.means input.new; files = F.means files.new; store = K.means keeper.new; out = O.means out.new }) result))) }
     // Where a row stopped it, its line is the last that was written, over any store.
     ensures row { (at : ℕ) → result ≡ Err (stop.BadRow at) → TellsRow at (O.means out.old).taken (O.means out.new).taken }
+    // As long as what the store stands on keeps its word, the rows are told, unless the store or want of
+    // memory stopped it.
+    ensures tells { StartsTelling (K.means keeper.old) (K.means keeper.new) result }
     ensures same { (other : List ℕ) → (F.means files.new).content other ≡ (F.means files.old).content other }
-    ensures long { KnowsLength (I.means input.old).left result }
+    ensures long { KnowsLength (I.means input.old) (I.means input.new) result }
     ensures opens { OpensBy path.now (K.means keeper.old).paths (K.means keeper.new).paths result }
-    ensures ends { Ends (IsBadIn (K.means keeper.new)) (IsLong (I.means input.old).left)
+    ensures ends { Ends (IsBadIn (K.means keeper.new)) (IsTooLong (I.means input.old) (I.means input.new))
         (record { input = I.means input.old; files = F.means files.old; store = K.means keeper.old; out = O.means out.old })
         (record { input = I.means input.new; files = F.means files.new; store = K.means keeper.new; out = O.means out.new }) result }
 {

@@ -14,7 +14,7 @@ ghost use Rattle.pr_text.specs.declared.script.order.Order.TheVariants as order;
 ghost use Rattle.pr_text.specs.private.Plain.{HasNoFiles, IsPlain};
 ghost use Rattle.pr_run.specs.private.Keeping.{KeepsProgress, Progress};
 ghost use Rattle.pr_run.specs.Replies.{bad_line_reply, flush_reply, receiver_reply, receivers_after};
-ghost use Rattle.pr_queue.specs.spec_history.Stores.{IsBadIn};
+ghost use Rattle.pr_outside.specs.Stores.{IsBadIn, KeepsTelling};
 ghost use Rattle.pr_run.specs.private.Standing.{AnswersOrder, WorldGives, StoreGrows, LeavesFront, ReceiversReply};
 ghost use Rattle.pr_run.specs.Told.{asks_for, asks_in_time, content_by, turn};
 
@@ -25,8 +25,8 @@ use pr_outside::status::Stop;
 use pr_outside::{Files, Keeper};
 use pr_queue::Notifier;
 use pr_text::script::{FilesToLoad, Numbered, Order};
-use pr_text::world::{Event, Report, Worlds};
-use pr_text::{push_bad_line, push_batch, push_joined, push_no_receiver, push_report};
+use pr_text::world::{Event, Report};
+use pr_text::{Worlds, push_bad_line, push_batch, push_joined, push_no_receiver, push_report};
 use std::alloc::{AllocError, Global};
 use std::marker::Model;
 
@@ -85,12 +85,15 @@ impl<E: Worlds + Drop> Session<E> {
         event: Event,
         keeper: &mut K,
     ) -> Result<Report, Stop>
-        requires { HasDistinctFiles event }
+        requires files { HasDistinctFiles event }
+        requires going { E.is_going self.old.kept }
         ensures gives { (others : Outside) (w : World) → E.stands_for self.old.kept (K.means keeper.old) w → IsSome (K.means keeper.new).rows
             → WorldGives E.stands_for w (next of_a_run w event) 0 (record others { store = K.means keeper.old }) (record others { store = K.means keeper.new }) self.new.kept result }
         ensures refused { self.new.refused ≡ self.old.refused }
         ensures queues { self.new.queues ≡ self.old.queues }
         ensures grows { (w : World) → E.stands_for self.old.kept (K.means keeper.old) w → IsSome (K.means keeper.new).rows → StoreGrows E.stands_for w.history (K.means keeper.new) self.new.kept result }
+        ensures going { OnOk result (E.is_going self.new.kept) }
+        ensures tells { KeepsTelling (K.means keeper.old) (K.means keeper.new) result }
         ensures told { IsSome (K.means keeper.new).rows → IsSome (K.means keeper.old).rows }
         ensures paths { (K.means keeper.new).paths ≡ (K.means keeper.old).paths }
         ensures ends { (others : Outside) → Ends (IsBadIn (K.means keeper.new)) ⊥ (record others { store = K.means keeper.old }) (record others { store = K.means keeper.new }) result }
@@ -107,6 +110,7 @@ impl<E: Worlds + Drop> Session<E> {
         files: &mut F,
         keeper: &mut K,
     ) -> Result<Report, Stop>
+        requires going { E.is_going self.old.kept }
         ensures gives { (others : Outside) (held : Held) (w : World) → E.stands_for self.old.kept (K.means keeper.old) w → IsNotBefore w.last time
             → AreTold (F.means files.old).content held (asks_for (content_by held) names.now) → IsSome (K.means keeper.new).rows
             → WorldGives E.stands_for w (reload_asked of_a_run w time (content_by held) names.now) (length (asks_for (content_by held) names.now))
@@ -114,6 +118,8 @@ impl<E: Worlds + Drop> Session<E> {
         ensures refused { self.new.refused ≡ self.old.refused }
         ensures queues { self.new.queues ≡ self.old.queues }
         ensures grows { (w : World) → E.stands_for self.old.kept (K.means keeper.old) w → IsSome (K.means keeper.new).rows → StoreGrows E.stands_for w.history (K.means keeper.new) self.new.kept result }
+        ensures going { OnOk result (E.is_going self.new.kept) }
+        ensures tells { KeepsTelling (K.means keeper.old) (K.means keeper.new) result }
         ensures told { IsSome (K.means keeper.new).rows → IsSome (K.means keeper.old).rows }
         ensures same { (other : List ℕ) → (F.means files.new).content other ≡ (F.means files.old).content other }
         ensures paths { (K.means keeper.new).paths ≡ (K.means keeper.old).paths }
@@ -135,6 +141,7 @@ impl<E: Worlds + Drop> Session<E> {
         files: &mut F,
         keeper: &mut K,
     ) -> Result<Report, Stop>
+        requires going { E.is_going self.old.kept }
         ensures gives { (others : Outside) (held : Held) (w : World) → E.stands_for self.old.kept (K.means keeper.old) w
             → AreTold (F.means files.old).content held (asks_in_time w.last time (asks_for (content_by held) names.now)) → IsSome (K.means keeper.new).rows
             → WorldGives E.stands_for w (reload_asked of_a_run w time (content_by held) names.now) (length (asks_in_time w.last time (asks_for (content_by held) names.now)))
@@ -142,6 +149,8 @@ impl<E: Worlds + Drop> Session<E> {
         ensures refused { self.new.refused ≡ self.old.refused }
         ensures queues { self.new.queues ≡ self.old.queues }
         ensures grows { (w : World) → E.stands_for self.old.kept (K.means keeper.old) w → IsSome (K.means keeper.new).rows → StoreGrows E.stands_for w.history (K.means keeper.new) self.new.kept result }
+        ensures going { OnOk result (E.is_going self.new.kept) }
+        ensures tells { KeepsTelling (K.means keeper.old) (K.means keeper.new) result }
         ensures told { IsSome (K.means keeper.new).rows → IsSome (K.means keeper.old).rows }
         ensures same { (other : List ℕ) → (F.means files.new).content other ≡ (F.means files.old).content other }
         ensures paths { (K.means keeper.new).paths ≡ (K.means keeper.old).paths }
@@ -174,7 +183,8 @@ impl<E: Worlds + Drop> Session<E> {
         event: Event,
         keeper: &mut K,
     ) -> Result<(), Stop>
-        requires { HasNoFiles event }
+        requires files { HasNoFiles event }
+        requires going { E.is_going self.old.kept }
         ensures answers { (others : Outside) (held : Held) (p : Progress) (number : ℕ) → KeepsProgress E.stands_for self.old (K.means keeper.old) p
             → IsSome (K.means keeper.new).rows
             → OnOk result (AnswersOrder E.stands_for held p (record { number = number; order = order.Event event }) (record others { store = K.means keeper.old }) (record others { store = K.means keeper.new }) self.new text.old.items text.new.items) }
@@ -182,6 +192,8 @@ impl<E: Worlds + Drop> Session<E> {
             → IsSome (K.means keeper.new).rows
             → IfErr result (LeavesFront (turn held p.state (record { number = number; order = order.Event event })) p.state.world.history (record others { store = K.means keeper.old }) (record others { store = K.means keeper.new })) }
         ensures grows { (w : World) → E.stands_for self.old.kept (K.means keeper.old) w → IsSome (K.means keeper.new).rows → StoreGrows E.stands_for w.history (K.means keeper.new) self.new.kept result }
+        ensures going { OnOk result (E.is_going self.new.kept) }
+        ensures tells { KeepsTelling (K.means keeper.old) (K.means keeper.new) result }
         ensures told { IsSome (K.means keeper.new).rows → IsSome (K.means keeper.old).rows }
         ensures paths { (K.means keeper.new).paths ≡ (K.means keeper.old).paths }
         ensures ends { (others : Outside) → Ends (IsBadIn (K.means keeper.new)) ⊥ (record others { store = K.means keeper.old }) (record others { store = K.means keeper.new }) result }
@@ -201,6 +213,7 @@ impl<E: Worlds + Drop> Session<E> {
         files: &mut F,
         keeper: &mut K,
     ) -> Result<(), Stop>
+        requires going { E.is_going self.old.kept }
         ensures answers { (others : Outside) (held : Held) (p : Progress) (number : ℕ) → KeepsProgress E.stands_for self.old (K.means keeper.old) p
             → AreTold (F.means files.old).content held (turn held p.state (record { number = number; order = order.Reload time names })).answer.asks → IsSome (K.means keeper.new).rows
             → OnOk result (AnswersOrder E.stands_for held p (record { number = number; order = order.Reload time names }) (record others { files = F.means files.old; store = K.means keeper.old }) (record others { files = F.means files.new; store = K.means keeper.new }) self.new text.old.items text.new.items) }
@@ -208,6 +221,8 @@ impl<E: Worlds + Drop> Session<E> {
             → AreTold (F.means files.old).content held (turn held p.state (record { number = number; order = order.Reload time names })).answer.asks → IsSome (K.means keeper.new).rows
             → IfErr result (LeavesFront (turn held p.state (record { number = number; order = order.Reload time names })) p.state.world.history (record others { files = F.means files.old; store = K.means keeper.old }) (record others { files = F.means files.new; store = K.means keeper.new })) }
         ensures grows { (w : World) → E.stands_for self.old.kept (K.means keeper.old) w → IsSome (K.means keeper.new).rows → StoreGrows E.stands_for w.history (K.means keeper.new) self.new.kept result }
+        ensures going { OnOk result (E.is_going self.new.kept) }
+        ensures tells { KeepsTelling (K.means keeper.old) (K.means keeper.new) result }
         ensures told { IsSome (K.means keeper.new).rows → IsSome (K.means keeper.old).rows }
         ensures same { (other : List ℕ) → (F.means files.new).content other ≡ (F.means files.old).content other }
         ensures paths { (K.means keeper.new).paths ≡ (K.means keeper.old).paths }
@@ -270,7 +285,8 @@ impl<E: Worlds + Drop> Session<E> {
         files: &mut F,
         keeper: &mut K,
     ) -> Result<(), Stop>
-        requires { IsPlain order.order }
+        requires plain { IsPlain order.order }
+        requires going { E.is_going self.old.kept }
         ensures answers { (others : Outside) (held : Held) (p : Progress) → KeepsProgress E.stands_for self.old (K.means keeper.old) p
             → AreTold (F.means files.old).content held (turn held p.state order).answer.asks → IsSome (K.means keeper.new).rows
             → OnOk result (AnswersOrder E.stands_for held p order (record others { files = F.means files.old; store = K.means keeper.old }) (record others { files = F.means files.new; store = K.means keeper.new }) self.new text.old.items text.new.items) }
@@ -278,6 +294,8 @@ impl<E: Worlds + Drop> Session<E> {
             → AreTold (F.means files.old).content held (turn held p.state order).answer.asks → IsSome (K.means keeper.new).rows
             → IfErr result (LeavesFront (turn held p.state order) p.state.world.history (record others { files = F.means files.old; store = K.means keeper.old }) (record others { files = F.means files.new; store = K.means keeper.new })) }
         ensures grows { (w : World) → E.stands_for self.old.kept (K.means keeper.old) w → IsSome (K.means keeper.new).rows → StoreGrows E.stands_for w.history (K.means keeper.new) self.new.kept result }
+        ensures going { OnOk result (E.is_going self.new.kept) }
+        ensures tells { KeepsTelling (K.means keeper.old) (K.means keeper.new) result }
         ensures told { IsSome (K.means keeper.new).rows → IsSome (K.means keeper.old).rows }
         ensures same { (other : List ℕ) → (F.means files.new).content other ≡ (F.means files.old).content other }
         ensures paths { (K.means keeper.new).paths ≡ (K.means keeper.old).paths }

@@ -1,17 +1,20 @@
 -- What the reader of lines hands out, step by step.
-use Rattle.std.proofs.Common.{◌≡◌, ◌≢◌, ℕ, ◌+◌, ◌≤◌, ◌^◌, Bool, true, false, true≢false, not, ◌==◌, List, [], ◌∷◌, ◌++◌, None, Some, Result, Ok, Err, IsErrAnd, suc, refl, sym, ap, ◌∙◌, subst, append_assoc, length, length-append, arith}
+use Rattle.std.proofs.Common.{◌≡◌, ◌≢◌, ℕ, ◌+◌, ◌-◌, ◌≤◌, ◌^◌, min, Bool, true, false, true≢false, not, ◌==◌, List, [], ◌∷◌, ◌++◌, None, Some, IfSome, Result, Ok, Err, IsErrAnd, suc, refl, sym, ap, ◌∙◌, subst, append_assoc, length, length-append, arith}
 use Rattle.std.specs.declared.option.Option.{Option}
 use Rattle.std.specs.List.{list_all}
 use Rattle.std.specs.Io.KnownBytes.{Consumes, Keeps, IsAtEnd}
-use Rattle.spec_world.specs.pr_outside.Courses.{IsInTime, course_after}
-use Rattle.spec_world.specs.pr_outside.declared.course.Course.{Course}
-use Rattle.spec_world.specs.pr_outside.declared.course.Course.TheVariants.{Going, Over, Late}
-use Rattle.spec_world.specs.pr_outside.Ends.{AtInput}
-use Rattle.spec_world.proofs.OutsideEnded.{in_time_same}
-use Rattle.spec_world.specs.pr_outside.declared.status.status.Stop.{Stop}
-use Rattle.spec_world.specs.pr_outside.declared.status.status.Stop.TheVariants.{Read, Load, Store, BadRow, Write, Memory, TooLong}
+use Rattle.pr_outside.specs.Courses.{IsInTime, course_after}
+use Rattle.pr_outside.specs.declared.course.Course.{Course}
+use Rattle.pr_outside.specs.declared.course.Course.TheVariants.{Going, Over, Late}
+use Rattle.pr_outside.specs.Causes.{WentUp}
+use Rattle.pr_outside.specs.Ends.{AtInput}
+use Rattle.pr_outside.specs.Meant.{Input}
+use Rattle.pr_outside.specs.Status.{Took}
+use Rattle.pr_outside.proofs.Ended.{in_time_same}
+use Rattle.pr_outside.specs.declared.status.status.Stop.{Stop}
+use Rattle.pr_outside.specs.declared.status.status.Stop.TheVariants.{Read, Load, Store, BadRow, Write, Memory, TooLong}
 use Rattle.pr_text.specs.Taken.{is_no_feed}
-use Rattle.pr_text.specs.private.LineReading.{ahead, TakesPart, IsLine, IsNext, HandsLine, CountsBytes, IsCutLine, IsBeyond, IsReadOn}
+use Rattle.pr_text.specs.private.LineReading.{ahead, TakesPart, IsLine, IsNext, HandsLine, CountsBytes, CountsLeft, IsCutLine, IsBeyond, IsReadOn}
 use Rattle.pr_text.proofs.Feeds.{unended-append, some_left, without_feed-fed, unended_line}
 use Rattle.pr_text.proofs.Whole.{whole_fed}
 
@@ -128,30 +131,66 @@ line_cut (Some bytes) (Some left0) (Some left1) h line p none same u =
     (line, u, p ∙ ap (λ (h : List ℕ). line ++ (h ++ left0)) none ∙ ap (λ (l : List ℕ). line ++ l) (sym same))
 
 -- the bytes that were read, counted
-pub counts_none : (a : Option (List ℕ)) (n : ℕ) → CountsBytes a a n n
-counts_none None n = tt
-counts_none (Some bytes) n = refl
+left_none : (a : Option (List ℕ)) (n : ℕ) → CountsLeft a a n n
+left_none None n = tt
+left_none (Some bytes) n = refl
 
-pub counts_on : (a b c : Option (List ℕ)) (m n o : ℕ) → CountsBytes a b m n → CountsBytes b c n o → CountsBytes a c m o
-counts_on None b c m n o p q = tt
-counts_on (Some x) None c m n o p q = absurd p
-counts_on (Some x) (Some y) None m n o p q = absurd q
-counts_on (Some x) (Some y) (Some z) m n o p q = p ∙ q
+left_on : (a b c : Option (List ℕ)) (m n o : ℕ) → CountsLeft a b m n → CountsLeft b c n o → CountsLeft a c m o
+left_on None b c m n o p q = tt
+left_on (Some x) None c m n o p q = absurd p
+left_on (Some x) (Some y) None m n o p q = absurd q
+left_on (Some x) (Some y) (Some z) m n o p q = p ∙ q
 
-pub counts_fill : (a b : Option (List ℕ)) (xs : List ℕ) (m n : ℕ) → Consumes a b xs → n ≡ m + length xs → CountsBytes a b m n
-counts_fill None b xs m n c is = tt
-counts_fill (Some x) None xs m n c is = absurd c
-counts_fill (Some x) (Some y) xs m n c is = omega (arith, ap length c, length-append xs y, is)
+left_fill : (a b : Option (List ℕ)) (xs : List ℕ) (m n : ℕ) → Consumes a b xs → n ≡ m + length xs → CountsLeft a b m n
+left_fill None b xs m n c is = tt
+left_fill (Some x) None xs m n c is = absurd c
+left_fill (Some x) (Some y) xs m n c is = omega (arith, ap length c, length-append xs y, is)
 
-pub beyond : (a b : Option (List ℕ)) (m n : ℕ) → CountsBytes a b m n → 2 ^ 32 ≤ n → IsBeyond a m
-beyond None b m n c le = tt
-beyond (Some x) None m n c le = absurd c
-beyond (Some x) (Some y) m n c le = omega (arith, c, le)
+-- the input's count, by the reader's
+went_none : (t n : ℕ) → WentUp t t (n - n)
+went_none t n = (omega arith, omega arith)
 
-pub beyond_on : (a b : Option (List ℕ)) (m n : ℕ) → CountsBytes a b m n → IsBeyond b n → IsBeyond a m
-beyond_on None b m n c le = tt
-beyond_on (Some x) None m n c le = absurd c
-beyond_on (Some x) (Some y) m n c le = omega (arith, c, le)
+went_on : (a b c m n o : ℕ) → m ≤ n → n ≤ o → WentUp a b (n - m) → WentUp b c (o - n) → WentUp a c (o - m)
+went_on a b c m n o le le2 p q = (omega (arith, p.0, q.0), omega (arith, p.1, q.1))
+
+many_now : (t n : ℕ) → 2 ^ 32 ≤ n → min (t + (2 ^ 32 - n)) (2 ^ 64 - 1) ≤ t
+many_now t n le = omega arith
+
+many_on : (a b c m n : ℕ) → m ≤ n → WentUp a b (n - m) → min (b + (2 ^ 32 - n)) (2 ^ 64 - 1) ≤ c → min (a + (2 ^ 32 - m)) (2 ^ 64 - 1) ≤ c
+many_on a b c m n le p q = omega (arith, p.1, q)
+
+pub counts_none : (a : Input) (n : ℕ) → CountsBytes a a n n
+counts_none a n = record { left = left_none a.left n; grew = omega arith; took = went_none a.taken n }
+
+pub counts_on : (a b c : Input) (m n o : ℕ) → CountsBytes a b m n → CountsBytes b c n o → CountsBytes a c m o
+counts_on a b c m n o p q = record {
+  left = left_on a.left b.left c.left m n o p.left q.left;
+  grew = omega (arith, p.grew, q.grew);
+  took = went_on a.taken b.taken c.taken m n o p.grew q.grew p.took q.took;
+}
+
+pub counts_fill : (a b : Input) (xs : List ℕ) (m n : ℕ) → Consumes a.left b.left xs → n ≡ m + length xs → Took a b (length xs) → CountsBytes a b m n
+counts_fill a b xs m n c is t =
+    let by : length xs ≡ n - m = omega (arith, is) in
+    record { left = left_fill a.left b.left xs m n c is; grew = omega (arith, is); took = subst (λ (k : ℕ). WentUp a.taken b.taken k) by t }
+
+long_now : (a : Option (List ℕ)) (n : ℕ) → 2 ^ 32 ≤ n → IfSome a (λ rest. 2 ^ 32 ≤ n + length rest)
+long_now None n le = tt
+long_now (Some rest) n le = omega (arith, le)
+
+long_on : (a b : Option (List ℕ)) (m n : ℕ) → CountsLeft a b m n → IfSome b (λ rest. 2 ^ 32 ≤ n + length rest) → IfSome a (λ rest. 2 ^ 32 ≤ m + length rest)
+long_on None b m n c le = tt
+long_on (Some x) None m n c le = absurd c
+long_on (Some x) (Some y) m n c le = omega (arith, c, le)
+
+pub beyond_now : (a : Input) (n : ℕ) → 2 ^ 32 ≤ n → IsBeyond a a n
+beyond_now a n le = record { long = long_now a.left n le; many = many_now a.taken n le }
+
+pub beyond_on : (a b c : Input) (m n : ℕ) → CountsBytes a b m n → IsBeyond b c n → IsBeyond a c m
+beyond_on a b c m n p q = record {
+  long = long_on a.left b.left m n p.left q.long;
+  many = many_on a.taken b.taken c.taken m n p.grew p.took q.many;
+}
 
 -- no read yet
 pub read_same : (k : Course) (ended : Bool) → IsReadOn k ended k

@@ -1,11 +1,11 @@
 -- A line that was written whole, or not.
 use Rattle.std.proofs.Common.{◌≡◌, ℕ, List, Option, Result, Ok, Err, IsErrAnd, sym, ◌∙◌, subst, length, take, take_all, arith}
 use Rattle.std.specs.Io.KnownBytes.{Appends}
-use Rattle.spec_world.specs.pr_outside.Ends.{StopsBy, WriteEnds, no_row}
-use Rattle.spec_world.specs.pr_outside.Meant.{Output}
-use Rattle.spec_world.specs.pr_outside.declared.status.status.Stop.{Stop}
-use Rattle.spec_world.specs.pr_outside.declared.status.status.Stop.TheVariants as stop
-use Rattle.spec_world.proofs.OutsideEnded.{quiet}
+use Rattle.pr_outside.specs.Ends.{StopsBy, WriteEnds, no_row}
+use Rattle.pr_outside.specs.Meant.{Output}
+use Rattle.pr_outside.specs.declared.status.status.Stop.{Stop}
+use Rattle.pr_outside.specs.declared.status.status.Stop.TheVariants as stop
+use Rattle.pr_outside.proofs.Ended.{quiet}
 
 pub whole_front : (old new : Option (List ℕ)) (text : List ℕ) → Appends old new text → Appends old new (take (length text) text)
 whole_front old new text p = subst (Appends old new) (sym (take_all (length text) text (omega arith))) p

@@ -3,9 +3,9 @@ use Rattle.std.specs.Prelude.{ℕ, List, [], ◌++◌, codes, decimal, Result, O
 use Rattle.spec_world.specs.spec_history.declared.entry.Entry.{Entry}
 use Rattle.std.specs.declared.option.Option.{Option}
 use Rattle.std.specs.Io.KnownBytes.{Appends}
-use Rattle.spec_world.specs.pr_outside.declared.keeping.Row.{Row}
-use Rattle.spec_world.specs.pr_outside.Ends.{StopPlace, at_row}
-use Rattle.spec_world.specs.pr_outside.Outside.{Outside}
+use Rattle.pr_outside.specs.spec_history.declared.row.Row.{Row}
+use Rattle.pr_outside.specs.Ends.{StopPlace, at_row}
+use Rattle.pr_outside.specs.Outside.{Outside}
 
 -- The only line where a row at the start is bad, and the last one where a run that begins anew finds
 -- one.

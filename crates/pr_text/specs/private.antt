@@ -1,3 +1,4 @@
+pub mod Keeping
 pub mod LineReading
 pub mod Plain
 pub mod Reading

@@ -1,4 +1,5 @@
-//! The texts of a run: what the lines of its script ask for, and how its answers are printed.
+//! The texts of a run: what the lines of its script ask for, and how its answers are printed; and
+//! what answers its events.
 #![tactic(auto)]
 
 mod evaluated;
@@ -10,6 +11,7 @@ pub mod reader;
 mod rows;
 pub mod script;
 mod values;
+mod worlds;
 
 // What crates above name of those below.
 pub mod time {
@@ -33,7 +35,7 @@ pub mod rulefile {
 }
 
 pub mod world {
-    pub use spec_world::{Event, NamedFile, Report, Worlds};
+    pub use spec_world::{Event, NamedFile, Report};
 }
 
 pub use examples::{
@@ -44,3 +46,4 @@ pub use notices::{push_batch, push_joined, push_no_receiver};
 pub use printed::{push_bad_line, push_query_fault, push_report};
 pub use rows::{bad_row_of, tell_bad_row, tell_opened};
 pub use values::push_value;
+pub use worlds::Worlds;

@@ -1,17 +1,17 @@
 // The lines that commands begin with, and that of a bad row.
 ghost use Rattle.std.specs.Prelude.{◌≡◌, ◌≢◌, ◌++◌, ℕ, take, IfSome, IfNone, OnOk};
 ghost use Rattle.std.specs.Io.KnownBytes.{Appends};
-ghost use Rattle.spec_world.specs.pr_outside.Ends.{WriteEnds};
-ghost use Rattle.spec_world.specs.pr_outside.declared.status.status.Stop.TheVariants as stop;
+ghost use Rattle.pr_outside.specs.Ends.{WriteEnds};
+ghost use Rattle.pr_outside.specs.declared.status.status.Stop.TheVariants as stop;
 ghost use Rattle.pr_text.specs.BadRows.{bad_row_text};
 ghost use Rattle.pr_text.specs.Printed.{shown_report};
 ghost use Rattle.spec_world.specs.declared.report.Report.TheVariants.{Opened};
 
 use crate::printed::push_report;
+use pr_outside::Sink;
+use pr_outside::status::{Stop, send};
 use pr_words::push_number;
 use spec_world::Report;
-use spec_world::outside::Sink;
-use spec_world::outside::status::{Stop, send};
 use std::alloc::{AllocError, Global};
 
 /// Writes the line that a command begins with which opened a store of so many rows.

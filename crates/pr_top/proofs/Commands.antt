@@ -1,14 +1,15 @@
 -- What each command promises, by how it ended; and the cause of its status.
-use Rattle.std.proofs.Common.{◌≡◌, ◌≢◌, ℕ, ◌<◌, ◌≤◌, ◌^◌, Bool, true, false, List, [], Option, None, Some, IfSome, Result, Ok, Err, IfOk, OnOk, inl, inr, refl, sym, ap, ◌∙◌, subst, length, take, take_all, arith}
+use Rattle.std.proofs.Common.{◌≡◌, ◌≢◌, ℕ, ◌<◌, ◌≤◌, ◌^◌, Bool, true, false, List, [], Option, None, Some, IfSome, Result, Ok, Err, IfOk, OnOk, inl, inr, refl, sym, ap, ◌∙◌, subst, length, map, drop, take, take_all, arith}
 use Rattle.std.specs.Io.KnownBytes.{Appends}
 use Rattle.pr_engine.specs.spec_history.declared.entry.Entry.{Entry}
 use Rattle.pr_outside.specs.Causes.{IsCalm, Rose}
-use Rattle.pr_outside.specs.declared.keeping.Row.{Row}
+use Rattle.pr_outside.specs.spec_history.declared.row.Row.{Row}
 use Rattle.pr_engine.specs.spec_history.Histories.{history_of}
 use Rattle.pr_outside.specs.Ends.{Ends, KnowsLength, StopsBy, no_row, place_of, status_of, stop_status}
 use Rattle.pr_outside.specs.Opening.{OpensBy}
 use Rattle.pr_outside.specs.Outside.{Outside, AreCalm, AreTold, Held}
-use Rattle.pr_outside.specs.Status.{HasCause, IsLong, verdict}
+use Rattle.pr_outside.specs.Status.{HasCause, IsTooLong, status_number, verdict}
+use Rattle.pr_outside.specs.Words.{word_of}
 use Rattle.pr_outside.specs.declared.status.status.Status.{Status}
 use Rattle.pr_outside.specs.declared.status.status.Status.TheVariants as status
 use Rattle.pr_outside.specs.declared.status.status.Stop.{Stop}
@@ -25,13 +26,13 @@ use Rattle.pr_backfill.specs.pr_checks.Metrics.{metrics_told}
 use Rattle.pr_backfill.specs.pr_checks.RuleFiles.{rules_told}
 use Rattle.pr_test.specs.TestsTold.{tests_told}
 use Rattle.pr_backfill.specs.pr_text.BadRows.{TellsRow, bad_row_text}
-use Rattle.pr_engine.specs.spec_history.Stores.{IsBadIn, OverRows}
+use Rattle.pr_outside.specs.Stores.{IsBadIn, OverRows, StartsTelling}
 use Rattle.pr_run.specs.Runs.{EndsBy, EndsInto, EndsOver, IsStopped, IsWholeRun, MeansRun, RunsBy}
 use Rattle.pr_run.specs.Told.{answers_to, asks_of, refuses}
 use Rattle.pr_exercise.specs.Means.{MeansExercise, exercise_status}
 use Rattle.pr_backfill.specs.Means.{MeansBackfill}
 use Rattle.pr_top.specs.Command.{Command, runs, tests_rules, checks_rules, checks_metrics, exercises, backfills}
-use Rattle.pr_top.specs.Means.{HasBadRow, MeansCommand, MeansUsage, usage_status}
+use Rattle.pr_top.specs.Means.{EndsLine, HasBadRow, MeansCommand, MeansUsage, usage_status}
 use Rattle.pr_top.specs.Usage.{usage_text}
 
 -- `run`
@@ -55,46 +56,46 @@ calm_run bad long before now stop.Memory calm c = by_memory refl
 calm_run bad long before now stop.TooLong calm c = by_length refl c.1
 
 module _ (before now : Outside) (bytes : List ℕ) (is : before.input.left ≡ Some bytes) (result : Status) (bad : ℕ → Type 0) where
-  told_by : (history : List Entry) (r : Result Bool Stop) → result ≡ status_of r → Ends bad (IsLong before.input.left) before now r → EndsOver history bytes before now r
+  told_by : (history : List Entry) (r : Result Bool Stop) → result ≡ status_of r → Ends bad (IsTooLong before.input now.input) before now r → EndsOver history bytes before now r
       → (held : Held) → AreTold before.files.content held (asks_of (answers_to held history bytes)) → length bytes < 2 ^ 32 → AreCalm before now → result ≢ status.Memory
       → (result ≡ verdict (refuses held history bytes)) × IsWholeRun held history bytes before now (refuses held history bytes)
   told_by history (Ok came) answer e o held told few calm some =
       let whole = o.whole held told in
       (answer ∙ status_is came ∙ ap verdict whole.refused, subst (IsWholeRun held history bytes before now) whole.refused whole)
-  told_by history (Err s) answer e o held told few calm some = by (calm_run bad (IsLong before.input.left) before now s calm e.cause)
+  told_by history (Err s) answer e o held told few calm some = by (calm_run bad (IsTooLong before.input now.input) before now s calm e.cause)
     where
-      by : CalmStop bad (IsLong before.input.left) s → (result ≡ verdict (refuses held history bytes)) × IsWholeRun held history bytes before now (refuses held history bytes)
+      by : CalmStop bad (IsTooLong before.input now.input) s → (result ≡ verdict (refuses held history bytes)) × IsWholeRun held history bytes before now (refuses held history bytes)
       by (by_memory m) = absurd (some (answer ∙ ap stop_status m))
-      by (by_length l long) = absurd (long_not_short bytes before.input.left is few long)
+      by (by_length l long) = absurd (long_not_short bytes before.input.left is few long.0)
       by (by_row index m b) = absurd (o.fine index (ap (λ (z : Stop). Err z) m))
 
-  long_by : (history : List Entry) (r : Result Bool Stop) → result ≡ status_of r → Ends bad (IsLong before.input.left) before now r → KnowsLength before.input.left r
+  long_by : (history : List Entry) (r : Result Bool Stop) → result ≡ status_of r → Ends bad (IsTooLong before.input now.input) before now r → KnowsLength before.input now.input r
       → EndsOver history bytes before now r → 2 ^ 32 ≤ length bytes → AreCalm before now → result ≢ status.Memory → result ≡ status.TooLong
-  long_by history (Ok came) answer e k o many calm some = absurd (omega (arith, many, at_told before.input.left (λ b. length b < 2 ^ 32) bytes is k))
-  long_by history (Err s) answer e k o many calm some = by (calm_run bad (IsLong before.input.left) before now s calm e.cause)
+  long_by history (Ok came) answer e k o many calm some = absurd (omega (arith, many, at_told before.input.left (λ b. length b < 2 ^ 32) bytes is k.0))
+  long_by history (Err s) answer e k o many calm some = by (calm_run bad (IsTooLong before.input now.input) before now s calm e.cause)
     where
-      by : CalmStop bad (IsLong before.input.left) s → result ≡ status.TooLong
+      by : CalmStop bad (IsTooLong before.input now.input) s → result ≡ status.TooLong
       by (by_memory m) = absurd (some (answer ∙ ap stop_status m))
       by (by_length l long) = answer ∙ ap stop_status l
       by (by_row index m b) = absurd (o.fine index (ap (λ (z : Stop). Err z) m))
 
-  into_by : (index : ℕ) (rows : List Row) (r : Result Bool Stop) → result ≡ status_of r → Ends bad (IsLong before.input.left) before now r → EndsInto index rows before now r
+  into_by : (index : ℕ) (rows : List Row) (r : Result Bool Stop) → result ≡ status_of r → Ends bad (IsTooLong before.input now.input) before now r → EndsInto index rows before now r
       → AreCalm before now → result ≢ status.Memory → (result ≡ status.StoreFault) × Appends before.out.taken now.out.taken (bad_row_text index)
   into_by index rows (Ok came) answer e o calm some = absurd o.stopped
-  into_by index rows (Err s) answer e o calm some = by (calm_run bad (IsLong before.input.left) before now s calm e.cause)
+  into_by index rows (Err s) answer e o calm some = by (calm_run bad (IsTooLong before.input now.input) before now s calm e.cause)
     where
       whole : (at : ℕ) → s ≡ stop.BadRow at → Appends before.out.taken now.out.taken (bad_row_text index)
       whole at m =
           let line = o.front.line at (ap (λ (z : Stop). place_of {T = Bool} (Err z)) m) in
           subst (Appends before.out.taken now.out.taken) (take_all o.front.count (bad_row_text index) line.1) o.front.text
 
-      by : CalmStop bad (IsLong before.input.left) s → (result ≡ status.StoreFault) × Appends before.out.taken now.out.taken (bad_row_text index)
+      by : CalmStop bad (IsTooLong before.input now.input) s → (result ≡ status.StoreFault) × Appends before.out.taken now.out.taken (bad_row_text index)
       by (by_memory m) = absurd (some (answer ∙ ap stop_status m))
       by (by_length l long) = absurd (subst (λ (z : Stop). IsStopped (Err z)) l o.stopped)
       by (by_row at m b) = (answer ∙ ap stop_status m, whole at m)
 
-  runs_by : (told : Result (List Entry) ℕ) (rows : List Row) (r : Result Bool Stop) → result ≡ status_of r → Ends bad (IsLong before.input.left) before now r
-      → KnowsLength before.input.left r → EndsBy told rows bytes before now r → RunsBy told rows bytes before now r result
+  runs_by : (told : Result (List Entry) ℕ) (rows : List Row) (r : Result Bool Stop) → result ≡ status_of r → Ends bad (IsTooLong before.input now.input) before now r
+      → KnowsLength before.input now.input r → EndsBy told rows bytes before now r → RunsBy told rows bytes before now r result
   runs_by (Ok history) rows r answer e k o = record {
     done = o;
     told = λ held told few calm some. told_by history r answer e o held told few calm some;
@@ -110,17 +111,18 @@ if_bytes : (o : Option (List ℕ)) (P Q : List ℕ → Type 0) → ((bytes : Lis
 if_bytes None P Q f p = tt
 if_bytes (Some bytes) P Q f p = f bytes refl p
 
-pub means_run : (path : List ℕ) (before now : Outside) (r : Result Bool Stop) (result : Status) → result ≡ status_of r → Ends (IsBadIn now.store) (IsLong before.input.left) before now r
-    → OpensBy path before.store.paths now.store.paths r → KnowsLength before.input.left r → ((index : ℕ) → r ≡ Err (stop.BadRow index) → TellsRow index before.out.taken now.out.taken)
+pub means_run : (path : List ℕ) (before now : Outside) (r : Result Bool Stop) (result : Status) → result ≡ status_of r → Ends (IsBadIn now.store) (IsTooLong before.input now.input) before now r
+    → OpensBy path before.store.paths now.store.paths r → KnowsLength before.input now.input r → ((index : ℕ) → r ≡ Err (stop.BadRow index) → TellsRow index before.out.taken now.out.taken) → StartsTelling before.store now.store r
     → IfSome now.store.rows (λ all. IfSome before.input.left (λ bytes. OverRows before.store.rows all (λ rows. EndsBy (history_of rows) rows bytes before now r)))
     → MeansRun path before now result
-means_run path before now r result answer e opens k row over = record {
+means_run path before now r result answer e opens k row tells over = record {
   ending = r;
   answer = answer;
   ends = e;
   opens = opens;
   known = k;
   row = row;
+  tells = tells;
   over = if_rows now.store.rows
       (λ all. IfSome before.input.left (λ bytes. OverRows before.store.rows all (λ rows. EndsBy (history_of rows) rows bytes before now r)))
       (λ all. IfSome before.input.left (λ bytes. OverRows before.store.rows all (λ rows. RunsBy (history_of rows) rows bytes before now r result)))
@@ -163,42 +165,42 @@ no_bad index bad = bad
 run_cause : (path : List ℕ) (before now : Outside) (result : Status) → MeansRun path before now result → HasCause ((index : ℕ) × IsBadIn now.store index) before now result
 run_cause path before now result m =
     subst (HasCause ((index : ℕ) × IsBadIn now.store index) before now) (sym m.answer)
-    (ending_cause (IsBadIn now.store) ((index : ℕ) × IsBadIn now.store index) (IsLong before.input.left) before now m.ending (λ index bad. (index, bad)) m.ends)
+    (ending_cause (IsBadIn now.store) ((index : ℕ) × IsBadIn now.store index) (IsTooLong before.input now.input) before now m.ending (λ index bad. (index, bad)) (λ long. long.1) m.ends)
 
 files_cause : (telling : Telling) (names : List (List ℕ)) (before now : Outside) (result : Status) → MeansFileCheck telling names before now result
     → HasCause ⊥ before now result
 files_cause telling names before now result m =
-    subst (HasCause ⊥ before now) (sym m.answer) (ending_cause no_row ⊥ ⊥ before now m.ending no_bad m.ends)
+    subst (HasCause ⊥ before now) (sym m.answer) (ending_cause no_row ⊥ ⊥ before now m.ending no_bad (λ never. absurd never) m.ends)
 
-check_cause : (long : Type 0) (before now : Outside) (r : Result Verdict Stop) → Ends no_row long before now r → HasCause ⊥ before now (ends_by r)
-check_cause long before now (Ok Good) e = e.cause
-check_cause long before now (Ok Complaints) e = e.cause
-check_cause long before now (Ok Refused) e = e.cause
-check_cause long before now (Err s) e = stop_cause Verdict no_row ⊥ long before now s no_bad e.cause
+check_cause : (before now : Outside) (r : Result Verdict Stop) → Ends no_row (IsTooLong before.input now.input) before now r → HasCause ⊥ before now (ends_by r)
+check_cause before now (Ok Good) e = e.cause
+check_cause before now (Ok Complaints) e = e.cause
+check_cause before now (Ok Refused) e = e.cause
+check_cause before now (Err s) e = stop_cause Verdict no_row ⊥ (IsTooLong before.input now.input) before now s no_bad (λ long. long.1) e.cause
 
 input_cause : (telling : List ℕ → Checked) (before now : Outside) (result : Status) → MeansInputCheck telling before now result → HasCause ⊥ before now result
 input_cause telling before now result m =
-    subst (HasCause ⊥ before now) (sym m.answer) (check_cause (IsLong before.input.left) before now m.ending m.ends)
+    subst (HasCause ⊥ before now) (sym m.answer) (check_cause before now m.ending m.ends)
 
 usage_cause : (text : List ℕ) (before now : Outside) (result : Status) → MeansUsage text before now result → HasCause ⊥ before now result
 usage_cause text before now result m = subst (HasCause ⊥ before now) (sym m.answer) (by m.ending m.ends)
   where
     by : (r : Result Unit Stop) → Ends no_row ⊥ before now r → HasCause ⊥ before now (usage_status r)
     by (Ok done) e = e.cause
-    by (Err s) e = stop_cause Unit no_row ⊥ ⊥ before now s no_bad e.cause
+    by (Err s) e = stop_cause Unit no_row ⊥ ⊥ before now s no_bad (λ never. absurd never) e.cause
 
 exercise_cause : (rounds : ℕ) (before now : Outside) (result : Status) → MeansExercise rounds before now result → HasCause ((index : ℕ) × IsBadIn now.store index) before now result
 exercise_cause rounds before now result m = subst (HasCause ((index : ℕ) × IsBadIn now.store index) before now) (sym m.answer) (by m.ending m.ends)
   where
     by : (r : Result Unit Stop) → Ends (IsBadIn now.store) ⊥ before now r → HasCause ((index : ℕ) × IsBadIn now.store index) before now (exercise_status r)
     by (Ok done) e = e.cause
-    by (Err s) e = stop_cause Unit (IsBadIn now.store) ((index : ℕ) × IsBadIn now.store index) ⊥ before now s (λ index bad. (index, bad)) e.cause
+    by (Err s) e = stop_cause Unit (IsBadIn now.store) ((index : ℕ) × IsBadIn now.store index) ⊥ before now s (λ index bad. (index, bad)) (λ never. absurd never) e.cause
 
 backfill_cause : (path times : List ℕ) (names : List (List ℕ)) (before now : Outside) (result : Status) → MeansBackfill path times names before now result
     → HasCause ((index : ℕ) × IsBadIn now.store index) before now result
 backfill_cause path times names before now result m =
     subst (HasCause ((index : ℕ) × IsBadIn now.store index) before now) (sym m.answer)
-    (ending_cause (IsBadIn now.store) ((index : ℕ) × IsBadIn now.store index) ⊥ before now m.ending (λ index bad. (index, bad)) m.ends)
+    (ending_cause (IsBadIn now.store) ((index : ℕ) × IsBadIn now.store index) ⊥ before now m.ending (λ index bad. (index, bad)) (λ never. absurd never) m.ends)
 
 pub command_cause : (c : Option Command) (before now : Outside) (result : Status) → MeansCommand c before now result → HasCause (HasBadRow c now.store) before now result
 command_cause None before now result m = usage_cause usage_text before now result m
@@ -208,3 +210,8 @@ command_cause (Some (checks_rules names)) before now result m = files_cause rule
 command_cause (Some checks_metrics) before now result m = input_cause metrics_told before now result m
 command_cause (Some (exercises rounds)) before now result m = exercise_cause rounds before now result m
 command_cause (Some (backfills path times names)) before now result m = backfill_cause path times names before now result m
+
+-- Memory does not suffice for the words of the process
+pub ends_unread : (line : Option (List (List ℕ))) (before : Outside) (number : ℕ) → number ≡ status_number status.Memory → EndsLine line before before number
+ends_unread None before number is = record { words = []; known = tt; result = status.Memory; numbered = is; means = inr (refl, refl) }
+ends_unread (Some all) before number is = record { words = map word_of (drop 1 all); known = refl; result = status.Memory; numbered = is; means = inr (refl, refl) }

@@ -2,6 +2,7 @@ pub mod Usage
 pub mod Command
 pub mod Words
 pub mod Means
+pub mod private
 pub use Rattle.pr_backfill.specs.pr_text as pr_text
 pub use Rattle.pr_run.specs.spec_world as spec_world
 pub use Rattle.pr_engine.specs as pr_engine

@@ -3,6 +3,7 @@
 
 mod command;
 pub mod program;
+mod run_engine;
 mod top;
 
 // What crates above name of those below.

@@ -13,10 +13,10 @@ ghost use Rattle.pr_top.specs.Usage.{usage_text};
 ghost use Rattle.pr_top.specs.Words.{asked_by};
 
 use super::command::{Command, command_of};
+use crate::run_engine::RunEngine;
 use pr_backfill::backfill_command::backfill;
 use pr_backfill::checks::{Metrics, RuleFiles};
 use pr_backfill::world::Worlds;
-use pr_engine::RunEngine;
 use pr_exercise::exercise;
 use pr_outside::check_loops::{check_files, check_input};
 use pr_outside::status::{Status, send, status_of};

@@ -7,4 +7,3 @@ pub mod Offers
 pub use Rattle.spec_history.proofs.Choosing as HistoryChoosing
 pub use Rattle.spec_history.proofs.Lawful as HistoryLawful
 pub use Rattle.spec_history.proofs.Putting as HistoryPutting
-pub use Rattle.spec_history.proofs.StoredRows as HistoryStoredRows

@@ -8,7 +8,7 @@ use Rattle.spec_history.specs.declared.append.Append.{Append}
 use Rattle.spec_history.specs.declared.append.Append.TheVariants.{Added, Same, OutOfOrder, Conflict}
 use Rattle.spec_history.specs.declared.entry.Entry.{Entry}
 use Rattle.spec_history.proofs.Lawful.{after_more}
-use Rattle.pr_outside.specs.declared.keeping.Row.{Row}
+use Rattle.spec_history.specs.declared.row.Row.{Row}
 use Rattle.spec_history.specs.Rows.{encoded, decoded, IsEntry}
 use Rattle.spec_history.specs.Histories.{taken_by, history_after, history_of}
 use Rattle.spec_history.proofs.RowLaws.{entry_back}

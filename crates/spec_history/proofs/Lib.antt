@@ -6,11 +6,8 @@ mod PointTexts
 mod RowLaws
 mod Answered
 mod HistoryLaws
-pub mod StoredRows
 pub use Rattle.pr_labels.proofs.Elements as LabelsElements
 pub use Rattle.pr_labels.proofs.LabelLaws as LabelsLabelLaws
 pub use Rattle.pr_labels.proofs.LabelMaps as LabelsLabelMaps
 pub use Rattle.pr_labels.proofs.LabelOrder as LabelsLabelOrder
 pub use Rattle.pr_labels.proofs.Sorted as LabelsSorted
-pub use Rattle.pr_outside.proofs.Ended as OutsideEnded
-pub use Rattle.pr_outside.proofs.Walks as OutsideWalks

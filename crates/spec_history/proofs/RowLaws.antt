@@ -12,7 +12,7 @@ use Rattle.pr_labels.specs.SeriesText.{series_text}
 use Rattle.pr_labels.proofs.SeriesWritten.{written_reads}
 use Rattle.pr_labels.proofs.SeriesEnds.{reading_given}
 use Rattle.spec_history.specs.declared.entry.Entry.{Entry}
-use Rattle.pr_outside.specs.declared.keeping.Row.{Row}
+use Rattle.spec_history.specs.declared.row.Row.{Row}
 use Rattle.spec_history.specs.Points.{IsFitPoint, shown_point}
 use Rattle.spec_history.proofs.PointTexts.{point_back as named_back}
 use Rattle.spec_history.specs.Rows.{encoded, decoded, entry_of, labels_in, point_in, time_in, printed_labels, printed_point, IsEntry}

@@ -4,7 +4,7 @@ use Rattle.spec_history.specs.Admission.{admit}
 use Rattle.spec_history.specs.declared.append.Append.{Append}
 use Rattle.spec_history.specs.declared.append.Append.TheVariants.{Added, Same, OutOfOrder, Conflict}
 use Rattle.spec_history.specs.declared.entry.Entry.{Entry}
-use Rattle.pr_outside.specs.declared.keeping.Row.{Row}
+use Rattle.spec_history.specs.declared.row.Row.{Row}
 use Rattle.spec_history.specs.Rows.{decoded}
 
 -- what is told later, where the row with this index is added; else that index

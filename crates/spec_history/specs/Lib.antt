@@ -5,9 +5,7 @@ pub mod Puts
 pub mod Points
 pub mod Rows
 pub mod Histories
-pub mod Stores
 pub mod private
 pub use Rattle.pr_num.specs as pr_num
 pub use Rattle.pr_time.specs as pr_time
 pub use Rattle.pr_labels.specs as pr_labels
-pub use Rattle.pr_outside.specs as pr_outside

@@ -7,7 +7,7 @@ use Rattle.pr_labels.specs.LabelSet.{IsLabelSet}
 use Rattle.pr_labels.specs.SeriesText.{series_text}
 use Rattle.pr_labels.specs.SeriesReading.{series_labels}
 use Rattle.spec_history.specs.declared.entry.Entry.{Entry}
-use Rattle.pr_outside.specs.declared.keeping.Row.{Row}
+use Rattle.spec_history.specs.declared.row.Row.{Row}
 use Rattle.spec_history.specs.Points.{IsFitPoint, shown_point, point_of}
 
 -- The row of an entry: the printed label set, the time, and the printed value or `stale`.

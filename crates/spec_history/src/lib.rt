@@ -12,7 +12,7 @@ mod spot;
 
 // What crates above name of those below.
 pub mod words_crate {
-    pub use pr_outside::words_crate::{Items, Steps, Text};
+    pub use pr_labels::words_crate::{Items, Steps, Text};
 }
 
 pub mod num {
@@ -26,12 +26,6 @@ pub mod time {
 pub mod labels {
     pub use pr_labels::{
         Card, Grouping, Item, Labels, METRIC_LABEL, Matching, Pair, copy_pairs, ordered,
-    };
-}
-
-pub mod outside {
-    pub use pr_outside::{
-        FileContent, Files, KeepError, Keeper, Row, Sink, Source, check_loops, loading, status,
     };
 }
 

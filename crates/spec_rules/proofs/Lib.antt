@@ -9,4 +9,3 @@ pub mod Rounds
 pub use Rattle.spec_alerts.proofs.HistoryChoosing
 pub use Rattle.spec_alerts.proofs.HistoryLawful
 pub use Rattle.spec_alerts.proofs.HistoryPutting
-pub use Rattle.spec_alerts.proofs.HistoryStoredRows

@@ -10,9 +10,6 @@ pub use Rattle.spec_history.proofs.LabelsElements
 pub use Rattle.spec_history.proofs.LabelsLabelMaps
 pub use Rattle.spec_history.proofs.LabelsLabelOrder
 pub use Rattle.spec_history.proofs.LabelsSorted
-pub use Rattle.spec_history.proofs.OutsideEnded
-pub use Rattle.spec_history.proofs.OutsideWalks
 pub use Rattle.spec_history.proofs.Choosing as HistoryChoosing
 pub use Rattle.spec_history.proofs.Lawful as HistoryLawful
 pub use Rattle.spec_history.proofs.Putting as HistoryPutting
-pub use Rattle.spec_history.proofs.StoredRows as HistoryStoredRows

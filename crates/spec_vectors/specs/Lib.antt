@@ -13,5 +13,4 @@ pub mod Ranges
 pub mod private
 pub use Rattle.pr_num.specs as pr_num
 pub use Rattle.spec_history.specs.pr_labels as pr_labels
-pub use Rattle.spec_history.specs.pr_outside as pr_outside
 pub use Rattle.spec_history.specs as spec_history

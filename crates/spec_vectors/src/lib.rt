@@ -29,12 +29,6 @@ pub mod labels {
     pub use spec_history::labels::{Card, Grouping, Item, Labels, METRIC_LABEL, Matching, ordered};
 }
 
-pub mod outside {
-    pub use spec_history::outside::{
-        FileContent, Files, Keeper, Sink, Source, check_loops, loading, status,
-    };
-}
-
 pub mod history {
     pub use spec_history::{Append, Entry, Spot, row};
 }

@@ -11,7 +11,6 @@ pub mod private
 pub use Rattle.pr_num.specs as pr_num
 pub use Rattle.pr_ast.specs.pr_labels as pr_labels
 pub use Rattle.pr_match.specs as pr_match
-pub use Rattle.spec_vectors.specs.pr_outside as pr_outside
 pub use Rattle.pr_types.specs as pr_types
 pub use Rattle.pr_rulefile.specs.pr_parse as pr_parse
 pub use Rattle.spec_rules.specs.pr_tmpl as pr_tmpl

@@ -11,7 +11,6 @@ mod scrape_examples;
 mod scrape_laws;
 mod scraped;
 mod target_examples;
-mod worlds;
 
 // What crates above name of those below.
 pub mod num {
@@ -24,12 +23,6 @@ pub mod time {
 
 pub mod labels {
     pub use pr_ast::labels::{Item, Labels, METRIC_LABEL, Pair, series};
-}
-
-pub mod outside {
-    pub use spec_vectors::outside::{
-        FileContent, Files, Sink, Source, check_loops, loading, status,
-    };
 }
 
 pub mod types {
@@ -105,4 +98,3 @@ pub use target_examples::{
     a_sample_is_found_under_its_target, a_scrape_answers_by_its_counts,
     an_end_without_a_target_gives_nothing, nothing_is_tracked_after_a_failure,
 };
-pub use worlds::Worlds;

@@ -4,7 +4,7 @@ ghost use Rattle.pr_labels.specs.LabelSet.{IsLabelSet};
 ghost use Rattle.pr_labels.specs.declared.pair.Pair.{Pair};
 ghost use Rattle.pr_num.specs.declared.value.Point.{Point};
 ghost use Rattle.spec_history.specs.declared.entry.Entry.{Entry};
-ghost use Rattle.pr_outside.specs.declared.keeping.Row.{Row};
+ghost use Rattle.pr_outside.specs.spec_history.declared.row.Row.{Row};
 ghost use Rattle.spec_history.specs.private.Laws.{AreEntries};
 ghost use Rattle.spec_history.specs.Histories.{history_of};
 ghost use Rattle.spec_history.specs.Points.{IsFitPoint};

@@ -2,14 +2,14 @@
 use Rattle.std.specs.Prelude.{◌≡◌, ℕ, List, ◌++◌, fold, length, slice_set}
 use Rattle.spec_rules.specs.spec_history.declared.entry.Entry.{Entry}
 use Rattle.spec_rules.specs.private.Times.{IsAfterAll}
-use Rattle.pr_manager.specs.pr_head.private.Intake.{Series}
-use Rattle.pr_manager.specs.pr_range.private.Asks.{LastAsks, Passed}
+use Rattle.pr_engine.specs.pr_head.private.Intake.{Series}
+use Rattle.pr_engine.specs.pr_range.private.Asks.{LastAsks, Passed}
 use Rattle.spec_rules.specs.Evaluations.{group_step}
 use Rattle.spec_rules.specs.Groups.{Group}
 use Rattle.spec_rules.specs.Settings.{Settings}
-use Rattle.pr_manager.specs.pr_group.private.Keeping.{KeptGroup}
-use Rattle.pr_manager.specs.private.Coming.{history_with}
-use Rattle.pr_manager.specs.private.Keeping.{HasGoneOn, KeepEach, KeepsUnder}
+use Rattle.pr_engine.specs.pr_group.private.Keeping.{KeptGroup}
+use Rattle.pr_engine.specs.pr_manager.private.Coming.{history_with}
+use Rattle.pr_engine.specs.pr_manager.private.Keeping.{HasGoneOn, KeepEach, KeepsUnder}
 use Rattle.pr_backfill.specs.declared.stepped.Stepped.{Stepped}
 use Rattle.pr_backfill.specs.Filled.{Round, one_group, round_at, stepped}
 

@@ -5,14 +5,15 @@ use Rattle.std.specs.List.{AllByRecursion}
 use Rattle.spec_rules.specs.spec_history.declared.entry.Entry.{Entry}
 use Rattle.pr_outside.specs.Meant.{Output, Store}
 use Rattle.spec_rules.specs.private.Times.{IsAfterAll}
-use Rattle.pr_manager.specs.pr_range.private.Asks.{LastAsks, Passed}
+use Rattle.pr_engine.specs.pr_range.private.Asks.{LastAsks, Passed}
 use Rattle.spec_rules.specs.Groups.{Group}
-use Rattle.pr_manager.specs.pr_head.private.Rows.{TellsOf, HoldsAll}
+use Rattle.pr_engine.specs.private.Rows.{TellsOf, HoldsAll}
 use Rattle.pr_backfill.specs.Filled.{FillStep, rows_filled}
 use Rattle.pr_backfill.specs.private.Keeping.{KeepsToFill}
 use Rattle.pr_backfill.specs.Text.{begun_text, fill_text}
 use Rattle.pr_outside.specs.Ends.{Ends, no_row}
 use Rattle.pr_outside.specs.Outside.{Outside}
+use Rattle.pr_outside.specs.Stores.{KeepsTelling}
 use Rattle.pr_outside.specs.declared.status.status.Stop.{Stop}
 use Rattle.pr_backfill.specs.declared.backfill_command.filling.Filling.{Filling}
 
@@ -54,10 +55,11 @@ abbrev pub FillingFinishes : {T : Type 0} → List Entry → List FillStep → S
 FillingFinishes history steps store first taken (Ok done) = IsTold history steps store first taken
 FillingFinishes history steps store first taken (Err stop) = FillingHalts history steps store first taken
 
--- What any part of it does to the store and the output: rows that are told were told before, there are
--- not fewer, no path is opened, and its end has its cause, which is no bad row.
+-- What any part of it does to the store and the output: rows that are told were told before, and stay
+-- told; there are not fewer, no path is opened, and its end has its cause, which is no bad row.
 pub record IsPartOfFilling {T : Type 0} (before : Store) (out : Output) (now : Store) (told : Output) (result : Result T Stop) : Type 0 where
   pub some : IsSome now.rows → IsSome before.rows
+  pub tells : KeepsTelling before now result
   pub more : before.count ≤ now.count
   pub paths : now.paths ≡ before.paths
   pub ends : (others : Outside) → Ends no_row ⊥ (record others { store = before; out = out }) (record others { store = now; out = told }) result

@@ -7,14 +7,14 @@ ghost use Rattle.spec_rules.specs.Groups.{Group};
 ghost use Rattle.spec_rules.specs.Reloads.{LoadedFile};
 ghost use Rattle.spec_rules.specs.Settings.{of_a_run};
 ghost use Rattle.spec_rules.specs.private.Times.{IsAfterAll};
-ghost use Rattle.pr_manager.specs.pr_head.private.Rows.{TellsOf};
+ghost use Rattle.pr_engine.specs.private.Rows.{TellsOf};
 ghost use Rattle.pr_backfill.specs.Filled.{FillStep, at_time, filled, filled_from, groups_to_fill, round_at, rows_filled};
 ghost use Rattle.pr_backfill.specs.Means.{EndsBy};
 ghost use Rattle.pr_outside.specs.Ends.{Ends};
 ghost use Rattle.pr_outside.specs.Opening.{OpensBy};
 ghost use Rattle.pr_outside.specs.Outside.{Outside};
 ghost use Rattle.pr_outside.specs.declared.status.status.Stop.TheVariants as stop;
-ghost use Rattle.spec_rules.specs.spec_history.Stores.{IsBadIn, OverRows};
+ghost use Rattle.pr_outside.specs.Stores.{IsBadIn, OverRows, StartsTelling};
 ghost use Rattle.pr_text.specs.BadRows.{bad_row_text};
 ghost use Rattle.pr_checks.specs.private.RulesTaken.{loaded_of};
 ghost use Rattle.pr_backfill.specs.private.Endings.{ending_of};
@@ -28,8 +28,8 @@ use crate::backfill_command::times::Times;
 use crate::{Backfill, Stepped};
 use pr_ast::time::Ms;
 use pr_checks::LoadedRules;
-use pr_manager::head::Head;
-use pr_manager::range::Ranges;
+use pr_engine::head::Head;
+use pr_engine::range::Ranges;
 use pr_outside::status::Stop;
 use pr_outside::words_crate::Steps;
 use pr_outside::{Keeper, Sink};
@@ -150,6 +150,7 @@ pub(crate) fn fill<R: Ranges + Drop, K: Keeper, O: Sink>(
     ensures over { (others : Outside) → IfSome (K.means keeper.new).rows (λ all. OverRows (K.means keeper.old).rows all (λ rows. EndsBy (history_of rows) (map loaded_of files.items) times rows
         (record others { store = K.means keeper.old; out = O.means out.old }) (record others { store = K.means keeper.new; out = O.means out.new }) (ending_of result))) }
     ensures bad { (at : ℕ) → result ≡ Err (stop.BadRow at) → Appends (O.means out.old).taken (O.means out.new).taken (bad_row_text at) }
+    ensures tells { StartsTelling (K.means keeper.old) (K.means keeper.new) result }
     ensures opens { OpensBy path.now (K.means keeper.old).paths (K.means keeper.new).paths result }
     ensures unopened { (K.means keeper.new).paths ≡ (K.means keeper.old).paths → IfSome (K.means keeper.new).rows (λ rows. (K.means keeper.old).rows ≡ Some rows) }
     ensures ends { (others : Outside) → Ends (IsBadIn (K.means keeper.new)) ⊥ (record others { store = K.means keeper.old; out = O.means out.old })

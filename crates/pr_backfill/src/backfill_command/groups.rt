@@ -8,7 +8,7 @@ ghost use Rattle.pr_checks.specs.private.RulesTaken.{loaded_of};
 
 use crate::{Backfill, FileGroup};
 use pr_checks::LoadedRules;
-use pr_manager::range::Ranges;
+use pr_engine::range::Ranges;
 use pr_outside::words_crate::Text;
 use spec_rules::GroupDef;
 use std::alloc::{AllocError, Global};

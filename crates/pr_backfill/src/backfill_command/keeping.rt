@@ -8,7 +8,7 @@ ghost use Rattle.pr_backfill.specs.private.Standing.{FillingComes, IsPartOfFilli
 use crate::Stepped;
 use crate::backfill_command::telling::tell_step;
 use pr_ast::time::Ms;
-use pr_manager::head::rows::keep;
+use pr_engine::rows::keep;
 use pr_outside::status::Stop;
 use pr_outside::{Keeper, Sink};
 use std::alloc::Global;

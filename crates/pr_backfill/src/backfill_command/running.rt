@@ -1,11 +1,11 @@
 // The command `backfill`.
-ghost use Rattle.std.specs.Prelude.{◌≡◌, ℕ, List, Some, Err, IfSome, length, map, string_bytes};
+ghost use Rattle.std.specs.Prelude.{◌≡◌, ◌≢◌, ℕ, List, Some, Err, IfSome, length, map, string_bytes};
 ghost use Rattle.std.specs.Io.KnownBytes.{Appends};
 ghost use Rattle.spec_rules.specs.spec_history.Histories.{history_of};
 ghost use Rattle.pr_outside.specs.Ends.{Ends, WriteEnds};
 ghost use Rattle.pr_outside.specs.Outside.{AreTold, Held, Outside};
 ghost use Rattle.pr_outside.specs.declared.status.status.Stop.TheVariants as stop;
-ghost use Rattle.spec_rules.specs.spec_history.Stores.{IsBadIn, OverRows};
+ghost use Rattle.pr_outside.specs.Stores.{IsBadIn, KeepsTelling, OverRows, StartsTelling};
 ghost use Rattle.pr_text.specs.BadRows.{bad_row_text};
 ghost use Rattle.pr_checks.specs.RulesLoaded.{all_rules};
 ghost use Rattle.pr_checks.specs.private.RulesTaken.{loaded_of, rules_of};
@@ -14,7 +14,7 @@ ghost use Rattle.pr_backfill.specs.Means.{AsksFirst, EndsBy, EndsRefused, EndsWi
 use crate::backfill_command::filling::fill;
 use crate::backfill_command::times::Times;
 use pr_checks::{LoadedRules, Rules, load_rules};
-use pr_manager::range::Ranges;
+use pr_engine::range::Ranges;
 use pr_outside::status::{Status, Stop, send, status_of};
 use pr_outside::{Files, Keeper, Sink};
 use spec_rules::history::row::laws::rows_decode_as_their_entries;
@@ -44,6 +44,7 @@ fn fill_all<R: Ranges + Drop, K: Keeper, O: Sink>(
         (record others { store = K.means keeper.old; out = O.means out.old }) (record others { store = K.means keeper.new; out = O.means out.new }) result)) }
     ensures bad { (at : ℕ) → result ≡ Err (stop.BadRow at) → Appends (O.means out.old).taken (O.means out.new).taken (bad_row_text at) }
     ensures opens { FillOpens path.now (K.means keeper.old).paths (K.means keeper.new).paths result }
+    ensures tells { StartsTelling (K.means keeper.old) (K.means keeper.new) result }
     ensures unopened { (K.means keeper.new).paths ≡ (K.means keeper.old).paths → IfSome (K.means keeper.new).rows (λ rows. (K.means keeper.old).rows ≡ Some rows) }
     ensures ends { (others : Outside) → Ends (IsBadIn (K.means keeper.new)) ⊥ (record others { store = K.means keeper.old; out = O.means out.old })
         (record others { store = K.means keeper.new; out = O.means out.new }) result }
@@ -67,6 +68,8 @@ fn go_on<R: Ranges + Drop, K: Keeper, O: Sink>(
         (record others { store = K.means keeper.new; out = O.means out.new }) result }
     ensures bad { (at : ℕ) → result ≡ Err (stop.BadRow at) → Appends (O.means out.old).taken (O.means out.new).taken (bad_row_text at) }
     ensures opens { FillOpens path.now (K.means keeper.old).paths (K.means keeper.new).paths result }
+    ensures tells { (K.means keeper.new).paths ≢ (K.means keeper.old).paths → StartsTelling (K.means keeper.old) (K.means keeper.new) result }
+    ensures keeps { KeepsTelling (K.means keeper.old) (K.means keeper.new) result }
     ensures unopened { (K.means keeper.new).paths ≡ (K.means keeper.old).paths → IfSome (K.means keeper.new).rows (λ rows. (K.means keeper.old).rows ≡ Some rows) }
     ensures ends { (others : Outside) → Ends (IsBadIn (K.means keeper.new)) ⊥ (record others { store = K.means keeper.old; out = O.means out.old })
         (record others { store = K.means keeper.new; out = O.means out.new }) result }
@@ -98,6 +101,8 @@ fn run<R: Ranges + Drop, F: Files, K: Keeper, O: Sink>(
     ensures asked { AsksFirst (F.means files.old).calls (F.means files.new).calls (length names.now) result }
     ensures same { (other : List ℕ) → (F.means files.new).content other ≡ (F.means files.old).content other }
     ensures opens { FillOpens path.now (K.means keeper.old).paths (K.means keeper.new).paths result }
+    ensures tells { (K.means keeper.new).paths ≢ (K.means keeper.old).paths → StartsTelling (K.means keeper.old) (K.means keeper.new) result }
+    ensures keeps { KeepsTelling (K.means keeper.old) (K.means keeper.new) result }
     ensures unopened { (K.means keeper.new).paths ≡ (K.means keeper.old).paths → IfSome (K.means keeper.new).rows (λ rows. (K.means keeper.old).rows ≡ Some rows) }
     ensures ends { (others : Outside) → Ends (IsBadIn (K.means keeper.new)) ⊥ (record others { files = F.means files.old; store = K.means keeper.old; out = O.means out.old })
         (record others { files = F.means files.new; store = K.means keeper.new; out = O.means out.new }) result }

@@ -1,8 +1,8 @@
 -- The rule files of names, as they are found.
 use Rattle.std.specs.Prelude.{◌≡◌, ℕ, ◌^◌, ◌<◌, List, [], ◌∷◌, ◌++◌, length, map}
 use Rattle.std.specs.List.{AllByRecursion}
-use Rattle.spec_world.specs.pr_outside.Loading.{Holding, holds, is_missing, is_too_large, Made, goes_on, holding_by}
-use Rattle.spec_world.specs.pr_outside.Outside.{Held}
+use Rattle.pr_outside.specs.Loading.{Holding, holds, is_missing, is_too_large, Made, goes_on, holding_by}
+use Rattle.pr_outside.specs.Outside.{Held}
 use Rattle.pr_checks.specs.RulesLoaded.{RulesLoaded, all_rules, and_rules, none_loaded, rules_held}
 use Rattle.pr_checks.specs.declared.found.FoundFiles.{FoundFiles}
 use Rattle.pr_checks.specs.declared.found.FoundContent.{FoundContent}

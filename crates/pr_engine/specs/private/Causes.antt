@@ -9,8 +9,8 @@ use Rattle.pr_engine.specs.declared.fault.ApplyError.{ApplyError}
 use Rattle.pr_engine.specs.declared.fault.ApplyError.TheVariants as apply
 use Rattle.pr_engine.specs.declared.fault.Cause.{Cause}
 use Rattle.pr_engine.specs.declared.fault.Cause.TheVariants as cause
-use Rattle.pr_head.specs.declared.rows.fault.StartError.{StartError}
-use Rattle.pr_head.specs.declared.rows.fault.StartError.TheVariants as start
+use Rattle.pr_engine.specs.declared.rows.fault.StartError.{StartError}
+use Rattle.pr_engine.specs.declared.rows.fault.StartError.TheVariants as start
 
 abbrev pub apply_error : KeepError → ApplyError
 apply_error keeping.Failed = apply.StoreFailed
@@ -27,6 +27,15 @@ HasApplyCause before now (Err apply.Memory) = now ≡ before
 HasApplyCause before now (Err apply.StoreFailed) = Rose before now × (now < 2 ^ 64)
 HasApplyCause before now (Err (apply.BadRow index)) = now ≡ before
 HasApplyCause before now (Err (apply.Broken first)) = now ≡ before
+
+-- what holds once an event was answered, and after a bad row too, or of an engine that was broken before:
+-- nothing is said where the store refused a call, or memory ran out
+abbrev pub IfAnswered : {T : Type 0} → Result T ApplyError → Type 0 → Type 0
+IfAnswered (Ok x) P = P
+IfAnswered (Err apply.Memory) P = Unit {0}
+IfAnswered (Err apply.StoreFailed) P = Unit {0}
+IfAnswered (Err (apply.BadRow index)) P = P
+IfAnswered (Err (apply.Broken first)) P = P
 
 -- what breaks an engine that answers so
 abbrev pub cause_of : ApplyError → Cause

@@ -20,7 +20,7 @@ use Rattle.pr_manager.specs.spec_world.declared.event.Event.{Event}
 use Rattle.pr_manager.specs.spec_world.declared.event.Event.TheVariants as event
 use Rattle.pr_manager.specs.spec_world.declared.report.Report.{Report}
 use Rattle.pr_engine.specs.private.Events.{settings_of}
-use Rattle.pr_head.specs.private.Rows.{TellsOf}
+use Rattle.pr_engine.specs.private.Rows.{TellsOf}
 use Rattle.pr_engine.specs.private.Times.{IsKeptAbove, forgotten_at}
 use Rattle.pr_engine.specs.declared.fault.Cause.{Cause}
 

@@ -8,7 +8,7 @@ use Rattle.pr_text.specs.spec_world.Step.{rows_of, world_after}
 use Rattle.pr_text.specs.spec_world.World.{World, start}
 use Rattle.pr_text.specs.spec_world.declared.event.Event.{Event}
 use Rattle.pr_exercise.specs.Summary.{lines_told}
-use Rattle.pr_text.specs.spec_history.Stores.{TellsHistory}
+use Rattle.pr_outside.specs.Stores.{TellsHistory}
 use Rattle.pr_exercise.specs.private.Tallies.{tally_of}
 use Rattle.pr_exercise.specs.declared.session.Session.{Session}
 use Rattle.pr_exercise.specs.declared.tally.Tally.{Tally}

@@ -4,7 +4,7 @@ use Rattle.sqlite.specs.Held.{state}
 use Rattle.sqlite.specs.State.{HasCleanDisk}
 use Rattle.sqlite.specs.Store.{Ghosts}
 use Rattle.pr_outside.specs.declared.keeping.KeepError.{KeepError}
-use Rattle.pr_outside.specs.declared.keeping.Row.{Row}
+use Rattle.pr_outside.specs.spec_history.declared.row.Row.{Row}
 use Rattle.pr_keep_sql.specs.private.Counts.{AreWithin, CountsOnce}
 use Rattle.pr_keep_sql.specs.private.Ran.{HasLoaded, HasRun}
 use Rattle.pr_keep_sql.specs.private.Refusals.{IsLoadRefused, IsRefusal, IsTransactionRefused}

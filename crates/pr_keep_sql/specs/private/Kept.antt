@@ -7,7 +7,7 @@ use Rattle.sqlite.specs.Order.{Row as Cells, column}
 use Rattle.sqlite.specs.Effect.{Database}
 use Rattle.sqlite.specs.State.{State, HasCleanDisk}
 use Rattle.sqlite_disk.specs.Disk.{MoreFaults}
-use Rattle.pr_outside.specs.declared.keeping.Row.{Row}
+use Rattle.pr_outside.specs.spec_history.declared.row.Row.{Row}
 use Rattle.pr_keep_sql.specs.private.Tables.{HasOursFirst, stored_from}
 
 abbrev pub text_in : Value → List ℕ

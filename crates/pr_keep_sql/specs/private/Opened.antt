@@ -1,5 +1,5 @@
 -- What a store of a path has opened, and what it tells.
-use Rattle.std.specs.Prelude.{◌≡◌, ◌≢◌, ◌++◌, ℕ, List, [], length, Option, Some, None, Result, Err, OnOk, OnErr}
+use Rattle.std.specs.Prelude.{◌≡◌, ◌≢◌, ◌++◌, ℕ, List, [], length, Bool, true, Option, Some, None, Result, Err, OnOk, OnErr}
 use Rattle.sqlite.specs.Effect.{Database, IsDatabase}
 use Rattle.sqlite.specs.Files.{AreFoundIn, HoldsDatabase}
 use Rattle.sqlite.specs.Held.{state}
@@ -9,11 +9,11 @@ use Rattle.sqlite.specs.Store.{Ghosts}
 use Rattle.sqlite.specs.Tree.{Trees}
 use Rattle.pr_outside.specs.declared.keeping.KeepError.{KeepError}
 use Rattle.pr_outside.specs.declared.keeping.KeepError.TheVariants.{Failed}
-use Rattle.pr_outside.specs.declared.keeping.Row.{Row}
+use Rattle.pr_outside.specs.spec_history.declared.row.Row.{Row}
 use Rattle.pr_keep_sql.specs.private.Calls.{HasCommitted, HasQueried}
 use Rattle.pr_keep_sql.specs.private.Counts.{faults_of}
 use Rattle.pr_keep_sql.specs.private.Kept.{Keeps, listed}
-use Rattle.pr_keep_sql.specs.private.Store.{faults_in, rows_of}
+use Rattle.pr_keep_sql.specs.private.Store.{faults_in, rows_of, sound_of}
 use Rattle.pr_keep_sql.specs.private.Tables.{HasOursFirst, schema_of}
 use Rattle.pr_keep_sql.specs.declared.opened.Opened.{Opened}
 use Rattle.pr_keep_sql.specs.declared.opened.Opened.TheVariants.{Nothing, Memory, File}
@@ -39,6 +39,12 @@ module _ {S : Type 0} (g : Ghosts S) where
   rows_in Nothing = None
   rows_in (Memory held) = Some held.rows
   rows_in (File kept) = rows_of g kept
+
+  -- whether what is open stands on what has kept its word so far, as memory always does
+  abbrev pub sound_in : Opened S → Bool
+  sound_in Nothing = true
+  sound_in (Memory held) = true
+  sound_in (File kept) = sound_of g kept
 
   -- the disk has returned what was written
   abbrev pub IsTrusted : Opened S → Type 0

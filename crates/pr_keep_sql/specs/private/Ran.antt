@@ -6,7 +6,7 @@ use Rattle.sqlite.specs.Held.{Held, state}
 use Rattle.sqlite.specs.Order.{Row as Cells, column}
 use Rattle.sqlite.specs.State.{Commits, QueriesRow, Shown}
 use Rattle.sqlite.specs.Store.{Ghosts}
-use Rattle.pr_outside.specs.declared.keeping.Row.{Row}
+use Rattle.pr_outside.specs.spec_history.declared.row.Row.{Row}
 use Rattle.pr_keep_sql.specs.private.Found.{AreFound}
 use Rattle.pr_keep_sql.specs.private.Refusals.{RanInTurn}
 use Rattle.pr_keep_sql.specs.private.Texts.{Order, numbers_text, rows_text, select_text}

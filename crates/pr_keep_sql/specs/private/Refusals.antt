@@ -7,7 +7,7 @@ use Rattle.sqlite.specs.Order.{Row as Cells}
 use Rattle.sqlite.specs.State.{ExecutesInside, FailsToQuery, IsRolledBack, QueriesRow, Shown}
 use Rattle.sqlite.specs.Steps.{FailsToCommit}
 use Rattle.sqlite.specs.Store.{Ghosts}
-use Rattle.pr_outside.specs.declared.keeping.Row.{Row}
+use Rattle.pr_outside.specs.spec_history.declared.row.Row.{Row}
 use Rattle.pr_keep_sql.specs.private.Counts.{is_want}
 use Rattle.pr_keep_sql.specs.private.Statements.{shown}
 use Rattle.pr_keep_sql.specs.private.Texts.{Order, numbers_text, rows_text, select_text}

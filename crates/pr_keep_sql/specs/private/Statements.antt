@@ -5,7 +5,7 @@ use Rattle.sqlite.specs.Order.{Row as Cells}
 use Rattle.sqlite.specs.Effect.{Database}
 use Rattle.sqlite.specs.State.{State, HasCleanDisk}
 use Rattle.sqlite_disk.specs.Disk.{MoreFaults}
-use Rattle.pr_outside.specs.declared.keeping.Row.{Row}
+use Rattle.pr_outside.specs.spec_history.declared.row.Row.{Row}
 use Rattle.pr_keep_sql.specs.private.Tables.{kept, kept_schema, schema_of}
 use Rattle.pr_keep_sql.specs.private.Kept.{Keeps, versions, listed}
 

@@ -1,9 +1,9 @@
 -- A store of rows: a connection, and what is known of its tables.
-use Rattle.std.specs.Prelude.{◌≡◌, ℕ, ◌^◌, ◌≤◌, Bool, false, IsTrue, List, Option, refl}
+use Rattle.std.specs.Prelude.{◌≡◌, ℕ, ◌^◌, ◌≤◌, ◌&&◌, Bool, false, IsTrue, List, Option, refl}
 use Rattle.std.specs.Coded.{Coded, code_by, coded×, coded_ℕ, coded_bool}
 use Rattle.sqlite.specs.Store.{Ghosts}
 use Rattle.sqlite.specs.Held.{Held, held_code, state}
-use Rattle.pr_outside.specs.declared.keeping.Row.{Row}
+use Rattle.pr_outside.specs.spec_history.declared.row.Row.{Row}
 use Rattle.pr_keep_sql.specs.private.Kept.{told, KeepsSo, WhileOpen}
 use Rattle.pr_keep_sql.specs.private.Counts.{faults_of}
 
@@ -36,6 +36,11 @@ pub record IsKept {S : Type 0} (g : Ghosts S) (conn : Held S) (size : ℕ) (is_r
 -- the rows, where they are told
 abbrev pub rows_of : {S : Type 0} → Ghosts S → KeptStore S → Option (List Row)
 rows_of g k = told k.is_first (state g k.conn)
+
+-- whether what the store stands on has kept its word so far: its tables stand first, and the disk has
+-- returned what was written
+abbrev pub sound_of : {S : Type 0} → Ghosts S → KeptStore S → Bool
+sound_of g k = k.is_first && (state g k.conn).is_clean
 
 -- how often a call was refused
 abbrev pub faults_in : {S : Type 0} → KeptStore S → ℕ

@@ -2,7 +2,7 @@
 use Rattle.std.specs.Prelude.{ℕ, ◌+◌, pos, List, [], ◌∷◌, codes}
 use Rattle.sqlite.specs.declared.types.Value.TheVariants.{Int, Text as Words}
 use Rattle.sqlite.specs.Order.{Row as Cells}
-use Rattle.pr_outside.specs.declared.keeping.Row.{Row}
+use Rattle.pr_outside.specs.spec_history.declared.row.Row.{Row}
 
 abbrev pub kept_text : List ℕ
 kept_text = codes "CREATE TABLE kept(seq INTEGER PRIMARY KEY, series TEXT NOT NULL, time INTEGER NOT NULL, point TEXT NOT NULL)"

@@ -2,11 +2,12 @@
 use Rattle.std.specs.Prelude.{ℕ, List}
 use Rattle.pr_outside.specs.private.Schedule.{Schedule}
 use Rattle.pr_outside.specs.declared.course.Course.{Course}
-use Rattle.pr_outside.specs.declared.keeping.Row.{Row}
+use Rattle.spec_history.specs.declared.row.Row.{Row}
 
--- the bytes that are left
+-- the bytes that are left, and how many were taken
 pub record FailingSource : Type 0 where
   pub left : List ℕ
+  pub taken : ℕ
   pub schedule : Schedule
   pub course : Course
 
@@ -31,6 +32,7 @@ pub record FailingKeeper : Type 0 where
 -- The same where no call is to fail.
 pub record SureBytes : Type 0 where
   pub left : List ℕ
+  pub taken : ℕ
   pub course : Course
 
 pub record SureTaken : Type 0 where

@@ -1,9 +1,9 @@
--- The words of the command line.
-use Rattle.std.specs.Prelude.{◌≡◌, ℕ, ◌^◌, ◌<◌, ◌≤◌, nat_lt, cond, List, [], length, map, take, slice_get, String, string_bytes, Option, Some, None, Result, Ok, Err}
+-- How words of the command line are copied.
+use Rattle.std.specs.Prelude.{◌≡◌, ℕ, ◌<◌, ◌≤◌, List, length, map, take, slice_get, String, string_bytes, Option, Some, None, Result, Ok, Err}
 use Rattle.std.specs.Global.{Global}
-use Rattle.std.specs.Str.{is_utf8}
 use Rattle.std.specs.declared.env.FillError.{FillError}
 use Rattle.std.specs.declared.env.FillError.TheVariants as fill
+use Rattle.pr_outside.specs.Words.{text_of, word_of}
 use Rattle.pr_outside.specs.declared.status.words.Copied.{Copied}
 use Rattle.pr_outside.specs.declared.status.words.Copied.TheVariants as copied
 use Rattle.pr_outside.specs.declared.status.words.HeldWord.{HeldWord}
@@ -14,18 +14,6 @@ word_bytes word = word.bytes.items
 
 abbrev pub held_bytes : List HeldWord → List (List ℕ)
 held_bytes words = map word_bytes words
-
--- the greatest length of a word: 1 GiB
-abbrev pub word_limit : ℕ
-word_limit = 2 ^ 30
-
--- bytes that are no text are the empty word
-unfoldable pub text_of : List ℕ → List ℕ
-text_of bytes = cond (is_utf8 bytes) bytes []
-
--- so are those that are too long
-abbrev pub word_of : List ℕ → List ℕ
-word_of bytes = cond (nat_lt word_limit (length bytes)) [] (text_of bytes)
 
 -- a word is longer than so many bytes
 abbrev pub IsLonger : List (List ℕ) → ℕ → ℕ → Type 0

@@ -3,7 +3,7 @@ ghost use Rattle.std.specs.Prelude.{◌≡◌, ◌≢◌, ℕ, ◌+◌, ◌<◌,
 ghost use Rattle.std.specs.Io.KnownBytes.{Appends, Consumes};
 ghost use Rattle.pr_outside.specs.Ends.{AtInput, Ends, KnowsLength, ReadEnds, no_row};
 ghost use Rattle.pr_outside.specs.Outside.{Outside};
-ghost use Rattle.pr_outside.specs.Status.{IsLong};
+ghost use Rattle.pr_outside.specs.Status.{IsReadOut, IsTooLong};
 ghost use Rattle.pr_outside.specs.Checks.{Checked};
 ghost use Rattle.pr_outside.specs.InputChecks.{MeansInputCheck};
 
@@ -34,7 +34,8 @@ pub trait InputCheck {
 fn read_all<I: Source>(alloc: Global, input: &mut I) -> Result<Vec<u8>, Stop>
     ensures bytes { IfOk result (λ v. IfSome (I.means input.old).left (λ bytes. (v.items ≡ bytes) × ((I.means input.new).left ≡ Some []))) }
     ensures short { IfOk result (λ v. length v.items < 2 ^ 32) }
-    ensures ends { ReadEnds (IsLong (I.means input.old).left) (I.means input.old) (I.means input.new) result }
+    ensures out { OnOk result (IsReadOut (I.means input.old) (I.means input.new)) }
+    ensures ends { ReadEnds (IsTooLong (I.means input.old) (I.means input.new)) (I.means input.old) (I.means input.new) result }
 {
     let mut bytes = Vec::new(alloc);
     let mut piece = [0u8; PIECE];
@@ -59,8 +60,8 @@ fn check_all<C: InputCheck, I: Source, O: Sink>(
         × (v ≡ (C.told bytes).verdict) × ((I.means input.new).left ≡ Some []))) }
     ensures front { IfSome (I.means input.old).left (λ bytes. (n : ℕ) × Appends (O.means out.old).taken (O.means out.new).taken (take n (C.told bytes).text)) }
     ensures silent { AtInput result (Appends (O.means out.old).taken (O.means out.new).taken []) }
-    ensures long { KnowsLength (I.means input.old).left result }
-    ensures ends { (others : Outside) → Ends no_row (IsLong (I.means input.old).left) (record others { input = I.means input.old; out = O.means out.old })
+    ensures long { KnowsLength (I.means input.old) (I.means input.new) result }
+    ensures ends { (others : Outside) → Ends no_row (IsTooLong (I.means input.old) (I.means input.new)) (record others { input = I.means input.old; out = O.means out.old })
         (record others { input = I.means input.new; out = O.means out.new }) result }
 {
     let bytes = read_all(alloc, input)?;

@@ -2,7 +2,8 @@
 ghost use Rattle.std.specs.Prelude.{◌≡◌, List, ℕ, IfOk, IfSome, None, Some, length, map, drop, string_bytes};
 ghost use Rattle.std.specs.Io.{WritesAtMost};
 ghost use Rattle.std.specs.declared.option.Option.{Option};
-ghost use Rattle.pr_outside.specs.private.Words.{held_bytes, IsCopied, IsCopiedFrom, IsTaken, IsWord, text_of, word_limit, word_of};
+ghost use Rattle.pr_outside.specs.Words.{text_of, word_limit, word_of};
+ghost use Rattle.pr_outside.specs.private.Words.{held_bytes, IsCopied, IsCopiedFrom, IsTaken, IsWord};
 
 use std::alloc::{AllocError, Global};
 use std::env::FillError;

@@ -14,7 +14,7 @@ use Rattle.pr_text.specs.spec_world.Step.{Step}
 use Rattle.pr_text.specs.spec_world.World.{World}
 use Rattle.pr_text.specs.spec_world.declared.report.Report.{Report}
 use Rattle.pr_run.specs.private.Keeping.{KeepsProgress, Progress, Run, unanswered, progress_after}
-use Rattle.pr_queue.specs.spec_history.Stores.{TellsHistory}
+use Rattle.pr_outside.specs.Stores.{TellsHistory}
 use Rattle.pr_run.specs.Replies.{Reply}
 use Rattle.pr_run.specs.Told.{Turn, answers, asks_of, begun, told_of, turn}
 

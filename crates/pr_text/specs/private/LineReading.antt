@@ -1,10 +1,13 @@
 -- Where the reader of lines stands.
-use Rattle.std.specs.Prelude.{◌≡◌, ◌≢◌, ℕ, ◌+◌, ◌<◌, ◌≤◌, ◌^◌, Bool, true, false, cond, ◌==◌, List, [], ◌∷◌, ◌++◌, length, drop, Option, Some, None, IfSome}
+use Rattle.std.specs.Prelude.{◌≡◌, ◌≢◌, ℕ, ◌+◌, ◌-◌, ◌<◌, ◌≤◌, ◌^◌, min, Bool, true, false, cond, ◌==◌, List, [], ◌∷◌, ◌++◌, length, drop, Option, Some, None, IfSome}
 use Prim.Native.Char.{code}
 use Rattle.std.specs.List.{list_all}
 use Rattle.std.specs.Io.KnownBytes.{Consumes, IsAtEnd}
-use Rattle.spec_world.specs.pr_outside.Courses.{GoesOn, IsInTime}
-use Rattle.spec_world.specs.pr_outside.declared.course.Course.{Course}
+use Rattle.pr_outside.specs.Courses.{GoesOn, IsInTime}
+use Rattle.pr_outside.specs.declared.course.Course.{Course}
+use Rattle.pr_outside.specs.declared.course.Course.TheVariants.{Going, Over}
+use Rattle.pr_outside.specs.Meant.{Input}
+use Rattle.pr_outside.specs.Status.{Took}
 use Rattle.pr_text.specs.Taken.{is_no_feed, are_whole_lines}
 use Rattle.pr_text.specs.declared.reader.lines.LineReader.{LineReader}
 
@@ -27,6 +30,15 @@ pub record IsReading (r : LineReader) (left : Option (List ℕ)) : Type 0 where
 pub record IsReadOn (first : Course) (ended : Bool) (now : Course) : Type 0 where
   pub in_time : IsInTime first now
   pub goes_on : ended ≡ false → GoesOn first now
+
+-- how far the calls of an input have come whose end was met, or was not
+abbrev pub course_of : Bool → Course
+course_of true = Over
+course_of false = Going
+
+-- Where calls might go on at an earlier time, what they have come to is what the reader says of the end.
+abbrev pub KnowsCourse : Course → Bool → Course → Type 0
+KnowsCourse first ended now = first ≡ Going → now ≡ course_of ended
 
 -- what is still to come, where it is told: what is held, and what is left of the input
 abbrev pub ahead : List ℕ → Option (List ℕ) → Option (List ℕ)
@@ -64,10 +76,16 @@ HandsLine all now true line = Consumes all now line × IsNext line now
 HandsLine all now false line = Consumes all now line × IsAtEnd now × (line ≡ [])
 
 -- so many bytes were read, and the others are left
-abbrev pub CountsBytes : Option (List ℕ) → Option (List ℕ) → ℕ → ℕ → Type 0
-CountsBytes None now before after = Unit {0}
-CountsBytes (Some bytes) None before after = ⊥
-CountsBytes (Some bytes) (Some rest) before after = before + length bytes ≡ after + length rest
+abbrev pub CountsLeft : Option (List ℕ) → Option (List ℕ) → ℕ → ℕ → Type 0
+CountsLeft None now before after = Unit {0}
+CountsLeft (Some bytes) None before after = ⊥
+CountsLeft (Some bytes) (Some rest) before after = before + length bytes ≡ after + length rest
+
+-- The input's count of bytes went up by as many as the reader's.
+pub record CountsBytes (was now : Input) (before after : ℕ) : Type 0 where
+  pub left : CountsLeft was.left now.left before after
+  pub grew : before ≤ after
+  pub took : Took was now (after - before)
 
 -- the reader stopped at its input within a line
 abbrev pub IsCutLine : Option (List ℕ) → Option (List ℕ) → Type 0
@@ -75,6 +93,7 @@ IsCutLine None left = Unit {0}
 IsCutLine (Some bytes) None = ⊥
 IsCutLine (Some bytes) (Some rest) = (line : List ℕ) × (list_all is_no_feed line ≡ true) × (bytes ≡ line ++ rest)
 
--- with so many bytes read before, the input is too long
-abbrev pub IsBeyond : Option (List ℕ) → ℕ → Type 0
-IsBeyond left count = IfSome left (λ rest. 2 ^ 32 ≤ count + length rest)
+-- With so many bytes read before, the input is too long; and with those that were taken they are as many.
+pub record IsBeyond (was now : Input) (count : ℕ) : Type 0 where
+  pub long : IfSome was.left (λ rest. 2 ^ 32 ≤ count + length rest)
+  pub many : min (was.taken + (2 ^ 32 - count)) (2 ^ 64 - 1) ≤ now.taken

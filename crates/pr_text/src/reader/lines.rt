@@ -2,14 +2,15 @@
 ghost use Rattle.std.specs.Prelude.{◌≡◌, ◌+◌, ◌^◌, ◌<◌, ◌≤◌, ◌++◌, ◌==◌, not, [], codes, take, drop, length, IfOk, IfSome, IfNone, OnOk, true, false};
 ghost use Rattle.std.specs.List.{list_all};
 ghost use Rattle.std.specs.Io.KnownBytes.{Consumes, Keeps, IsAtEnd};
-ghost use Rattle.spec_world.specs.pr_outside.Courses.{IsInTime};
-ghost use Rattle.spec_world.specs.pr_outside.declared.course.Course.{Course};
-ghost use Rattle.spec_world.specs.pr_outside.Ends.{AtInput, ReadEnds};
-ghost use Rattle.pr_text.specs.private.LineReading.{held, KnowsEnd, IsReading, IsReadOn, ahead, without_feed, TakesPart, HandsLine, CountsBytes, IsCutLine, IsBeyond};
+ghost use Rattle.pr_outside.specs.Courses.{IsInTime};
+ghost use Rattle.pr_outside.specs.declared.course.Course.{Course};
+ghost use Rattle.pr_outside.specs.Ends.{AtInput, ReadEnds};
+ghost use Rattle.pr_outside.specs.Status.{Took};
+ghost use Rattle.pr_text.specs.private.LineReading.{held, KnowsEnd, IsReading, IsReadOn, KnowsCourse, ahead, without_feed, TakesPart, HandsLine, CountsBytes, IsCutLine, IsBeyond};
 ghost use Rattle.pr_text.specs.Taken.{is_no_feed};
 
-use spec_world::outside::Source;
-use spec_world::outside::status::Stop;
+use pr_outside::Source;
+use pr_outside::status::Stop;
 use std::alloc::{AllocError, Global};
 
 // The input has fewer bytes.
@@ -98,20 +99,22 @@ impl LineReader {
     }
 
     // Reads the next piece, and says whether there is one. After the end there is no other read.
-    #[tactic(auto, using(crate::proofs::Ahead::kept, crate::proofs::Ahead::joined_none))]
+    #[tactic(auto, using(crate::proofs::Ahead::kept, crate::proofs::Ahead::joined_none, crate::proofs::Ahead::beyond_now))]
     fn fill<I: Source>(&mut self, input: &mut I) -> Result<bool, Stop>
         requires count { self.old.count < 2 ^ 32 + 4096 }
         requires end { KnowsEnd self.old (I.means input.old).left }
         ensures end { OnOk result (KnowsEnd self.new (I.means input.new).left) }
         ensures taken { OnOk result (Consumes (I.means input.old).left (I.means input.new).left (held self.new)) }
+        ensures took { OnOk result (Took (I.means input.old) (I.means input.new) (length (held self.new))) }
         ensures within { OnOk result (self.new.at ≤ length self.new.piece.items) }
         ensures count { OnOk result ((self.new.count ≡ self.old.count + length (held self.new)) × (self.new.count < 2 ^ 32 + 4096)) }
         ensures some { IfOk result (λ some. some ≡ true → 0 < length (held self.new)) }
-        ensures none { IfOk result (λ some. some ≡ false → IsAtEnd (I.means input.new).left × (held self.new ≡ []) × (self.new.count < 2 ^ 32)) }
+        ensures none { IfOk result (λ some. some ≡ false → IsAtEnd (I.means input.new).left × (held self.new ≡ []) × (self.new.ended ≡ true) × (self.new.count < 2 ^ 32)) }
         ensures stopped { AtInput result (Keeps (I.means input.old).left (I.means input.new).left) }
         ensures going { (first : Course) → IsReadOn first self.old.ended (I.means input.old).course → OnOk result (IsReadOn first self.new.ended (I.means input.new).course) }
+        ensures over { (first : Course) → KnowsCourse first self.old.ended (I.means input.old).course → OnOk result (KnowsCourse first self.new.ended (I.means input.new).course) }
         ensures in_time { (first : Course) → IsReadOn first self.old.ended (I.means input.old).course → IsInTime first (I.means input.new).course }
-        ensures ends { ReadEnds (2 ^ 32 ≤ self.old.count) (I.means input.old) (I.means input.new) result }
+        ensures ends { ReadEnds (IsBeyond (I.means input.old) (I.means input.new) self.old.count) (I.means input.old) (I.means input.new) result }
     {
         if self.ended {
             self.piece.clear();
@@ -143,12 +146,13 @@ impl LineReader {
         ensures line { IfOk result (λ more. HandsLine (ahead (held self.old) (I.means input.old).left) (ahead (held self.new) (I.means input.new).left) more line.new.items) }
         ensures bytes { OnOk result (self.new.count + length (held self.old) ≡ self.old.count + (length line.new.items + length (held self.new))) }
         ensures some { IfOk result (λ more. more ≡ not (length line.new.items == 0)) }
-        ensures counts { OnOk result (CountsBytes (I.means input.old).left (I.means input.new).left self.old.count self.new.count) }
-        ensures short { IfOk result (λ more. more ≡ false → self.new.count < 2 ^ 32) }
+        ensures counts { OnOk result (CountsBytes (I.means input.old) (I.means input.new) self.old.count self.new.count) }
+        ensures short { IfOk result (λ more. more ≡ false → (self.new.ended ≡ true) × (self.new.count < 2 ^ 32)) }
         ensures cut { AtInput result (IsCutLine (ahead (held self.old) (I.means input.old).left) (I.means input.new).left) }
         ensures going { (first : Course) → IsReadOn first self.old.ended (I.means input.old).course → OnOk result (IsReadOn first self.new.ended (I.means input.new).course) }
+        ensures over { (first : Course) → KnowsCourse first self.old.ended (I.means input.old).course → OnOk result (KnowsCourse first self.new.ended (I.means input.new).course) }
         ensures in_time { (first : Course) → IsReadOn first self.old.ended (I.means input.old).course → IsInTime first (I.means input.new).course }
-        ensures ends { ReadEnds (IsBeyond (I.means input.old).left self.old.count) (I.means input.old) (I.means input.new) result }
+        ensures ends { ReadEnds (IsBeyond (I.means input.old) (I.means input.new) self.old.count) (I.means input.old) (I.means input.new) result }
     {
         line.clear();
         'joining: while !self.take_part(line)? {

@@ -1,19 +1,19 @@
 // The input, asked for one order after another.
 ghost use Rattle.std.specs.Prelude.{◌≡◌, ◌^◌, ◌<◌, ◌≤◌, ◌==◌, not, [], length, None, IfOk, IfSome, OnOk, string_bytes, true, false};
-ghost use Rattle.spec_world.specs.pr_outside.Courses.{IsInTime};
-ghost use Rattle.spec_world.specs.pr_outside.declared.course.Course.{Course};
+ghost use Rattle.pr_outside.specs.Courses.{IsInTime};
+ghost use Rattle.pr_outside.specs.declared.course.Course.{Course};
 ghost use Rattle.pr_text.specs.Script.{is_passed_over, takes_body};
-ghost use Rattle.spec_world.specs.pr_outside.Ends.{AtInput, ReadEnds};
-ghost use Rattle.pr_text.specs.private.LineReading.{ahead, HandsLine, CountsBytes, IsCutLine, IsBeyond, IsReadOn};
+ghost use Rattle.pr_outside.specs.Ends.{AtInput, ReadEnds};
+ghost use Rattle.pr_text.specs.private.LineReading.{ahead, HandsLine, CountsBytes, IsCutLine, IsBeyond, IsReadOn, KnowsCourse};
 ghost use Rattle.pr_text.specs.private.Plain.{IsPlain};
 ghost use Rattle.pr_text.specs.private.Reading.{unread, IsReady, HandsOrder, FinishesOrder, TakesBody, EndsBody, Advances, IsCutBody, IsCutAt};
 
 use crate::reader::lines::{LineReader, without_feed};
 use crate::script::{Numbered, Order, Started, is_passed_over, push_body_line, read_order};
+use pr_outside::Source;
+use pr_outside::status::Stop;
 use pr_words::Items;
 use spec_world::Event;
-use spec_world::outside::Source;
-use spec_world::outside::status::Stop;
 use std::alloc::Global;
 use std::mem::swap;
 
@@ -50,6 +50,7 @@ impl Reader {
     }
 
     // Hands out the next line, and says whether there is one.
+    #[tactic(auto, using(crate::proofs::Ahead::counts_none))]
     fn next_line<I: Source>(&mut self, input: &mut I, line: &mut Vec<u8>) -> Result<bool, Stop>
         requires { IsReady 0 self.old (I.means input.old).left }
         ensures ready { OnOk result (IsReady (length line.new.items) self.new (I.means input.new).left) }
@@ -57,12 +58,13 @@ impl Reader {
         ensures line { IfOk result (λ more. HandsLine (ahead (unread self.old) (I.means input.old).left) (ahead (unread self.new) (I.means input.new).left) more line.new.items) }
         ensures waiting { OnOk result (self.new.waiting.items ≡ []) }
         ensures number { OnOk result (self.new.number ≡ self.old.number) }
-        ensures counts { OnOk result (CountsBytes (I.means input.old).left (I.means input.new).left self.old.lines.count self.new.lines.count) }
-        ensures short { IfOk result (λ more. more ≡ false → self.new.lines.count < 2 ^ 32) }
+        ensures counts { OnOk result (CountsBytes (I.means input.old) (I.means input.new) self.old.lines.count self.new.lines.count) }
+        ensures short { IfOk result (λ more. more ≡ false → (self.new.lines.ended ≡ true) × (self.new.lines.count < 2 ^ 32)) }
         ensures cut { AtInput result (IsCutLine (ahead (unread self.old) (I.means input.old).left) (I.means input.new).left) }
         ensures going { (first : Course) → IsReadOn first self.old.lines.ended (I.means input.old).course → OnOk result (IsReadOn first self.new.lines.ended (I.means input.new).course) }
+        ensures over { (first : Course) → KnowsCourse first self.old.lines.ended (I.means input.old).course → OnOk result (KnowsCourse first self.new.lines.ended (I.means input.new).course) }
         ensures in_time { (first : Course) → IsReadOn first self.old.lines.ended (I.means input.old).course → IsInTime first (I.means input.new).course }
-        ensures ends { ReadEnds (IsBeyond (I.means input.old).left self.old.lines.count) (I.means input.old) (I.means input.new) result }
+        ensures ends { ReadEnds (IsBeyond (I.means input.old) (I.means input.new) self.old.lines.count) (I.means input.old) (I.means input.new) result }
     {
         if self.waiting.is_empty() {
             return self.lines.next_line(input, line);
@@ -79,11 +81,12 @@ impl Reader {
         ensures body { IfOk result (λ body. TakesBody (ahead (unread self.old) (I.means input.old).left) (ahead (unread self.new) (I.means input.new).left) self.old.number self.new.number (string_bytes body)) }
         ensures ended { OnOk result (EndsBody (ahead (unread self.new) (I.means input.new).left)) }
         ensures number { OnOk result (self.old.number ≤ self.new.number) }
-        ensures counts { OnOk result (CountsBytes (I.means input.old).left (I.means input.new).left self.old.lines.count self.new.lines.count) }
+        ensures counts { OnOk result (CountsBytes (I.means input.old) (I.means input.new) self.old.lines.count self.new.lines.count) }
         ensures cut { AtInput result (IsCutBody (ahead (unread self.old) (I.means input.old).left) (I.means input.new).left) }
         ensures going { (first : Course) → IsReadOn first self.old.lines.ended (I.means input.old).course → OnOk result (IsReadOn first self.new.lines.ended (I.means input.new).course) }
+        ensures over { (first : Course) → KnowsCourse first self.old.lines.ended (I.means input.old).course → OnOk result (KnowsCourse first self.new.lines.ended (I.means input.new).course) }
         ensures in_time { (first : Course) → IsReadOn first self.old.lines.ended (I.means input.old).course → IsInTime first (I.means input.new).course }
-        ensures ends { ReadEnds (IsBeyond (I.means input.old).left self.old.lines.count) (I.means input.old) (I.means input.new) result }
+        ensures ends { ReadEnds (IsBeyond (I.means input.old) (I.means input.new) self.old.lines.count) (I.means input.old) (I.means input.new) result }
     {
         let mut body = String::new(alloc);
         let mut line = Vec::new(alloc);
@@ -109,11 +112,12 @@ impl Reader {
         ensures order { is_passed_over line.now ≡ false → IfOk result (FinishesOrder line.now (ahead (unread self.old) (I.means input.old).left) (ahead (unread self.new) (I.means input.new).left) self.old.number self.new.number) }
         ensures plain { IfOk result (λ o. IsPlain o.order) }
         ensures number { OnOk result (self.old.number ≤ self.new.number) }
-        ensures counts { OnOk result (CountsBytes (I.means input.old).left (I.means input.new).left self.old.lines.count self.new.lines.count) }
+        ensures counts { OnOk result (CountsBytes (I.means input.old) (I.means input.new) self.old.lines.count self.new.lines.count) }
         ensures cut { AtInput result ((takes_body line.now ≡ true) × IsCutBody (ahead (unread self.old) (I.means input.old).left) (I.means input.new).left) }
         ensures going { (first : Course) → IsReadOn first self.old.lines.ended (I.means input.old).course → OnOk result (IsReadOn first self.new.lines.ended (I.means input.new).course) }
+        ensures over { (first : Course) → KnowsCourse first self.old.lines.ended (I.means input.old).course → OnOk result (KnowsCourse first self.new.lines.ended (I.means input.new).course) }
         ensures in_time { (first : Course) → IsReadOn first self.old.lines.ended (I.means input.old).course → IsInTime first (I.means input.new).course }
-        ensures ends { ReadEnds (IsBeyond (I.means input.old).left self.old.lines.count) (I.means input.old) (I.means input.new) result }
+        ensures ends { ReadEnds (IsBeyond (I.means input.old) (I.means input.new) self.old.lines.count) (I.means input.old) (I.means input.new) result }
     {
         let number = self.number;
         match read_order(alloc, line)? {
@@ -140,12 +144,13 @@ impl Reader {
         ensures order { IfOk result (HandsOrder (ahead (unread self.old) (I.means input.old).left) (ahead (unread self.new) (I.means input.new).left) self.old.number self.new.number) }
         ensures plain { IfOk result (λ o. IfSome o (λ n. IsPlain n.order)) }
         ensures advances { IfOk result (λ o. Advances o self.old.number self.new.number) }
-        ensures counts { OnOk result (CountsBytes (I.means input.old).left (I.means input.new).left self.old.lines.count self.new.lines.count) }
-        ensures short { IfOk result (λ o. o ≡ None → self.new.lines.count < 2 ^ 32) }
+        ensures counts { OnOk result (CountsBytes (I.means input.old) (I.means input.new) self.old.lines.count self.new.lines.count) }
+        ensures short { IfOk result (λ o. o ≡ None → (self.new.lines.ended ≡ true) × (self.new.lines.count < 2 ^ 32)) }
         ensures cut { AtInput result (IsCutAt (ahead (unread self.old) (I.means input.old).left) (I.means input.new).left self.old.number) }
         ensures going { (first : Course) → IsReadOn first self.old.lines.ended (I.means input.old).course → OnOk result (IsReadOn first self.new.lines.ended (I.means input.new).course) }
+        ensures over { (first : Course) → KnowsCourse first self.old.lines.ended (I.means input.old).course → OnOk result (KnowsCourse first self.new.lines.ended (I.means input.new).course) }
         ensures in_time { (first : Course) → IsReadOn first self.old.lines.ended (I.means input.old).course → IsInTime first (I.means input.new).course }
-        ensures ends { ReadEnds (IsBeyond (I.means input.old).left self.old.lines.count) (I.means input.old) (I.means input.new) result }
+        ensures ends { ReadEnds (IsBeyond (I.means input.old) (I.means input.new) self.old.lines.count) (I.means input.old) (I.means input.new) result }
     {
         let mut line = Vec::new(alloc);
         'passing: while self.next_line(input, &mut line)? {

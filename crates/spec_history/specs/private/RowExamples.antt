@@ -5,7 +5,7 @@ use Rattle.pr_num.specs.declared.value.Point.{Point}
 use Rattle.pr_num.specs.declared.value.Point.TheVariants.{Value, Stale}
 use Rattle.pr_labels.specs.LabelSet.{metric_label, pair_of}
 use Rattle.spec_history.specs.declared.entry.Entry.{Entry}
-use Rattle.pr_outside.specs.declared.keeping.Row.{Row}
+use Rattle.spec_history.specs.declared.row.Row.{Row}
 
 abbrev pub row : List ℕ → ℕ → List ℕ → Row
 row series time point = record { series = series; time = time; point = point }

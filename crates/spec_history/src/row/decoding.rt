@@ -7,12 +7,12 @@ ghost use Rattle.spec_history.specs.Rows.{encoded, decoded, labels_in, point_in,
 ghost use Rattle.spec_history.specs.private.Faults.{Lacks, IsWant};
 
 use crate::Entry;
+use crate::row::Row;
 use crate::row::encoding::labels_text;
 use crate::row::points::{read_point, write_point};
 use pr_labels::Labels;
 use pr_labels::series::{TextFault, read_series_text};
 use pr_num::Point;
-use pr_outside::Row;
 use pr_time::Ms;
 use std::alloc::{AllocError, Global};
 

@@ -4,11 +4,11 @@ ghost use Rattle.pr_labels.specs.SeriesText.{series_text};
 ghost use Rattle.spec_history.specs.Points.{shown_point};
 ghost use Rattle.spec_history.specs.Rows.{encoded};
 
+use crate::row::Row;
 use crate::row::points::write_point;
 use pr_labels::Labels;
+use pr_labels::words_crate::Text;
 use pr_num::Point;
-use pr_outside::Row;
-use pr_outside::words_crate::Text;
 use pr_time::Ms;
 use std::alloc::{AllocError, Global};
 use std::str;

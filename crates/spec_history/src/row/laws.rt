@@ -5,7 +5,7 @@ ghost use Rattle.spec_history.specs.Admission.{admit};
 ghost use Rattle.spec_history.specs.private.Laws.{IsLawful, IsLawfulAfter, AreEntries};
 ghost use Rattle.spec_history.specs.declared.append.Append.TheVariants.{Added};
 ghost use Rattle.spec_history.specs.declared.entry.Entry.{Entry};
-ghost use Rattle.pr_outside.specs.declared.keeping.Row.{Row};
+ghost use Rattle.spec_history.specs.declared.row.Row.{Row};
 ghost use Rattle.spec_history.specs.Histories.{history_of};
 ghost use Rattle.spec_history.specs.Points.{IsFitPoint, point_of, shown_point};
 ghost use Rattle.spec_history.specs.Rows.{encoded, decoded, IsEntry};

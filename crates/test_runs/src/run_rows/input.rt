@@ -12,6 +12,7 @@ use std::alloc::{AllocError, Global};
 pub struct Input {
     bytes: MemSource,
     is_endless: bool,
+    taken: u64,
     course: Course,
 }
 
@@ -22,6 +23,7 @@ impl Input {
         Input {
             bytes: MemSource::new(bytes, refused),
             is_endless,
+            taken: 0,
             course: Course::Going,
         }
     }
@@ -38,18 +40,20 @@ fn fill(buf: &mut [u8]) {
 }
 
 impl Source for Input {
-    ghost means = { λ s. record { left = None; faults = s.bytes.schedule.faults; course = s.course } };
+    ghost means = { λ s. record { left = None; taken = s.taken; faults = s.bytes.schedule.faults; course = s.course } };
 
     /// Gives as many bytes as are left and fit, unless this call is to be refused, or a comment.
     fn read(&mut self, buf: &mut [u8]) -> Result<usize, Failed> {
         if self.is_endless {
             fill(buf);
             let count = buf.len();
+            self.taken = self.taken.saturating_add(count as u64);
             self.course = self.course.after(is_end(count, buf));
             return Ok(count);
         }
         match self.bytes.read(buf) {
             Ok(count) => {
+                self.taken = self.taken.saturating_add(count as u64);
                 self.course = self.course.after(is_end(count, buf));
                 Ok(count)
             }

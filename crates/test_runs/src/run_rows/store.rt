@@ -1,5 +1,5 @@
 // The store of a row.
-ghost use Rattle.std.specs.Prelude.{None, length};
+ghost use Rattle.std.specs.Prelude.{None, false, length};
 
 use crate::run_rows::lines::{marked, number_of};
 use pr_outside::{KeepError, Keeper, Row, SureKeeper};
@@ -74,7 +74,7 @@ impl Store {
 }
 
 impl Keeper for Store {
-    ghost means = { λ s. record { rows = None; count = length s.rows.rows; paths = s.rows.paths; faults = s.faults } };
+    ghost means = { λ s. record { rows = None; count = length s.rows.rows; sound = false; paths = s.rows.paths; faults = s.faults } };
 
     fn start(&mut self, path: &str) -> Result<(), KeepError> {
         if self.starts.next_is_chosen() {

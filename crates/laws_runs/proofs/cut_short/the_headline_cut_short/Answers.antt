@@ -1,4 +1,4 @@
-use Rattle.laws_runs.proofs.CutShort.{backfill, bad_backfill, exercise, files_front, lone_row, refused, row, silent}
+use Rattle.laws_runs.proofs.CutShort.{backfill, bad_backfill, exercise, files_front, lone_row, refused, row, silent, told_rows}
 use Rattle.laws_runs.proofs.Premises.{at}
 use Rattle.pr_top.specs.pr_backfill.pr_checks.Metrics.{metrics_told}
 use Rattle.pr_top.specs.pr_backfill.pr_checks.RuleFiles.{rules_told}
@@ -34,6 +34,9 @@ returns-clause-unopened c = λ path times names all before now result m same end
 
 pub returns-clause-bad_backfill : goal.returns-clause-bad_backfill
 returns-clause-bad_backfill c = bad_backfill
+
+pub returns-clause-told_rows : goal.returns-clause-told_rows
+returns-clause-told_rows c = told_rows
 
 pub returns-clause-row : goal.returns-clause-row
 returns-clause-row c = row

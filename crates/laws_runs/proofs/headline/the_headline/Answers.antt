@@ -1,12 +1,9 @@
 use Rattle.pr_top.proofs.Commands.{command_cause}
-use Rattle.laws_runs.proofs.Premises.{at, backfill, bad_row, cut, exercise, late, long, refused, run}
+use Rattle.laws_runs.proofs.Premises.{at, backfill, bad_row, cut, exercise, long, refused, run, told_rows}
 use Rattle.laws_runs.proofs.headline.the_headline.Goals as goal
 
 pub returns-clause-run : goal.returns-clause-run
 returns-clause-run c = run c.rows_that_tell_a_history_are_its_encodings.ensures
-
-pub returns-clause-late : goal.returns-clause-late
-returns-clause-late c = late c.rows_that_tell_a_history_are_its_encodings.ensures
 
 pub returns-clause-long : goal.returns-clause-long
 returns-clause-long c = long
@@ -16,6 +13,9 @@ returns-clause-cut c = cut c.rows_that_tell_a_history_are_its_encodings.ensures
 
 pub returns-clause-bad_row : goal.returns-clause-bad_row
 returns-clause-bad_row c = bad_row
+
+pub returns-clause-told_rows : goal.returns-clause-told_rows
+returns-clause-told_rows c = told_rows
 
 pub returns-clause-tests : goal.returns-clause-tests
 returns-clause-tests c = λ names held before now result m known calm some. m.told held known calm some

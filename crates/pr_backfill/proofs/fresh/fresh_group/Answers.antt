@@ -1,9 +1,9 @@
 use Rattle.std.proofs.Common.{ap, subst, sym, ◌∙◌}
-use Rattle.pr_manager.specs.pr_rule.private.Templates.{HaveTemplates}
+use Rattle.pr_engine.specs.pr_rule.private.Templates.{HaveTemplates}
 use Rattle.spec_rules.specs.Settings.{of_a_run}
 use Rattle.spec_rules.specs.Definitions.{group_of_def}
 use Rattle.pr_backfill.specs.Filled.{recording_only}
-use Rattle.pr_manager.specs.private.Keeping.{settings_with}
+use Rattle.pr_engine.specs.pr_manager.private.Keeping.{settings_with}
 use Rattle.pr_backfill.proofs.Recording.{fresh_under, run_settings}
 use Rattle.pr_backfill.proofs.fresh.fresh_group.Goals as goal
 

@@ -1,7 +1,7 @@
 use Rattle.std.proofs.Common.{List, [], sym, subst}
 use Rattle.spec_rules.specs.Settings.{of_a_run}
-use Rattle.pr_manager.specs.pr_group.private.Keeping.{KeptGroup}
-use Rattle.pr_manager.specs.private.Keeping.{KeepEach}
+use Rattle.pr_engine.specs.pr_group.private.Keeping.{KeptGroup}
+use Rattle.pr_engine.specs.pr_manager.private.Keeping.{KeepEach}
 use Rattle.pr_backfill.proofs.fresh.fresh_groups.Goals as goal
 
 pub returns : goal.returns

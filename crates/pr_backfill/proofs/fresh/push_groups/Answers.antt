@@ -1,6 +1,6 @@
 use Rattle.std.proofs.Common.{◌≡◌, ◌++◌, List, [], map, arith, subst}
 use Rattle.spec_rules.specs.Settings.{of_a_run}
-use Rattle.pr_manager.proofs.Loaded.{AreKeptSoFar, empty, kept_all, kept_none, kept_one}
+use Rattle.pr_engine.proofs.ManagerLoaded.{AreKeptSoFar, empty, kept_all, kept_none, kept_one}
 use Rattle.pr_backfill.specs.Filled.{group_of_file}
 use Rattle.pr_backfill.specs.declared.stepped.FileGroup.{FileGroup}
 use Rattle.pr_backfill.proofs.fresh.push_groups.Goals as goal

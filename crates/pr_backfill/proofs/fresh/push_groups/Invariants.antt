@@ -2,7 +2,7 @@ use Rattle.std.proofs.Common.{List, map}
 use Rattle.spec_rules.specs.spec_history.declared.entry.Entry.{Entry}
 use Rattle.spec_rules.specs.Groups.{Group}
 use Rattle.spec_rules.specs.Settings.{of_a_run}
-use Rattle.pr_manager.proofs.Loaded.{AreKeptSoFar}
+use Rattle.pr_engine.proofs.ManagerLoaded.{AreKeptSoFar}
 use Rattle.pr_backfill.specs.Filled.{group_of_file}
 use Rattle.pr_backfill.proofs.fresh.push_groups.Given as goal
 

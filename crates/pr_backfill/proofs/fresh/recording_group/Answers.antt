@@ -1,6 +1,6 @@
 use Rattle.std.proofs.Common.{List, sym, subst}
 use Rattle.std.specs.List.{All}
-use Rattle.pr_manager.specs.pr_rule.private.Templates.{HasTemplates}
+use Rattle.pr_engine.specs.pr_rule.private.Templates.{HasTemplates}
 use Rattle.spec_rules.specs.declared.definitions.RuleDef.{RuleDef}
 use Rattle.spec_rules.specs.Definitions.{rule_of_def}
 use Rattle.pr_backfill.proofs.Recording.{group_recorded, have_templates}

@@ -2,7 +2,7 @@ use Rattle.std.proofs.Common.{ap, ◌∙◌}
 use Rattle.spec_rules.specs.declared.definitions.GroupDef.{GroupDef}
 use Rattle.spec_rules.specs.Evaluations.{group_step}
 use Rattle.spec_rules.specs.Settings.{Settings}
-use Rattle.pr_manager.proofs.Evaluated.{own_evaluated}
+use Rattle.pr_engine.proofs.ManagerEvaluated.{own_evaluated}
 use Rattle.pr_backfill.proofs.Filling.{stepped_of}
 use Rattle.pr_backfill.proofs.round.evaluate.Goals as goal
 

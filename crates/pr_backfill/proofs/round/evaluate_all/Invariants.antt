@@ -3,8 +3,8 @@ use Rattle.spec_rules.specs.spec_history.declared.entry.Entry.{Entry}
 use Rattle.spec_rules.specs.Groups.{Group}
 use Rattle.spec_rules.specs.Settings.{Settings}
 use Rattle.spec_rules.specs.private.Times.{IsAfterAll}
-use Rattle.pr_manager.specs.pr_group.private.Keeping.{MayEvaluateOver}
-use Rattle.pr_manager.specs.private.Keeping.{KeepEach}
+use Rattle.pr_engine.specs.pr_group.private.Keeping.{MayEvaluateOver}
+use Rattle.pr_engine.specs.pr_manager.private.Keeping.{KeepEach}
 use Rattle.pr_backfill.specs.private.Rounds.{HasFilled}
 use Rattle.pr_backfill.proofs.round.evaluate_all.Given as goal
 

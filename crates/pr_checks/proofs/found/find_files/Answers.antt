@@ -1,6 +1,6 @@
 use Rattle.std.proofs.Common.{◌≡◌, [], string_bytes, refl, sym, ap, ◌∙◌, subst, map}
 use Rattle.std.specs.List.{AllByRecursion}
-use Rattle.spec_world.proofs.OutsideWalks.{asked_on, done_on, stop_on}
+use Rattle.pr_outside.proofs.Walks.{asked_on, done_on, stop_on}
 use Rattle.pr_checks.specs.declared.found.FoundFiles.{FoundFiles}
 use Rattle.pr_checks.specs.declared.found.FoundFile.{FoundFile}
 use Rattle.pr_checks.specs.private.RulesFound.{IsShortFile}

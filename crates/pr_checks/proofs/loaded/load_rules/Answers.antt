@@ -1,5 +1,5 @@
 use Rattle.std.proofs.Common.{◌≡◌, ℕ, List, [], Vec, Global, string_bytes, ap, ◌∙◌, subst, map}
-use Rattle.spec_world.proofs.OutsideWalks.{asked_on, done_on, stop_on}
+use Rattle.pr_outside.proofs.Walks.{asked_on, done_on, stop_on}
 use Rattle.pr_checks.specs.declared.found.FoundFile.{FoundFile}
 use Rattle.pr_checks.specs.private.RulesFound.{rules_found}
 use Rattle.pr_checks.specs.private.RulesTaken.{AreKept}

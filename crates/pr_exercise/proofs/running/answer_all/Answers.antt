@@ -1,4 +1,4 @@
-use Rattle.std.proofs.Common.{◌∷◌, ◌∙◌, ℕ, ◌+◌, ◌-◌, [], ◌++◌, refl, sym, subst, arith}
+use Rattle.std.proofs.Common.{◌∷◌, ◌∙◌, ℕ, ◌+◌, ◌-◌, ◌*◌, ◌^◌, ◌≤◌, [], ◌++◌, length, Ok, Err, refl, sym, ap, subst, arith}
 use Rattle.pr_outside.proofs.Ended.{quiet}
 use Rattle.pr_text.specs.spec_world.private.Laws.{HasDistinctFiles}
 use Rattle.pr_text.specs.spec_world.World.{start}
@@ -6,14 +6,32 @@ use Rattle.pr_exercise.specs.Exercise.{exercise_events, turns_from}
 use Rattle.pr_exercise.specs.private.Turns.{AreWithin, HaveDistinctFiles}
 use Rattle.pr_exercise.proofs.Ended.{calm_keep, keep_done, keep_memory, keep_on}
 use Rattle.pr_exercise.proofs.Progress.{answered_all, answered_halts, answered_on, answered_stays, come_halts, counted_in, counts_err, halts_as, halts_at, halts_more, stands_first}
-use Rattle.pr_exercise.proofs.Turns.{first_is, no_rounds, one_file, round_files, round_is, rounds_behind}
+use Rattle.pr_exercise.proofs.Turns.{counts_many, few_events, first_is, no_rounds, one_file, round_files, round_is, rounds_behind}
+use Rattle.pr_exercise.proofs.Tallies.{texts_less}
+use Rattle.pr_exercise.proofs.Telling.{keeps_any, keeps_error, keeps_none, keeps_on}
 use Rattle.pr_exercise.proofs.running.answer_all.Goals as goal
 
-pub take-requires : goal.take-requires
-take-requires g c = subst HasDistinctFiles (sym c.in_ok-first_reload.ensures) (one_file 0)
+pub take-requires-clause-files : goal.take-requires-clause-files
+take-requires-clause-files g c = subst HasDistinctFiles (sym c.in_ok-first_reload.ensures) (one_file 0)
 
-pub take_all-requires : goal.take_all-requires
-take_all-requires g c = subst HaveDistinctFiles (sym c.in_ok-events.ensures.events) (round_files c.loop-round.round c.loop-round.targets.number c.loop-round.targets.counts.items)
+pub take-requires-clause-going : goal.take-requires-clause-going
+take-requires-clause-going g c = subst g.E.Worlds.is_going (sym c.in_ok-session.ensures.kept) c.requires
+
+pub take-requires-clause-room : goal.take-requires-clause-room
+take-requires-clause-room g c = texts_less c.in_ok-session.session.tally 1 (2 ^ 64) (omega arith) c.in_ok-session.ensures.room
+
+pub take_all-requires-clause-files : goal.take_all-requires-clause-files
+take_all-requires-clause-files g c =
+    let at = c.loop-round in
+    subst HaveDistinctFiles (sym c.in_ok-events.ensures.events) (round_files at.round at.targets.number at.targets.counts.items)
+
+pub take_all-requires-clause-room : goal.take_all-requires-clause-room
+take_all-requires-clause-room g c =
+    let at = c.loop-round in
+    let made = c.in_ok-events.ensures in
+    let many = length c.in_ok-events.events.items in
+    let few : many ≤ 7 = omega (arith, ap length made.events, few_events at.round at.targets.number at.targets.counts.items at.invariant.four) in
+    texts_less at.session.tally many (7 * (c.args.rounds - at.round)) (omega (arith, few, c.loop-round-test.true, c.get-round-end.ensures.value)) at.invariant.room
 
 -- nothing is answered yet
 
@@ -75,6 +93,10 @@ loop-round-init g c =
             stands = c.in_ok-take.ensures.comes history [] first some;
           };
       small = subst (AreWithin 0) (sym c.in_ok-targets.ensures.counts) (omega arith, (omega arith, (omega arith, (omega arith, tt))));
+      four = omega (arith, ap length c.in_ok-targets.ensures.counts);
+      unbroken = c.in_ok-take.ensures.going;
+      room = c.in_ok-take.ensures.room (7 * (n - 0)) (texts_less c.in_ok-session.session.tally (7 * (n - 0) + 1) (2 ^ 64) (omega (arith, c.get.ensures.few)) c.in_ok-session.ensures.room);
+      tells = c.in_ok-take.ensures.tells;
       told = c.in_ok-take.ensures.told;
       paths = c.in_ok-take.ensures.paths;
       calm = calm_keep Unit (store c.args.keeper.now) (store c.take.new.keeper) tt c.in_ok-take.ensures.ends quiet;
@@ -88,6 +110,8 @@ loop-round-preserved g c =
     let u = c.round.new.self in
     let made = c.in_ok-events.ensures in
     let es = c.in_ok-events.events.items in
+    let n : ℕ = c.args.rounds in
+    let few : length es ≤ 7 = omega (arith, ap length made.events, few_events at.round t.number t.counts.items at.invariant.four) in
     record {
       going = λ history s count some.
           let here = at.invariant.going history s count (c.in_ok-take_all.ensures.told some) in
@@ -96,6 +120,11 @@ loop-round-preserved g c =
           (round_is at.round c.args.rounds t.number u.number t.counts.items u.counts.items es (omega (arith, c.loop-round-test.true, c.get-round-end.ensures.value)) made.events made.number made.counts) here
           (c.in_ok-take_all.ensures.comes history ([] ++ here.some) here.stands some);
       small = made.small;
+      four = omega (arith, at.invariant.four, ap length made.counts, counts_many (30000 * at.round) 0 t.number t.counts.items);
+      unbroken = c.in_ok-take_all.ensures.going;
+      room = c.in_ok-take_all.ensures.room (7 * (n - (at.round + 1)))
+          (texts_less at.session.tally (7 * (n - (at.round + 1)) + length es) (7 * (n - at.round)) (omega (arith, few, c.loop-round-test.true, c.get-round-end.ensures.value)) at.invariant.room);
+      tells = keeps_on (store c.args.keeper.now) (store at.keeper) (store c.take_all.new.keeper) tt (Ok tt) at.invariant.tells c.in_ok-take_all.ensures.tells;
       told = λ some. at.invariant.told (c.in_ok-take_all.ensures.told some);
       paths = c.in_ok-take_all.ensures.paths ∙ at.invariant.paths;
       calm = calm_keep Unit (store at.keeper) (store c.take_all.new.keeper) tt c.in_ok-take_all.ensures.ends quiet ∙ at.invariant.calm;
@@ -179,3 +208,43 @@ returns-in_err-take_all-clause-told g c = λ some. c.loop-round.invariant.told (
 
 pub returns-clause-told : goal.returns-clause-told
 returns-clause-told g c = c.loop-round.invariant.told
+
+-- whether the rows are told
+
+pub returns-in_err-session-clause-tells : goal.returns-in_err-session-clause-tells
+returns-in_err-session-clause-tells g c =
+    let store = g.K.Keeper.means c.args.keeper.now in
+    keeps_any {V = Unit} store store tt c.from_residual.result (keeps_none store tt)
+
+pub returns-in_err-first_reload-clause-tells : goal.returns-in_err-first_reload-clause-tells
+returns-in_err-first_reload-clause-tells g c =
+    let store = g.K.Keeper.means c.args.keeper.now in
+    keeps_any {V = Unit} store store tt c.from_residual-in_err-first_reload.result (keeps_none store tt)
+
+pub returns-in_err-take-clause-tells : goal.returns-in_err-take-clause-tells
+returns-in_err-take-clause-tells g c =
+    let store = g.K.Keeper.means in
+    keeps_error _ Unit (store c.args.keeper.now) (store c.take.new.keeper) c.from_residual-in_err-take.result c.in_err-take.field-0.0 c.from_residual-in_err-take.ensures.1 c.in_err-take.ensures.tells
+
+pub returns-in_err-targets-clause-tells : goal.returns-in_err-targets-clause-tells
+returns-in_err-targets-clause-tells g c =
+    let store = g.K.Keeper.means in
+    keeps_any (store c.args.keeper.now) (store c.take.new.keeper) tt c.from_residual-in_err-targets.result c.in_ok-take.ensures.tells
+
+pub returns-in_err-events-clause-tells : goal.returns-in_err-events-clause-tells
+returns-in_err-events-clause-tells g c =
+    let store = g.K.Keeper.means in
+    keeps_any (store c.args.keeper.now) (store c.loop-round.keeper) tt c.from_residual-in_err-events.result c.loop-round.invariant.tells
+
+pub returns-in_err-take_all-clause-tells : goal.returns-in_err-take_all-clause-tells
+returns-in_err-take_all-clause-tells g c =
+    let store = g.K.Keeper.means in
+    let at = c.loop-round in
+    let e = c.in_err-take_all.field-0.0 in
+    keeps_error _ Unit (store c.args.keeper.now) (store c.take_all.new.keeper) c.from_residual-in_err-take_all.result e c.from_residual-in_err-take_all.ensures.1
+    (keeps_on (store c.args.keeper.now) (store at.keeper) (store c.take_all.new.keeper) tt (Err e) at.invariant.tells c.in_err-take_all.ensures.tells)
+
+pub returns-clause-tells : goal.returns-clause-tells
+returns-clause-tells g c =
+    let store = g.K.Keeper.means in
+    keeps_any (store c.args.keeper.now) (store c.loop-round.keeper) tt _ c.loop-round.invariant.tells

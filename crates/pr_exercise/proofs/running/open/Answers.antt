@@ -4,8 +4,9 @@ use Rattle.pr_outside.specs.Outside.{Outside}
 use Rattle.pr_outside.specs.declared.status.status.Stop.{Stop}
 use Rattle.pr_outside.proofs.Ended.{quiet}
 use Rattle.pr_outside.proofs.Endings.{bad_of, ends_as}
-use Rattle.pr_text.specs.spec_history.Stores.{KeepEnds, IsBadIn}
+use Rattle.pr_outside.specs.Stores.{KeepEnds, IsBadIn, StartsTelling}
 use Rattle.pr_exercise.proofs.Opening.{stop_front, stop_opened}
+use Rattle.pr_exercise.proofs.Telling.{starts_stop}
 use Rattle.pr_exercise.proofs.running.open.Goals as goal
 
 pub returns-in-Ok-clause-ends : goal.returns-in-Ok-clause-ends
@@ -51,3 +52,18 @@ returns-in-Err-clause-opens g c =
     let a = (keeper c.args.keeper.now).paths in
     let b = (keeper c.start.new.keeper).paths in
     stop_opened g.row.E.Denot g.row.E.Denot [] a b c.in-Err.stop c.told_stop.result (subst (λ (r : Result _ Stop). OpensBy [] a b r) c.in-Err.is c.start.ensures.opens) (λ other. (c.told_stop.ensures.other other).0)
+
+-- and its rows are told
+
+pub returns-in-Ok-clause-tells : goal.returns-in-Ok-clause-tells
+returns-in-Ok-clause-tells g c =
+    let keeper = g.K.Keeper.means in
+    subst (λ (r : Result _ Stop). StartsTelling (keeper c.args.keeper.now) (keeper c.start.new.keeper) r) c.in-Ok.is c.start.ensures.tells
+
+pub returns-in-Err-clause-tells : goal.returns-in-Err-clause-tells
+returns-in-Err-clause-tells g c =
+    let keeper = g.K.Keeper.means in
+    let a = keeper c.args.keeper.now in
+    let b = keeper c.start.new.keeper in
+    starts_stop g.row.E.Denot g.row.E.Denot a b c.in-Err.stop c.told_stop.result (λ other. (c.told_stop.ensures.other other).0)
+    (subst (λ (r : Result _ Stop). StartsTelling a b r) c.in-Err.is c.start.ensures.tells)

@@ -1,9 +1,9 @@
-use Rattle.std.proofs.Common.{◌≡◌, ◌∙◌, ℕ, List, [], ◌++◌, Option, Result, Err, IsSome, OnOk, take, refl, sym, ap, subst}
+use Rattle.std.proofs.Common.{◌≡◌, ◌∙◌, ℕ, List, [], ◌++◌, Option, Result, Ok, Err, IsSome, OnOk, take, refl, sym, ap, subst}
 use Rattle.std.specs.Prelude.{is_some}
 use Rattle.std.specs.Io.KnownBytes.{Appends}
 use Rattle.pr_outside.specs.private.Kept.{StartsRows}
 use Rattle.pr_outside.specs.Meant.{Output}
-use Rattle.pr_outside.specs.declared.keeping.Row.{Row}
+use Rattle.pr_outside.specs.spec_history.declared.row.Row.{Row}
 use Rattle.pr_text.specs.spec_history.Histories.{history_of}
 use Rattle.pr_exercise.specs.Exercise.{exercise_events}
 use Rattle.pr_exercise.specs.Summary.{lines_told, summary_of}
@@ -17,13 +17,14 @@ use Rattle.pr_text.specs.spec_world.World.{start}
 use Rattle.pr_text.specs.BadRows.{bad_row_text}
 use Rattle.pr_text.specs.spec_rules.Settings.{of_a_run}
 use Rattle.pr_text.specs.spec_world.Step.{rows_of}
-use Rattle.pr_text.specs.spec_history.Stores.{IsBadIn}
+use Rattle.pr_outside.specs.Stores.{IsBadIn}
 use Rattle.pr_outside.proofs.Endings.{bad_of, ends_as, ends_behind, ends_wider}
-use Rattle.pr_text.proofs.HistoryStoredRows.{over_history}
+use Rattle.pr_outside.proofs.StoredRows.{over_history}
 use Rattle.pr_exercise.specs.Means.{EndsBy}
 use Rattle.pr_exercise.specs.declared.tally.Tally.{Tally}
 use Rattle.pr_exercise.proofs.Tallies.{summary_is}
 use Rattle.pr_exercise.proofs.Over.{at_rows, no_bad_row, on_rows, row_error, stopped, told, unopened, write_fine}
+use Rattle.pr_exercise.proofs.Telling.{starts_any, starts_error, starts_on, starts_stop}
 use Rattle.pr_exercise.proofs.running.run.Goals as goal
 
 pub returns-in_err-kept-clause-over : goal.returns-in_err-kept-clause-over
@@ -158,3 +159,26 @@ returns-clause-row g c = λ at is. absurd (write_fine (g.O.Sink.means c.open.new
 pub returns-in_err-kept-clause-row : goal.returns-in_err-kept-clause-row
 returns-in_err-kept-clause-row g c = λ at is.
     c.in_err-kept.ensures.bad at (ap (λ (s : Stop). Err s) (row_error c.from_residual.result c.in_err-kept.field-0.0 at c.from_residual.ensures.1 is))
+
+-- whether the rows are told
+
+pub returns-in_err-kept-clause-tells : goal.returns-in_err-kept-clause-tells
+returns-in_err-kept-clause-tells g c =
+    let keeper = g.K.Keeper.means in
+    starts_error Unit _ (keeper c.args.keeper.now) (keeper c.open.new.keeper) c.from_residual.result c.in_err-kept.field-0.0 c.from_residual.ensures.1 c.in_err-kept.ensures.tells
+
+pub returns-in-Err-clause-tells : goal.returns-in-Err-clause-tells
+returns-in-Err-clause-tells g c =
+    let keeper = g.K.Keeper.means in
+    let a = keeper c.args.keeper.now in
+    let b = keeper c.answer_all.new.keeper in
+    starts_stop Unit Tally a b c.in-Err.stop c.told_stop.result (λ other. (c.told_stop.ensures.other other).0)
+    (starts_on a (keeper c.open.new.keeper) b c.in_ok-kept.kept (Err c.in-Err.stop) c.in_ok-kept.ensures.tells c.in-Err.ensures.tells)
+
+pub returns-clause-tells : goal.returns-clause-tells
+returns-clause-tells g c =
+    let keeper = g.K.Keeper.means in
+    let a = keeper c.args.keeper.now in
+    let b = keeper c.answer_all.new.keeper in
+    starts_any a b c.in-Ok.tally c.tell_summary.result
+    (starts_on a (keeper c.open.new.keeper) b c.in_ok-kept.kept (Ok c.in-Ok.tally) c.in_ok-kept.ensures.tells c.in-Ok.ensures.tells)

@@ -4,7 +4,7 @@ use Rattle.pr_outside.specs.Outside.{Outside}
 use Rattle.pr_outside.specs.declared.status.status.Stop.{Stop}
 use Rattle.pr_outside.proofs.Ended.{in_time_on, in_time_same}
 use Rattle.pr_outside.proofs.Endings.{bad_of, calm_of, ends_late, ends_wider, row_ends}
-use Rattle.pr_text.specs.spec_history.Stores.{IsBadIn}
+use Rattle.pr_outside.specs.Stores.{IsBadIn}
 use Rattle.pr_text.proofs.Lines.{write_row}
 use Rattle.pr_exercise.proofs.running.told_stop.Goals as goal
 

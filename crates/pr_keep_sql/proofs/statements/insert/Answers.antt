@@ -2,7 +2,7 @@ use Rattle.std.proofs.Common.{◌≡◌, pos, unsigned_abs, rules, arith, FitsSi
 use Rattle.std.proofs.lemmas.Int.{to_z-of_z}
 use Rattle.sqlite.specs.Held.{state}
 use Rattle.sqlite.specs.State.{HasCleanDisk}
-use Rattle.pr_outside.specs.declared.keeping.Row.{Row}
+use Rattle.pr_outside.specs.spec_history.declared.row.Row.{Row}
 use Rattle.pr_keep_sql.proofs.StateLemmas.{adds_inside, keeps_inside, lasts_by}
 use Rattle.pr_keep_sql.proofs.statements.insert.Goals as goal
 

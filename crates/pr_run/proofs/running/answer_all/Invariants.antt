@@ -1,7 +1,8 @@
-use Rattle.std.proofs.Common.{◌≡◌, ◌+◌, ◌-◌, ◌^◌, ℕ, List, IsSome}
+use Rattle.std.proofs.Common.{◌≡◌, ◌+◌, ◌-◌, ◌^◌, ℕ, Bool, true, List, Ok, IsSome}
 use Rattle.std.specs.Io.KnownBytes.{Appends}
 use Rattle.pr_outside.specs.Courses.{GoesOn}
-use Rattle.pr_text.specs.private.LineReading.{ahead, CountsBytes, IsReadOn}
+use Rattle.pr_outside.specs.Stores.{KeepsTelling}
+use Rattle.pr_text.specs.private.LineReading.{ahead, CountsBytes, IsReadOn, KnowsCourse}
 use Rattle.pr_text.specs.private.Reading.{unread, IsReady}
 use Rattle.pr_run.proofs.Goings.{Going}
 use Rattle.pr_run.proofs.running.answer_all.Given as goal
@@ -14,7 +15,9 @@ invariant-answering g l = record {
       (ahead (unread l.reader) (g.I.Source.means l.input).left) l.reader.number;
   written : (text : List ℕ) × Appends (g.O.Sink.means l.fn.out).taken (g.O.Sink.means l.out).taken text;
   ready : IsReady 0 l.reader (g.I.Source.means l.input).left;
-  counts : CountsBytes (g.I.Source.means l.fn.input).left (g.I.Source.means l.input).left 0 l.reader.lines.count;
+  counts : CountsBytes (g.I.Source.means l.fn.input) (g.I.Source.means l.input) 0 l.reader.lines.count;
+  is_going : g.E.Worlds.is_going l.session.kept;
+  tells : KeepsTelling {T = Bool} (g.K.Keeper.means l.fn.keeper) (g.K.Keeper.means l.keeper) (Ok true);
   told : IsSome (g.K.Keeper.means l.keeper).rows → IsSome (g.K.Keeper.means l.fn.keeper).rows;
   same : (other : List ℕ) → (g.F.Files.means l.files).content other ≡ (g.F.Files.means l.fn.files).content other;
   paths : (g.K.Keeper.means l.keeper).paths ≡ (g.K.Keeper.means l.fn.keeper).paths;
@@ -23,6 +26,7 @@ invariant-answering g l = record {
   keep_calm : (g.K.Keeper.means l.keeper).faults ≡ (g.K.Keeper.means l.fn.keeper).faults;
   write_calm : (g.O.Sink.means l.out).faults ≡ (g.O.Sink.means l.fn.out).faults;
   reads : IsReadOn (g.I.Source.means l.fn.input).course l.reader.lines.ended (g.I.Source.means l.input).course;
+  over : KnowsCourse (g.I.Source.means l.fn.input).course l.reader.lines.ended (g.I.Source.means l.input).course;
   loads : GoesOn (g.F.Files.means l.fn.files).course (g.F.Files.means l.files).course;
   writes : GoesOn (g.O.Sink.means l.fn.out).course (g.O.Sink.means l.out).course;
 }

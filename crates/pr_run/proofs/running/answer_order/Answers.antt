@@ -4,11 +4,12 @@ use Rattle.pr_outside.specs.Ends.{no_row}
 use Rattle.pr_outside.specs.Outside.{Outside}
 use Rattle.pr_outside.specs.declared.status.status.Stop.{Stop}
 use Rattle.pr_outside.proofs.Ended.{ends_on, in_time_on, in_time_same, written_by}
-use Rattle.pr_queue.specs.spec_history.Stores.{IsBadIn}
+use Rattle.pr_outside.specs.Stores.{IsBadIn}
 use Rattle.pr_run.specs.private.Standing.{LeavesFront, WritesTurn}
 use Rattle.pr_run.specs.Told.{turn}
 use Rattle.pr_text.proofs.Lines.{write_row}
 use Rattle.pr_outside.proofs.Endings.{bad_of, calm_of, ends_late, ends_wider, row_ends}
+use Rattle.pr_run.proofs.Tellings.{keeps_as, keeps_row}
 use Rattle.pr_run.proofs.running.answer_order.Goals as goal
 
 pub returns-in-Ok-clause-sends : goal.returns-in-Ok-clause-sends
@@ -144,3 +145,40 @@ returns-in-Some-clause-ends g c = λ others.
 pub returns-clause-ends : goal.returns-clause-ends
 returns-clause-ends g c = λ others.
     c.in-Err.ensures.ends (record others { out = g.O.Sink.means c.args.out.now })
+
+-- told rows stay told
+
+pub returns-in_err-send-in-Ok-clause-tells : goal.returns-in_err-send-in-Ok-clause-tells
+returns-in_err-send-in-Ok-clause-tells g c =
+    let keeper = g.K.Keeper.means in
+    let a = keeper c.args.keeper.now in
+    let b = keeper c.take_order.new.keeper in
+    keeps_as _ _ a b _ c.from_residual.result c.in-Ok.ensures.tells
+
+pub returns-in-Ok-clause-tells : goal.returns-in-Ok-clause-tells
+returns-in-Ok-clause-tells g c =
+    let keeper = g.K.Keeper.means in
+    let a = keeper c.args.keeper.now in
+    let b = keeper c.take_order.new.keeper in
+    keeps_as _ _ a b _ _ c.in-Ok.ensures.tells
+
+pub returns-in_err-tell_bad_row-in-Some-clause-tells : goal.returns-in_err-tell_bad_row-in-Some-clause-tells
+returns-in_err-tell_bad_row-in-Some-clause-tells g c =
+    let keeper = g.K.Keeper.means in
+    let a = keeper c.args.keeper.now in
+    let b = keeper c.take_order.new.keeper in
+    keeps_row _ _ a b c.from_residual-in_err-tell_bad_row-in-Some.result c.in-Err.stop c.in-Some.index c.in-Some.ensures.some c.in-Err.ensures.tells
+
+pub returns-in-Some-clause-tells : goal.returns-in-Some-clause-tells
+returns-in-Some-clause-tells g c =
+    let keeper = g.K.Keeper.means in
+    let a = keeper c.args.keeper.now in
+    let b = keeper c.take_order.new.keeper in
+    c.in-Err.ensures.tells
+
+pub returns-clause-tells : goal.returns-clause-tells
+returns-clause-tells g c =
+    let keeper = g.K.Keeper.means in
+    let a = keeper c.args.keeper.now in
+    let b = keeper c.take_order.new.keeper in
+    c.in-Err.ensures.tells

@@ -6,12 +6,13 @@ use Rattle.pr_outside.specs.declared.status.status.Stop.{Stop}
 use Rattle.pr_outside.proofs.Ended.{ends_on, in_time_on, in_time_same, quiet}
 use Rattle.pr_outside.proofs.Opening.{opened_on, row_opened, stopped_opening}
 use Rattle.pr_text.specs.spec_world.World.{start}
-use Rattle.pr_queue.specs.spec_history.Stores.{KeepEnds, IsBadIn}
-use Rattle.pr_text.specs.spec_world.private.Keeping.{Starts}
+use Rattle.pr_outside.specs.Stores.{KeepEnds, IsBadIn, StartsTelling}
+use Rattle.pr_text.specs.private.Keeping.{Starts}
 use Rattle.pr_text.specs.BadRows.{bad_row_text}
 use Rattle.pr_run.proofs.Begins.{opened_front, opened_whole, row_front}
 use Rattle.pr_text.proofs.Lines.{whole_front, write_row}
 use Rattle.pr_outside.proofs.Endings.{bad_of, calm_of, ends_as, ends_wider, row_ends}
+use Rattle.pr_run.proofs.Tellings.{starts_as, starts_row, starts_stop}
 use Rattle.pr_run.proofs.running.begin.Goals as goal
 
 pub returns-in_err-tell_opened-in-Ok-clause-front : goal.returns-in_err-tell_opened-in-Ok-clause-front
@@ -167,3 +168,44 @@ returns-in-None-clause-opens g c =
     let a = (keeper c.args.keeper.now).paths in
     let b = (keeper c.start.new.keeper).paths in
     stopped_opening Unit Unit c.args.path.now a b c.in-Err.stop (subst (λ (r : Result _ Stop). OpensBy c.args.path.now a b r) c.in-Err.is c.start.ensures.opens)
+
+-- the rows are told
+
+pub returns-in_err-tell_opened-in-Ok-clause-tells : goal.returns-in_err-tell_opened-in-Ok-clause-tells
+returns-in_err-tell_opened-in-Ok-clause-tells g c =
+    let keeper = g.K.Keeper.means in
+    let a = keeper c.args.keeper.now in
+    let b = keeper c.start.new.keeper in
+    starts_as _ _ a b _ c.from_residual.result (subst (λ (r : Result _ Stop). StartsTelling a b r) c.in-Ok.is c.start.ensures.tells)
+
+pub returns-in_ok-tell_opened-in-Ok-clause-tells : goal.returns-in_ok-tell_opened-in-Ok-clause-tells
+returns-in_ok-tell_opened-in-Ok-clause-tells g c =
+    let keeper = g.K.Keeper.means in
+    let a = keeper c.args.keeper.now in
+    let b = keeper c.start.new.keeper in
+    starts_as _ _ a b _ _ (subst (λ (r : Result _ Stop). StartsTelling a b r) c.in-Ok.is c.start.ensures.tells)
+
+pub returns-in_err-tell_bad_row-in-Some-clause-tells : goal.returns-in_err-tell_bad_row-in-Some-clause-tells
+returns-in_err-tell_bad_row-in-Some-clause-tells g c =
+    let keeper = g.K.Keeper.means in
+    let a = keeper c.args.keeper.now in
+    let b = keeper c.start.new.keeper in
+    starts_row _ _ a b c.from_residual-in_err-tell_bad_row-in-Some.result c.in-Err.stop c.in-Some.index c.in-Some.ensures.some (subst (λ (r : Result _ Stop). StartsTelling a b r) c.in-Err.is c.start.ensures.tells)
+
+pub returns-in_ok-tell_bad_row-in-Some-clause-tells : goal.returns-in_ok-tell_bad_row-in-Some-clause-tells
+returns-in_ok-tell_bad_row-in-Some-clause-tells g c =
+    let keeper = g.K.Keeper.means in
+    let a = keeper c.args.keeper.now in
+    let b = keeper c.start.new.keeper in
+    starts_stop _ _ a b c.in-Err.stop (subst (λ (r : Result _ Stop). StartsTelling a b r) c.in-Err.is c.start.ensures.tells)
+
+pub returns-in-None-clause-tells : goal.returns-in-None-clause-tells
+returns-in-None-clause-tells g c =
+    let keeper = g.K.Keeper.means in
+    let a = keeper c.args.keeper.now in
+    let b = keeper c.start.new.keeper in
+    starts_stop _ _ a b c.in-Err.stop (subst (λ (r : Result _ Stop). StartsTelling a b r) c.in-Err.is c.start.ensures.tells)
+
+pub returns-in_ok-tell_opened-in-Ok-clause-going : goal.returns-in_ok-tell_opened-in-Ok-clause-going
+returns-in_ok-tell_opened-in-Ok-clause-going g c =
+    subst g.E.Worlds.is_going (sym c.new.ensures.kept) (subst (λ (r : Result _ Stop). IfOk r g.E.Worlds.is_going) c.in-Ok.is c.start.ensures.going)

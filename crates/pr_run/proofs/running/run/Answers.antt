@@ -1,22 +1,23 @@
 use Rattle.std.proofs.Common.{List, [], Option, Result, Err, IsSome, refl, sym, ap, subst}
 use Rattle.std.specs.Prelude.{is_some}
-use Rattle.pr_outside.specs.declared.keeping.Row.{Row}
+use Rattle.pr_outside.specs.spec_history.declared.row.Row.{Row}
 use Rattle.pr_outside.specs.private.Kept.{StartsRows}
 use Rattle.pr_queue.specs.spec_history.Histories.{history_of}
 use Rattle.pr_outside.specs.Outside.{Outside}
-use Rattle.pr_outside.specs.Status.{IsLong}
+use Rattle.pr_outside.specs.Status.{IsTooLong}
 use Rattle.pr_outside.specs.declared.status.status.Stop.{Stop}
 use Rattle.pr_outside.proofs.Ended.{ends_on, in_time_same, quiet}
 use Rattle.pr_outside.proofs.Opening.{opened_on, opening_error}
 use Rattle.pr_outside.proofs.Telling.{at_told, on_told}
 use Rattle.pr_text.specs.spec_world.World.{start}
-use Rattle.pr_queue.specs.spec_history.Stores.{IsBadIn}
+use Rattle.pr_outside.specs.Stores.{IsBadIn}
 use Rattle.pr_run.specs.Runs.{EndsBy, EndsOver}
 use Rattle.pr_outside.proofs.Endings.{ends_behind, bad_of, ends_wider, known_answer}
-use Rattle.pr_queue.proofs.HistoryStoredRows.{over_history}
+use Rattle.pr_outside.proofs.StoredRows.{over_history}
 use Rattle.pr_run.proofs.Starts.{at_rows, begin_stop, on_rows, over_begun}
 use Rattle.pr_run.proofs.Stops.{row_after, row_alone, row_of_stop}
 use Rattle.pr_run.specs.Told.{told_of}
+use Rattle.pr_run.proofs.Tellings.{starts_err, starts_on}
 use Rattle.pr_run.proofs.running.run.Goals as goal
 
 pub returns-in_err-session-clause-over : goal.returns-in_err-session-clause-over
@@ -48,7 +49,7 @@ returns-clause-row g c = λ at is.
 
 pub returns-in_err-session-clause-long : goal.returns-in_err-session-clause-long
 returns-in_err-session-clause-long g c =
-    known_answer _ _ _ (g.I.Source.means c.args.input.now).left _ _ c.from_residual.result c.in_err-session.field-0.0 c.from_residual.ensures.1 (c.in_err-session.ensures.ends quiet)
+    known_answer _ _ _ (g.I.Source.means c.args.input.now) (g.I.Source.means c.args.input.now) _ _ c.from_residual.result c.in_err-session.field-0.0 c.from_residual.ensures.1 (c.in_err-session.ensures.ends quiet)
 
 pub returns-in_err-session-clause-ends : goal.returns-in_err-session-clause-ends
 returns-in_err-session-clause-ends g c =
@@ -56,9 +57,9 @@ returns-in_err-session-clause-ends g c =
     let out = g.O.Sink.means in
     let before : Outside = record { input = g.I.Source.means c.args.input.now; files = g.F.Files.means c.args.files.now; store = keeper c.args.keeper.now; out = out c.args.out.now } in
     let now : Outside = record before { store = keeper c.begin.new.keeper; out = out c.begin.new.out } in
-    ends_on _ _ (IsBadIn now.store) (IsLong before.input.left) before before now c.from_residual.result c.in_err-session.field-0.0 c.from_residual.ensures.1 (refl, refl, refl, refl)
+    ends_on _ _ (IsBadIn now.store) (IsTooLong before.input before.input) before before now c.from_residual.result c.in_err-session.field-0.0 c.from_residual.ensures.1 (refl, refl, refl, refl)
     (in_time_same before.input.course) (λ e. e) (λ e. e)
-    (ends_wider _ (IsBadIn now.store) (IsBadIn now.store) ⊥ (IsLong before.input.left) before now (Err c.in_err-session.field-0.0) (λ i bad. bad) (λ never. absurd never) (c.in_err-session.ensures.ends before))
+    (ends_wider _ (IsBadIn now.store) (IsBadIn now.store) ⊥ (IsTooLong before.input before.input) before now (Err c.in_err-session.field-0.0) (λ i bad. bad) (λ never. absurd never) (c.in_err-session.ensures.ends before))
 
 pub returns-clause-over : goal.returns-clause-over
 returns-clause-over g c =
@@ -97,7 +98,7 @@ returns-clause-ends g c =
       out = out c.answer_all.new.out;
     } in
     let l = c.in_ok-session.ensures.ends before in
-    ends_behind (IsBadIn now.store) (IsLong before.input.left) before mid now c.answer_all.result l.cause c.answer_all.ensures.ends.input l.files l.out c.answer_all.ensures.ends
+    ends_behind (IsBadIn now.store) (IsTooLong before.input now.input) before mid now c.answer_all.result l.cause c.answer_all.ensures.ends.input l.files l.out c.answer_all.ensures.ends
 
 pub returns-in_err-session-clause-opens : goal.returns-in_err-session-clause-opens
 returns-in_err-session-clause-opens g c =
@@ -110,3 +111,13 @@ returns-clause-opens g c =
     let keeper = g.K.Keeper.means in
     opened_on _ c.args.path.now (keeper c.args.keeper.now).paths (keeper c.begin.new.keeper).paths (keeper c.answer_all.new.keeper).paths c.answer_all.result
     c.in_ok-session.ensures.opens c.answer_all.ensures.paths
+
+pub returns-in_err-session-clause-tells : goal.returns-in_err-session-clause-tells
+returns-in_err-session-clause-tells g c =
+    let keeper = g.K.Keeper.means in
+    starts_err _ _ (keeper c.args.keeper.now) (keeper c.begin.new.keeper) c.from_residual.result c.in_err-session.field-0.0 c.from_residual.ensures.1 c.in_err-session.ensures.tells
+
+pub returns-clause-tells : goal.returns-clause-tells
+returns-clause-tells g c =
+    let keeper = g.K.Keeper.means in
+    starts_on _ _ (keeper c.args.keeper.now) (keeper c.begin.new.keeper) (keeper c.answer_all.new.keeper) _ c.answer_all.result c.in_ok-session.ensures.tells c.answer_all.ensures.tells

@@ -1,4 +1,4 @@
-use Rattle.spec_world.proofs.OutsideEnded.{write_on}
+use Rattle.pr_outside.proofs.Ended.{write_on}
 use Rattle.pr_text.proofs.rows.tell_opened.Goals as goal
 
 pub returns-in_err-send-clause-ends : goal.returns-in_err-send-clause-ends

@@ -1,4 +1,3 @@
-use Rattle.std.proofs.Common.{ℕ, pos, ◌-ℤ◌}
 use Rattle.pr_backfill.proofs.Evaluating.{keeps_on, may_evaluate}
 use Rattle.pr_backfill.proofs.backfill_command.filling.evaluate_with.Goals as goal
 

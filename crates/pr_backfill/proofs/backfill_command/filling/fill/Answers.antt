@@ -1,8 +1,8 @@
-use Rattle.std.proofs.Common.{◌≡◌, ℕ, List, Option, Err, IsSome, ap, inl, map, refl, subst}
+use Rattle.std.proofs.Common.{List, Option, Err, IsSome, ap, inl, map, refl, subst}
 use Rattle.std.specs.Prelude.{is_some}
 use Rattle.pr_outside.specs.private.Kept.{StartsRows}
 use Rattle.pr_outside.specs.Meant.{Output}
-use Rattle.pr_outside.specs.declared.keeping.Row.{Row}
+use Rattle.pr_outside.specs.spec_history.declared.row.Row.{Row}
 use Rattle.pr_backfill.specs.Filled.{filled}
 use Rattle.pr_outside.specs.Ends.{no_row}
 use Rattle.pr_outside.specs.Outside.{Outside}
@@ -10,13 +10,14 @@ use Rattle.pr_outside.specs.declared.status.status.Stop.{Stop}
 use Rattle.pr_outside.specs.declared.status.status.Stop.TheVariants.{Memory}
 use Rattle.pr_outside.proofs.Ended.{ends_memory, in_time_same}
 use Rattle.pr_outside.proofs.Opening.{opened_on, opening_error}
-use Rattle.spec_rules.specs.spec_history.Stores.{IsBadIn}
+use Rattle.pr_outside.specs.Stores.{IsBadIn}
 use Rattle.pr_outside.proofs.Endings.{ends_behind, bad_of, ends_wider}
 use Rattle.pr_checks.specs.private.RulesTaken.{loaded_of}
 use Rattle.pr_backfill.specs.private.Standing.{FillingFinishes}
 use Rattle.pr_backfill.proofs.Opened.{opens_more}
 use Rattle.pr_backfill.proofs.Over.{at_rows, ends_ending, ends_error, filled_over, on_rows, row_error, unopened}
 use Rattle.pr_backfill.proofs.Parts.{part_fine}
+use Rattle.pr_backfill.proofs.Telling.{starts_error, starts_memory, starts_on}
 use Rattle.pr_backfill.proofs.Unopened.{front_none, starts_same, told_still}
 use Rattle.pr_backfill.proofs.backfill_command.filling.fill.Goals as goal
 
@@ -120,3 +121,18 @@ pub returns-clause-unopened : goal.returns-clause-unopened
 returns-clause-unopened g c = λ same.
     let keeper = g.K.Keeper.means in
     absurd (opens_more c.args.path.now (keeper c.args.keeper.now).paths (keeper c.open.new.keeper).paths (keeper c.fill_over.new.keeper).paths c.in_ok-head.ensures.opens c.fill_over.ensures.part.paths same)
+
+-- whether they are told
+
+pub returns-in_err-groups-clause-tells : goal.returns-in_err-groups-clause-tells
+returns-in_err-groups-clause-tells g c = starts_memory Unit (g.K.Keeper.means c.args.keeper.now) c.from_residual.result c.from_residual.ensures.1
+
+pub returns-in_err-head-clause-tells : goal.returns-in_err-head-clause-tells
+returns-in_err-head-clause-tells g c =
+    let keeper = g.K.Keeper.means in
+    starts_error Unit _ (keeper c.args.keeper.now) (keeper c.open.new.keeper) c.from_residual-in_err-head.result c.in_err-head.field-0.0 c.from_residual-in_err-head.ensures.1 c.in_err-head.ensures.tells
+
+pub returns-clause-tells : goal.returns-clause-tells
+returns-clause-tells g c =
+    let keeper = g.K.Keeper.means in
+    starts_on (keeper c.args.keeper.now) (keeper c.open.new.keeper) (keeper c.fill_over.new.keeper) c.in_ok-head.head c.fill_over.result c.in_ok-head.ensures.tells c.fill_over.ensures.part.tells

@@ -1,4 +1,4 @@
-use Rattle.std.proofs.Common.{◌∙◌, ◌++◌, ◌-◌, [], Ok, ℕ, List, append-nil, ap, sym, subst, take}
+use Rattle.std.proofs.Common.{◌∙◌, ◌-◌, [], Ok, ℕ, List, append-nil, ap, sym, subst, take}
 use Rattle.std.specs.Io.KnownBytes.{Appends}
 use Rattle.pr_text.specs.spec_world.declared.report.Report.TheVariants.{Opened}
 use Rattle.spec_rules.specs.Settings.{of_a_run}

@@ -1,4 +1,4 @@
-use Rattle.std.proofs.Common.{[], ◌++◌, Ok, refl}
+use Rattle.std.proofs.Common.{◌++◌, Ok, refl}
 use Rattle.spec_rules.specs.Settings.{of_a_run}
 use Rattle.pr_backfill.specs.Filled.{filled_from, rows_filled}
 use Rattle.pr_backfill.proofs.Parts.{part_err, part_none, part_on}

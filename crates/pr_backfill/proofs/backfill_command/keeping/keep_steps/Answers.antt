@@ -1,4 +1,4 @@
-use Rattle.std.proofs.Common.{◌≡◌, ◌∷◌, ◌++◌, [], Ok, length, map, arith}
+use Rattle.std.proofs.Common.{◌≡◌, ◌∷◌, ◌++◌, Ok, length, map, arith}
 use Rattle.std.proofs.lemmas.List.{nil_from_length}
 use Rattle.pr_backfill.specs.Filled.{at_time}
 use Rattle.pr_backfill.proofs.Parts.{part_err, part_none, part_on}

@@ -3,9 +3,10 @@ use Rattle.pr_outside.specs.Outside.{Outside}
 use Rattle.pr_outside.proofs.Ended.{in_time_same}
 use Rattle.pr_outside.proofs.Endings.{ends_behind}
 use Rattle.pr_outside.proofs.Opening.{opened_on}
-use Rattle.spec_rules.specs.spec_history.Stores.{IsBadIn}
+use Rattle.pr_outside.specs.Stores.{IsBadIn}
 use Rattle.pr_backfill.proofs.Opened.{opens_more, refused_opens}
-use Rattle.pr_backfill.proofs.Unopened.{front_none, keeps_starts, refused_row, refused_start, same_told, starts_on}
+use Rattle.pr_backfill.proofs.Telling.{starts_on, starts_refused}
+use Rattle.pr_backfill.proofs.Unopened.{front_none, keeps_starts, refused_row, refused_start, same_told, starts_behind}
 use Rattle.pr_backfill.proofs.backfill_command.opening.open.Goals as goal
 
 -- the store is opened
@@ -13,7 +14,7 @@ use Rattle.pr_backfill.proofs.backfill_command.opening.open.Goals as goal
 pub returns-in-Ok-clause-rows : goal.returns-in-Ok-clause-rows
 returns-in-Ok-clause-rows g c =
     let keeper = g.K.Keeper.means in
-    starts_on (keeper c.args.keeper.now).rows (keeper c.start.new.self).rows (keeper c.read_rows.new.keeper).rows c.in-Ok.ensures.ok c.read_rows.ensures.rows
+    starts_behind (keeper c.args.keeper.now).rows (keeper c.start.new.self).rows (keeper c.read_rows.new.keeper).rows c.in-Ok.ensures.ok c.read_rows.ensures.rows
 
 pub returns-in-Ok-clause-opens : goal.returns-in-Ok-clause-opens
 returns-in-Ok-clause-opens g c =
@@ -64,3 +65,15 @@ pub returns-in-Err-clause-ends : goal.returns-in-Err-clause-ends
 returns-in-Err-clause-ends g c = λ others.
     let keeper = g.K.Keeper.means in
     refused_start (keeper c.args.keeper.now) (keeper c.start.new.self) (g.O.Sink.means c.args.out.now) others _ Unit c.in-Err.error c.from.result c.from.ensures c.in-Err.ensures.cause
+
+-- whether its rows are told
+
+pub returns-in-Ok-clause-tells : goal.returns-in-Ok-clause-tells
+returns-in-Ok-clause-tells g c =
+    let keeper = g.K.Keeper.means in
+    starts_on {V = Unit} (keeper c.args.keeper.now) (keeper c.start.new.self) (keeper c.read_rows.new.keeper) tt c.read_rows.result (record { sound = c.in-Ok.ensures.sound; told = c.in-Ok.ensures.tells }) c.read_rows.ensures.tells
+
+pub returns-in-Err-clause-tells : goal.returns-in-Err-clause-tells
+returns-in-Err-clause-tells g c =
+    let keeper = g.K.Keeper.means in
+    starts_refused _ (keeper c.args.keeper.now) (keeper c.start.new.self) c.in-Err.error c.from.result c.from.ensures c.in-Err.ensures.sound

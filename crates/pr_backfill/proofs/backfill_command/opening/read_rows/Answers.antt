@@ -1,10 +1,11 @@
 use Rattle.std.proofs.Common.{Err, ap, subst, length, arith}
-use Rattle.pr_manager.specs.pr_head.private.Causes.{HasStartCause}
-use Rattle.pr_manager.specs.pr_head.declared.rows.fault.StartError.{StartError}
+use Rattle.pr_engine.specs.private.StartCauses.{HasStartCause}
+use Rattle.pr_engine.specs.declared.rows.fault.StartError.{StartError}
 use Rattle.pr_text.specs.BadRows.{bad_row_text}
 use Rattle.pr_text.proofs.Lines.{whole_front, write_row}
 use Rattle.pr_outside.specs.declared.status.status.Stop.TheVariants.{BadRow}
 use Rattle.pr_backfill.proofs.Unopened.{front_row, start_row, start_untold}
+use Rattle.pr_backfill.proofs.Telling.{keeps_row}
 use Rattle.pr_backfill.proofs.backfill_command.opening.read_rows.Goals as goal
 
 -- the line could not be written
@@ -44,3 +45,17 @@ returns-in_ok-tell_bad_row-in-Err-BadRow-clause-ends g c = λ others.
     let b = c.in-Err-BadRow in
     start_row (g.K.Keeper.means c.args.keeper.now) (g.K.Keeper.means c.load.new.keeper) (g.O.Sink.means c.args.out.now) others _ _ (g.O.Sink.means c.tell_bad_row.new.out) tt b.index (subst (λ (e : StartError). HasStartCause {T = Unit} (g.K.Keeper.means c.args.keeper.now).faults (g.K.Keeper.means c.load.new.keeper).faults (Err e)) b.field-0-is b.ensures.cause)
     (b.ensures.bad b.index (ap (λ (e : StartError). Err e) b.field-0-is)) c.in_ok-tell_bad_row-in-Err-BadRow.ensures.ends
+
+-- whether they are told
+
+pub returns-in_err-tell_bad_row-in-Err-BadRow-clause-tells : goal.returns-in_err-tell_bad_row-in-Err-BadRow-clause-tells
+returns-in_err-tell_bad_row-in-Err-BadRow-clause-tells g c =
+    let keeper = g.K.Keeper.means in
+    let b = c.in-Err-BadRow in
+    keeps_row _ Unit (keeper c.args.keeper.now) (keeper c.load.new.keeper) c.from_residual.result b.field-0 b.index b.field-0-is b.ensures.sound b.ensures.tells
+
+pub returns-in_ok-tell_bad_row-in-Err-BadRow-clause-tells : goal.returns-in_ok-tell_bad_row-in-Err-BadRow-clause-tells
+returns-in_ok-tell_bad_row-in-Err-BadRow-clause-tells g c =
+    let keeper = g.K.Keeper.means in
+    let b = c.in-Err-BadRow in
+    keeps_row _ Unit (keeper c.args.keeper.now) (keeper c.load.new.keeper) (Err (BadRow b.index)) b.field-0 b.index b.field-0-is b.ensures.sound b.ensures.tells

@@ -1,7 +1,7 @@
 use Rattle.std.proofs.Common.{ℕ, map, string_bytes, sym, subst}
 use Rattle.std.proofs.lemmas.List.{length-map}
 use Rattle.pr_outside.specs.Outside.{Outside}
-use Rattle.spec_rules.specs.spec_history.Stores.{IsBadIn}
+use Rattle.pr_outside.specs.Stores.{IsBadIn}
 use Rattle.pr_checks.specs.RulesLoaded.{all_rules}
 use Rattle.pr_backfill.specs.Means.{AsksFirst}
 use Rattle.pr_backfill.proofs.Meaning.{fills_with}
@@ -20,6 +20,8 @@ returns-clause-means g c = λ others.
       ends = c.run.ensures.ends others;
       opens = c.run.ensures.opens;
       unopened = c.run.ensures.unopened;
+      tells = c.run.ensures.tells;
+      keeps = c.run.ensures.keeps;
       asked = subst (λ (n : ℕ). AsksFirst before.files.calls now.files.calls n c.run.result) (sym (length-map c.args.names.now string_bytes)) c.run.ensures.asked;
       unwritten = c.run.ensures.unwritten;
       row = c.run.ensures.bad;

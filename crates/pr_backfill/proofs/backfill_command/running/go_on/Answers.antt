@@ -1,16 +1,17 @@
-use Rattle.std.proofs.Common.{◌≡◌, ℕ, Bool, true, false, List, IfSome, map, length, subst}
+use Rattle.std.proofs.Common.{◌≡◌, ℕ, Bool, true, false, List, IfSome, map, length, refl, subst}
 use Rattle.std.specs.Prelude.{◌==◌}
 use Rattle.pr_outside.specs.Ends.{no_row}
 use Rattle.pr_outside.specs.Outside.{Outside}
 use Rattle.pr_outside.proofs.Ended.{quiet}
 use Rattle.spec_rules.specs.spec_history.Histories.{history_of}
-use Rattle.spec_rules.specs.spec_history.Stores.{IsBadIn, OverRows}
+use Rattle.pr_outside.specs.Stores.{IsBadIn, OverRows}
 use Rattle.pr_outside.proofs.Endings.{ends_wider}
 use Rattle.pr_checks.specs.declared.loaded.LoadedRules.{LoadedRules}
 use Rattle.pr_checks.specs.private.RulesTaken.{loaded_of}
 use Rattle.pr_backfill.specs.Means.{EndsBy, EndsRefused}
 use Rattle.pr_backfill.proofs.Loaded.{none_wrong, some_wrong, write_fine}
 use Rattle.pr_backfill.proofs.Opened.{refused_fill}
+use Rattle.pr_backfill.proofs.Telling.{keeps_any, keeps_none, keeps_started}
 use Rattle.pr_backfill.proofs.Unopened.{told_still}
 use Rattle.pr_backfill.proofs.backfill_command.running.go_on.Goals as goal
 
@@ -61,3 +62,21 @@ returns-else-is_empty-clause-opens g c =
 
 pub returns-else-is_empty-clause-unopened : goal.returns-else-is_empty-clause-unopened
 returns-else-is_empty-clause-unopened g c = λ same. told_still (g.K.Keeper.means c.args.keeper.now).rows
+
+-- whether the rows are told
+
+pub returns-then-is_empty-clause-tells : goal.returns-then-is_empty-clause-tells
+returns-then-is_empty-clause-tells g c = λ opened. c.fill_all.ensures.tells
+
+pub returns-then-is_empty-clause-keeps : goal.returns-then-is_empty-clause-keeps
+returns-then-is_empty-clause-keeps g c =
+    let keeper = g.K.Keeper.means in
+    keeps_started (keeper c.args.keeper.now) (keeper c.fill_all.new.keeper) c.fill_all.result c.fill_all.ensures.tells
+
+pub returns-else-is_empty-clause-tells : goal.returns-else-is_empty-clause-tells
+returns-else-is_empty-clause-tells g c = λ opened. absurd (opened refl)
+
+pub returns-else-is_empty-clause-keeps : goal.returns-else-is_empty-clause-keeps
+returns-else-is_empty-clause-keeps g c =
+    let store = g.K.Keeper.means c.args.keeper.now in
+    keeps_any {V = Unit} store store tt c.refuse.result (keeps_none store tt)

@@ -1,8 +1,8 @@
-use Rattle.std.proofs.Common.{◌≡◌, ℕ, Bool, Err, List, length, refl, subst}
+use Rattle.std.proofs.Common.{Bool, Err, refl, subst}
 use Rattle.pr_outside.specs.Ends.{no_row}
 use Rattle.pr_outside.specs.Outside.{Outside}
 use Rattle.pr_outside.proofs.Ended.{in_time_same, quiet}
-use Rattle.spec_rules.specs.spec_history.Stores.{IsBadIn}
+use Rattle.pr_outside.specs.Stores.{IsBadIn}
 use Rattle.pr_outside.proofs.Endings.{ends_behind, ends_as, ends_wider}
 use Rattle.pr_checks.specs.RulesLoaded.{RulesLoaded, all_rules}
 use Rattle.pr_checks.specs.private.RulesTaken.{rules_of}
@@ -10,6 +10,7 @@ use Rattle.pr_checks.specs.declared.loaded.Rules.{Rules}
 use Rattle.pr_backfill.specs.Means.{EndsWith}
 use Rattle.pr_backfill.proofs.Loaded.{asked_all, no_row_asked, nothing_done, with_behind}
 use Rattle.pr_backfill.proofs.Opened.{asked_long, asked_read, quiet_load, unopened_fill}
+use Rattle.pr_backfill.proofs.Telling.{keeps_any, keeps_none}
 use Rattle.pr_backfill.proofs.Unopened.{told_still}
 use Rattle.pr_backfill.proofs.backfill_command.running.run.Goals as goal
 
@@ -73,3 +74,13 @@ returns-in-Ok-clause-unwritten g c = λ is.
     let out = g.O.Sink.means in
     absurd (quiet_load (IsBadIn (keeper c.go_on.new.keeper)) (keeper c.args.keeper.now) (keeper c.go_on.new.keeper) (out c.args.out.now) (out c.go_on.new.out) c.go_on.result
     (c.go_on.ensures.ends quiet) is)
+
+-- whether the rows are told
+
+pub returns-in-Err-clause-tells : goal.returns-in-Err-clause-tells
+returns-in-Err-clause-tells g c = λ opened. absurd (opened refl)
+
+pub returns-in-Err-clause-keeps : goal.returns-in-Err-clause-keeps
+returns-in-Err-clause-keeps g c =
+    let store = g.K.Keeper.means c.args.keeper.now in
+    keeps_any {V = Unit} store store tt (Err c.in-Err.stop) (keeps_none store tt)

@@ -1,8 +1,8 @@
 use Rattle.std.proofs.Common.{◌≡◌, ◌∙◌, Bool, false, Ok, Err, string_bytes, refl}
-use Rattle.spec_world.specs.pr_outside.Ends.{no_row}
-use Rattle.spec_world.specs.pr_outside.Outside.{Outside}
-use Rattle.spec_world.proofs.OutsideEnded.{ends_on, in_time_same}
-use Rattle.spec_world.proofs.OutsideWalks.{asked_on}
+use Rattle.pr_outside.specs.Ends.{no_row}
+use Rattle.pr_outside.specs.Outside.{Outside}
+use Rattle.pr_outside.proofs.Ended.{ends_on, in_time_same}
+use Rattle.pr_outside.proofs.Walks.{asked_on}
 use Rattle.pr_checks.specs.declared.rules.RuleText.{RuleText}
 use Rattle.pr_checks.proofs.OneFile.{one_asked, one_refused, one_text, one_told}
 use Rattle.pr_checks.proofs.rules.RuleFilesFileCheck.check.Goals as goal

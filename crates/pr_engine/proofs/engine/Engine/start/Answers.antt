@@ -1,6 +1,6 @@
 use Rattle.std.proofs.Common.{Err, ◌∙◌}
 use Rattle.pr_engine.proofs.Answering.{starts}
-use Rattle.pr_head.proofs.Paths.{started_on}
+use Rattle.pr_engine.proofs.Paths.{started_on}
 use Rattle.pr_engine.proofs.engine.Engine.start.Goals as goal
 
 pub returns-in-Ok-begin-clause-stands : goal.returns-in-Ok-begin-clause-stands

@@ -4,6 +4,7 @@ use Rattle.pr_text.specs.spec_world.Step.{next}
 use Rattle.pr_outside.proofs.Ended.{quiet}
 use Rattle.pr_exercise.proofs.Progress.{come, come_err, halts_at, stands_on, stands_uncounted}
 use Rattle.pr_exercise.proofs.Ended.{calm_keep, keep_done, keep_memory, keep_on}
+use Rattle.pr_exercise.proofs.Telling.{keeps_any, keeps_error}
 use Rattle.pr_exercise.proofs.session.Session.take.Goals as goal
 
 pub returns-in_err-report-clause-comes : goal.returns-in_err-report-clause-comes
@@ -44,3 +45,26 @@ returns-clause-ends g c =
     let store = g.K.Keeper.means in
     keep_done Unit (store c.args.keeper.now) (store c.answer.new.keeper) tt
     (calm_keep _ (store c.args.keeper.now) (store c.answer.new.keeper) c.in_ok-report.report c.in_ok-report.ensures.ends quiet)
+
+-- what it leaves
+
+pub returns-clause-going : goal.returns-clause-going
+returns-clause-going g c = subst g.E.Worlds.is_going (sym c.tell.ensures.kept) c.in_ok-report.ensures.going
+
+pub returns-clause-room : goal.returns-clause-room
+returns-clause-room g c = c.in_ok-tell.ensures.room
+
+pub returns-in_err-report-clause-tells : goal.returns-in_err-report-clause-tells
+returns-in_err-report-clause-tells g c =
+    let store = g.K.Keeper.means in
+    keeps_error _ _ (store c.args.keeper.now) (store c.answer.new.keeper) c.from_residual.result c.in_err-report.field-0.0 c.from_residual.ensures.1 c.in_err-report.ensures.tells
+
+pub returns-in_err-tell-clause-tells : goal.returns-in_err-tell-clause-tells
+returns-in_err-tell-clause-tells g c =
+    let store = g.K.Keeper.means in
+    keeps_any (store c.args.keeper.now) (store c.answer.new.keeper) c.in_ok-report.report c.from_residual-in_err-tell.result c.in_ok-report.ensures.tells
+
+pub returns-clause-tells : goal.returns-clause-tells
+returns-clause-tells g c =
+    let store = g.K.Keeper.means in
+    keeps_any (store c.args.keeper.now) (store c.answer.new.keeper) c.in_ok-report.report _ c.in_ok-report.ensures.tells

@@ -2,7 +2,7 @@ use Rattle.std.proofs.Common.{◌∙◌, [], Result, refl}
 use Rattle.std.specs.Io.KnownBytes.{Appends}
 use Rattle.pr_outside.specs.Ends.{AtInput, KnowsLength, no_row}
 use Rattle.pr_outside.specs.Outside.{Outside}
-use Rattle.pr_outside.specs.Status.{IsLong}
+use Rattle.pr_outside.specs.Status.{IsTooLong}
 use Rattle.pr_outside.specs.declared.status.status.Stop.{Stop}
 use Rattle.pr_outside.specs.declared.status.status.Stop.TheVariants.{Memory}
 use Rattle.pr_outside.specs.declared.check_loops.verdict.Verdict.{Verdict}
@@ -16,7 +16,7 @@ returns-in_err-bytes-clause-ends g c =
     λ others.
     let read = c.in_err-bytes.ensures.ends (record others { out = out c.args.out.now }) in
     let a : Outside = record others { input = input c.args.input.now; out = out c.args.out.now } in
-    ends_on Verdict _ no_row (IsLong (input c.args.input.now).left) a a (record others { input = input c.read_all.new.input; out = out c.args.out.now })
+    ends_on Verdict _ no_row (IsTooLong (input c.args.input.now) (input c.read_all.new.input)) a a (record others { input = input c.read_all.new.input; out = out c.args.out.now })
     c.from_residual.result c.in_err-bytes.field-0.0 c.from_residual.ensures.1 (refl, refl, refl, refl) read.input (λ e. e) (λ e. e) read
 
 pub returns-in_err-verdict-clause-ends : goal.returns-in_err-verdict-clause-ends
@@ -26,9 +26,9 @@ returns-in_err-verdict-clause-ends g c =
     λ others.
     let read = c.in_ok-bytes.ensures.ends (record others { out = out c.args.out.now }) in
     let b : Outside = record others { input = input c.read_all.new.input; out = out c.args.out.now } in
-    ends_on Verdict Verdict no_row (IsLong (input c.args.input.now).left) (record others { input = input c.args.input.now; out = out c.args.out.now }) b b
+    ends_on Verdict Verdict no_row (IsTooLong (input c.args.input.now) (input c.read_all.new.input)) (record others { input = input c.args.input.now; out = out c.args.out.now }) b b
     c.from_residual-in_err-verdict.result Memory c.from_residual-in_err-verdict.ensures.1 read.cause read.input read.files read.out
-    (ends_memory Verdict no_row (IsLong (input c.args.input.now).left) b)
+    (ends_memory Verdict no_row (IsTooLong (input c.args.input.now) (input c.read_all.new.input)) b)
 
 pub returns-in_err-send-clause-silent : goal.returns-in_err-send-clause-silent
 returns-in_err-send-clause-silent g c =
@@ -39,7 +39,7 @@ returns-in_err-send-clause-silent g c =
 pub returns-in_err-send-clause-long : goal.returns-in_err-send-clause-long
 returns-in_err-send-clause-long g c =
     let out = g.O.Sink.means in
-    written_by _ Verdict (λ (r : Result Verdict Stop). KnowsLength (g.I.Source.means c.args.input.now).left r) (out c.args.out.now) (out c.send.new.out)
+    written_by _ Verdict (λ (r : Result Verdict Stop). KnowsLength (g.I.Source.means c.args.input.now) (g.I.Source.means c.read_all.new.input) r) (out c.args.out.now) (out c.send.new.out)
     c.from_residual-in_err-send.result c.in_err-send.field-0.0 c.from_residual-in_err-send.ensures.1 c.in_err-send.ensures.ends tt tt
 
 pub returns-in_err-send-clause-ends : goal.returns-in_err-send-clause-ends
@@ -47,7 +47,7 @@ returns-in_err-send-clause-ends g c =
     let input = g.I.Source.means in
     let out = g.O.Sink.means in
     λ others.
-    let long = IsLong (input c.args.input.now).left in
+    let long = IsTooLong (input c.args.input.now) (input c.read_all.new.input) in
     let read = c.in_ok-bytes.ensures.ends (record others { out = out c.args.out.now }) in
     let sent = c.in_err-send.ensures.ends (record others { input = input c.read_all.new.input }) in
     ends_on Verdict _ no_row long (record others { input = input c.args.input.now; out = out c.args.out.now })
@@ -73,5 +73,5 @@ returns-clause-ends g c =
 
 pub returns-in_err-bytes-clause-long : goal.returns-in_err-bytes-clause-long
 returns-in_err-bytes-clause-long g c =
-    known_stop _ Verdict (g.I.Source.means c.args.input.now).left (g.I.Source.means c.args.input.now) (g.I.Source.means c.read_all.new.input) c.from_residual.result
+    known_stop _ Verdict (g.I.Source.means c.args.input.now) (g.I.Source.means c.args.input.now) (g.I.Source.means c.read_all.new.input) c.from_residual.result
     c.in_err-bytes.field-0.0 c.from_residual.ensures.1 c.in_err-bytes.ensures.ends

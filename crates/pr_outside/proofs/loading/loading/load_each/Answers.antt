@@ -2,7 +2,7 @@ use Rattle.std.proofs.Common.{◌≡◌, ◌∙◌, ℕ, List, [], cond, Bool, t
 use Rattle.pr_outside.specs.Contents.{IsFound}
 use Rattle.pr_outside.specs.Courses.{course_after}
 use Rattle.pr_outside.specs.declared.course.Course.{Course}
-use Rattle.pr_outside.specs.Loading.{AreAsked, Stands, holding_by, made_by, walk}
+use Rattle.pr_outside.specs.Loading.{AreAsked, Stands, made_by, walk}
 use Rattle.pr_outside.proofs.Walks.{goes, load_stopped, memory_stopped, next_asked, next_of_all, one_more_asked}
 use Rattle.pr_outside.proofs.loading.loading.load_each.Goals as goal
 

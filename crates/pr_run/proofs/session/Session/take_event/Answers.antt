@@ -16,3 +16,8 @@ returns-clause-grows g c = λ w s some.
     let t = subst (λ (r : Run _). g.E.Worlds.stands_for r.kept (g.K.Keeper.means c.args.keeper.now) w) (sym c.self.view_is) s in
     event_grown g.E.Worlds.stands_for w c.args.event c.answer.new.self (g.K.Keeper.means c.answer.new.keeper) c.answer.result
     (c.answer.ensures.world w t some) (c.answer.ensures.err w t)
+
+-- told rows stay told, and what answers goes on
+
+pub answer-requires-clause-going : goal.answer-requires-clause-going
+answer-requires-clause-going g c = subst (λ (r : Run _). g.E.Worlds.is_going r.kept) (sym c.self.view_is) c.requires.going

@@ -7,9 +7,10 @@ use Rattle.pr_outside.proofs.StatusStreams.{appends_none}
 use Rattle.pr_text.proofs.WorldRefusals.{refusal_is_told}
 use Rattle.pr_text.specs.spec_world.Settings.{of_a_run}
 use Rattle.pr_text.specs.spec_world.Step.{next}
-use Rattle.pr_queue.specs.spec_history.Stores.{IsBadIn}
+use Rattle.pr_outside.specs.Stores.{IsBadIn}
 use Rattle.pr_run.specs.private.Standing.{WorldGives}
 use Rattle.pr_run.proofs.Answering.{answers_so, event_turn, leaves_by, leaves_memory, made, memory_on}
+use Rattle.pr_run.proofs.Tellings.{keeps_as, keeps_err}
 use Rattle.pr_run.proofs.session.Session.take_event_order.Goals as goal
 
 pub returns-in_err-report-clause-leaves : goal.returns-in_err-report-clause-leaves
@@ -61,3 +62,23 @@ pub returns-clause-ends : goal.returns-clause-ends
 returns-clause-ends g c = λ others.
     let l = c.in_ok-report.ensures.ends others in
     record { cause = l.cause; input = l.input; files = l.files; out = l.out }
+
+-- told rows stay told, and what answers goes on
+
+pub returns-in_err-report-clause-tells : goal.returns-in_err-report-clause-tells
+returns-in_err-report-clause-tells g c =
+    let keeper = g.K.Keeper.means in
+    keeps_err _ _ (keeper c.args.keeper.now) (keeper c.take_event.new.keeper) c.from_residual.result c.in_err-report.field-0.0 c.from_residual.ensures.1 c.in_err-report.ensures.tells
+
+pub returns-in_err-tell-clause-tells : goal.returns-in_err-tell-clause-tells
+returns-in_err-tell-clause-tells g c =
+    let keeper = g.K.Keeper.means in
+    keeps_as _ _ (keeper c.args.keeper.now) (keeper c.take_event.new.keeper) _ c.from_residual-in_err-tell.result c.in_ok-report.ensures.tells
+
+pub returns-clause-tells : goal.returns-clause-tells
+returns-clause-tells g c =
+    let keeper = g.K.Keeper.means in
+    keeps_as _ _ (keeper c.args.keeper.now) (keeper c.take_event.new.keeper) _ _ c.in_ok-report.ensures.tells
+
+pub returns-clause-going : goal.returns-clause-going
+returns-clause-going g c = subst g.E.Worlds.is_going (sym c.in_ok-tell.ensures.kept) c.in_ok-report.ensures.going

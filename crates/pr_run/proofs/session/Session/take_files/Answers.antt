@@ -9,11 +9,12 @@ use Rattle.pr_text.specs.spec_world.declared.event.Event.TheVariants as event
 use Rattle.pr_text.specs.spec_world.declared.event.NamedFile.{NamedFile}
 use Rattle.pr_text.specs.spec_world.declared.report.Report.{Report}
 use Rattle.pr_run.specs.private.Files.{HasNames}
-use Rattle.pr_queue.specs.spec_history.Stores.{IsBadIn}
+use Rattle.pr_outside.specs.Stores.{IsBadIn}
 use Rattle.pr_run.specs.private.Standing.{WorldGives}
 use Rattle.pr_run.specs.Told.{asks_for, content_by}
 use Rattle.pr_run.proofs.Answering.{distinct_loaded, found_files, gives_behind, load_gives, refused_files}
 use Rattle.pr_outside.proofs.Endings.{ends_behind, ends_wider}
+use Rattle.pr_run.proofs.Tellings.{keeps_same}
 use Rattle.pr_run.proofs.session.Session.take_files.Goals as goal
 
 pub returns-in_err-files-clause-gives : goal.returns-in_err-files-clause-gives
@@ -35,8 +36,8 @@ returns-in_err-files-clause-ends g c = λ others.
     ends_on _ _ (IsBadIn store) ⊥ a a b c.from_residual.result c.in_err-files.field-0.0 c.from_residual.ensures.1 (refl, refl, refl, refl) (in_time_same a.input.course) (λ e. e) (λ e. e)
     (ends_wider _ _ (IsBadIn store) ⊥ ⊥ a b (Err c.in_err-files.field-0.0) (λ i no. absurd no) (λ never. never) (c.in_err-files.ensures.ends (record others { store = store })))
 
-pub take_event-requires : goal.take_event-requires
-take_event-requires g c =
+pub take_event-requires-clause-files : goal.take_event-requires-clause-files
+take_event-requires-clause-files g c =
     distinct_loaded c.args.names.now c.in-Ok.files c.as_slice.ensures.distinct
     (subst (λ (l : List FileToLoad). HasNames l c.in-Ok.files) c.as_slice.ensures.files
     (subst (λ (r : Result _ _). IfOk r (HasNames c.as_slice.result.now)) c.in-Ok.is c.in_ok-files.ensures.names))
@@ -86,3 +87,11 @@ pub returns-in-Err-clause-ends : goal.returns-in-Err-clause-ends
 returns-in-Err-clause-ends g c = λ others.
     let l = c.in_ok-files.ensures.ends (record others { store = g.K.Keeper.means c.args.keeper.now }) in
     record { cause = l.cause; input = in_time_same others.input.course; files = l.files; out = λ e. e }
+
+-- told rows stay told, and what answers goes on
+
+pub returns-in_err-files-clause-tells : goal.returns-in_err-files-clause-tells
+returns-in_err-files-clause-tells g c = keeps_same _ (g.K.Keeper.means c.args.keeper.now) c.from_residual.result
+
+pub returns-in-Err-clause-tells : goal.returns-in-Err-clause-tells
+returns-in-Err-clause-tells g c = keeps_same _ (g.K.Keeper.means c.args.keeper.now) _

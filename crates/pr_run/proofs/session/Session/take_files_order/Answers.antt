@@ -7,10 +7,11 @@ use Rattle.pr_outside.proofs.StatusStreams.{appends_none}
 use Rattle.pr_text.proofs.WorldRefusals.{refused_files_are_told}
 use Rattle.pr_text.specs.spec_world.Loading.{reload_asked}
 use Rattle.pr_text.specs.spec_world.Settings.{of_a_run}
-use Rattle.pr_queue.specs.spec_history.Stores.{IsBadIn}
+use Rattle.pr_outside.specs.Stores.{IsBadIn}
 use Rattle.pr_run.specs.private.Standing.{WorldGives}
 use Rattle.pr_run.specs.Told.{asks_for, asks_in_time, content_by}
 use Rattle.pr_run.proofs.Answering.{answers_so, files_told, files_turn, leaves_by, leaves_memory, made, memory_on}
+use Rattle.pr_run.proofs.Tellings.{keeps_as, keeps_err}
 use Rattle.pr_run.proofs.session.Session.take_files_order.Goals as goal
 
 pub returns-in_err-report-clause-leaves : goal.returns-in_err-report-clause-leaves
@@ -65,3 +66,23 @@ pub returns-clause-ends : goal.returns-clause-ends
 returns-clause-ends g c = λ others.
     let l = c.in_ok-report.ensures.ends others in
     record { cause = l.cause; input = l.input; files = l.files; out = l.out }
+
+-- told rows stay told, and what answers goes on
+
+pub returns-in_err-report-clause-tells : goal.returns-in_err-report-clause-tells
+returns-in_err-report-clause-tells g c =
+    let keeper = g.K.Keeper.means in
+    keeps_err _ _ (keeper c.args.keeper.now) (keeper c.take_reload.new.keeper) c.from_residual.result c.in_err-report.field-0.0 c.from_residual.ensures.1 c.in_err-report.ensures.tells
+
+pub returns-in_err-tell-clause-tells : goal.returns-in_err-tell-clause-tells
+returns-in_err-tell-clause-tells g c =
+    let keeper = g.K.Keeper.means in
+    keeps_as _ _ (keeper c.args.keeper.now) (keeper c.take_reload.new.keeper) _ c.from_residual-in_err-tell.result c.in_ok-report.ensures.tells
+
+pub returns-clause-tells : goal.returns-clause-tells
+returns-clause-tells g c =
+    let keeper = g.K.Keeper.means in
+    keeps_as _ _ (keeper c.args.keeper.now) (keeper c.take_reload.new.keeper) _ _ c.in_ok-report.ensures.tells
+
+pub returns-clause-going : goal.returns-clause-going
+returns-clause-going g c = subst g.E.Worlds.is_going (sym c.in_ok-tell.ensures.kept) c.in_ok-report.ensures.going

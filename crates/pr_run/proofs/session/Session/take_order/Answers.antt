@@ -7,6 +7,7 @@ use Rattle.pr_run.specs.private.Standing.{AnswersOrder, LeavesFront}
 use Rattle.pr_run.specs.Replies.{bad_line_reply, flush_reply, receiver_reply}
 use Rattle.pr_run.specs.Told.{reply_turn, turn}
 use Rattle.pr_run.proofs.Answering.{made, on_one, order_turn, reply_answers, reply_leaves}
+use Rattle.pr_run.proofs.Tellings.{keeps_same, on_ok}
 use Rattle.pr_run.proofs.session.Session.take_order.Goals as goal
 
 pub returns-in-Event-clause-answers : goal.returns-in-Event-clause-answers
@@ -99,3 +100,23 @@ returns-in-Bad-clause-leaves g c = λ others held p keeps told some.
     let is : turn held p.state c.args.order ≡ reply_turn p.state (bad_line_reply c.args.order.number p.state.receivers) =
     order_turn held p.state c.args.order order.Bad c.in-Bad.is in
     reply_leaves g.E.Worlds.stands_for held p c.args.order a c.args.self.now c.refuse_line.result (bad_line_reply c.args.order.number p.state.receivers) is keeps g.met.E.Worlds.tells c.refuse_line.ensures.memory
+
+-- told rows stay told, and what answers goes on
+
+pub returns-in-Receiver-clause-tells : goal.returns-in-Receiver-clause-tells
+returns-in-Receiver-clause-tells g c = keeps_same _ (g.K.Keeper.means c.args.keeper.now) c.add_receiver.result
+
+pub returns-in-Receiver-clause-going : goal.returns-in-Receiver-clause-going
+returns-in-Receiver-clause-going g c = on_ok c.add_receiver.result _ (subst g.E.Worlds.is_going (sym c.add_receiver.ensures.kept) c.requires.going)
+
+pub returns-in-Flush-clause-tells : goal.returns-in-Flush-clause-tells
+returns-in-Flush-clause-tells g c = keeps_same _ (g.K.Keeper.means c.args.keeper.now) c.flush_receiver.result
+
+pub returns-in-Flush-clause-going : goal.returns-in-Flush-clause-going
+returns-in-Flush-clause-going g c = on_ok c.flush_receiver.result _ (subst g.E.Worlds.is_going (sym c.flush_receiver.ensures.kept) c.requires.going)
+
+pub returns-in-Bad-clause-tells : goal.returns-in-Bad-clause-tells
+returns-in-Bad-clause-tells g c = keeps_same _ (g.K.Keeper.means c.args.keeper.now) c.refuse_line.result
+
+pub returns-in-Bad-clause-going : goal.returns-in-Bad-clause-going
+returns-in-Bad-clause-going g c = on_ok c.refuse_line.result _ (subst g.E.Worlds.is_going (sym c.refuse_line.ensures.kept) c.requires.going)

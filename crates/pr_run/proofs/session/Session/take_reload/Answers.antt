@@ -10,6 +10,7 @@ use Rattle.pr_run.specs.private.Standing.{WorldGives}
 use Rattle.pr_run.specs.Told.{asks_for, content_by}
 use Rattle.pr_run.proofs.Answering.{backwards_files, in_time_asks}
 use Rattle.pr_run.proofs.Loads.{asks_none}
+use Rattle.pr_run.proofs.Tellings.{keeps_same}
 use Rattle.pr_run.proofs.session.Session.take_reload.Goals as goal
 
 pub returns-in-Some-clause-gives : goal.returns-in-Some-clause-gives
@@ -37,3 +38,8 @@ returns-in-None-clause-gives g c = λ others held w s told some.
     subst (λ (l : List (List ℕ)). WorldGives g.E.Worlds.stands_for w (reload_asked of_a_run w c.args.time (content_by held) c.args.names.now) (length l) a d c.take_files.new.self.kept c.take_files.result)
     (sym same)
     (c.take_files.ensures.gives others held w s in_time (subst (AreTold (files c.args.files.now).content held) same told) some)
+
+-- told rows stay told, and what answers goes on
+
+pub returns-in-Some-clause-tells : goal.returns-in-Some-clause-tells
+returns-in-Some-clause-tells g c = keeps_same _ (g.K.Keeper.means c.args.keeper.now) _

@@ -1,7 +1,5 @@
-use Rattle.std.proofs.Common.{List, ◌++◌, map, ap, sym, subst, ◌∙◌}
-use Rattle.spec_rules.specs.spec_history.private.Laws.{IsLawful}
+use Rattle.std.proofs.Common.{◌++◌, map}
 use Rattle.spec_rules.specs.Settings.{of_a_run}
-use Rattle.pr_backfill.specs.declared.stepped.Stepped.{Stepped}
 use Rattle.pr_backfill.specs.Filled.{at_time, round_at, rows_filled}
 use Rattle.pr_backfill.proofs.Parts.{on_ok, part_memory, part_none}
 use Rattle.pr_backfill.proofs.Progress.{come_err, still, time_comes}

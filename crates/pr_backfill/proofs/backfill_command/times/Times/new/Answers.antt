@@ -1,4 +1,4 @@
-use Rattle.std.proofs.Common.{◌≡◌, ◌<◌, ◌^◌, ◌*◌, ◌+◌, sym, subst, ℕ}
+use Rattle.std.proofs.Common.{sym, subst, ℕ}
 use Rattle.pr_backfill.specs.private.BackfillCommandTimes.{AreTimes}
 use Rattle.pr_backfill.proofs.Lasting.{are_times}
 use Rattle.pr_backfill.proofs.backfill_command.times.Times.new.Goals as goal

@@ -1,7 +1,7 @@
-use Rattle.std.proofs.Common.{◌≡◌, ◌∙◌, ◌==◌, ◌+◌, ◌≤◌, ◌^◌, length-append, arith, sym, Bool, true, false, not, List, ℕ, length, refl, ap, subst}
-use Rattle.spec_world.proofs.OutsideEnded.{quiet, read_done, read_memory, read_on}
-use Rattle.pr_text.specs.private.LineReading.{held, ahead, IsBeyond, IsReadOn, TakesPart}
-use Rattle.pr_text.proofs.Ahead.{at_exit, beyond, counts_fill, counts_on, joined_part, joined_fill, unended_part, line_fed, line_ended, line_cut, read_same}
+use Rattle.std.proofs.Common.{◌≡◌, ◌∙◌, ◌==◌, ◌+◌, length-append, arith, sym, Bool, true, false, not, List, ℕ, length, refl, ap, subst}
+use Rattle.pr_outside.proofs.Ended.{quiet, read_done, read_memory, read_on}
+use Rattle.pr_text.specs.private.LineReading.{held, ahead, IsBeyond, IsReadOn, KnowsCourse, TakesPart}
+use Rattle.pr_text.proofs.Ahead.{at_exit, beyond_on, counts_fill, counts_on, joined_part, joined_fill, unended_part, line_fed, line_ended, line_cut, read_same}
 use Rattle.pr_text.proofs.reader.lines.LineReader.next_line.Goals as goal
 
 pub returns-in_err-fill-clause-cut : goal.returns-in_err-fill-clause-cut
@@ -54,7 +54,7 @@ pub returns-in_err-take_part-clause-ends : goal.returns-in_err-take_part-clause-
 returns-in_err-take_part-clause-ends g c =
     let input = g.I.Source.means in
     let here = c.joining.invariant in
-    read_memory Bool (IsBeyond (input c.args.input.now).left c.args.self.now.count) (input c.args.input.now) (input c.joining.input) c.from_residual.result
+    read_memory Bool (IsBeyond (input c.args.input.now) (input c.joining.input) c.args.self.now.count) (input c.args.input.now) (input c.joining.input) c.from_residual.result
     c.from_residual.ensures.1 here.calm (here.reads (input c.args.input.now).course (read_same (input c.args.input.now).course c.args.self.now.ended)).in_time
 
 pub returns-in_err-fill-clause-in_time : goal.returns-in_err-fill-clause-in_time
@@ -69,11 +69,12 @@ returns-in_err-fill-clause-ends g c =
     let start = (input c.args.input.now).course in
     let same : c.take_part.new.self.ended ≡ c.joining.self.ended = c.in_ok-take_part.ensures.same.1 in
     let count : c.take_part.new.self.count ≡ c.joining.self.count = c.in_ok-take_part.ensures.same.0 in
-    read_on Bool Bool (2 ^ 32 ≤ c.take_part.new.self.count) (IsBeyond (input c.args.input.now).left c.args.self.now.count) (input c.args.input.now)
+    read_on Bool Bool (IsBeyond (input c.joining.input) (input c.fill.new.input) c.take_part.new.self.count) (IsBeyond (input c.args.input.now) (input c.fill.new.input) c.args.self.now.count) (input c.args.input.now)
     (input c.joining.input) (input c.fill.new.input) c.from_residual-in_err-fill.result c.in_err-fill.field-0.0 c.from_residual-in_err-fill.ensures.1 here.calm
     (c.in_err-fill.ensures.in_time start (subst (λ (b : Bool). IsReadOn start b (input c.joining.input).course) (sym same)
     (here.reads start (read_same start c.args.self.now.ended))))
-    (λ long. beyond (input c.args.input.now).left (input c.joining.input).left c.args.self.now.count c.joining.self.count here.counts (omega (arith, long, count)))
+    (λ long. beyond_on (input c.args.input.now) (input c.joining.input) (input c.fill.new.input) c.args.self.now.count c.joining.self.count here.counts
+    (subst (IsBeyond (input c.joining.input) (input c.fill.new.input)) count long))
     c.in_err-fill.ensures.ends
 
 pub returns-then-not-branch-2-clause-going : goal.returns-then-not-branch-2-clause-going
@@ -92,7 +93,7 @@ returns-then-not-branch-2-clause-ends g c =
     let here = c.joining.invariant in
     let start = (input c.args.input.now).course in
     let same : c.take_part.new.self.ended ≡ c.joining.self.ended = c.in_ok-take_part.ensures.same.1 in
-    read_done Bool (IsBeyond (input c.args.input.now).left c.args.self.now.count) (input c.args.input.now) (input c.fill.new.input) c.has_bytes.result
+    read_done Bool (IsBeyond (input c.args.input.now) (input c.fill.new.input) c.args.self.now.count) (input c.args.input.now) (input c.fill.new.input) c.has_bytes.result
     ((c.in_ok-fill.ensures.ends quiet).cause.0 ∙ here.calm)
     (c.in_ok-fill.ensures.in_time start (subst (λ (b : Bool). IsReadOn start b (input c.joining.input).course) (sym same)
     (here.reads start (read_same start c.args.self.now.ended))))
@@ -104,7 +105,7 @@ pub returns-in_err-extend_from_slice-clause-ends : goal.returns-in_err-extend_fr
 returns-in_err-extend_from_slice-clause-ends g c =
     let input = g.I.Source.means in
     let here = c.joining.invariant in
-    read_memory Bool (IsBeyond (input c.args.input.now).left c.args.self.now.count) (input c.args.input.now) (input c.joining.input)
+    read_memory Bool (IsBeyond (input c.args.input.now) (input c.joining.input) c.args.self.now.count) (input c.args.input.now) (input c.joining.input)
     c.from_residual-in_err-extend_from_slice.result c.from_residual-in_err-extend_from_slice.ensures.1 here.calm
     (here.reads (input c.args.input.now).course (read_same (input c.args.input.now).course c.args.self.now.ended)).in_time
 
@@ -120,8 +121,18 @@ pub returns-clause-ends : goal.returns-clause-ends
 returns-clause-ends g c =
     let input = g.I.Source.means in
     let here = c.joining.invariant in
-    read_done Bool (IsBeyond (input c.args.input.now).left c.args.self.now.count) (input c.args.input.now) (input c.joining.input) true here.calm
+    read_done Bool (IsBeyond (input c.args.input.now) (input c.joining.input) c.args.self.now.count) (input c.args.input.now) (input c.joining.input) true here.calm
     (here.reads (input c.args.input.now).course (read_same (input c.args.input.now).course c.args.self.now.ended)).in_time
+
+pub returns-then-not-branch-2-clause-over : goal.returns-then-not-branch-2-clause-over
+returns-then-not-branch-2-clause-over g c = λ first r.
+    let same : c.take_part.new.self.ended ≡ c.joining.self.ended = c.in_ok-take_part.ensures.same.1 in
+    c.in_ok-fill.ensures.over first (subst (λ (b : Bool). KnowsCourse first b (g.I.Source.means c.joining.input).course) (sym same) (c.joining.invariant.over first r))
+
+pub returns-clause-over : goal.returns-clause-over
+returns-clause-over g c = λ first r.
+    let same : c.take_part.new.self.ended ≡ c.joining.self.ended = c.in_ok-take_part.ensures.same.1 in
+    subst (λ (b : Bool). KnowsCourse first b (g.I.Source.means c.joining.input).course) (sym same) (c.joining.invariant.over first r)
 
 pub joining-preserved : goal.joining-preserved
 joining-preserved g c =
@@ -151,9 +162,10 @@ joining-preserved g c =
           (joined_part all (input c.joining.input).left (held c.joining.self) (held c.take_part.new.self) c.joining.line.items c.take_part.new.line.items here.joined part)
           (part.all refl).1 fill.taken;
       end = fill.end;
-      counts = counts_on (input c.args.input.now).left (input c.joining.input).left (input c.fill.new.input).left c.args.self.now.count c.joining.self.count
+      counts = counts_on (input c.args.input.now) (input c.joining.input) (input c.fill.new.input) c.args.self.now.count c.joining.self.count
           c.fill.new.self.count here.counts
-          (counts_fill (input c.joining.input).left (input c.fill.new.input).left (held c.fill.new.self) c.joining.self.count c.fill.new.self.count fill.taken more);
+          (counts_fill (input c.joining.input) (input c.fill.new.input) (held c.fill.new.self) c.joining.self.count c.fill.new.self.count fill.taken more fill.took);
       reads = λ first r. fill.going first (subst (λ (b : Bool). IsReadOn first b (input c.joining.input).course) (sym same) (here.reads first r));
+      over = λ first r. fill.over first (subst (λ (b : Bool). KnowsCourse first b (input c.joining.input).course) (sym same) (here.over first r));
       calm = (fill.ends quiet).cause.0 ∙ here.calm;
     }

@@ -1,9 +1,9 @@
 use Rattle.std.proofs.Common.{◌≡◌, ◌+◌, ◌-◌, ◌^◌, ◌≤◌, ◌<◌, true, length}
 use Rattle.std.specs.List.{list_all}
 use Rattle.std.specs.Io.KnownBytes.{Consumes}
-use Rattle.spec_world.specs.pr_outside.declared.course.Course.{Course}
+use Rattle.pr_outside.specs.declared.course.Course.{Course}
 use Rattle.pr_text.specs.Taken.{is_no_feed}
-use Rattle.pr_text.specs.private.LineReading.{held, KnowsEnd, ahead, CountsBytes, IsReadOn}
+use Rattle.pr_text.specs.private.LineReading.{held, KnowsEnd, ahead, CountsBytes, IsReadOn, KnowsCourse}
 use Rattle.pr_text.proofs.reader.lines.LineReader.next_line.Given as goal
 
 -- the line so far, and what is still to come, are what was to come
@@ -15,8 +15,9 @@ invariant-joining g l = record {
   unended : list_all is_no_feed l.line.items ≡ true;
   joined : Consumes (ahead (held l.fn.self) (g.I.Source.means l.fn.input).left) (ahead (held l.self) (g.I.Source.means l.input).left) l.line.items;
   end : KnowsEnd l.self (g.I.Source.means l.input).left;
-  counts : CountsBytes (g.I.Source.means l.fn.input).left (g.I.Source.means l.input).left l.fn.self.count l.self.count;
+  counts : CountsBytes (g.I.Source.means l.fn.input) (g.I.Source.means l.input) l.fn.self.count l.self.count;
   reads : (first : Course) → IsReadOn first l.fn.self.ended (g.I.Source.means l.fn.input).course → IsReadOn first l.self.ended (g.I.Source.means l.input).course;
+  over : (first : Course) → KnowsCourse first l.fn.self.ended (g.I.Source.means l.fn.input).course → KnowsCourse first l.self.ended (g.I.Source.means l.input).course;
   calm : (g.I.Source.means l.input).faults ≡ (g.I.Source.means l.fn.input).faults;
 }
 

@@ -1,6 +1,6 @@
 use Rattle.std.proofs.Common.{◌≡◌, ◌∙◌, ◌≤◌, ◌+◌, Bool, true, false, None, Some, List, ℕ, [], ◌∷◌, length, sym, ap, subst, arith}
 use Rattle.pr_text.specs.Script.{is_passed_over, takes_body}
-use Rattle.spec_world.proofs.OutsideEnded.{quiet, read_done, read_on}
+use Rattle.pr_outside.proofs.Ended.{quiet, read_done, read_on}
 use Rattle.pr_text.specs.private.LineReading.{ahead, without_feed, HandsLine, IsBeyond}
 use Rattle.pr_text.specs.private.Reading.{unread, Takes, HandsOrder, FinishesOrder}
 use Rattle.pr_text.proofs.Ahead.{at_exit, beyond_on, counts_on, read_same}
@@ -66,9 +66,10 @@ passing-preserved g c =
           (takes_on all before after c.args.self.now.number c.passing.self.number (c.passing.self.number + 1) [] [] here.taken
           (takes_passed before after c.passing.self.number line hands over));
       number = omega (arith, here.number, next.number);
-      counts = counts_on (input c.args.input.now).left (input c.passing.input).left (input c.next_line.new.input).left c.args.self.now.lines.count c.passing.self.lines.count
+      counts = counts_on (input c.args.input.now) (input c.passing.input) (input c.next_line.new.input) c.args.self.now.lines.count c.passing.self.lines.count
           c.next_line.new.self.lines.count here.counts next.counts;
       reads = λ first r. next.going first (here.reads first r);
+      over = λ first r. next.over first (here.over first r);
       calm = (next.ends quiet).cause.0 ∙ here.calm;
     }
 
@@ -93,10 +94,11 @@ returns-in_err-next_line-clause-ends g c =
     let input = g.I.Source.means in
     let here = c.passing.invariant in
     let start = (input c.args.input.now).course in
-    read_on _ Bool (IsBeyond (input c.passing.input).left c.passing.self.lines.count) (IsBeyond (input c.args.input.now).left c.args.self.now.lines.count)
+    read_on _ Bool (IsBeyond (input c.passing.input) (input c.next_line.new.input) c.passing.self.lines.count)
+    (IsBeyond (input c.args.input.now) (input c.next_line.new.input) c.args.self.now.lines.count)
     (input c.args.input.now) (input c.passing.input) (input c.next_line.new.input) c.from_residual.result c.in_err-next_line.field-0.0 c.from_residual.ensures.1 here.calm
     (c.in_err-next_line.ensures.in_time start (here.reads start (read_same start c.args.self.now.lines.ended)))
-    (λ long. beyond_on (input c.args.input.now).left (input c.passing.input).left c.args.self.now.lines.count c.passing.self.lines.count here.counts long)
+    (λ long. beyond_on (input c.args.input.now) (input c.passing.input) (input c.next_line.new.input) c.args.self.now.lines.count c.passing.self.lines.count here.counts long)
     c.in_err-next_line.ensures.ends
 
 pub returns-in_err-take_order-clause-in_time : goal.returns-in_err-take_order-clause-in_time
@@ -110,12 +112,13 @@ returns-in_err-take_order-clause-ends g c =
     let next = c.in_ok-next_line.ensures in
     let start = (input c.args.input.now).course in
     let count = c.next_line.new.self.lines.count in
-    read_on _ _ (IsBeyond (input c.next_line.new.input).left count) (IsBeyond (input c.args.input.now).left c.args.self.now.lines.count)
+    read_on _ _ (IsBeyond (input c.next_line.new.input) (input c.take_order.new.input) count)
+    (IsBeyond (input c.args.input.now) (input c.take_order.new.input) c.args.self.now.lines.count)
     (input c.args.input.now) (input c.next_line.new.input) (input c.take_order.new.input) c.from_residual-in_err-take_order.result c.in_err-take_order.field-0.0
     c.from_residual-in_err-take_order.ensures.1 ((next.ends quiet).cause.0 ∙ here.calm)
     (c.in_err-take_order.ensures.in_time start (next.going start (here.reads start (read_same start c.args.self.now.lines.ended))))
-    (λ long. beyond_on (input c.args.input.now).left (input c.next_line.new.input).left c.args.self.now.lines.count count
-    (counts_on (input c.args.input.now).left (input c.passing.input).left (input c.next_line.new.input).left c.args.self.now.lines.count c.passing.self.lines.count count
+    (λ long. beyond_on (input c.args.input.now) (input c.next_line.new.input) (input c.take_order.new.input) c.args.self.now.lines.count count
+    (counts_on (input c.args.input.now) (input c.passing.input) (input c.next_line.new.input) c.args.self.now.lines.count c.passing.self.lines.count count
     here.counts next.counts) long)
     c.in_err-take_order.ensures.ends
 
@@ -133,7 +136,7 @@ returns-then-not-is_passed_over-clause-ends g c =
     let here = c.passing.invariant in
     let next = c.in_ok-next_line.ensures in
     let start = (input c.args.input.now).course in
-    read_done _ (IsBeyond (input c.args.input.now).left c.args.self.now.lines.count) (input c.args.input.now) (input c.take_order.new.input) (Some c.in_ok-take_order.field-0)
+    read_done _ (IsBeyond (input c.args.input.now) (input c.take_order.new.input) c.args.self.now.lines.count) (input c.args.input.now) (input c.take_order.new.input) (Some c.in_ok-take_order.field-0)
     ((c.in_ok-take_order.ensures.ends quiet).cause.0 ∙ (next.ends quiet).cause.0 ∙ here.calm)
     (c.in_ok-take_order.ensures.in_time start (next.going start (here.reads start (read_same start c.args.self.now.lines.ended))))
 
@@ -148,6 +151,13 @@ returns-clause-ends g c =
     let input = g.I.Source.means in
     let here = c.passing.invariant in
     let start = (input c.args.input.now).course in
-    read_done _ (IsBeyond (input c.args.input.now).left c.args.self.now.lines.count) (input c.args.input.now) (input c.next_line.new.input) None
+    read_done _ (IsBeyond (input c.args.input.now) (input c.next_line.new.input) c.args.self.now.lines.count) (input c.args.input.now) (input c.next_line.new.input) None
     ((c.in_ok-next_line.ensures.ends quiet).cause.0 ∙ here.calm)
     (c.in_ok-next_line.ensures.in_time start (here.reads start (read_same start c.args.self.now.lines.ended)))
+
+pub returns-then-not-is_passed_over-clause-over : goal.returns-then-not-is_passed_over-clause-over
+returns-then-not-is_passed_over-clause-over g c = λ first r.
+    c.in_ok-take_order.ensures.over first (c.in_ok-next_line.ensures.over first (c.passing.invariant.over first r))
+
+pub returns-clause-over : goal.returns-clause-over
+returns-clause-over g c = λ first r. c.in_ok-next_line.ensures.over first (c.passing.invariant.over first r)

@@ -1,6 +1,6 @@
 use Rattle.std.proofs.Common.{◌≡◌, ◌∙◌, ◌≤◌, ◌+◌, ◌++◌, Bool, true, false, List, ℕ, length, length-append, string_bytes, sym, ap, subst, arith}
 use Rattle.pr_text.specs.Script.{is_body_line, body_text}
-use Rattle.spec_world.proofs.OutsideEnded.{quiet, read_done, read_memory, read_on}
+use Rattle.pr_outside.proofs.Ended.{quiet, read_done, read_memory, read_on}
 use Rattle.pr_text.specs.private.LineReading.{held, ahead, without_feed, HandsLine, IsBeyond, IsNext}
 use Rattle.pr_text.specs.private.Reading.{unread, TakesBody, EndsBody}
 use Rattle.pr_text.proofs.Ahead.{at_exit, beyond_on, counts_on, read_same}
@@ -38,9 +38,10 @@ reading-preserved g c =
           (subst (TakesBody all after c.args.self.now.number (c.reading.self.number + 1)) (sym body)
           (body_on all before after c.args.self.now.number c.reading.self.number (string_bytes c.reading.body) line here.body hands is));
       number = omega (arith, here.number, next.number);
-      counts = counts_on (input c.args.input.now).left (input c.reading.input).left (input c.next_line.new.input).left c.args.self.now.lines.count c.reading.self.lines.count
+      counts = counts_on (input c.args.input.now) (input c.reading.input) (input c.next_line.new.input) c.args.self.now.lines.count c.reading.self.lines.count
           c.next_line.new.self.lines.count here.counts next.counts;
       reads = λ first r. next.going first (here.reads first r);
+      over = λ first r. next.over first (here.over first r);
       calm = (next.ends quiet).cause.0 ∙ here.calm;
     }
 
@@ -135,10 +136,11 @@ returns-in_err-next_line-clause-ends g c =
     let input = g.I.Source.means in
     let here = c.reading.invariant in
     let start = (input c.args.input.now).course in
-    read_on _ Bool (IsBeyond (input c.reading.input).left c.reading.self.lines.count) (IsBeyond (input c.args.input.now).left c.args.self.now.lines.count)
+    read_on _ Bool (IsBeyond (input c.reading.input) (input c.next_line.new.input) c.reading.self.lines.count)
+    (IsBeyond (input c.args.input.now) (input c.next_line.new.input) c.args.self.now.lines.count)
     (input c.args.input.now) (input c.reading.input) (input c.next_line.new.input) c.from_residual.result c.in_err-next_line.field-0.0 c.from_residual.ensures.1 here.calm
     (c.in_err-next_line.ensures.in_time start (here.reads start (read_same start c.args.self.now.lines.ended)))
-    (λ long. beyond_on (input c.args.input.now).left (input c.reading.input).left c.args.self.now.lines.count c.reading.self.lines.count here.counts long)
+    (λ long. beyond_on (input c.args.input.now) (input c.reading.input) (input c.next_line.new.input) c.args.self.now.lines.count c.reading.self.lines.count here.counts long)
     c.in_err-next_line.ensures.ends
 
 pub returns-in_err-push_body_line-clause-in_time : goal.returns-in_err-push_body_line-clause-in_time
@@ -149,7 +151,7 @@ returns-in_err-push_body_line-clause-ends g c =
     let input = g.I.Source.means in
     let here = c.reading.invariant in
     let start = (input c.args.input.now).course in
-    read_memory _ (IsBeyond (input c.args.input.now).left c.args.self.now.lines.count) (input c.args.input.now) (input c.next_line.new.input)
+    read_memory _ (IsBeyond (input c.args.input.now) (input c.next_line.new.input) c.args.self.now.lines.count) (input c.args.input.now) (input c.next_line.new.input)
     c.from_residual-in_err-push_body_line.result c.from_residual-in_err-push_body_line.ensures.1 ((c.in_ok-next_line.ensures.ends quiet).cause.0 ∙ here.calm)
     (c.in_ok-next_line.ensures.in_time start (here.reads start (read_same start c.args.self.now.lines.ended)))
 
@@ -164,7 +166,7 @@ returns-then-not-branch-clause-ends g c =
     let input = g.I.Source.means in
     let here = c.reading.invariant in
     let start = (input c.args.input.now).course in
-    read_done _ (IsBeyond (input c.args.input.now).left c.args.self.now.lines.count) (input c.args.input.now) (input c.next_line.new.input) c.push_body_line.new.body
+    read_done _ (IsBeyond (input c.args.input.now) (input c.next_line.new.input) c.args.self.now.lines.count) (input c.args.input.now) (input c.next_line.new.input) c.push_body_line.new.body
     ((c.in_ok-next_line.ensures.ends quiet).cause.0 ∙ here.calm)
     (c.in_ok-next_line.ensures.in_time start (here.reads start (read_same start c.args.self.now.lines.ended)))
 
@@ -179,6 +181,12 @@ returns-clause-ends g c =
     let input = g.I.Source.means in
     let here = c.reading.invariant in
     let start = (input c.args.input.now).course in
-    read_done _ (IsBeyond (input c.args.input.now).left c.args.self.now.lines.count) (input c.args.input.now) (input c.next_line.new.input) c.reading.body
+    read_done _ (IsBeyond (input c.args.input.now) (input c.next_line.new.input) c.args.self.now.lines.count) (input c.args.input.now) (input c.next_line.new.input) c.reading.body
     ((c.in_ok-next_line.ensures.ends quiet).cause.0 ∙ here.calm)
     (c.in_ok-next_line.ensures.in_time start (here.reads start (read_same start c.args.self.now.lines.ended)))
+
+pub returns-then-not-branch-clause-over : goal.returns-then-not-branch-clause-over
+returns-then-not-branch-clause-over g c = λ first r. c.in_ok-next_line.ensures.over first (c.reading.invariant.over first r)
+
+pub returns-clause-over : goal.returns-clause-over
+returns-clause-over g c = λ first r. c.in_ok-next_line.ensures.over first (c.reading.invariant.over first r)

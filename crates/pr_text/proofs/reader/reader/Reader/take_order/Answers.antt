@@ -5,7 +5,7 @@ use Rattle.pr_text.specs.declared.script.order.Started.TheVariants as started
 use Rattle.pr_text.specs.Orders.{order_of}
 use Rattle.pr_text.specs.private.Plain.{IsPlain}
 use Rattle.pr_text.specs.private.Started.{Starts}
-use Rattle.spec_world.proofs.OutsideEnded.{quiet, read_done, read_on}
+use Rattle.pr_outside.proofs.Ended.{quiet, read_done, read_on}
 use Rattle.pr_text.specs.private.LineReading.{ahead, IsBeyond}
 use Rattle.pr_text.specs.private.Reading.{unread}
 use Rattle.pr_text.proofs.Ahead.{at_exit, read_same}
@@ -47,7 +47,7 @@ pub returns-in_err-read_body-in-Scrape-clause-ends : goal.returns-in_err-read_bo
 returns-in_err-read_body-in-Scrape-clause-ends g c =
     let input = g.I.Source.means in
     let start = (input c.args.input.now).course in
-    let long = IsBeyond (input c.args.input.now).left c.args.self.now.lines.count in
+    let long = IsBeyond (input c.args.input.now) (input c.read_body.new.input) c.args.self.now.lines.count in
     read_on _ _ long long (input c.args.input.now) (input c.args.input.now) (input c.read_body.new.input) c.from_residual-in_err-read_body-in-Scrape.result
     c.in_err-read_body-in-Scrape.field-0.0 c.from_residual-in_err-read_body-in-Scrape.ensures.1 refl
     (c.in_err-read_body-in-Scrape.ensures.in_time start (read_same start c.args.self.now.lines.ended)) (λ is. is) c.in_err-read_body-in-Scrape.ensures.ends
@@ -57,6 +57,6 @@ returns-in_ok-read_body-in-Scrape-clause-ends g c =
     let input = g.I.Source.means in
     let start = (input c.args.input.now).course in
     let read = c.in_ok-read_body-in-Scrape.ensures in
-    read_done _ (IsBeyond (input c.args.input.now).left c.args.self.now.lines.count) (input c.args.input.now) (input c.read_body.new.input)
+    read_done _ (IsBeyond (input c.args.input.now) (input c.read_body.new.input) c.args.self.now.lines.count) (input c.args.input.now) (input c.read_body.new.input)
     (record { number = c.args.self.now.number; order = order.Event (event.Scrape c.in-Scrape.time c.in-Scrape.target c.bytes_of-body.result) })
     (read.ends quiet).cause.0 (read.in_time start (read_same start c.args.self.now.lines.ended))

@@ -1,0 +1,2 @@
+pub mod EngineStops
+pub mod Running
