@@ -1,5 +1,5 @@
 -- What a check promises, by how it ended.
-use Rattle.std.proofs.Common.{◌≡◌, ◌≢◌, ℕ, ◌<◌, ◌≤◌, ◌^◌, Bool, List, [], Some, IfSome, Result, Ok, Err, IfOk, inl, inr, ap, ◌∙◌, length, take, arith}
+use Rattle.std.proofs.Common.{◌≡◌, ◌≢◌, ℕ, ◌+◌, ◌<◌, ◌≤◌, ◌^◌, Bool, List, [], Some, IfSome, Result, Ok, Err, IfOk, inl, inr, ap, ◌∙◌, length, take, arith}
 use Rattle.std.specs.Io.KnownBytes.{Appends}
 use Rattle.pr_outside.specs.Ends.{Ends, AtInput, KnowsLength, no_row, place_of, status_of, stop_status}
 use Rattle.pr_outside.specs.Outside.{Outside, AreCalm, Held, AreTold}
@@ -29,14 +29,16 @@ whole_told telling before now (Ok v) w =
 pub means_input : (telling : List ℕ → Checked) (before now : Outside) (r : Result Verdict Stop) (result : Status) → result ≡ ends_by r
     → Ends no_row (IsTooLong before.input now.input) before now r → IfOk r (Whole telling before now)
     → IfSome before.input.left (λ bytes. (n : ℕ) × Appends before.out.taken now.out.taken (take n (telling bytes).text))
-    → AtInput r (Appends before.out.taken now.out.taken []) → KnowsLength before.input now.input r → MeansInputCheck telling before now result
-means_input telling before now r result is e w f s k = record {
+    → AtInput r (Appends before.out.taken now.out.taken []) → KnowsLength before.input now.input r
+    → now.input.taken < before.input.taken + 2 ^ 32 + 2 ^ 14 → MeansInputCheck telling before now result
+means_input telling before now r result is e w f s k m = record {
   ending = r;
   answer = is;
   ends = e;
   whole = whole_told telling before now r w;
   front = f;
   silent = s;
+  most = m;
   known = k;
   told = on_told before.input.left (λ bytes. length bytes < 2 ^ 32 → AreCalm before now → result ≢ status.Memory
       → Appends before.out.taken now.out.taken (telling bytes).text × (result ≡ ends (telling bytes).verdict) × (now.input.left ≡ Some []))

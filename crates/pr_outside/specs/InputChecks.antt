@@ -1,5 +1,5 @@
 -- What a check of the whole input promises.
-use Rattle.std.specs.Prelude.{◌≡◌, ◌≢◌, ℕ, ◌<◌, ◌≤◌, ◌^◌, List, [], length, take, Option, Some, Result, IfOk, IfSome}
+use Rattle.std.specs.Prelude.{◌≡◌, ◌≢◌, ℕ, ◌+◌, ◌<◌, ◌≤◌, ◌^◌, List, [], length, take, Option, Some, Result, IfOk, IfSome}
 use Rattle.std.specs.Io.KnownBytes.{Appends}
 use Rattle.pr_outside.specs.Ends.{Ends, AtInput, KnowsLength, no_row}
 use Rattle.pr_outside.specs.Outside.{Outside, AreCalm}
@@ -29,6 +29,8 @@ pub record MeansInputCheck (telling : List ℕ → Checked) (before now : Outsid
   -- whole
   pub front : IfSome before.input.left (λ bytes. (n : ℕ) × Appends before.out.taken now.out.taken (take n (telling bytes).text))
   pub silent : AtInput ending (Appends before.out.taken now.out.taken [])
+  -- and no more was taken than the limit and one piece
+  pub most : now.input.taken < before.input.taken + 2 ^ 32 + 2 ^ 14
   -- an input that was read to its end is short, and one that is too long is long
   pub known : KnowsLength before.input now.input ending
   -- no call was refused, and memory sufficed: the status is that of what is told, or 8 where 2^32

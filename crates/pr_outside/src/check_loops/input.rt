@@ -35,6 +35,7 @@ fn read_all<I: Source>(alloc: Global, input: &mut I) -> Result<Vec<u8>, Stop>
     ensures bytes { IfOk result (λ v. IfSome (I.means input.old).left (λ bytes. (v.items ≡ bytes) × ((I.means input.new).left ≡ Some []))) }
     ensures short { IfOk result (λ v. length v.items < 2 ^ 32) }
     ensures out { OnOk result (IsReadOut (I.means input.old) (I.means input.new)) }
+    ensures most { (I.means input.new).taken < (I.means input.old).taken + 2 ^ 32 + 2 ^ 14 }
     ensures ends { ReadEnds (IsTooLong (I.means input.old) (I.means input.new)) (I.means input.old) (I.means input.new) result }
 {
     let mut bytes = Vec::new(alloc);
@@ -61,6 +62,7 @@ fn check_all<C: InputCheck, I: Source, O: Sink>(
     ensures front { IfSome (I.means input.old).left (λ bytes. (n : ℕ) × Appends (O.means out.old).taken (O.means out.new).taken (take n (C.told bytes).text)) }
     ensures silent { AtInput result (Appends (O.means out.old).taken (O.means out.new).taken []) }
     ensures long { KnowsLength (I.means input.old) (I.means input.new) result }
+    ensures most { (I.means input.new).taken < (I.means input.old).taken + 2 ^ 32 + 2 ^ 14 }
     ensures ends { (others : Outside) → Ends no_row (IsTooLong (I.means input.old) (I.means input.new)) (record others { input = I.means input.old; out = O.means out.old })
         (record others { input = I.means input.new; out = O.means out.new }) result }
 {
