@@ -1,8 +1,8 @@
 -- What the gathered values give.
 use Rattle.std.proofs.Common.{◌≡◌, ℕ, suc, List, [], ◌∷◌, ◌++◌, fold, Some, Ok, refl, sym, ap, ◌∙◌, slice_get, append_assoc, append-nil}
-use Rattle.std.proofs.lemmas.Map.Entries.{btree_map_get_place}
+use Rattle.std.proofs.lemmas.Map.Entries.{hash_map_get_place}
 use Rattle.std.specs.Map.{keys_of}
-use Rattle.std.specs.BTreeMap.{BTreeMap}
+use Rattle.indexmap.specs.IndexMap.{IndexMap}
 use Rattle.pr_num.specs.declared.value.Num.{Num}
 use Rattle.pr_num.specs.Order.{order_of}
 use Rattle.pr_num.specs.Quantile.{quantile_of}
@@ -11,8 +11,8 @@ use Rattle.pr_window.specs.pr_labels.declared.item.Item.{Item}
 use Rattle.pr_window.specs.pr_labels.declared.grouping.Grouping.{Grouping}
 use Rattle.pr_window.specs.spec_vectors.Vectors.{element}
 use Rattle.pr_window.specs.spec_vectors.Aggregation.{of_groups, always, group_answers, group_of, in_value_order, part, prepended, quantile_of_values, values_of}
-use Rattle.pr_window.proofs.LabelsLabelOrder.{labels_total}
 use Rattle.pr_window.specs.private.Folding.{and_item, folded}
+use Rattle.pr_agg.specs.private.Chosen.{labels_equiv}
 use Rattle.pr_agg.specs.private.Lists.{alone, one_after_other, quantiles_in}
 use Rattle.pr_agg.specs.private.Parts.{AreParts}
 
@@ -30,8 +30,8 @@ module _ (phi : Num) (values : List Pair → List Num) where
   answers_ok [] h = refl
   answers_ok (e ∷ es) h = λ j. prepended (element e.0 (quantile_of phi (in_value_order order_of (h 0 e refl j)))) (answers_ok es (λ i x s. h (suc i) x s) j)
 
-pub quantiles_are : (phi : Num) (by : Grouping) (vector : List (Item Num)) (m : BTreeMap (List Pair) (List Num)) → AreParts alone one_after_other (group_of by) vector m
+pub quantiles_are : {S : Type 0} (phi : Num) (by : Grouping) (vector : List (Item Num)) (m : IndexMap (List Pair) (List Num) S) → AreParts alone one_after_other (group_of by) vector m
     → of_groups (always (quantile_of_values phi)) by vector ≡ Ok (quantiles_in phi m.entries)
 quantiles_are phi by vector m h =
     ap (group_answers (λ k. always (quantile_of_values phi) (values_of (part by vector k)))) (sym h.known)
-    ∙ answers_ok phi (λ k. values_of (part by vector k)) m.entries (λ i e s. folded_lists (values_of (part by vector e.0)) e.1 (sym (btree_map_get_place labels_total m i e.0 e.1 h.ordered s) ∙ h.at e.0))
+    ∙ answers_ok phi (λ k. values_of (part by vector k)) m.entries (λ i e s. folded_lists (values_of (part by vector e.0)) e.1 (sym (hash_map_get_place labels_equiv m i e.0 e.1 h.grouped.unique s) ∙ h.grouped.at e.0))

@@ -6,7 +6,8 @@ pub mod RanksOf
 pub mod Seen
 pub mod Marking
 pub mod Counting
-pub mod Known
+pub mod ChosenPairs
+pub mod InOrder
 pub mod Gathered
 pub mod Answered
 pub mod Folded

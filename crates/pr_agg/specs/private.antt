@@ -1,4 +1,5 @@
 pub mod Alone
+pub mod Chosen
 pub mod Counts
 pub mod Finished
 pub mod Firsts

@@ -1,21 +1,23 @@
 // The aggregation `count_values`.
-ghost use Rattle.std.specs.Prelude.{◌≡◌, true, IfOk};
+ghost use Rattle.std.specs.Prelude.{◌≡◌, ◌+◌, ◌<◌, ◌^◌, true, false, is_some, Some, IfOk, OnOk};
+ghost use Rattle.std.specs.Option.{unwrap_or};
+ghost use Rattle.indexmap.specs.IndexMap.{IsUnique, Updates, get};
 ghost use Rattle.pr_num.specs.declared.value.Num.{Num};
 ghost use Rattle.pr_num.specs.Shown.{shown};
-ghost use Rattle.pr_window.specs.pr_labels.Edits.{set_label};
-ghost use Rattle.pr_window.specs.pr_labels.Names.{is_label_name};
+ghost use Rattle.pr_labels.specs.Edits.{set_label};
+ghost use Rattle.pr_labels.specs.Names.{is_label_name};
+ghost use Rattle.pr_labels.specs.Order.{labels_eq};
 ghost use Rattle.pr_window.specs.spec_vectors.private.Laws.{IsVector};
 ghost use Rattle.pr_window.specs.spec_vectors.Aggregation.{counted, value_group};
 ghost use Rattle.pr_agg.specs.private.Counts.{both_parts, numbered_all, one_each};
 ghost use Rattle.pr_agg.specs.private.Parts.{AreParts};
 
 use crate::numbers::whole;
-use crate::parts::{add_value, group_of};
-use crate::values::CountFold;
+use crate::parts::{group_of, sort_groups};
+use indexmap::IndexMap;
+use pr_labels::{Grouping, Item, Labels};
 use pr_num::{Num, write};
-use pr_window::labels::{Grouping, Item, Labels};
 use std::alloc::{AllocError, Global};
-use std::collections::BTreeMap;
 use std::str;
 
 // Sets a label name to a text.
@@ -58,32 +60,58 @@ fn value_group(
     set_to_value(alloc, group, label, item.value)
 }
 
-// How many elements go by the same labels.
+// Counts one more element of a group, where some were counted.
+fn count_known(counts: &mut IndexMap<Labels, u64>, group: &Labels) -> bool
+    requires { unwrap_or (get labels_eq counts.old group.now) 0 + 1 < 2 ^ 64 }
+    ensures known { result ≡ is_some (get labels_eq counts.old group.now) }
+    ensures counted { result ≡ true → Updates labels_eq counts.old counts.new group.now (Some (unwrap_or (get labels_eq counts.old group.now) 0 + 1)) }
+    ensures unique { result ≡ true → IsUnique labels_eq counts.new }
+    ensures same { result ≡ false → counts.new ≡ counts.old }
+{
+    match counts.get_mut(group) {
+        Some(count) => {
+            *count += 1;
+            true
+        }
+        None => false,
+    }
+}
+
+// Counts one more element of a group.
+fn count_one(counts: &mut IndexMap<Labels, u64>, group: Labels) -> Result<(), AllocError>
+    requires { unwrap_or (get labels_eq counts.old group) 0 + 1 < 2 ^ 64 }
+    ensures counted { OnOk result (Updates labels_eq counts.old counts.new group (Some (unwrap_or (get labels_eq counts.old group) 0 + 1))) }
+    ensures unique { OnOk result (IsUnique labels_eq counts.new) }
+{
+    let known = count_known(counts, &group);
+    if known {
+        return Ok(());
+    }
+    counts.insert(group, 1)?;
+    Ok(())
+}
+
+// How many elements go by the same labels, in label order.
 fn count_parts(
     alloc: Global,
     label: &str,
     vector: &[Item<Num>],
     by: &Grouping,
-) -> Result<BTreeMap<Labels, u64>, AllocError>
+) -> Result<IndexMap<Labels, u64>, AllocError>
     requires { is_label_name label.now ≡ true }
     ensures { IfOk result (λ m. AreParts one_each both_parts (value_group label.now by.now) vector.now m) }
 {
-    let mut counts: BTreeMap<Labels, u64> = BTreeMap::new(alloc);
+    let mut counts: IndexMap<Labels, u64> = IndexMap::new(alloc);
     for item in vector {
         let group = value_group(alloc, label, by, item)?;
-        add_value::<u64, CountFold, _, _>(
-            &mut counts,
-            group,
-            &item.value,
-            &|_: &Num| 1u64,
-            &|a: &u64, b: &u64| *a + *b,
-        )?;
+        count_one(&mut counts, group)?;
     }
+    sort_groups(&mut counts)?;
     Ok(counts)
 }
 
 // The counts as elements.
-fn numbered(alloc: Global, counts: BTreeMap<Labels, u64>) -> Result<Vec<Item<Num>>, AllocError>
+fn numbered(alloc: Global, counts: IndexMap<Labels, u64>) -> Result<Vec<Item<Num>>, AllocError>
     ensures { IfOk result (λ v. v.items ≡ numbered_all counts.entries) }
 {
     let mut items = Vec::new(alloc);

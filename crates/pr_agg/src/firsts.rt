@@ -11,8 +11,8 @@ ghost use Rattle.pr_window.specs.spec_vectors.Aggregation.{first_of_parts, great
 ghost use Rattle.pr_agg.specs.private.Firsts.{AreRanks, IsMarked, is_first, order_toward, rank_of, ranked};
 
 use crate::parts::group_of;
+use pr_labels::{Grouping, Item, Labels};
 use pr_num::Num;
-use pr_window::labels::{Grouping, Item, Labels};
 use std::alloc::{AllocError, Global};
 use std::collections::BTreeMap;
 

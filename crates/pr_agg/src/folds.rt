@@ -1,6 +1,6 @@
 // Aggregations that fold.
 ghost use Rattle.std.specs.Prelude.{◌≡◌, ◌++◌, ◌∷◌, [], Result, Ok, Err, IfOk, OnOk, MatchResult};
-ghost use Rattle.std.specs.BTreeMap.{keys};
+ghost use Rattle.indexmap.specs.IndexMap.{keys};
 ghost use Rattle.pr_num.specs.declared.value.Num.{Num};
 ghost use Rattle.pr_num.specs.declared.value.TooWide.{TooWide};
 ghost use Rattle.pr_num.specs.Arithmetic.{too_wide};
@@ -13,11 +13,11 @@ ghost use Rattle.pr_agg.specs.private.Parts.{Finishes, finished_all, fold_and_fi
 
 use crate::fault::AggFault;
 use crate::parts::fold_parts;
+use indexmap::IndexMap;
+use pr_labels::{Grouping, Item, Labels};
 use pr_num::{Num, TooWide};
 use pr_window::Fold;
-use pr_window::labels::{Grouping, Item, Labels};
 use std::alloc::{AllocError, Global};
-use std::collections::BTreeMap;
 
 // Puts an element at the end.
 fn push_element(items: &mut Vec<Item<Num>>, labels: Labels, value: Num) -> Result<(), AllocError>
@@ -30,7 +30,7 @@ fn push_element(items: &mut Vec<Item<Num>>, labels: Labels, value: Num) -> Resul
 // What the summaries are finished to, in label order.
 fn finish_all<A: Copy, E: Fn(&A) -> Result<Num, TooWide>>(
     alloc: Global,
-    parts: BTreeMap<Labels, A>,
+    parts: IndexMap<Labels, A>,
     finish: &E,
 ) -> Result<Vec<Item<Num>>, AggFault>
     requires { E.IsAlwaysCallable finish.now }

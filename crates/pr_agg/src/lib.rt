@@ -1,8 +1,9 @@
 //! Aggregations of a vector by labels. A call equals its definition in `spec_vectors`, which speaks
-//! of the filters of the vector; the parts are gathered in an ordered map, so that the work grows
-//! with the elements and not with the groups.
+//! of the filters of the vector; the parts are gathered in a hash map and put in order once, so
+//! that the work grows with the elements and not with the groups.
 #![tactic(auto)]
 
+mod chosen;
 mod counts;
 mod fault;
 mod firsts;

@@ -1,33 +1,32 @@
 // The values of each part, gathered.
 ghost use Rattle.std.specs.Prelude.{◌≡◌, true, false, is_some, Some, Ok, IfOk, OnOk, IsSorted};
-ghost use Rattle.std.specs.BTreeMap.{IsOrdered, Updates, get, keys};
+ghost use Rattle.indexmap.specs.IndexMap.{IsUnique, Updates, get};
 ghost use Rattle.pr_num.specs.Order.{order_of};
+ghost use Rattle.pr_labels.specs.Order.{labels_eq};
 ghost use Rattle.pr_window.specs.spec_vectors.private.Laws.{IsVector};
-ghost use Rattle.pr_window.specs.pr_labels.Order.{labels_cmp};
-ghost use Rattle.pr_window.specs.pr_labels.Rising.{with_labels};
 ghost use Rattle.pr_window.specs.spec_vectors.Aggregation.{of_groups, always, group_of, in_value_order, quantile_of_values};
 ghost use Rattle.pr_window.specs.private.Folding.{with_next};
 ghost use Rattle.pr_agg.specs.private.Lists.{alone, one_after_other, quantiles_in};
 ghost use Rattle.pr_agg.specs.private.Parts.{AreParts};
 
-use crate::parts::group_of;
+use crate::chosen::ChosenLabels;
+use crate::parts::{group_of, sort_groups};
+use indexmap::IndexMap;
+use pr_labels::{Grouping, Item, Labels};
 use pr_num::Num;
-use pr_window::labels::{Grouping, Item, Labels};
 use pr_window::words_crate::Items;
 use std::alloc::{AllocError, Global};
-use std::collections::BTreeMap;
 
 // Puts a value at the end of its part, where the part is there.
 fn push_known(
-    parts: &mut BTreeMap<Labels, Items<Num>>,
-    group: &Labels,
+    parts: &mut IndexMap<Labels, Items<Num>>,
+    group: &ChosenLabels<'_>,
     value: &Num,
 ) -> Result<bool, AllocError>
-    ensures pushed { IfOk result (λ b. b ≡ is_some (get labels_cmp parts.old group.now)) }
-    ensures updates { IfOk result (λ b. b ≡ true → Updates labels_cmp parts.old parts.new group.now (Some (with_next alone one_after_other (get labels_cmp parts.old group.now) value.now))) }
-    ensures keys { IfOk result (λ b. b ≡ true → keys parts.new ≡ keys parts.old) }
-    ensures ordered { IfOk result (λ b. b ≡ true → IsOrdered labels_cmp parts.new) }
-    ensures same { IfOk result (λ b. b ≡ false → parts.new.entries ≡ parts.old.entries) }
+    ensures pushed { IfOk result (λ b. b ≡ is_some (get labels_eq parts.old group.now)) }
+    ensures updates { IfOk result (λ b. b ≡ true → Updates labels_eq parts.old parts.new group.now (Some (with_next alone one_after_other (get labels_eq parts.old group.now) value.now))) }
+    ensures unique { IfOk result (λ b. b ≡ true → IsUnique labels_eq parts.new) }
+    ensures same { IfOk result (λ b. b ≡ false → parts.new ≡ parts.old) }
 {
     match parts.get_mut(group) {
         Some(values) => {
@@ -38,41 +37,44 @@ fn push_known(
     }
 }
 
-// Puts a value at the end of its part.
+// Puts the value of an element at the end of its part.
 fn add_value(
     alloc: Global,
-    parts: &mut BTreeMap<Labels, Items<Num>>,
-    group: Labels,
-    value: &Num,
+    parts: &mut IndexMap<Labels, Items<Num>>,
+    group: &ChosenLabels<'_>,
+    by: &Grouping,
+    item: &Item<Num>,
 ) -> Result<(), AllocError>
-    requires { IsOrdered labels_cmp parts.old }
-    ensures updates { OnOk result (Updates labels_cmp parts.old parts.new group (Some (with_next alone one_after_other (get labels_cmp parts.old group) value.now))) }
-    ensures known { OnOk result (keys parts.new ≡ with_labels (keys parts.old) group) }
-    ensures ordered { OnOk result (IsOrdered labels_cmp parts.new) }
+    requires { group.now ≡ group_of by.now item.now }
+    ensures updates { OnOk result (Updates labels_eq parts.old parts.new group.now (Some (with_next alone one_after_other (get labels_eq parts.old group.now) item.now.value))) }
+    ensures unique { OnOk result (IsUnique labels_eq parts.new) }
 {
-    let known = push_known(parts, &group, value)?;
+    let known = push_known(parts, group, &item.value)?;
     if known {
         return Ok(());
     }
     let mut values = Items::empty(alloc);
-    values.push(*value)?;
-    parts.insert(group, values)?;
+    values.push(item.value)?;
+    let labels = group_of(alloc, by, item)?;
+    parts.insert(labels, values)?;
     Ok(())
 }
 
-/// The values of each part, in label order of the elements.
+/// The values of each part, in label order of the groups and of the elements.
 pub fn gather(
     alloc: Global,
     vector: &[Item<Num>],
     by: &Grouping,
-) -> Result<BTreeMap<Labels, Items<Num>>, AllocError>
+) -> Result<IndexMap<Labels, Items<Num>>, AllocError>
     ensures { IfOk result (λ m. AreParts alone one_after_other (group_of by.now) vector.now m) }
 {
-    let mut parts: BTreeMap<Labels, Items<Num>> = BTreeMap::new(alloc);
+    let mut parts: IndexMap<Labels, Items<Num>> = IndexMap::new(alloc);
+    let mut group = ChosenLabels::new(alloc);
     for item in vector {
-        let group = group_of(alloc, by, item)?;
-        add_value(alloc, &mut parts, group, &item.value)?;
+        group.choose(by, &item.labels)?;
+        add_value(alloc, &mut parts, &group, by, item)?;
     }
+    sort_groups(&mut parts)?;
     Ok(parts)
 }
 
@@ -90,7 +92,7 @@ fn sorted(values: Items<Num>) -> Result<Vec<Num>, AllocError>
 fn quantiles(
     alloc: Global,
     phi: &Num,
-    parts: BTreeMap<Labels, Items<Num>>,
+    parts: IndexMap<Labels, Items<Num>>,
 ) -> Result<Vec<Item<Num>>, AllocError>
     ensures { IfOk result (λ v. v.items ≡ quantiles_in phi.now parts.entries) }
 {

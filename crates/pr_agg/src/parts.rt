@@ -1,17 +1,18 @@
 // The parts of a vector, each folded to a summary.
-ghost use Rattle.std.specs.Prelude.{◌≡◌, ◌+◌, ◌<◌, ◌^◌, true, false, is_some, Some, IfOk, IfSome, OnOk};
-ghost use Rattle.std.specs.BTreeMap.{IsOrdered, Updates, get, keys};
-ghost use Rattle.pr_window.specs.pr_labels.Order.{labels_cmp};
-ghost use Rattle.pr_window.specs.pr_labels.Rising.{with_labels};
+ghost use Rattle.std.specs.Prelude.{◌≡◌, ◌+◌, ◌<◌, ◌^◌, true, false, is_some, List, Some, IfOk, IfSome, IsSorted, OnOk};
+ghost use Rattle.indexmap.specs.IndexMap.{IsUnique, Updates, get, keys};
+ghost use Rattle.pr_labels.specs.declared.pair.Pair.{Pair};
+ghost use Rattle.pr_labels.specs.Order.{labels_cmp, labels_eq};
 ghost use Rattle.pr_window.specs.spec_vectors.Aggregation.{group_of};
 ghost use Rattle.pr_window.specs.private.Folding.{Lifts, Combines, with_next};
 ghost use Rattle.pr_agg.specs.private.Parts.{AreParts};
 
+use crate::chosen::ChosenLabels;
+use indexmap::IndexMap;
+use pr_labels::{Grouping, Item, Labels};
 use pr_num::Num;
 use pr_window::Fold;
-use pr_window::labels::{Grouping, Item, Labels};
 use std::alloc::{AllocError, Global};
-use std::collections::BTreeMap;
 
 /// The labels by which an element is grouped.
 pub fn group_of(alloc: Global, by: &Grouping, item: &Item<Num>) -> Result<Labels, AllocError>
@@ -41,20 +42,19 @@ fn next_summary<A: Copy, M: Fold<Num, A>, L: Fn(&Num) -> A, C: Fn(&A, &A) -> A>(
 
 // Puts a value into the summary of its part, where the part is there.
 fn add_known<A: Copy, M: Fold<Num, A>, L: Fn(&Num) -> A, C: Fn(&A, &A) -> A>(
-    parts: &mut BTreeMap<Labels, A>,
-    group: &Labels,
+    parts: &mut IndexMap<Labels, A>,
+    group: &ChosenLabels<'_>,
     value: &Num,
     lift: &L,
     combine: &C,
 ) -> bool
     requires lift { Lifts L.Fn lift.now M.lift }
     requires combine { Combines C.Fn combine.now M.combine M.weight }
-    requires light { IfSome (get labels_cmp parts.old group.now) (λ a. M.weight a + 1 < 2 ^ 64) }
-    ensures known { result ≡ is_some (get labels_cmp parts.old group.now) }
-    ensures updates { result ≡ true → Updates labels_cmp parts.old parts.new group.now (Some (with_next M.lift M.combine (get labels_cmp parts.old group.now) value.now)) }
-    ensures keys { result ≡ true → keys parts.new ≡ keys parts.old }
-    ensures ordered { result ≡ true → IsOrdered labels_cmp parts.new }
-    ensures same { result ≡ false → parts.new.entries ≡ parts.old.entries }
+    requires light { IfSome (get labels_eq parts.old group.now) (λ a. M.weight a + 1 < 2 ^ 64) }
+    ensures known { result ≡ is_some (get labels_eq parts.old group.now) }
+    ensures updates { result ≡ true → Updates labels_eq parts.old parts.new group.now (Some (with_next M.lift M.combine (get labels_eq parts.old group.now) value.now)) }
+    ensures unique { result ≡ true → IsUnique labels_eq parts.new }
+    ensures same { result ≡ false → parts.new ≡ parts.old }
 {
     match parts.get_mut(group) {
         Some(summary) => {
@@ -65,47 +65,60 @@ fn add_known<A: Copy, M: Fold<Num, A>, L: Fn(&Num) -> A, C: Fn(&A, &A) -> A>(
     }
 }
 
-/// Puts a value into the summary of its part.
-pub fn add_value<A: Copy, M: Fold<Num, A>, L: Fn(&Num) -> A, C: Fn(&A, &A) -> A>(
-    parts: &mut BTreeMap<Labels, A>,
-    group: Labels,
-    value: &Num,
+// Puts the value of an element into the summary of its part.
+fn add_value<A: Copy, M: Fold<Num, A>, L: Fn(&Num) -> A, C: Fn(&A, &A) -> A>(
+    alloc: Global,
+    parts: &mut IndexMap<Labels, A>,
+    group: &ChosenLabels<'_>,
+    by: &Grouping,
+    item: &Item<Num>,
     lift: &L,
     combine: &C,
 ) -> Result<(), AllocError>
+    requires group { group.now ≡ group_of by.now item.now }
     requires lift { Lifts L.Fn lift.now M.lift }
     requires combine { Combines C.Fn combine.now M.combine M.weight }
-    requires light { IfSome (get labels_cmp parts.old group) (λ a. M.weight a + 1 < 2 ^ 64) }
-    requires order { IsOrdered labels_cmp parts.old }
-    ensures updates { OnOk result (Updates labels_cmp parts.old parts.new group (Some (with_next M.lift M.combine (get labels_cmp parts.old group) value.now))) }
-    ensures known { OnOk result (keys parts.new ≡ with_labels (keys parts.old) group) }
-    ensures ordered { OnOk result (IsOrdered labels_cmp parts.new) }
+    requires light { IfSome (get labels_eq parts.old group.now) (λ a. M.weight a + 1 < 2 ^ 64) }
+    ensures updates { OnOk result (Updates labels_eq parts.old parts.new group.now (Some (with_next M.lift M.combine (get labels_eq parts.old group.now) item.now.value))) }
+    ensures unique { OnOk result (IsUnique labels_eq parts.new) }
 {
-    let known = add_known::<A, M, L, C>(parts, &group, value, lift, combine);
+    let known = add_known::<A, M, L, C>(parts, group, &item.value, lift, combine);
     if known {
         return Ok(());
     }
-    let first = next_summary::<A, M, L, C>(None, value, lift, combine);
-    parts.insert(group, first)?;
+    let first = next_summary::<A, M, L, C>(None, &item.value, lift, combine);
+    let labels = group_of(alloc, by, item)?;
+    parts.insert(labels, first)?;
     Ok(())
 }
 
-/// The summary of each part by the labels of its group.
+/// Puts the groups in label order.
+pub fn sort_groups<A>(parts: &mut IndexMap<Labels, A>) -> Result<(), AllocError>
+    ensures sorted { OnOk result (IsSorted labels_cmp (keys parts.new)) }
+    ensures same { (q : List Pair) → get labels_eq parts.new q ≡ get labels_eq parts.old q }
+    ensures unique { IsUnique labels_eq parts.new }
+{
+    parts.sort_keys()
+}
+
+/// The summary of each part by the labels of its group, in label order.
 pub fn fold_parts<A: Copy, M: Fold<Num, A>, L: Fn(&Num) -> A, C: Fn(&A, &A) -> A>(
     alloc: Global,
     vector: &[Item<Num>],
     by: &Grouping,
     lift: &L,
     combine: &C,
-) -> Result<BTreeMap<Labels, A>, AllocError>
+) -> Result<IndexMap<Labels, A>, AllocError>
     requires lift { Lifts L.Fn lift.now M.lift }
     requires combine { Combines C.Fn combine.now M.combine M.weight }
     ensures { IfOk result (λ m. AreParts M.lift M.combine (group_of by.now) vector.now m) }
 {
-    let mut parts: BTreeMap<Labels, A> = BTreeMap::new(alloc);
+    let mut parts: IndexMap<Labels, A> = IndexMap::new(alloc);
+    let mut group = ChosenLabels::new(alloc);
     for item in vector {
-        let group = group_of(alloc, by, item)?;
-        add_value::<A, M, L, C>(&mut parts, group, &item.value, lift, combine)?;
+        group.choose(by, &item.labels)?;
+        add_value::<A, M, L, C>(alloc, &mut parts, &group, by, item, lift, combine)?;
     }
+    sort_groups(&mut parts)?;
     Ok(parts)
 }

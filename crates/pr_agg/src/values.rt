@@ -8,10 +8,10 @@ ghost use Rattle.pr_agg.specs.declared.fault.AggFault.TheVariants as fault;
 use crate::fault::AggFault;
 use crate::folds::group_fold;
 use crate::numbers::whole;
+use pr_labels::{Grouping, Item};
 use pr_num::{Num, TooWide, Total};
 use pr_window::Fold;
 use pr_window::folds::{greater, lesser};
-use pr_window::labels::{Grouping, Item};
 use std::alloc::{AllocError, Global};
 
 /// Values are folded to their total, for `sum` and `avg`: lift by `Total::zero().plus(v)`, combine

@@ -1,14 +1,14 @@
 -- What is kept of the parts of a vector, and what they give.
 use Rattle.std.specs.Prelude.{◌≡◌, List, [], ◌∷◌, ◌++◌, map, filter, Option, Some, None, Result, Ok, Err}
 use Rattle.std.specs.Fn.{Shared}
-use Rattle.std.specs.BTreeMap.{BTreeMap, IsOrdered, get, keys}
+use Rattle.indexmap.specs.IndexMap.{IndexMap, IsUnique, get, keys}
 use denote.Ref.{Bor}
 use Rattle.pr_num.specs.declared.value.Num.{Num}
 use Rattle.pr_num.specs.declared.value.Num.TheVariants.{NaN}
 use Rattle.pr_num.specs.declared.value.TooWide.{TooWide}
 use Rattle.pr_window.specs.pr_labels.declared.pair.Pair.{Pair}
 use Rattle.pr_window.specs.pr_labels.declared.item.Item.{Item}
-use Rattle.pr_window.specs.pr_labels.Order.{labels_cmp, labels_eq}
+use Rattle.pr_window.specs.pr_labels.Order.{labels_eq}
 use Rattle.pr_window.specs.spec_vectors.Vectors.{in_label_order}
 use Rattle.pr_window.specs.spec_vectors.Aggregation.{behind, values_of}
 use Rattle.pr_window.specs.private.Folding.{folded}
@@ -32,11 +32,15 @@ module _ {A : Type 0} where
     abbrev pub fold_and_finish : (A → Result Num TooWide) → List Num → Result Num TooWide
     fold_and_finish f values = finished f (folded lift combine values)
 
-    -- the map has each key of the elements seen, with the summary of the values that go by it
-    pub record AreParts (key : Item Num → List Pair) (front : List (Item Num)) (m : BTreeMap (List Pair) A) : Type 0 where
+    -- the map has the summary of the values that go by each key
+    pub record AreGrouped {S : Type 0} (key : Item Num → List Pair) (front : List (Item Num)) (m : IndexMap (List Pair) A S) : Type 0 where
+      pub unique : IsUnique labels_eq m
+      pub at : (q : List Pair) → get labels_eq m q ≡ folded lift combine (values_of (part_by key front q))
+
+    -- and each key of the elements seen stands there once, in label order
+    pub record AreParts {S : Type 0} (key : Item Num → List Pair) (front : List (Item Num)) (m : IndexMap (List Pair) A S) : Type 0 where
       pub known : keys m ≡ in_label_order (map key front)
-      pub ordered : IsOrdered labels_cmp m
-      pub at : (q : List Pair) → get labels_cmp m q ≡ folded lift combine (values_of (part_by key front q))
+      pub grouped : AreGrouped key front m
 
   -- what the entries of a map give
   abbrev pub finished_all : (A → Result Num TooWide) → List (List Pair × A) → Result (List (Item Num)) TooWide

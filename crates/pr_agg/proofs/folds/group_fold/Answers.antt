@@ -4,7 +4,7 @@ use Rattle.pr_num.specs.declared.value.TooWide.{TooWide}
 use Rattle.pr_num.specs.Arithmetic.{too_wide}
 use Rattle.pr_window.specs.pr_labels.declared.item.Item.{Item}
 use Rattle.pr_agg.specs.declared.fault.AggFault.TheVariants as fault
-use Rattle.std.specs.BTreeMap.{keys}
+use Rattle.indexmap.specs.IndexMap.{keys}
 use Rattle.pr_window.specs.spec_vectors.Aggregation.{group_of}
 use Rattle.pr_agg.proofs.Answered.{labels_rise}
 use Rattle.pr_agg.proofs.Finishing.{parts_answer}
