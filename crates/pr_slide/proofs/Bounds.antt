@@ -10,6 +10,7 @@ use Rattle.pr_range.specs.private.Asks.{LastAsk}
 use Rattle.pr_range.proofs.Lawful.{entries_until_is}
 use Rattle.pr_range.proofs.Timeline.{until}
 use Rattle.pr_slide.specs.declared.window.SeriesWindow.{SeriesWindow}
+use Rattle.pr_slide.specs.private.Kinds.{kept_in}
 use Rattle.pr_slide.specs.private.Windows.{AreWindowsOf, IsWindow, Nodes, found, last_in, last_asks, passed_in, passed_of}
 use Rattle.pr_slide.proofs.Slides.{front_until}
 
@@ -24,7 +25,7 @@ passed_within nodes history node series labels last fits named is = by (found no
   by (Some w) k e =
       let has = fits node series w k in
       let same : has.labels ≡ labels = cc (has.named, named) in
-      let window = subst (λ l. IsWindow history l w.from w.to w.passed w.spots) same has.window in
+      let window = subst (λ l. IsWindow history l w.from w.to w.passed (kept_in w.spots)) same has.window in
       let end : last_in w ≡ last = cc in
       let to : w.to ≡ last.to = ap (λ (l : LastAsk). l.to) end in
       subst (λ n. w.passed ≤ n) (sym (entries_until_is history labels last.to))

@@ -1,6 +1,7 @@
 -- What is kept stays true, and answers as the history does.
 use Rattle.std.proofs.Common.{◌≡◌, ℕ, ◌+◌, ◌-◌, ◌≤◌, ◌≤ℤ◌, ◌==◌, max, nat_eq, Bool, true, false, not, cond, ◌&&◌, List, ◌++◌, length, take, drop, slice_get, Option, Some, None, Result, refl, sym, ap, subst, ◌∙◌, arith}
 use Rattle.std.specs.Option.{option_map}
+use Rattle.std.proofs.lemmas.Grind.{common_steps}
 use Rattle.std.proofs.lemmas.List.{drop-drop, take-map, length-map}
 use Rattle.std.proofs.lemmas.List.Elements.{filter_map-append}
 use borrow.Author.Tests.{eqb-true}
@@ -19,14 +20,17 @@ use Rattle.pr_range.specs.spec_vectors.private.Laws.{ask_cost}
 use Rattle.pr_num.specs.declared.value.Num.{Num}
 use Rattle.pr_range.specs.declared.fault.RangeFault.{RangeFault}
 use Rattle.pr_range.specs.private.Asks.{AreMoved, IsAskAnswer, IsLater, IsReadyToAsk, LastAsk, MayAsk, passed_for, remembered}
-use Rattle.pr_range.specs.private.Spots.{samples_between, spots_of}
+use Rattle.pr_range.specs.private.Spots.{AreWithin, samples_between, spots_of}
 use Rattle.pr_range.proofs.Timeline.{until, after, between}
 use Rattle.pr_range.proofs.Lawful.{rising_samples, entries_until_is, spots_within_is}
 use Rattle.pr_range.proofs.Reading.{Placed, until_short}
 use Rattle.pr_slide.specs.declared.window.SeriesWindow.{SeriesWindow}
+use Rattle.pr_slide.specs.private.Kinds.{is_told, kept_in, tells}
 use Rattle.pr_slide.specs.private.Later.{later}
-use Rattle.pr_slide.specs.private.Windows.{AreWindowsOf, HasWindow, IsPut, IsWindow, Nodes, found, last_in, last_asks, passed_in, passed_of, slid_spots, spots_in}
+use Rattle.pr_slide.specs.private.Successions.{is_rising}
+use Rattle.pr_slide.specs.private.Windows.{AreWindowsOf, HasWindow, IsPut, IsWindow, Nodes, found, is_told_by, last_in, last_asks, passed_in, passed_of, slid_spots, spots_in}
 use Rattle.pr_slide.proofs.Slides.{later_again, rises_front, front_until, until_front, spots_same, window_step, between_front}
+use Rattle.pr_slide.proofs.Telling.{within_rises}
 
 -- what a window has for a later range
 abbrev IsFront : List Timed → Ask → List Spot → ℕ → Type 0
@@ -40,11 +44,11 @@ front_of history labels series node a nodes rising named fits ready = by (found 
   by (Some w) k =
       let has = fits node series w k in
       let same : has.labels ≡ labels = cc (has.named, named) in
-      let window = subst (λ l. IsWindow history l w.from w.to w.passed w.spots) same has.window in
+      let window = subst (λ l. IsWindow history l w.from w.to w.passed (kept_in w.spots)) same has.window in
       let last : last_asks nodes node series ≡ Some (last_in w) = ap (option_map last_in) k in
       let from = ready.from (last_in w) last in
       let to = ready.to (last_in w) last in
-      let spots : w.spots ≡ spots_of (after w.from (take w.passed (samples_of history labels))) =
+      let spots : kept_in w.spots ≡ spots_of (after w.from (take w.passed (samples_of history labels))) =
       window.spots ∙ spots_same w.from (take w.passed (entries_of labels history)) ∙ ap (λ l. spots_of (after w.from l)) (sym (take-map timed w.passed (entries_of labels history))) in (
         ap (later a.from) spots ∙ later_again w.from a.from 0 (take w.passed (samples_of history labels)) from (rises_front w.passed 0 (samples_of history labels) rising),
         front_until w.to a.to w.passed (entries_of labels history) to window.passed window.until,
@@ -102,17 +106,49 @@ pub reads_later : (history : List Entry) (labels : List Pair) (a : Ask) (s : Sto
 reads_later history labels a s passed before after outside from to h =
     rw outside (subst (λ n. after ≤ before + (n - max (entries_until history labels a.from) passed)) to (subst (λ n. after ≤ before + (position_of s a.to - max n passed)) from h))
 
+-- what is kept tells the function that is asked, if it can
+pub told_before : (nodes : Nodes) (history : List Entry) (node series : ℕ) (a : Ask) → AreWindowsOf nodes history → IsLater (last_asks nodes) node series a → is_told a.func ≡ true
+    → is_told_by a.func (found nodes node series) ≡ true
+told_before nodes history node series a fits ready can = by (found nodes node series) refl where
+  by : (w : Option SeriesWindow) → found nodes node series ≡ w → is_told_by a.func w ≡ true
+  by None k = refl
+  by (Some w) k =
+      let same : w.func ≡ a.func = ready.same series (last_in w) (ap (option_map last_in) k) in
+      subst (λ f. tells f w.spots ≡ true) same ((fits node series w k).told (subst (λ f. is_told f ≡ true) (sym same) can))
+
+-- and so it does afterwards
+pub told_after : (nodes nodes' : Nodes) (history : List Entry) (s : Stored) (a : Ask) (node series : ℕ) → AreWindowsOf nodes history → IsLater (last_asks nodes) node series a
+    → AreWithin a.from a.to (slid_spots s a (passed_of nodes node series) (spots_in (found nodes node series))) → (put : IsPut s a node series nodes nodes') → is_told a.func ≡ true → tells a.func put.window.spots ≡ true
+told_after nodes nodes' history s a node series fits ready within put can =
+    put.slid.told can (told_before nodes history node series a fits ready can)
+    (subst (λ l. is_rising l ≡ true) (sym put.slid.spots) (within_rises a.from a.to (slid_spots s a (passed_of nodes node series) (spots_in (found nodes node series))) within))
+
+-- what is found of the series afterwards
+pub found_put : (nodes nodes' : Nodes) (s : Stored) (a : Ask) (node series : ℕ) → (put : IsPut s a node series nodes nodes') → found nodes' node series ≡ Some put.window
+found_put nodes nodes' s a node series put =
+    let here : nat_eq node node ≡ true = grind (arith, common_steps) in
+    let there : nat_eq series series ≡ true = grind (arith, common_steps) in
+    put.put node series ∙ (λ i. cond (here i && there i) (Some put.window) (found nodes node series))
+
 -- The window is one of the series, and the others stay.
-pub fits_put : (nodes nodes' : Nodes) (history : List Entry) (labels : List Pair) (s : Stored) (a : Ask) (node series : ℕ) → AreWindowsOf nodes history → slice_get (arrivals history) series ≡ Some labels
+pub fits_put : (nodes nodes' : Nodes) (history : List Entry) (labels : List Pair) (s : Stored) (a : Ask) (node series : ℕ) → AreWindowsOf nodes history → IsLater (last_asks nodes) node series a → slice_get (arrivals history) series ≡ Some labels
+    → AreWithin a.from a.to (slid_spots s a (passed_of nodes node series) (spots_in (found nodes node series)))
     → Going history labels a s (passed_of nodes node series) (spots_in (found nodes node series)) → IsPut s a node series nodes nodes' → AreWindowsOf nodes' history
-fits_put nodes nodes' history labels s a node series fits named go put = λ k q w at. by k q w (nat_eq node k) (nat_eq series q) refl (sym (put.put k q) ∙ at) where
+fits_put nodes nodes' history labels s a node series fits ready named within go put = λ k q w at. by k q w (nat_eq node k) (nat_eq series q) refl (sym (put.put k q) ∙ at) where
   from_is : put.window.from ≡ a.from
   from_is = ap (λ (l : LastAsk). l.from) put.slid.last
 
   to_is : put.window.to ≡ a.to
   to_is = ap (λ (l : LastAsk). l.to) put.slid.last
 
-  own : IsWindow history labels put.window.from put.window.to put.window.passed put.window.spots
+  func_is : put.window.func ≡ a.func
+  func_is = ap (λ (l : LastAsk). l.func) put.slid.last
+
+  told_own : is_told put.window.func ≡ true → tells put.window.func put.window.spots ≡ true
+  told_own can = subst (λ f. tells f put.window.spots ≡ true) (sym func_is)
+      (told_after nodes nodes' history s a node series fits ready within put (subst (λ f. is_told f ≡ true) func_is can))
+
+  own : IsWindow history labels put.window.from put.window.to put.window.passed (kept_in put.window.spots)
   own = subst (λ spots. IsWindow history labels put.window.from put.window.to put.window.passed spots) (sym put.slid.spots)
       (subst (λ n. IsWindow history labels put.window.from put.window.to n (slid_spots s a (passed_of nodes node series) (spots_in (found nodes node series)))) (sym put.slid.passed)
       (subst (λ b. IsWindow history labels put.window.from b (position_of s a.to) (slid_spots s a (passed_of nodes node series) (spots_in (found nodes node series)))) (sym to_is)
@@ -122,7 +158,7 @@ fits_put nodes nodes' history labels s a node series fits named go put = λ k q 
   by k q w true true f at =
       let here : series ≡ q = eqb-true series q f in
       let is : put.window ≡ w = cc in
-      record { labels = labels; named = subst (λ n. slice_get (arrivals history) n ≡ Some labels) here named; window = subst (λ (v : SeriesWindow). IsWindow history labels v.from v.to v.passed v.spots) is own }
+      record { labels = labels; named = subst (λ n. slice_get (arrivals history) n ≡ Some labels) here named; window = subst (λ (v : SeriesWindow). IsWindow history labels v.from v.to v.passed (kept_in v.spots)) is own; told = subst (λ (v : SeriesWindow). is_told v.func ≡ true → tells v.func v.spots ≡ true) is told_own }
   by k q w true false f at = fits k q w at
   by k q w false t f at = fits k q w at
 

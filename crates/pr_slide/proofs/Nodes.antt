@@ -87,3 +87,9 @@ put_after s a node series first before after same h = record {
   slid = subst (λ w. IsSlid s a w h.window) (same node series) h.slid;
   put = λ k q. h.put k q ∙ ap (cond (nat_eq node k && nat_eq series q) (Some h.window)) (same k q);
 }
+
+-- what is found of the range selector whose windows have changed
+pub found_new : (node i q : ℕ) (nodes : Nodes) (row d : Row) → IsNodePlace node i nodes → row.0 ≡ (get_or nodes i d).0 → found (set nodes i row) node q ≡ lookup (nat_eq q) row.1
+found_new node i q nodes row d place number =
+    let here : nat_eq node node ≡ true = grind (arith, common_steps) in
+    found_set node i nodes row node q place (ap (nat_eq node) number ∙ number_there node i nodes d place) ∙ ap (λ b. cond b (lookup (nat_eq q) row.1) (found nodes node q)) here

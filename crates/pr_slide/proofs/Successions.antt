@@ -1,5 +1,5 @@
 -- What is counted when values come at the end and go at the front.
-use Rattle.std.proofs.Common.{◌≡◌, ℕ, ◌+◌, ◌<◌, ◌≤◌, nat_lt, ℤ, pos, negsuc, Bool, true, false, ◌&&◌, ◌||◌, cond, List, [], ◌∷◌, ◌++◌, length, map, Some, None, refl, sym, ap, ◌∙◌, arith}
+use Rattle.std.proofs.Common.{◌≡◌, ℕ, ◌+◌, ◌<◌, ◌≤◌, nat_lt, ℤ, pos, negsuc, Bool, true, false, ◌&&◌, ◌||◌, cond, List, [], ◌∷◌, ◌++◌, length, map, Some, None, refl, sym, ap, subst, ◌∙◌, arith}
 use Rattle.std.specs.Prelude.{count_by, filter}
 use Rattle.std.specs.List.{list_all}
 use Rattle.std.proofs.lemmas.Grind.{common_steps}
@@ -21,7 +21,7 @@ use Rattle.pr_range.specs.pr_window.private.Totals.{total_alone}
 use Rattle.pr_range.proofs.WindowSummaries.{sequence_folded, total_folded}
 use Rattle.pr_slide.specs.declared.successive.SuccessiveCounts.{SuccessiveCounts}
 use Rattle.pr_slide.specs.private.Later.{later}
-use Rattle.pr_slide.specs.private.Successions.{AreCounted, before_fall, before_falls, changes_at, changes_in, is_fall, rises, specials_in}
+use Rattle.pr_slide.specs.private.Successions.{AreCounted, before_fall, before_falls, changes_at, changes_in, is_fall, is_rising, rises, specials_in}
 
 -- One more value at the end, of some.
 neighbours_push : {X : Type 0} (x : X) (xs : List X) (z : X) → neighbours ((x ∷ xs) ++ z ∷ []) ≡ neighbours (x ∷ xs) ++ (last_of x xs, z) ∷ []
@@ -90,6 +90,17 @@ rest_rises x (y ∷ ys) h = by (nat_lt x.time y.time) h where
   by true k = k
   by false k = absurd (cc)
 
+-- Where values rise with one more, the last of them comes before it.
+pub rises_last : (x : Spot) (xs : List Spot) (z : Spot) → is_rising ((x ∷ xs) ++ z ∷ []) ≡ true → (last_of x xs).time < z.time
+rises_last x [] z h = next_rises x z [] h
+rises_last x (y ∷ ys) z h = rises_last y ys z (rest_rises x (y ∷ (ys ++ z ∷ [])) h)
+
+pub not_rising : (x : Spot) (xs : List Spot) (z : Spot) (spots : List Spot) → spots ≡ x ∷ xs → nat_lt (last_of x xs).time z.time ≡ false → is_rising (spots ++ z ∷ []) ≡ true → false ≡ true
+not_rising x xs z spots same late rising =
+    let later = rises_last x xs z (subst (λ l. is_rising (l ++ z ∷ []) ≡ true) same rising) in
+    let yes : nat_lt (last_of x xs).time z.time ≡ true = grind (arith, common_steps) in
+    sym late ∙ yes
+
 all_later : (a : ℤ) (x : Spot) (xs : List Spot) → is_after a x.time ≡ true → list_all rises (neighbours (x ∷ xs)) ≡ true → later a (before_falls (x ∷ xs)) ≡ before_falls (x ∷ xs)
 all_later a x [] h rising = refl
 all_later a x (y ∷ ys) h rising =
@@ -157,7 +168,7 @@ some_counted (v ∷ vs) = ap (nat_lt 0) (sum_by-cons (λ (u : Num). cond (is_spe
   by false rest = let none : 0 + count_by is_special vs ≡ count_by is_special vs = omega arith in ap (nat_lt 0) none ∙ rest
 
 pub counts_fold : (x : Spot) (xs : List Spot) (counts : SuccessiveCounts) (s : Neighbours) → AreCounted (x ∷ xs) counts → s.first ≡ x → s.last ≡ last_of x xs → s.count ≡ length (x ∷ xs)
-    → s.lost ≡ total_of (numbers_of counts.fallen) → s.resets ≡ length counts.fallen → s.changes ≡ counts.changes → s.special ≡ nat_lt 0 counts.special → Some s ≡ folded spot_alone beside (x ∷ xs)
+    → s.lost ≡ total_of (numbers_of counts.fallen.items) → s.resets ≡ length counts.fallen.items → s.changes ≡ counts.changes → s.special ≡ nat_lt 0 counts.special → Some s ≡ folded spot_alone beside (x ∷ xs)
 counts_fold x xs counts s are first last count lost resets changes special = ap (λ (n : Neighbours). Some n) same ∙ sym (sequence_folded x xs) where
   more : s.count ≡ length xs + 1
   more = omega arith
@@ -178,7 +189,7 @@ counts_fold x xs counts s are first last count lost resets changes special = ap 
   same = λ i. record (neighbours_of x xs) { first = first i; last = last i; count = more i; lost = lost_is i; resets = resets_are i; changes = changes_are i; special = special_is i }
 
 -- The counts of values with one more, or with fewer.
-pub counted_more : (x : Spot) (xs : List Spot) (z : Spot) (before after : SuccessiveCounts) → AreCounted (x ∷ xs) before → (last_of x xs).time < z.time → after.fallen ≡ before.fallen ++ before_fall (last_of x xs) z
+pub counted_more : (x : Spot) (xs : List Spot) (z : Spot) (before after : SuccessiveCounts) → AreCounted (x ∷ xs) before → (last_of x xs).time < z.time → after.fallen.items ≡ before.fallen.items ++ before_fall (last_of x xs) z
     → after.changes ≡ before.changes + one_if (differ ((last_of x xs).value, z.value)) → after.special ≡ before.special + one_if (is_special z.value) → AreCounted ((x ∷ xs) ++ z ∷ []) after
 counted_more x xs z before after are later fallen changes special = record {
   rising = rising_push x xs z are.rising later;
@@ -187,7 +198,7 @@ counted_more x xs z before after are later fallen changes special = record {
   special = special ∙ ap (λ n. n + one_if (is_special z.value)) are.special ∙ sym (specials_push (x ∷ xs) z);
 }
 
-pub counted_later : (a : ℤ) (xs : List Spot) (before after : SuccessiveCounts) → AreCounted xs before → after.fallen ≡ later a before.fallen → after.changes ≡ changes_in (later a xs) → after.special ≡ specials_in (later a xs)
+pub counted_later : (a : ℤ) (xs : List Spot) (before after : SuccessiveCounts) → AreCounted xs before → after.fallen.items ≡ later a before.fallen.items → after.changes ≡ changes_in (later a xs) → after.special ≡ specials_in (later a xs)
     → AreCounted (later a xs) after
 counted_later a xs before after are fallen changes special = record {
   rising = rising_later a xs are.rising;

@@ -1,15 +1,19 @@
 -- The windows of one range selector, by their places.
-use Rattle.std.proofs.Common.{◌≡◌, ℕ, zero, suc, ◌<◌, cond, nat_eq, List, [], ◌∷◌, length, get_or, position, slice_get, Some, sym, ap, subst, ◌∙◌}
+use Rattle.std.proofs.Common.{◌≡◌, ℕ, zero, suc, ◌+◌, ◌*◌, ◌<◌, ◌≤◌, true, cond, nat_eq, List, [], ◌∷◌, length, get_or, position, slice_get, Some, sym, ap, subst, ◌∙◌, arith}
 use Rattle.std.specs.Cmp.{nat_eq_equiv}
 use Rattle.std.specs.HashMap.{HashMap}
 use Rattle.std.specs.Map.{keys_of, lookup, values_of}
+use Rattle.std.proofs.lemmas.Grind.{common_steps}
 use Rattle.std.proofs.lemmas.List.Quantifiers.{position-Some}
 use Rattle.std.proofs.lemmas.Map.Entries.{hash_map_get_place}
 use Rattle.std.proofs.lemmas.Option.{slice_get-get_or}
 use borrow.Author.Tests.{eqb-true}
 use Rattle.indexmap.specs.IndexMap.{IsUnique, with_value_at}
 use Rattle.indexmap.proofs.CallerLemmas.{updates-with_value_at}
+use Rattle.pr_range.specs.spec_vectors.declared.range.RangeFn.{RangeFn}
 use Rattle.pr_slide.specs.declared.window.SeriesWindow.{SeriesWindow}
+use Rattle.pr_slide.specs.private.Kinds.{saved_in, tells}
+use Rattle.pr_slide.specs.private.Windows.{saved_by}
 
 -- what stands at a place
 entry_at : (windows : List (ℕ × SeriesWindow)) (i series : ℕ) (w : SeriesWindow) → slice_get (keys_of windows) i ≡ Some series → Some w ≡ slice_get (values_of windows) i → slice_get windows i ≡ Some (series, w)
@@ -39,3 +43,15 @@ key_found series keys i h =
     let found = position-Some (nat_eq series) keys i series h in
     let same : series ≡ get_or keys i series = eqb-true series (get_or keys i series) found.1 in
     slice_get-get_or keys i series found.0 ∙ ap Some (sym same)
+
+-- the looks of an ask at the window that is found
+pub looks_there : (series : ℕ) (before after : List (ℕ × SeriesWindow)) (v v' w : SeriesWindow) (f : RangeFn) (reads reads' looks looks' : ℕ) → lookup (nat_eq series) before ≡ Some v
+    → lookup (nat_eq series) after ≡ cond (nat_eq series series) (Some v') (lookup (nat_eq series) before) → lookup (nat_eq series) after ≡ Some w → tells f w.spots ≡ true
+    → (tells f v'.spots ≡ true → looks' + saved_in v'.spots + 3 * reads ≤ looks + saved_in v.spots + 3 * reads' + 1)
+    → looks' + saved_in w.spots + 3 * reads ≤ looks + saved_by (lookup (nat_eq series) before) + 3 * reads' + 1
+looks_there series before after v v' w f reads reads' looks looks' found put at told few =
+    let here : nat_eq series series ≡ true = grind (arith, common_steps) in
+    let both : Some v' ≡ Some w = sym (put ∙ ap (λ b. cond b (Some v') (lookup (nat_eq series) before)) here) ∙ at in
+    let same : v' ≡ w = cc in
+    subst (λ o. looks' + saved_in w.spots + 3 * reads ≤ looks + saved_by o + 3 * reads' + 1) (sym found)
+    (subst (λ (u : SeriesWindow). tells f u.spots ≡ true → looks' + saved_in u.spots + 3 * reads ≤ looks + saved_in v.spots + 3 * reads' + 1) same few told)

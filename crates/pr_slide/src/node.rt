@@ -1,5 +1,5 @@
 // The windows of one range selector.
-ghost use Rattle.std.specs.Prelude.{◌≡◌, ◌≢◌, ◌+◌, ◌-◌, ◌<◌, ◌≤◌, ◌++◌, ◌∷◌, [], ℕ, List, OnOk, Some, None, Err, cond, is_some, length, max, nat_eq, slice_get, true, unwrap_or};
+ghost use Rattle.std.specs.Prelude.{◌≡◌, ◌≢◌, ◌+◌, ◌-◌, ◌*◌, ◌<◌, ◌≤◌, ◌++◌, ◌∷◌, [], ℕ, List, OnOk, Some, None, Err, cond, is_some, length, max, nat_eq, slice_get, true, unwrap_or};
 ghost use Rattle.std.specs.Map.{keys_of, lookup};
 ghost use Rattle.pr_head.specs.pr_labels.declared.pair.Pair.{Pair};
 ghost use Rattle.pr_head.specs.private.Stored.{Stored, count_of, position_of};
@@ -9,7 +9,8 @@ ghost use Rattle.pr_range.specs.private.Answers.{AnswersAsk};
 ghost use Rattle.pr_range.specs.private.Asks.{HasArgument, remembered};
 ghost use Rattle.pr_range.specs.private.Spots.{AreWithin};
 ghost use Rattle.pr_slide.specs.declared.window.SeriesWindow.{SeriesWindow};
-ghost use Rattle.pr_slide.specs.private.Windows.{IsPutIn, passed_in, slid_spots, spots_in};
+ghost use Rattle.pr_slide.specs.private.Kinds.{saved_in, tells};
+ghost use Rattle.pr_slide.specs.private.Windows.{IsPutIn, passed_in, saved_by, slid_spots, spots_in};
 
 use crate::window::SeriesWindow;
 use indexmap::IndexMap;
@@ -115,13 +116,14 @@ impl Node {
     }
 
     // The first ask for a series: a window of its own.
-    fn begin<G: Ledger>(
+    fn begin<G: Ledger, L: Ledger>(
         &mut self,
         alloc: Global,
         head: &Head,
         series: usize,
         ask: &Ask,
         reads: &mut Steps<G>,
+        looks: &mut Steps<L>,
     ) -> Result<Option<Num>, RangeFault>
         requires there { series < length head.now }
         requires argument { HasArgument ask.now }
@@ -133,9 +135,10 @@ impl Node {
             → result ≢ Err Memory → IsPutIn e.1 ask.now series self.old.1 self.new.1 }
         ensures reads { (e : List Pair × Stored) → slice_get head.now series ≡ Some e
             → reads.new ≤ reads.old + (position_of e.1 ask.now.to - max (position_of e.1 ask.now.from) 0) }
+        ensures looks { (w : SeriesWindow) → lookup (nat_eq series) self.new.1 ≡ Some w → tells ask.now.func w.spots ≡ true → result ≢ Err Memory → looks.new + saved_in w.spots + 3 * reads.old ≤ looks.old + 3 * reads.new + 1 }
     {
         let mut window = SeriesWindow::new(alloc, ask.func);
-        let answer = window.ask(alloc, head, series, ask, reads);
+        let answer = window.ask(alloc, head, series, ask, reads, looks);
         match self.windows.insert(series, window) {
             Ok(_) => answer,
             Err(_) => Err(RangeFault::Memory),
@@ -143,13 +146,14 @@ impl Node {
     }
 
     /// Goes on to a later range of a series, and answers its function.
-    pub(crate) fn ask<G: Ledger>(
+    pub(crate) fn ask<G: Ledger, L: Ledger>(
         &mut self,
         alloc: Global,
         head: &Head,
         series: usize,
         ask: &Ask,
         reads: &mut Steps<G>,
+        looks: &mut Steps<L>,
     ) -> Result<Option<Num>, RangeFault>
         requires there { series < length head.now }
         requires argument { HasArgument ask.now }
@@ -161,11 +165,12 @@ impl Node {
             → result ≢ Err Memory → IsPutIn e.1 ask.now series self.old.1 self.new.1 }
         ensures reads { (e : List Pair × Stored) → slice_get head.now series ≡ Some e
             → reads.new ≤ reads.old + (position_of e.1 ask.now.to - max (position_of e.1 ask.now.from) (passed_in (lookup (nat_eq series) self.old.1))) }
+        ensures looks { (w : SeriesWindow) → lookup (nat_eq series) self.new.1 ≡ Some w → tells ask.now.func w.spots ≡ true → result ≢ Err Memory → looks.new + saved_in w.spots + 3 * reads.old ≤ looks.old + saved_by (lookup (nat_eq series) self.old.1) + 3 * reads.new + 1 }
     {
         let place = self.go_to(series);
         match self.windows.get_index_mut(place) {
-            Some(window) => window.ask(alloc, head, series, ask, reads),
-            None => self.begin(alloc, head, series, ask, reads),
+            Some(window) => window.ask(alloc, head, series, ask, reads, looks),
+            None => self.begin(alloc, head, series, ask, reads, looks),
         }
     }
 }

@@ -1,17 +1,20 @@
 // Ranges that go on.
-ghost use Rattle.std.specs.Prelude.{◌≡◌, ◌≢◌, ◌+◌, ◌-◌, ◌<◌, ◌≤◌, ◌≤ℤ◌, ◌++◌, ◌∷◌, [], ℕ, List, Option, Some, None, Err, IfOk, IfSome, OnOk, is_some, length, max, slice_get, true, unwrap_or};
+ghost use Rattle.std.specs.Prelude.{◌≡◌, ◌≢◌, ◌+◌, ◌-◌, ◌*◌, ◌<◌, ◌≤◌, ◌≤ℤ◌, ◌++◌, ◌∷◌, [], ℕ, List, Option, Some, None, Err, IfOk, IfSome, OnOk, false, is_some, length, max, slice_get, true, unwrap_or};
 ghost use Rattle.pr_head.specs.pr_labels.declared.pair.Pair.{Pair};
 ghost use Rattle.pr_head.specs.spec_history.declared.entry.Entry.{Entry};
+ghost use Rattle.pr_head.specs.spec_history.private.Laws.{entries_until};
 ghost use Rattle.pr_head.specs.private.Stored.{Stored, count_of, position_of};
 ghost use Rattle.pr_range.specs.spec_vectors.Ranges.{over};
 ghost use Rattle.pr_range.specs.declared.fault.RangeFault.TheVariants.{Memory};
 ghost use Rattle.pr_range.specs.private.Answers.{AnswersAsk};
-ghost use Rattle.pr_range.specs.private.Asks.{HasArgument};
+ghost use Rattle.pr_range.specs.private.Asks.{AreMoved, HasArgument, IsAskAnswer, IsReadyToAsk, MayAsk};
 ghost use Rattle.pr_range.specs.private.Carried.{IsOnce};
 ghost use Rattle.pr_range.specs.private.Spots.{AreWithin};
 ghost use Rattle.pr_slide.specs.private.Places.{IsNodePlace};
 ghost use Rattle.pr_slide.specs.private.Carried.{carried, number_from};
-ghost use Rattle.pr_slide.specs.private.Windows.{AreWindowsOf, IsPut, found, last_asks, passed_in, passed_of, slid_spots, spots_in};
+ghost use Rattle.pr_slide.specs.declared.window.SeriesWindow.{SeriesWindow};
+ghost use Rattle.pr_slide.specs.private.Kinds.{is_told, saved_in, tells};
+ghost use Rattle.pr_slide.specs.private.Windows.{AreWindowsOf, IsPut, found, last_asks, passed_in, passed_of, saved_of, slid_spots, spots_in};
 
 use crate::newer::number_near;
 use crate::node::Node;
@@ -21,8 +24,8 @@ use pr_head::words_crate::Steps;
 use pr_num::Num;
 use pr_range::{Ask, PlainRanges, RangeFault, Ranges};
 use std::alloc::{AllocError, Global};
-use std::marker::Model;
-use std::sync::ledger::Ledger;
+use std::marker::{Brand, Model};
+use std::sync::ledger::{Blank, Ledger};
 
 /// Ranges that go on. The values of the last range of each range selector and series are kept, and
 /// an ask reads only the samples that came after them, late ones among them. An ask inside a
@@ -140,7 +143,7 @@ impl SlidingRanges {
     }
 
     // An ask of the windows at a place.
-    fn ask_at<G: Ledger>(
+    fn ask_at<G: Ledger, L: Ledger>(
         &mut self,
         head: &Head,
         place: usize,
@@ -148,6 +151,7 @@ impl SlidingRanges {
         series: usize,
         ask: &Ask,
         reads: &mut Steps<G>,
+        looks: &mut Steps<L>,
     ) -> Result<Option<Num>, RangeFault>
         requires there { series < length head.now }
         requires argument { HasArgument ask.now }
@@ -159,19 +163,21 @@ impl SlidingRanges {
             → result ≢ Err Memory → IsPut e.1 ask.now node series self.old self.new }
         ensures reads { (e : List Pair × Stored) → slice_get head.now series ≡ Some e
             → reads.new ≤ reads.old + (position_of e.1 ask.now.to - max (position_of e.1 ask.now.from) (passed_in (found self.old node series))) }
+        ensures looks { (w : SeriesWindow) → found self.new node series ≡ Some w → tells ask.now.func w.spots ≡ true → result ≢ Err Memory → looks.new + saved_in w.spots + 3 * reads.old ≤ looks.old + saved_of self.old node series + 3 * reads.new + 1 }
     {
         self.near = place;
-        self.nodes[place].ask(self.alloc, head, series, ask, reads)
+        self.nodes[place].ask(self.alloc, head, series, ask, reads, looks)
     }
 
     // An ask outside subqueries: the window goes on.
-    fn ask_outside<G: Ledger>(
+    fn ask_outside<G: Ledger, L: Ledger>(
         &mut self,
         head: &Head,
         node: usize,
         series: usize,
         ask: &Ask,
         reads: &mut Steps<G>,
+        looks: &mut Steps<L>,
     ) -> Result<Option<Num>, RangeFault>
         requires there { series < length head.now }
         requires argument { HasArgument ask.now }
@@ -182,11 +188,74 @@ impl SlidingRanges {
             → result ≢ Err Memory → IsPut e.1 ask.now node series self.old self.new }
         ensures reads { (e : List Pair × Stored) → slice_get head.now series ≡ Some e
             → reads.new ≤ reads.old + (position_of e.1 ask.now.to - max (position_of e.1 ask.now.from) (passed_in (found self.old node series))) }
+        ensures looks { (w : SeriesWindow) → found self.new node series ≡ Some w → tells ask.now.func w.spots ≡ true → result ≢ Err Memory → looks.new + saved_in w.spots + 3 * reads.old ≤ looks.old + saved_of self.old node series + 3 * reads.new + 1 }
     {
         match self.place_for(node) {
-            Ok(place) => self.ask_at(head, place, node, series, ask, reads),
+            Ok(place) => self.ask_at(head, place, node, series, ask, reads, looks),
             Err(_) => Err(RangeFault::Memory),
         }
+    }
+}
+
+impl SlidingRanges {
+    /// The same as `ask` of the trait, outside subqueries, with the looks that it takes: each value
+    /// that is handed out to be gone over, or is moved, is one, and so is each call for combining.
+    ///
+    /// Where what is kept with the values tells the function, there are three at most for each sample
+    /// that is read and one for the ask, and what is saved up counts. So it does not go over its
+    /// window. The other functions do: the last value, the last two, quantiles and lines.
+    pub fn ask_counted<G: Ledger, L: Ledger>(
+        &mut self,
+        head: &Head,
+        node: usize,
+        series: usize,
+        ask: &Ask,
+        reads: &mut Steps<G>,
+        looks: &mut Steps<L>,
+    ) -> Result<Option<Num>, RangeFault>
+        requires there { series < length head.now }
+        requires ordered { ask.now.from ≤ℤ ask.now.to }
+        requires outside { ask.now.inside ≡ false }
+        requires argument { HasArgument ask.now }
+        ensures answer { (history : List Entry) (labels : List Pair) → MayAsk head.now history series labels ask.now → AreWindowsOf self.old history → IsReadyToAsk (last_asks self.old) node series ask.now
+            → IsAskAnswer history labels ask.now (passed_of self.old node series) reads.old reads.new result }
+        ensures fits { (history : List Entry) (labels : List Pair) → MayAsk head.now history series labels ask.now → AreWindowsOf self.old history → IsReadyToAsk (last_asks self.old) node series ask.now
+            → result ≢ Err Memory → AreWindowsOf self.new history }
+        ensures moved { (history : List Entry) (labels : List Pair) → MayAsk head.now history series labels ask.now → AreWindowsOf self.old history → IsReadyToAsk (last_asks self.old) node series ask.now
+            → result ≢ Err Memory → AreMoved true node series ask.now (entries_until history labels ask.now.to) (last_asks self.old) (last_asks self.new) (passed_of self.old) (passed_of self.new) }
+        ensures looks { (history : List Entry) (labels : List Pair) → MayAsk head.now history series labels ask.now → AreWindowsOf self.old history → IsReadyToAsk (last_asks self.old) node series ask.now
+            → is_told ask.now.func ≡ true → result ≢ Err Memory
+            → looks.new + saved_of self.new node series ≤ looks.old + saved_of self.old node series + 3 * (reads.new - reads.old) + 1 }
+    {
+        self.ask_outside(head, node, series, ask, reads, looks)
+    }
+
+    // The same, where nobody asks how many looks it takes.
+    fn ask_uncounted<G: Ledger, L: Ledger>(
+        &mut self,
+        head: &Head,
+        node: usize,
+        series: usize,
+        ask: &Ask,
+        reads: &mut Steps<G>,
+        blank: Blank,
+    ) -> Result<Option<Num>, RangeFault>
+        requires there { series < length head.now }
+        requires ordered { ask.now.from ≤ℤ ask.now.to }
+        requires outside { ask.now.inside ≡ false }
+        requires argument { HasArgument ask.now }
+        requires name { blank.name ≡ L.name }
+        requires parts { blank.parts ≡ L.parts }
+        requires some { 0 < L.parts }
+        ensures answer { (history : List Entry) (labels : List Pair) → MayAsk head.now history series labels ask.now → AreWindowsOf self.old history → IsReadyToAsk (last_asks self.old) node series ask.now
+            → IsAskAnswer history labels ask.now (passed_of self.old node series) reads.old reads.new result }
+        ensures fits { (history : List Entry) (labels : List Pair) → MayAsk head.now history series labels ask.now → AreWindowsOf self.old history → IsReadyToAsk (last_asks self.old) node series ask.now
+            → result ≢ Err Memory → AreWindowsOf self.new history }
+        ensures moved { (history : List Entry) (labels : List Pair) → MayAsk head.now history series labels ask.now → AreWindowsOf self.old history → IsReadyToAsk (last_asks self.old) node series ask.now
+            → result ≢ Err Memory → AreMoved true node series ask.now (entries_until history labels ask.now.to) (last_asks self.old) (last_asks self.new) (passed_of self.old) (passed_of self.new) }
+    {
+        let mut looks: Steps<L> = Steps::new(blank);
+        self.ask_counted(head, node, series, ask, reads, &mut looks)
     }
 }
 
@@ -218,7 +287,7 @@ impl Ranges for SlidingRanges {
         if ask.inside {
             return PlainRanges::new(self.alloc).ask(head, node, series, ask, reads);
         }
-        self.ask_outside(head, node, series, ask, reads)
+        self.ask_uncounted::<G, Brand>(head, node, series, ask, reads, Blank::new(1))
     }
 
     fn carry(&mut self, old: SlidingRanges, from: &[Option<usize>]) {

@@ -1,21 +1,23 @@
 // Values one after another, with what is counted of them, so that an ask need not go over them.
-ghost use Rattle.std.specs.Prelude.{◌≡◌, ◌+◌, ◌≤◌, ◌<◌, ◌++◌, ◌∷◌, [], IfOk, IfSome, OnOk, Some, length, true};
+ghost use Rattle.std.specs.Prelude.{◌≡◌, ◌+◌, ◌≤◌, ◌<◌, ◌++◌, ◌∷◌, [], IfOk, IfSome, IfNone, OnOk, Some, length, nat_lt, true};
 ghost use Rattle.pr_num.specs.Total.{total_of};
 ghost use Rattle.pr_range.specs.spec_vectors.Ranges.{differ};
 ghost use Rattle.pr_range.specs.spec_vectors.Spots.{last_of, numbers_of};
 ghost use Rattle.pr_range.specs.pr_window.private.Folding.{folded};
 ghost use Rattle.pr_range.specs.pr_window.private.Neighbours.{beside, one_if, spot_alone};
 ghost use Rattle.pr_slide.specs.private.Later.{later};
-ghost use Rattle.pr_slide.specs.private.Successions.{AreCounted, before_fall, changes_at, changes_in, specials_in};
+ghost use Rattle.pr_slide.specs.private.Successions.{AreCounted, before_fall, changes_at, changes_in, is_rising, specials_in};
 
 use crate::kept::Kept;
 use crate::listed::{Listed, is_after};
 use pr_head::history::Spot;
+use pr_head::words_crate::Steps;
 use pr_num::{Num, Total};
 use pr_range::last_of;
 use pr_range::window_crate::folds::{Neighbours, Totals, differ, falls, is_special, one_if};
 use std::alloc::{AllocError, Global};
 use std::marker::Model;
+use std::sync::ledger::Ledger;
 
 /// What is counted of values one after another.
 #[derive(Drop)]
@@ -28,7 +30,8 @@ pub struct SuccessiveCounts {
     special: u64,
 }
 
-/// Values with what is counted of them. Contracts see the values.
+/// Values with what is counted of them. Contracts see the values, how many looks are saved up, and
+/// whether the values are counted.
 #[derive(Drop)]
 pub struct Successive {
     spots: Listed,
@@ -38,15 +41,15 @@ pub struct Successive {
 }
 
 impl Model for Successive {
-    ghost use Rattle.std.specs.Prelude.{◌≡◌, List, true};
-    ghost use Rattle.pr_head.specs.spec_history.declared.spot.Spot.{Spot};
+    ghost use Rattle.std.specs.Prelude.{◌≡◌, ◌+◌, true};
+    ghost use Rattle.pr_slide.specs.private.Succession.{Succession};
     ghost use Rattle.pr_slide.specs.private.Successions.{AreCounted};
 
-    ghost Value = { List Spot };
+    ghost Value = { Succession };
 
-    ghost view = { λ s. s.spots };
+    ghost view = { λ s. record { items = s.spots.items; saved = s.spots.saved + s.counts.fallen.saved; counted = s.counted } };
 
-    ghost invariant = { λ s. s.counted ≡ true → AreCounted s.spots s.counts };
+    ghost invariant = { λ s. s.counted ≡ true → AreCounted s.spots.items s.counts };
 }
 
 // One more if a test holds. The values bound the count, so that it cannot wrap.
@@ -78,21 +81,28 @@ fn changes_at(first: &Spot, rest: &[Spot]) -> bool
 }
 
 // One more value that stands before a lower one, if the next one is lower.
-fn push_fallen(fallen: &mut Kept<Total, Totals>, last: &Spot, spot: &Spot) -> Result<(), AllocError>
-    ensures { OnOk result (fallen.new ≡ fallen.old ++ before_fall last.now spot.now) }
+fn push_fallen<L: Ledger>(
+    fallen: &mut Kept<Total, Totals>,
+    last: &Spot,
+    spot: &Spot,
+    looks: &mut Steps<L>,
+) -> Result<(), AllocError>
+    ensures items { OnOk result (fallen.new.items ≡ fallen.old.items ++ before_fall last.now spot.now) }
+    ensures looks { looks.new + fallen.new.saved ≤ looks.old + fallen.old.saved + 2 }
 {
     if falls(&last.value, &spot.value) {
-        fallen.push(*last)?;
+        fallen.push(*last, looks)?;
     }
     Ok(())
 }
 
 // What the values that stand before a lower one add up to.
 #[tactic(auto, using(crate::proofs::Successions::lost_none))]
-fn lost(fallen: &Kept<Total, Totals>) -> Total
-    ensures { result ≡ total_of (numbers_of fallen.now) }
+fn lost<L: Ledger>(fallen: &Kept<Total, Totals>, looks: &mut Steps<L>) -> Total
+    ensures value { result ≡ total_of (numbers_of fallen.now.items) }
+    ensures looks { looks.new ≤ looks.old + 1 }
 {
-    match fallen.summary() {
+    match fallen.summary(looks) {
         Some(total) => total,
         None => Total::zero(),
     }
@@ -101,46 +111,59 @@ fn lost(fallen: &Kept<Total, Totals>) -> Total
 // The first value.
 fn count_first(counts: &mut SuccessiveCounts, spot: &Spot)
     requires { AreCounted [] counts.old }
-    ensures { AreCounted (spot.now ∷ []) counts.new }
+    ensures counted { AreCounted (spot.now ∷ []) counts.new }
+    ensures fallen { counts.new.fallen ≡ counts.old.fallen }
 {
     counts.special = one_if(is_special(&spot.value));
 }
 
 // One more value, which comes after the last one.
-fn count_behind(
+fn count_behind<L: Ledger>(
     counts: &mut SuccessiveCounts,
     first: &Spot,
     rest: &[Spot],
     spot: &Spot,
+    looks: &mut Steps<L>,
 ) -> Result<(), AllocError>
     requires counted { AreCounted (first.now ∷ rest.now) counts.old }
     requires later { (last_of first.now rest.now).time < spot.now.time }
-    ensures { OnOk result (AreCounted ((first.now ∷ rest.now) ++ spot.now ∷ []) counts.new) }
+    ensures counted { OnOk result (AreCounted ((first.now ∷ rest.now) ++ spot.now ∷ []) counts.new) }
+    ensures looks { looks.new + counts.new.fallen.saved ≤ looks.old + counts.old.fallen.saved + 2 }
 {
     let last = last_of(first, rest);
-    push_fallen(&mut counts.fallen, last, spot)?;
+    push_fallen(&mut counts.fallen, last, spot, looks)?;
     counts.changes = one_more(counts.changes, differ(&last.value, &spot.value), rest);
     counts.special = one_more(counts.special, is_special(&spot.value), rest);
     Ok(())
 }
 
+// Whether a value comes after the last of others.
+fn comes_behind(first: &Spot, rest: &[Spot], spot: &Spot) -> bool
+    ensures { result ≡ nat_lt (last_of first.now rest.now).time spot.now.time }
+{
+    last_of(first, rest).time < spot.time
+}
+
 // One more value, and whether it is counted: only where it comes after the last one.
-fn count_one_more(
+fn count_one_more<L: Ledger>(
     counts: &mut SuccessiveCounts,
     spots: &[Spot],
     spot: &Spot,
     counted: bool,
+    looks: &mut Steps<L>,
 ) -> Result<bool, AllocError>
     requires { counted ≡ true → AreCounted spots.now counts.old }
-    ensures { IfOk result (λ c. c ≡ true → AreCounted (spots.now ++ spot.now ∷ []) counts.new) }
+    ensures counted { IfOk result (λ c. c ≡ true → AreCounted (spots.now ++ spot.now ∷ []) counts.new) }
+    ensures goes_on { IfOk result (λ c. counted ≡ true → is_rising (spots.now ++ spot.now ∷ []) ≡ true → c ≡ true) }
+    ensures looks { looks.new + counts.new.fallen.saved ≤ looks.old + counts.old.fallen.saved + 2 }
 {
     if !counted {
         return Ok(false);
     }
     match spots.split_first() {
         Some((first, rest)) => {
-            if last_of(first, rest).time < spot.time {
-                count_behind(counts, first, rest, spot)?;
+            if comes_behind(first, rest, spot) {
+                count_behind(counts, first, rest, spot, looks)?;
                 Ok(true)
             } else {
                 Ok(false)
@@ -182,40 +205,55 @@ fn uncount_leading(counts: &mut SuccessiveCounts, spots: &[Spot], time: i64)
 }
 
 // The first values that are not after a moment are counted no more.
-fn uncount_until(counts: &mut SuccessiveCounts, spots: &[Spot], time: i64)
+fn uncount_until<L: Ledger>(
+    counts: &mut SuccessiveCounts,
+    spots: &[Spot],
+    time: i64,
+    looks: &mut Steps<L>,
+)
     requires { AreCounted spots.now counts.old }
-    ensures { AreCounted (later time spots.now) counts.new }
+    ensures counted { AreCounted (later time spots.now) counts.new }
+    ensures looks { looks.new + counts.new.fallen.saved ≤ looks.old + counts.old.fallen.saved }
 {
     uncount_leading(counts, spots, time);
-    counts.fallen.drop_until(time);
+    counts.fallen.drop_until(time, looks);
 }
 
 // The same, if they are counted.
-fn uncount_if(counted: bool, counts: &mut SuccessiveCounts, spots: &[Spot], time: i64)
+fn uncount_if<L: Ledger>(
+    counted: bool,
+    counts: &mut SuccessiveCounts,
+    spots: &[Spot],
+    time: i64,
+    looks: &mut Steps<L>,
+)
     requires { counted ≡ true → AreCounted spots.now counts.old }
-    ensures { counted ≡ true → AreCounted (later time spots.now) counts.new }
+    ensures counted { counted ≡ true → AreCounted (later time spots.now) counts.new }
+    ensures looks { looks.new + counts.new.fallen.saved ≤ looks.old + counts.old.fallen.saved }
 {
     if counted {
-        uncount_until(counts, spots, time);
+        uncount_until(counts, spots, time, looks);
     }
 }
 
 // What some values fold to.
-fn counted_neighbours(
+fn counted_neighbours<L: Ledger>(
     counts: &SuccessiveCounts,
     first: &Spot,
     rest: &[Spot],
     count: u64,
+    looks: &mut Steps<L>,
 ) -> Neighbours
     requires counted { AreCounted (first.now ∷ rest.now) counts.now }
     requires all { count ≡ length (first.now ∷ rest.now) }
-    ensures { Some result ≡ folded spot_alone beside (first.now ∷ rest.now) }
+    ensures value { Some result ≡ folded spot_alone beside (first.now ∷ rest.now) }
+    ensures looks { looks.new ≤ looks.old + 1 }
 {
     Neighbours {
         first: *first,
         last: *last_of(first, rest),
         count,
-        lost: lost(&counts.fallen),
+        lost: lost(&counts.fallen, looks),
         resets: counts.fallen.len() as u64,
         changes: counts.changes,
         special: counts.special > 0,
@@ -223,18 +261,27 @@ fn counted_neighbours(
 }
 
 // What values fold to, if there are any.
-fn summary_of(counts: &SuccessiveCounts, spots: &[Spot]) -> Option<Neighbours>
+fn summary_of<L: Ledger>(
+    counts: &SuccessiveCounts,
+    spots: &[Spot],
+    looks: &mut Steps<L>,
+) -> Option<Neighbours>
     requires { AreCounted spots.now counts.now }
-    ensures { result ≡ folded spot_alone beside spots.now }
+    ensures value { result ≡ folded spot_alone beside spots.now }
+    ensures none { IfNone result (spots.now ≡ []) }
+    ensures looks { looks.new ≤ looks.old + 1 }
 {
     let (first, rest) = spots.split_first()?;
-    Some(counted_neighbours(counts, first, rest, spots.len() as u64))
+    let count = spots.len() as u64;
+    Some(counted_neighbours(counts, first, rest, count, looks))
 }
 
 impl Successive {
     /// No values.
     pub(crate) fn new(alloc: Global) -> Successive
-        ensures { result ≡ [] }
+        ensures items { result.items ≡ [] }
+        ensures saved { result.saved ≡ 0 }
+        ensures counted { result.counted ≡ true }
     {
         Successive {
             spots: Listed::new(alloc),
@@ -249,47 +296,64 @@ impl Successive {
 
     /// How many values there are.
     pub(crate) fn len(&self) -> usize
-        ensures { result ≡ length self.now }
+        ensures { result ≡ length self.now.items }
     {
-        self.spots.as_slice().len()
+        self.spots.len()
     }
 
-    /// The values.
-    pub(crate) fn as_slice(&self) -> &[Spot]
-        ensures { result.now ≡ self.now }
+    /// The values, to go over them.
+    pub(crate) fn all<L: Ledger>(&self, looks: &mut Steps<L>) -> &[Spot]
+        ensures value { result.now ≡ self.now.items }
+        ensures looks { looks.new ≡ looks.old + length self.now.items }
     {
-        self.spots.as_slice()
+        self.spots.all(looks)
     }
 
-    /// One more value.
-    pub(crate) fn push(&mut self, spot: Spot) -> Result<(), AllocError>
-        ensures { OnOk result (self.new ≡ self.old ++ spot ∷ []) }
+    /// One more value. Where those before it are counted, and all rise in time, it is counted too.
+    pub(crate) fn push<L: Ledger>(
+        &mut self,
+        spot: Spot,
+        looks: &mut Steps<L>,
+    ) -> Result<(), AllocError>
+        ensures items { OnOk result (self.new.items ≡ self.old.items ++ spot ∷ []) }
+        ensures counted { OnOk result (self.old.counted ≡ true → is_rising (self.old.items ++ spot ∷ []) ≡ true → self.new.counted ≡ true) }
+        ensures looks { looks.new + self.new.saved ≤ looks.old + self.old.saved + 3 }
     {
         // Names the type of a value to the check.
         let _value: Num = spot.value;
         let counted = self.counted;
         self.counted = false;
-        let counted = count_one_more(&mut self.counts, self.spots.as_slice(), &spot, counted)?;
+        let counted = count_one_more(&mut self.counts, self.spots.ends(), &spot, counted, looks)?;
         self.spots.push(spot)?;
         self.counted = counted;
         Ok(())
     }
 
     /// Lets the first values go that are not after a moment.
-    pub(crate) fn drop_until(&mut self, time: i64)
-        ensures { self.new ≡ later time self.old }
+    pub(crate) fn drop_until<L: Ledger>(&mut self, time: i64, looks: &mut Steps<L>)
+        ensures items { self.new.items ≡ later time self.old.items }
+        ensures counted { self.new.counted ≡ self.old.counted }
+        ensures looks { looks.new + self.new.saved ≤ looks.old + self.old.saved }
     {
-        uncount_if(self.counted, &mut self.counts, self.spots.as_slice(), time);
-        self.spots.drop_until(time);
+        uncount_if(
+            self.counted,
+            &mut self.counts,
+            self.spots.ends(),
+            time,
+            looks,
+        );
+        self.spots.drop_until(time, looks);
     }
 
     /// What the values fold to, without going over them, where they are counted: as long as there
     /// are some and each came after the one before.
-    pub(crate) fn summary(&self) -> Option<Neighbours>
-        ensures { IfSome result (λ s. folded spot_alone beside self.now ≡ Some s) }
+    pub(crate) fn summary<L: Ledger>(&self, looks: &mut Steps<L>) -> Option<Neighbours>
+        ensures value { IfSome result (λ s. folded spot_alone beside self.now.items ≡ Some s) }
+        ensures none { IfNone result (self.now.counted ≡ true → self.now.items ≡ []) }
+        ensures looks { looks.new ≤ looks.old + 1 }
     {
         if self.counted {
-            summary_of(&self.counts, self.spots.as_slice())
+            summary_of(&self.counts, self.spots.ends(), looks)
         } else {
             None
         }

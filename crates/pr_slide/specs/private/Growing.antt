@@ -11,6 +11,7 @@ use Rattle.pr_head.specs.spec_history.private.Laws.{entries_of}
 use Rattle.pr_head.specs.spec_history.Admission.{is_of}
 use Rattle.pr_head.specs.spec_history.Lookback.{is_after, is_until, spot_in}
 use Rattle.pr_head.proofs.Arrivals.{named_more}
+use Rattle.pr_slide.specs.private.Kinds.{kept_in}
 use Rattle.pr_slide.specs.private.Windows.{AreWindowsOf, IsWindow, Nodes}
 
 longer : {X : Type 0} (n : ℕ) (xs ys : List X) → n ≤ length xs → n ≤ length (xs ++ ys)
@@ -30,4 +31,4 @@ window_more history e labels a b passed spots h =
 pub fits_more : (nodes : Nodes) (history : List Entry) (e : Entry) → AreWindowsOf nodes history → AreWindowsOf nodes (history ++ e ∷ [])
 fits_more nodes history e h = λ node series w at.
     let has = h node series w at in
-    record { labels = has.labels; named = named_more history e series has.labels has.named; window = window_more history e has.labels w.from w.to w.passed w.spots has.window }
+    record { labels = has.labels; named = named_more history e series has.labels has.named; window = window_more history e has.labels w.from w.to w.passed (kept_in w.spots) has.window; told = has.told }

@@ -22,6 +22,10 @@ before_falls spots = map (λ p. p.0) (filter is_fall (neighbours spots))
 abbrev pub before_fall : Spot → Spot → List Spot
 before_fall x y = map (λ p. p.0) (filter is_fall ((x, y) ∷ []))
 
+-- whether each value comes after the one before
+abbrev pub is_rising : List Spot → Bool
+is_rising spots = list_all rises (neighbours spots)
+
 -- how many values differ from the one before, and whether the first of some differs from the value
 -- before it
 abbrev pub changes_in : List Spot → ℕ
@@ -37,7 +41,7 @@ specials_in spots = count_by is_special (numbers_of spots)
 
 -- The times of the values rise, and the counts are those of the values.
 pub record AreCounted (spots : List Spot) (counts : SuccessiveCounts) : Type 0 where
-  pub rising : list_all rises (neighbours spots) ≡ true
-  pub fallen : counts.fallen ≡ before_falls spots
+  pub rising : is_rising spots ≡ true
+  pub fallen : counts.fallen.items ≡ before_falls spots
   pub changes : counts.changes ≡ changes_in spots
   pub special : counts.special ≡ specials_in spots

@@ -1,5 +1,5 @@
 use Rattle.pr_slide.proofs.Successions.{lost_some}
 use Rattle.pr_slide.proofs.successive.lost.Goals as goal
 
-pub returns-in-Some : goal.returns-in-Some
-returns-in-Some c = lost_some c.args.fallen.now c.in-Some.total c.in-Some.ensures
+pub returns-in-Some-clause-value : goal.returns-in-Some-clause-value
+returns-in-Some-clause-value g c = lost_some c.args.fallen.now.items c.in-Some.total c.in-Some.ensures.value

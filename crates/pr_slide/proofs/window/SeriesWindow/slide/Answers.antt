@@ -2,6 +2,7 @@ use Rattle.std.proofs.Common.{◌≡◌, ◌++◌, max, ap, ◌∙◌, arith, w6
 use Rattle.std.proofs.lemmas.Int.{to_z-of_z}
 use Rattle.pr_head.specs.private.Stored.{position_of}
 use Rattle.pr_range.specs.private.Spots.{samples_between, spots_of}
+use Rattle.pr_slide.specs.private.Kinds.{kept_in}
 use Rattle.pr_slide.specs.private.Later.{later}
 use Rattle.pr_slide.proofs.window.SeriesWindow.slide.Goals as goal
 
@@ -26,8 +27,8 @@ returns-clause-spots g c = λ e at first last.
     let to : c.position_near-to.result ≡ position_of e.1 c.args.ask.now.to = c.position_near-to.ensures.known e at ∙ ap (position_of e.1) end in
     let low : c.position_not_before-from.result ≡ max (position_of e.1 c.args.ask.now.from) c.args.self.now.passed = c.position_not_before-from.ensures.known e at ∙ ap (λ t. max (position_of e.1 t) c.args.self.now.passed) start in
     let read = c.in_ok-push_between.ensures.spots e at (omega arith) (omega arith) in
-    read ∙ ap (λ l. l ++ spots_of (samples_between e.1 c.position_not_before-from.result c.position_near-to.result)) (c.drop_until.ensures ∙ ap (λ t. later t c.args.self.now.spots) start)
-    ∙ (λ i. later c.args.ask.now.from c.args.self.now.spots ++ spots_of (samples_between e.1 (low i) (to i)))
+    read ∙ ap (λ l. l ++ spots_of (samples_between e.1 c.position_not_before-from.result c.position_near-to.result)) (c.drop_until.ensures.items ∙ ap (λ t. later t (kept_in c.args.self.now.spots)) start)
+    ∙ (λ i. later c.args.ask.now.from (kept_in c.args.self.now.spots) ++ spots_of (samples_between e.1 (low i) (to i)))
 
 pub returns-clause-reads : goal.returns-clause-reads
 returns-clause-reads g c = λ e at.
