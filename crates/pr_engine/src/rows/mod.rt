@@ -2,9 +2,7 @@
 mod fault;
 mod keeping;
 mod loading;
-mod opening;
 
 pub use fault::StartError;
 pub use keeping::keep;
 pub use loading::load;
-pub use opening::history;
