@@ -1,204 +1,252 @@
--- What the contract of the program gives, premise by premise.
-use Rattle.std.proofs.Common.{◌≡◌, ◌≢◌, ℕ, ◌+◌, ◌<◌, ◌≤◌, ◌^◌, Bool, true, false, List, [], ◌∷◌, ◌++◌, length, map, take, Option, Some, None, IfSome, IsSome, IsTrue, Result, Ok, Err, ◌⊎◌, inl, inr, refl, sym, ap, ◌∙◌, subst, arith}
-use Rattle.std.proofs.lemmas.List.{map-append}
-use Rattle.pr_outside.specs.Causes.{IsCalm, Rose}
-use Rattle.pr_outside.specs.Ends.{StopsBy, status_of}
-use Rattle.pr_outside.specs.Opening.{OpensBy}
+-- What the promise of the program gives, premise by premise.
+use Rattle.std.proofs.Common.{◌≡◌, ◌≢◌, ℕ, zero, suc, ◌<◌, ◌≤◌, ◌^◌, List, [], ◌∷◌, ◌++◌, length, map, take, flat_map, Option, Some, None, IfSome, IsSome, IsTrue, Result, Ok, Err, ◌⊎◌, inl, inr, refl, sym, ap, ◌∙◌, subst, append-nil, arith}
+use Rattle.std.proofs.lemmas.Bool.{false≢true}
+use Rattle.std.specs.Io.KnownBytes.{Appends}
+use Rattle.pr_outside.specs.Checks.{Checked, ends}
+use Rattle.pr_outside.specs.FileChecks.{Told, all_asks as asked_of_files, any_refused, texts}
 use Rattle.pr_outside.specs.Outside.{AreCalm, AreTold, Held, Outside}
 use Rattle.pr_outside.specs.Paths.{Opens}
 use Rattle.pr_outside.specs.Status.{verdict}
+use Rattle.pr_outside.specs.Stores.{OverRows}
 use Rattle.pr_outside.specs.spec_history.declared.row.Row.{Row}
 use Rattle.pr_outside.specs.declared.status.status.Status.{Status}
-use Rattle.pr_outside.specs.declared.status.status.Status.TheVariants.{Done, Memory, Problem, StoreFault, TooLong}
-use Rattle.pr_outside.specs.declared.status.status.Stop.{Stop}
-use Rattle.pr_outside.specs.declared.status.status.Stop.TheVariants as stop
+use Rattle.pr_outside.specs.declared.status.status.Status.TheVariants.{Done, Memory, Problem, StoreFault, TooLong, Usage}
 use Rattle.spec_history.specs.Histories.{history_of}
 use Rattle.spec_history.specs.Rows.{encoded}
-use Rattle.pr_outside.specs.Stores.{IsBadIn, OverRows, StartsTelling}
 use Rattle.spec_history.specs.declared.entry.Entry.{Entry}
+use Rattle.spec_world.specs.World.{start}
+use Rattle.pr_top.specs.Command.{backfills, exercises, runs}
+use Rattle.pr_top.specs.Follows.{Follows, FromStart, IsFront, Keeps, Promises, if_fine}
+use Rattle.pr_top.specs.Plan.{Piece, Plan, all_asks, all_rows, all_text, asking_first, exercise_plan, fill_plan, files_plan, input_plan, loaded_plan, only, over, plan_of, script_plan, writing}
 use Rattle.pr_top.specs.pr_backfill.Filled.{filled, rows_filled}
-use Rattle.pr_top.specs.pr_backfill.Means.{FillsBy, FillsWith, MeansBackfill}
 use Rattle.pr_top.specs.pr_backfill.Text.{fill_text}
 use Rattle.pr_top.specs.pr_backfill.pr_checks.RulesLoaded.{all_rules}
-use Rattle.pr_top.specs.pr_exercise.Means.{ExercisesBy, ExercisesInto, MeansExercise, exercise_status}
+use Rattle.pr_top.specs.pr_exercise.Exercise.{exercise_events}
 use Rattle.pr_top.specs.pr_exercise.Summary.{exercise_rows, summary}
-use Rattle.pr_top.specs.pr_run.Runs.{MeansRun, RunsBy, RunsInto, RunsOver}
-use Rattle.pr_top.specs.pr_run.Told.{answers_to, asks_of, refuses, told, told_of}
+use Rattle.pr_top.specs.pr_run.Told.{OrderAnswer, answers_to, asks_of, refuses, told}
 use Rattle.pr_top.specs.pr_text.BadRows.{bad_row_text}
 use Rattle.pr_top.specs.pr_text.spec_rules.Reloads.{LoadedFile}
-use Rattle.laws_runs.specs.private.Headline.{FromRows, TellsBadRow, Writes, rows_added, rows_of}
+use Rattle.pr_top.proofs.Plans.{files_asks, files_text, fill_asks, fill_whole_rows, fill_whole_text, lone_text, script_asks, script_rows, script_text, summed_asks, summed_rows, summed_text}
+use Rattle.laws_runs.specs.private.Headline.{ByStart, FromRows, TellsBadRow, Writes, rows_added, rows_of}
 
 -- what is told is there
 pub at : {T : Type 0} (o : Option T) (P : T → Type 0) (x : T) → o ≡ Some x → IfSome o P → P x
 at o P x is h = subst (λ (z : Option _). IfSome z P) is h
 
-there : {T : Type 0} (o : Option T) → IsSome o → (x : T) × (o ≡ Some x)
-there None h = absurd cc
-there (Some x) h = (x, refl)
-
--- what holds over the rows at the start gives what else does
-over_on : (before : Option (List Row)) (all : List Row) (P Q : List Row → Type 0) → ((rows : List Row) → P rows → Q rows) → OverRows before all P → OverRows before all Q
-over_on before all P Q f o = record { rows = o.rows; first = o.first; holds = f o.rows o.holds }
-
--- and where the rows at the end are told
-pub from_rows : (before now : Outside) (P : List Row → Type 0) (Q : List Row → List Row → Type 0) → IfSome now.store.rows (λ all. OverRows before.store.rows all P)
+-- what holds over the rows at the start gives what else does, where the rows at the end are told
+pub from_rows : (path : List ℕ) (before now : Outside) (P : List Row → Type 0) (Q : List Row → List Row → Type 0) → FromStart (Some path) before now P
     → ((rows all : List Row) → now.store.rows ≡ Some all → P rows → Q rows all) → FromRows before now Q
-from_rows before now P Q over f = λ all end.
-    over_on before.store.rows all P (λ rows. Q rows all) (λ rows p. f rows all end p) (at now.store.rows (λ rs. OverRows before.store.rows rs P) all end over)
+from_rows path before now P Q h f = λ all end.
+    let o : OverRows before.store.rows all P = at now.store.rows (λ rs. OverRows before.store.rows rs P) all end h in
+    record { rows = o.rows; first = o.first; holds = f o.rows all end o.holds }
+
+-- the rows at the end
+pub kept_rows : (path : List ℕ) (rows all : List Row) (pieces : List Piece) (more : List Entry) (before now : Outside) → now.store.rows ≡ Some all → all_rows pieces ≡ more
+    → Keeps (Some path) rows pieces before now → all ≡ rows ++ rows_of more
+kept_rows path rows all pieces more before now end same kept =
+    at now.store.rows (λ rs. rs ≡ rows ++ map encoded (all_rows pieces)) all end kept ∙ ap (λ (es : List Entry). rows ++ map encoded es) same
+
+-- A text alone
+
+abbrev pub no_text : List ℕ
+no_text = []
+
+pub take_none : (n : ℕ) → take n no_text ≡ []
+take_none zero = refl
+take_none (suc n) = refl
+
+pub lone : (opens : Option (List ℕ)) (text : List ℕ) (rows : List Row) (before now : Outside) → IsFront opens (writing text ∷ []) rows before now → (n : ℕ) × Writes before now (take n text)
+lone opens text rows before now f = by f.begun f.within f.text
+  where
+    by : (begun : ℕ) → begun ≤ 1 → Appends before.out.taken now.out.taken (take f.count (all_text (take begun (writing text ∷ [])))) → (n : ℕ) × Writes before now (take n text)
+    by zero h a = (0, subst (Appends before.out.taken now.out.taken) (take_none f.count) a)
+    by (suc zero) h a = (f.count, subst (λ (t : List ℕ). Appends before.out.taken now.out.taken (take f.count t)) (lone_text text) a)
+    by (suc (suc b)) h a = absurd (omega (arith, h))
+
+pub no_rows : (begun : ℕ) (text : List ℕ) → all_rows (take begun (writing text ∷ [])) ≡ []
+no_rows zero text = refl
+no_rows (suc zero) text = refl
+no_rows (suc (suc b)) text = refl
+
+-- Over rows of which one is bad
+pub bad_row : (path input : List ℕ) (held : Held) (rows all : List Row) (index : ℕ) (before now : Outside) (result : Status) → now.store.rows ≡ Some all
+    → Follows (Some path) (only (bad_row_text index) StoreFault) input held rows before now result → TellsBadRow rows all before now result index
+bad_row path input held rows all index before now result end f =
+    let front = f.front tt in (
+      kept_rows path rows all (take front.begun (writing (bad_row_text index) ∷ [])) [] before now end (no_rows front.begun (bad_row_text index)) front.kept ∙ append-nil rows,
+      lone (Some path) (bad_row_text index) rows before now front,
+      λ calm some. let w = f.whole tt calm some (λ never. absurd (false≢true never)) in
+          (w.status, subst (Appends before.out.taken now.out.taken) (lone_text (bad_row_text index)) w.text),
+    )
+
+pub nothing_held : Held
+nothing_held = λ name. None
 
 -- Commands over rows
 
-over_run : (path bytes : List ℕ) (before now : Outside) (result : Status) (m : MeansRun path before now result) → before.input.left ≡ Some bytes
-    → IfSome now.store.rows (λ all. OverRows before.store.rows all (λ rows. RunsBy (history_of rows) rows bytes before now m.ending result))
-over_run path bytes before now result m input = by now.store.rows m.over
-  where
-    by : (o : Option (List Row)) → IfSome o (λ all. IfSome before.input.left (λ bs. OverRows before.store.rows all (λ rows. RunsBy (history_of rows) rows bs before now m.ending result)))
-        → IfSome o (λ all. OverRows before.store.rows all (λ rows. RunsBy (history_of rows) rows bytes before now m.ending result))
-    by None h = tt
-    by (Some all) h = at before.input.left (λ bs. OverRows before.store.rows all (λ rs. RunsBy (history_of rs) rs bs before now m.ending result)) bytes input h
-
-pub over_fill : (times : List ℕ) (files : List LoadedFile) (wrong : List ℕ) (before now : Outside) (result : Status) (ending : Result Bool Stop)
-    → wrong ≡ [] → FillsWith wrong files times before now ending result
-    → IfSome now.store.rows (λ all. OverRows before.store.rows all (λ rows. FillsBy (history_of rows) files times rows before now ending result))
-over_fill times files wrong before now result ending fine m = subst (λ w. FillsWith w files times before now ending result) fine m
-
--- what ended with 0 or 1 opened its path
-opened : (path : List ℕ) (before now : List (List ℕ)) (r : Result Bool Stop) (b : Bool) → status_of r ≡ verdict b → OpensBy path before now r → Opens path before now
-opened path before now (Ok came) b is o = o
-opened path before now (Err stop.Read) b is o = o
-opened path before now (Err stop.Load) b is o = o
-opened path before now (Err stop.Store) true is o = absurd cc
-opened path before now (Err stop.Store) false is o = absurd cc
-opened path before now (Err (stop.BadRow index)) b is o = o
-opened path before now (Err stop.Write) b is o = o
-opened path before now (Err stop.Memory) true is o = absurd cc
-opened path before now (Err stop.Memory) false is o = absurd cc
-opened path before now (Err stop.TooLong) b is o = o
-
--- Over rows that tell a history
-
-module _ (encodings : (rows : List Row) (history : List Entry) → history_of rows ≡ Ok history → rows ≡ map encoded history) where
-  -- the rows of further entries stand behind those of the start
-  pub behind : (rows all : List Row) (history more : List Entry) → history_of rows ≡ Ok history → all ≡ map encoded (history ++ more) → all ≡ rows ++ rows_of more
-  behind rows all history more are kept =
-      kept ∙ map-append encoded history more ∙ ap (λ (rs : List Row). rs ++ map encoded more) (sym (encodings rows history are))
-
-  whole_run : (path bytes : List ℕ) (rows all : List Row) (history : List Entry) (held : Held) (before now : Outside) (result : Status) (m : MeansRun path before now result)
-      → RunsBy (history_of rows) rows bytes before now m.ending result → AreTold before.files.content held (asks_of (answers_to held history bytes)) → now.store.rows ≡ Some all
-      → AreCalm before now → result ≢ Memory → length bytes < 2 ^ 32 → history_of rows ≡ Ok history
+module _ (path bytes : List ℕ) (rows all : List Row) (before now : Outside) (result : Status) (end : now.store.rows ≡ Some all) (calm : AreCalm before now) (some : result ≢ Memory) where
+  run_by : (t : Result (List Entry) ℕ) → length bytes < 2 ^ 32
+      → ((held : Held) → Follows (Some path) (over t (λ history. script_plan history (answers_to held history bytes))) bytes held rows before now result)
+      → ByStart t (λ history. (held : Held) → AreTold before.files.content held (asks_of (answers_to held history bytes))
       → Writes before now (told held history bytes) × (result ≡ verdict (refuses held history bytes)) × (now.input.left ≡ Some []) × (all ≡ rows ++ rows_added (answers_to held history bytes))
-  whole_run path bytes rows all history held before now result m over known end calm some few are =
-      let by : RunsOver history bytes before now m.ending result = subst (λ t. RunsBy t rows bytes before now m.ending result) are over in
-      let done = by.told held known few calm some in
-      (done.1.written, done.0, done.1.read, behind rows all history _ are (at now.store.rows _ all end done.1.kept))
+      × Opens path before.store.paths now.store.paths) (TellsBadRow rows all before now result)
+  run_by (Ok history) few f = λ held known.
+      let answers = answers_to held history bytes in
+      let w = (f held).whole (subst (AreTold before.files.content held) (sym (script_asks history answers)) known) calm some (λ reads. few) in (
+        subst (Appends before.out.taken now.out.taken) (script_text history answers) w.text,
+        w.status,
+        w.read refl,
+        kept_rows path rows all (script_plan history answers).pieces (flat_map (λ (a : OrderAnswer). a.rows) answers) before now end (script_rows history answers) w.kept,
+        w.opened,
+      )
+  run_by (Err index) few f = bad_row path bytes nothing_held rows all index before now result end (f nothing_held)
 
-  pub run : (path bytes : List ℕ) (before now : Outside) (result : Status) → MeansRun path before now result
-      → before.input.left ≡ Some bytes → AreCalm before now → result ≢ Memory → length bytes < 2 ^ 32
-      → FromRows before now (λ rows all. (history : List Entry) (held : Held) → history_of rows ≡ Ok history → AreTold before.files.content held (asks_of (answers_to held history bytes))
-      → Writes before now (told held history bytes) × (result ≡ verdict (refuses held history bytes)) × (now.input.left ≡ Some []) × (all ≡ rows ++ rows_added (answers_to held history bytes))
-      × Opens path before.store.paths now.store.paths)
-  run path bytes before now result m input calm some few =
-      from_rows before now (λ rows. RunsBy (history_of rows) rows bytes before now m.ending result) _ (over_run path bytes before now result m input) (λ rows all end over history held are known.
-      let done = whole_run path bytes rows all history held before now result m over known end calm some few are in (
-        done.0,
-        done.1,
-        done.2,
-        done.3,
-        opened path before.store.paths now.store.paths m.ending (refuses held history bytes) (sym m.answer ∙ done.1) m.opens,
-      ))
+  long_by : (t : Result (List Entry) ℕ) → 2 ^ 32 ≤ length bytes
+      → ((held : Held) → Follows (Some path) (over t (λ history. script_plan history (answers_to held history bytes))) bytes held rows before now result)
+      → ByStart t (λ history. result ≡ TooLong) (TellsBadRow rows all before now result)
+  long_by (Ok history) many f = (f nothing_held).long refl many calm some
+  long_by (Err index) many f = bad_row path bytes nothing_held rows all index before now result end (f nothing_held)
 
-  pub cut : (path bytes : List ℕ) (before now : Outside) (result : Status) → MeansRun path before now result → before.input.left ≡ Some bytes
-      → FromRows before now (λ rows all. (history : List Entry) (held : Held) → history_of rows ≡ Ok history → AreTold before.files.content held (asks_of (answers_to held history bytes))
-      → (k : ℕ) × (n : ℕ) × (k ≤ length (answers_to held history bytes)) × Writes before now (take n (told_of history (take k (answers_to held history bytes))))
-      × (all ≡ rows ++ rows_added (take k (answers_to held history bytes))) × ((j : ℕ) → j + 1 ≡ k → length (told_of history (take j (answers_to held history bytes))) ≤ n))
-  cut path bytes before now result m input =
-      from_rows before now (λ rows. RunsBy (history_of rows) rows bytes before now m.ending result) _ (over_run path bytes before now result m input) (λ rows all end over history held are known.
-      let by : RunsOver history bytes before now m.ending result = subst (λ t. RunsBy t rows bytes before now m.ending result) are over in
-      let front = by.done.front held known in
-      (front.answered, front.count, front.within, front.text, behind rows all history _ are (at now.store.rows _ all end front.kept), front.whole))
+pub run : (path bytes : List ℕ) (before now : Outside) (result : Status) → Promises (Some (runs path)) before now result
+    → before.input.left ≡ Some bytes → AreCalm before now → result ≢ Memory → length bytes < 2 ^ 32
+    → FromRows before now (λ rows all. ByStart (history_of rows) (λ history. (held : Held) → AreTold before.files.content held (asks_of (answers_to held history bytes))
+    → Writes before now (told held history bytes) × (result ≡ verdict (refuses held history bytes)) × (now.input.left ≡ Some []) × (all ≡ rows ++ rows_added (answers_to held history bytes))
+    × Opens path before.store.paths now.store.paths) (TellsBadRow rows all before now result))
+run path bytes before now result p input calm some few =
+    from_rows path before now (λ rows. (held : Held) → Follows (Some path) (plan_of (Some (runs path)) bytes held rows) bytes held rows before now result) _ (p.follows bytes input)
+    (λ rows all end f. run_by path bytes rows all before now result end calm some (history_of rows) few f)
 
-  pub exercise : (rounds : ℕ) (before now : Outside) (result : Status) → MeansExercise rounds before now result → AreCalm before now → result ≢ Memory
-      → FromRows before now (λ rows all. (history : List Entry) → history_of rows ≡ Ok history
-      → Writes before now (summary history rounds) × (result ≡ Done) × (all ≡ rows ++ rows_of (exercise_rows history rounds)))
-  exercise rounds before now result m calm some =
-      from_rows before now (λ rows. ExercisesBy (history_of rows) rounds rows before now m.ending result) _ m.over (λ rows all end over history are.
-      let done = (subst (λ t. ExercisesBy t rounds rows before now m.ending result) are over).told calm some in
-      (done.1.written, done.0, behind rows all history _ are (at now.store.rows _ all end done.1.kept)))
-
-  pub backfill : (path times : List ℕ) (names : List (List ℕ)) (held : Held) (before now : Outside) (result : Status)
-      → MeansBackfill path times names before now result → AreTold before.files.content held names → (all_rules held names).wrong ≡ [] → AreCalm before now → result ≢ Memory
-      → FromRows before now (λ rows all. (history : List Entry) → history_of rows ≡ Ok history
-      → Writes before now (fill_text (length history) (filled history (all_rules held names).files times)) × (result ≡ Done)
-      × (all ≡ rows ++ rows_of (rows_filled (filled history (all_rules held names).files times))))
-  backfill path times names held before now result m known fine calm some =
-      let files = (all_rules held names).files in
-      from_rows before now (λ rows. FillsBy (history_of rows) files times rows before now m.ending result) _
-      (over_fill times files (all_rules held names).wrong before now result m.ending fine (m.over held known)) (λ rows all end over history are.
-      let done = (subst (λ t. FillsBy t files times rows before now m.ending result) are over).told calm some in
-      (done.1.written, done.0, behind rows all history _ are (at now.store.rows _ all end done.1.kept)))
-
-pub long : (path bytes : List ℕ) (before now : Outside) (result : Status) → MeansRun path before now result
+pub long : (path bytes : List ℕ) (before now : Outside) (result : Status) → Promises (Some (runs path)) before now result
     → before.input.left ≡ Some bytes → AreCalm before now → result ≢ Memory → 2 ^ 32 ≤ length bytes
-    → FromRows before now (λ rows all. (history : List Entry) → history_of rows ≡ Ok history → result ≡ TooLong)
-long path bytes before now result m input calm some many =
-    from_rows before now (λ rows. RunsBy (history_of rows) rows bytes before now m.ending result) _ (over_run path bytes before now result m input) (λ rows all end over history are.
-    (subst (λ t. RunsBy t rows bytes before now m.ending result) are over).long many calm some)
+    → FromRows before now (λ rows all. ByStart (history_of rows) (λ history. result ≡ TooLong) (TellsBadRow rows all before now result))
+long path bytes before now result p input calm some many =
+    from_rows path before now (λ rows. (held : Held) → Follows (Some path) (plan_of (Some (runs path)) bytes held rows) bytes held rows before now result) _ (p.follows bytes input)
+    (λ rows all end f. long_by path bytes rows all before now result end calm some (history_of rows) many f)
 
--- Over rows of which one is bad
+exercise_by : (rounds : ℕ) (rows all : List Row) (before now : Outside) (result : Status) (t : Result (List Entry) ℕ) → now.store.rows ≡ Some all → AreCalm before now → result ≢ Memory
+    → ((held : Held) → Follows (Some []) (over t (exercise_plan rounds)) [] held rows before now result)
+    → ByStart t (λ history. Writes before now (summary history rounds) × (result ≡ Done) × (all ≡ rows ++ rows_of (exercise_rows history rounds)) × Opens [] before.store.paths now.store.paths) (TellsBadRow rows all before now result)
+exercise_by rounds rows all before now result (Ok history) end calm some f =
+    let events = exercise_events rounds in
+    let w = (f nothing_held).whole asked calm some (λ never. absurd (false≢true never)) in (
+      subst (Appends before.out.taken now.out.taken) (summed_text (start history) events (summary history rounds)) w.text,
+      w.status,
+      kept_rows [] rows all (exercise_plan rounds history).pieces (exercise_rows history rounds) before now end (summed_rows (start history) events (summary history rounds)) w.kept,
+      w.opened,
+    )
+  where
+    asked : AreTold before.files.content nothing_held (all_asks (exercise_plan rounds history).pieces)
+    asked = subst (AreTold before.files.content nothing_held) (sym (summed_asks (start history) (exercise_events rounds) (summary history rounds))) tt
+exercise_by rounds rows all before now result (Err index) end calm some f = bad_row [] [] nothing_held rows all index before now result end (f nothing_held)
 
-run_bad : (path : List ℕ) (before now : Outside) (result : Status) → MeansRun path before now result → IsSome before.input.left
-    → FromRows before now (λ rows all. (index : ℕ) → history_of rows ≡ Err index → TellsBadRow rows all index before now result)
-run_bad path before now result m input =
-    let bytes = there before.input.left input in
-    from_rows before now (λ rows. RunsBy (history_of rows) rows bytes.0 before now m.ending result) _ (over_run path bytes.0 before now result m bytes.1) (λ rows all end over index bad.
-    let into : RunsInto index rows before now m.ending result = subst (λ t. RunsBy t rows bytes.0 before now m.ending result) bad over in
-    (at now.store.rows (λ rs. rs ≡ rows) all end into.done.front.kept, (into.done.front.count, into.done.front.text), λ calm some. into.told calm some))
+pub exercise : (rounds : ℕ) (before now : Outside) (result : Status) → Promises (Some (exercises rounds)) before now result → AreCalm before now → result ≢ Memory
+    → FromRows before now (λ rows all. ByStart (history_of rows) (λ history.
+    Writes before now (summary history rounds) × (result ≡ Done) × (all ≡ rows ++ rows_of (exercise_rows history rounds)) × Opens [] before.store.paths now.store.paths) (TellsBadRow rows all before now result))
+exercise rounds before now result p calm some =
+    from_rows [] before now (λ rows. (held : Held) → Follows (Some []) (plan_of (Some (exercises rounds)) [] held rows) [] held rows before now result) _ (p.follows [] tt)
+    (λ rows all end f. exercise_by rounds rows all before now result (history_of rows) end calm some f)
 
-exercise_bad : (rounds : ℕ) (before now : Outside) (result : Status) → MeansExercise rounds before now result
-    → FromRows before now (λ rows all. (index : ℕ) → history_of rows ≡ Err index → TellsBadRow rows all index before now result)
-exercise_bad rounds before now result m =
-    from_rows before now (λ rows. ExercisesBy (history_of rows) rounds rows before now m.ending result) _ m.over (λ rows all end over index bad.
-    let into : ExercisesInto index rows before now m.ending result = subst (λ t. ExercisesBy t rounds rows before now m.ending result) bad over in
-    (at now.store.rows (λ rs. rs ≡ rows) all end into.done.front.kept, (into.done.front.count, into.done.front.text), λ calm some. into.told calm some))
+-- Files
 
-pub bad_row : (path : List ℕ) (rounds : ℕ) (before now : Outside) (result : Status)
-    → (MeansRun path before now result × IsSome before.input.left) ⊎ MeansExercise rounds before now result
-    → FromRows before now (λ rows all. (index : ℕ) → history_of rows ≡ Err index → TellsBadRow rows all index before now result)
-bad_row path rounds before now result (inl m) = run_bad path before now result m.0 m.1
-bad_row path rounds before now result (inr m) = exercise_bad rounds before now result m
+pub asked_first : (names : List (List ℕ)) (p : Plan) (held : Held) (before : Outside) → all_asks p.pieces ≡ [] → AreTold before.files.content held names
+    → AreTold before.files.content held (all_asks (asking_first names p).pieces)
+asked_first names p held before none known = subst (AreTold before.files.content held) (sym (ap (λ (r : List (List ℕ)). names ++ r) none ∙ append-nil names)) known
 
--- The rows are told at the end
+-- what a backfill follows with whose files nothing is wrong
+pub fine_plan : (path times : List ℕ) (names : List (List ℕ)) (held : Held) (before now : Outside) (result : Status) → Promises (Some (backfills path times names)) before now result
+    → AreTold before.files.content held names → (all_rules held names).wrong ≡ []
+    → FromStart (Some path) before now (λ rows. Follows (Some path) (asking_first names (loaded_plan [] (all_rules held names).files times (history_of rows))) [] held rows before now result)
+fine_plan path times names held before now result p known fine =
+    subst (λ (w : List ℕ). FromStart (if_fine path w) before now (λ rows.
+    Follows (if_fine path w) (asking_first names (loaded_plan w (all_rules held names).files times (history_of rows))) [] held rows before now result)) fine (p.follows [] tt held known)
 
-pub no_rise : (before now : ℕ) → IsCalm before now → Rose before now → ⊥
-no_rise before now calm rose = omega (arith, calm.same, calm.below, rose)
+pub bad_fill : (path : List ℕ) (names : List (List ℕ)) (held : Held) (rows all : List Row) (index : ℕ) (before now : Outside) (result : Status) → now.store.rows ≡ Some all
+    → AreTold before.files.content held names → Follows (Some path) (asking_first names (only (bad_row_text index) StoreFault)) [] held rows before now result → TellsBadRow rows all before now result index
+bad_fill path names held rows all index before now result end known f =
+    let asked = asked_first names (only (bad_row_text index) StoreFault) held before refl known in
+    let front = f.front asked in (
+      kept_rows path rows all (take front.begun (asking_first names (only (bad_row_text index) StoreFault)).pieces) [] before now end (none front.begun) front.kept ∙ append-nil rows,
+      wrote front.begun front.count front.within front.text,
+      λ calm some. let w = f.whole asked calm some (λ never. absurd (false≢true never)) in
+          (w.status, subst (Appends before.out.taken now.out.taken) (lone_text (bad_row_text index)) w.text),
+    )
+  where
+    none : (begun : ℕ) → all_rows (take begun (asking_first names (only (bad_row_text index) StoreFault)).pieces) ≡ []
+    none zero = refl
+    none (suc begun) = no_rows begun (bad_row_text index)
 
-pub told_after : {T : Type 0} (bad : ℕ → Type 0) (long : Type 0) (before now : Outside) (r : Result T Stop) → StopsBy bad long before now r → AreCalm before now → (r ≡ Err stop.Memory → ⊥)
-    → StartsTelling before.store now.store r → IsTrue now.store.sound → IsSome now.store.rows
-told_after bad long before now (Ok done) cause calm some tells sound = tells.told sound
-told_after bad long before now (Err stop.Read) cause calm some tells sound = tells.told sound
-told_after bad long before now (Err stop.Load) cause calm some tells sound = tells.told sound
-told_after bad long before now (Err stop.Store) cause calm some tells sound = absurd (no_rise before.store.faults now.store.faults calm.store cause.2)
-told_after bad long before now (Err (stop.BadRow index)) cause calm some tells sound = tells.told sound
-told_after bad long before now (Err stop.Write) cause calm some tells sound = tells.told sound
-told_after bad long before now (Err stop.Memory) cause calm some tells sound = absurd (some refl)
-told_after bad long before now (Err stop.TooLong) cause calm some tells sound = tells.told sound
+    wrote : (begun count : ℕ) → begun ≤ 2 → Appends before.out.taken now.out.taken (take count (all_text (take begun (asking_first names (only (bad_row_text index) StoreFault)).pieces)))
+        → (n : ℕ) × Writes before now (take n (bad_row_text index))
+    wrote zero count h a = (0, subst (Appends before.out.taken now.out.taken) (take_none count) a)
+    wrote (suc zero) count h a = (0, subst (Appends before.out.taken now.out.taken) (take_none count) a)
+    wrote (suc (suc zero)) count h a = (count, subst (λ (t : List ℕ). Appends before.out.taken now.out.taken (take count t)) (lone_text (bad_row_text index)) a)
+    wrote (suc (suc (suc b))) count h a = absurd (omega (arith, h))
 
-pub told_rows : (path : List ℕ) (rounds : ℕ) (before now : Outside) (result : Status) → MeansRun path before now result ⊎ MeansExercise rounds before now result
-    → AreCalm before now → result ≢ Memory → IsTrue now.store.sound → IsSome now.store.rows
-told_rows path rounds before now result (inl m) calm some sound =
-    told_after (IsBadIn now.store) _ before now m.ending m.ends.cause calm (λ is. some (m.answer ∙ ap status_of is)) m.tells sound
-told_rows path rounds before now result (inr m) calm some sound =
-    told_after (IsBadIn now.store) ⊥ before now m.ending m.ends.cause calm (λ is. some (m.answer ∙ ap exercise_status is)) m.tells sound
+fill_by : (path times : List ℕ) (names : List (List ℕ)) (held : Held) (files : List LoadedFile) (rows all : List Row) (before now : Outside) (result : Status) (t : Result (List Entry) ℕ)
+    → now.store.rows ≡ Some all → AreCalm before now → result ≢ Memory → AreTold before.files.content held names
+    → Follows (Some path) (asking_first names (over t (λ history. fill_plan history (filled history files times)))) [] held rows before now result
+    → ByStart t (λ history. Writes before now (fill_text (length history) (filled history files times)) × (result ≡ Done) × (all ≡ rows ++ rows_of (rows_filled (filled history files times)))
+    × Opens path before.store.paths now.store.paths)
+    (TellsBadRow rows all before now result)
+fill_by path times names held files rows all before now result (Ok history) end calm some known f =
+    let steps = filled history files times in
+    let plan = fill_plan history steps in
+    let w = f.whole (asked_first names plan held before (fill_asks history steps) known) calm some (λ never. absurd (false≢true never)) in (
+      subst (Appends before.out.taken now.out.taken) (fill_whole_text history steps) w.text,
+      w.status,
+      kept_rows path rows all plan.pieces (rows_filled steps) before now end (fill_whole_rows history steps) w.kept,
+      w.opened,
+    )
+fill_by path times names held files rows all before now result (Err index) end calm some known f = bad_fill path names held rows all index before now result end known f
 
--- Files that are refused
+pub backfill : (path times : List ℕ) (names : List (List ℕ)) (held : Held) (before now : Outside) (result : Status) → Promises (Some (backfills path times names)) before now result
+    → AreTold before.files.content held names → (all_rules held names).wrong ≡ [] → AreCalm before now → result ≢ Memory
+    → FromRows before now (λ rows all. ByStart (history_of rows) (λ history. Writes before now (fill_text (length history) (filled history (all_rules held names).files times)) × (result ≡ Done)
+    × (all ≡ rows ++ rows_of (rows_filled (filled history (all_rules held names).files times))) × Opens path before.store.paths now.store.paths) (TellsBadRow rows all before now result))
+backfill path times names held before now result p known fine calm some =
+    from_rows path before now (λ rows. Follows (Some path) (asking_first names (loaded_plan [] (all_rules held names).files times (history_of rows))) [] held rows before now result) _
+    (fine_plan path times names held before now result p known fine)
+    (λ rows all end f. fill_by path times names held (all_rules held names).files rows all before now result (history_of rows) end calm some known f)
 
-refused_by : (wrong : List ℕ) (files : List LoadedFile) (times : List ℕ) (before now : Outside) (result : Status) (ending : Result Bool Stop) → FillsWith wrong files times before now ending result
-    → AreCalm before now → result ≢ Memory → wrong ≢ [] → Writes before now wrong × (result ≡ Problem) × (now.store ≡ before.store)
-refused_by [] files times before now result ending m calm some bad = absurd (bad refl)
-refused_by (b ∷ wrong) files times before now result ending m calm some bad = let done = m.told calm some in (done.1, done.0, m.done.same)
+-- something is wrong with a file
+refused_by : (path times : List ℕ) (names : List (List ℕ)) (held : Held) (files : List LoadedFile) (before now : Outside) (result : Status) (wrong : List ℕ) → AreTold before.files.content held names
+    → AreCalm before now → result ≢ Memory → wrong ≢ []
+    → FromStart (if_fine path wrong) before now (λ rows. Follows (if_fine path wrong) (asking_first names (loaded_plan wrong files times (history_of rows))) [] held rows before now result)
+    → Writes before now wrong × (result ≡ Problem) × (now.store ≡ before.store)
+refused_by path times names held files before now result [] known calm some bad f = absurd (bad refl)
+refused_by path times names held files before now result (b ∷ wrong) known calm some bad f =
+    let w = f.whole (asked_first names (only (b ∷ wrong) Problem) held before refl known) calm some (λ never. absurd (false≢true never)) in
+    (subst (Appends before.out.taken now.out.taken) (lone_text (b ∷ wrong)) w.text, w.status, w.kept)
 
-pub refused : (path times : List ℕ) (names : List (List ℕ)) (held : Held) (before now : Outside) (result : Status) → MeansBackfill path times names before now result
+pub refused : (path times : List ℕ) (names : List (List ℕ)) (held : Held) (before now : Outside) (result : Status) → Promises (Some (backfills path times names)) before now result
     → AreTold before.files.content held names → AreCalm before now → result ≢ Memory → (all_rules held names).wrong ≢ []
     → Writes before now (all_rules held names).wrong × (result ≡ Problem) × (now.store ≡ before.store)
-refused path times names held before now result m known calm some bad =
-    refused_by (all_rules held names).wrong (all_rules held names).files times before now result m.ending (m.over held known) calm some bad
+refused path times names held before now result p known calm some bad =
+    refused_by path times names held (all_rules held names).files before now result (all_rules held names).wrong known calm some bad (p.follows [] tt held known)
+
+pub told_asks : (tolds : List Told) (held : Held) (before : Outside) → AreTold before.files.content held (asked_of_files tolds) → AreTold before.files.content held (all_asks (files_plan tolds).pieces)
+told_asks tolds held before known = subst (AreTold before.files.content held) (sym (files_asks tolds)) known
+
+pub files : (tolds : List Told) (held : Held) (before now : Outside) (result : Status) → Follows None (files_plan tolds) [] held [] before now result
+    → AreTold before.files.content held (asked_of_files tolds) → AreCalm before now → result ≢ Memory → Writes before now (texts tolds) × (result ≡ verdict (any_refused tolds))
+files tolds held before now result f known calm some =
+    let w = f.whole (told_asks tolds held before known) calm some (λ never. absurd (false≢true never)) in
+    (subst (Appends before.out.taken now.out.taken) (files_text tolds) w.text, w.status)
+
+pub metrics : (checked : Checked) (bytes : List ℕ) (before now : Outside) (result : Status) → ((held : Held) → Follows None (input_plan checked) bytes held [] before now result)
+    → AreCalm before now → result ≢ Memory → length bytes < 2 ^ 32 → Writes before now checked.text × (result ≡ ends checked.verdict) × (now.input.left ≡ Some [])
+metrics checked bytes before now result f calm some few =
+    let w = (f nothing_held).whole tt calm some (λ reads. few) in
+    (subst (Appends before.out.taken now.out.taken) (lone_text checked.text) w.text, w.status, w.read refl)
+
+pub usage : (text : List ℕ) (before now : Outside) (result : Status) → ((held : Held) → Follows None (only text Usage) [] held [] before now result) → AreCalm before now → result ≢ Memory
+    → Writes before now text × (result ≡ Usage)
+usage text before now result f calm some =
+    let w = (f nothing_held).whole tt calm some (λ never. absurd (false≢true never)) in
+    (subst (Appends before.out.taken now.out.taken) (lone_text text) w.text, w.status)
+
+-- The rows are told at the end
+pub told_rows : (path : List ℕ) (rounds : ℕ) (before now : Outside) (result : Status) → Promises (Some (runs path)) before now result ⊎ Promises (Some (exercises rounds)) before now result
+    → AreCalm before now → result ≢ Memory → IsTrue now.store.sound → IsSome now.store.rows
+told_rows path rounds before now result (inl p) = p.told tt
+told_rows path rounds before now result (inr p) = p.told tt

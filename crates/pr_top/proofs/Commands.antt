@@ -1,5 +1,5 @@
 -- What each command promises, by how it ended; and the cause of its status.
-use Rattle.std.proofs.Common.{◌≡◌, ◌≢◌, ℕ, ◌<◌, ◌≤◌, ◌^◌, Bool, true, false, List, [], Option, None, Some, IfSome, Result, Ok, Err, IfOk, OnOk, inl, inr, refl, sym, ap, ◌∙◌, subst, length, map, drop, take, take_all, arith}
+use Rattle.std.proofs.Common.{◌≡◌, ◌≢◌, ℕ, ◌<◌, ◌≤◌, ◌^◌, Bool, List, [], Option, None, Some, IfSome, Result, Ok, Err, OnOk, inl, inr, refl, sym, ap, ◌∙◌, subst, length, map, drop, take, take_all, arith}
 use Rattle.std.specs.Io.KnownBytes.{Appends}
 use Rattle.pr_engine.specs.spec_history.declared.entry.Entry.{Entry}
 use Rattle.pr_outside.specs.Causes.{IsCalm, Rose}
@@ -32,7 +32,8 @@ use Rattle.pr_run.specs.Told.{answers_to, asks_of, refuses}
 use Rattle.pr_exercise.specs.Means.{MeansExercise, exercise_status}
 use Rattle.pr_backfill.specs.Means.{MeansBackfill}
 use Rattle.pr_top.specs.Command.{Command, runs, tests_rules, checks_rules, checks_metrics, exercises, backfills}
-use Rattle.pr_top.specs.Means.{EndsLine, HasBadRow, MeansCommand, MeansUsage, usage_status}
+use Rattle.pr_top.specs.Means.{HasBadRow, MeansCommand, MeansUsage, usage_status}
+use Rattle.pr_top.specs.Process.{EndsLine}
 use Rattle.pr_top.specs.Usage.{usage_text}
 
 -- `run`
@@ -213,5 +214,5 @@ command_cause (Some (backfills path times names)) before now result m = backfill
 
 -- Memory does not suffice for the words of the process
 pub ends_unread : (line : Option (List (List ℕ))) (before : Outside) (number : ℕ) → number ≡ status_number status.Memory → EndsLine line before before number
-ends_unread None before number is = record { words = []; known = tt; result = status.Memory; numbered = is; means = inr (refl, refl) }
-ends_unread (Some all) before number is = record { words = map word_of (drop 1 all); known = refl; result = status.Memory; numbered = is; means = inr (refl, refl) }
+ends_unread None before number is = record { words = []; known = tt; result = status.Memory; numbered = is; promises = inr (refl, refl) }
+ends_unread (Some all) before number is = record { words = map word_of (drop 1 all); known = refl; result = status.Memory; numbered = is; promises = inr (refl, refl) }

@@ -1,6 +1,9 @@
 pub mod Usage
 pub mod Command
 pub mod Words
+pub mod Plan
+pub mod Follows
+pub mod Process
 pub mod Means
 pub mod private
 pub use Rattle.pr_backfill.specs.pr_text as pr_text

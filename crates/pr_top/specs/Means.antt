@@ -1,11 +1,9 @@
 -- What each command promises, by what the four objects mean before and after it.
-use Rattle.std.specs.Prelude.{◌≡◌, ◌≢◌, ◌⊎◌, ℕ, List, drop, map, take, Option, Some, None, IfSome, Result, Ok, Err, OnOk}
+use Rattle.std.specs.Prelude.{◌≡◌, ◌≢◌, ℕ, List, take, Option, Some, None, Result, Ok, Err, OnOk}
 use Rattle.std.specs.Io.KnownBytes.{Appends}
 use Rattle.pr_outside.specs.Meant.{Store}
 use Rattle.pr_outside.specs.Ends.{Ends, no_row, stop_status}
 use Rattle.pr_outside.specs.Outside.{Outside, AreCalm}
-use Rattle.pr_outside.specs.Status.{status_number}
-use Rattle.pr_outside.specs.Words.{word_of}
 use Rattle.pr_outside.specs.declared.status.status.Status.{Status}
 use Rattle.pr_outside.specs.declared.status.status.Status.TheVariants as status
 use Rattle.pr_outside.specs.declared.status.status.Stop.{Stop}
@@ -18,7 +16,7 @@ use Rattle.pr_outside.specs.Stores.{IsBadIn}
 use Rattle.pr_run.specs.Runs.{MeansRun}
 use Rattle.pr_exercise.specs.Means.{MeansExercise}
 use Rattle.pr_backfill.specs.Means.{MeansBackfill}
-use Rattle.pr_top.specs.Command.{Command, command_of, runs, tests_rules, checks_rules, checks_metrics, exercises, backfills}
+use Rattle.pr_top.specs.Command.{Command, runs, tests_rules, checks_rules, checks_metrics, exercises, backfills}
 use Rattle.pr_top.specs.Usage.{usage_text}
 
 -- how the program ends where the words are none of the forms, by how the writing of the text ended
@@ -45,15 +43,6 @@ MeansCommand (Some (checks_rules names)) before now result = MeansFileCheck rule
 MeansCommand (Some checks_metrics) before now result = MeansInputCheck metrics_told before now result
 MeansCommand (Some (exercises rounds)) before now result = MeansExercise rounds before now result
 MeansCommand (Some (backfills path times names)) before now result = MeansBackfill path times names before now result
-
--- How a process ends that has a command line, where that is told: by the number of a status, after what
--- its words mean. Or memory did not suffice for the words, and nothing was done.
-pub record EndsLine (line : Option (List (List ℕ))) (before now : Outside) (number : ℕ) : Type 0 where
-  pub words : List (List ℕ)
-  pub known : IfSome line (λ all. words ≡ map word_of (drop 1 all))
-  pub result : Status
-  pub numbered : number ≡ status_number result
-  pub means : MeansCommand (command_of words) before now result ⊎ ((result ≡ status.Memory) × (now ≡ before))
 
 -- what shows that a row is a bad one: a run, an exercise and a backfill look at rows
 abbrev pub HasBadRow : Option Command → Store → Type 0

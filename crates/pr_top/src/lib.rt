@@ -2,6 +2,7 @@
 #![tactic(auto)]
 
 mod command;
+mod over;
 pub mod program;
 mod run_engine;
 mod top;
@@ -47,5 +48,6 @@ pub mod rulefile {
     pub use pr_test::rulefile::read;
 }
 
+pub use over::promtool_over;
 pub use pr_outside::status::Status;
-pub use top::{promtool, promtool_over};
+pub use top::promtool;

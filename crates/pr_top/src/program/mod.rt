@@ -5,7 +5,8 @@ ghost use Rattle.std.specs.Process.{exit_status};
 ghost use Rattle.pr_outside.specs.Status.{status_number};
 ghost use Rattle.pr_outside.specs.declared.status.status.Status.{Status};
 ghost use Rattle.pr_top.specs.Command.{command_of};
-ghost use Rattle.pr_top.specs.Means.{EndsLine, MeansCommand};
+ghost use Rattle.pr_top.specs.Follows.{Promises};
+ghost use Rattle.pr_top.specs.Process.{EndsLine};
 
 use crate::promtool;
 use pr_keep_sql::{DiskFile, SqlKeeper};
@@ -26,7 +27,7 @@ pub fn ended_over<I: Source, F: Files, K: Keeper, O: Sink>(
     keeper: &mut K,
     out: &mut O,
 ) -> ExitCode
-    ensures { (status : Status) × (exit_status result ≡ status_number status) × MeansCommand (command_of (map string_bytes words.now))
+    ensures { (status : Status) × (exit_status result ≡ status_number status) × Promises (command_of (map string_bytes words.now))
         (record { input = I.means input.old; files = F.means files.old; store = K.means keeper.old; out = O.means out.old })
         (record { input = I.means input.new; files = F.means files.new; store = K.means keeper.new; out = O.means out.new }) status }
 {

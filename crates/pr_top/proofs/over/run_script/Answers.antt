@@ -1,6 +1,6 @@
 use Rattle.pr_outside.specs.Outside.{Outside}
 use Rattle.pr_top.proofs.Commands.{means_run}
-use Rattle.pr_top.proofs.top.run_script.Goals as goal
+use Rattle.pr_top.proofs.over.run_script.Goals as goal
 
 pub returns-clause-means : goal.returns-clause-means
 returns-clause-means g c =

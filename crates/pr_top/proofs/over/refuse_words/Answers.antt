@@ -4,7 +4,7 @@ use Rattle.pr_outside.specs.declared.status.status.Status.TheVariants as status
 use Rattle.pr_top.specs.Means.{usage_status}
 use Rattle.pr_top.specs.Usage.{usage_text}
 use Rattle.pr_top.proofs.Commands.{means_usage}
-use Rattle.pr_top.proofs.top.refuse_words.Goals as goal
+use Rattle.pr_top.proofs.over.refuse_words.Goals as goal
 
 pub returns-in-Ok : goal.returns-in-Ok
 returns-in-Ok g c =

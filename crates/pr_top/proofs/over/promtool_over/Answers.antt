@@ -5,7 +5,7 @@ use Rattle.pr_outside.specs.Status.{HasCause}
 use Rattle.pr_top.specs.Means.{HasBadRow, MeansCommand}
 use Rattle.pr_top.specs.Words.{asked_by, asks_for}
 use Rattle.pr_top.proofs.Commands.{command_cause}
-use Rattle.pr_top.proofs.top.promtool_over.Goals as goal
+use Rattle.pr_top.proofs.over.promtool_over.Goals as goal
 
 pub returns-in-Some-clause-means : goal.returns-in-Some-clause-means
 returns-in-Some-clause-means g c =

@@ -3,7 +3,7 @@ use Rattle.pr_outside.specs.Outside.{Outside}
 use Rattle.pr_top.specs.Means.{MeansCommand}
 use Rattle.pr_top.specs.Words.{asked_by}
 use Rattle.pr_top.specs.declared.command.Command as made
-use Rattle.pr_top.proofs.top.do_command.Goals as goal
+use Rattle.pr_top.proofs.over.do_command.Goals as goal
 
 pub returns-in-Run-clause-means : goal.returns-in-Run-clause-means
 returns-in-Run-clause-means g c =
