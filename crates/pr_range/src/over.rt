@@ -17,10 +17,10 @@ use crate::lines::{deriv, predicted};
 use crate::steps::{idelta, irate, last_two};
 use crate::values::{last_of, quantile};
 use pr_head::history::Spot;
-use pr_window::fold_items;
+use pr_window::fold_by_next;
 use pr_window::folds::{
-    Greatest, Least, Neighbours, Sequence, Totals, beside, greater, joined, lesser, some_value,
-    spot_alone, total_alone, value_alone,
+    Greatest, Least, Neighbours, Sequence, Totals, beside_spot, greater, lesser, some_value,
+    spot_alone, total_alone, total_with, value_alone,
 };
 use spec_vectors::num::{Num, TooWide, Total};
 use spec_vectors::{Ask, RangeFn};
@@ -32,10 +32,10 @@ fn over_total(spots: &[Spot], ask: &Ask) -> Result<Option<Num>, RangeFault>
     ensures answer { AnswersAsk (over ask.now spots.now) result }
     ensures memory { result ≢ Err Memory }
 {
-    let total = fold_items::<Spot, Total, Totals, _, _>(
+    let total = fold_by_next::<Spot, Total, Totals, _, _>(
         spots,
         &|spot: &Spot| total_alone(spot),
-        &|a: &Total, b: &Total| joined(a, b),
+        &|a: &Total, spot: &Spot| total_with(a, spot),
     );
     answer_from_total(ask, spots.len(), total)
 }
@@ -46,10 +46,10 @@ fn over_greatest(spots: &[Spot], ask: &Ask) -> Result<Option<Num>, RangeFault>
     ensures answer { AnswersAsk (over ask.now spots.now) result }
     ensures memory { result ≢ Err Memory }
 {
-    let value = fold_items::<Spot, Num, Greatest, _, _>(
+    let value = fold_by_next::<Spot, Num, Greatest, _, _>(
         spots,
         &|spot: &Spot| value_alone(spot),
-        &|a: &Num, b: &Num| greater(a, b),
+        &|a: &Num, spot: &Spot| greater(a, &spot.value),
     );
     answer_from_extreme(spots.len(), value)
 }
@@ -60,10 +60,10 @@ fn over_least(spots: &[Spot], ask: &Ask) -> Result<Option<Num>, RangeFault>
     ensures answer { AnswersAsk (over ask.now spots.now) result }
     ensures memory { result ≢ Err Memory }
 {
-    let value = fold_items::<Spot, Num, Least, _, _>(
+    let value = fold_by_next::<Spot, Num, Least, _, _>(
         spots,
         &|spot: &Spot| value_alone(spot),
-        &|a: &Num, b: &Num| lesser(a, b),
+        &|a: &Num, spot: &Spot| lesser(a, &spot.value),
     );
     answer_from_extreme(spots.len(), value)
 }
@@ -74,10 +74,10 @@ fn over_neighbours(spots: &[Spot], ask: &Ask) -> Result<Option<Num>, RangeFault>
     ensures answer { AreWithin ask.now.from ask.now.to spots.now → AnswersAsk (over ask.now spots.now) result }
     ensures memory { result ≢ Err Memory }
 {
-    let kept = fold_items::<Spot, Neighbours, Sequence, _, _>(
+    let kept = fold_by_next::<Spot, Neighbours, Sequence, _, _>(
         spots,
         &|spot: &Spot| spot_alone(spot),
-        &|a: &Neighbours, b: &Neighbours| beside(a, b),
+        &|a: &Neighbours, spot: &Spot| beside_spot(a, spot),
     );
     answer_from_neighbours(ask, spots.len(), kept)
 }

@@ -7,7 +7,7 @@ ghost use Rattle.pr_range.specs.private.Asks.{HasArgument, IsAskAnswer, MayAsk};
 use crate::fault::RangeFault;
 use crate::over::over_list;
 use crate::ranges::Ranges;
-use crate::read::push_between;
+use crate::read::read_between;
 use pr_head::Head;
 use pr_head::words_crate::Steps;
 use spec_vectors::Ask;
@@ -48,9 +48,8 @@ fn ask_plainly<G: Ledger>(
     } = *ask;
     let from = head.position_near(series, start, 0);
     let to = head.position_near(series, end, from);
-    let mut spots = Vec::new(alloc);
-    match push_between(&mut spots, head, series, from, to, reads) {
-        Ok(()) => over_list(alloc, &spots, ask),
+    match read_between(alloc, head, series, from, to, reads) {
+        Ok(spots) => over_list(alloc, &spots, ask),
         Err(_) => Err(RangeFault::Memory),
     }
 }

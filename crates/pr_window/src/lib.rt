@@ -20,6 +20,6 @@ pub mod labels {
 }
 
 pub use fold::Fold;
-pub use folded::fold_items;
+pub use folded::{fold_by_next, fold_items};
 pub use laws::{parts_combine, weight_of_items};
 pub use window::Window;

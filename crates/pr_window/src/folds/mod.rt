@@ -13,7 +13,7 @@ pub use gains::units_of;
 pub use laws::{greatest_tells, least_tells, sequences_tell, totals_tell};
 pub use neighbours::Neighbours;
 pub use parts::{
-    beside, differ, falls, greater, is_special, joined, lesser, one_if, spot_alone, total_alone,
-    value_alone,
+    beside, beside_spot, differ, falls, greater, is_special, joined, lesser, one_if, spot_alone,
+    total_alone, total_with, value_alone,
 };
 pub use summarize::Summarize;

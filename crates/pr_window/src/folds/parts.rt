@@ -1,7 +1,7 @@
 // Lifting and combining.
 ghost use Rattle.std.specs.Prelude.{◌≡◌, ◌≢◌, ◌<◌, ◌≤◌, ◌+◌, ◌^◌, cond};
 ghost use Rattle.pr_num.specs.declared.value.Num.TheVariants.{NaN};
-ghost use Rattle.pr_num.specs.Total.{joined};
+ghost use Rattle.pr_num.specs.Total.{joined, no_values};
 ghost use Rattle.spec_vectors.specs.Histogram.{is_special};
 ghost use Rattle.spec_vectors.specs.Ranges.{differ};
 ghost use Rattle.spec_vectors.specs.Spots.{falls};
@@ -27,6 +27,14 @@ pub fn joined(a: &Total, b: &Total) -> Total
     ensures { result ≡ joined a.now b.now }
 {
     a.join(*b)
+}
+
+/// The total with one more value.
+pub fn total_with(a: &Total, spot: &Spot) -> Total
+    requires { a.now.count + 1 < 2 ^ 64 }
+    ensures { result ≡ joined a.now (total_alone spot.now) }
+{
+    a.plus(spot.value)
 }
 
 /// The value alone.
@@ -149,5 +157,31 @@ pub fn beside(a: &Neighbours, b: &Neighbours) -> Neighbours
         resets: a.resets + one_if(fell) + b.resets,
         changes: a.changes + one_if(changed) + b.changes,
         special: a.special || b.special,
+    }
+}
+
+// What is lost with one more value behind, which is a fall or not.
+fn lost_with(lost: &Total, fell: bool, before: &Num) -> Total
+    requires { lost.now.count + 1 < 2 ^ 64 }
+    ensures { result ≡ joined lost.now (joined (loss fell before.now) no_values) }
+{
+    if fell { lost.plus(*before) } else { *lost }
+}
+
+/// What is kept of a part with one more value behind it. Only what the value changes is worked out.
+pub fn beside_spot(a: &Neighbours, spot: &Spot) -> Neighbours
+    requires { weight_of a.now + 1 < 2 ^ 64 }
+    ensures { result ≡ beside a.now (spot_alone spot.now) }
+{
+    let fell = falls(&a.last.value, &spot.value);
+    let changed = differ(&a.last.value, &spot.value);
+    Neighbours {
+        first: a.first,
+        last: *spot,
+        count: a.count + 1,
+        lost: lost_with(&a.lost, fell, &a.last.value),
+        resets: a.resets + one_if(fell),
+        changes: a.changes + one_if(changed),
+        special: a.special || is_special(&spot.value),
     }
 }
