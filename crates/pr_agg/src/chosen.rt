@@ -6,13 +6,13 @@ ghost use Rattle.pr_agg.specs.private.Chosen.{is_in_key, pairs_at};
 
 use indexmap::Equivalent;
 use pr_labels::words_crate::Text;
-use pr_labels::{Grouping, Labels, METRIC_LABEL, Pair};
+use pr_labels::{Labels, METRIC_LABEL, Pair};
 use std::alloc::{AllocError, Global};
 use std::hash::{Hash, Hasher};
 use std::marker::Model;
 
-/// The labels by which an element is grouped, where they stand: by them a group is looked up, so
-/// that a label set is made for a new group alone. Contracts see the list of the pairs.
+/// The labels by which an element is grouped or matched, where they stand: they are looked up by,
+/// or are a key themselves, and no label set is made for them. Contracts see the list of the pairs.
 #[derive(Drop)]
 pub struct ChosenLabels<'a> {
     places: Vec<&'a Pair>,
@@ -138,12 +138,13 @@ impl<'a> ChosenLabels<'a> {
         }
     }
 
-    /// Chooses the labels of a set by which its element is grouped, in place of those before.
-    pub fn choose(&mut self, by: &Grouping, labels: &'a Labels) -> Result<(), AllocError>
-        ensures { OnOk result (self.new ≡ key_labels by.now.by labels.now by.now.names) }
+    /// Chooses the labels of a set on the names, or those without them and the metric's name, in
+    /// place of those before.
+    pub fn choose(&mut self, on: bool, names: &[Text], labels: &'a Labels) -> Result<(), AllocError>
+        ensures { OnOk result (self.new ≡ key_labels on labels.now names.now) }
     {
         self.places.clear();
-        push_places(&mut self.places, by.by, by.names.as_slice(), labels.pairs())?;
+        push_places(&mut self.places, on, names, labels.pairs())?;
         Ok(())
     }
 }

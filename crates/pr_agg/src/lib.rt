@@ -14,6 +14,7 @@ mod numbers;
 mod parts;
 mod values;
 
+pub use chosen::ChosenLabels;
 pub use counts::count_values;
 pub use fault::AggFault;
 pub use firsts::{bottomk, topk};

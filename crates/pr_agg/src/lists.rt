@@ -10,7 +10,7 @@ ghost use Rattle.pr_agg.specs.private.Lists.{alone, one_after_other, quantiles_i
 ghost use Rattle.pr_agg.specs.private.Parts.{AreParts};
 
 use crate::chosen::ChosenLabels;
-use crate::parts::{group_of, sort_groups};
+use crate::parts::{choose_group, group_of, sort_groups};
 use indexmap::IndexMap;
 use pr_labels::{Grouping, Item, Labels};
 use pr_num::Num;
@@ -71,7 +71,7 @@ pub fn gather(
     let mut parts: IndexMap<Labels, Items<Num>> = IndexMap::new(alloc);
     let mut group = ChosenLabels::new(alloc);
     for item in vector {
-        group.choose(by, &item.labels)?;
+        choose_group(&mut group, by, item)?;
         add_value(alloc, &mut parts, &group, by, item)?;
     }
     sort_groups(&mut parts)?;

@@ -21,6 +21,17 @@ pub fn group_of(alloc: Global, by: &Grouping, item: &Item<Num>) -> Result<Labels
     item.labels.key(alloc, by.by, by.names.as_slice())
 }
 
+/// Chooses the labels by which an element is grouped, where they stand.
+pub fn choose_group<'a>(
+    group: &mut ChosenLabels<'a>,
+    by: &Grouping,
+    item: &'a Item<Num>,
+) -> Result<(), AllocError>
+    ensures { OnOk result (group.new ≡ group_of by.now item.now) }
+{
+    group.choose(by.by, by.names.as_slice(), &item.labels)
+}
+
 // The summary of a part with one more value.
 fn next_summary<A: Copy, M: Fold<Num, A>, L: Fn(&Num) -> A, C: Fn(&A, &A) -> A>(
     so_far: Option<A>,
@@ -116,7 +127,7 @@ pub fn fold_parts<A: Copy, M: Fold<Num, A>, L: Fn(&Num) -> A, C: Fn(&A, &A) -> A
     let mut parts: IndexMap<Labels, A> = IndexMap::new(alloc);
     let mut group = ChosenLabels::new(alloc);
     for item in vector {
-        group.choose(by, &item.labels)?;
+        choose_group(&mut group, by, item)?;
         add_value::<A, M, L, C>(alloc, &mut parts, &group, by, item, lift, combine)?;
     }
     sort_groups(&mut parts)?;

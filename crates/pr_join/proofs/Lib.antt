@@ -5,5 +5,4 @@ pub mod Pairing
 pub mod Ordered
 pub mod KeyLabels
 pub mod EmptySides
-pub mod Walking
-pub mod RisingPlaces
+pub mod LeastShared

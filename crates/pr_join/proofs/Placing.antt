@@ -1,32 +1,22 @@
 -- One more element among the places.
-use Rattle.std.proofs.Common.{◌≡◌, ℕ, zero, suc, ◌+◌, ◌<◌, ◌≤◌, Bool, true, false, cond, List, [], ◌∷◌, ◌++◌, length, map, fold, filter, Option, Some, None, refl, sym, ap, ◌∙◌, subst, arith}
+use Rattle.std.proofs.Common.{◌≡◌, ℕ, zero, suc, ◌+◌, ◌<◌, ◌≤◌, Bool, true, false, cond, List, [], ◌∷◌, ◌++◌, length, filter, Option, Some, None, refl, sym, ap, ◌∙◌, subst, arith}
 use Rattle.std.proofs.lemmas.List.Folds.{find-append}
-use Rattle.std.proofs.lemmas.List.Sums.{fold-append, sum_by-append}
-use Rattle.std.proofs.lemmas.List.{map-append}
+use Rattle.std.proofs.lemmas.List.Sums.{sum_by-append}
 use Rattle.std.proofs.lemmas.Bool.{eqb-true, eq-eqb}
 use Rattle.std.proofs.lemmas.Bool.Decides.{nat_tests}
-use Rattle.std.proofs.lemmas.Map.Entries.{btree_map_get_place}
 use Rattle.std.specs.Bool.{nat_eq, nat_lt}
 use Rattle.std.specs.List.{find, count_by, slice_get}
-use Rattle.std.specs.Option.{option_or, option_to_list, option_map, IfSome}
-use Rattle.std.specs.Map.{keys_of, lookup}
-use Rattle.std.specs.BTreeMap.{BTreeMap, IsOrdered, get, keys, Updates, is_at, insert_entry}
+use Rattle.std.specs.Option.{option_or, option_to_list, IfSome}
+use Rattle.indexmap.specs.IndexMap.{IndexMap, IsUnique, Updates, get}
 use Rattle.spec_vectors.specs.pr_num.declared.value.Num.{Num}
 use Rattle.spec_vectors.specs.pr_labels.declared.pair.Pair.{Pair}
 use Rattle.spec_vectors.specs.pr_labels.declared.item.Item.{Item}
 use Rattle.spec_vectors.specs.pr_labels.declared.matching.Matching.{Matching}
-use Rattle.spec_vectors.specs.pr_labels.Order.{labels_cmp, labels_eq}
-use Rattle.spec_vectors.proofs.LabelsLabelOrder.{labels_decide, labels_total}
-use Rattle.spec_vectors.specs.pr_labels.Rising.{with_labels}
-use Rattle.spec_vectors.proofs.LabelsLabelMaps.{keys_insert, tie}
-use Rattle.spec_vectors.specs.Matching.{has_key, is_shared, key_of, key_set, least_shared}
+use Rattle.spec_vectors.specs.pr_labels.Order.{labels_eq}
+use Rattle.spec_vectors.proofs.LabelsLabelOrder.{labels_decide}
+use Rattle.spec_vectors.specs.Matching.{has_key, is_shared, key_of}
 use Rattle.pr_join.specs.declared.places.KeyPlace.{KeyPlace}
-use Rattle.pr_join.specs.private.Places.{IsPlaceOf, IsIndexOf, IsOnlyAt, IsPlaced, place_with, is_flagged}
-
-key_set_more : (how : Matching) (front : List (Item Num)) (x : Item Num) → key_set how (front ++ x ∷ []) ≡ with_labels (key_set how front) (key_of how x)
-key_set_more how front x =
-    ap (λ (ks : List (List Pair)). fold with_labels [] ks) (map-append (key_of how) front (x ∷ []))
-    ∙ fold-append with_labels [] (map (key_of how) front) (key_of how x ∷ [])
+use Rattle.pr_join.specs.private.Places.{IsPlaceOf, IsIndexOf, IsOnlyAt, IsPlaced, place_with}
 
 -- what was counted and found, with one more
 count_more : (p : Item Num → Bool) (front : List (Item Num)) (x : Item Num) → count_by p (front ++ x ∷ []) ≡ count_by p front + cond (p x) 1 0
@@ -103,84 +93,56 @@ place_more how side front x q (Some p) i present at within h = by_item (slice_ge
     shared = lt_more (count_by (has_key how q) front) (cond (has_key how q x) 1 0) (some_counted (has_key how q) front y (sym h.first ∙ e)) (ap (λ (b : Bool). cond b 1 0) present) ∙ ap (λ (n : ℕ). nat_lt 1 n) (sym (count_more (has_key how q) front x));
   }
 
-pub index_more : (how : Matching) (side front : List (Item Num)) (x : Item Num) (i : ℕ) (m n : BTreeMap (List Pair) KeyPlace) → slice_get side i ≡ Some x → i < length side
+pub index_more : {S : Type 0} (how : Matching) (side front : List (Item Num)) (x : Item Num) (i : ℕ) (m n : IndexMap (List Pair) KeyPlace S) → slice_get side i ≡ Some x → i < length side
     → IsPlaced how x i m n → IsIndexOf how side front m → IsIndexOf how side (front ++ x ∷ []) n
 index_more how side front x i m n at within placed h = record {
-  ordered = placed.ordered;
-  known = placed.known ∙ ap (λ (ks : List (List Pair)). with_labels ks (key_of how x)) h.known ∙ sym (key_set_more how front x);
+  unique = placed.unique;
   at = λ q. by_key q (has_key how q x) refl;
 } where
-  by_key : (q : List Pair) (b : Bool) → has_key how q x ≡ b → IsPlaceOf how side (front ++ x ∷ []) q (get labels_cmp n q)
+  by_key : (q : List Pair) (b : Bool) → has_key how q x ≡ b → IsPlaceOf how side (front ++ x ∷ []) q (get labels_eq n q)
   by_key q true present =
-      let new : get labels_cmp n q ≡ Some (place_with (get labels_cmp m q) i) = placed.at q ∙ ap (λ (b : Bool). cond b (Some (place_with (get labels_cmp m q) i)) (get labels_cmp m q)) present in
-      subst (λ (o : Option KeyPlace). IsPlaceOf how side (front ++ x ∷ []) q o) (sym new) (place_more how side front x q (get labels_cmp m q) i present at within (h.at q))
+      let new : get labels_eq n q ≡ Some (place_with (get labels_eq m q) i) = placed.at q ∙ ap (λ (b : Bool). cond b (Some (place_with (get labels_eq m q) i)) (get labels_eq m q)) present in
+      subst (λ (o : Option KeyPlace). IsPlaceOf how side (front ++ x ∷ []) q o) (sym new) (place_more how side front x q (get labels_eq m q) i present at within (h.at q))
   by_key q false absent =
-      let new : get labels_cmp n q ≡ get labels_cmp m q = placed.at q ∙ ap (λ (b : Bool). cond b (Some (place_with (get labels_cmp m q) i)) (get labels_cmp m q)) absent in
-      subst (λ (o : Option KeyPlace). IsPlaceOf how side (front ++ x ∷ []) q o) (sym new) (place_same how side front x q (get labels_cmp m q) absent (h.at q))
+      let new : get labels_eq n q ≡ get labels_eq m q = placed.at q ∙ ap (λ (b : Bool). cond b (Some (place_with (get labels_eq m q) i)) (get labels_eq m q)) absent in
+      subst (λ (o : Option KeyPlace). IsPlaceOf how side (front ++ x ∷ []) q o) (sym new) (place_same how side front x q (get labels_eq m q) absent (h.at q))
 
 -- one more element is put in by its key
 twice : (b : Bool) (v w o : Option KeyPlace) → cond b w (cond b v o) ≡ cond b w o
 twice true v w o = refl
 twice false v w o = refl
 
-module _ (how : Matching) (x : Item Num) (i : ℕ) (m : BTreeMap (List Pair) KeyPlace) where
-  at_key : (n : BTreeMap (List Pair) KeyPlace) (key : List Pair) (v : KeyPlace) → key ≡ key_of how x → v ≡ place_with (get labels_cmp m key) i
-      → ((q : List Pair) → get labels_cmp n q ≡ cond (is_at (labels_cmp key) q) (Some v) (get labels_cmp m q))
-      → (q : List Pair) → get labels_cmp n q ≡ cond (has_key how q x) (Some (place_with (get labels_cmp m q) i)) (get labels_cmp m q)
+module _ {S : Type 0} (how : Matching) (x : Item Num) (i : ℕ) (m : IndexMap (List Pair) KeyPlace S) where
+  at_key : (n : IndexMap (List Pair) KeyPlace S) (key : List Pair) (v : KeyPlace) → key ≡ key_of how x → v ≡ place_with (get labels_eq m key) i
+      → ((q : List Pair) → get labels_eq n q ≡ cond (labels_eq key q) (Some v) (get labels_eq m q))
+      → (q : List Pair) → get labels_eq n q ≡ cond (has_key how q x) (Some (place_with (get labels_eq m q) i)) (get labels_eq m q)
   at_key n key v is value u q =
-      u q ∙ ap (λ (b : Bool). cond b (Some v) (get labels_cmp m q)) (tie key q) ∙ by_test (labels_eq key q) refl
-      ∙ ap (λ (k : List Pair). cond (labels_eq k q) (Some (place_with (get labels_cmp m q) i)) (get labels_cmp m q)) is
+      u q ∙ by_test (labels_eq key q) refl
+      ∙ ap (λ (k : List Pair). cond (labels_eq k q) (Some (place_with (get labels_eq m q) i)) (get labels_eq m q)) is
     where
-      by_test : (b : Bool) → labels_eq key q ≡ b → cond b (Some v) (get labels_cmp m q) ≡ cond b (Some (place_with (get labels_cmp m q) i)) (get labels_cmp m q)
-      by_test true h = ap (λ (p : KeyPlace). Some p) (value ∙ ap (λ (k : List Pair). place_with (get labels_cmp m k) i) ((labels_decide key q).0 h))
+      by_test : (b : Bool) → labels_eq key q ≡ b → cond b (Some v) (get labels_eq m q) ≡ cond b (Some (place_with (get labels_eq m q) i)) (get labels_eq m q)
+      by_test true h = ap (λ (p : KeyPlace). Some p) (value ∙ ap (λ (k : List Pair). place_with (get labels_eq m k) i) ((labels_decide key q).0 h))
       by_test false h = refl
 
-  pub placed_alone : (n : BTreeMap (List Pair) KeyPlace) (key : List Pair) → key ≡ key_of how x → None ≡ get labels_cmp m key
-      → n.entries ≡ insert_entry labels_cmp m.entries key (record { index = i; shared = false }) → Updates labels_cmp m n key (Some (record { index = i; shared = false })) → IsOrdered labels_cmp n
-      → IsPlaced how x i m n
-  placed_alone n key is none entries u ordered = record {
-    known = ap keys_of entries ∙ keys_insert m.entries key (record { index = i; shared = false }) ∙ ap (λ (k : List Pair). with_labels (keys_of m.entries) k) is;
-    ordered = ordered;
+  pub placed_alone : (n : IndexMap (List Pair) KeyPlace S) (key : List Pair) → key ≡ key_of how x → None ≡ get labels_eq m key
+      → Updates labels_eq m n key (Some (record { index = i; shared = false })) → IsUnique labels_eq n → IsPlaced how x i m n
+  placed_alone n key is none u unique = record {
+    unique = unique;
     at = at_key n key (record { index = i; shared = false }) is (ap (λ (o : Option KeyPlace). place_with o i) none) u.0;
   }
 
-  pub placed_again : (n o : BTreeMap (List Pair) KeyPlace) (key same : List Pair) (first : KeyPlace) → key ≡ key_of how x → same ≡ key_of how x → Some first ≡ get labels_cmp m key
-      → keys n ≡ keys m → Updates labels_cmp m n key (Some (record { index = i; shared = false }))
-      → o.entries ≡ insert_entry labels_cmp n.entries same (record { index = first.index; shared = true }) → Updates labels_cmp n o same (Some (record { index = first.index; shared = true })) → IsOrdered labels_cmp o
+  pub placed_again : (n o : IndexMap (List Pair) KeyPlace S) (key same : List Pair) (first : KeyPlace) → key ≡ key_of how x → same ≡ key_of how x → Some first ≡ get labels_eq m key
+      → Updates labels_eq m n key (Some (record { index = i; shared = false }))
+      → Updates labels_eq n o same (Some (record { index = first.index; shared = true })) → IsUnique labels_eq o
       → IsPlaced how x i m o
-  placed_again n o key same first is also some stay u entries v ordered =
+  placed_again n o key same first is also some u v unique =
       let both : KeyPlace = record { index = first.index; shared = true } in
       let alone : KeyPlace = record { index = i; shared = false } in
       record {
-        known = ap keys_of entries ∙ keys_insert n.entries same both ∙ (λ j. with_labels (stay j) (also j));
-        ordered = ordered;
+        unique = unique;
         at = at_key o key both is (ap (λ (p : Option KeyPlace). place_with p i) some)
-            (λ q. v.0 q ∙ (λ j. cond (is_at (labels_cmp ((also ∙ sym is) j)) q) (Some both) (u.0 q j)) ∙ twice (is_at (labels_cmp key) q) (Some alone) (Some both) (get labels_cmp m q));
+            (λ q. v.0 q ∙ (λ j. cond (labels_eq ((also ∙ sym is) j) q) (Some both) (u.0 q j)) ∙ twice (labels_eq key q) (Some alone) (Some both) (get labels_eq m q));
       }
-
--- the flags of the entries are those of their keys
-by_flag : (e : List Pair × KeyPlace) (es : List (List Pair × KeyPlace)) (o : Option (List Pair)) (a b : Bool) → a ≡ b → option_map (λ x. x.0) (find is_flagged es) ≡ o
-    → option_map (λ x. x.0) (cond a (Some e) (find is_flagged es)) ≡ cond b (Some e.0) o
-by_flag e es o true true h k = refl
-by_flag e es o false false h k = k
-by_flag e es o true false h k = cc
-by_flag e es o false true h k = cc
-
-flags : (test : List Pair → Bool) (es : List (List Pair × KeyPlace)) → ((i : ℕ) (e : List Pair × KeyPlace) → slice_get es i ≡ Some e → e.1.shared ≡ test e.0)
-    → option_map (λ e. e.0) (find is_flagged es) ≡ find test (keys_of es)
-flags test [] h = refl
-flags test (e ∷ es) h =
-    by_flag e es (find test (keys_of es)) e.1.shared (test e.0) (h 0 e refl) (flags test es (λ i x s. h (suc i) x s))
-
-shared_at : (how : Matching) (side : List (Item Num)) (k : List Pair) (p : KeyPlace) (o : Option KeyPlace) → o ≡ Some p → IfSome o (λ q. q.shared ≡ is_shared how side k) → p.shared ≡ is_shared how side k
-shared_at how side k p None e h = cc
-shared_at how side k p (Some q) e h = cc
-
-pub first_flag : (how : Matching) (side : List (Item Num)) (m : BTreeMap (List Pair) KeyPlace) → IsIndexOf how side side m
-    → option_map (λ e. e.0) (find is_flagged m.entries) ≡ least_shared how side
-first_flag how side m h =
-    flags (is_shared how side) m.entries (λ i e s. shared_at how side e.0 e.1 (get labels_cmp m e.0) (btree_map_get_place labels_total m i e.0 e.1 h.ordered s) (h.at e.0).shared)
-    ∙ ap (λ (ks : List (List Pair)). find (is_shared how side) ks) h.known
 
 -- where no key is shared, an element has at most one pair
 none_passes : (p : Item Num → Bool) (xs : List (Item Num)) → count_by p xs ≡ 0 → filter p xs ≡ []
@@ -200,24 +162,12 @@ at_most_one p (x ∷ xs) h = by_test (p x) (subst (λ (n : ℕ). n ≤ 1) (count
 not_more : (n : ℕ) → nat_lt 1 n ≡ false → n ≤ 1
 not_more n h = grind (arith, nat_tests)
 
-unflagged : (test : List Pair → Bool) (es : List (List Pair × KeyPlace)) (p : KeyPlace) → find is_flagged es ≡ None → lookup test es ≡ Some p → p.shared ≡ false
-unflagged test [] p h k = cc
-unflagged test (e ∷ es) p h k = by_flag_of e.1.shared refl h (unflagged test es p) where
-  by_test : (b : Bool) → e.1.shared ≡ false → cond b (Some e.1) (lookup test es) ≡ Some p → (lookup test es ≡ Some p → p.shared ≡ false) → p.shared ≡ false
-  by_test true f g i = cc
-  by_test false f g i = i g
-
-  by_flag_of : (b : Bool) → e.1.shared ≡ b → cond b (Some e) (find is_flagged es) ≡ None → (find is_flagged es ≡ None → lookup test es ≡ Some p → p.shared ≡ false) → p.shared ≡ false
-  by_flag_of true f g more = cc
-  by_flag_of false f g more = by_test (test e.0) f k (more g)
-
-pub one_pair : (how : Matching) (side : List (Item Num)) (m : BTreeMap (List Pair) KeyPlace) (k : List Pair) → IsIndexOf how side side m → find is_flagged m.entries ≡ None
+pub one_pair : {S : Type 0} (how : Matching) (side : List (Item Num)) (m : IndexMap (List Pair) KeyPlace S) (k : List Pair) → IsIndexOf how side side m → IfSome (get labels_eq m k) (λ p. p.shared ≡ false)
     → filter (has_key how k) side ≡ option_to_list (find (has_key how k) side)
-one_pair how side m k h clear = by_place (get labels_cmp m k) refl (h.at k) where
-  by_place : (o : Option KeyPlace) → get labels_cmp m k ≡ o → IsPlaceOf how side side k o → filter (has_key how k) side ≡ option_to_list (find (has_key how k) side)
-  by_place None e p = at_most_one (has_key how k) side (omega (arith, none_counted (has_key how k) side (sym p.first)))
-  by_place (Some q) e p =
-      at_most_one (has_key how k) side (not_more (count_by (has_key how k) side) (sym p.shared ∙ unflagged (is_at (labels_cmp k)) m.entries q clear e))
+one_pair how side m k h clear = by_place (get labels_eq m k) (h.at k) clear where
+  by_place : (o : Option KeyPlace) → IsPlaceOf how side side k o → IfSome o (λ p. p.shared ≡ false) → filter (has_key how k) side ≡ option_to_list (find (has_key how k) side)
+  by_place None p c = at_most_one (has_key how k) side (omega (arith, none_counted (has_key how k) side (sym p.first)))
+  by_place (Some q) p c = at_most_one (has_key how k) side (not_more (count_by (has_key how k) side) (sym p.shared ∙ c))
 
 -- and where it has one, its key stands at one place
 none_at : (p : Item Num → Bool) (xs : List (Item Num)) → count_by p xs ≡ 0 → (i : ℕ) (x : Item Num) → slice_get xs i ≡ Some x → p x ≡ false
@@ -246,21 +196,24 @@ one_at p (z ∷ xs) (suc i) zero x y h s e t f = absurd (other (none_behind p z 
 one_at p (z ∷ xs) (suc i) (suc j) x y h s e t f =
     ap (λ (k : ℕ). suc k) (one_at p xs i j x y (omega (arith, subst (λ (n : ℕ). n ≤ 1) (count_cons p z xs) h)) s e t f)
 
-found_passes : (p : Item Num → Bool) (xs : List (Item Num)) (x : Item Num) → find p xs ≡ Some x → p x ≡ true
+pub found_passes : (p : Item Num → Bool) (xs : List (Item Num)) (x : Item Num) → find p xs ≡ Some x → p x ≡ true
 found_passes p [] x h = cc
 found_passes p (y ∷ ys) x h = by_test (p y) refl h (found_passes p ys x) where
   by_test : (b : Bool) → p y ≡ b → cond b (Some y) (find p ys) ≡ Some x → (find p ys ≡ Some x → p x ≡ true) → p x ≡ true
   by_test true e k more = subst (λ (z : Item Num). p z ≡ true) (same y x k) e
   by_test false e k more = more k
 
-pub only_place : (how : Matching) (side : List (Item Num)) (m : BTreeMap (List Pair) KeyPlace) (k : List Pair) (p : KeyPlace) → IsIndexOf how side side m → find is_flagged m.entries ≡ None → get labels_cmp m k ≡ Some p
-    → IsOnlyAt how side k p.index
+pub only_place : {S : Type 0} (how : Matching) (side : List (Item Num)) (m : IndexMap (List Pair) KeyPlace S) (k : List Pair) (p : KeyPlace) → IsIndexOf how side side m → IfSome (get labels_eq m k) (λ q. q.shared ≡ false)
+    → get labels_eq m k ≡ Some p → IsOnlyAt how side k p.index
 only_place how side m k p h clear e = by_item (slice_get side p.index) refl where
   at : IsPlaceOf how side side k (Some p)
   at = subst (λ (o : Option KeyPlace). IsPlaceOf how side side k o) e (h.at k)
 
+  alone : p.shared ≡ false
+  alone = subst (λ (o : Option KeyPlace). IfSome o (λ q. q.shared ≡ false)) e clear
+
   few : count_by (has_key how k) side ≤ 1
-  few = not_more (count_by (has_key how k) side) (sym at.shared ∙ unflagged (is_at (labels_cmp k)) m.entries p clear e)
+  few = not_more (count_by (has_key how k) side) (sym at.shared ∙ alone)
 
   by_item : (o : Option (Item Num)) → slice_get side p.index ≡ o → IsOnlyAt how side k p.index
   by_item None s = absurd (some_within side p.index at.within s)

@@ -2,6 +2,5 @@ pub mod Faults
 pub mod Keys
 pub mod Operators
 pub mod Places
-pub mod Rising
 pub mod Rows
 pub mod Sets

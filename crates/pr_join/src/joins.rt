@@ -7,14 +7,16 @@ ghost use Rattle.spec_vectors.specs.private.Laws.{IsVector};
 ghost use Rattle.spec_vectors.specs.Matching.{Operator, KeptPair, worked, paired, pair_outcome, fault_of_outcomes, key_of, least_shared, outcomes_of, joined, joined_sides};
 ghost use Rattle.pr_join.specs.private.Faults.{match_told};
 ghost use Rattle.pr_join.specs.private.Operators.{AnswersBy};
-ghost use Rattle.pr_join.specs.private.Places.{ArePlacesOf, IsOnlyAt};
+ghost use Rattle.pr_join.specs.private.Places.{IsIndexOf, IsOnlyAt};
 ghost use Rattle.pr_join.specs.private.Rows.{HasKept, AreRowsTaken, outcomes_with};
 
 use crate::join_fault::JoinFault;
 use crate::labels::result_labels;
-use crate::places::{Places, first_shared, key_of, place_of, places_of};
+use crate::places::{KeyPlace, choose_key, first_shared, place_of, places_of};
 use crate::rows::{JoinedElements, no_rows, take};
-use spec_vectors::labels::{Card, Item, Labels, Matching};
+use indexmap::IndexMap;
+use pr_agg::ChosenLabels;
+use spec_vectors::labels::{Card, Item, Matching};
 use spec_vectors::num::{Num, TooWide};
 use std::alloc::Global;
 
@@ -40,16 +42,14 @@ fn join_pair<O: Fn(Num, Num) -> Result<Option<Num>, TooWide>>(
     how: &Matching,
     keep_name: bool,
     op: &O,
-    key: Labels,
     many: &Item<Num>,
     one: &Item<Num>,
     place: usize,
     rows: &mut JoinedElements,
 ) -> Result<(), JoinFault>
     requires callable { O.IsAlwaysCallable op.now }
-    requires key { key ≡ key_of how.now many.now }
     requires place { place < length rows.old.taken.items }
-    ensures taken { (f : Operator) (ones : List (Item Num)) (before : List KeptPair) → AnswersBy O.Fn op.now f → IsOnlyAt how.now ones key place → HasKept how.now ones before rows.old → MatchResult result
+    ensures taken { (f : Operator) (ones : List (Item Num)) (before : List KeptPair) → AnswersBy O.Fn op.now f → IsOnlyAt how.now ones (key_of how.now many.now) place → HasKept how.now ones before rows.old → MatchResult result
         (λ _. AreRowsTaken how.now ones before (pair_outcome how.now keep_name f (paired many.now one.now) ∷ []) rows.new)
         (λ e. e ≢ Memory → fault_of_outcomes how.now.card before (pair_outcome how.now keep_name f (paired many.now one.now) ∷ []) ≡ match_told e) }
     ensures room { OnOk result (length rows.new.taken.items ≡ length rows.old.taken.items) }
@@ -58,63 +58,67 @@ fn join_pair<O: Fn(Num, Num) -> Result<Option<Num>, TooWide>>(
         Err(_) => Err(JoinFault::TooWide),
         Ok(None) => Ok(()),
         Ok(Some(value)) => {
-            let labels = result_labels(alloc, how, keep_name, &key, many, one)?;
-            take(rows, how.card, place, key, labels, value)
+            let labels = result_labels(alloc, how, keep_name, many, one)?;
+            take(alloc, how, many, rows, place, labels, value)
         }
     }
 }
 
 // Takes what an element of the many side gives with the element of its key.
-fn join_one<O: Fn(Num, Num) -> Result<Option<Num>, TooWide>>(
+fn join_one<'a, O: Fn(Num, Num) -> Result<Option<Num>, TooWide>>(
     alloc: Global,
     how: &Matching,
     keep_name: bool,
     op: &O,
     ones: &[Item<Num>],
-    places: &mut Places,
+    places: &IndexMap<ChosenLabels<'a>, KeyPlace>,
+    key: &ChosenLabels<'a>,
     many: &Item<Num>,
     rows: &mut JoinedElements,
 ) -> Result<(), JoinFault>
     requires callable { O.IsAlwaysCallable op.now }
-    requires places { ArePlacesOf how.now ones.now places.old }
+    requires places { IsIndexOf how.now ones.now ones.now places.now }
+    requires key { key.now ≡ key_of how.now many.now }
     requires unshared { least_shared how.now ones.now ≡ None }
     requires room { length rows.old.taken.items ≡ length ones.now }
     ensures taken { (f : Operator) (before : List KeptPair) → AnswersBy O.Fn op.now f → HasKept how.now ones.now before rows.old → MatchResult result
         (λ _. AreRowsTaken how.now ones.now before (outcomes_with how.now keep_name f ones.now many.now) rows.new)
         (λ e. e ≢ Memory → fault_of_outcomes how.now.card before (outcomes_with how.now keep_name f ones.now many.now) ≡ match_told e) }
     ensures room { OnOk result (length rows.new.taken.items ≡ length ones.now) }
-    ensures places { ArePlacesOf how.now ones.now places.new }
 {
-    let key = key_of(alloc, how, many)?;
-    match place_of(how, ones, places, &key) {
+    match place_of(how, ones, places, key) {
         None => Ok(()),
         Some(place) => {
             let one = &ones[place];
-            join_pair(alloc, how, keep_name, op, key, many, one, place, rows)
+            join_pair(alloc, how, keep_name, op, many, one, place, rows)
         }
     }
 }
 
 // Takes what the elements of the many side give, one after the other.
-fn join_all<O: Fn(Num, Num) -> Result<Option<Num>, TooWide>>(
+fn join_all<'a, O: Fn(Num, Num) -> Result<Option<Num>, TooWide>>(
     alloc: Global,
     how: &Matching,
     keep_name: bool,
     op: &O,
-    manys: &[Item<Num>],
+    manys: &'a [Item<Num>],
     ones: &[Item<Num>],
-    places: &mut Places,
+    places: &IndexMap<ChosenLabels<'a>, KeyPlace>,
 ) -> Result<JoinedElements, JoinFault>
     requires callable { O.IsAlwaysCallable op.now }
-    requires places { ArePlacesOf how.now ones.now places.old }
+    requires places { IsIndexOf how.now ones.now ones.now places.now }
     requires unshared { least_shared how.now ones.now ≡ None }
     ensures { (f : Operator) → AnswersBy O.Fn op.now f → MatchResult result
         (AreRowsTaken how.now ones.now [] (outcomes_of how.now keep_name f manys.now ones.now))
         (λ e. e ≢ Memory → fault_of_outcomes how.now.card [] (outcomes_of how.now keep_name f manys.now ones.now) ≡ match_told e) }
 {
     let mut rows = no_rows(alloc, ones)?;
+    let mut key = ChosenLabels::new(alloc);
     for many in manys {
-        if let Err(fault) = join_one(alloc, how, keep_name, op, ones, places, many, &mut rows) {
+        choose_key(&mut key, how, many)?;
+        if let Err(fault) = join_one(
+            alloc, how, keep_name, op, ones, places, &key, many, &mut rows,
+        ) {
             return Err(fault);
         }
     }
@@ -122,13 +126,13 @@ fn join_all<O: Fn(Num, Num) -> Result<Option<Num>, TooWide>>(
 }
 
 // The same of the two sides by what they are.
-fn join_sides<O: Fn(Num, Num) -> Result<Option<Num>, TooWide>>(
+fn join_sides<'a, O: Fn(Num, Num) -> Result<Option<Num>, TooWide>>(
     alloc: Global,
     how: &Matching,
     keep_name: bool,
     op: &O,
-    manys: &[Item<Num>],
-    ones: &[Item<Num>],
+    manys: &'a [Item<Num>],
+    ones: &'a [Item<Num>],
 ) -> Result<Vec<Item<Num>>, JoinFault>
     requires { O.IsAlwaysCallable op.now }
     ensures joined { (f : Operator) → AnswersBy O.Fn op.now f → MatchResult result
@@ -139,11 +143,11 @@ fn join_sides<O: Fn(Num, Num) -> Result<Option<Num>, TooWide>>(
     if manys.is_empty() {
         return Ok(Vec::new(alloc));
     }
-    let mut places = places_of(alloc, how, ones)?;
-    if let Some(key) = first_shared(alloc, &places)? {
+    let places = places_of(alloc, how, ones)?;
+    if let Some(key) = first_shared(alloc, how, ones, &places)? {
         return Err(JoinFault::ManyToMany { key });
     }
-    match join_all(alloc, how, keep_name, op, manys, ones, &mut places) {
+    match join_all(alloc, how, keep_name, op, manys, ones, &places) {
         Ok(rows) => Ok(rows.items.into_items()?),
         Err(fault) => Err(fault),
     }

@@ -8,14 +8,15 @@ ghost use Rattle.spec_vectors.specs.pr_labels.Order.{labels_cmp};
 ghost use Rattle.pr_join.specs.declared.join_fault.JoinFault.TheVariants.{Memory};
 ghost use Rattle.spec_vectors.specs.private.Laws.{IsVector};
 ghost use Rattle.spec_vectors.specs.Vectors.{element};
-ghost use Rattle.spec_vectors.specs.Matching.{KeptPair, key_fault, labels_fault, outcome_fault};
+ghost use Rattle.spec_vectors.specs.Matching.{KeptPair, key_fault, key_of, labels_fault, outcome_fault};
 ghost use Rattle.pr_join.specs.private.Faults.{match_told};
 ghost use Rattle.pr_join.specs.private.Places.{IsOnlyAt};
 ghost use Rattle.pr_join.specs.private.Rows.{HasTakenKeys, HasItems, HasKept, elements, is_one_to_one, kept_with};
 
 use crate::join_fault::JoinFault;
+use crate::places::key_of;
 use spec_vectors::labels::ordered::Ordered;
-use spec_vectors::labels::{Card, Item, Labels};
+use spec_vectors::labels::{Card, Item, Labels, Matching};
 use spec_vectors::num::Num;
 use std::alloc::{AllocError, Global};
 use std::collections::BTreeMap;
@@ -57,19 +58,26 @@ fn is_one_to_one(card: Card) -> bool
     matches!(card, Card::OneToOne)
 }
 
-// Takes a key, which in one-to-one matching may come once. Of the one side the element at the place
-// alone has it.
-fn take_key(taken: &mut Vec<bool>, card: Card, place: usize, key: Labels) -> Result<(), JoinFault>
+// Takes the key of an element, which in one-to-one matching may come once. Of the one side the
+// element at the place alone has it.
+fn take_key(
+    alloc: Global,
+    how: &Matching,
+    many: &Item<Num>,
+    taken: &mut Vec<bool>,
+    place: usize,
+) -> Result<(), JoinFault>
     requires { place < length taken.old.items }
-    ensures taken { (how : Matching) (ones : List (Item Num)) (before : List KeptPair) (k : KeptPair) → how.card ≡ card → k.key ≡ key → IsOnlyAt how ones key place → HasTakenKeys how ones before taken.old.items → MatchResult result
-        (λ _. (key_fault card before k ≡ None) × HasTakenKeys how ones (before ++ k ∷ []) taken.new.items)
-        (λ e. e ≢ Memory → key_fault card before k ≡ match_told e) }
+    ensures taken { (ones : List (Item Num)) (before : List KeptPair) (k : KeptPair) → k.key ≡ key_of how.now many.now → IsOnlyAt how.now ones (key_of how.now many.now) place → HasTakenKeys how.now ones before taken.old.items → MatchResult result
+        (λ _. (key_fault how.now.card before k ≡ None) × HasTakenKeys how.now ones (before ++ k ∷ []) taken.new.items)
+        (λ e. e ≢ Memory → key_fault how.now.card before k ≡ match_told e) }
     ensures room { OnOk result (length taken.new.items ≡ length taken.old.items) }
 {
-    if !is_one_to_one(card) {
+    if !is_one_to_one(how.card) {
         return Ok(());
     }
     if taken[place] {
+        let key = key_of(alloc, how, many)?;
         return Err(JoinFault::ManyToMany { key });
     }
     taken[place] = true;
@@ -91,20 +99,21 @@ fn take_item(items: &mut Ordered<Num>, labels: Labels, value: Num) -> Result<(),
 /// Takes what a pair gives, unless an earlier pair with its key or its labels was taken. Of the one
 /// side the element at the place alone has the key.
 pub fn take(
+    alloc: Global,
+    how: &Matching,
+    many: &Item<Num>,
     rows: &mut JoinedElements,
-    card: Card,
     place: usize,
-    key: Labels,
     labels: Labels,
     value: Num,
 ) -> Result<(), JoinFault>
     requires { place < length rows.old.taken.items }
-    ensures taken { (how : Matching) (ones : List (Item Num)) (before : List KeptPair) (k : KeptPair) → how.card ≡ card → k ≡ kept_with key labels value → IsOnlyAt how ones key place → HasKept how ones before rows.old → MatchResult result
-        (λ _. (outcome_fault card before (Ok (Some k)) ≡ None) × HasKept how ones (before ++ k ∷ []) rows.new)
-        (λ e. e ≢ Memory → outcome_fault card before (Ok (Some k)) ≡ match_told e) }
+    ensures taken { (ones : List (Item Num)) (before : List KeptPair) (k : KeptPair) → k ≡ kept_with (key_of how.now many.now) labels value → IsOnlyAt how.now ones (key_of how.now many.now) place → HasKept how.now ones before rows.old → MatchResult result
+        (λ _. (outcome_fault how.now.card before (Ok (Some k)) ≡ None) × HasKept how.now ones (before ++ k ∷ []) rows.new)
+        (λ e. e ≢ Memory → outcome_fault how.now.card before (Ok (Some k)) ≡ match_told e) }
     ensures room { OnOk result (length rows.new.taken.items ≡ length rows.old.taken.items) }
 {
-    take_key(&mut rows.taken, card, place, key)?;
+    take_key(alloc, how, many, &mut rows.taken, place)?;
     take_item(&mut rows.items, labels, value)
 }
 

@@ -5,66 +5,64 @@ ghost use Rattle.spec_vectors.specs.pr_labels.declared.matching.Matching.{Matchi
 ghost use Rattle.spec_vectors.specs.pr_num.declared.value.Num.{Num};
 ghost use Rattle.spec_vectors.specs.private.Laws.{IsVector};
 ghost use Rattle.spec_vectors.specs.Vectors.{with_element};
-ghost use Rattle.spec_vectors.specs.Matching.{both_sides, left_alone, either_side, is_matched};
-ghost use Rattle.pr_join.specs.private.Sets.{AreKeysOf, IsKeySetOf, with_match};
+ghost use Rattle.spec_vectors.specs.Matching.{both_sides, left_alone, either_side, is_matched, key_of};
+ghost use Rattle.pr_join.specs.private.Sets.{AreKeysOf, matched, with_match};
 ghost use Rattle.pr_join.specs.private.Rows.{elements};
 
-use crate::places::key_of;
-use crate::rising::{RisingKeys, rising_keys};
+use crate::places::{choose_key, chosen_key};
 use crate::rows::{elements_of, put};
+use indexmap::IndexMap;
+use pr_agg::ChosenLabels;
 use spec_vectors::labels::{Item, Labels, Matching};
 use spec_vectors::num::Num;
 use std::alloc::{AllocError, Global};
 use std::collections::BTreeMap;
 
-// The keys of a side's elements: in a list where they rise, and else in an ordered set.
-#[derive(Drop)]
-enum SideKeys {
-    Rising(RisingKeys),
-    Sorted(BTreeMap<Labels, ()>),
-}
-
-// The keys of a side's elements as an ordered set.
-fn sorted_keys(
+// The keys of a side's elements, where their labels stand.
+fn keys_of<'a>(
     alloc: Global,
     how: &Matching,
-    side: &[Item<Num>],
-) -> Result<BTreeMap<Labels, ()>, AllocError>
-    ensures { IfOk result (λ m. IsKeySetOf how.now side.now m) }
+    side: &'a [Item<Num>],
+) -> Result<IndexMap<ChosenLabels<'a>, ()>, AllocError>
+    ensures { IfOk result (λ m. AreKeysOf how.now side.now m) }
 {
-    let mut keys: BTreeMap<Labels, ()> = BTreeMap::new(alloc);
+    let mut keys: IndexMap<ChosenLabels<'a>, ()> = IndexMap::new(alloc);
     for item in side {
-        put(&mut keys, key_of(alloc, how, item)?, ())?;
+        keys.insert(chosen_key(alloc, how, item)?, ())?;
     }
     Ok(keys)
 }
 
-fn keys_of(alloc: Global, how: &Matching, side: &[Item<Num>]) -> Result<SideKeys, AllocError>
-    ensures { IfOk result (λ keys. AreKeysOf how.now side.now keys) }
-{
-    match rising_keys(alloc, how, side)? {
-        Some(rising) => Ok(SideKeys::Rising(rising)),
-        None => Ok(SideKeys::Sorted(sorted_keys(alloc, how, side)?)),
-    }
-}
-
 // Whether one of the keys of the other side is that of the element.
-fn has_match(
-    alloc: Global,
+fn has_match<'a>(
     how: &Matching,
     other: &[Item<Num>],
-    keys: &mut SideKeys,
+    keys: &IndexMap<ChosenLabels<'a>, ()>,
+    key: &ChosenLabels<'a>,
     item: &Item<Num>,
-) -> Result<bool, AllocError>
-    requires { AreKeysOf how.now other.now keys.old }
-    ensures matched { IfOk result (λ b. b ≡ is_matched how.now other.now item.now) }
-    ensures keys { AreKeysOf how.now other.now keys.new }
+) -> bool
+    requires keys { AreKeysOf how.now other.now keys.now }
+    requires key { key.now ≡ key_of how.now item.now }
+    ensures { result ≡ is_matched how.now other.now item.now }
 {
-    let key = key_of(alloc, how, item)?;
-    match keys {
-        SideKeys::Rising(rising) => Ok(rising.find(&key).is_some()),
-        SideKeys::Sorted(sorted) => Ok(sorted.contains_key(&key)),
-    }
+    keys.contains_key(key)
+}
+
+// Whether an element is wanted: that its key is there, or that it is not.
+fn is_wanted<'a>(
+    how: &Matching,
+    other: &[Item<Num>],
+    keys: &IndexMap<ChosenLabels<'a>, ()>,
+    key: &ChosenLabels<'a>,
+    item: &Item<Num>,
+    wanted: bool,
+) -> bool
+    requires keys { AreKeysOf how.now other.now keys.now }
+    requires key { key.now ≡ key_of how.now item.now }
+    ensures { result ≡ matched how.now other.now wanted item.now }
+{
+    let known = has_match(how, other, keys, key, item);
+    if wanted { known } else { !known }
 }
 
 // Elements of their own with the same labels and values.
@@ -94,19 +92,21 @@ fn without_keys(
 }
 
 // The elements whose key is there, or is not there.
-fn by_keys(
+fn by_keys<'a>(
     alloc: Global,
     how: &Matching,
-    side: &[Item<Num>],
-    other: &[Item<Num>],
+    side: &'a [Item<Num>],
+    other: &'a [Item<Num>],
     wanted: bool,
 ) -> Result<Vec<Item<Num>>, AllocError>
     ensures { IfOk result (λ v. v.items ≡ with_match how.now other.now wanted side.now) }
 {
-    let mut keys = keys_of(alloc, how, other)?;
+    let keys = keys_of(alloc, how, other)?;
+    let mut key = ChosenLabels::new(alloc);
     let mut chosen = Vec::new(alloc);
     for item in side {
-        if has_match(alloc, how, other, &mut keys, item)? == wanted {
+        choose_key(&mut key, how, item)?;
+        if is_wanted(how, other, &keys, &key, item, wanted) {
             chosen.push(item.copy(alloc)?)?;
         }
     }

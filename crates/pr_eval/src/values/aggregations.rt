@@ -6,7 +6,7 @@ ghost use Rattle.pr_labels.specs.declared.item.Item.{Item};
 ghost use Rattle.pr_num.specs.declared.value.Num.{Num};
 ghost use Rattle.pr_num.specs.declared.value.TooWide.{TooWide};
 ghost use Rattle.pr_num.specs.Arithmetic.{too_wide};
-ghost use Rattle.pr_agg.specs.declared.fault.AggFault.TheVariants as fault;
+ghost use Rattle.pr_join.specs.pr_agg.declared.fault.AggFault.TheVariants as fault;
 ghost use Rattle.pr_ast.specs.Tree.{Tree};
 ghost use Rattle.pr_range.specs.spec_vectors.Aggregation.{of_groups, always, count_of_values, counted, first_of_parts, greatest_first, greatest_of_values, least_first, least_of_values, mean_of_values, one_of_values, quantile_of_values, sum_of_values};
 ghost use Rattle.pr_range.specs.spec_vectors.private.Laws.{IsVector};
@@ -20,8 +20,10 @@ ghost use Rattle.pr_eval.specs.private.Plain.{all_plain};
 use crate::values::arguments::{elements_given, number_given};
 use crate::values::error::EvalError;
 use crate::values::vectors::vector;
-use pr_agg::{AggFault, avg, bottomk, count, count_values, group, max, min, quantile, sum, topk};
 use pr_ast::{AggOp, Place};
+use pr_join::agg::{
+    AggFault, avg, bottomk, count, count_values, group, max, min, quantile, sum, topk,
+};
 use pr_labels::{Grouping, Item};
 use pr_num::Num;
 use spec_meaning::{FaultKind, Value};

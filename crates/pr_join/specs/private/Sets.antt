@@ -1,23 +1,17 @@
 -- The keys of a side, and the elements that have one of them.
-use Rattle.std.specs.Prelude.{Bool, true, false, not, List, filter}
-use Rattle.std.specs.BTreeMap.{BTreeMap}
+use Rattle.std.specs.Prelude.{◌≡◌, Bool, true, false, not, List, filter, is_some}
+use Rattle.std.specs.List.{list_any}
+use Rattle.indexmap.specs.IndexMap.{IndexMap, get}
 use Rattle.spec_vectors.specs.pr_num.declared.value.Num.{Num}
 use Rattle.spec_vectors.specs.pr_labels.declared.pair.Pair.{Pair}
 use Rattle.spec_vectors.specs.pr_labels.declared.item.Item.{Item}
 use Rattle.spec_vectors.specs.pr_labels.declared.matching.Matching.{Matching}
-use Rattle.spec_vectors.specs.Matching.{key_of, is_matched}
-use Rattle.pr_join.specs.declared.sets.SideKeys.{SideKeys}
-use Rattle.pr_join.specs.declared.sets.SideKeys.TheVariants.{Rising, Sorted}
-use Rattle.pr_join.specs.private.Keys.{HasKeys}
-use Rattle.pr_join.specs.private.Rising.{AreRisingKeys}
+use Rattle.spec_vectors.specs.pr_labels.Order.{labels_eq}
+use Rattle.spec_vectors.specs.Matching.{has_key, is_matched}
 
-pub record IsKeySetOf (how : Matching) (side : List (Item Num)) (keys : BTreeMap (List Pair) (Unit {0})) : Type 0 where
-  pub has : HasKeys (key_of how) side keys.entries
-
--- the same where they may stand in a list
-abbrev pub AreKeysOf : Matching → List (Item Num) → SideKeys → Type 0
-AreKeysOf how side (Rising rising) = AreRisingKeys how side rising.keys.items
-AreKeysOf how side (Sorted sorted) = IsKeySetOf how side sorted
+-- a key is there exactly where an element has it
+pub record AreKeysOf {S : Type 0} (how : Matching) (side : List (Item Num)) (keys : IndexMap (List Pair) (Unit {0}) S) : Type 0 where
+  pub has : (key : List Pair) → is_some (get labels_eq keys key) ≡ list_any (has_key how key) side
 
 -- whether it is wanted that an element has a match
 abbrev pub matched : Matching → List (Item Num) → Bool → Item Num → Bool

@@ -23,7 +23,7 @@ loop-item-preserved c =
     let within : i < length vector = omega arith in
     let more : take (i + 1) vector ≡ take i vector ++ x ∷ [] = take_more vector i x within ∙ ap (λ (y : Item Num). take i vector ++ y ∷ []) (sym c.item-item.is) in
     rw more (grouped_more alone one_after_other (group_of c.args.by.now) (take i vector) x m n (with_next alone one_after_other (get labels_eq m (group_of c.args.by.now x)) x.value) refl
-    (subst (λ (k : List Pair). Updates labels_eq m n k (Some (with_next alone one_after_other (get labels_eq m k) x.value))) c.in_ok-choose.ensures c.in_ok-add_value.ensures.updates)
+    (subst (λ (k : List Pair). Updates labels_eq m n k (Some (with_next alone one_after_other (get labels_eq m k) x.value))) c.in_ok-choose_group.ensures c.in_ok-add_value.ensures.updates)
     c.in_ok-add_value.ensures.unique c.loop-item.invariant)
 
 pub returns : goal.returns

@@ -18,8 +18,8 @@ add_value-requires-clause-light g c =
     let i = c.loop-item.item-index in
     let small : i + 1 < 2 ^ 64 = omega arith in
     let short : length (take i vector) ≤ i = omega (arith, length-take i vector) in
-    light g.M.Fold.weight (get labels_eq c.loop-item.parts c.choose.new.self) (length (take i vector)) i short small
-    (part_weight g.M.Fold.lift g.M.Fold.combine g.M.Fold.weight g.M.Fold.lifted g.M.Fold.combined (group_of c.args.by.now) (take i vector) c.loop-item.parts c.choose.new.self c.loop-item.invariant)
+    light g.M.Fold.weight (get labels_eq c.loop-item.parts c.choose_group.new.group) (length (take i vector)) i short small
+    (part_weight g.M.Fold.lift g.M.Fold.combine g.M.Fold.weight g.M.Fold.lifted g.M.Fold.combined (group_of c.args.by.now) (take i vector) c.loop-item.parts c.choose_group.new.group c.loop-item.invariant)
 
 pub loop-item-preserved : goal.loop-item-preserved
 loop-item-preserved g c =
@@ -33,7 +33,7 @@ loop-item-preserved g c =
     let within : i < length vector = omega arith in
     let more : take (i + 1) vector ≡ take i vector ++ x ∷ [] = take_more vector i x within ∙ ap (λ (y : Item Num). take i vector ++ y ∷ []) (sym c.item-item.is) in
     rw more (grouped_more lift combine (group_of c.args.by.now) (take i vector) x m n (with_next lift combine (get labels_eq m (group_of c.args.by.now x)) x.value) refl
-    (subst (λ (k : List Pair). Updates labels_eq m n k (Some (with_next lift combine (get labels_eq m k) x.value))) c.in_ok-choose.ensures c.in_ok-add_value.ensures.updates)
+    (subst (λ (k : List Pair). Updates labels_eq m n k (Some (with_next lift combine (get labels_eq m k) x.value))) c.in_ok-choose_group.ensures c.in_ok-add_value.ensures.updates)
     c.in_ok-add_value.ensures.unique c.loop-item.invariant)
 
 pub returns : goal.returns

@@ -9,7 +9,6 @@ use Rattle.pr_join.proofs.joins.join_all.Goals as goal
 
 pub loop-many-preserved : goal.loop-many-preserved
 loop-many-preserved g c = record {
-  places = c.join_one.ensures.places;
   room = c.in_default.ensures.room;
   taken = λ f a.
       let how = c.args.how.now in
@@ -25,7 +24,6 @@ loop-many-preserved g c = record {
 
 pub loop-many-init : goal.loop-many-init
 loop-many-init g c = record {
-  places = c.requires.places;
   room = c.in_ok-rows.ensures.room;
   taken = λ f a. record { faultless = refl; holds = c.in_ok-rows.ensures.kept c.args.how.now };
 }
