@@ -47,7 +47,7 @@ pub record Turn : Type 0 where
 
 -- Files
 
--- what a name holds
+-- what a name holds, in the words of a reload
 abbrev pub holding_of : loading.Holding → Holding
 holding_of (loading.holds bytes) = holds bytes
 holding_of loading.is_missing = is_missing

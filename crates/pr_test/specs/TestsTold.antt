@@ -29,9 +29,7 @@ tests_in name is_missing = no_tests (name ++ missing)
 tests_in name is_too_large = no_tests (name ++ too_large)
 tests_in name (holds bytes) = tests_by name (test_file_of bytes)
 
--- The rule files
-
--- Both
+-- The test file and its rule files
 
 -- No test is run where something is wrong with a rule file.
 abbrev pub lines_by : PlainFile → List LoadedFile → List ℕ → List ℕ

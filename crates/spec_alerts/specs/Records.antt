@@ -61,6 +61,7 @@ held_since c = missing_since (with_end (first_sight c.after) c.last)
 abbrev pub active_since : Course → ℕ
 active_since c = unwrap_or (option_or (last_moved (c.after ++ c.last)) (first_time c.last)) 0
 
+-- by its last element and its state; there is no alert that has neither
 abbrev pub alert_by : List Pair → Course → Option ℕ → Option RuleElement → Option State → Option Record
 alert_by labels c sent (Some f) (Some state) = Some (record {
   labels = labels;
@@ -106,7 +107,8 @@ abbrev pub sent_earlier : Sight → List Sight → Option ℕ → Option ℕ
 sent_earlier s [] sent = cond (is_found s) None sent
 sent_earlier s (e ∷ es) sent = sent
 
--- when the last episode was last sent, up to the newest sight; and before that sight
+-- When the last episode was last sent, up to the newest sight, and before that sight. Whether an
+-- alert is due does not depend on its labels, so that none stand here.
 abbrev pub sent_at : List Sight → Option ℕ
 sent_at [] = None
 sent_at (s ∷ earlier) =
@@ -139,6 +141,7 @@ unsent_records lineage = records_by unsent_alert (counted lineage)
 
 -- Limits
 
+-- a pending or firing alert is living; a resolved one is not
 abbrev pub is_living_state : State → Bool
 is_living_state Pending = true
 is_living_state Firing = true
@@ -150,6 +153,7 @@ is_living r = is_living_state r.state
 abbrev pub living_count : List Record → ℕ
 living_count rs = length (filter is_living rs)
 
+-- an evaluation as what happened to a rule
 abbrev pub evaluation : ℕ → ℕ → ℕ → EvaluationOutcome → List (List Pair) → Occurrence
 evaluation time hold keep outcome wrote =
     seen (record { time = time; hold = hold; keep = keep; outcome = outcome; wrote = wrote })

@@ -6,7 +6,9 @@ use Rattle.spec_rules.specs.declared.definitions.RuleDef.{RuleDef}
 use Rattle.spec_rules.specs.declared.definitions.GroupDef.{GroupDef}
 use Rattle.pr_tmpl.specs.TemplateReading.{template_parts}
 
--- A rule, with the tree of its expression.
+-- A rule, with the tree of its expression: what it records, or the alert that it is; for how long an
+-- alert has to be active before it fires (`hold`), and is kept firing after it went missing (`keep`),
+-- in milliseconds; and the annotations of an alert (`notes`).
 pub record Rule : Type 0 where
   pub name : List ℕ
   pub alert : Bool

@@ -86,26 +86,22 @@ pub record RuleStep : Type 0 where
 
 -- The samples come first. Those that the series then show are written; a marker follows for each
 -- series that was written last time, and now is not.
-abbrev pub written_step : ℕ → RuleState → ℕ → List RuleElement → List Entry → List (Item Num) → List Entry → List Entry → List (List Pair) → RuleStep
-written_step interval r now founds history items puts gone wrote = record {
-  entries = puts ++ gone;
-  report = record {
-    outcome = Fine;
-    samples = map put_of (zip items (admissions history puts));
-    stale = label_sets_of (admitted (put_all history puts) gone);
-    sent = sent_by r.rule.alert interval (evaluated r now (came_to founds) wrote);
-  };
-  lineage = evaluated r now (came_to founds) wrote;
-}
-
-abbrev pub marked_step : ℕ → RuleState → ℕ → List RuleElement → List Entry → List (Item Num) → List Entry → List (List Pair) → RuleStep
-marked_step interval r now founds history items puts wrote = written_step interval r now founds history items puts (markers now (previous r.lineage) wrote) wrote
-
-abbrev pub put_samples : ℕ → RuleState → ℕ → List RuleElement → List Entry → List (Item Num) → List Entry → RuleStep
-put_samples interval r now founds history items puts = marked_step interval r now founds history items puts (label_sets_of (shown_entries history puts))
-
 abbrev pub fine_step : Group → RuleState → ℕ → List RuleElement → List Entry → List (Item Num) → RuleStep
-fine_step g r now founds history items = put_samples (interval_of g) r now founds history items (map (sample_entry now) items)
+fine_step g r now founds history items =
+    let puts = map (sample_entry now) items in
+    let wrote = label_sets_of (shown_entries history puts) in
+    let gone = markers now (previous r.lineage) wrote in
+    let lineage = evaluated r now (came_to founds) wrote in
+    record {
+      entries = puts ++ gone;
+      report = record {
+        outcome = Fine;
+        samples = map put_of (zip items (admissions history puts));
+        stale = label_sets_of (admitted (put_all history puts) gone);
+        sent = sent_by r.rule.alert (interval_of g) lineage;
+      };
+      lineage = lineage;
+    }
 
 -- A fault puts nothing, marks nothing and sends nothing, and keeps what was written before.
 abbrev pub failed_step : RuleState → ℕ → RuleFailure → RuleStep

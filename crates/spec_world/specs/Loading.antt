@@ -13,7 +13,7 @@ use Rattle.spec_world.specs.Rounds.{groups_by}
 use Rattle.spec_world.specs.Step.{Step, outcome_in_time, step_by}
 use Rattle.spec_world.specs.World.{World}
 
--- a file that is with_bytes, and the name by which its groups are to be known
+-- a file that is to be loaded, and the name by which its groups are to be known
 pub record FileToLoad : Type 0 where
   pub name : List ℕ
   pub file : List ℕ

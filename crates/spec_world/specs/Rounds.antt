@@ -63,6 +63,7 @@ all_loaded [] = Ok []
 all_loaded (f ∷ files) =
     go_on (λ groups. go_on (λ rest. Ok (with_groups f groups ∷ rest)) (all_loaded files)) (groups_by f.name (rule_file_of f.bytes))
 
+-- a reload whose files are all rule files
 abbrev pub reload_accepted : World → ReloadStep → EventOutcome
 reload_accepted w step =
     accept (report.Reloaded (length step.groups) (rules_in step.groups) (added_count w.history step.entries))
