@@ -10,6 +10,7 @@ pub mod Making
 pub mod InOrder
 pub mod Remembering
 pub mod SettingAtOnce
+mod AlertsShared
 mod Courses
 mod FoundAlerts
 mod Limits

@@ -1,18 +1,17 @@
 -- What templates expand to is what the texts come to of which they are the templates.
-use Rattle.std.specs.Prelude.{codes}
 use Rattle.std.proofs.Common.{◌≡◌, ℕ, ◌+◌, ◌<◌, List, [], ◌∷◌, ◌++◌, length, get_or, take, Option, refl, sym, ap, ◌∙◌, subst}
 use Rattle.std.proofs.lemmas.List.{take_more}
 use Rattle.pr_ast.specs.pr_num.declared.value.Num.{Num}
 use Rattle.pr_labels.specs.declared.item.Item.{Item}
 use Rattle.pr_labels.specs.declared.pair.Pair.{Pair}
-use Rattle.pr_labels.specs.Edits.{set_label, union_labels, without_name}
-use Rattle.pr_labels.specs.LabelSet.{metric_label, pair_of}
+use Rattle.pr_labels.specs.LabelSet.{pair_of}
 use Rattle.spec_rules.specs.pr_tmpl.declared.template.External.{External}
 use Rattle.spec_rules.specs.pr_tmpl.declared.template.Part.{Part}
 use Rattle.spec_rules.specs.pr_tmpl.Expansion.{expansion}
 use Rattle.spec_rules.specs.Definitions.{Rule}
 use Rattle.spec_rules.specs.Results.{alerting_labels, all_expanded, expanded_by, expanded_pair}
 use Rattle.pr_rule.specs.declared.rule_result.templates.NamedTemplate.{NamedTemplate}
+use Rattle.pr_rule.specs.private.Making.{alert_made}
 use Rattle.pr_rule.specs.private.Templates.{AreTemplatesOf, IsTemplateOf, all_expanded_by, expanded_pair_by}
 
 one_expanded : (external : External) (e : Item Num) (t : NamedTemplate) (p : Pair) → IsTemplateOf t p → expanded_pair_by external e t ≡ expanded_pair external e p
@@ -26,13 +25,9 @@ expanded_so external e [] (p ∷ ps) h = absurd h
 expanded_so external e (t ∷ ts) [] h = absurd h
 expanded_so external e (t ∷ ts) (p ∷ ps) h = λ i. one_expanded external e t p h.0 i ∷ expanded_so external e ts ps h.1 i
 
--- the labels of an alert, in the order in which they are set
-pub alerting_so : (external : External) (rule : Rule) (e : Item Num) (ts : List NamedTemplate) (copied bare with_own all : List Pair) → copied ≡ e.labels → bare ≡ without_name copied metric_label
-    → with_own ≡ union_labels bare (all_expanded_by external e ts) → all ≡ set_label with_own (codes "alertname") rule.name → AreTemplatesOf ts rule.labels → all ≡ alerting_labels external rule e
-alerting_so external rule e ts copied bare with_own all first second third fourth h =
-    fourth ∙ ap (λ (l : List Pair). set_label l (codes "alertname") rule.name)
-    (third ∙ ap (λ (pairs : List Pair). union_labels bare pairs) (expanded_so external e ts rule.labels h)
-    ∙ ap (λ (l : List Pair). union_labels l (all_expanded external e rule.labels)) (second ∙ ap (λ (l : List Pair). without_name l metric_label) first))
+-- the labels of an alert, made of what the templates expand to
+pub alerting_so : (external : External) (rule : Rule) (e : Item Num) (ts : List NamedTemplate) → AreTemplatesOf ts rule.labels → alert_made rule.name (all_expanded_by external e ts) e.labels ≡ alerting_labels external rule e
+alerting_so external rule e ts h = ap (λ (pairs : List Pair). alert_made rule.name pairs e.labels) (expanded_so external e ts rule.labels h)
 
 -- one more of each
 one_more : (ts : List NamedTemplate) (ps : List Pair) (t : NamedTemplate) (p : Pair) → AreTemplatesOf ts ps → IsTemplateOf t p → AreTemplatesOf (ts ++ t ∷ []) (ps ++ p ∷ [])

@@ -1,4 +1,5 @@
 pub mod AlertStanding
+pub mod AlertsWritten
 pub mod Coming
 pub mod Going
 pub mod Making

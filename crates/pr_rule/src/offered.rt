@@ -61,8 +61,9 @@ fn recorded(alloc: Global, founds: Vec<RuleElement>) -> Result<Offered, AllocErr
 }
 
 // What is written of alerts: nothing, while their group waits.
-fn alert_samples(at: &Evaluation<'_>, records: &Records) -> Result<Items<Item<Num>>, AllocError>
-    ensures { (founds : List RuleElement) → IfOk result (λ v. v ≡ rule_samples_by true at.now.waits founds records.now) }
+fn alert_samples(at: &Evaluation<'_>, records: &mut Records) -> Result<Items<Item<Num>>, AllocError>
+    ensures samples { (founds : List RuleElement) → IfOk result (λ v. v ≡ rule_samples_by true at.now.waits founds records.old) }
+    ensures same { records.new ≡ records.old }
 {
     if at.waits {
         return Ok(Items::empty(at.alloc));

@@ -47,7 +47,7 @@ pub struct Remembered<R> {
     pub records: Records,
     /// What its range selectors keep.
     pub ranges: R,
-    // The labels of its last result, where it records: they are shared with the next one.
+    // The labels of its last result: they are shared with the next one.
     made: MadeLabels,
 }
 

@@ -1,8 +1,10 @@
--- What is remembered of the labels under which a rule recorded the elements of its last result.
-use Rattle.std.specs.Prelude.{◌≡◌, ℕ, Bool, true, false, List, [], All, map}
+-- What is remembered of the labels that a rule made of those of the elements of its last result.
+use Rattle.std.specs.Prelude.{◌≡◌, ℕ, Bool, true, false, List, [], All, codes, map}
 use Rattle.pr_ast.specs.pr_num.declared.value.Num.{Num}
 use Rattle.pr_labels.specs.declared.item.Item.{Item}
 use Rattle.pr_labels.specs.declared.pair.Pair.{Pair}
+use Rattle.pr_labels.specs.Edits.{set_label, union_labels, without_name}
+use Rattle.pr_labels.specs.LabelSet.{metric_label}
 use Rattle.pr_labels.specs.Rising.{IsRising}
 use Rattle.spec_rules.specs.spec_alerts.declared.found.RuleElement.{RuleElement}
 use Rattle.spec_rules.specs.Definitions.{Rule}
@@ -23,9 +25,15 @@ pub record IsRemembered (name : List ℕ) (labels : List Pair) (all : List Made)
   pub made : AreMade name labels all
   pub rise : rises ≡ true → IsRising (sets_made all)
 
--- What is remembered is of this rule, where it is one that records. Of an alert nothing is said.
+-- What is remembered is of this rule, where it is one that records. Of an alert nothing is said: its
+-- labels stand with all that they were made of.
 abbrev pub IsOfRule : List ℕ × List Pair → Rule → Type 0
 IsOfRule made rule = rule.alert ≡ false → made ≡ (rule.name, rule.labels)
+
+-- The labels of an alert of a rule of this name: what the templates of its labels come to wins over
+-- the labels of the element.
+abbrev pub alert_made : List ℕ → List Pair → List Pair → List Pair
+alert_made name over from = set_label (union_labels (without_name from metric_label) over) (codes "alertname") name
 
 -- what a rule of this name and with these labels records of an element
 abbrev pub recorded_under : List ℕ → List Pair → Item Num → RuleElement

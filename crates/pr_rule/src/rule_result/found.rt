@@ -35,19 +35,23 @@ fn recorded(
     })
 }
 
-// The alert that it is.
+// The alert that the element at a place is, by what is remembered of its labels.
 #[tactic(auto, using(crate::proofs::Templated::expanded_so))]
 fn alerting(
     alloc: Global,
     external: &External,
     rule: &RuleDef,
     templates: &RuleTemplates,
+    made: &mut MadeLabels,
+    place: usize,
     item: &Item<Num>,
 ) -> Result<RuleElement, AllocError>
-    ensures { rule.now.alert ≡ true → IsTemplatesOf templates.now (rule_of_def rule.now)
+    ensures found { rule.now.alert ≡ true → IsTemplatesOf templates.now (rule_of_def rule.now)
         → IfOk result (λ f. f ≡ found_by external.now (rule_of_def rule.now) true item.now) }
+    ensures stays { made.new ≡ made.old }
 {
-    let labels = alerting_labels(alloc, external, rule, templates.labels.as_slice(), item)?;
+    let named = templates.labels.as_slice();
+    let labels = alerting_labels(alloc, external, rule, named, made, place, item)?;
     let notes = expanded_pairs(alloc, external, templates.notes.as_slice(), item)?;
     Ok(RuleElement {
         labels,
@@ -71,7 +75,7 @@ pub(crate) fn found_of(
     ensures stays { made.new ≡ made.old }
 {
     if rule.alert {
-        alerting(alloc, external, rule, templates, item)
+        alerting(alloc, external, rule, templates, made, place, item)
     } else {
         recorded(alloc, made, place, item)
     }

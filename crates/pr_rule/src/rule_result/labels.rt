@@ -3,8 +3,10 @@ ghost use Rattle.std.specs.Prelude.{◌≡◌, IfOk};
 ghost use Rattle.spec_rules.specs.pr_tmpl.Expansion.{expansion};
 ghost use Rattle.spec_rules.specs.Definitions.{rule_of_def};
 ghost use Rattle.spec_rules.specs.Results.{alerting_labels, made_labels};
+ghost use Rattle.pr_rule.specs.private.Making.{alert_made};
 ghost use Rattle.pr_rule.specs.private.Templates.{AreTemplatesOf, all_expanded_by, expanded_pair_by};
 
+use crate::rule_result::made::MadeLabels;
 use crate::rule_result::setting::set_all;
 use crate::rule_result::templates::NamedTemplate;
 use pr_ast::num::Num;
@@ -75,20 +77,37 @@ pub(crate) fn expanded_pairs(
     Ok(pairs)
 }
 
-/// The labels of the alert that an element is.
+/// The labels of an alert of a rule of this name, made of those of its element and of what the
+/// templates of the rule's labels come to.
+pub(crate) fn alert_made(
+    alloc: Global,
+    name: &str,
+    over: &[Pair],
+    from: &Labels,
+) -> Result<Labels, AllocError>
+    ensures { IfOk result (λ l. l ≡ alert_made name.now over.now from.now) }
+{
+    let mut labels = from.copy(alloc)?;
+    labels.remove(alloc, METRIC_LABEL)?;
+    set_all(alloc, &mut labels, over)?;
+    labels.assign(alloc, ALERT_LABEL, name)?;
+    Ok(labels)
+}
+
+/// The labels of the alert that the element at a place is. They are those of the last result, where
+/// they were made of the same.
 pub(crate) fn alerting_labels(
     alloc: Global,
     external: &External,
     rule: &RuleDef,
     templates: &[NamedTemplate],
+    made: &mut MadeLabels,
+    place: usize,
     item: &Item<Num>,
 ) -> Result<Labels, AllocError>
-    ensures { AreTemplatesOf templates.now rule.now.labels → IfOk result (λ l. l ≡ alerting_labels external.now (rule_of_def rule.now) item.now) }
+    ensures labels { AreTemplatesOf templates.now rule.now.labels → IfOk result (λ l. l ≡ alerting_labels external.now (rule_of_def rule.now) item.now) }
+    ensures stays { made.new ≡ made.old }
 {
     let over = expanded_pairs(alloc, external, templates, item)?;
-    let mut labels = item.labels.copy(alloc)?;
-    labels.remove(alloc, METRIC_LABEL)?;
-    set_all(alloc, &mut labels, over.as_slice())?;
-    labels.assign(alloc, ALERT_LABEL, rule.name.as_str())?;
-    Ok(labels)
+    made.alert(alloc, place, &rule.name, over, &item.labels)
 }

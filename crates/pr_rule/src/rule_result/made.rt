@@ -1,11 +1,12 @@
-// What a rule that records remembers of its last result.
+// What a rule remembers of its last result.
 ghost use Rattle.std.specs.Prelude.{◌≡◌, [], ℕ, true, List, IfOk, IfSome, OnOk, length, map, slice_get, Some};
 ghost use Rattle.pr_labels.specs.declared.pair.Pair.{Pair};
 ghost use Rattle.pr_labels.specs.Rising.{IsRising};
 ghost use Rattle.spec_rules.specs.Definitions.{rule_of_def};
 ghost use Rattle.spec_rules.specs.Results.{made_labels, sets_in};
-ghost use Rattle.pr_rule.specs.private.Making.{AreMade, AreRecorded, IsOfRule, recorded_under, sets_made};
+ghost use Rattle.pr_rule.specs.private.Making.{AreMade, AreRecorded, IsOfRule, alert_made, recorded_under, sets_made};
 
+use crate::rule_result::alert_labels::{AlertLabels, known_alert};
 use crate::rule_result::labels::made_labels;
 use pr_ast::num::Num;
 use pr_labels::words_crate::{Items, Text};
@@ -22,11 +23,12 @@ struct Made {
     to: Labels,
 }
 
-/// What a rule that records remembers of its last result: for each place the labels of the element
-/// and those under which it was recorded, so that these are shared where an element with the same
-/// labels comes to the place again; and whether those under which they were recorded rise, so that
-/// what is recorded of the same elements need not be put in order. Contracts see the name and the
-/// labels of the rule: what is remembered only saves work, and no clause counts it.
+/// What a rule remembers of its last result. One that records: for each place the labels of the
+/// element and those under which it was recorded, so that these are shared where an element with the
+/// same labels comes to the place again; and whether those under which they were recorded rise, so
+/// that what is recorded of the same elements need not be put in order. One that alerts: for each
+/// place the labels of the alert. Contracts see the name and the labels of a rule that records: what
+/// is remembered only saves work, and no clause counts it.
 #[derive(Drop)]
 pub struct MadeLabels {
     name: Text,
@@ -34,6 +36,8 @@ pub struct MadeLabels {
     made: Vec<Made>,
     // Whether the label sets that were made are known to rise in the order of their places.
     rises: bool,
+    // The labels of the alert at each place, where the rule is one.
+    alerts: Vec<AlertLabels>,
 }
 
 impl Model for MadeLabels {
@@ -131,6 +135,7 @@ impl MadeLabels {
             labels: Items::empty(alloc),
             made: Vec::new(alloc),
             rises: true,
+            alerts: Vec::new(alloc),
         }
     }
 
@@ -143,6 +148,7 @@ impl MadeLabels {
             labels: Items::new(copy_pairs(alloc, rule.labels.as_slice())?),
             made: Vec::new(alloc),
             rises: true,
+            alerts: Vec::new(alloc),
         })
     }
 
@@ -153,8 +159,8 @@ impl MadeLabels {
         self.name == rule.name && self.labels.as_slice() == rule.labels.as_slice()
     }
 
-    /// Forgets what is remembered of another rule. An alert leaves it alone, since its labels come
-    /// of templates.
+    /// Forgets what is remembered of another rule that records. An alert leaves it alone: its labels
+    /// stand with all that they were made of.
     pub(crate) fn fit(&mut self, alloc: Global, rule: &RuleDef) -> Result<(), AllocError>
         ensures { OnOk result (IsOfRule self.new (rule_of_def rule.now)) }
     {
@@ -200,6 +206,48 @@ impl MadeLabels {
         }
     }
 
+    // Makes the labels of the alert at a place, and remembers them.
+    fn make_alert(
+        &mut self,
+        alloc: Global,
+        place: usize,
+        name: &Text,
+        over: Items<Pair>,
+        from: &Labels,
+    ) -> Result<Labels, AllocError>
+        ensures made { IfOk result (λ to. to ≡ alert_made name.now over from.now) }
+        ensures stays { self.new ≡ self.old }
+    {
+        let one = AlertLabels::new(alloc, name, over, from)?;
+        let to = one.labels().copy(alloc)?;
+        if place < self.alerts.len() {
+            self.alerts[place] = one;
+        } else {
+            self.alerts.push(one)?;
+        }
+        Ok(to)
+    }
+
+    /// The labels of the alert at a place, of a rule of this name, made of what the templates of its
+    /// labels come to and of the labels of the element. They are those of the last result, where
+    /// they were made of the same.
+    pub(crate) fn alert(
+        &mut self,
+        alloc: Global,
+        place: usize,
+        name: &Text,
+        over: Items<Pair>,
+        from: &Labels,
+    ) -> Result<Labels, AllocError>
+        ensures made { IfOk result (λ to. to ≡ alert_made name.now over from.now) }
+        ensures stays { self.new ≡ self.old }
+    {
+        match known_alert(&self.alerts, place, name, over.as_slice(), from) {
+            Some(to) => to.copy(alloc),
+            None => self.make_alert(alloc, place, name, over, from),
+        }
+    }
+
     /// What the rule records of elements, in label order: where each of them has the labels that
     /// are remembered at its place, no others are remembered, and what was made of them rises.
     pub(crate) fn all_recorded(
@@ -216,12 +264,13 @@ impl MadeLabels {
         }
     }
 
-    /// Forgets the elements behind so many places, and looks whether what was made of the others
+    /// Forgets the elements behind so many places, and looks whether what was recorded of the others
     /// rises. That only saves work later: no clause counts what is remembered.
     pub(crate) fn truncate(&mut self, places: usize)
         ensures { self.new ≡ self.old }
     {
         self.made.truncate(places);
+        self.alerts.truncate(places);
         self.rises = rise(&self.made);
     }
 }

@@ -1,5 +1,6 @@
 //! What the answer of a rule's expression comes to: labels, annotations and values in label order,
 //! or a fault.
+mod alert_labels;
 mod comes;
 mod error;
 mod found;
