@@ -1,4 +1,5 @@
 pub mod Keeping
+pub mod Known
 pub mod LineReading
 pub mod Plain
 pub mod Reading

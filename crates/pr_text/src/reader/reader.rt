@@ -9,7 +9,9 @@ ghost use Rattle.pr_text.specs.private.Plain.{IsPlain};
 ghost use Rattle.pr_text.specs.private.Reading.{unread, IsReady, HandsOrder, FinishesOrder, TakesBody, EndsBody, Advances, IsCutBody, IsCutAt};
 
 use crate::reader::lines::{LineReader, without_feed};
-use crate::script::{Numbered, Order, Started, is_passed_over, push_body_line, read_order};
+use crate::script::{
+    KnownSeries, Numbered, Order, Started, begin_order, is_passed_over, push_body_line,
+};
 use pr_outside::Source;
 use pr_outside::status::Stop;
 use pr_words::Items;
@@ -24,13 +26,14 @@ fn bytes_of(body: String) -> Items<u8>
     Items::new(body.into_bytes())
 }
 
-/// The lines of the input; the line that was read ahead, or none; and how many lines were handed
-/// out.
+/// The lines of the input; the line that was read ahead, or none; how many lines were handed out;
+/// and the series texts that were read, which come again.
 #[derive(Drop)]
 pub struct Reader {
     lines: LineReader,
     waiting: Vec<u8>,
     number: u64,
+    known: KnownSeries,
 }
 
 impl Reader {
@@ -46,6 +49,7 @@ impl Reader {
             lines: LineReader::new(alloc),
             waiting: Vec::new(alloc),
             number: 0,
+            known: KnownSeries::new(alloc),
         }
     }
 
@@ -120,7 +124,7 @@ impl Reader {
         ensures ends { ReadEnds (IsBeyond (I.means input.old) (I.means input.new) self.old.lines.count) (I.means input.old) (I.means input.new) result }
     {
         let number = self.number;
-        match read_order(alloc, line)? {
+        match begin_order(alloc, &mut self.known, line)? {
             Started::Whole { order } => Ok(Numbered { number, order }),
             Started::Scrape { time, target } => {
                 let body = bytes_of(self.read_body(alloc, input)?);

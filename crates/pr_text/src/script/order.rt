@@ -4,6 +4,7 @@ ghost use Rattle.pr_text.specs.Orders.{event_order, whole_order};
 ghost use Rattle.pr_text.specs.private.Started.{Starts};
 
 use super::file_names::FilesToLoad;
+use super::known::KnownSeries;
 use super::naming::{flush_in, receiver_in};
 use super::reloads::reload_in;
 use super::script::{Occasion, occasion_of, whole_event};
@@ -55,7 +56,12 @@ fn event_order(event: Option<Event>) -> Order
 }
 
 // The order that a word and what stands after it spell, where it is none that takes a body.
-fn whole_order(alloc: Global, word: &[u8], text: &[u8]) -> Result<Order, AllocError>
+fn whole_order(
+    alloc: Global,
+    known: &mut KnownSeries,
+    word: &[u8],
+    text: &[u8],
+) -> Result<Order, AllocError>
     ensures { IfOk result (λ order. order ≡ whole_order word.now text.now) }
 {
     if word == b"reload".as_slice() {
@@ -65,23 +71,34 @@ fn whole_order(alloc: Global, word: &[u8], text: &[u8]) -> Result<Order, AllocEr
     } else if word == b"flush".as_slice() {
         flush_in(alloc, text)
     } else {
-        Ok(event_order(whole_event(alloc, word, text)?))
+        Ok(event_order(whole_event(alloc, known, word, text)?))
     }
 }
 
-/// Reads the order of a line, without its line feed, that is not passed over. Want of memory alone
-/// is an error.
+/// Reads the order of a line, by what is known of series texts. The rest is as in `read_order`.
 #[tactic(auto, unfolding(crate::specs::Script::takes_body))]
-pub fn read_order(alloc: Global, line: &[u8]) -> Result<Started, AllocError>
+pub(crate) fn begin_order(
+    alloc: Global,
+    known: &mut KnownSeries,
+    line: &[u8],
+) -> Result<Started, AllocError>
     ensures { IfOk result (Starts line.now) }
 {
     let (word, text) = split_first(without_trailing(line));
     if word == b"scrape".as_slice() {
-        return match occasion_of(alloc, text)? {
+        return match occasion_of(alloc, known, text)? {
             Some(Occasion { time, target }) => Ok(Started::Scrape { time, target }),
             None => Ok(Started::Whole { order: Order::Bad }),
         };
     }
-    let order = whole_order(alloc, word, text)?;
+    let order = whole_order(alloc, known, word, text)?;
     Ok(Started::Whole { order })
+}
+
+/// Reads the order of a line, without its line feed, that is not passed over. Want of memory alone
+/// is an error.
+pub fn read_order(alloc: Global, line: &[u8]) -> Result<Started, AllocError>
+    ensures { IfOk result (Starts line.now) }
+{
+    begin_order(alloc, &mut KnownSeries::new(alloc), line)
 }

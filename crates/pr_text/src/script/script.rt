@@ -1,13 +1,12 @@
 // The lines of a script, and the events that they spell.
 ghost use Rattle.std.specs.Prelude.{◌≡◌, ◌++◌, IfOk, OnErr, MatchOption, codes, string_bytes, true, false};
 ghost use Rattle.std.specs.Str.{bytes_eq, is_utf8};
-ghost use Rattle.spec_world.specs.pr_labels.SeriesReading.{series_labels};
 ghost use Rattle.pr_text.specs.Script.{is_comment_line, is_passed_over, written_time, series_of, some_text, add_of, query_of, add_in, query_in, target_by, target_of, occasion_of, eval_in, restart_in, alerts_in, fail_in, gone_in, group_event, whole_event, is_body_line, body_text};
 
+use super::known::KnownSeries;
 use pr_words::{Text, plain_decimal, split_first, split_last, without_trailing};
 use spec_world::Event;
 use spec_world::history::row::read_point;
-use spec_world::labels::series::{TextFault, read_series_text};
 use spec_world::labels::{Labels, METRIC_LABEL};
 use spec_world::time::Ms;
 use std::alloc::{AllocError, Global};
@@ -42,23 +41,16 @@ pub(crate) fn written_time(text: &[u8]) -> Option<Ms>
     Ms::new(plain_decimal(text, 1 << 42)?)
 }
 
-// The label set of a series text.
-fn labels_read(alloc: Global, text: &str) -> Result<Option<Labels>, AllocError>
-    ensures { IfOk result (λ o. o ≡ series_labels text.now) }
-{
-    match read_series_text(alloc, text) {
-        Ok(labels) => Ok(Some(labels)),
-        Err(TextFault::BadLabels { .. }) => Ok(None),
-        Err(TextFault::Memory) => Err(AllocError),
-    }
-}
-
 #[tactic(auto, using(crate::proofs::Utf8::text_series, crate::proofs::Utf8::no_text_series))]
-fn series_of(alloc: Global, text: &[u8]) -> Result<Option<Labels>, AllocError>
+fn series_of(
+    alloc: Global,
+    known: &mut KnownSeries,
+    text: &[u8],
+) -> Result<Option<Labels>, AllocError>
     ensures { IfOk result (λ o. o ≡ series_of text.now) }
 {
     match str::from_utf8(text) {
-        Ok(text) => labels_read(alloc, text),
+        Ok(text) => known.labels_of(alloc, text),
         Err(_) => Ok(None),
     }
 }
@@ -77,7 +69,7 @@ pub(crate) fn some_text(alloc: Global, text: &[u8]) -> Result<Option<Text>, Allo
     }
 }
 
-fn add_in(alloc: Global, text: &[u8]) -> Result<Option<Event>, AllocError>
+fn add_in(alloc: Global, known: &mut KnownSeries, text: &[u8]) -> Result<Option<Event>, AllocError>
     ensures { IfOk result (λ o. o ≡ add_in text.now) }
 {
     let (time, rest) = split_first(text);
@@ -85,11 +77,12 @@ fn add_in(alloc: Global, text: &[u8]) -> Result<Option<Event>, AllocError>
     let Some(time) = written_time(time) else {
         return Ok(None);
     };
-    let Some(labels) = series_of(alloc, series)? else {
+    // The point first: of a line that is refused for it, no series text is remembered.
+    let Some(point) = read_point(value) else {
         return Ok(None);
     };
-    match read_point(value) {
-        Some(point) => Ok(Some(Event::Add {
+    match series_of(alloc, known, series)? {
+        Some(labels) => Ok(Some(Event::Add {
             time,
             labels,
             point,
@@ -153,10 +146,14 @@ fn target_by(labels: Option<Labels>) -> Option<Labels>
     Some(labels)
 }
 
-fn target_of(alloc: Global, text: &[u8]) -> Result<Option<Labels>, AllocError>
+fn target_of(
+    alloc: Global,
+    known: &mut KnownSeries,
+    text: &[u8],
+) -> Result<Option<Labels>, AllocError>
     ensures { IfOk result (λ o. o ≡ target_of text.now) }
 {
-    Ok(target_by(series_of(alloc, text)?))
+    Ok(target_by(series_of(alloc, known, text)?))
 }
 
 // When something happens, and to which target.
@@ -165,32 +162,36 @@ pub(crate) struct Occasion {
     pub(crate) target: Labels,
 }
 
-pub(crate) fn occasion_of(alloc: Global, text: &[u8]) -> Result<Option<Occasion>, AllocError>
+pub(crate) fn occasion_of(
+    alloc: Global,
+    known: &mut KnownSeries,
+    text: &[u8],
+) -> Result<Option<Occasion>, AllocError>
     ensures { IfOk result (λ o. o ≡ occasion_of text.now) }
 {
     let (time, target) = split_first(text);
     let Some(time) = written_time(time) else {
         return Ok(None);
     };
-    match target_of(alloc, target)? {
+    match target_of(alloc, known, target)? {
         Some(target) => Ok(Some(Occasion { time, target })),
         None => Ok(None),
     }
 }
 
-fn fail_in(alloc: Global, text: &[u8]) -> Result<Option<Event>, AllocError>
+fn fail_in(alloc: Global, known: &mut KnownSeries, text: &[u8]) -> Result<Option<Event>, AllocError>
     ensures { IfOk result (λ o. o ≡ fail_in text.now) }
 {
-    match occasion_of(alloc, text)? {
+    match occasion_of(alloc, known, text)? {
         Some(Occasion { time, target }) => Ok(Some(Event::Fail { time, target })),
         None => Ok(None),
     }
 }
 
-fn gone_in(alloc: Global, text: &[u8]) -> Result<Option<Event>, AllocError>
+fn gone_in(alloc: Global, known: &mut KnownSeries, text: &[u8]) -> Result<Option<Event>, AllocError>
     ensures { IfOk result (λ o. o ≡ gone_in text.now) }
 {
-    match occasion_of(alloc, text)? {
+    match occasion_of(alloc, known, text)? {
         Some(Occasion { time, target }) => Ok(Some(Event::Gone { time, target })),
         None => Ok(None),
     }
@@ -214,19 +215,20 @@ fn group_event(alloc: Global, word: &[u8], text: &[u8]) -> Result<Option<Event>,
 /// The event that a word and what stands after it spell, where it is none that takes a body.
 pub(crate) fn whole_event(
     alloc: Global,
+    known: &mut KnownSeries,
     word: &[u8],
     text: &[u8],
 ) -> Result<Option<Event>, AllocError>
     ensures { IfOk result (λ o. o ≡ whole_event word.now text.now) }
 {
     if word == b"add".as_slice() {
-        add_in(alloc, text)
+        add_in(alloc, known, text)
     } else if word == b"query".as_slice() {
         query_in(alloc, text)
     } else if word == b"fail".as_slice() {
-        fail_in(alloc, text)
+        fail_in(alloc, known, text)
     } else if word == b"gone".as_slice() {
-        gone_in(alloc, text)
+        gone_in(alloc, known, text)
     } else {
         group_event(alloc, word, text)
     }
