@@ -83,7 +83,7 @@ impl<S: Alter + Drop, O: Open<S>> SqlKeeper<S, O> {
         ensures own { self.new.own ≡ self.old.own }
         ensures count { faults_with self.new.own self.new.opened ≡ self.old.own }
     {
-        self.opened = Opened::Memory(SureKeeper::new(Vec::new(self.alloc)));
+        self.opened = Opened::Memory(SureKeeper::new(self.alloc));
         self.paths = paths;
     }
 
@@ -224,6 +224,7 @@ impl<S: Alter + Drop, O: Open<S>> SqlKeeper<S, O> {
 impl<S: Alter + Drop, O: Open<S>> Keeper for SqlKeeper<S, O> {
     ghost means = { λ k. record { rows = rows_in S.Store k.opened; count = size_in k.opened; sound = sound_in S.Store k.opened; paths = k.paths.items; faults = faults_with k.own k.opened } };
 
+    #[tactic(auto, using(crate::proofs::OpenedLemmas::starts_on, crate::proofs::OpenedLemmas::stays_on))]
     fn start(&mut self, path: &str) -> Result<(), KeepError> {
         SqlKeeper::start(self, path)
     }

@@ -9,4 +9,6 @@ pub mod Walks
 pub mod EachFile
 pub mod Commands
 pub mod StoredRows
+pub mod Packing
+pub mod SeriesNumbers
 pub use Rattle.pr_words.proofs.PlainTexts as WordsPlainTexts

@@ -4,4 +4,5 @@ pub mod FileStops
 pub mod HeldFiles
 pub mod Kept
 pub mod Schedule
+pub mod Unpacked
 pub mod Words

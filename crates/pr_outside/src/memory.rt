@@ -11,12 +11,13 @@ ghost use Rattle.pr_outside.specs.Paths.{StartsPath};
 ghost use Rattle.pr_outside.specs.private.Schedule.{after_call, fails_next, one_more, schedule_of};
 
 use super::schedule::Schedule;
-use super::sure::is_end;
+use super::sure::{is_end, note};
 use super::{
     Course, Failed, FileContent, Files, FilesError, HeldFile, KeepError, Keeper, Row, Sink,
-    SinkError, Source, SureFiles, SureKeeper, SureSink, SureSource,
+    SinkError, Source, SureFiles, SureSink, SureSource,
 };
-use std::alloc::Global;
+use pr_words::Text;
+use std::alloc::{AllocError, Global};
 use std::marker::Model;
 
 /// A source of bytes in memory, some of whose reads fail. Contracts see the bytes that are left, how
@@ -210,7 +211,8 @@ impl Files for MemFiles {
 /// opened, and the schedule, as with `MemSource`.
 #[derive(Debug, Drop)]
 pub struct MemKeeper {
-    inner: SureKeeper,
+    rows: Vec<Row>,
+    paths: Vec<Text>,
     schedule: Schedule,
 }
 
@@ -219,7 +221,7 @@ impl Model for MemKeeper {
 
     ghost Value = { FailingKeeper };
 
-    ghost view = { λ m. record { rows = m.inner.rows; paths = m.inner.paths; schedule = m.schedule } };
+    ghost view = { λ m. record { rows = m.rows.items; paths = m.paths.items; schedule = m.schedule } };
 }
 
 impl MemKeeper {
@@ -227,8 +229,10 @@ impl MemKeeper {
     pub fn new(rows: Vec<Row>, fails: Vec<u64>) -> MemKeeper
         ensures { result ≡ record { rows = rows.items; paths = []; schedule = schedule_of fails.items } }
     {
+        let paths = Vec::new(*rows.allocator());
         MemKeeper {
-            inner: SureKeeper::new(rows),
+            rows,
+            paths,
             schedule: Schedule::new(fails),
         }
     }
@@ -237,8 +241,30 @@ impl MemKeeper {
     pub fn kept(&self) -> &[Row]
         ensures { result.now ≡ self.now.rows }
     {
-        self.inner.kept()
+        &self.rows
     }
+}
+
+// A row of its own, with the same texts.
+fn copy_row(alloc: Global, row: &Row) -> Result<Row, AllocError>
+    ensures { IfOk result (λ r. r ≡ row.now) }
+{
+    Ok(Row {
+        series: row.series.copy(alloc)?,
+        time: row.time,
+        point: row.point.copy(alloc)?,
+    })
+}
+
+// Rows of their own, with the same texts.
+fn copy_rows(alloc: Global, rows: &[Row]) -> Result<Vec<Row>, AllocError>
+    ensures { IfOk result (λ v. v.items ≡ rows.now) }
+{
+    let mut copies = Vec::with_capacity(alloc, rows.len())?;
+    for row in rows {
+        copies.push(copy_row(alloc, row)?)?;
+    }
+    Ok(copies)
 }
 
 impl Keeper for MemKeeper {
@@ -256,14 +282,15 @@ impl Keeper for MemKeeper {
         ensures unchanged { (self.new.rows ≡ self.old.rows) × (self.new.schedule ≡ self.old.schedule) }
         ensures sure { result ≢ Err KeepError.Failed }
     {
-        self.inner.start(path)
+        note(&mut self.paths, path)?;
+        Ok(())
     }
 
     fn size(&self) -> u64
         ensures count { result ≡ length self.now.rows }
         ensures rows { IfSome (Some self.now.rows) (λ rows. result ≡ length rows) }
     {
-        self.inner.size()
+        self.rows.len() as u64
     }
 
     /// Appends copies of all the rows, or none where this call is to fail or memory runs out.
@@ -280,7 +307,9 @@ impl Keeper for MemKeeper {
         if self.schedule.next_fails() {
             return Err(KeepError::Failed);
         }
-        self.inner.commit(added)
+        let mut copies = copy_rows(*self.rows.allocator(), added)?;
+        self.rows.append(&mut copies)?;
+        Ok(())
     }
 
     /// Copies the row of this index, unless memory runs out.
@@ -294,6 +323,6 @@ impl Keeper for MemKeeper {
         ensures unchanged { self.new ≡ self.old }
         ensures sure { result ≢ Err KeepError.Failed }
     {
-        self.inner.load(index)
+        Ok(copy_row(*self.rows.allocator(), &self.rows[index as usize])?)
     }
 }

@@ -10,6 +10,7 @@ ghost use Rattle.pr_outside.specs.private.Kept.{KeepsRows, StartsRows, AppendsRo
 ghost use Rattle.pr_outside.specs.Paths.{StartsPath};
 ghost use Rattle.pr_outside.specs.private.Schedule.{one_more};
 
+use super::packed_rows::PackedRows;
 use super::{
     Course, FILE_LIMIT, Failed, FileContent, Files, FilesError, HeldFile, KeepError, Keeper, Row,
     Sink, SinkError, Source,
@@ -236,11 +237,11 @@ impl Files for SureFiles {
     }
 }
 
-/// Rows in memory whose calls fail only for want of memory. Contracts see the rows in order, and the
-/// paths that were opened.
+/// Rows in memory, in little room, whose calls fail only for want of memory: so where there would be
+/// more than 2^32 series. Contracts see the rows in order, and the paths that were opened.
 #[derive(Debug, Drop)]
 pub struct SureKeeper {
-    rows: Vec<Row>,
+    rows: PackedRows,
     paths: Vec<Text>,
 }
 
@@ -249,50 +250,33 @@ impl Model for SureKeeper {
 
     ghost Value = { SureRows };
 
-    ghost view = { λ s. record { rows = s.rows.items; paths = s.paths.items } };
+    ghost view = { λ s. record { rows = s.rows; paths = s.paths.items } };
 }
 
 impl SureKeeper {
-    /// These rows. No path was opened.
-    pub fn new(rows: Vec<Row>) -> SureKeeper
-        ensures { result ≡ record { rows = rows.items; paths = [] } }
+    /// No rows. No path was opened.
+    pub fn new(alloc: Global) -> SureKeeper
+        ensures { result ≡ record { rows = []; paths = [] } }
     {
-        let paths = Vec::new(*rows.allocator());
-        SureKeeper { rows, paths }
+        SureKeeper {
+            rows: PackedRows::new(alloc),
+            paths: Vec::new(alloc),
+        }
     }
 
-    /// The rows in order.
-    pub fn kept(&self) -> &[Row]
-        ensures { result.now ≡ self.now.rows }
+    /// Copies of the rows in order.
+    ///
+    /// # Errors
+    /// Where memory runs out.
+    pub fn kept(&self) -> Result<Vec<Row>, AllocError>
+        ensures { IfOk result (λ rows. rows.items ≡ self.now.rows) }
     {
-        &self.rows
+        self.rows.to_vec()
     }
 }
 
-// A row of its own, with the same texts.
-fn copy_row(alloc: Global, row: &Row) -> Result<Row, AllocError>
-    ensures { IfOk result (λ r. r ≡ row.now) }
-{
-    Ok(Row {
-        series: row.series.copy(alloc)?,
-        time: row.time,
-        point: row.point.copy(alloc)?,
-    })
-}
-
-// Rows of their own, with the same texts.
-fn copy_rows(alloc: Global, rows: &[Row]) -> Result<Vec<Row>, AllocError>
-    ensures { IfOk result (λ v. v.items ≡ rows.now) }
-{
-    let mut copies = Vec::with_capacity(alloc, rows.len())?;
-    for row in rows {
-        copies.push(copy_row(alloc, row)?)?;
-    }
-    Ok(copies)
-}
-
-// Adds a path, or none where memory runs out.
-fn note(paths: &mut Vec<Text>, path: &str) -> Result<(), AllocError>
+/// Adds a path, or none where memory runs out.
+pub(crate) fn note(paths: &mut Vec<Text>, path: &str) -> Result<(), AllocError>
     ensures { StartsPath path.now paths.old.items paths.new.items result }
 {
     let path = Text::from_str(*paths.allocator(), path)?;
@@ -336,8 +320,7 @@ impl Keeper for SureKeeper {
         ensures cause { HasKeepCause 0 0 result }
         ensures sure { result ≢ Err KeepError.Failed }
     {
-        let mut copies = copy_rows(*self.rows.allocator(), added)?;
-        self.rows.append(&mut copies)?;
+        self.rows.extend(added)?;
         Ok(())
     }
 
@@ -352,6 +335,6 @@ impl Keeper for SureKeeper {
         ensures unchanged { self.new ≡ self.old }
         ensures sure { result ≢ Err KeepError.Failed }
     {
-        Ok(copy_row(*self.rows.allocator(), &self.rows[index as usize])?)
+        Ok(self.rows.get(index as usize)?)
     }
 }

@@ -93,13 +93,13 @@ fn files(alloc: Global, lines: &str, change: Change<'_>) -> Result<MemFiles, All
 }
 
 fn store(alloc: Global, lines: &str, change: Change<'_>) -> Result<Store, AllocError> {
-    Ok(Store::new(
+    Store::new(
         rows_of(alloc, lines)?,
         refused(alloc, lines, "start", change)?,
         refused(alloc, lines, "commit", change)?,
         refused(alloc, lines, "fetch", change)?,
         refused(alloc, lines, "spoil", change)?,
-    ))
+    )
 }
 
 fn out(alloc: Global, lines: &str, change: Change<'_>) -> Result<MemSink, AllocError> {

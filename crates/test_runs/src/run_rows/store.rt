@@ -25,6 +25,15 @@ impl Calls {
     }
 }
 
+// A keeper of these rows.
+fn keeper_of(rows: Vec<Row>) -> Result<SureKeeper, AllocError> {
+    let mut keeper = SureKeeper::new(*rows.allocator());
+    if !rows.is_empty() && keeper.commit(&rows).is_err() {
+        return Err(AllocError);
+    }
+    Ok(keeper)
+}
+
 /// Rows in memory of which nothing is told, as those of a disk that may fail.
 #[derive(Drop)]
 pub struct Store {
@@ -39,36 +48,43 @@ pub struct Store {
 impl Store {
     /// These rows. Starts, commits and loads with these numbers, counted from 1, are refused, and of
     /// the rows that are handed out those with the last numbers are such as no program writes.
+    ///
+    /// # Errors
+    /// Where memory runs out.
     pub fn new(
         rows: Vec<Row>,
         starts: Vec<u64>,
         commits: Vec<u64>,
         loads: Vec<u64>,
         spoilt: Vec<u64>,
-    ) -> Store {
-        Store {
-            rows: SureKeeper::new(rows),
+    ) -> Result<Store, AllocError> {
+        Ok(Store {
+            rows: keeper_of(rows)?,
             starts: Calls::new(starts),
             commits: Calls::new(commits),
             loads: Calls::new(loads),
             spoilt: Calls::new(spoilt),
             faults: 0,
-        }
+        })
     }
 
     /// No rows, and no call that is refused.
     pub fn empty(alloc: Global) -> Store {
-        Store::new(
-            Vec::new(alloc),
-            Vec::new(alloc),
-            Vec::new(alloc),
-            Vec::new(alloc),
-            Vec::new(alloc),
-        )
+        Store {
+            rows: SureKeeper::new(alloc),
+            starts: Calls::new(Vec::new(alloc)),
+            commits: Calls::new(Vec::new(alloc)),
+            loads: Calls::new(Vec::new(alloc)),
+            spoilt: Calls::new(Vec::new(alloc)),
+            faults: 0,
+        }
     }
 
-    /// The rows in order.
-    pub fn kept(&self) -> &[Row] {
+    /// Copies of the rows in order.
+    ///
+    /// # Errors
+    /// Where memory runs out.
+    pub fn kept(&self) -> Result<Vec<Row>, AllocError> {
         self.rows.kept()
     }
 }

@@ -51,7 +51,7 @@ fn told_of(
     let written = str::from_utf8(outside.out.bytes()).unwrap_or("no text");
     let mut told = format!(in alloc; "{status}\n{written}")?;
     if looks {
-        push_rows(alloc, &mut told, outside.store.kept())?;
+        push_rows(alloc, &mut told, &outside.store.kept()?)?;
     }
     Ok(told)
 }
