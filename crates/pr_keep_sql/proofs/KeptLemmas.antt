@@ -111,7 +111,7 @@ told_is true true rows p q = refl
 told_is true false rows p q = absurd cc
 told_is false clean rows p q = absurd cc
 
-disk_clean : (b : Bool) → doubt b ≡ 0 → IsTrue b
+pub disk_clean : (b : Bool) → doubt b ≡ 0 → IsTrue b
 unfolding doubt
 disk_clean true h = refl
 disk_clean false h = absurd (omega (arith, h))

@@ -1,5 +1,5 @@
 -- What a store of a path tells and counts.
-use Rattle.std.proofs.Common.{◌≡◌, inl, inr, Bool, true, false, MatchBool, ℕ, ◌^◌, ◌<◌, ◌≤◌, ◌&&◌, IsSome, IsTrue, Result, Ok, Err, Option, Some, None, List, [], IfOk, OnOk, OnErr, refl, sym, ap, subst, ◌∙◌, arith}
+use Rattle.std.proofs.Common.{◌≡◌, ◌↔◌, inl, inr, Bool, true, false, MatchBool, ℕ, ◌^◌, ◌<◌, ◌≤◌, ◌&&◌, IsSome, IsTrue, Result, Ok, Err, Option, Some, None, List, [], IfOk, OnOk, OnErr, refl, sym, ap, subst, ◌∙◌, arith}
 use Rattle.sqlite.specs.Effect.{Database, IsDatabase}
 use Rattle.sqlite.specs.Files.{AreFoundIn}
 use Rattle.sqlite.specs.Held.{Held, state}
@@ -16,12 +16,12 @@ use Rattle.pr_outside.specs.spec_history.declared.row.Row.{Row as Line}
 use Rattle.pr_outside.specs.private.Schedule.{one_more}
 use Rattle.pr_keep_sql.specs.private.Counts.{CountsOnce, CountsOne, faults_of}
 use Rattle.pr_keep_sql.specs.private.Kept.{Keeps, listed}
-use Rattle.pr_keep_sql.specs.private.Opened.{IsFoundIn, TellsOf, rows_in}
+use Rattle.pr_keep_sql.specs.private.Opened.{IsFoundIn, TellsOf, rows_in, sound_in}
 use Rattle.pr_keep_sql.specs.private.Store.{KeptStore, rows_of, sound_of}
 use Rattle.pr_keep_sql.specs.private.Tables.{HasOursFirst, schema_of}
 use Rattle.pr_keep_sql.specs.declared.opened.Opened.{Opened}
-use Rattle.pr_keep_sql.specs.declared.opened.Opened.TheVariants.{Nothing}
-use Rattle.pr_keep_sql.proofs.KeptLemmas.{clean_before, clean_disk}
+use Rattle.pr_keep_sql.specs.declared.opened.Opened.TheVariants.{File, Nothing}
+use Rattle.pr_keep_sql.proofs.KeptLemmas.{clean_before, clean_disk, disk_clean}
 
 same_rows : (rows : Option (List Line)) → KeepsRows rows rows
 same_rows None = tt
@@ -54,6 +54,10 @@ sound_parts false b sound = absurd cc
 -- what keeps its word has its tables first, and a disk that returned what was written
 pub is_sound : (first : Bool) (s : State) → IsTrue (first && s.is_clean) → IsTrue first × HasCleanDisk s
 is_sound first s sound = let parts = sound_parts first s.is_clean sound in (parts.0, clean_disk s.is_clean parts.1)
+
+-- and a file does so exactly then
+pub sound_file : {S : Type 0} (g : Ghosts S) (opened : Opened S) (kept : KeptStore S) → opened ≡ File kept → IsTrue (sound_in g opened) ↔ (IsTrue kept.is_first × HasCleanDisk (state g kept.conn))
+sound_file g opened kept same = rw same ((λ sound. is_sound kept.is_first (state g kept.conn) sound), (λ p. both kept.is_first (state g kept.conn).is_clean p.0 (disk_clean (state g kept.conn).is_clean p.1)))
 
 -- a call that leaves which tables stand first
 module _ {S : Type 0} (g : Ghosts S) (old new : KeptStore S) (same : new.is_first ≡ old.is_first) where
