@@ -16,6 +16,7 @@ pub mod KnownTargets
 mod Stepping
 pub mod Told
 pub mod Loaded
+pub mod PrintedTexts
 pub mod Paths
 pub mod StoreTelling
 pub use Rattle.pr_time.proofs.SpanTotal as TimeSpanTotal

@@ -11,4 +11,5 @@ pub mod Standing
 pub mod StartCauses
 pub mod Taken
 pub mod Tallying
+pub mod Texts
 pub mod Times

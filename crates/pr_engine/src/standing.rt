@@ -22,7 +22,7 @@ ghost use Rattle.pr_engine.specs.private.Taken.{added_in, report_in};
 
 use crate::fault::ApplyError;
 use crate::query::ask;
-use crate::rows::{StartError, keep, load};
+use crate::rows::{PrintedTexts, StartError, keep, load};
 use crate::scrape::Targets;
 use crate::taken::Taken;
 use crate::telling::{is_restart, report_of, scrape_report};
@@ -49,6 +49,8 @@ pub(crate) struct Standing<R> {
     pub(crate) head: Head,
     targets: Targets,
     pub(crate) manager: Manager<R>,
+    // Nothing that contracts see: it saves work.
+    texts: PrintedTexts,
 }
 
 impl<R> Model for Standing<R> {
@@ -261,7 +263,7 @@ impl<R: Ranges + Drop> Standing<R> {
             → reads.new ≤ reads.old + event_cost step (passed_by_named R.passed self.old.manager w.history) w event }
     {
         let taken = self.change(alloc, step, event, reads)?;
-        keep(alloc, keeper, taken.added())?;
+        keep(alloc, keeper, &mut self.texts, taken.added())?;
         Ok(taken.into_report())
     }
 
@@ -290,6 +292,7 @@ impl<R: Ranges + Drop> Standing<R> {
                 head,
                 targets: Targets::new(alloc),
                 manager: Manager::new(alloc, step, no_external(alloc)),
+                texts: PrintedTexts::new(alloc),
             }),
             Err(error) => Err(error),
         }

@@ -30,6 +30,7 @@ use pr_ast::time::Ms;
 use pr_checks::LoadedRules;
 use pr_engine::head::Head;
 use pr_engine::range::Ranges;
+use pr_engine::rows::PrintedTexts;
 use pr_outside::status::Stop;
 use pr_outside::words_crate::Steps;
 use pr_outside::{Keeper, Sink};
@@ -84,6 +85,7 @@ impl<R: Ranges + Drop> Filling<R> {
         alloc: Global,
         time: Ms,
         keeper: &mut K,
+        texts: &mut PrintedTexts,
         out: &mut O,
     ) -> Result<(), Stop>
         ensures keeps { (history : List Entry) (groups : List Group) → KeepsFilling R.fits R.last R.passed self.old history groups → IsAfterAll time groups
@@ -94,7 +96,7 @@ impl<R: Ranges + Drop> Filling<R> {
         ensures part { IsPartOfFilling (K.means keeper.old) (O.means out.old) (K.means keeper.new) (O.means out.new) result }
     {
         let steps = self.evaluate(alloc, time)?;
-        keep_steps(alloc, time, steps, keeper, out)
+        keep_steps(alloc, time, steps, keeper, texts, out)
     }
 }
 
@@ -111,8 +113,9 @@ fn fill_times<R: Ranges + Drop, K: Keeper, O: Sink>(
         → FillingComes history (filled_from of_a_run history groups times) (K.means keeper.new) first (O.means out.new).taken result }
     ensures part { IsPartOfFilling (K.means keeper.old) (O.means out.old) (K.means keeper.new) (O.means out.new) result }
 {
+    let mut texts = PrintedTexts::new(alloc);
     'evaluating: while let Some(time) = times.take_next() {
-        filling.fill_time(alloc, time, keeper, out)?;
+        filling.fill_time(alloc, time, keeper, &mut texts, out)?;
     }
     Ok(())
 }

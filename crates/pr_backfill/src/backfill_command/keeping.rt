@@ -8,7 +8,7 @@ ghost use Rattle.pr_backfill.specs.private.Standing.{FillingComes, IsPartOfFilli
 use crate::Stepped;
 use crate::backfill_command::telling::tell_step;
 use pr_ast::time::Ms;
-use pr_engine::rows::keep;
+use pr_engine::rows::{PrintedTexts, keep};
 use pr_outside::status::Stop;
 use pr_outside::{Keeper, Sink};
 use std::alloc::Global;
@@ -19,6 +19,7 @@ fn keep_step<K: Keeper, O: Sink>(
     time: Ms,
     step: Stepped,
     keeper: &mut K,
+    texts: &mut PrintedTexts,
     out: &mut O,
 ) -> Result<(), Stop>
     ensures comes { (history : List Entry) (done : List FillStep) (first : Option (List ℕ)) → FillingStands history done (K.means keeper.old) first (O.means out.old).taken
@@ -26,7 +27,7 @@ fn keep_step<K: Keeper, O: Sink>(
         → FillingComes history (done ++ at_time time step ∷ []) (K.means keeper.new) first (O.means out.new).taken result }
     ensures part { IsPartOfFilling (K.means keeper.old) (O.means out.old) (K.means keeper.new) (O.means out.new) result }
 {
-    keep(alloc, keeper, step.report.admitted.as_slice())?;
+    keep(alloc, keeper, texts, step.report.admitted.as_slice())?;
     tell_step(alloc, time, step, out)
 }
 
@@ -36,6 +37,7 @@ pub(crate) fn keep_steps<K: Keeper, O: Sink>(
     time: Ms,
     steps: Vec<Stepped>,
     keeper: &mut K,
+    texts: &mut PrintedTexts,
     out: &mut O,
 ) -> Result<(), Stop>
     ensures comes { (history : List Entry) (done : List FillStep) (first : Option (List ℕ)) → FillingStands history done (K.means keeper.old) first (O.means out.old).taken
@@ -44,7 +46,7 @@ pub(crate) fn keep_steps<K: Keeper, O: Sink>(
     ensures part { IsPartOfFilling (K.means keeper.old) (O.means out.old) (K.means keeper.new) (O.means out.new) result }
 {
     for step in steps {
-        keep_step(alloc, time, step, keeper, out)?;
+        keep_step(alloc, time, step, keeper, texts, out)?;
     }
     Ok(())
 }
