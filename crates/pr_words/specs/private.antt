@@ -1,3 +1,4 @@
 pub mod Escapes
+pub mod Held
 pub mod Language
 pub mod Reader

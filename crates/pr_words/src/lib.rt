@@ -8,6 +8,7 @@ mod fields;
 mod items;
 pub mod laws;
 mod lines;
+mod part;
 mod steps;
 pub mod strings;
 mod text;

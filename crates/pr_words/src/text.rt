@@ -5,22 +5,36 @@ ghost use Rattle.std.specs.Cmp.Rules.{comparing, hashing};
 ghost use Rattle.std.specs.Str.{bytes_eq};
 ghost use Rattle.std.specs.Hash as fed;
 
+use crate::part::Part;
 use std::alloc::{AllocError, Global};
 use std::cmp::Ordering;
 use std::hash::{Hash, Hasher};
 use std::marker::Model;
+use std::rc::Rc;
 
 /// A text that contracts see as the list of its bytes, so that structs and enums that hold one are
-/// compared whole. Equality, order and hash are by the bytes.
+/// compared whole. Equality, order and hash are by the bytes. A text can be a part of a string that
+/// others share, and then a copy takes no memory.
 #[derive(Debug, Drop)]
 pub struct Text {
-    inner: String,
+    held: Held,
+}
+
+// A string of the text alone, or a part of one that others have too.
+#[derive(Debug, Drop)]
+enum Held {
+    Own(String),
+    Shared(Part),
 }
 
 impl Model for Text {
+    ghost use Rattle.std.specs.Prelude.{ℕ, List};
+
     ghost Value = { List ℕ };
 
-    ghost view = { λ t. string_bytes t.inner };
+    ghost use Rattle.pr_words.specs.private.Held.{held_bytes};
+
+    ghost view = { λ t. held_bytes t.held };
 }
 
 impl Text {
@@ -28,37 +42,57 @@ impl Text {
     pub fn new(inner: String) -> Text
         ensures { result ≡ string_bytes inner }
     {
-        Text { inner }
+        Text {
+            held: Held::Own(inner),
+        }
     }
 
     /// A text of its own, with the same bytes.
     pub fn from_str(alloc: Global, text: &str) -> Result<Text, AllocError>
         ensures { IfOk result (λ t. t ≡ text.now) }
     {
-        Ok(Text {
-            inner: String::from_str(alloc, text)?,
-        })
+        Ok(Text::new(String::from_str(alloc, text)?))
     }
 
     /// The text, borrowed.
     pub fn as_str(&self) -> &str
         ensures { result.now ≡ self.now }
     {
-        &self.inner
+        match &self.held {
+            Held::Own(text) => text.as_str(),
+            Held::Shared(part) => part.as_str(),
+        }
     }
 
-    /// Another text with the same bytes.
+    /// Another text with the same bytes: of a part the same part.
     pub fn copy(&self, alloc: Global) -> Result<Text, AllocError>
         ensures { IfOk result (λ t. t ≡ self.now) }
     {
-        Text::from_str(alloc, self.as_str())
+        match &self.held {
+            Held::Own(text) => Text::from_str(alloc, text.as_str()),
+            Held::Shared(part) => Ok(Text {
+                held: Held::Shared(part.copy()?),
+            }),
+        }
     }
 
-    /// The string of the text.
-    pub fn into_string(self) -> String
-        ensures { string_bytes result ≡ self }
+    /// Makes the text a part of a string, where it stands there at a place; else it stays as it is.
+    pub fn become_part(&mut self, whole: &Rc<String>, start: usize)
+        ensures { self.new ≡ self.old }
     {
-        self.inner
+        if let Some(part) = Part::of(whole, start, self.as_str()) {
+            self.held = Held::Shared(part);
+        }
+    }
+
+    /// The string of the text: its own one, or a new one with the bytes of the part.
+    pub fn into_string(self) -> Result<String, AllocError>
+        ensures { IfOk result (λ s. string_bytes s ≡ self) }
+    {
+        match self.held {
+            Held::Own(text) => Ok(text),
+            Held::Shared(part) => part.to_string(),
+        }
     }
 }
 
@@ -68,7 +102,7 @@ impl PartialEq for Text {
     ghost laws = { Prim.search (comparing, rules) };
 
     fn eq(&self, other: &Text) -> bool {
-        self.inner == other.inner
+        self.as_str() == other.as_str()
     }
 }
 
@@ -82,7 +116,7 @@ impl Hash for Text {
     ghost respects_eq = { Prim.search (hashing, rules) };
 
     fn hash<H: Hasher>(&self, state: &mut H) {
-        self.inner.hash(state);
+        self.as_str().hash(state);
     }
 }
 
@@ -99,7 +133,7 @@ impl Ord for Text {
     ghost matches_eq = { Prim.search (comparing, rules) };
 
     fn cmp(&self, other: &Text) -> Ordering {
-        self.inner.as_bytes().cmp(other.inner.as_bytes())
+        self.as_str().as_bytes().cmp(other.as_str().as_bytes())
     }
 }
 

@@ -129,7 +129,7 @@ pub(crate) fn run_len(place: &LineCursor, text: &str) -> usize
 fn joined(text: Text, run: &str) -> Result<Text, AllocError>
     ensures { IfOk result (λ t. t ≡ text ++ run.now) }
 {
-    let mut inner = text.into_string();
+    let mut inner = text.into_string()?;
     inner.push_str(run)?;
     Ok(Text::new(inner))
 }

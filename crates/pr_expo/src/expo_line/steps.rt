@@ -25,7 +25,7 @@ fn begun(alloc: Global, c: char) -> Result<Text, AllocError>
 fn grown(text: Text, c: char) -> Result<Text, AllocError>
     ensures { IfOk result (λ t. t ≡ grown text c) }
 {
-    let mut inner = text.into_string();
+    let mut inner = text.into_string()?;
     inner.push(c)?;
     Ok(Text::new(inner))
 }
@@ -306,7 +306,7 @@ fn in_value(
 fn escaped(value: Text, c: char) -> Result<Text, AllocError>
     ensures { IfOk result (λ t. t ≡ value ++ escape c) }
 {
-    let mut inner = value.into_string();
+    let mut inner = value.into_string()?;
     if c == 'n' {
         inner.push('\n')?;
     } else if c == '\\' {

@@ -4,8 +4,10 @@ ghost use Rattle.std.specs.List.{list_all};
 ghost use Rattle.pr_labels.specs.private.OrderKey.{HasOrderKeys, IsOrderKey, has_texts_without_end, is_without_end, key_end, key_part, order_key};
 
 use crate::pair::Pair;
+use pr_words::Text;
 use std::alloc::{AllocError, Global};
 use std::marker::Model;
+use std::rc::Rc;
 
 // What stands behind each text of an order key.
 const KEY_END: u8 = 0;
@@ -14,9 +16,10 @@ const KEY_END: u8 = 0;
 const MOST: usize = 64;
 
 /// Pairs, with an order key by which they are compared in one go: their texts one behind the other.
-/// Pairs have none where they are many, where a text of theirs has the byte by which texts end in a
-/// key, where there was no memory for it, or where none was asked for. Contracts see the list of
-/// the pairs.
+/// With a key their texts are parts of it, so that they are held once, and a copy of a pair takes
+/// no memory. Pairs have none where they are many, where a text of theirs has the byte by which
+/// texts end in a key, where there was no memory for it, or where none was asked for. Contracts see
+/// the list of the pairs.
 #[derive(Debug, Drop)]
 pub(super) struct KeyedPairs {
     pairs: Vec<Pair>,
@@ -26,7 +29,7 @@ pub(super) struct KeyedPairs {
 // An order key, and at which byte of it that of all but the first pair begins.
 #[derive(Debug, Drop)]
 struct OrderKey {
-    text: String,
+    text: Rc<String>,
     rest: usize,
 }
 
@@ -40,7 +43,7 @@ impl Model for KeyedPairs {
 
     ghost view = { λ k. k.pairs.items };
 
-    ghost invariant = { λ k. ForSome k.key (λ key. HasOrderKeys (string_bytes key.text) key.rest k.pairs.items) };
+    ghost invariant = { λ k. ForSome k.key (λ key. HasOrderKeys (string_bytes key.text.value) key.rest k.pairs.items) };
 }
 
 fn is_without_end(text: &str) -> bool
@@ -98,10 +101,21 @@ fn room_for(pairs: &[Pair]) -> usize {
     room
 }
 
+// A text as an order key, with a count of the texts that are parts of it.
+fn shared_key(alloc: Global, text: String, rest: usize) -> Result<OrderKey, AllocError>
+    ensures text { IfOk result (λ k. string_bytes k.text.value ≡ string_bytes text) }
+    ensures rest { IfOk result (λ k. k.rest ≡ rest) }
+{
+    match Rc::new(alloc, text) {
+        Ok(text) => Ok(OrderKey { text, rest }),
+        Err(_) => Err(AllocError),
+    }
+}
+
 // The order key of pairs: that of the first, and behind it that of the others.
 fn made_key(alloc: Global, pairs: &[Pair]) -> Result<OrderKey, AllocError>
-    ensures whole { IfOk result (λ k. string_bytes k.text ≡ order_key pairs.now) }
-    ensures rest { IfOk result (λ k. drop k.rest (string_bytes k.text) ≡ order_key (drop 1 pairs.now)) }
+    ensures whole { IfOk result (λ k. string_bytes k.text.value ≡ order_key pairs.now) }
+    ensures rest { IfOk result (λ k. drop k.rest (string_bytes k.text.value) ≡ order_key (drop 1 pairs.now)) }
 {
     let mut text = String::with_capacity(alloc, room_for(pairs))?;
     match pairs.split_first() {
@@ -109,16 +123,16 @@ fn made_key(alloc: Global, pairs: &[Pair]) -> Result<OrderKey, AllocError>
             push_part(&mut text, first)?;
             let rest = text.len();
             push_parts(&mut text, others)?;
-            Ok(OrderKey { text, rest })
+            shared_key(alloc, text, rest)
         }
-        None => Ok(OrderKey { text, rest: 0 }),
+        None => shared_key(alloc, text, 0),
     }
 }
 
 // The order key of pairs, where they have one.
 #[tactic(auto, using(crate::proofs::OrderKeys::keyed_by))]
 fn order_key_of(alloc: Global, pairs: &[Pair]) -> Option<OrderKey>
-    ensures { IfSome result (λ k. HasOrderKeys (string_bytes k.text) k.rest pairs.now) }
+    ensures { IfSome result (λ k. HasOrderKeys (string_bytes k.text.value) k.rest pairs.now) }
 {
     if pairs.len() > MOST || !have_texts_without_end(pairs) {
         return None;
@@ -129,12 +143,35 @@ fn order_key_of(alloc: Global, pairs: &[Pair]) -> Option<OrderKey>
     }
 }
 
+// Makes a text a part of the key at a place, and tells where the text behind it begins.
+fn hold_text(text: &mut Text, key: &Rc<String>, start: usize) -> usize
+    ensures { text.new ≡ text.old }
+{
+    text.become_part(key, start);
+    start.saturating_add(text.as_str().len()).saturating_add(1)
+}
+
+// Makes the texts of pairs parts of their key.
+fn hold_texts(pairs: &mut [Pair], key: &Rc<String>)
+    ensures { pairs.new ≡ pairs.old }
+{
+    let mut start = 0usize;
+    for pair in pairs {
+        start = hold_text(&mut pair.name, key, start);
+        start = hold_text(&mut pair.value, key, start);
+    }
+}
+
 impl KeyedPairs {
     /// Pairs with their order key.
     pub(super) fn new(alloc: Global, pairs: Vec<Pair>) -> KeyedPairs
         ensures { result ≡ pairs.items }
     {
+        let mut pairs = pairs;
         let key = order_key_of(alloc, &pairs);
+        if let Some(key) = &key {
+            hold_texts(&mut pairs, &key.text);
+        }
         KeyedPairs { pairs, key }
     }
 
@@ -164,7 +201,7 @@ impl KeyedPairs {
         ensures { IfSome result (λ key. IsOrderKey key.now self.now) }
     {
         match &self.key {
-            Some(key) => Some(key.text.as_str()),
+            Some(key) => Some(key.text.as_ref().as_str()),
             None => None,
         }
     }
@@ -174,7 +211,7 @@ impl KeyedPairs {
         ensures { IfSome result (λ key. IsOrderKey key.now (drop 1 self.now)) }
     {
         match &self.key {
-            Some(key) => key.text.as_str().get(key.rest..),
+            Some(key) => key.text.as_ref().as_str().get(key.rest..),
             None => None,
         }
     }
