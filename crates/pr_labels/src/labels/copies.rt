@@ -28,6 +28,15 @@ pub fn copy_pairs(alloc: Global, pairs: &[Pair]) -> Result<Vec<Pair>, AllocError
     Ok(copies)
 }
 
+/// The same, with room for one pair more.
+pub(super) fn copy_to_grow(alloc: Global, pairs: &[Pair]) -> Result<Vec<Pair>, AllocError>
+    ensures { IfOk result (λ v. v.items ≡ pairs.now) }
+{
+    let mut copies = Vec::with_capacity(alloc, pairs.len().saturating_add(1))?;
+    push_copies(alloc, &mut copies, pairs)?;
+    Ok(copies)
+}
+
 /// The same of all pairs but the one at a place.
 pub(super) fn copy_others(
     alloc: Global,

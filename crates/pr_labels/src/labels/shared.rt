@@ -3,7 +3,7 @@ ghost use Rattle.std.specs.List.{remove};
 ghost use Rattle.pr_labels.specs.Order.{labels_cmp, labels_eq};
 ghost use Rattle.pr_labels.specs.private.OrderKey.{IsOrderKey};
 
-use super::copies::{copy_others, copy_pairs};
+use super::copies::{copy_others, copy_pairs, copy_to_grow};
 use super::keyed::KeyedPairs;
 use crate::pair::Pair;
 use std::alloc::{AllocError, Global};
@@ -198,7 +198,7 @@ impl SharedPairs {
         match mem::replace(self, SharedPairs::empty(alloc)).into_alone() {
             Ok(pairs) => Ok(pairs),
             Err(shared) => {
-                let copies = copy_pairs(alloc, shared.as_slice());
+                let copies = copy_to_grow(alloc, shared.as_slice());
                 *self = shared;
                 copies
             }
