@@ -1,12 +1,12 @@
 // Labels that are chosen where they stand.
 ghost use Rattle.std.specs.Prelude.{◌≡◌, ◌++◌, [], filter, OnOk};
-ghost use Rattle.pr_labels.specs.Edits.{is_listed, key_labels};
+ghost use Rattle.pr_labels.specs.Edits.{key_labels};
 ghost use Rattle.pr_labels.specs.Order.{labels_eq};
 ghost use Rattle.pr_agg.specs.private.Chosen.{is_in_key, pairs_at};
 
 use indexmap::Equivalent;
 use pr_labels::words_crate::Text;
-use pr_labels::{Labels, METRIC_LABEL, Pair};
+use pr_labels::{Labels, ListedNames, METRIC_LABEL, Pair};
 use std::alloc::{AllocError, Global};
 use std::hash::{Hash, Hasher};
 use std::marker::Model;
@@ -91,19 +91,12 @@ impl<'a> Equivalent<Labels> for &ChosenLabels<'a> {
     }
 }
 
-// Whether the pair's name is one of the names.
-fn is_listed(names: &[Text], pair: &Pair) -> bool
-    ensures { result ≡ is_listed names.now pair.now }
-{
-    names.iter().any(|name| pair.name == *name)
-}
-
 // Whether the key has the pair: on the names, or without them and the metric's name.
 #[tactic(auto, unfolding(crate::specs::private::Chosen::is_in_key))]
-fn is_in_key(on: bool, names: &[Text], pair: &Pair) -> bool
+fn is_in_key(on: bool, names: &ListedNames<'_>, pair: &Pair) -> bool
     ensures { result ≡ is_in_key on names.now pair.now }
 {
-    let listed = is_listed(names, pair);
+    let listed = names.has(pair);
     if on {
         listed
     } else {
@@ -115,7 +108,7 @@ fn is_in_key(on: bool, names: &[Text], pair: &Pair) -> bool
 fn push_places<'a>(
     places: &mut Vec<&'a Pair>,
     on: bool,
-    names: &[Text],
+    names: &ListedNames<'_>,
     pairs: &'a [Pair],
 ) -> Result<(), AllocError>
     ensures { OnOk result (pairs_at places.new.items ≡ pairs_at places.old.items ++ filter (is_in_key on names.now) pairs.now) }
@@ -143,8 +136,10 @@ impl<'a> ChosenLabels<'a> {
     pub fn choose(&mut self, on: bool, names: &[Text], labels: &'a Labels) -> Result<(), AllocError>
         ensures { OnOk result (self.new ≡ key_labels on labels.now names.now) }
     {
+        let pairs = labels.pairs();
+        let listed = ListedNames::of(*self.places.allocator(), names, pairs.len())?;
         self.places.clear();
-        push_places(&mut self.places, on, names, labels.pairs())?;
+        push_places(&mut self.places, on, &listed, pairs)?;
         Ok(())
     }
 }

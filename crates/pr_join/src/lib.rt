@@ -1,6 +1,6 @@
 //! Operators between two vectors: arithmetic, comparisons and set operators by matching keys. A
-//! call equals its definition in `spec_vectors`; keys are looked up by a hash of the
-//! labels that stand there, so that the work grows with the elements and not with their pairs.
+//! call equals its definition in `spec_vectors`; keys are looked up by a hash of the labels that
+//! stand there, so that the work grows with the elements and not with their pairs.
 #![tactic(auto)]
 
 mod join_fault;

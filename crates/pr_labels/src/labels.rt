@@ -4,12 +4,14 @@ mod copies;
 mod edits;
 mod keyed;
 mod known;
+mod listed;
 mod made;
 mod place;
 mod shared;
 
 use crate::pair::Pair;
 pub use copies::copy_pairs;
+pub use listed::ListedNames;
 use place::place_of;
 use shared::SharedPairs;
 use std::alloc::{AllocError, Global};

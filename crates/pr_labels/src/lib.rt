@@ -29,7 +29,7 @@ pub use examples::series_texts_by_example;
 pub use fault::LabelFault;
 pub use grouping::Grouping;
 pub use item::Item;
-pub use labels::{Labels, METRIC_LABEL, copy_pairs};
+pub use labels::{Labels, ListedNames, METRIC_LABEL, copy_pairs};
 pub use laws::{
     from_pairs_takes_all, operations_give_label_sets, values_after_operations,
     values_tell_label_sets,

@@ -1,67 +1,21 @@
 // Label sets of some of the labels of another.
 ghost use Rattle.std.specs.Prelude.{◌≡◌, filter, IfOk};
-ghost use Rattle.pr_words.specs.Names.{knows};
-ghost use Rattle.pr_labels.specs.private.Chosen.{HasNames, is_chosen};
-ghost use Rattle.pr_labels.specs.Edits.{is_listed, listed_labels, unlisted_labels, key_labels};
+ghost use Rattle.pr_labels.specs.private.Chosen.{is_chosen};
+ghost use Rattle.pr_labels.specs.Edits.{listed_labels, unlisted_labels, key_labels};
 ghost use Rattle.pr_labels.specs.LabelSet.{IsLabelSet};
 
-use super::known::known_names;
+use super::listed::ListedNames;
 use super::{Labels, METRIC_LABEL};
 use crate::pair::Pair;
 use pr_words::Text;
 use std::alloc::{AllocError, Global};
-use std::collections::BTreeSet;
-
-// The names are gone over for each label where either are so few. Else they are put in order first.
-const FEW: usize = 16;
-
-// Whether the pair's name is one of the names.
-fn is_listed(names: &[Text], pair: &Pair) -> bool
-    ensures { result ≡ is_listed names.now pair.now }
-{
-    names.iter().any(|name| pair.name == *name)
-}
-
-// Whether a name is known.
-fn is_known(known: &BTreeSet<&[u8]>, name: &[u8]) -> bool
-    ensures { result ≡ knows known.now name.now }
-{
-    known.contains(name)
-}
-
-// The names in order, where they and the labels are many.
-fn many_names<'a>(
-    alloc: Global,
-    names: &'a [Text],
-    labels: usize,
-) -> Result<Option<BTreeSet<&'a [u8]>>, AllocError>
-    ensures { IfOk result (λ many. HasNames many names.now) }
-{
-    if names.len().min(labels) <= FEW {
-        return Ok(None);
-    }
-    Ok(Some(known_names(alloc, names)?))
-}
-
-// Whether the pair's name is one of the names, of which many are in order.
-#[tactic(auto, using(crate::proofs::KnownNames::listed_among))]
-fn is_one_of(many: &Option<BTreeSet<&[u8]>>, names: &[Text], pair: &Pair) -> bool
-    requires { HasNames many.now names.now }
-    ensures { result ≡ is_listed names.now pair.now }
-{
-    match many {
-        Some(known) => is_known(known, pair.name.as_str().as_bytes()),
-        None => is_listed(names, pair),
-    }
-}
 
 // Whether the pair is chosen: its name is listed, or is not.
 #[tactic(auto, unfolding(crate::specs::private::Chosen::is_chosen))]
-fn is_chosen(listed: bool, many: &Option<BTreeSet<&[u8]>>, names: &[Text], pair: &Pair) -> bool
-    requires { HasNames many.now names.now }
+fn is_chosen(listed: bool, names: &ListedNames<'_>, pair: &Pair) -> bool
     ensures { result ≡ is_chosen listed names.now pair.now }
 {
-    let is_one = is_one_of(many, names, pair);
+    let is_one = names.has(pair);
     if listed { is_one } else { !is_one }
 }
 
@@ -69,16 +23,14 @@ fn is_chosen(listed: bool, many: &Option<BTreeSet<&[u8]>>, names: &[Text], pair:
 fn copies_of(
     alloc: Global,
     pairs: &[Pair],
-    names: &[Text],
-    many: &Option<BTreeSet<&[u8]>>,
+    names: &ListedNames<'_>,
     listed: bool,
 ) -> Result<Vec<Pair>, AllocError>
-    requires { HasNames many.now names.now }
     ensures { IfOk result (λ v. v.items ≡ filter (is_chosen listed names.now) pairs.now) }
 {
     let mut copies = Vec::new(alloc);
     for pair in pairs {
-        if is_chosen(listed, many, names, pair) {
+        if is_chosen(listed, names, pair) {
             copies.push(pair.copy(alloc)?)?;
         }
     }
@@ -96,8 +48,8 @@ fn chosen(
     ensures chosen { IfOk result (λ v. v.items ≡ filter (is_chosen listed names.now) pairs.now) }
     ensures set { IfOk result (λ v. IsLabelSet v.items) }
 {
-    let many = many_names(alloc, names, pairs.len())?;
-    copies_of(alloc, pairs, names, &many, listed)
+    let names = ListedNames::of(alloc, names, pairs.len())?;
+    copies_of(alloc, pairs, &names, listed)
 }
 
 impl Labels {

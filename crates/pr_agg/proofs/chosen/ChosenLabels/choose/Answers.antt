@@ -6,5 +6,5 @@ use Rattle.pr_agg.proofs.chosen.ChosenLabels.choose.Goals as goal
 pub returns : goal.returns
 returns c =
     c.in_ok-push_places.ensures
-    ∙ (λ i. pairs_at (c.clear.ensures.items i) ++ filter (is_in_key c.args.on c.args.names.now) (c.pairs.ensures.all i))
+    ∙ (λ i. pairs_at (c.clear.ensures.items i) ++ filter (is_in_key c.args.on (c.in_ok-listed.ensures i)) (c.pairs-pairs.ensures.all i))
     ∙ key_is c.args.on c.args.labels.now c.args.names.now
