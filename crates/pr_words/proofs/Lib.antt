@@ -7,6 +7,7 @@ pub mod StringEnds
 pub mod StringReading
 pub mod StringPublic
 pub mod StringUtf8
+pub mod Escaped
 pub mod Written
 pub mod WrittenUtf8
 pub mod StringOpen

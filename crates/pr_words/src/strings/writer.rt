@@ -1,7 +1,9 @@
 //! Writing a string.
 ghost use Rattle.std.specs.Prelude.{◌≡◌, ◌++◌, OnOk, OnErr, flat_map, length, take};
 ghost use Rattle.std.specs.Str.{IsUtf8};
+ghost use Rattle.std.specs.List.{list_all};
 ghost use Rattle.pr_words.specs.Quoted.{escaped_byte, quoted_text};
+ghost use Rattle.pr_words.specs.private.Escaped.{is_unescaped};
 
 use std::alloc::AllocError;
 
@@ -18,7 +20,7 @@ fn push_escaped_byte(out: &mut Vec<u8>, b: u8) -> Result<(), AllocError>
 }
 
 #[tactic(auto, using(crate::proofs::Fronts::front_stays))]
-fn push_escaped(out: &mut Vec<u8>, bytes: &[u8]) -> Result<(), AllocError>
+fn push_each_byte(out: &mut Vec<u8>, bytes: &[u8]) -> Result<(), AllocError>
     ensures ok { OnOk result (out.new.items ≡ out.old.items ++ flat_map escaped_byte bytes.now) }
     ensures err { OnErr result (take (length out.old.items) out.new.items ≡ out.old.items) }
 {
@@ -26,6 +28,28 @@ fn push_escaped(out: &mut Vec<u8>, bytes: &[u8]) -> Result<(), AllocError>
         push_escaped_byte(out, *b)?;
     }
     Ok(())
+}
+
+// Whether each of the bytes stands for itself.
+fn are_plain(bytes: &[u8]) -> bool
+    ensures { result ≡ list_all is_unescaped bytes.now }
+{
+    bytes
+        .iter()
+        .all(|b| *b != b'\\' && *b != b'"' && *b != b'\n')
+}
+
+// Most texts have no byte to escape, and are appended in one go.
+#[tactic(auto, using(crate::proofs::Escaped::plain_bytes))]
+fn push_escaped(out: &mut Vec<u8>, bytes: &[u8]) -> Result<(), AllocError>
+    ensures ok { OnOk result (out.new.items ≡ out.old.items ++ flat_map escaped_byte bytes.now) }
+    ensures err { OnErr result (take (length out.old.items) out.new.items ≡ out.old.items) }
+{
+    if are_plain(bytes) {
+        out.extend_from_slice(bytes)
+    } else {
+        push_each_byte(out, bytes)
+    }
 }
 
 #[tactic(auto, using(crate::proofs::Fronts::front_after))]

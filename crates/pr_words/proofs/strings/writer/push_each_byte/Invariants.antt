@@ -1,6 +1,6 @@
 use Rattle.std.proofs.Common.{◌≡◌, ◌≤◌, ◌++◌, drop, flat_map, length}
 use Rattle.pr_words.specs.Quoted.{escaped_byte}
-use Rattle.pr_words.proofs.strings.writer.push_escaped.Given as goal
+use Rattle.pr_words.proofs.strings.writer.push_each_byte.Given as goal
 
 -- what is written, and what is to come
 abbrev pub invariant-loop-b : goal.invariant-loop-b
