@@ -21,9 +21,13 @@ const LONGEST_TEXT: usize = 1_024;
 /// are at most 65,536 texts of at most 1,024 bytes, so that what is remembered stays bounded: one
 /// more, and it begins anew with that one, and a longer text is printed each time (own choice).
 /// Contracts see nothing of them: they only save work.
+///
+/// Series mostly come in the order in which they came before, so behind each text that is asked for
+/// the next one is expected: one comparison finds it, and no hash.
 #[derive(Drop)]
 pub struct PrintedTexts {
     texts: IndexMap<Labels, Text>,
+    next: usize,
 }
 
 impl Model for PrintedTexts {
@@ -61,14 +65,28 @@ impl PrintedTexts {
     pub fn new(alloc: Global) -> PrintedTexts {
         PrintedTexts {
             texts: IndexMap::new(alloc),
+            next: 0,
         }
     }
 
-    // The text of a label set, where it is remembered.
-    fn remembered(&self, labels: &Labels) -> Option<&Text>
-        ensures { IfSome result (λ text. text.now ≡ series_text labels.now) }
+    // Where the text of a label set stands, if it is the one that is expected.
+    fn expected(&self, labels: &Labels) -> Option<(usize, &Text)>
+        ensures { IfSome result (λ found. found.1.now ≡ series_text labels.now) }
     {
-        self.texts.get(labels)
+        match self.texts.get_index(self.next) {
+            Some((known, text)) if known == labels => Some((self.next, text)),
+            _ => None,
+        }
+    }
+
+    // Where the text of a label set stands, if it is remembered.
+    fn remembered(&self, labels: &Labels) -> Option<(usize, &Text)>
+        ensures { IfSome result (λ found. found.1.now ≡ series_text labels.now) }
+    {
+        match self.texts.get_full(labels) {
+            Some((at, _known, text)) => Some((at, text)),
+            None => None,
+        }
     }
 
     // Remembers the text of a label set, which is short.
@@ -96,8 +114,12 @@ impl PrintedTexts {
     pub(crate) fn text_of(&mut self, alloc: Global, labels: &Labels) -> Result<Text, AllocError>
         ensures { IfOk result (λ text. text ≡ series_text labels.now) }
     {
-        match self.remembered(labels) {
-            Some(text) => text.copy(alloc),
+        match self.expected(labels).or_else(|| self.remembered(labels)) {
+            Some((at, text)) => {
+                let copy = text.copy(alloc);
+                self.next = at.saturating_add(1);
+                copy
+            }
             None => self.print(alloc, labels),
         }
     }
