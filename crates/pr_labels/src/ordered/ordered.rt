@@ -67,7 +67,7 @@ impl<V: Drop> Ordered<V> {
             return Ok(None);
         }
         move_all(&mut self.rising, &mut self.placed)?;
-        place(&mut self.placed, labels, value)
+        place(*self.rising.allocator(), &mut self.placed, labels, value)
     }
 
     /// The label sets with what they have, as items in label order.

@@ -5,8 +5,9 @@ ghost use Rattle.pr_labels.specs.Rising.{IsRising};
 ghost use Rattle.pr_labels.specs.private.Entries.{AreBelow, IsPut, entries_of, item_entries, items_of};
 
 use crate::{Item, Labels};
-use std::alloc::AllocError;
+use std::alloc::{AllocError, Global};
 use std::collections::BTreeMap;
+use std::collections::btree_map::Entry;
 
 // Whether the labels are above those of the last item.
 fn is_above<V>(items: &[Item<V>], labels: &Labels) -> bool
@@ -47,8 +48,9 @@ pub fn move_all<V: Drop>(
     Ok(())
 }
 
-/// Puts a value behind labels; where they stand there, they come back.
+/// Puts a value behind labels; where they stand there, they come back. One search does both.
 pub fn place<V: Drop>(
+    alloc: Global,
     placed: &mut BTreeMap<Labels, V>,
     labels: Labels,
     value: V,
@@ -56,11 +58,13 @@ pub fn place<V: Drop>(
     ensures put { IfOk result (λ again. IsPut again labels value placed.old.entries placed.new.entries) }
     ensures same { OnErr result (placed.new.entries ≡ placed.old.entries) }
 {
-    if placed.contains_key(&labels) {
-        return Ok(Some(labels));
+    match placed.entry(labels)? {
+        Entry::Occupied(entry) => Ok(Some(entry.key().copy(alloc)?)),
+        Entry::Vacant(entry) => {
+            entry.insert(value);
+            Ok(None)
+        }
     }
-    placed.insert(labels, value)?;
-    Ok(None)
 }
 
 /// The items, and behind them those of the map.
