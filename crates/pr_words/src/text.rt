@@ -76,11 +76,14 @@ impl Text {
         }
     }
 
-    /// Makes the text a part of a string, where it stands there at a place; else it stays as it is.
+    /// Makes a text of its own a part of a string, where it stands there at a place; else it stays as
+    /// it is.
     pub fn become_part(&mut self, whole: &Rc<String>, start: usize)
         ensures { self.new ≡ self.old }
     {
-        if let Some(part) = Part::of(whole, start, self.as_str()) {
+        if let Held::Own(text) = &self.held
+            && let Some(part) = Part::of(whole, start, text.as_str())
+        {
             self.held = Held::Shared(part);
         }
     }

@@ -16,10 +16,10 @@ const KEY_END: u8 = 0;
 const MOST: usize = 64;
 
 /// Pairs, with an order key by which they are compared in one go: their texts one behind the other.
-/// With a key their texts are parts of it, so that they are held once, and a copy of a pair takes
-/// no memory. Pairs have none where they are many, where a text of theirs has the byte by which
-/// texts end in a key, where there was no memory for it, or where none was asked for. Contracts see
-/// the list of the pairs.
+/// With a key a text of its own becomes a part of it, so that it is held once; and a part, of this
+/// key or of that of another set, is copied without memory. Pairs have no key where they are many,
+/// where a text of theirs has the byte by which texts end in a key, where there was no memory for
+/// it, or where none was asked for. Contracts see the list of the pairs.
 #[derive(Debug, Drop)]
 pub(super) struct KeyedPairs {
     pairs: Vec<Pair>,
@@ -143,7 +143,7 @@ fn order_key_of(alloc: Global, pairs: &[Pair]) -> Option<OrderKey>
     }
 }
 
-// Makes a text a part of the key at a place, and tells where the text behind it begins.
+// Makes a text of its own a part of the key at a place, and tells where the text behind it begins.
 fn hold_text(text: &mut Text, key: &Rc<String>, start: usize) -> usize
     ensures { text.new ≡ text.old }
 {
@@ -151,7 +151,7 @@ fn hold_text(text: &mut Text, key: &Rc<String>, start: usize) -> usize
     start.saturating_add(text.as_str().len()).saturating_add(1)
 }
 
-// Makes the texts of pairs parts of their key.
+// Makes the texts of pairs that are not parts yet parts of their key.
 fn hold_texts(pairs: &mut [Pair], key: &Rc<String>)
     ensures { pairs.new ≡ pairs.old }
 {
