@@ -8,6 +8,7 @@ use Rattle.pr_ast.specs.pr_labels.declared.pair.Pair.{Pair}
 use Rattle.pr_ast.specs.pr_labels.declared.item.Item.{Item}
 use Rattle.pr_ast.specs.pr_labels.Edits.{labels_of}
 use Rattle.pr_ast.specs.pr_labels.LabelSet.{metric_label, pair_of}
+use Rattle.pr_ast.specs.pr_labels.Names.{is_label_name}
 use Rattle.pr_ast.specs.declared.selector.MatchText.{MatchText}
 use Rattle.pr_ast.specs.declared.selector.MatchSign.{MatchSign}
 use Rattle.pr_ast.specs.declared.selector.MatchSign.TheVariants.{Equal, NotEqual, Like, NotLike}
@@ -23,11 +24,12 @@ is_equality NotLike = false
 abbrev pub is_on : List ℕ → MatchText → Bool
 is_on label m = bytes_eq m.label label
 
--- A matcher tells a label of what is absent where it is one by `=`, not on the metric's name, the
--- last matcher of its label, and the only one of it by `=`.
+-- A matcher tells a label of what is absent where it is one by `=`, on a label name (as each of a
+-- text is), not on the metric's name, the last matcher of its label, and the only one of it by `=`.
 abbrev pub tells : List MatchText → MatchText → List MatchText → Bool
 tells before m after =
-    is_equality m.op && not (bytes_eq m.label metric_label) && not (list_any (is_on m.label) after)
+    is_equality m.op && is_label_name m.label
+    && not (bytes_eq m.label metric_label) && not (list_any (is_on m.label) after)
     && not (list_any (λ o. is_on m.label o && is_equality o.op) before)
 
 abbrev pub told_pairs : List MatchText → List MatchText → List Pair

@@ -79,12 +79,13 @@ pub fn labels_and_buckets_have_their_rows()
 {}
 
 /// `absent` of `{x="1"}`, `{x!="2",x="1"}`, `{x="1",x!="2"}`, `{x="1",x="2"}` and
-/// `{__name__="c",x="1"}`, where there is nothing.
+/// `{__name__="c",x="1"}`, where there is nothing, and of a matcher on no label name.
 #[tactic(auto, unfolding(pr_match::specs::Matcher::meets, pr_match::specs::Matcher::meets_all))]
 pub fn matchers_tell_what_is_absent()
     ensures told { absent_of_matchers (matcher (codes "x") Equal (codes "1") ∷ []) ≡ Ok (Vector (element (x_only (codes "1")) (number 1) ∷ [])) }
     ensures last { absent_of_matchers (matcher (codes "x") NotEqual (codes "2") ∷ matcher (codes "x") Equal (codes "1") ∷ []) ≡ Ok (Vector (element (x_only (codes "1")) (number 1) ∷ [])) }
     ensures not_last { absent_of_matchers (matcher (codes "x") Equal (codes "1") ∷ matcher (codes "x") NotEqual (codes "2") ∷ []) ≡ alone (number 1) }
     ensures twice { absent_of_matchers (matcher (codes "x") Equal (codes "1") ∷ matcher (codes "x") Equal (codes "2") ∷ []) ≡ alone (number 1) }
+    ensures no_name { absent_of_matchers (matcher (codes "x y") Equal (codes "1") ∷ []) ≡ alone (number 1) }
     ensures metric { absent_of_matchers (matcher metric_label Equal (codes "c") ∷ matcher (codes "x") Equal (codes "1") ∷ []) ≡ Ok (Vector (element (x_only (codes "1")) (number 1) ∷ [])) }
 {}

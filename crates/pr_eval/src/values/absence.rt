@@ -17,7 +17,7 @@ use crate::values::error::EvalError;
 use crate::values::vectors::vector;
 use pr_ast::{Expr, ExprKind, MatchSign, MatchText};
 use pr_labels::words_crate::Text;
-use pr_labels::{Item, Labels, METRIC_LABEL, Pair};
+use pr_labels::{Item, Labels, METRIC_LABEL, Pair, is_label_name};
 use pr_num::Num;
 use spec_meaning::Value;
 use std::alloc::{AllocError, Global};
@@ -58,6 +58,7 @@ fn tells(before: &[MatchText], matcher: &MatchText, after: &[MatchText]) -> bool
 {
     let label = matcher.label.as_str();
     is_equality(matcher.op)
+        && is_label_name(label.as_bytes())
         && label != METRIC_LABEL
         && !any_on(label, after)
         && !any_equality_on(label, before)
@@ -80,16 +81,12 @@ fn told_pairs(alloc: Global, matchers: &[MatchText]) -> Result<Vec<Pair>, AllocE
     Ok(pairs)
 }
 
-// The labels that matchers tell. (The label of a matcher is a label name; where one is none, there
-// is no such label set.)
+// The labels that matchers tell.
+#[tactic(auto, using(crate::proofs::Absences::told_once))]
 fn told_labels(alloc: Global, matchers: &[MatchText]) -> Result<Labels, AllocError>
     ensures { IfOk result (λ l. l ≡ labels_of (told_pairs [] matchers.now)) }
 {
-    let pairs = told_pairs(alloc, matchers)?;
-    match Labels::from_pairs(alloc, &pairs) {
-        Ok(labels) => Ok(labels),
-        Err(_) => Err(AllocError),
-    }
+    Labels::from_distinct(told_pairs(alloc, matchers)?)
 }
 
 fn absent_labels(alloc: Global, e: &Expr) -> Result<Labels, AllocError>
