@@ -86,7 +86,7 @@ fn quoted_escape(alloc: Global, text: &[u8]) -> Result<Vec<u8>, AllocError>
 }
 
 /// The bytes that a string means, or the first place with which it can not go on.
-fn string_in(alloc: Global, text: &[u8]) -> Result<Result<Vec<u8>, usize>, Fault<'_, u8>>
+fn string_in(alloc: Global, text: &[u8]) -> Result<Result<Vec<u8>, usize>, AllocError>
     ensures read { IfOk result (λ r. MatchResult r (λ bytes. IsString text.now bytes.items) (IsNoString text.now)) }
     ensures text { IfOk result (λ r. IfOk r (λ bytes. KeepsText text.now bytes.items)) }
 {
@@ -99,7 +99,7 @@ fn string_in(alloc: Global, text: &[u8]) -> Result<Result<Vec<u8>, usize>, Fault
             }
         }
         Err(Fault::Bad(rest)) => Ok(Err(text.len() - rest.len())),
-        Err(Fault::Memory) => Err(Fault::Memory),
+        Err(Fault::Memory) => Err(AllocError),
     }
 }
 
