@@ -28,7 +28,7 @@ use Rattle.pr_top.specs.pr_text.BadRows.{TellsRow, bad_row_text}
 use Rattle.pr_top.specs.pr_text.spec_rules.Reloads.{LoadedFile}
 use Rattle.pr_top.proofs.Plans.{begun_front, files_front, fill_asks, fill_front_rows, fill_front_text, fill_length, fill_whole_rows, fill_whole_text, lone_text, script_asks, script_front, script_rows_front, summed_asks, summed_front_rows, summed_front_text, summed_length, summed_rows, summed_text}
 use Rattle.laws_runs.specs.private.Headline.{ByStart, FromRows, TellsBadRow, Writes, rows_added, rows_of}
-use Rattle.laws_runs.proofs.Premises.{asked_first, bad_fill, bad_row, fine_plan, from_rows, kept_rows, nothing_held, take_none, told_asks}
+use Rattle.laws_runs.proofs.Premises.{asked_first, bad_fill, bad_row, fine_plan, from_rows, kept_rows, nothing_held, take_none, told_asks, unread}
 
 -- A run
 
@@ -84,7 +84,7 @@ pub cut : (path bytes : List ℕ) (before now : Outside) (result : Status) → P
     × (all ≡ rows ++ rows_added (take k (answers_to held history bytes))) × ((j : ℕ) → j + 1 ≡ k → length (told_of history (take j (answers_to held history bytes))) ≤ n))
     (TellsBadRow rows all before now result))
 cut path bytes before now result p input =
-    from_rows path before now (λ rows. (held : Held) → Follows (Some path) (plan_of (Some (runs path)) bytes held rows) bytes held rows before now result) _ (p.follows bytes input)
+    from_rows path before now (λ rows. (held : Held) → Follows (Some path) (plan_of (Some (runs path)) bytes held rows) bytes held rows before now result) _ (p.follows bytes (λ used. input))
     (λ rows all end f. cut_by path bytes rows all before now result (history_of rows) end f)
 
 -- An exercise
@@ -141,7 +141,7 @@ pub exercise : (rounds : ℕ) (before now : Outside) (result : Status) → Promi
     → FromRows before now (λ rows all. ByStart (history_of rows) (λ history. (k : ℕ) × (n : ℕ) × (k ≤ length (exercise_events rounds)) × Writes before now (take n (summary history rounds))
     × (all ≡ rows ++ rows_of (entries_of of_a_run (start history) (take k (exercise_events rounds)))) × (k < length (exercise_events rounds) → n ≡ 0)) (TellsBadRow rows all before now result))
 exercise rounds before now result p =
-    from_rows [] before now (λ rows. (held : Held) → Follows (Some []) (plan_of (Some (exercises rounds)) [] held rows) [] held rows before now result) _ (p.follows [] tt)
+    from_rows [] before now (λ rows. (held : Held) → Follows (Some []) (plan_of (Some (exercises rounds)) [] held rows) [] held rows before now result) _ (p.follows [] unread)
     (λ rows all end f. exercise_by rounds rows all before now result (history_of rows) end f)
 
 -- A backfill
@@ -301,7 +301,7 @@ refused_by path times names held files before now result (b ∷ wrong) known bad
 pub refused : (path times : List ℕ) (names : List (List ℕ)) (held : Held) (before now : Outside) (result : Status) → Promises (Some (backfills path times names)) before now result
     → AreTold before.files.content held names → (all_rules held names).wrong ≢ [] → ((n : ℕ) × Writes before now (take n (all_rules held names).wrong)) × (now.store ≡ before.store)
 refused path times names held before now result p known bad =
-    refused_by path times names held (all_rules held names).files before now result (all_rules held names).wrong known bad (p.follows [] tt held known)
+    refused_by path times names held (all_rules held names).files before now result (all_rules held names).wrong known bad (p.follows [] unread held known)
 
 -- Files
 

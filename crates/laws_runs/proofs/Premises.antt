@@ -1,5 +1,5 @@
 -- What the promise of the program gives, premise by premise.
-use Rattle.std.proofs.Common.{◌≡◌, ◌≢◌, ℕ, zero, suc, ◌<◌, ◌≤◌, ◌^◌, List, [], ◌∷◌, ◌++◌, length, map, take, flat_map, Option, Some, None, IfSome, IsSome, IsTrue, Result, Ok, Err, ◌⊎◌, inl, inr, refl, sym, ap, ◌∙◌, subst, append-nil, arith}
+use Rattle.std.proofs.Common.{◌≡◌, ◌≢◌, ℕ, zero, suc, ◌<◌, ◌≤◌, ◌^◌, false, List, [], ◌∷◌, ◌++◌, length, map, take, flat_map, Option, Some, None, IfSome, IsSome, IsTrue, Result, Ok, Err, ◌⊎◌, inl, inr, refl, sym, ap, ◌∙◌, subst, append-nil, arith}
 use Rattle.std.proofs.lemmas.Bool.{false≢true}
 use Rattle.std.specs.Io.KnownBytes.{Appends}
 use Rattle.pr_outside.specs.Checks.{Checked, ends}
@@ -17,7 +17,7 @@ use Rattle.spec_history.specs.declared.entry.Entry.{Entry}
 use Rattle.spec_world.specs.World.{start}
 use Rattle.pr_top.specs.Command.{backfills, exercises, runs}
 use Rattle.pr_top.specs.Follows.{Follows, FromStart, IsFront, Keeps, Promises, if_fine}
-use Rattle.pr_top.specs.Plan.{Piece, Plan, all_asks, all_rows, all_text, asking_first, exercise_plan, fill_plan, files_plan, input_plan, loaded_plan, only, over, plan_of, script_plan, writing}
+use Rattle.pr_top.specs.Plan.{Piece, Plan, all_asks, all_rows, all_text, asking_first, exercise_plan, fill_plan, files_plan, loaded_plan, only, over, plan_of, script_plan, writing}
 use Rattle.pr_top.specs.pr_backfill.Filled.{filled, rows_filled}
 use Rattle.pr_top.specs.pr_backfill.Text.{fill_text}
 use Rattle.pr_top.specs.pr_backfill.pr_checks.RulesLoaded.{all_rules}
@@ -26,12 +26,16 @@ use Rattle.pr_top.specs.pr_exercise.Summary.{exercise_rows, summary}
 use Rattle.pr_top.specs.pr_run.Told.{OrderAnswer, answers_to, asks_of, refuses, told}
 use Rattle.pr_top.specs.pr_text.BadRows.{bad_row_text}
 use Rattle.pr_top.specs.pr_text.spec_rules.Reloads.{LoadedFile}
-use Rattle.pr_top.proofs.Plans.{files_asks, files_text, fill_asks, fill_whole_rows, fill_whole_text, lone_text, script_asks, script_rows, script_text, summed_asks, summed_rows, summed_text}
+use Rattle.pr_top.proofs.Plans.{files_asks, files_text, fill_asks, fill_whole_rows, fill_whole_text, input_plan, lone_text, script_asks, script_rows, script_text, summed_asks, summed_rows, summed_text}
 use Rattle.laws_runs.specs.private.Headline.{ByStart, FromRows, TellsBadRow, Writes, rows_added, rows_of}
 
 -- what is told is there
 pub at : {T : Type 0} (o : Option T) (P : T → Type 0) (x : T) → o ≡ Some x → IfSome o P → P x
 at o P x is h = subst (λ (z : Option _). IfSome z P) is h
+
+-- the input is not used
+pub unread : {P : Type 0} → IsTrue false → P
+unread used = absurd (false≢true used)
 
 -- what holds over the rows at the start gives what else does, where the rows at the end are told
 pub from_rows : (path : List ℕ) (before now : Outside) (P : List Row → Type 0) (Q : List Row → List Row → Type 0) → FromStart (Some path) before now P
@@ -113,14 +117,14 @@ pub run : (path bytes : List ℕ) (before now : Outside) (result : Status) → P
     → Writes before now (told held history bytes) × (result ≡ verdict (refuses held history bytes)) × (now.input.left ≡ Some []) × (all ≡ rows ++ rows_added (answers_to held history bytes))
     × Opens path before.store.paths now.store.paths) (TellsBadRow rows all before now result))
 run path bytes before now result p input calm some few =
-    from_rows path before now (λ rows. (held : Held) → Follows (Some path) (plan_of (Some (runs path)) bytes held rows) bytes held rows before now result) _ (p.follows bytes input)
+    from_rows path before now (λ rows. (held : Held) → Follows (Some path) (plan_of (Some (runs path)) bytes held rows) bytes held rows before now result) _ (p.follows bytes (λ used. input))
     (λ rows all end f. run_by path bytes rows all before now result end calm some (history_of rows) few f)
 
 pub long : (path bytes : List ℕ) (before now : Outside) (result : Status) → Promises (Some (runs path)) before now result
     → before.input.left ≡ Some bytes → AreCalm before now → result ≢ Memory → 2 ^ 32 ≤ length bytes
     → FromRows before now (λ rows all. ByStart (history_of rows) (λ history. result ≡ TooLong) (TellsBadRow rows all before now result))
 long path bytes before now result p input calm some many =
-    from_rows path before now (λ rows. (held : Held) → Follows (Some path) (plan_of (Some (runs path)) bytes held rows) bytes held rows before now result) _ (p.follows bytes input)
+    from_rows path before now (λ rows. (held : Held) → Follows (Some path) (plan_of (Some (runs path)) bytes held rows) bytes held rows before now result) _ (p.follows bytes (λ used. input))
     (λ rows all end f. long_by path bytes rows all before now result end calm some (history_of rows) many f)
 
 exercise_by : (rounds : ℕ) (rows all : List Row) (before now : Outside) (result : Status) (t : Result (List Entry) ℕ) → now.store.rows ≡ Some all → AreCalm before now → result ≢ Memory
@@ -143,7 +147,7 @@ pub exercise : (rounds : ℕ) (before now : Outside) (result : Status) → Promi
     → FromRows before now (λ rows all. ByStart (history_of rows) (λ history.
     Writes before now (summary history rounds) × (result ≡ Done) × (all ≡ rows ++ rows_of (exercise_rows history rounds)) × Opens [] before.store.paths now.store.paths) (TellsBadRow rows all before now result))
 exercise rounds before now result p calm some =
-    from_rows [] before now (λ rows. (held : Held) → Follows (Some []) (plan_of (Some (exercises rounds)) [] held rows) [] held rows before now result) _ (p.follows [] tt)
+    from_rows [] before now (λ rows. (held : Held) → Follows (Some []) (plan_of (Some (exercises rounds)) [] held rows) [] held rows before now result) _ (p.follows [] unread)
     (λ rows all end f. exercise_by rounds rows all before now result (history_of rows) end calm some f)
 
 -- Files
@@ -158,7 +162,7 @@ pub fine_plan : (path times : List ℕ) (names : List (List ℕ)) (held : Held) 
     → FromStart (Some path) before now (λ rows. Follows (Some path) (asking_first names (loaded_plan [] (all_rules held names).files times (history_of rows))) [] held rows before now result)
 fine_plan path times names held before now result p known fine =
     subst (λ (w : List ℕ). FromStart (if_fine path w) before now (λ rows.
-    Follows (if_fine path w) (asking_first names (loaded_plan w (all_rules held names).files times (history_of rows))) [] held rows before now result)) fine (p.follows [] tt held known)
+    Follows (if_fine path w) (asking_first names (loaded_plan w (all_rules held names).files times (history_of rows))) [] held rows before now result)) fine (p.follows [] unread held known)
 
 pub bad_fill : (path : List ℕ) (names : List (List ℕ)) (held : Held) (rows all : List Row) (index : ℕ) (before now : Outside) (result : Status) → now.store.rows ≡ Some all
     → AreTold before.files.content held names → Follows (Some path) (asking_first names (only (bad_row_text index) StoreFault)) [] held rows before now result → TellsBadRow rows all before now result index
@@ -222,7 +226,7 @@ pub refused : (path times : List ℕ) (names : List (List ℕ)) (held : Held) (b
     → AreTold before.files.content held names → AreCalm before now → result ≢ Memory → (all_rules held names).wrong ≢ []
     → Writes before now (all_rules held names).wrong × (result ≡ Problem) × (now.store ≡ before.store)
 refused path times names held before now result p known calm some bad =
-    refused_by path times names held (all_rules held names).files before now result (all_rules held names).wrong known calm some bad (p.follows [] tt held known)
+    refused_by path times names held (all_rules held names).files before now result (all_rules held names).wrong known calm some bad (p.follows [] unread held known)
 
 pub told_asks : (tolds : List Told) (held : Held) (before : Outside) → AreTold before.files.content held (asked_of_files tolds) → AreTold before.files.content held (all_asks (files_plan tolds).pieces)
 told_asks tolds held before known = subst (AreTold before.files.content held) (sym (files_asks tolds)) known
@@ -248,5 +252,5 @@ usage text before now result f calm some =
 -- The rows are told at the end
 pub told_rows : (path : List ℕ) (rounds : ℕ) (before now : Outside) (result : Status) → Promises (Some (runs path)) before now result ⊎ Promises (Some (exercises rounds)) before now result
     → AreCalm before now → result ≢ Memory → IsTrue now.store.sound → IsSome now.store.rows
-told_rows path rounds before now result (inl p) = p.told tt
-told_rows path rounds before now result (inr p) = p.told tt
+told_rows path rounds before now result (inl p) = p.told refl
+told_rows path rounds before now result (inr p) = p.told refl

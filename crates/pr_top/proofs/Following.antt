@@ -40,8 +40,8 @@ use Rattle.pr_backfill.specs.pr_text.spec_rules.Settings.{of_a_run}
 use Rattle.pr_run.specs.spec_world.World.{start}
 use Rattle.pr_top.specs.Follows.{Follows, FromStart, IsFront, IsWhole, Keeps, if_fine}
 use Rattle.pr_top.specs.Means.{MeansUsage}
-use Rattle.pr_top.specs.Plan.{Piece, Plan, all_asks, all_rows, all_text, asking_first, exercise_plan, fill_plan, files_plan, input_plan, loaded_plan, only, over, script_plan, checking, writing}
-use Rattle.pr_top.proofs.Plans.{begun_front, files_asks, files_front, files_text, fill_asks, fill_front_rows, fill_front_text, fill_length, fill_whole_rows, fill_whole_text, lone_text, script_asks, script_front, script_length, script_rows, script_rows_front, script_text, summed_front_rows, summed_front_text, summed_length, summed_rows, summed_text}
+use Rattle.pr_top.specs.Plan.{Piece, Plan, all_asks, all_rows, all_text, asking_first, exercise_plan, fill_plan, files_plan, loaded_plan, only, over, script_plan, checking, writing}
+use Rattle.pr_top.proofs.Plans.{begun_front, files_asks, files_front, files_text, fill_asks, fill_front_rows, fill_front_text, fill_length, fill_whole_rows, fill_whole_text, input_plan, lone_text, script_asks, script_front, script_length, script_rows, script_rows_front, script_text, summed_front_rows, summed_front_text, summed_length, summed_rows, summed_text}
 
 -- what is told is there
 at : {T : Type 0} (o : Option T) (P : T → Type 0) (x : T) → o ≡ Some x → IfSome o P → P x

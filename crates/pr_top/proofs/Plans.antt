@@ -1,5 +1,5 @@
 -- What the pieces of a plan write, keep and ask for.
-use Rattle.std.proofs.Common.{◌≡◌, ℕ, zero, suc, ◌≤◌, List, [], ◌∷◌, ◌++◌, length, map, take, flat_map, refl, sym, ap, ◌∙◌, append_assoc, append-nil, arith}
+use Rattle.std.proofs.Common.{◌≡◌, ℕ, zero, suc, ◌≤◌, true, List, [], ◌∷◌, ◌++◌, length, map, take, flat_map, refl, sym, ap, ◌∙◌, append_assoc, append-nil, arith}
 use Rattle.std.proofs.lemmas.List.{length-map, take-append-le, length-append, take-append-drop}
 use Rattle.std.proofs.Common.{drop}
 use Rattle.pr_engine.specs.spec_history.declared.entry.Entry.{Entry}
@@ -10,8 +10,9 @@ use Rattle.pr_run.specs.spec_world.declared.event.Event.{Event}
 use Rattle.pr_run.specs.Told.{OrderAnswer, told_of}
 use Rattle.pr_backfill.specs.Filled.{FillStep, rows_filled}
 use Rattle.pr_backfill.specs.Text.{backfilled_line, begun_text, fill_text, step_text}
+use Rattle.pr_outside.specs.Checks.{Checked, ends}
 use Rattle.pr_outside.specs.FileChecks.{Told, texts, all_asks as asked_of_files}
-use Rattle.pr_top.specs.Plan.{Piece, all_asks, all_rows, all_text, answering, checking, fill_plan, filling, opening, script_plan, stepping, writing}
+use Rattle.pr_top.specs.Plan.{Piece, Plan, all_asks, all_rows, all_text, answering, checking, fill_plan, filling, opening, script_plan, stepping, writing}
 
 -- Lists
 
@@ -66,6 +67,10 @@ pub files_asks : (tolds : List Told) → all_asks (map checking tolds) ≡ asked
 files_asks tolds = over_map (λ (p : Piece). p.asks) checking tolds
 
 -- A text alone
+
+-- what is told of an input
+abbrev pub input_plan : Checked → Plan
+input_plan checked = record { pieces = writing checked.text ∷ []; status = ends checked.verdict; reads = true }
 
 pub lone_text : (text : List ℕ) → all_text (writing text ∷ []) ≡ text
 lone_text text = append-nil text

@@ -6,7 +6,7 @@ use Rattle.pr_outside.specs.Causes.{IsCalm, Rose}
 use Rattle.pr_outside.specs.Checks.{ends_by}
 use Rattle.pr_outside.specs.Courses.{GoesOn, IsInTime}
 use Rattle.pr_outside.specs.Ends.{AtInput, Ends, IsCalled, KnowsLength, StopsBy, no_row, status_of, stop_status}
-use Rattle.pr_outside.specs.Meant.{Input, Store}
+use Rattle.pr_outside.specs.Meant.{Input}
 use Rattle.pr_outside.specs.Opening.{OpensBy}
 use Rattle.pr_outside.specs.Outside.{Outside, AreCalm}
 use Rattle.pr_outside.specs.Status.{HasCause, IsTooLong, TookMany}
@@ -28,7 +28,7 @@ use Rattle.pr_backfill.specs.pr_checks.RuleFiles.{rules_told}
 use Rattle.pr_exercise.specs.Means.{exercise_status}
 use Rattle.pr_test.specs.TestsTold.{tests_told}
 use Rattle.pr_top.specs.Command.{Command, runs, tests_rules, checks_rules, checks_metrics, exercises, backfills, uses}
-use Rattle.pr_top.specs.Follows.{EndsAtBadRow, FollowsPlan, IsOverStore, IsReadBy, OpensFirst, OpensLast, OpensOf, Promises, TellsInput}
+use Rattle.pr_top.specs.Follows.{EndsAtBadRow, FollowsPlan, IsOverStore, IsReadBy, OpensStore, Promises}
 use Rattle.pr_top.specs.Means.{MeansCommand, usage_status}
 use Rattle.pr_top.specs.Usage.{usage_text}
 use Rattle.pr_top.proofs.Commands.{command_cause}
@@ -36,13 +36,13 @@ use Rattle.pr_top.proofs.Following.{backfill, exercise, files, input_check, run,
 
 -- The plan
 
-follows_of : IsDecoding → (c : Option Command) (before now : Outside) (result : Status) → MeansCommand c before now result → ((uses c).store ≡ false → now.store ≡ before.store)
-    → (input : List ℕ) → TellsInput (uses c).input before input → FollowsPlan c input before now result
+follows_of : IsDecoding → (c : Option Command) (before now : Outside) (result : Status) → MeansCommand c before now result → ((uses c).store ≡ None → now.store ≡ before.store)
+    → (input : List ℕ) → (IsTrue (uses c).input → before.input.left ≡ Some input) → FollowsPlan c input before now result
 follows_of decodes None before now result m same input is = λ held. usage usage_text input held before now result m (same refl)
-follows_of decodes (Some (runs path)) before now result m same input is = run decodes path input before now result m is
+follows_of decodes (Some (runs path)) before now result m same input is = run decodes path input before now result m (is refl)
 follows_of decodes (Some (tests_rules names)) before now result m same input is = λ held. files tests_told names input held before now result m (same refl)
 follows_of decodes (Some (checks_rules names)) before now result m same input is = λ held. files rules_told names input held before now result m (same refl)
-follows_of decodes (Some checks_metrics) before now result m same input is = λ held. input_check metrics_told input held before now result m is (same refl)
+follows_of decodes (Some checks_metrics) before now result m same input is = λ held. input_check metrics_told input held before now result m (is refl) (same refl)
 follows_of decodes (Some (exercises rounds)) before now result m same input is = exercise decodes rounds input before now result m
 follows_of decodes (Some (backfills path times names)) before now result m same input is = λ held known. backfill decodes path times names input held before now result m known
 
@@ -190,7 +190,7 @@ run_read before now (Err stop.Store) k = tt
 run_read before now (Err (stop.BadRow index)) k = tt
 run_read before now (Err stop.Write) k = tt
 run_read before now (Err stop.Memory) k = tt
-run_read before now (Err stop.TooLong) k = k
+run_read before now (Err stop.TooLong) k = k.0
 
 check_read : (before now : Input) (r : Result Verdict Stop) → KnowsLength before now r → IsReadBy (ends_by r) before now
 check_read before now (Ok Good) k = k
@@ -202,7 +202,7 @@ check_read before now (Err stop.Store) k = tt
 check_read before now (Err (stop.BadRow index)) k = tt
 check_read before now (Err stop.Write) k = tt
 check_read before now (Err stop.Memory) k = tt
-check_read before now (Err stop.TooLong) k = k
+check_read before now (Err stop.TooLong) k = k.0
 
 read_of : (c : Option Command) (before now : Outside) (result : Status) → MeansCommand c before now result → (uses c).input ≡ true → IsReadBy result before.input now.input
 read_of None before now result m used = absurd (false≢true used)
@@ -285,50 +285,55 @@ most_of (Some (backfills path times names)) before now result m is = absurd cc
 
 -- The store
 
-run_opens : (path : List ℕ) (before now : List (List ℕ)) (r : Result Bool Stop) → OpensBy path before now r → OpensFirst path before now (status_of r)
-run_opens path before now (Ok true) o = o
-run_opens path before now (Ok false) o = o
-run_opens path before now (Err stop.Read) o = o
-run_opens path before now (Err stop.Load) o = o
-run_opens path before now (Err stop.Store) o = o
-run_opens path before now (Err (stop.BadRow index)) o = inr o
-run_opens path before now (Err stop.Write) o = o
-run_opens path before now (Err stop.Memory) o = o
-run_opens path before now (Err stop.TooLong) o = o
+run_opens : (opened path : List ℕ) (before now : List (List ℕ)) (r : Result Bool Stop) → OpensBy path before now r → OpensStore (Some (runs opened)) (status_of r) path before now
+run_opens opened path before now (Ok true) o = o
+run_opens opened path before now (Ok false) o = o
+run_opens opened path before now (Err stop.Read) o = o
+run_opens opened path before now (Err stop.Load) o = o
+run_opens opened path before now (Err stop.Store) o = o
+run_opens opened path before now (Err (stop.BadRow index)) o = inr o
+run_opens opened path before now (Err stop.Write) o = o
+run_opens opened path before now (Err stop.Memory) o = o
+run_opens opened path before now (Err stop.TooLong) o = o
 
-exercise_opens : (path : List ℕ) (before now : List (List ℕ)) (r : Result Unit Stop) → OpensBy path before now r → OpensFirst path before now (exercise_status r)
-exercise_opens path before now (Ok done) o = o
-exercise_opens path before now (Err stop.Read) o = o
-exercise_opens path before now (Err stop.Load) o = o
-exercise_opens path before now (Err stop.Store) o = o
-exercise_opens path before now (Err (stop.BadRow index)) o = inr o
-exercise_opens path before now (Err stop.Write) o = o
-exercise_opens path before now (Err stop.Memory) o = o
-exercise_opens path before now (Err stop.TooLong) o = o
+exercise_opens : (rounds : ℕ) (path : List ℕ) (before now : List (List ℕ)) (r : Result Unit Stop) → OpensBy path before now r
+    → OpensStore (Some (exercises rounds)) (exercise_status r) path before now
+exercise_opens rounds path before now (Ok done) o = o
+exercise_opens rounds path before now (Err stop.Read) o = o
+exercise_opens rounds path before now (Err stop.Load) o = o
+exercise_opens rounds path before now (Err stop.Store) o = o
+exercise_opens rounds path before now (Err (stop.BadRow index)) o = inr o
+exercise_opens rounds path before now (Err stop.Write) o = o
+exercise_opens rounds path before now (Err stop.Memory) o = o
+exercise_opens rounds path before now (Err stop.TooLong) o = o
 
-fill_opens : (path : List ℕ) (before now : List (List ℕ)) (r : Result Bool Stop) → FillOpens path before now r → OpensLast path before now (status_of r)
-fill_opens path before now (Ok true) o = o
-fill_opens path before now (Ok false) o = o
-fill_opens path before now (Err stop.Read) o = absurd o
-fill_opens path before now (Err stop.Load) o = o
-fill_opens path before now (Err stop.Store) o = o
-fill_opens path before now (Err (stop.BadRow index)) o = inr o
-fill_opens path before now (Err stop.Write) o = o
-fill_opens path before now (Err stop.Memory) o = o
-fill_opens path before now (Err stop.TooLong) o = absurd o
+fill_opens : (times : List ℕ) (names : List (List ℕ)) (path : List ℕ) (before now : List (List ℕ)) (r : Result Bool Stop) → FillOpens path before now r
+    → OpensStore (Some (backfills path times names)) (status_of r) path before now
+fill_opens times names path before now (Ok true) o = o
+fill_opens times names path before now (Ok false) o = o
+fill_opens times names path before now (Err stop.Read) o = absurd o
+fill_opens times names path before now (Err stop.Load) o = o
+fill_opens times names path before now (Err stop.Store) o = o
+fill_opens times names path before now (Err (stop.BadRow index)) o = inr o
+fill_opens times names path before now (Err stop.Write) o = o
+fill_opens times names path before now (Err stop.Memory) o = o
+fill_opens times names path before now (Err stop.TooLong) o = absurd o
 
-opens_by : (c : Option Command) (before now : Outside) (result : Status) → MeansCommand c before now result → ((uses c).store ≡ false → now.store ≡ before.store)
-    → OpensOf c before.store.paths now.store.paths result
-opens_by None before now result m same = ap (λ (s : Store). s.paths) (same refl)
-opens_by (Some (runs path)) before now result m same =
-    subst (OpensFirst path before.store.paths now.store.paths) (sym m.answer) (run_opens path before.store.paths now.store.paths m.ending m.opens)
-opens_by (Some (tests_rules names)) before now result m same = ap (λ (s : Store). s.paths) (same refl)
-opens_by (Some (checks_rules names)) before now result m same = ap (λ (s : Store). s.paths) (same refl)
-opens_by (Some checks_metrics) before now result m same = ap (λ (s : Store). s.paths) (same refl)
-opens_by (Some (exercises rounds)) before now result m same =
-    subst (OpensFirst [] before.store.paths now.store.paths) (sym m.answer) (exercise_opens [] before.store.paths now.store.paths m.ending m.opens)
-opens_by (Some (backfills path times names)) before now result m same =
-    subst (OpensLast path before.store.paths now.store.paths) (sym m.answer) (fill_opens path before.store.paths now.store.paths m.ending m.opens)
+opens_by : (c : Option Command) (before now : Outside) (result : Status) → MeansCommand c before now result
+    → IfSome (uses c).store (λ path. OpensStore c result path before.store.paths now.store.paths)
+opens_by None before now result m = tt
+opens_by (Some (runs path)) before now result m =
+    subst (λ (s : Status). OpensStore (Some (runs path)) s path before.store.paths now.store.paths) (sym m.answer)
+    (run_opens path path before.store.paths now.store.paths m.ending m.opens)
+opens_by (Some (tests_rules names)) before now result m = tt
+opens_by (Some (checks_rules names)) before now result m = tt
+opens_by (Some checks_metrics) before now result m = tt
+opens_by (Some (exercises rounds)) before now result m =
+    subst (λ (s : Status). OpensStore (Some (exercises rounds)) s [] before.store.paths now.store.paths) (sym m.answer)
+    (exercise_opens rounds [] before.store.paths now.store.paths m.ending m.opens)
+opens_by (Some (backfills path times names)) before now result m =
+    subst (λ (s : Status). OpensStore (Some (backfills path times names)) s path before.store.paths now.store.paths) (sym m.answer)
+    (fill_opens times names path before.store.paths now.store.paths m.ending m.opens)
 
 -- a load ended a backfill, since it reads no input
 fill_load : (calls calls_now size : ℕ) (r : Result Bool Stop) → AsksFirst calls calls_now size r → status_of r ≡ ReadFault → r ≡ Err stop.Load
@@ -373,23 +378,23 @@ told_after bad long before now (Err stop.Write) cause calm some tells sound = te
 told_after bad long before now (Err stop.Memory) cause calm some tells sound = absurd (some refl)
 told_after bad long before now (Err stop.TooLong) cause calm some tells sound = tells.told sound
 
-told_of : (c : Option Command) (before now : Outside) (result : Status) → MeansCommand c before now result → ((uses c).store ≡ false → now.store ≡ before.store)
+told_of : (c : Option Command) (before now : Outside) (result : Status) → MeansCommand c before now result
     → IsOverStore c before now → AreCalm before now → result ≢ Memory → IsTrue now.store.sound → IsSome now.store.rows
-told_of None before now result m same opened calm some sound = absurd (opened (ap (λ (s : Store). s.paths) (same refl)))
-told_of (Some (runs path)) before now result m same opened calm some sound =
+told_of None before now result m opened calm some sound = absurd (false≢true opened)
+told_of (Some (runs path)) before now result m opened calm some sound =
     told_after (IsBadIn now.store) _ before now m.ending m.ends.cause calm (λ is. some (m.answer ∙ ap status_of is)) m.tells sound
-told_of (Some (tests_rules names)) before now result m same opened calm some sound = absurd (opened (ap (λ (s : Store). s.paths) (same refl)))
-told_of (Some (checks_rules names)) before now result m same opened calm some sound = absurd (opened (ap (λ (s : Store). s.paths) (same refl)))
-told_of (Some checks_metrics) before now result m same opened calm some sound = absurd (opened (ap (λ (s : Store). s.paths) (same refl)))
-told_of (Some (exercises rounds)) before now result m same opened calm some sound =
+told_of (Some (tests_rules names)) before now result m opened calm some sound = absurd (false≢true opened)
+told_of (Some (checks_rules names)) before now result m opened calm some sound = absurd (false≢true opened)
+told_of (Some checks_metrics) before now result m opened calm some sound = absurd (false≢true opened)
+told_of (Some (exercises rounds)) before now result m opened calm some sound =
     told_after (IsBadIn now.store) ⊥ before now m.ending m.ends.cause calm (λ is. some (m.answer ∙ ap exercise_status is)) m.tells sound
-told_of (Some (backfills path times names)) before now result m same opened calm some sound =
+told_of (Some (backfills path times names)) before now result m opened calm some sound =
     told_after (IsBadIn now.store) ⊥ before now m.ending m.ends.cause calm (λ is. some (m.answer ∙ ap status_of is)) (m.tells opened) sound
 
 -- All of it
 
 pub promises_of : IsDecoding → (c : Option Command) (before now : Outside) (result : Status) → MeansCommand c before now result → ((uses c).input ≡ false → now.input ≡ before.input)
-    → ((uses c).files ≡ false → now.files ≡ before.files) → ((uses c).store ≡ false → now.store ≡ before.store) → Promises c before now result
+    → ((uses c).files ≡ false → now.files ≡ before.files) → ((uses c).store ≡ None → now.store ≡ before.store) → Promises c before now result
 promises_of decodes c before now result m input files store = record {
   follows = follows_of decodes c before now result m store;
   cause = cause_of c before now result m;
@@ -398,12 +403,12 @@ promises_of decodes c before now result m input files store = record {
   fine = fine_of c before now result m;
   read = read_of c before now result m;
   silent = silent_of c before now result m;
-  opens = opens_by c before now result m store;
+  opens = opens_by c before now result m;
   in_time = in_time_of c before now result m;
   most = most_of c before now result m;
   unwritten = unwritten_of c before now result m;
   unopened = unopened_of c before now result m;
-  told = told_of c before now result m store;
+  told = told_of c before now result m;
   input = input;
   files = files;
   store = store;

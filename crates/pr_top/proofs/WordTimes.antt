@@ -1,6 +1,6 @@
 -- What is read of the word for a step.
 use Rattle.std.proofs.Common.{◌≡◌, ℕ, ◌≤◌, ◌<◌, ◌^◌, Bool, true, false, cond, List, [], Option, Some, None, refl, sym, ap, ◌∙◌, arith, Global, String, ◌∷◌, length, map, string_bytes}
-use Rattle.std.specs.Prelude.{nat_lt}
+use Rattle.std.specs.Prelude.{nat_lt, option_and_then}
 use Rattle.std.proofs.lemmas.Bool.{lt-ltb, ltb-true}
 use Rattle.pr_test.specs.pr_forms.Form.{rule, Reads}
 use Rattle.pr_engine.specs.pr_time.SpanAnswer.{span_of}
@@ -8,7 +8,11 @@ use Rattle.pr_engine.specs.pr_time.SpanText.{production, seen, Text, SpanValue, 
 use Rattle.pr_engine.specs.pr_time.declared.text.SpanFault.{SpanFault}
 use Rattle.pr_engine.specs.pr_time.declared.text.SpanFault.TheVariants.{BadSpan, SpanTooLong}
 use Rattle.pr_engine.proofs.TimeSpanTotal.{reading_of_span, span_of_reading}
-use Rattle.pr_top.specs.Command.{backfill_of, step_in, step_of}
+use Rattle.pr_top.specs.Command.{backfill_of, step_of}
+
+-- a step of so many milliseconds
+abbrev step_in : Option ℕ → Option ℕ
+step_in = option_and_then (λ ms. cond (nat_lt (2 ^ 40) ms) None (Some ms))
 
 small_enough : (ms : ℕ) → ms ≤ 2 ^ 40 → nat_lt (2 ^ 40) ms ≡ false
 small_enough ms small = by (nat_lt (2 ^ 40) ms) refl

@@ -1,5 +1,5 @@
 -- What the program promises: that it follows the plan of its command.
-use Rattle.std.specs.Prelude.{◌≡◌, ◌≢◌, ◌⊎◌, ℕ, ◌+◌, ◌<◌, ◌≤◌, ◌^◌, List, [], ◌∷◌, ◌++◌, length, map, take, Option, Some, None, IfSome, IsSome, IsTrue, Bool, true, false}
+use Rattle.std.specs.Prelude.{◌≡◌, ◌≢◌, ◌⊎◌, ℕ, ◌+◌, ◌<◌, ◌≤◌, ◌^◌, List, [], ◌∷◌, ◌++◌, length, map, take, Option, Some, None, IfSome, IsSome, IsTrue, true, false}
 use Rattle.std.specs.Io.KnownBytes.{Appends}
 use Rattle.pr_engine.specs.spec_history.Rows.{encoded}
 use Rattle.pr_outside.specs.spec_history.declared.row.Row.{Row}
@@ -8,7 +8,7 @@ use Rattle.pr_outside.specs.Courses.{IsInTime}
 use Rattle.pr_outside.specs.Meant.{Input}
 use Rattle.pr_outside.specs.Outside.{Outside, AreCalm, AreTold, Held}
 use Rattle.pr_outside.specs.Paths.{Opens, MayOpen}
-use Rattle.pr_outside.specs.Status.{HasCause, IsReadOut, IsShort, IsTooLong}
+use Rattle.pr_outside.specs.Status.{HasCause, IsLong, IsReadOut, IsShort}
 use Rattle.pr_outside.specs.Stores.{IsBadIn, OverRows}
 use Rattle.pr_outside.specs.declared.status.status.Status.{Status}
 use Rattle.pr_outside.specs.declared.status.status.Status.TheVariants.{Done, Lint, Memory, Problem, ReadFault, StoreFault, TooLong, Usage}
@@ -16,14 +16,6 @@ use Rattle.pr_backfill.specs.pr_text.BadRows.{TellsRow, bad_row_text}
 use Rattle.pr_backfill.specs.pr_checks.RulesLoaded.{all_rules}
 use Rattle.pr_top.specs.Command.{Command, runs, checks_metrics, exercises, backfills, uses}
 use Rattle.pr_top.specs.Plan.{Piece, Plan, all_asks, all_rows, all_text, plan_of}
-
--- The path of the store that a command is over, which it may open; the empty path is a store in
--- memory. The checks, and words that are none of the forms, are over no store.
-abbrev pub path_of : Option Command → Option (List ℕ)
-path_of (Some (runs path)) = Some path
-path_of (Some (exercises rounds)) = Some []
-path_of (Some (backfills path times names)) = Some path
-path_of _ = None
 
 -- What holds over the rows at the start, where the store tells its rows at the end; of one that
 -- does not nothing is said. A command that is over no store begins with no rows.
@@ -63,11 +55,6 @@ pub record Follows (opens : Option (List ℕ)) (p : Plan) (input : List ℕ) (he
   pub front : AreTold before.files.content held (all_asks p.pieces) → IsFront opens p.pieces rows before now
   pub long : IsTrue p.reads → 2 ^ 32 ≤ length input → AreCalm before now → result ≢ Memory → result ≡ TooLong
 
--- the outside tells the input of a command that uses it
-abbrev pub TellsInput : Bool → Outside → List ℕ → Type 0
-TellsInput false before input = Unit {0}
-TellsInput true before input = before.input.left ≡ Some input
-
 -- a backfill is over no store where something is wrong with one of its files
 abbrev pub if_fine : List ℕ → List ℕ → Option (List ℕ)
 if_fine path [] = Some path
@@ -81,7 +68,7 @@ FollowsPlan (Some (backfills path times names)) input before now result = (held 
     → FromStart (if_fine path (all_rules held names).wrong) before now (λ rows.
     Follows (if_fine path (all_rules held names).wrong) (plan_of (Some (backfills path times names)) input held rows) input held rows before now result)
 FollowsPlan command input before now result =
-    FromStart (path_of command) before now (λ rows. (held : Held) → Follows (path_of command) (plan_of command input held rows) input held rows before now result)
+    FromStart (uses command).store before now (λ rows. (held : Held) → Follows (uses command).store (plan_of command input held rows) input held rows before now result)
 
 -- What shows that a bad row ended a command: over any store the last line of a run tells it, and
 -- what an exercise or a backfill writes is that line alone. Where the rows are told, it is the
@@ -94,9 +81,8 @@ EndsAtBadRow _ before now = ⊥
 
 -- a run, an exercise, and a backfill that opened its store; no other command opens one
 abbrev pub IsOverStore : Option Command → Outside → Outside → Type 0
-IsOverStore (Some (runs path)) before now = Unit {0}
-IsOverStore (Some (exercises rounds)) before now = Unit {0}
-IsOverStore _ before now = now.store.paths ≢ before.store.paths
+IsOverStore (Some (backfills path times names)) before now = now.store.paths ≢ before.store.paths
+IsOverStore command before now = IsSome (uses command).store
 
 -- A command that uses its input, and that nothing stopped, has read it out, and the input is short; one that
 -- ends since its input is too long is right in that.
@@ -104,34 +90,26 @@ abbrev pub IsReadBy : Status → Input → Input → Type 0
 IsReadBy Done before now = IsShort before.left × IsReadOut before now
 IsReadBy Problem before now = IsShort before.left × IsReadOut before now
 IsReadBy Lint before now = IsShort before.left × IsReadOut before now
-IsReadBy TooLong before now = IsTooLong before now
+IsReadBy TooLong before now = IsLong before.left
 IsReadBy _ before now = Unit {0}
 
--- Which paths it opened, by its status. A run and an exercise open theirs first, and nothing comes before that
--- but a refusal of the store, or want of memory. A backfill opens it behind the load of its files, where nothing
--- is wrong with them.
-abbrev pub OpensFirst : List ℕ → List (List ℕ) → List (List ℕ) → Status → Type 0
-OpensFirst path before now StoreFault = MayOpen path before now
-OpensFirst path before now Memory = MayOpen path before now
-OpensFirst path before now _ = Opens path before now
-
-abbrev pub OpensLast : List ℕ → List (List ℕ) → List (List ℕ) → Status → Type 0
-OpensLast path before now Done = Opens path before now
-OpensLast path before now Problem = now ≡ before
-OpensLast path before now ReadFault = now ≡ before
-OpensLast path before now _ = MayOpen path before now
-
-abbrev pub OpensOf : Option Command → List (List ℕ) → List (List ℕ) → Status → Type 0
-OpensOf (Some (runs path)) before now result = OpensFirst path before now result
-OpensOf (Some (exercises rounds)) before now result = OpensFirst [] before now result
-OpensOf (Some (backfills path times names)) before now result = OpensLast path before now result
-OpensOf _ before now result = now ≡ before
+-- Whether a command opened the path of its store, by its status. A backfill opens it behind the load of its
+-- files, where nothing is wrong with them. A run and an exercise open it first, and nothing comes before that
+-- but a refusal of the store, or want of memory.
+abbrev pub OpensStore : Option Command → Status → List ℕ → List (List ℕ) → List (List ℕ) → Type 0
+OpensStore (Some (backfills path times names)) Done = Opens
+OpensStore (Some (backfills path times names)) Problem = λ path before now. now ≡ before
+OpensStore (Some (backfills path times names)) ReadFault = λ path before now. now ≡ before
+OpensStore (Some (backfills path times names)) _ = MayOpen
+OpensStore _ StoreFault = MayOpen
+OpensStore _ Memory = MayOpen
+OpensStore _ _ = Opens
 
 -- What a command promises, where `before` and `now` are what the four objects of the outside mean
 -- before and after it.
 pub record Promises (command : Option Command) (before now : Outside) (result : Status) : Type 0 where
-  -- It follows its plan, where the outside tells its input.
-  pub follows : (input : List ℕ) → TellsInput (uses command).input before input → FollowsPlan command input before now result
+  -- It follows its plan, where the outside tells an input that it uses.
+  pub follows : (input : List ℕ) → (IsTrue (uses command).input → before.input.left ≡ Some input) → FollowsPlan command input before now result
   -- Each status has its cause, over any outside.
   pub cause : HasCause (EndsAtBadRow command before now) before now result
   -- Only words that are none of the forms end with 2, `check metrics` alone ends with 3, and an exercise
@@ -141,7 +119,7 @@ pub record Promises (command : Option Command) (before now : Outside) (result : 
   pub fine : (rounds : ℕ) → command ≡ Some (exercises rounds) → result ≢ Problem
   -- What is known of its input, and of the paths that it opens.
   pub read : (uses command).input ≡ true → IsReadBy result before.input now.input
-  pub opens : OpensOf command before.store.paths now.store.paths result
+  pub opens : IfSome (uses command).store (λ path. OpensStore command result path before.store.paths now.store.paths)
   -- No object is called after its last call: a refused one, or the read that met the end. And `check metrics`
   -- takes no more than the limit and a piece.
   pub in_time : IsInTime before.input.course now.input.course × IsInTime before.files.course now.files.course × IsInTime before.out.course now.out.course
@@ -163,4 +141,4 @@ pub record Promises (command : Option Command) (before now : Outside) (result : 
   -- says beside this.)
   pub input : (uses command).input ≡ false → now.input ≡ before.input
   pub files : (uses command).files ≡ false → now.files ≡ before.files
-  pub store : (uses command).store ≡ false → now.store ≡ before.store
+  pub store : (uses command).store ≡ None → now.store ≡ before.store

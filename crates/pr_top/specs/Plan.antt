@@ -1,11 +1,12 @@
 -- What a command is to do, piece by piece, by the bytes of its input, by what the files hold, and
 -- by the rows at its start.
 use Rattle.std.specs.Prelude.{ℕ, Bool, true, false, List, [], ◌∷◌, ◌++◌, length, map, flat_map, Option, Some, None, Result, Ok, Err}
+use Rattle.std.specs.List.{list_any}
 use Rattle.pr_engine.specs.spec_history.declared.entry.Entry.{Entry}
 use Rattle.pr_engine.specs.spec_history.Histories.{history_of}
 use Rattle.pr_outside.specs.spec_history.declared.row.Row.{Row}
-use Rattle.pr_outside.specs.Checks.{Checked, ends}
-use Rattle.pr_outside.specs.FileChecks.{Told, all_told, any_refused}
+use Rattle.pr_outside.specs.Checks.{ends}
+use Rattle.pr_outside.specs.FileChecks.{Told}
 use Rattle.pr_outside.specs.Outside.{Held}
 use Rattle.pr_outside.specs.Status.{verdict}
 use Rattle.pr_outside.specs.declared.status.status.Status.{Status}
@@ -22,7 +23,7 @@ use Rattle.pr_backfill.specs.pr_checks.Metrics.{metrics_told}
 use Rattle.pr_backfill.specs.pr_checks.RuleFiles.{rules_told}
 use Rattle.pr_backfill.specs.pr_checks.RulesLoaded.{all_rules}
 use Rattle.pr_test.specs.TestsTold.{tests_told}
-use Rattle.pr_run.specs.Told.{OrderAnswer, answers_to, any_refused as any_order_refused}
+use Rattle.pr_run.specs.Told.{OrderAnswer, answers_to}
 use Rattle.pr_exercise.specs.Exercise.{exercise_events}
 use Rattle.pr_exercise.specs.Summary.{summary}
 use Rattle.pr_backfill.specs.Filled.{FillStep, filled, rows_filled}
@@ -74,18 +75,14 @@ abbrev pub answering : OrderAnswer → Piece
 answering a = record { asks = a.asks; rows = a.rows; text = a.text }
 
 abbrev pub script_plan : List Entry → List OrderAnswer → Plan
-script_plan history answers = record { pieces = opening history ∷ map answering answers; status = verdict (any_order_refused answers); reads = true }
+script_plan history answers = record { pieces = opening history ∷ map answering answers; status = verdict (list_any (λ (a : OrderAnswer). a.refused) answers); reads = true }
 
 -- `test rules` and `check rules`: each file is told of
 abbrev pub checking : Told → Piece
 checking t = record { asks = t.asks; rows = []; text = t.text }
 
 abbrev pub files_plan : List Told → Plan
-files_plan tolds = record { pieces = map checking tolds; status = verdict (any_refused tolds); reads = false }
-
--- `check metrics`: the input is told of
-abbrev pub input_plan : Checked → Plan
-input_plan checked = record { pieces = writing checked.text ∷ []; status = ends checked.verdict; reads = true }
+files_plan tolds = record { pieces = map checking tolds; status = verdict (list_any (λ (t : Told). t.refused) tolds); reads = false }
 
 -- `exercise`: each event is answered, of which the rows are kept and nothing is written, and then
 -- summed up
@@ -118,9 +115,9 @@ asking_first names p = record { pieces = record { asks = names; rows = []; text 
 abbrev pub plan_of : Option Command → List ℕ → Held → List Row → Plan
 plan_of None input held rows = only usage_text Usage
 plan_of (Some (runs path)) input held rows = over (history_of rows) (λ history. script_plan history (answers_to held history input))
-plan_of (Some (tests_rules names)) input held rows = files_plan (all_told tests_told held names)
-plan_of (Some (checks_rules names)) input held rows = files_plan (all_told rules_told held names)
-plan_of (Some checks_metrics) input held rows = input_plan (metrics_told input)
+plan_of (Some (tests_rules names)) input held rows = files_plan (map (tests_told held) names)
+plan_of (Some (checks_rules names)) input held rows = files_plan (map (rules_told held) names)
+plan_of (Some checks_metrics) input held rows = record { pieces = writing (metrics_told input).text ∷ []; status = ends (metrics_told input).verdict; reads = true }
 plan_of (Some (exercises rounds)) input held rows = over (history_of rows) (exercise_plan rounds)
 plan_of (Some (backfills path times names)) input held rows =
     asking_first names (loaded_plan (all_rules held names).wrong (all_rules held names).files times (history_of rows))

@@ -2,7 +2,7 @@
 ghost use Rattle.std.specs.Prelude.{◌≡◌, map, string_bytes};
 ghost use Rattle.std.specs.List.{list_all};
 ghost use Rattle.pr_backfill.specs.pr_text.Script.{written_time};
-ghost use Rattle.pr_top.specs.Command.{are_names, backfill_by, backfill_of, check_of, command_of, exercise_of, is_file_word, run_of, step_of, test_of, times_by, times_of};
+ghost use Rattle.pr_top.specs.Command.{are_names, backfill_by, backfill_of, check_of, command_of, exercise_of, is_file_word, run_of, step_of, test_of, times_by};
 ghost use Rattle.pr_top.specs.Words.{asks_for};
 
 use pr_backfill::backfill_command::Times;
@@ -149,7 +149,7 @@ fn times_by(first: Option<Ms>, last: Option<Ms>, step: Option<Span>) -> Option<T
 }
 
 fn times_of(first: &str, last: &str, step: &str) -> Option<Times>
-    ensures { result ≡ times_of first.now last.now step.now }
+    ensures { result ≡ times_by (written_time first.now) (written_time last.now) (step_of step.now) }
 {
     times_by(written_time(first), written_time(last), step_of(step))
 }

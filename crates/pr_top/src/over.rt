@@ -1,12 +1,12 @@
 // The program over what keeps the world of a run, and over ranges for a backfill.
-ghost use Rattle.std.specs.Prelude.{◌≡◌, ℕ, List, Some, false, map, string_bytes};
+ghost use Rattle.std.specs.Prelude.{◌≡◌, ℕ, List, None, Some, false, map, string_bytes};
 ghost use Rattle.pr_outside.specs.Outside.{Outside};
 ghost use Rattle.pr_outside.specs.Status.{HasCause};
 ghost use Rattle.pr_outside.specs.FileChecks.{MeansFileCheck};
 ghost use Rattle.pr_outside.specs.InputChecks.{MeansInputCheck};
 ghost use Rattle.pr_backfill.specs.pr_checks.Metrics.{metrics_told};
 ghost use Rattle.pr_backfill.specs.pr_checks.RuleFiles.{rules_told};
-ghost use Rattle.pr_top.specs.Command.{command_of, uses, uses_of};
+ghost use Rattle.pr_top.specs.Command.{command_of, uses};
 ghost use Rattle.pr_run.specs.Runs.{MeansRun};
 ghost use Rattle.pr_top.specs.Means.{HasBadRow, MeansCommand, MeansUsage};
 ghost use Rattle.pr_top.specs.Usage.{usage_text};
@@ -94,9 +94,9 @@ fn do_command<E: Worlds + Drop, R: Ranges + Drop, I: Source, F: Files, K: Keeper
 ) -> Status
     ensures means { MeansCommand (Some (asked_by command.entry)) (record { input = I.means input.old; files = F.means files.old; store = K.means keeper.old; out = O.means out.old })
         (record { input = I.means input.new; files = F.means files.new; store = K.means keeper.new; out = O.means out.new }) result }
-    ensures input { (uses_of (asked_by command.entry)).input ≡ false → input.new ≡ input.old }
-    ensures files { (uses_of (asked_by command.entry)).files ≡ false → files.new ≡ files.old }
-    ensures keeper { (uses_of (asked_by command.entry)).store ≡ false → keeper.new ≡ keeper.old }
+    ensures input { (uses (Some (asked_by command.entry))).input ≡ false → input.new ≡ input.old }
+    ensures files { (uses (Some (asked_by command.entry))).files ≡ false → files.new ≡ files.old }
+    ensures keeper { (uses (Some (asked_by command.entry))).store ≡ None → keeper.new ≡ keeper.old }
     ensures content { (name : List ℕ) → (F.means files.new).content name ≡ (F.means files.old).content name }
 {
     match command {
@@ -140,7 +140,7 @@ pub fn promtool_over<E: Worlds + Drop, R: Ranges + Drop, I: Source, F: Files, K:
     // What a command leaves unchanged.
     ensures input { (uses (command_of (map string_bytes words.now))).input ≡ false → input.new ≡ input.old }
     ensures files { (uses (command_of (map string_bytes words.now))).files ≡ false → files.new ≡ files.old }
-    ensures keeper { (uses (command_of (map string_bytes words.now))).store ≡ false → keeper.new ≡ keeper.old }
+    ensures keeper { (uses (command_of (map string_bytes words.now))).store ≡ None → keeper.new ≡ keeper.old }
     ensures content { (name : List ℕ) → (F.means files.new).content name ≡ (F.means files.old).content name }
 {
     match command_of(words) {

@@ -1,5 +1,5 @@
 // The program as one call.
-ghost use Rattle.std.specs.Prelude.{◌≡◌, ℕ, List, false, map, string_bytes};
+ghost use Rattle.std.specs.Prelude.{◌≡◌, ℕ, List, None, false, map, string_bytes};
 ghost use Rattle.pr_top.specs.Command.{command_of, uses};
 ghost use Rattle.pr_top.specs.Follows.{Promises};
 
@@ -30,7 +30,7 @@ pub fn promtool<I: Source, F: Files, K: Keeper, O: Sink>(
     // What a command leaves unchanged.
     ensures input { (uses (command_of (map string_bytes words.now))).input ≡ false → input.new ≡ input.old }
     ensures files { (uses (command_of (map string_bytes words.now))).files ≡ false → files.new ≡ files.old }
-    ensures keeper { (uses (command_of (map string_bytes words.now))).store ≡ false → keeper.new ≡ keeper.old }
+    ensures keeper { (uses (command_of (map string_bytes words.now))).store ≡ None → keeper.new ≡ keeper.old }
     ensures content { (name : List ℕ) → (F.means files.new).content name ≡ (F.means files.old).content name }
 {
     rows_decode_as_their_entries();

@@ -1,5 +1,5 @@
 -- Which world the engine of a run stands for.
-use Rattle.std.specs.Prelude.{◌≡◌, ℕ, List, None}
+use Rattle.std.specs.Prelude.{◌≡◌, List, None}
 use Rattle.pr_engine.specs.private.Standing.{KeptEngine, StandsFor}
 use Rattle.pr_outside.specs.spec_history.declared.entry.Entry.{Entry}
 use Rattle.pr_outside.specs.Meant.{Store}

@@ -4,26 +4,26 @@ use Rattle.pr_top.specs.pr_backfill.pr_checks.Metrics.{metrics_told}
 use Rattle.pr_top.specs.pr_backfill.pr_checks.RuleFiles.{rules_told}
 use Rattle.pr_top.specs.pr_test.TestsTold.{tests_told}
 use Rattle.laws_runs.proofs.CutShort.{backfill, exercise, files, lone_row, refused, row}
-use Rattle.laws_runs.proofs.Premises.{at, lone, nothing_held}
+use Rattle.laws_runs.proofs.Premises.{at, lone, nothing_held, unread}
 use Rattle.laws_runs.proofs.cut_short.the_headline_cut_short.Goals as goal
 
 pub returns-clause-exercise : goal.returns-clause-exercise
 returns-clause-exercise c = exercise
 
 pub returns-clause-tests : goal.returns-clause-tests
-returns-clause-tests c = λ names held before now result p known. files tests_told names held before now result (p.follows [] tt held) known
+returns-clause-tests c = λ names held before now result p known. files tests_told names held before now result (p.follows [] unread held) known
 
 pub returns-clause-rules : goal.returns-clause-rules
-returns-clause-rules c = λ names held before now result p known. files rules_told names held before now result (p.follows [] tt held) known
+returns-clause-rules c = λ names held before now result p known. files rules_told names held before now result (p.follows [] unread held) known
 
 pub returns-clause-metrics : goal.returns-clause-metrics
-returns-clause-metrics c = λ bytes before now result p input. lone None (metrics_told bytes).text [] before now ((p.follows bytes input nothing_held).front tt)
+returns-clause-metrics c = λ bytes before now result p input. lone None (metrics_told bytes).text [] before now ((p.follows bytes (λ used. input) nothing_held).front tt)
 
 pub returns-clause-silent : goal.returns-clause-silent
 returns-clause-silent c = λ before now result p. p.silent refl
 
 pub returns-clause-long : goal.returns-clause-long
-returns-clause-long c = λ bytes before now result p input calm some many. (p.follows bytes input nothing_held).long refl many calm some
+returns-clause-long c = λ bytes before now result p input calm some many. (p.follows bytes (λ used. input) nothing_held).long refl many calm some
 
 pub returns-clause-backfill : goal.returns-clause-backfill
 returns-clause-backfill c = backfill
@@ -44,4 +44,4 @@ pub returns-clause-lone_row : goal.returns-clause-lone_row
 returns-clause-lone_row c = lone_row
 
 pub returns-clause-usage : goal.returns-clause-usage
-returns-clause-usage c = λ before now result p. lone None usage_text [] before now ((p.follows [] tt nothing_held).front tt)
+returns-clause-usage c = λ before now result p. lone None usage_text [] before now ((p.follows [] unread nothing_held).front tt)

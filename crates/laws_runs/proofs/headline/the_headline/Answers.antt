@@ -1,6 +1,6 @@
 use Rattle.std.proofs.Common.{[]}
 use Rattle.laws_runs.proofs.CutShort.{cut}
-use Rattle.laws_runs.proofs.Premises.{backfill, exercise, files, long, metrics, refused, run, told_rows, usage}
+use Rattle.laws_runs.proofs.Premises.{backfill, exercise, files, long, metrics, refused, run, told_rows, unread, usage}
 use Rattle.pr_outside.specs.FileChecks.{all_told}
 use Rattle.pr_top.specs.Usage.{usage_text}
 use Rattle.pr_top.specs.pr_backfill.pr_checks.Metrics.{metrics_told}
@@ -21,7 +21,7 @@ pub returns-clause-told_rows : goal.returns-clause-told_rows
 returns-clause-told_rows c = told_rows
 
 pub returns-clause-tests : goal.returns-clause-tests
-returns-clause-tests c = λ names held before now result p known calm some. files (all_told tests_told held names) held before now result (p.follows [] tt held) known calm some
+returns-clause-tests c = λ names held before now result p known calm some. files (all_told tests_told held names) held before now result (p.follows [] unread held) known calm some
 
 pub returns-clause-success : goal.returns-clause-success
 returns-clause-success c = λ held name. (
@@ -32,10 +32,10 @@ returns-clause-success c = λ held name. (
 )
 
 pub returns-clause-rules : goal.returns-clause-rules
-returns-clause-rules c = λ names held before now result p known calm some. files (all_told rules_told held names) held before now result (p.follows [] tt held) known calm some
+returns-clause-rules c = λ names held before now result p known calm some. files (all_told rules_told held names) held before now result (p.follows [] unread held) known calm some
 
 pub returns-clause-metrics : goal.returns-clause-metrics
-returns-clause-metrics c = λ bytes before now result p input calm some few. metrics (metrics_told bytes) bytes before now result (p.follows bytes input) calm some few
+returns-clause-metrics c = λ bytes before now result p input calm some few. metrics (metrics_told bytes) bytes before now result (p.follows bytes (λ used. input)) calm some few
 
 pub returns-clause-exercise : goal.returns-clause-exercise
 returns-clause-exercise c = exercise
@@ -47,7 +47,7 @@ pub returns-clause-refused : goal.returns-clause-refused
 returns-clause-refused c = refused
 
 pub returns-clause-usage : goal.returns-clause-usage
-returns-clause-usage c = λ before now result p calm some. usage usage_text before now result (p.follows [] tt) calm some
+returns-clause-usage c = λ before now result p calm some. usage usage_text before now result (p.follows [] unread) calm some
 
 pub returns-clause-statuses : goal.returns-clause-statuses
 returns-clause-statuses c = λ command before now result p. p.cause
