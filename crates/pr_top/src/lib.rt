@@ -22,6 +22,7 @@ pub mod script {
 
 pub mod world {
     pub use pr_run::world::{Event, Report};
+    pub use pr_test::world::NamedFile;
 }
 
 pub mod slide {
@@ -37,7 +38,20 @@ pub mod rules_crate {
 }
 
 pub mod test {
+    pub use pr_test::test_print::write_failure;
     pub use pr_test::test_texts::success_is_told_exactly_where_all_is_met;
+}
+
+pub mod checks {
+    pub use pr_test::checks::push_lines;
+}
+
+pub mod testfile {
+    pub use pr_test::testfile::{TestError, TestFile, read};
+}
+
+pub mod unit {
+    pub use pr_test::unit::{Failure, run_tests};
 }
 
 pub mod range {

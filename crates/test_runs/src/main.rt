@@ -14,6 +14,7 @@ mod rule_files;
 mod run_rows;
 mod sample;
 mod tables;
+mod unit_rows;
 mod words;
 mod yaml;
 
@@ -24,6 +25,7 @@ use crate::folds::ends_of;
 use crate::readings::tell_readings;
 use crate::sample::{depth_and_number, words_again};
 use crate::tables::{tell_forms, tell_tables};
+use crate::unit_rows::tell_tests;
 use crate::words::words_shown;
 use pr_outside::DiskFiles;
 use pr_outside::status::{RuntimeLine, words_of};
@@ -65,6 +67,7 @@ fn tell_calls(rt: &HostRuntime) -> io::Result<()> {
     tell_engines(rt, "calls/engines")?;
     tell_queues(rt, "calls/queues")?;
     tell_ranges(rt, "calls/ranges")?;
+    tell_tests(rt, "calls/tests")?;
     tell_stores(rt, unknowns(rt.alloc(), 64)?)
 }
 
