@@ -1,5 +1,3 @@
-pub mod Escaped
 pub mod Escapes
-pub mod Held
 pub mod Language
 pub mod Reader

@@ -28,13 +28,13 @@ enum Held {
 }
 
 impl Model for Text {
-    ghost use Rattle.std.specs.Prelude.{ℕ, List};
+    ghost use Rattle.std.specs.Prelude.{ℕ, List, string_bytes};
 
     ghost Value = { List ℕ };
 
-    ghost use Rattle.pr_words.specs.private.Held.{held_bytes};
+    ghost use Rattle.pr_words.specs.declared.text.Held.TheVariants.{Own, Shared};
 
-    ghost view = { λ t. held_bytes t.held };
+    ghost view = { λ t. elim t.held [ Own text ↦ string_bytes text | Shared part ↦ part ] };
 }
 
 impl Text {

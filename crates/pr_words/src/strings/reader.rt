@@ -47,7 +47,7 @@ fn quote_in(mark: Mark, text: &[u8]) -> Option<((), &[u8])>
 }
 
 /// Whether a byte of this kind stands for itself in a string.
-fn is_plain(mark: Mark, kind: StringByte) -> bool
+pub(super) fn is_plain(mark: Mark, kind: StringByte) -> bool
     ensures { result ≡ is_plain mark kind }
 {
     match kind {

@@ -2,9 +2,12 @@
 ghost use Rattle.std.specs.Prelude.{◌≡◌, ◌++◌, OnOk, OnErr, flat_map, length, take};
 ghost use Rattle.std.specs.Str.{IsUtf8};
 ghost use Rattle.std.specs.List.{list_all};
+ghost use Rattle.pr_words.specs.declared.strings.kind.Mark.TheVariants.{Double};
 ghost use Rattle.pr_words.specs.Quoted.{escaped_byte, quoted_text};
-ghost use Rattle.pr_words.specs.private.Escaped.{is_unescaped};
+ghost use Rattle.pr_words.specs.Strings.{is_plain, kind_of};
 
+use crate::strings::kind::{Mark, kind_of};
+use crate::strings::reader::is_plain;
 use std::alloc::AllocError;
 
 fn push_escaped_byte(out: &mut Vec<u8>, b: u8) -> Result<(), AllocError>
@@ -32,11 +35,9 @@ fn push_each_byte(out: &mut Vec<u8>, bytes: &[u8]) -> Result<(), AllocError>
 
 // Whether each of the bytes stands for itself.
 fn are_plain(bytes: &[u8]) -> bool
-    ensures { result ≡ list_all is_unescaped bytes.now }
+    ensures { result ≡ list_all (λ b. is_plain Double (kind_of b)) bytes.now }
 {
-    bytes
-        .iter()
-        .all(|b| *b != b'\\' && *b != b'"' && *b != b'\n')
+    bytes.iter().all(|b| is_plain(Mark::Double, kind_of(*b)))
 }
 
 // Most texts have no byte to escape, and are appended in one go.
