@@ -80,7 +80,8 @@ fn push_reloaded_groups(text: &mut Vec<u8>) -> Result<(), AllocError>
     text.extend_from_slice(b"reloaded groups ")
 }
 
-fn push_opened(text: &mut Vec<u8>, rows: u64) -> Result<(), AllocError>
+/// Appends the line that a run begins with.
+pub(crate) fn push_opened(text: &mut Vec<u8>, rows: u64) -> Result<(), AllocError>
     ensures ok { OnOk result (text.new.items ≡ text.old.items ++ opened_text rows) }
     ensures front { take (length text.old.items) text.new.items ≡ text.old.items }
 {

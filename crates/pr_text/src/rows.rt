@@ -7,21 +7,21 @@ ghost use Rattle.pr_text.specs.BadRows.{bad_row_text};
 ghost use Rattle.pr_text.specs.Printed.{shown_report};
 ghost use Rattle.spec_world.specs.declared.report.Report.TheVariants.{Opened};
 
-use crate::printed::push_report;
+use crate::printed::push_opened;
 use pr_outside::Sink;
 use pr_outside::status::{Stop, send};
 use pr_words::push_number;
-use spec_world::Report;
 use std::alloc::{AllocError, Global};
 
 /// Writes the line that a command begins with which opened a store of so many rows.
+#[tactic(auto, unfolding(crate::specs::Printed::shown_report))]
 pub fn tell_opened<O: Sink>(alloc: Global, rows: u64, out: &mut O) -> Result<(), Stop>
     ensures text { OnOk result (Appends (O.means out.old).taken (O.means out.new).taken (shown_report (Opened rows))) }
     ensures front { (n : ℕ) × Appends (O.means out.old).taken (O.means out.new).taken (take n (shown_report (Opened rows))) }
     ensures ends { WriteEnds (O.means out.old) (O.means out.new) result }
 {
     let mut text = Vec::new(alloc);
-    push_report(&mut text, &Report::Opened { rows })?;
+    push_opened(&mut text, rows)?;
     send(out, &text)?;
     Ok(())
 }
