@@ -21,50 +21,32 @@ use spec_tests::Failure;
 use spec_tests::testfile::{AlertCheck, ExprCheck};
 use std::alloc::{AllocError, Global};
 
-// The number of a check or a test, counted from 1. So many as 2^32 of them count as want of memory.
-pub(crate) fn number_of(index: usize) -> Result<u32, AllocError>
-    ensures { IfOk result (λ n. n ≡ index + 1) }
-{
-    if index < u32::MAX as usize {
-        Ok(index as u32 + 1)
-    } else {
-        Err(AllocError)
-    }
-}
-
 fn check_alert<R: Ranges + Drop>(
     alloc: Global,
     run: &Run<R>,
-    test: u32,
-    index: usize,
+    test: u64,
+    number: u64,
     check: &AlertCheck,
 ) -> Result<Items<Failure>, AllocError>
     ensures { (s : Settings) (w : World) → StandsForWorld R.fits R.last R.passed run.now.head run.now.groups.items s w
-        → IfOk result (λ list. list ≡ alert_failure test (index + 1) check.now.expected (firing check.now.name w)) }
+        → IfOk result (λ list. list ≡ alert_failure test number check.now.expected (firing check.now.name w)) }
 {
     let found = firing(alloc, &run.groups, check.name.as_str())?;
-    alert_failure(
-        alloc,
-        test,
-        number_of(index)?,
-        check.expected.as_slice(),
-        found,
-    )
+    alert_failure(alloc, test, number, check.expected.as_slice(), found)
 }
 
 fn check_expr<R: Ranges + Drop>(
     alloc: Global,
     run: &Run<R>,
-    test: u32,
-    index: usize,
+    test: u64,
+    number: u64,
     check: &ExprCheck,
     every: Span,
 ) -> Result<Items<Failure>, AllocError>
     requires { 0 < every }
     ensures { (s : Settings) (w : World) → StandsForWorld R.fits R.last R.passed run.now.head run.now.groups.items s w
-        → IfOk result (λ list. list ≡ expr_failure test (index + 1) check.now.expected (given_by (meaning every w.history (plain_check check.now).expr check.now.time))) }
+        → IfOk result (λ list. list ≡ expr_failure test number check.now.expected (given_by (meaning every w.history (plain_check check.now).expr check.now.time))) }
 {
-    let number = number_of(index)?;
     match given(alloc, &run.head, &check.expr, check.time, every) {
         Ok(got) => expr_failure(alloc, test, number, check.expected.as_slice(), got),
         Err(error) => Err(error),
@@ -75,7 +57,7 @@ fn check_expr<R: Ranges + Drop>(
 fn fill_alert<R: Ranges + Drop>(
     alloc: Global,
     run: &Run<R>,
-    test: u32,
+    test: u64,
     index: usize,
     checks: &[AlertCheck],
     time: Ms,
@@ -89,7 +71,7 @@ fn fill_alert<R: Ranges + Drop>(
     if checks[index].time != time || index >= slots.len() {
         return Ok(());
     }
-    slots[index] = check_alert(alloc, run, test, index, &checks[index])?;
+    slots[index] = check_alert(alloc, run, test, index as u64 + 1, &checks[index])?;
     Ok(())
 }
 
@@ -97,7 +79,7 @@ fn fill_alert<R: Ranges + Drop>(
 pub(crate) fn fill_alerts<R: Ranges + Drop>(
     alloc: Global,
     run: &Run<R>,
-    test: u32,
+    test: u64,
     checks: &[AlertCheck],
     time: Ms,
     slots: &mut Vec<Items<Failure>>,
@@ -115,7 +97,7 @@ pub(crate) fn fill_alerts<R: Ranges + Drop>(
 fn fill_expr<R: Ranges + Drop>(
     alloc: Global,
     run: &Run<R>,
-    test: u32,
+    test: u64,
     index: usize,
     checks: &[ExprCheck],
     time: Ms,
@@ -131,7 +113,7 @@ fn fill_expr<R: Ranges + Drop>(
     if checks[index].time != time || index >= slots.len() {
         return Ok(());
     }
-    slots[index] = check_expr(alloc, run, test, index, &checks[index], every)?;
+    slots[index] = check_expr(alloc, run, test, index as u64 + 1, &checks[index], every)?;
     Ok(())
 }
 
@@ -139,7 +121,7 @@ fn fill_expr<R: Ranges + Drop>(
 pub(crate) fn fill_exprs<R: Ranges + Drop>(
     alloc: Global,
     run: &Run<R>,
-    test: u32,
+    test: u64,
     checks: &[ExprCheck],
     time: Ms,
     every: Span,

@@ -12,7 +12,7 @@ ghost use Rattle.pr_unit.specs.private.Loaded.{AreAllSound, file_of};
 ghost use Rattle.pr_unit.specs.private.Run.{HasRunTest, IsNextCheck};
 ghost use Rattle.pr_unit.specs.private.Slots.{AreAllFilled, HasFilled};
 
-use crate::checks::{fill_alerts, fill_exprs, number_of};
+use crate::checks::{fill_alerts, fill_exprs};
 use crate::groups::groups_of;
 use crate::order::in_order;
 use crate::rules::RuleGroups;
@@ -38,7 +38,7 @@ pub(crate) struct Slots {
 fn check_at<R: Ranges + Drop>(
     alloc: Global,
     run: &mut Run<R>,
-    number: u32,
+    number: u64,
     test: &Test,
     every: Span,
     time: Ms,
@@ -73,7 +73,7 @@ fn check_at<R: Ranges + Drop>(
 fn check_all<R: Ranges + Drop>(
     alloc: Global,
     run: Run<R>,
-    number: u32,
+    number: u64,
     test: &Test,
     every: Span,
 ) -> Result<Slots, AllocError>
@@ -118,7 +118,7 @@ fn groups_in_order<R: Ranges + Drop>(
 pub(crate) fn run_test<R: Ranges + Drop>(
     alloc: Global,
     file: &TestFile,
-    index: usize,
+    number: u64,
     test: &Test,
     rules: &[RuleGroups],
     failures: &mut Vec<Failure>,
@@ -126,11 +126,11 @@ pub(crate) fn run_test<R: Ranges + Drop>(
     requires some { 0 < file.now.interval }
     requires sound { AreAllSound rules.now }
     ensures { AreToldApart (map file_of rules.now)
-        → OnOk result (failures.new.items ≡ failures.old.items ++ test_verdict file.now.interval (by_names file.now.order (unwaiting_groups (map file_of rules.now))) (index + 1, plain_test test.now)) }
+        → OnOk result (failures.new.items ≡ failures.old.items ++ test_verdict file.now.interval (by_names file.now.order (unwaiting_groups (map file_of rules.now))) (number, plain_test test.now)) }
 {
     let groups: Vec<GroupOver<R>> = groups_in_order(alloc, file, test, rules)?;
     let run = Run::begin(alloc, groups, &test.input)?;
-    let slots = check_all(alloc, run, number_of(index)?, test, file.interval)?;
+    let slots = check_all(alloc, run, number, test, file.interval)?;
     gather(slots.alerts, failures)?;
     gather(slots.exprs, failures)
 }

@@ -39,7 +39,8 @@ pub fn run_tests_over<R: Ranges + Drop>(
     let mut failures = Vec::new(alloc);
     let tests = file.tests.as_slice();
     'tests: for index in 0..tests.len() {
-        run_test::<R>(alloc, file, index, &tests[index], rules, &mut failures)?;
+        let number = index as u64 + 1;
+        run_test::<R>(alloc, file, number, &tests[index], rules, &mut failures)?;
     }
     Ok(failures)
 }

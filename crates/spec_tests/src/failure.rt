@@ -21,8 +21,8 @@ pub enum Shown {
 /// expressions are counted from 1.
 #[derive(Debug, Drop)]
 pub struct Failure {
-    pub test: u32,
-    pub check: u32,
+    pub test: u64,
+    pub check: u64,
     pub expected: Shown,
     pub got: Shown,
 }

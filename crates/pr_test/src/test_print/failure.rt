@@ -38,7 +38,7 @@ fn kind_of(expected: &Shown) -> &'static [u8]
 }
 
 // The place in a list of what is counted from 1.
-fn place(number: u32) -> usize
+fn place(number: u64) -> usize
     ensures { result ≡ number - 1 }
 {
     (number as usize).saturating_sub(1)
@@ -86,9 +86,9 @@ fn push_which(text: &mut Vec<u8>, f: &Failure) -> Result<(), AllocError>
     ensures front { take (length text.old.items) text.new.items ≡ text.old.items }
 {
     text.extend_from_slice(b"test ")?;
-    push_number(text, u64::from(f.test))?;
+    push_number(text, f.test)?;
     text.extend_from_slice(kind_of(&f.expected))?;
-    push_number(text, u64::from(f.check))
+    push_number(text, f.check)
 }
 
 fn push_check(text: &mut Vec<u8>, test: &TestFile, f: &Failure) -> Result<(), AllocError>

@@ -32,8 +32,8 @@ fn copy_founds(alloc: Global, founds: &[RuleElement]) -> Result<Items<RuleElemen
 
 fn differing(
     alloc: Global,
-    test: u32,
-    check: u32,
+    test: u64,
+    check: u64,
     expected: &[RuleElement],
     got: Items<RuleElement>,
 ) -> Result<Items<Failure>, AllocError>
@@ -59,8 +59,8 @@ fn differing(
 /// Want of memory.
 pub fn alert_failure(
     alloc: Global,
-    test: u32,
-    check: u32,
+    test: u64,
+    check: u64,
     expected: &[RuleElement],
     got: Items<RuleElement>,
 ) -> Result<Items<Failure>, AllocError>

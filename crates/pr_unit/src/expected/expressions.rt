@@ -125,8 +125,8 @@ fn copy_items(alloc: Global, items: &[Item<Num>]) -> Result<Items<Item<Num>>, Al
 
 fn differing(
     alloc: Global,
-    test: u32,
-    check: u32,
+    test: u64,
+    check: u64,
     expected: &[Item<Num>],
     got: Shown,
 ) -> Result<Items<Failure>, AllocError>
@@ -152,8 +152,8 @@ fn differing(
 /// Want of memory.
 pub fn expr_failure(
     alloc: Global,
-    test: u32,
-    check: u32,
+    test: u64,
+    check: u64,
     expected: &[Item<Num>],
     got: Shown,
 ) -> Result<Items<Failure>, AllocError>

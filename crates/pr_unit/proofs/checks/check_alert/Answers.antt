@@ -1,4 +1,4 @@
-use Rattle.std.proofs.Common.{◌≡◌, ℕ, ◌+◌, List, ap, subst, sym, ◌∙◌}
+use Rattle.std.proofs.Common.{◌≡◌, ℕ, List, ap, subst, sym, ◌∙◌}
 use Rattle.pr_group.specs.spec_alerts.declared.found.RuleElement.{RuleElement}
 use Rattle.spec_tests.specs.Verdict.{alert_failure, firing}
 use Rattle.pr_unit.specs.private.Kept.{KeepsGroups}
@@ -14,7 +14,6 @@ returns g c = λ s w h.
     let is : found ≡ firing c.args.check.now.name w = c.in_ok-found.ensures w.history s w.groups keeps ∙ ap (λ (name : List ℕ). firing name w) c.as_str.ensures in
     if_ok c.alert_failure.result _ _
     (λ list e.
-    e ∙ ap (λ (n : ℕ). alert_failure test n c.as_slice.result.now found) c.in_ok-number_of.ensures
-    ∙ ap (λ (l : List RuleElement). alert_failure test (c.args.index + 1) l found) c.as_slice.ensures
-    ∙ ap (λ (l : List RuleElement). alert_failure test (c.args.index + 1) expected l) is)
+    e ∙ ap (λ (l : List RuleElement). alert_failure test c.args.number l found) c.as_slice.ensures
+    ∙ ap (λ (l : List RuleElement). alert_failure test c.args.number expected l) is)
     c.alert_failure.ensures

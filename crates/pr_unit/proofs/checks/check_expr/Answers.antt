@@ -1,4 +1,4 @@
-use Rattle.std.proofs.Common.{◌≡◌, ℕ, ◌+◌, List, ap, ◌∙◌, pos, ◌-ℤ◌, arith}
+use Rattle.std.proofs.Common.{◌≡◌, List, ap, ◌∙◌, pos, ◌-ℤ◌, arith}
 use Rattle.std.proofs.lemmas.Int.{ints}
 use Rattle.pr_ast.specs.pr_labels.declared.item.Item.{Item}
 use Rattle.pr_num.specs.declared.value.Num.{Num}
@@ -20,7 +20,6 @@ returns-in-Ok g c = λ s w h.
     let got : c.in-Ok.got ≡ given_by (meaning c.args.every w.history t time) = c.in-Ok.ensures w.history keeps in
     if_ok c.expr_failure.result _ _
     (λ list e.
-    e ∙ ap (λ (n : ℕ). expr_failure c.args.test n c.as_slice.result.now c.in-Ok.got) c.in_ok-number.ensures
-    ∙ ap (λ (x : List (Item Num)). expr_failure c.args.test (c.args.index + 1) x c.in-Ok.got) c.as_slice.ensures
-    ∙ ap (λ (x : Shown). expr_failure c.args.test (c.args.index + 1) c.args.check.now.expected x) got)
+    e ∙ ap (λ (x : List (Item Num)). expr_failure c.args.test c.args.number x c.in-Ok.got) c.as_slice.ensures
+    ∙ ap (λ (x : Shown). expr_failure c.args.test c.args.number c.args.check.now.expected x) got)
     c.expr_failure.ensures
