@@ -248,7 +248,10 @@ impl<R: Ranges + Drop> Engine<R> {
         }
         let given = time_of(&event);
         match self.last {
-            Some(last) if given.get() < last.get() => Ok(Report::Backwards { last, given }),
+            Some(last) if given.get() < last.get() => {
+                drop(event);
+                Ok(Report::Backwards { last, given })
+            }
             _ => self.answer(alloc, keeper, event, reads),
         }
     }
