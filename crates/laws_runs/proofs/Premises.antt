@@ -4,6 +4,7 @@ use Rattle.std.proofs.lemmas.Bool.{false≢true}
 use Rattle.std.specs.Io.KnownBytes.{Appends}
 use Rattle.pr_outside.specs.Checks.{Checked, ends}
 use Rattle.pr_outside.specs.FileChecks.{Told, all_asks as asked_of_files, any_refused, texts}
+use Rattle.pr_outside.specs.Causes.{IsCalm}
 use Rattle.pr_outside.specs.Outside.{AreCalm, AreTold, Held, Outside}
 use Rattle.pr_outside.specs.Paths.{Opens}
 use Rattle.pr_outside.specs.Status.{verdict}
@@ -251,6 +252,6 @@ usage text before now result f calm some =
 
 -- The rows are told at the end
 pub told_rows : (path : List ℕ) (rounds : ℕ) (before now : Outside) (result : Status) → Promises (Some (runs path)) before now result ⊎ Promises (Some (exercises rounds)) before now result
-    → AreCalm before now → result ≢ Memory → IsTrue now.store.sound → IsSome now.store.rows
+    → IsCalm before.store.faults now.store.faults → result ≢ Memory → IsTrue now.store.sound → IsSome now.store.rows
 told_rows path rounds before now result (inl p) = p.told refl
 told_rows path rounds before now result (inr p) = p.told refl

@@ -67,7 +67,7 @@ pub fn the_headline_cut_short()
     // And a backfill that opened its store, and that no refused call and no want of memory stopped, leaves
     // the rows told, as long as what the store stands on has kept its word.
     ensures told_rows { (path times : List ℕ) (names : List (List ℕ)) (before now : Outside) (result : Status) → Promises (Some (backfills path times names)) before now result
-        → now.store.paths ≢ before.store.paths → AreCalm before now → result ≢ Memory → IsTrue now.store.sound → IsSome now.store.rows }
+        → now.store.paths ≢ before.store.paths → IsCalm before.store.faults now.store.faults → result ≢ Memory → IsTrue now.store.sound → IsSome now.store.rows }
     // Over any store, one that never tells its rows too: a run that ended with 6 had a call of the store
     // refused, or its last line tells a bad row, which is the first such where the rows are told.
     ensures row { (path : List ℕ) (before now : Outside) (result : Status) → Promises (Some (runs path)) before now result → result ≡ StoreFault

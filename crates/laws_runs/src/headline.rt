@@ -2,6 +2,7 @@
 ghost use Rattle.std.specs.Prelude.{◌≡◌, ◌≢◌, ◌⊎◌, ℕ, ◌+◌, ◌<◌, ◌≤◌, ◌^◌, false, List, [], ◌++◌, length, take, Option, Some, None, IsSome, IsTrue};
 ghost use Rattle.pr_outside.specs.Checks.{ends};
 ghost use Rattle.pr_outside.specs.FileChecks.{all_asks, all_told, any_refused, texts};
+ghost use Rattle.pr_outside.specs.Causes.{IsCalm};
 ghost use Rattle.pr_outside.specs.Outside.{AreCalm, AreTold, Held, Outside};
 ghost use Rattle.pr_outside.specs.Paths.{Opens};
 ghost use Rattle.pr_outside.specs.Status.{HasCause, verdict};
@@ -49,7 +50,7 @@ pub fn the_headline()
     // A run and an exercise that no refused call and no want of memory stopped leave the rows told, as
     // long as what the store stands on has kept its word.
     ensures told_rows { (path : List ℕ) (rounds : ℕ) (before now : Outside) (result : Status) → Promises (Some (runs path)) before now result ⊎ Promises (Some (exercises rounds)) before now result
-        → AreCalm before now → result ≢ Memory → IsTrue now.store.sound → IsSome now.store.rows }
+        → IsCalm before.store.faults now.store.faults → result ≢ Memory → IsTrue now.store.sound → IsSome now.store.rows }
     // `test rules` tells of each file whether all is met, and ends with 0 exactly where all files are.
     ensures tests { (names : List (List ℕ)) (held : Held) (before now : Outside) (result : Status) → Promises (Some (tests_rules names)) before now result → AreTold before.files.content held (all_asks (all_told tests_told held names)) → AreCalm before now → result ≢ Memory
         → Writes before now (texts (all_told tests_told held names)) × (result ≡ verdict (any_refused (all_told tests_told held names))) }

@@ -8,7 +8,7 @@ use Rattle.pr_outside.specs.Courses.{GoesOn, IsInTime}
 use Rattle.pr_outside.specs.Ends.{AtInput, Ends, IsCalled, KnowsLength, StopsBy, no_row, status_of, stop_status}
 use Rattle.pr_outside.specs.Meant.{Input}
 use Rattle.pr_outside.specs.Opening.{OpensBy}
-use Rattle.pr_outside.specs.Outside.{Outside, AreCalm}
+use Rattle.pr_outside.specs.Outside.{Outside}
 use Rattle.pr_outside.specs.Status.{HasCause, IsTooLong, TookMany}
 use Rattle.pr_outside.specs.Stores.{IsBadIn, StartsTelling}
 use Rattle.pr_outside.specs.declared.check_loops.verdict.Verdict.{Verdict}
@@ -367,19 +367,19 @@ unopened_of (Some checks_metrics) before now result m path times names is same =
 unopened_of (Some (exercises rounds)) before now result m path times names is same = absurd cc
 unopened_of (Some (backfills other others_times others)) before now result m path times names is same = m.unopened same
 
-told_after : {T : Type 0} (bad : ℕ → Type 0) (long : Type 0) (before now : Outside) (r : Result T Stop) → StopsBy bad long before now r → AreCalm before now → (r ≡ Err stop.Memory → ⊥)
+told_after : {T : Type 0} (bad : ℕ → Type 0) (long : Type 0) (before now : Outside) (r : Result T Stop) → StopsBy bad long before now r → IsCalm before.store.faults now.store.faults → (r ≡ Err stop.Memory → ⊥)
     → StartsTelling before.store now.store r → IsTrue now.store.sound → IsSome now.store.rows
 told_after bad long before now (Ok done) cause calm some tells sound = tells.told sound
 told_after bad long before now (Err stop.Read) cause calm some tells sound = tells.told sound
 told_after bad long before now (Err stop.Load) cause calm some tells sound = tells.told sound
-told_after bad long before now (Err stop.Store) cause calm some tells sound = absurd (no_rise before.store.faults now.store.faults calm.store cause.2)
+told_after bad long before now (Err stop.Store) cause calm some tells sound = absurd (no_rise before.store.faults now.store.faults calm cause.2)
 told_after bad long before now (Err (stop.BadRow index)) cause calm some tells sound = tells.told sound
 told_after bad long before now (Err stop.Write) cause calm some tells sound = tells.told sound
 told_after bad long before now (Err stop.Memory) cause calm some tells sound = absurd (some refl)
 told_after bad long before now (Err stop.TooLong) cause calm some tells sound = tells.told sound
 
 told_of : (c : Option Command) (before now : Outside) (result : Status) → MeansCommand c before now result
-    → IsOverStore c before now → AreCalm before now → result ≢ Memory → IsTrue now.store.sound → IsSome now.store.rows
+    → IsOverStore c before now → IsCalm before.store.faults now.store.faults → result ≢ Memory → IsTrue now.store.sound → IsSome now.store.rows
 told_of None before now result m opened calm some sound = absurd (false≢true opened)
 told_of (Some (runs path)) before now result m opened calm some sound =
     told_after (IsBadIn now.store) _ before now m.ending m.ends.cause calm (λ is. some (m.answer ∙ ap status_of is)) m.tells sound

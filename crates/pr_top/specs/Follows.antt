@@ -134,9 +134,9 @@ pub record Promises (command : Option Command) (before now : Outside) (result : 
   pub unwritten : (path times : List ℕ) (names : List (List ℕ)) → command ≡ Some (backfills path times names) → result ≡ ReadFault → now.out ≡ before.out
   pub unopened : (path times : List ℕ) (names : List (List ℕ)) → command ≡ Some (backfills path times names) → now.store.paths ≡ before.store.paths
       → IfSome now.store.rows (λ rows. before.store.rows ≡ Some rows)
-  -- One that is over a store leaves its rows told, where no call was refused and memory sufficed,
+  -- One that is over a store leaves its rows told, where no call of it was refused and memory sufficed,
   -- as long as what the store stands on has kept its word.
-  pub told : IsOverStore command before now → AreCalm before now → result ≢ Memory → IsTrue now.store.sound → IsSome now.store.rows
+  pub told : IsOverStore command before now → IsCalm before.store.faults now.store.faults → result ≢ Memory → IsTrue now.store.sound → IsSome now.store.rows
   -- What it does not use means what it meant. (That these objects are as they were, `promtool`
   -- says beside this.)
   pub input : (uses command).input ≡ false → now.input ≡ before.input
