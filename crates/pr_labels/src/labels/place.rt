@@ -13,7 +13,7 @@ use std::cmp::Ordering;
 fn name_order(pair: &Pair, name: &str) -> Ordering
     ensures { result ≡ slice_cmp nat_cmp pair.now.name name.now }
 {
-    pair.name.as_str().as_bytes().cmp(name.as_bytes())
+    pair.name.as_str().cmp(name)
 }
 
 /// The place of the pair with the name, or the place where it would stand: by halving.
