@@ -8,6 +8,8 @@ use pr_labels::Labels;
 use pr_words::Text;
 use std::alloc::{AllocError, Global};
 use std::marker::Model;
+use std::rc::Rc;
+use std::str;
 
 // Most label sets have a printed text of no more bytes.
 const TEXT_ROOM: usize = 64;
@@ -40,13 +42,25 @@ impl Model for PrintedTexts {
     ghost invariant = { λ s. AreFewTexts s.texts.entries };
 }
 
-// Prints the text of a label set.
+// A text that is a part of a counted string, where there is memory for the count: of such a one each
+// copy takes a count.
+fn shared(alloc: Global, text: &str) -> Result<Text, AllocError>
+    ensures { IfOk result (λ t. t ≡ text.now) }
+{
+    let mut shared = Text::from_str(alloc, text)?;
+    if let Ok(whole) = Rc::new(alloc, String::from_str(alloc, text)?) {
+        shared.become_part(&whole, 0);
+    }
+    Ok(shared)
+}
+
+// Prints the text of a label set. Each row of the series takes a copy.
 fn printed(alloc: Global, labels: &Labels) -> Result<Text, AllocError>
     ensures { IfOk result (λ text. text ≡ series_text labels.now) }
 {
     let mut bytes = Vec::with_capacity(alloc, TEXT_ROOM)?;
     labels.write(&mut bytes)?;
-    Ok(Text::new(String::from_utf8(bytes).unwrap()))
+    shared(alloc, str::from_utf8(&bytes).unwrap())
 }
 
 // Forgets all texts where there is no room for one more.
