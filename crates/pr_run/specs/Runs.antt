@@ -13,6 +13,7 @@ use Rattle.pr_outside.specs.declared.status.status.Status.TheVariants as status
 use Rattle.pr_outside.specs.declared.status.status.Stop.{Stop}
 use Rattle.pr_outside.specs.declared.status.status.Stop.TheVariants.{Read, Load, Store, BadRow, Write, Memory, TooLong}
 use Rattle.pr_text.specs.BadRows.{IsBadStart, TellsRow, bad_row_text}
+use Rattle.pr_text.specs.Taken.{TookWithin}
 use Rattle.pr_run.specs.Front.{IsFront}
 use Rattle.pr_outside.specs.Stores.{AreKept, IsBadIn, OverRows, StartsTelling}
 use Rattle.pr_run.specs.Told.{answers_to, asks_of, told, kept, refuses}
@@ -84,6 +85,8 @@ pub record MeansRun (path : List ℕ) (before now : Outside) (result : Status) :
   -- a run that was not stopped has read its input out, which was short; and one that is too long is long,
   -- and so much of it was taken
   pub known : KnowsLength before.input now.input ending
+  -- however it ends, no more was taken than the limit and one piece
+  pub most : TookWithin before.input now.input 0
   -- over any store
   pub row : (index : ℕ) → ending ≡ Err (BadRow index) → TellsRow index before.out.taken now.out.taken
   -- as long as what the store stands on has kept its word, the rows are told, unless the store or want of

@@ -13,6 +13,7 @@ ghost use Rattle.pr_text.specs.spec_world.World.{World};
 ghost use Rattle.pr_run.specs.private.Beginning.{Begins, first_text};
 ghost use Rattle.pr_text.specs.private.Plain.{IsPlain};
 ghost use Rattle.pr_text.specs.BadRows.{TellsRow, bad_row_text};
+ghost use Rattle.pr_text.specs.Taken.{TookWithin};
 ghost use Rattle.pr_run.specs.private.Keeping.{KeepsProgress, Progress, unanswered};
 ghost use Rattle.pr_outside.specs.Stores.{IsBadIn, KeepsTelling, OverRows, StartsTelling};
 ghost use Rattle.pr_run.specs.Runs.{EndsBy, EndsOver};
@@ -128,6 +129,7 @@ fn answer_all<E: Worlds + Drop, I: Source, F: Files, K: Keeper, O: Sink>(
     ensures told { IsSome (K.means keeper.new).rows → IsSome (K.means keeper.old).rows }
     ensures same { (other : List ℕ) → (F.means files.new).content other ≡ (F.means files.old).content other }
     ensures long { KnowsLength (I.means input.old) (I.means input.new) result }
+    ensures most { TookWithin (I.means input.old) (I.means input.new) 0 }
     ensures paths { (K.means keeper.new).paths ≡ (K.means keeper.old).paths }
     ensures ends { Ends (IsBadIn (K.means keeper.new)) (IsTooLong (I.means input.old) (I.means input.new))
         (record { input = I.means input.old; files = F.means files.old; store = K.means keeper.old; out = O.means out.old })
@@ -161,6 +163,7 @@ pub fn run<E: Worlds + Drop, I: Source, F: Files, K: Keeper, O: Sink>(
     ensures tells { StartsTelling (K.means keeper.old) (K.means keeper.new) result }
     ensures same { (other : List ℕ) → (F.means files.new).content other ≡ (F.means files.old).content other }
     ensures long { KnowsLength (I.means input.old) (I.means input.new) result }
+    ensures most { TookWithin (I.means input.old) (I.means input.new) 0 }
     ensures opens { OpensBy path.now (K.means keeper.old).paths (K.means keeper.new).paths result }
     ensures ends { Ends (IsBadIn (K.means keeper.new)) (IsTooLong (I.means input.old) (I.means input.new))
         (record { input = I.means input.old; files = F.means files.old; store = K.means keeper.old; out = O.means out.old })

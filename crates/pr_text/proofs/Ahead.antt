@@ -1,5 +1,5 @@
 -- What the reader of lines hands out, step by step.
-use Rattle.std.proofs.Common.{◌≡◌, ◌≢◌, ℕ, ◌+◌, ◌-◌, ◌≤◌, ◌^◌, min, Bool, true, false, true≢false, not, ◌==◌, List, [], ◌∷◌, ◌++◌, None, Some, IfSome, Result, Ok, Err, IsErrAnd, suc, refl, sym, ap, ◌∙◌, subst, append_assoc, length, length-append, arith}
+use Rattle.std.proofs.Common.{◌≡◌, ◌≢◌, ℕ, ◌+◌, ◌-◌, ◌<◌, ◌≤◌, ◌^◌, min, Bool, true, false, true≢false, not, ◌==◌, List, [], ◌∷◌, ◌++◌, None, Some, IfSome, Result, Ok, Err, IsErrAnd, suc, refl, sym, ap, ◌∙◌, subst, append_assoc, length, length-append, arith}
 use Rattle.std.specs.declared.option.Option.{Option}
 use Rattle.std.specs.List.{list_all}
 use Rattle.std.specs.Io.KnownBytes.{Consumes, Keeps, IsAtEnd}
@@ -13,7 +13,7 @@ use Rattle.pr_outside.specs.Status.{Took}
 use Rattle.pr_outside.proofs.Ended.{in_time_same}
 use Rattle.pr_outside.specs.declared.status.status.Stop.{Stop}
 use Rattle.pr_outside.specs.declared.status.status.Stop.TheVariants.{Read, Load, Store, BadRow, Write, Memory, TooLong}
-use Rattle.pr_text.specs.Taken.{is_no_feed}
+use Rattle.pr_text.specs.Taken.{is_no_feed, TookWithin}
 use Rattle.pr_text.specs.private.LineReading.{ahead, TakesPart, IsLine, IsNext, HandsLine, CountsBytes, CountsLeft, IsCutLine, IsBeyond, IsReadOn}
 use Rattle.pr_text.proofs.Feeds.{unended-append, some_left, without_feed-fed, unended_line}
 use Rattle.pr_text.proofs.Whole.{whole_fed}
@@ -191,6 +191,14 @@ beyond_on a b c m n p q = record {
   long = long_on a.left b.left m n p.left q.long;
   many = many_on a.taken b.taken c.taken m n p.grew p.took q.many;
 }
+
+-- no more than the limit and one piece
+
+pub within_done : (a b : Input) (m n : ℕ) → CountsBytes a b m n → n < 2 ^ 32 + 4096 → TookWithin a b m
+within_done a b m n p few = omega (arith, p.grew, p.took.0, few)
+
+pub within_on : (a b c : Input) (m n : ℕ) → CountsBytes a b m n → TookWithin b c n → TookWithin a c m
+within_on a b c m n p q = omega (arith, p.grew, p.took.0, q)
 
 -- no read yet
 pub read_same : (k : Course) (ended : Bool) → IsReadOn k ended k

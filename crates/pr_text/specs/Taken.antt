@@ -1,9 +1,10 @@
 -- What was taken of an input: whole lines, an order whose body may go on, and what there is of the
 -- next line.
-use Rattle.std.specs.Prelude.{◌≡◌, ℕ, ◌≤◌, Bool, true, not, ◌&&◌, ◌==◌, List, [], ◌∷◌, ◌++◌, length}
+use Rattle.std.specs.Prelude.{◌≡◌, ℕ, ◌+◌, ◌<◌, ◌≤◌, ◌^◌, Bool, true, not, ◌&&◌, ◌==◌, List, [], ◌∷◌, ◌++◌, length}
 use Prim.Native.Char.{code}
 use Rattle.std.specs.List.{list_all}
 use Rattle.pr_words.specs.Lines.{lines_of}
+use Rattle.pr_outside.specs.Meant.{Input}
 use Rattle.pr_text.specs.Orders.{orders_after}
 use Rattle.pr_text.specs.Script.{takes_body, is_body_line}
 
@@ -34,3 +35,8 @@ pub record IsPrompt (before : ℕ) (bytes rest : List ℕ) (orders : ℕ) : Type
   pub waits : are_whole_lines waiting ≡ true
   pub goes_on : may_go_on (lines_of waiting) ≡ true
   pub unended : list_all is_no_feed line ≡ true
+
+-- Of an input of which so many bytes were taken before, no more are taken than the limit and one piece, by
+-- the input's own count.
+abbrev pub TookWithin : Input → Input → ℕ → Type 0
+TookWithin was now count = now.taken + count < was.taken + (2 ^ 32 + 4096)

@@ -26,6 +26,7 @@ use Rattle.pr_backfill.specs.pr_checks.Metrics.{metrics_told}
 use Rattle.pr_backfill.specs.pr_checks.RuleFiles.{rules_told}
 use Rattle.pr_test.specs.TestsTold.{tests_told}
 use Rattle.pr_backfill.specs.pr_text.BadRows.{TellsRow, bad_row_text}
+use Rattle.pr_backfill.specs.pr_text.Taken.{TookWithin}
 use Rattle.pr_outside.specs.Stores.{IsBadIn, OverRows, StartsTelling}
 use Rattle.pr_run.specs.Runs.{EndsBy, EndsInto, EndsOver, IsStopped, IsWholeRun, MeansRun, RunsBy}
 use Rattle.pr_run.specs.Told.{answers_to, asks_of, refuses}
@@ -113,15 +114,17 @@ if_bytes None P Q f p = tt
 if_bytes (Some bytes) P Q f p = f bytes refl p
 
 pub means_run : (path : List ℕ) (before now : Outside) (r : Result Bool Stop) (result : Status) → result ≡ status_of r → Ends (IsBadIn now.store) (IsTooLong before.input now.input) before now r
-    → OpensBy path before.store.paths now.store.paths r → KnowsLength before.input now.input r → ((index : ℕ) → r ≡ Err (stop.BadRow index) → TellsRow index before.out.taken now.out.taken) → StartsTelling before.store now.store r
+    → OpensBy path before.store.paths now.store.paths r → KnowsLength before.input now.input r → TookWithin before.input now.input 0 → ((index : ℕ) → r ≡ Err (stop.BadRow index) → TellsRow index before.out.taken now.out.taken)
+    → StartsTelling before.store now.store r
     → IfSome now.store.rows (λ all. IfSome before.input.left (λ bytes. OverRows before.store.rows all (λ rows. EndsBy (history_of rows) rows bytes before now r)))
     → MeansRun path before now result
-means_run path before now r result answer e opens k row tells over = record {
+means_run path before now r result answer e opens k most row tells over = record {
   ending = r;
   answer = answer;
   ends = e;
   opens = opens;
   known = k;
+  most = most;
   row = row;
   tells = tells;
   over = if_rows now.store.rows

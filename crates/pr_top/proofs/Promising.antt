@@ -274,14 +274,19 @@ silent_of (Some checks_metrics) before now result m is h = silent_by _ (Appends 
 silent_of (Some (exercises rounds)) before now result m is h = absurd cc
 silent_of (Some (backfills path times names)) before now result m is h = absurd cc
 
-most_of : (c : Option Command) (before now : Outside) (result : Status) → MeansCommand c before now result → c ≡ Some checks_metrics → now.input.taken < before.input.taken + 2 ^ 32 + 2 ^ 14
-most_of None before now result m is = absurd cc
-most_of (Some (runs path)) before now result m is = absurd cc
-most_of (Some (tests_rules names)) before now result m is = absurd cc
-most_of (Some (checks_rules names)) before now result m is = absurd cc
-most_of (Some checks_metrics) before now result m is = m.most
-most_of (Some (exercises rounds)) before now result m is = absurd cc
-most_of (Some (backfills path times names)) before now result m is = absurd cc
+-- of an input that is as it was nothing more is taken
+untaken : (a b : Input) → b ≡ a → b.taken < a.taken + 2 ^ 32 + 2 ^ 14
+untaken a b same = omega (arith, ap (λ (i : Input). i.taken) same)
+
+most_of : (c : Option Command) (before now : Outside) (result : Status) → MeansCommand c before now result → ((uses c).input ≡ false → now.input ≡ before.input)
+    → now.input.taken < before.input.taken + 2 ^ 32 + 2 ^ 14
+most_of None before now result m same = untaken before.input now.input (same refl)
+most_of (Some (runs path)) before now result m same = omega (arith, m.most)
+most_of (Some (tests_rules names)) before now result m same = untaken before.input now.input (same refl)
+most_of (Some (checks_rules names)) before now result m same = untaken before.input now.input (same refl)
+most_of (Some checks_metrics) before now result m same = m.most
+most_of (Some (exercises rounds)) before now result m same = untaken before.input now.input (same refl)
+most_of (Some (backfills path times names)) before now result m same = untaken before.input now.input (same refl)
 
 -- The store
 
@@ -405,7 +410,7 @@ promises_of decodes c before now result m input files store = record {
   silent = silent_of c before now result m;
   opens = opens_by c before now result m;
   in_time = in_time_of c before now result m;
-  most = most_of c before now result m;
+  most = most_of c before now result m input;
   unwritten = unwritten_of c before now result m;
   unopened = unopened_of c before now result m;
   told = told_of c before now result m;

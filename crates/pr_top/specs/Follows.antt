@@ -120,10 +120,10 @@ pub record Promises (command : Option Command) (before now : Outside) (result : 
   -- What is known of its input, and of the paths that it opens.
   pub read : (uses command).input ≡ true → IsReadBy result before.input now.input
   pub opens : IfSome (uses command).store (λ path. OpensStore command result path before.store.paths now.store.paths)
-  -- No object is called after its last call: a refused one, or the read that met the end. And `check metrics`
-  -- takes no more than the limit and a piece.
+  -- No object is called after its last call: a refused one, or the read that met the end. And however it ends,
+  -- no more is taken of the input than the limit and one piece.
   pub in_time : IsInTime before.input.course now.input.course × IsInTime before.files.course now.files.course × IsInTime before.out.course now.out.course
-  pub most : command ≡ Some checks_metrics → now.input.taken < before.input.taken + 2 ^ 32 + 2 ^ 14
+  pub most : now.input.taken < before.input.taken + 2 ^ 32 + 2 ^ 14
   -- `check metrics` writes nothing where its input was not read to the end. (4 is the status of a
   -- refused load too. None is made; but of a count of the files that stands at its type's end no
   -- cause can be told.)

@@ -7,7 +7,7 @@ ghost use Rattle.pr_outside.specs.declared.course.Course.{Course};
 ghost use Rattle.pr_outside.specs.Ends.{AtInput, ReadEnds};
 ghost use Rattle.pr_outside.specs.Status.{Took};
 ghost use Rattle.pr_text.specs.private.LineReading.{held, KnowsEnd, IsReading, IsReadOn, KnowsCourse, ahead, without_feed, TakesPart, HandsLine, CountsBytes, IsCutLine, IsBeyond};
-ghost use Rattle.pr_text.specs.Taken.{is_no_feed};
+ghost use Rattle.pr_text.specs.Taken.{is_no_feed, TookWithin};
 
 use pr_outside::Source;
 use pr_outside::status::Stop;
@@ -114,6 +114,7 @@ impl LineReader {
         ensures going { (first : Course) → IsReadOn first self.old.ended (I.means input.old).course → OnOk result (IsReadOn first self.new.ended (I.means input.new).course) }
         ensures over { (first : Course) → KnowsCourse first self.old.ended (I.means input.old).course → OnOk result (KnowsCourse first self.new.ended (I.means input.new).course) }
         ensures in_time { (first : Course) → IsReadOn first self.old.ended (I.means input.old).course → IsInTime first (I.means input.new).course }
+        ensures most { TookWithin (I.means input.old) (I.means input.new) self.old.count }
         ensures ends { ReadEnds (IsBeyond (I.means input.old) (I.means input.new) self.old.count) (I.means input.old) (I.means input.new) result }
     {
         if self.ended {
@@ -152,6 +153,7 @@ impl LineReader {
         ensures going { (first : Course) → IsReadOn first self.old.ended (I.means input.old).course → OnOk result (IsReadOn first self.new.ended (I.means input.new).course) }
         ensures over { (first : Course) → KnowsCourse first self.old.ended (I.means input.old).course → OnOk result (KnowsCourse first self.new.ended (I.means input.new).course) }
         ensures in_time { (first : Course) → IsReadOn first self.old.ended (I.means input.old).course → IsInTime first (I.means input.new).course }
+        ensures most { TookWithin (I.means input.old) (I.means input.new) self.old.count }
         ensures ends { ReadEnds (IsBeyond (I.means input.old) (I.means input.new) self.old.count) (I.means input.old) (I.means input.new) result }
     {
         line.clear();

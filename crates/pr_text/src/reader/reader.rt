@@ -4,6 +4,7 @@ ghost use Rattle.pr_outside.specs.Courses.{IsInTime};
 ghost use Rattle.pr_outside.specs.declared.course.Course.{Course};
 ghost use Rattle.pr_text.specs.Script.{is_passed_over, takes_body};
 ghost use Rattle.pr_outside.specs.Ends.{AtInput, ReadEnds};
+ghost use Rattle.pr_text.specs.Taken.{TookWithin};
 ghost use Rattle.pr_text.specs.private.LineReading.{ahead, HandsLine, CountsBytes, IsCutLine, IsBeyond, IsReadOn, KnowsCourse};
 ghost use Rattle.pr_text.specs.private.Plain.{IsPlain};
 ghost use Rattle.pr_text.specs.private.Reading.{unread, IsReady, HandsOrder, FinishesOrder, TakesBody, EndsBody, Advances, IsCutBody, IsCutAt};
@@ -68,6 +69,7 @@ impl Reader {
         ensures going { (first : Course) → IsReadOn first self.old.lines.ended (I.means input.old).course → OnOk result (IsReadOn first self.new.lines.ended (I.means input.new).course) }
         ensures over { (first : Course) → KnowsCourse first self.old.lines.ended (I.means input.old).course → OnOk result (KnowsCourse first self.new.lines.ended (I.means input.new).course) }
         ensures in_time { (first : Course) → IsReadOn first self.old.lines.ended (I.means input.old).course → IsInTime first (I.means input.new).course }
+        ensures most { TookWithin (I.means input.old) (I.means input.new) self.old.lines.count }
         ensures ends { ReadEnds (IsBeyond (I.means input.old) (I.means input.new) self.old.lines.count) (I.means input.old) (I.means input.new) result }
     {
         if self.waiting.is_empty() {
@@ -90,6 +92,7 @@ impl Reader {
         ensures going { (first : Course) → IsReadOn first self.old.lines.ended (I.means input.old).course → OnOk result (IsReadOn first self.new.lines.ended (I.means input.new).course) }
         ensures over { (first : Course) → KnowsCourse first self.old.lines.ended (I.means input.old).course → OnOk result (KnowsCourse first self.new.lines.ended (I.means input.new).course) }
         ensures in_time { (first : Course) → IsReadOn first self.old.lines.ended (I.means input.old).course → IsInTime first (I.means input.new).course }
+        ensures most { TookWithin (I.means input.old) (I.means input.new) self.old.lines.count }
         ensures ends { ReadEnds (IsBeyond (I.means input.old) (I.means input.new) self.old.lines.count) (I.means input.old) (I.means input.new) result }
     {
         let mut body = String::new(alloc);
@@ -121,6 +124,7 @@ impl Reader {
         ensures going { (first : Course) → IsReadOn first self.old.lines.ended (I.means input.old).course → OnOk result (IsReadOn first self.new.lines.ended (I.means input.new).course) }
         ensures over { (first : Course) → KnowsCourse first self.old.lines.ended (I.means input.old).course → OnOk result (KnowsCourse first self.new.lines.ended (I.means input.new).course) }
         ensures in_time { (first : Course) → IsReadOn first self.old.lines.ended (I.means input.old).course → IsInTime first (I.means input.new).course }
+        ensures most { TookWithin (I.means input.old) (I.means input.new) self.old.lines.count }
         ensures ends { ReadEnds (IsBeyond (I.means input.old) (I.means input.new) self.old.lines.count) (I.means input.old) (I.means input.new) result }
     {
         let number = self.number;
@@ -154,6 +158,7 @@ impl Reader {
         ensures going { (first : Course) → IsReadOn first self.old.lines.ended (I.means input.old).course → OnOk result (IsReadOn first self.new.lines.ended (I.means input.new).course) }
         ensures over { (first : Course) → KnowsCourse first self.old.lines.ended (I.means input.old).course → OnOk result (KnowsCourse first self.new.lines.ended (I.means input.new).course) }
         ensures in_time { (first : Course) → IsReadOn first self.old.lines.ended (I.means input.old).course → IsInTime first (I.means input.new).course }
+        ensures most { TookWithin (I.means input.old) (I.means input.new) self.old.lines.count }
         ensures ends { ReadEnds (IsBeyond (I.means input.old) (I.means input.new) self.old.lines.count) (I.means input.old) (I.means input.new) result }
     {
         let mut line = Vec::new(alloc);

@@ -8,7 +8,7 @@ use Rattle.pr_outside.proofs.StatusStreams.{appends_none, appends_on}
 use Rattle.pr_outside.proofs.Telling.{on_told}
 use Rattle.pr_text.specs.private.LineReading.{ahead, course_of, CountsBytes, IsBeyond}
 use Rattle.pr_text.specs.private.Reading.{unread, HandsOrder, IsCutAt}
-use Rattle.pr_text.proofs.Ahead.{beyond_on, counts_none, counts_on, read_same}
+use Rattle.pr_text.proofs.Ahead.{beyond_on, counts_none, counts_on, read_same, within_on}
 use Rattle.pr_text.proofs.Orders.{ahead_none}
 use Rattle.pr_outside.specs.Stores.{IsBadIn}
 use Rattle.pr_run.specs.Runs.{EndsOver}
@@ -311,3 +311,20 @@ pub returns-clause-tells : goal.returns-clause-tells
 returns-clause-tells g c =
     let keeper = g.K.Keeper.means in
     keeps_as Bool Bool (keeper c.args.keeper.now) (keeper c.answering.keeper) true (Ok c.has_refused.result) c.answering.invariant.tells
+
+-- no more was taken than the limit and one piece
+
+pub returns-in_err-order-clause-most : goal.returns-in_err-order-clause-most
+returns-in_err-order-clause-most g c =
+    let input = g.I.Source.means in
+    within_on (input c.args.input.now) (input c.answering.input) (input c.next_order.new.input) 0 c.answering.reader.lines.count c.answering.invariant.counts c.in_err-order.ensures.most
+
+pub returns-in_err-answer_order-clause-most : goal.returns-in_err-answer_order-clause-most
+returns-in_err-answer_order-clause-most g c =
+    let input = g.I.Source.means in
+    within_on (input c.args.input.now) (input c.answering.input) (input c.next_order.new.input) 0 c.answering.reader.lines.count c.answering.invariant.counts c.in_ok-order.ensures.most
+
+pub returns-clause-most : goal.returns-clause-most
+returns-clause-most g c =
+    let input = g.I.Source.means in
+    within_on (input c.args.input.now) (input c.answering.input) (input c.next_order.new.input) 0 c.answering.reader.lines.count c.answering.invariant.counts c.in_ok-order.ensures.most

@@ -16,4 +16,4 @@ returns-clause-means g c =
       store = g.K.Keeper.means c.run.new.keeper;
       out = g.O.Sink.means c.run.new.out;
     } in
-    means_run c.args.path.now before now c.run.result c.status_of.result c.status_of.ensures c.run.ensures.ends c.run.ensures.opens c.run.ensures.long c.run.ensures.row c.run.ensures.tells c.run.ensures.over
+    means_run c.args.path.now before now c.run.result c.status_of.result c.status_of.ensures c.run.ensures.ends c.run.ensures.opens c.run.ensures.long c.run.ensures.most c.run.ensures.row c.run.ensures.tells c.run.ensures.over

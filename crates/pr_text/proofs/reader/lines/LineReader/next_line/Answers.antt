@@ -1,7 +1,8 @@
 use Rattle.std.proofs.Common.{◌≡◌, ◌∙◌, ◌==◌, ◌+◌, length-append, arith, sym, Bool, true, false, not, List, ℕ, length, refl, ap, subst}
 use Rattle.pr_outside.proofs.Ended.{quiet, read_done, read_memory, read_on}
+use Rattle.pr_text.specs.Taken.{TookWithin}
 use Rattle.pr_text.specs.private.LineReading.{held, ahead, IsBeyond, IsReadOn, KnowsCourse, TakesPart}
-use Rattle.pr_text.proofs.Ahead.{at_exit, beyond_on, counts_fill, counts_on, joined_part, joined_fill, unended_part, line_fed, line_ended, line_cut, read_same}
+use Rattle.pr_text.proofs.Ahead.{at_exit, beyond_on, counts_fill, counts_on, joined_part, joined_fill, unended_part, line_fed, line_ended, line_cut, read_same, within_done, within_on}
 use Rattle.pr_text.proofs.reader.lines.LineReader.next_line.Goals as goal
 
 pub returns-in_err-fill-clause-cut : goal.returns-in_err-fill-clause-cut
@@ -133,6 +134,37 @@ pub returns-clause-over : goal.returns-clause-over
 returns-clause-over g c = λ first r.
     let same : c.take_part.new.self.ended ≡ c.joining.self.ended = c.in_ok-take_part.ensures.same.1 in
     subst (λ (b : Bool). KnowsCourse first b (g.I.Source.means c.joining.input).course) (sym same) (c.joining.invariant.over first r)
+
+-- no more than the limit and one piece
+
+pub returns-in_err-take_part-clause-most : goal.returns-in_err-take_part-clause-most
+returns-in_err-take_part-clause-most g c =
+    let input = g.I.Source.means in
+    within_done (input c.args.input.now) (input c.joining.input) c.args.self.now.count c.joining.self.count c.joining.invariant.counts c.joining.invariant.count
+
+pub returns-in_err-fill-clause-most : goal.returns-in_err-fill-clause-most
+returns-in_err-fill-clause-most g c =
+    let input = g.I.Source.means in
+    let count : c.take_part.new.self.count ≡ c.joining.self.count = c.in_ok-take_part.ensures.same.0 in
+    within_on (input c.args.input.now) (input c.joining.input) (input c.fill.new.input) c.args.self.now.count c.joining.self.count c.joining.invariant.counts
+    (subst (TookWithin (input c.joining.input) (input c.fill.new.input)) count c.in_err-fill.ensures.most)
+
+pub returns-then-not-branch-2-clause-most : goal.returns-then-not-branch-2-clause-most
+returns-then-not-branch-2-clause-most g c =
+    let input = g.I.Source.means in
+    let count : c.take_part.new.self.count ≡ c.joining.self.count = c.in_ok-take_part.ensures.same.0 in
+    within_on (input c.args.input.now) (input c.joining.input) (input c.fill.new.input) c.args.self.now.count c.joining.self.count c.joining.invariant.counts
+    (subst (TookWithin (input c.joining.input) (input c.fill.new.input)) count c.in_ok-fill.ensures.most)
+
+pub returns-in_err-extend_from_slice-clause-most : goal.returns-in_err-extend_from_slice-clause-most
+returns-in_err-extend_from_slice-clause-most g c =
+    let input = g.I.Source.means in
+    within_done (input c.args.input.now) (input c.joining.input) c.args.self.now.count c.joining.self.count c.joining.invariant.counts c.joining.invariant.count
+
+pub returns-clause-most : goal.returns-clause-most
+returns-clause-most g c =
+    let input = g.I.Source.means in
+    within_done (input c.args.input.now) (input c.joining.input) c.args.self.now.count c.joining.self.count c.joining.invariant.counts c.joining.invariant.count
 
 pub joining-preserved : goal.joining-preserved
 joining-preserved g c =

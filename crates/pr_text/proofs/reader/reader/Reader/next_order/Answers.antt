@@ -3,7 +3,7 @@ use Rattle.pr_text.specs.Script.{is_passed_over, takes_body}
 use Rattle.pr_outside.proofs.Ended.{quiet, read_done, read_on}
 use Rattle.pr_text.specs.private.LineReading.{ahead, without_feed, HandsLine, IsBeyond}
 use Rattle.pr_text.specs.private.Reading.{unread, Takes, HandsOrder, FinishesOrder}
-use Rattle.pr_text.proofs.Ahead.{at_exit, beyond_on, counts_on, read_same}
+use Rattle.pr_text.proofs.Ahead.{at_exit, beyond_on, counts_on, read_same, within_on}
 use Rattle.pr_text.proofs.Feeds.{one_byte}
 use Rattle.pr_text.proofs.Orders.{takes_on, takes_passed, takes_order, takes_last, line_cut_at, body_cut_at}
 use Rattle.pr_text.proofs.reader.reader.Reader.next_order.Goals as goal
@@ -161,3 +161,35 @@ returns-then-not-is_passed_over-clause-over g c = λ first r.
 
 pub returns-clause-over : goal.returns-clause-over
 returns-clause-over g c = λ first r. c.in_ok-next_line.ensures.over first (c.passing.invariant.over first r)
+
+-- no more than the limit and one piece
+
+pub returns-in_err-next_line-clause-most : goal.returns-in_err-next_line-clause-most
+returns-in_err-next_line-clause-most g c =
+    let input = g.I.Source.means in
+    within_on (input c.args.input.now) (input c.passing.input) (input c.next_line.new.input) c.args.self.now.lines.count c.passing.self.lines.count c.passing.invariant.counts
+    c.in_err-next_line.ensures.most
+
+pub returns-in_err-take_order-clause-most : goal.returns-in_err-take_order-clause-most
+returns-in_err-take_order-clause-most g c =
+    let input = g.I.Source.means in
+    let count = c.next_line.new.self.lines.count in
+    within_on (input c.args.input.now) (input c.next_line.new.input) (input c.take_order.new.input) c.args.self.now.lines.count count
+    (counts_on (input c.args.input.now) (input c.passing.input) (input c.next_line.new.input) c.args.self.now.lines.count c.passing.self.lines.count count
+    c.passing.invariant.counts c.in_ok-next_line.ensures.counts)
+    c.in_err-take_order.ensures.most
+
+pub returns-then-not-is_passed_over-clause-most : goal.returns-then-not-is_passed_over-clause-most
+returns-then-not-is_passed_over-clause-most g c =
+    let input = g.I.Source.means in
+    let count = c.next_line.new.self.lines.count in
+    within_on (input c.args.input.now) (input c.next_line.new.input) (input c.take_order.new.input) c.args.self.now.lines.count count
+    (counts_on (input c.args.input.now) (input c.passing.input) (input c.next_line.new.input) c.args.self.now.lines.count c.passing.self.lines.count count
+    c.passing.invariant.counts c.in_ok-next_line.ensures.counts)
+    c.in_ok-take_order.ensures.most
+
+pub returns-clause-most : goal.returns-clause-most
+returns-clause-most g c =
+    let input = g.I.Source.means in
+    within_on (input c.args.input.now) (input c.passing.input) (input c.next_line.new.input) c.args.self.now.lines.count c.passing.self.lines.count c.passing.invariant.counts
+    c.in_ok-next_line.ensures.most

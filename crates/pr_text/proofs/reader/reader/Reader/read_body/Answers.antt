@@ -3,7 +3,7 @@ use Rattle.pr_text.specs.Script.{is_body_line, body_text}
 use Rattle.pr_outside.proofs.Ended.{quiet, read_done, read_memory, read_on}
 use Rattle.pr_text.specs.private.LineReading.{held, ahead, without_feed, HandsLine, IsBeyond, IsNext}
 use Rattle.pr_text.specs.private.Reading.{unread, TakesBody, EndsBody}
-use Rattle.pr_text.proofs.Ahead.{at_exit, beyond_on, counts_on, read_same}
+use Rattle.pr_text.proofs.Ahead.{at_exit, beyond_on, counts_on, read_same, within_on}
 use Rattle.pr_text.proofs.Feeds.{one_byte}
 use Rattle.pr_text.proofs.Orders.{body_cut, body_on, body_again, body_last, ends_at, ends_none}
 use Rattle.pr_text.proofs.reader.reader.Reader.read_body.Goals as goal
@@ -190,3 +190,29 @@ returns-then-not-branch-clause-over g c = λ first r. c.in_ok-next_line.ensures.
 
 pub returns-clause-over : goal.returns-clause-over
 returns-clause-over g c = λ first r. c.in_ok-next_line.ensures.over first (c.reading.invariant.over first r)
+
+-- no more than the limit and one piece
+
+pub returns-in_err-next_line-clause-most : goal.returns-in_err-next_line-clause-most
+returns-in_err-next_line-clause-most g c =
+    let input = g.I.Source.means in
+    within_on (input c.args.input.now) (input c.reading.input) (input c.next_line.new.input) c.args.self.now.lines.count c.reading.self.lines.count c.reading.invariant.counts
+    c.in_err-next_line.ensures.most
+
+pub returns-in_err-push_body_line-clause-most : goal.returns-in_err-push_body_line-clause-most
+returns-in_err-push_body_line-clause-most g c =
+    let input = g.I.Source.means in
+    within_on (input c.args.input.now) (input c.reading.input) (input c.next_line.new.input) c.args.self.now.lines.count c.reading.self.lines.count c.reading.invariant.counts
+    c.in_ok-next_line.ensures.most
+
+pub returns-then-not-branch-clause-most : goal.returns-then-not-branch-clause-most
+returns-then-not-branch-clause-most g c =
+    let input = g.I.Source.means in
+    within_on (input c.args.input.now) (input c.reading.input) (input c.next_line.new.input) c.args.self.now.lines.count c.reading.self.lines.count c.reading.invariant.counts
+    c.in_ok-next_line.ensures.most
+
+pub returns-clause-most : goal.returns-clause-most
+returns-clause-most g c =
+    let input = g.I.Source.means in
+    within_on (input c.args.input.now) (input c.reading.input) (input c.next_line.new.input) c.args.self.now.lines.count c.reading.self.lines.count c.reading.invariant.counts
+    c.in_ok-next_line.ensures.most
